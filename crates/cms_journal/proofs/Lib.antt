@@ -1,0 +1,6 @@
+pub mod Crashes
+pub mod Steps
+pub mod Cuts
+pub mod Pieces
+pub mod Counts
+pub mod Examples

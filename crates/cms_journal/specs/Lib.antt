@@ -1,0 +1,5 @@
+pub mod Blocks
+pub mod Causes
+pub mod Journal
+pub mod Told
+pub mod Laws
