@@ -1,0 +1,9 @@
+pub mod Rows
+pub mod Shapes
+pub mod Overwriting
+pub mod WrittenLabel
+pub mod WrittenEntry
+pub mod Dates
+pub mod Parts
+pub mod Calendar
+pub mod Shown

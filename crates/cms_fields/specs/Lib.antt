@@ -1,0 +1,6 @@
+pub mod Steps
+pub mod Numbers
+pub mod Stamps
+pub mod Moments
+pub mod Labels
+pub mod Entries

@@ -1,0 +1,18 @@
+//! Moments and stamps, and the labels of volumes and the entries of directories in their bytes.
+//! Numbers are big-endian, and texts are in EBCDIC code page 037.
+#![tactic(auto)]
+
+mod bytes;
+mod entry;
+mod grammar;
+mod label;
+mod levels;
+mod packed;
+#[cfg(test)]
+mod tests;
+mod time;
+
+pub use entry::{Entry, EntryFault, read_entry, write_entry};
+pub use label::{Label, LabelFault, read_label, write_label};
+pub use packed::put_stamp;
+pub use time::{Moment, Stamp};
