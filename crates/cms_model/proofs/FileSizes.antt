@@ -1,0 +1,203 @@
+-- The blocks of the files of an open volume are what their sizes say.
+use Rattle.std.proofs.Common.{◌≡◌, inl, inr, ℕ, zero, suc, ◌+◌, ◌*◌, ◌/◌, ◌^◌, ◌<◌, ◌≤◌, List, [], ◌∷◌, length, take, drop, sum_by, if◌then◌else◌, None, Ok, true, not, refl, sym, ◌∙◌, ap, subst, arith, length-append, length-drop, length-take-le, div-le_self}
+use Rattle.std.specs.List.{concat}
+use Rattle.std.specs.Prelude.{nat_le, nat_lt, ◌==◌, ◌&&◌, ◌||◌}
+use Rattle.std.proofs.lemmas.Bool.{and_parts, leb-true, ltb-true, eqb-true}
+use Rattle.std.proofs.lemmas.List.Sums.{sum_by-cons}
+use Rattle.cms_journal.specs.Journal.{IsBlockSize}
+use Rattle.cms_names.specs.Names.{is_between}
+use Rattle.cms_names.specs.declared.name.Format.{Format}
+use Rattle.cms_names.specs.declared.name.Format.TheVariants.{F, V}
+use Rattle.cms_fields.specs.Numbers.{half, up}
+use Rattle.cms_fields.specs.Stamps.{has_stamp}
+use Rattle.cms_fields.specs.Entries.{is_fixed, fan_of, entry_fields, has_name, has_mode, has_format, length_fits, counts_fit, levels_fit, has_pointer_size, entry_of}
+use Rattle.cms_fields.specs.declared.entry.Entry.{Entry}
+use Rattle.cms_fields.specs.declared.entry.EntryFault.TheVariants as wrong
+use Rattle.cms_model.specs.Lists.{In, cut}
+use Rattle.cms_model.specs.Trees.{Image, Met, form_of, tree, bytes_at}
+use Rattle.cms_model.specs.Records.{varying, records_of, length_of}
+use Rattle.cms_model.specs.Minidisks.{File}
+use Rattle.cms_model.specs.Sizes.{stored_size, tree_size, file_size}
+use Rattle.cms_model.specs.Volumes.{Disk, blamed, entries_of, holder_of, file_trees, blocks_of, contents_in, files_of}
+use Rattle.cms_model.specs.LawsSizes.{IsWhole}
+use Rattle.cms_model.specs.declared.fault.VarFault.TheVariants.{Zero, PastEnd, Left}
+use Rattle.cms_model.specs.declared.fault.OpenFault.TheVariants as failed
+use Rattle.cms_model.proofs.Results.{ok_same, want_ok, bind_then}
+use Rattle.cms_model.proofs.Quotients.{up_spec, up_unique, up_some, up_below}
+use Rattle.cms_model.proofs.Records.{length_stored, length_stored_fixed, length_cut, fits_cut}
+use Rattle.cms_model.proofs.TreeFrame.{between, tree_inside, tree_places}
+use Rattle.cms_model.proofs.TreeSizes.{tree_has_size}
+use Rattle.cms_model.proofs.Opening.{blamed_ok}
+use Rattle.cms_model.proofs.InOrder.{place_none}
+
+-- the bounds of a block size
+pub block_bounds : (size : ℕ) → IsBlockSize size → (512 ≤ size) × (size ≤ 4096)
+block_bounds size (inl is) = (omega arith, omega arith)
+block_bounds size (inr (inl is)) = (omega arith, omega arith)
+block_bounds size (inr (inr (inl is))) = (omega arith, omega arith)
+block_bounds size (inr (inr (inr is))) = (omega arith, omega arith)
+
+pub fan_wide : (size : ℕ) (format : Format) → IsBlockSize size → 2 ≤ fan_of size format
+fan_wide size F is = let low = (block_bounds size is).0 in omega arith
+fan_wide size V is = let low = (block_bounds size is).0 in omega arith
+
+-- ---- what an entry's tests say of its counts
+
+pub record EntryFits (bsize : ℕ) (e : Entry) : Type 0 where
+  pub long : length_fits e ≡ true
+  pub counts : counts_fit bsize e ≡ true
+  pub levels : levels_fit bsize e ≡ true
+
+pub entry_fits : (bsize : ℕ) (bytes : List ℕ) (e : Entry) → entry_of bsize bytes ≡ Ok e → EntryFits bsize e
+unfolding entry_of
+entry_fits bsize bytes e is =
+    let a = want_ok (has_name bytes) wrong.Name _ e is in
+    let b = want_ok (has_mode bytes) wrong.Mode _ e a.1 in
+    let c = want_ok (has_format bytes) wrong.Format _ e b.1 in
+    let d = want_ok (length_fits (entry_fields bytes)) wrong.Length _ e c.1 in
+    let f = want_ok (counts_fit bsize (entry_fields bytes)) wrong.Counts _ e d.1 in
+    let g = want_ok (levels_fit bsize (entry_fields bytes)) wrong.Levels _ e f.1 in
+    let h = want_ok (has_pointer_size bytes) wrong.PointerSize _ e g.1 in
+    let i = want_ok (has_stamp bytes 54) wrong.Date _ e h.1 in
+    subst (EntryFits bsize) (ok_same (entry_fields bytes) e i.1) (record { long = d.0; counts = f.0; levels = g.0 })
+
+abbrev pub AllFit : ℕ → List Entry → Type 0
+AllFit bsize [] = Unit {0}
+AllFit bsize (e ∷ es) = EntryFits bsize e × AllFit bsize es
+
+pub entries_fit : (bsize number : ℕ) (pieces : List (List ℕ)) (es : List Entry) → entries_of bsize number pieces ≡ Ok es → AllFit bsize es × (length es ≡ length pieces)
+unfolding entries_of
+entries_fit bsize number [] es e = subst (λ (l : List Entry). AllFit bsize l × (length l ≡ 0)) (ok_same [] es e) (tt, refl)
+entries_fit bsize number (bytes ∷ rest) es e =
+    bind_then (blamed (failed.Entry number) (entry_of bsize bytes)) _ es e (λ one is_one e1.
+    bind_then (entries_of bsize (number + 1) rest) _ es e1 (λ more is_more e2.
+    let fits = entry_fits bsize bytes one (blamed_ok (failed.Entry number) (entry_of bsize bytes) one is_one) in
+    let deeper = entries_fit bsize (number + 1) rest more is_more in
+    subst (λ (l : List Entry). AllFit bsize l × (length l ≡ suc (length rest))) (ok_same (one ∷ more) es e2) ((fits, deeper.0), ap suc deeper.1)))
+
+-- the data blocks that an entry may have
+pub record Counted (format : Format) (bsize len blocks count : ℕ) : Type 0 where
+  pub some : 1 ≤ blocks
+  pub small : blocks < 2 ^ 32
+  pub fixed : is_fixed format ≡ true → blocks ≡ up (count * len) bsize
+
+pub counts_from : (format : Format) (bsize len blocks count : ℕ) → 1 ≤ bsize → (not (is_fixed format) || is_between 1 65535 len) ≡ true
+    → (is_between 1 1048576 count && (if is_fixed format then nat_le (count * len) 67108864 && (blocks == up (count * len) bsize) else is_between 1 (67108864 / bsize) blocks)) ≡ true → Counted format bsize len blocks count
+counts_from F bsize len blocks count room long fits =
+    let a = and_parts (is_between 1 1048576 count) (nat_le (count * len) 67108864 && (blocks == up (count * len) bsize)) fits in
+    let b = and_parts (nat_le (count * len) 67108864) (blocks == up (count * len) bsize) a.1 in
+    let records = between 1 1048576 count a.0 in
+    let bytes = between 1 65535 len long in
+    let is : blocks ≡ up (count * len) bsize = eqb-true blocks (up (count * len) bsize) b.1 in
+    let fit = leb-true (count * len) 67108864 b.0 in
+    let low : 1 ≤ count * len = product count len records.0 bytes.0 in
+    let some = up_some (count * len) bsize room low in
+    let below = up_below (count * len) bsize room in
+    record { some = omega arith; small = omega arith; fixed = λ f. is }
+  where
+    product : (a b : ℕ) → 1 ≤ a → 1 ≤ b → 1 ≤ a * b
+    product zero b low high = absurd (omega arith)
+    product (suc a) b low high = omega arith
+counts_from V bsize len blocks count room long fits =
+    let a = and_parts (is_between 1 1048576 count) (is_between 1 (67108864 / bsize) blocks) fits in
+    let range = between 1 (67108864 / bsize) blocks a.1 in
+    let low = range.0 in
+    let high = range.1 in
+    let below : 67108864 / bsize ≤ 67108864 = div-le_self 67108864 bsize in
+    record { some = low; small = omega arith; fixed = λ f. absurd (cc f) }
+
+pub entry_counted : (bsize : ℕ) (e : Entry) → 1 ≤ bsize → EntryFits bsize e → Counted e.format bsize e.length e.blocks e.count
+unfolding length_fits counts_fit
+entry_counted bsize e room fits = counts_from e.format bsize e.length e.blocks e.count room fits.long fits.counts
+
+-- ---- the stored bytes of a file fill its data blocks
+
+varying_size : (bsize n place : ℕ) (bytes : List ℕ) (rs : List (List ℕ)) → varying bsize n place bytes ≡ Ok rs → (stored_size V rs ≤ length bytes) × (length bytes < stored_size V rs + bsize)
+unfolding varying stored_size
+varying_size bsize zero place bytes rs e =
+    let r = want_ok (nat_lt (length bytes) bsize) (Left place) (Ok []) rs e in
+    let short = ltb-true (length bytes) bsize r.0 in
+    subst (λ (l : List (List ℕ)). (stored_size V l ≤ length bytes) × (length bytes < stored_size V l + bsize)) (ok_same [] rs r.1) (omega arith, omega arith)
+varying_size bsize (suc n) place bytes rs e =
+    let len = half bytes 0 in
+    let p1 = want_ok (nat_le 2 (length bytes)) (PastEnd place) _ rs e in
+    let p2 = want_ok (nat_le 1 len) (Zero place) _ rs p1.1 in
+    let p3 = want_ok (nat_le (2 + len) (length bytes)) (PastEnd place) _ rs p2.1 in
+    let fit = leb-true (2 + len) (length bytes) p3.0 in
+    bind_then (varying bsize n (place + (2 + len)) (drop (2 + len) bytes)) _ rs p3.1 (λ more is_more done.
+    let deeper = varying_size bsize n (place + (2 + len)) (drop (2 + len) bytes) more is_more in
+    let low = deeper.0 in
+    let high = deeper.1 in
+    let two = length-drop 2 bytes in
+    let long : length (take len (drop 2 bytes)) ≡ len = length-take-le len (drop 2 bytes) (omega arith) in
+    let past = length-drop (2 + len) bytes in
+    let whole = sum_by-cons (λ (text : List ℕ). 2 + length text) (take len (drop 2 bytes)) more in
+    subst (λ (l : List (List ℕ)). (stored_size V l ≤ length bytes) × (length bytes < stored_size V l + bsize)) (ok_same (take len (drop 2 bytes) ∷ more) rs done) (omega arith, omega arith))
+
+pub stored_fills : (format : Format) (bsize len blocks count : ℕ) (bytes : List ℕ) (rs : List (List ℕ)) → 1 ≤ bsize → records_of bsize format len count bytes ≡ Ok rs → length bytes ≡ blocks * bsize → Counted format bsize len blocks count → up (stored_size format rs) bsize ≡ blocks
+unfolding records_of
+stored_fills F bsize len blocks count bytes rs room e long c =
+    let is : blocks ≡ up (count * len) bsize = c.fixed refl in
+    let fit = (up_spec (count * len) bsize room).0 in
+    let same : blocks * bsize ≡ up (count * len) bsize * bsize = ap (λ (n : ℕ). n * bsize) is in
+    let cuts : cut count len bytes ≡ rs = ok_same (cut count len bytes) rs e in
+    let wide : length (concat (cut count len bytes)) ≡ count * len = length_stored_fixed len (cut count len bytes) (fits_cut count len bytes (omega arith)) ∙ ap (λ (n : ℕ). n * len) (length_cut count len bytes) in
+    let size : stored_size F rs ≡ count * len = sym (length_stored F rs) ∙ ap (λ (l : List (List ℕ)). length (concat l)) (sym cuts) ∙ wide in
+    ap (λ (n : ℕ). up n bsize) size ∙ sym is
+stored_fills V bsize len blocks count bytes rs room e long c =
+    let s = varying_size bsize count 0 bytes rs e in
+    let low = s.0 in
+    let high = s.1 in
+    sym (up_unique (stored_size V rs) bsize blocks room (omega arith) (omega arith))
+
+-- ---- the files of a volume
+
+pub bytes_length : (image : Image) (size : ℕ) (ns : List ℕ) → ((n : ℕ) → In n ns → length (image n) ≡ size) → length (bytes_at image ns) ≡ length ns * size
+unfolding bytes_at
+bytes_length image size [] each = omega arith
+bytes_length image size (n ∷ ns) each =
+    let here = each n (inl refl) in
+    let deeper = bytes_length image size ns (λ x in'. each x (inr in')) in
+    length-append (image n) (bytes_at image ns) ∙ (omega arith)
+
+abbrev file_of : Entry → List (List ℕ) → File
+file_of e rs = record { name = e.name; number = e.number; format = e.format; length = length_of e.format e.length rs; stamp = e.stamp; records = rs }
+
+file_blocks : (disk : Disk) (image : Image) (total holder : ℕ) (e : Entry) (m : Met) (rs : List (List ℕ)) → IsWhole disk image → total ≤ disk.count → EntryFits disk.bsize e
+    → tree (form_of disk.bsize total e.format) image e.levels None holder e.root e.blocks ≡ Ok m → records_of disk.bsize e.format e.length e.count (bytes_at image m.leaves) ≡ Ok rs
+    → file_size disk.bsize (file_of e rs) ≡ length m.blocks
+unfolding file_size levels_fit
+file_blocks disk image total holder e m rs whole top fits is_m is_rs =
+    let bounds = block_bounds disk.bsize whole.size in
+    let low = bounds.0 in
+    let form = form_of disk.bsize total e.format in
+    let c = entry_counted disk.bsize e (omega arith) fits in
+    let size = tree_has_size form image e.levels None holder e.root e.blocks m (fan_wide disk.bsize e.format whole.size) c.some c.small fits.levels is_m in
+    let sized : (n : ℕ) → In n m.leaves → length (image n) ≡ disk.bsize =
+    λ n in'. (let free = place_none total n (tree_places form image e.levels None holder e.root e.blocks m is_m n (tree_inside form image e.levels None holder e.root e.blocks m is_m n in')) in
+    let first = free.0 in let last = free.1 in whole.each n (omega arith) (omega arith)) in
+    let long : length (bytes_at image m.leaves) ≡ e.blocks * disk.bsize = bytes_length image disk.bsize m.leaves sized ∙ ap (λ (n : ℕ). n * disk.bsize) size.0 in
+    ap (tree_size (fan_of disk.bsize e.format)) (stored_fills e.format disk.bsize e.length e.blocks e.count (bytes_at image m.leaves) rs (omega arith) is_rs long c) ∙ sym size.1
+
+pub files_blocks : (disk : Disk) (image : Image) (total : ℕ) (dirs : List ℕ) (number : ℕ) (es : List Entry) (ms : List Met) (cs : List (List (List ℕ))) → IsWhole disk image → total ≤ disk.count → AllFit disk.bsize es
+    → file_trees disk.bsize total image dirs number es ≡ Ok ms → contents_in disk.bsize image number es ms ≡ Ok cs
+    → (sum_by (file_size disk.bsize) (files_of es cs) ≡ length (blocks_of ms)) × (length (files_of es cs) ≡ length es)
+unfolding file_trees contents_in files_of blocks_of
+files_blocks disk image total dirs number [] ms cs whole top fits t c =
+    (ap (λ (l : List Met). length (blocks_of l)) (ok_same [] ms t), refl)
+files_blocks disk image total dirs number (e ∷ es) ms cs whole top fits t c =
+    let holder = holder_of disk.bsize dirs number in
+    bind_then (tree (form_of disk.bsize total e.format) image e.levels None holder e.root e.blocks) _ ms t (λ m is_m t1.
+    bind_then (file_trees disk.bsize total image dirs (number + 1) es) _ ms t1 (λ more is_more t2.
+    let is : m ∷ more ≡ ms = ok_same (m ∷ more) ms t2 in
+    let c' = subst (λ (l : List Met). contents_in disk.bsize image number (e ∷ es) l ≡ Ok cs) (sym is) c in
+    bind_then (blamed (failed.Var number) (records_of disk.bsize e.format e.length e.count (bytes_at image m.leaves))) _ cs c' (λ rs is_rs c1.
+    bind_then (contents_in disk.bsize image (number + 1) es more) _ cs c1 (λ rest is_rest c2.
+    let one = file_blocks disk image total holder e m rs whole top fits.0 is_m (blamed_ok (failed.Var number) (records_of disk.bsize e.format e.length e.count (bytes_at image m.leaves)) rs is_rs) in
+    let deeper = files_blocks disk image total dirs (number + 1) es more rest whole top fits.1 is_more is_rest in
+    let both = sum_by-cons (file_size disk.bsize) (file_of e rs) (files_of es rest) in
+    let long = length-append m.blocks (blocks_of more) in
+    finish m more rs rest is (ok_same (rs ∷ rest) cs c2) (both ∙ ap (λ (n : ℕ). n + sum_by (file_size disk.bsize) (files_of es rest)) one ∙ ap (λ (n : ℕ). length m.blocks + n) deeper.0 ∙ sym long) (ap suc deeper.1)))))
+  where
+    finish : (m : Met) (more : List Met) (rs : List (List ℕ)) (rest : List (List (List ℕ))) → ◌≡◌ {A = List Met} (m ∷ more) ms → ◌≡◌ {A = List (List (List ℕ))} (rs ∷ rest) cs → sum_by (file_size disk.bsize) (files_of (e ∷ es) (rs ∷ rest)) ≡ length (blocks_of (m ∷ more)) → length (files_of (e ∷ es) (rs ∷ rest)) ≡ suc (length es) → (sum_by (file_size disk.bsize) (files_of (e ∷ es) cs) ≡ length (blocks_of ms)) × (length (files_of (e ∷ es) cs) ≡ suc (length es))
+    finish m more rs rest is_ms is_cs a b = (ap (λ (l : List (List (List ℕ))). sum_by (file_size disk.bsize) (files_of (e ∷ es) l)) (sym is_cs) ∙ a ∙ ap (λ (l : List Met). length (blocks_of l)) is_ms, ap (λ (l : List (List (List ℕ))). length (files_of (e ∷ es) l)) (sym is_cs) ∙ b)

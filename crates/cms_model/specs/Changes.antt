@@ -1,0 +1,129 @@
+-- Changes of a minidisk, and when there is no room for one.
+use Rattle.std.specs.Prelude.{ℕ, ◌+◌, Bool, if◌then◌else◌, nat_lt, List, [], ◌∷◌, ◌++◌, length, Option, Some, None}
+use Rattle.cms_names.specs.declared.name.Name.{Name}
+use Rattle.cms_fields.specs.declared.time.Stamp.{Stamp}
+use Rattle.cms_model.specs.Records.{length_of}
+use Rattle.cms_model.specs.Minidisks.{File, Minidisk, same_name}
+use Rattle.cms_model.specs.Sizes.{stored_size, file_size, directory_more, map_size, free_count}
+
+-- Put: a whole file. Add: more records of a file, and its stamp. Drop: a file goes. Rename: from, to and the new mode
+-- number. Relabel: the new volume id.
+pub data Change : Type 0 where
+  Put : File → Change
+  Add : Name → List (List ℕ) → Stamp → Change
+  Drop : Name → Change
+  Rename : Name → Name → ℕ → Change
+  Relabel : List ℕ → Change
+
+-- the file of a name
+unfoldable pub file_named : Name → List File → Option File
+file_named name [] = None
+file_named name (f ∷ fs) = if same_name name f.name then Some f else file_named name fs
+
+-- a file takes the place of the one of its name, else it stands last
+unfoldable pub put_file : File → List File → List File
+put_file new [] = new ∷ []
+put_file new (f ∷ fs) = if same_name new.name f.name then new ∷ fs else f ∷ put_file new fs
+
+-- a file with more records
+abbrev pub added_to : List (List ℕ) → Stamp → File → File
+added_to more stamp f = record f { records = f.records ++ more; length = length_of f.format f.length (f.records ++ more); stamp = stamp }
+
+-- a file of a name is changed in its place
+unfoldable pub change_file : Name → (File → File) → List File → List File
+change_file name edit [] = []
+change_file name edit (f ∷ fs) = if same_name name f.name then edit f ∷ fs else f ∷ change_file name edit fs
+
+-- a file behind the first of these, if there is one
+abbrev pub behind_first : File → List File → List File
+behind_first f [] = f ∷ []
+behind_first f (first ∷ fs) = first ∷ f ∷ fs
+
+-- the last of them first, then the others
+unfoldable pub last_first : List File → List File
+last_first [] = []
+last_first (f ∷ fs) = behind_first f (last_first fs)
+
+-- a file goes, and the last one takes its place
+unfoldable pub drop_file : Name → List File → List File
+drop_file name [] = []
+drop_file name (f ∷ fs) = if same_name name f.name then last_first fs else f ∷ drop_file name fs
+
+-- the files after a change
+unfoldable pub changed_files : List File → Change → List File
+changed_files files (Put new) = put_file new files
+changed_files files (Add name more stamp) = change_file name (added_to more stamp) files
+changed_files files (Drop name) = drop_file name files
+changed_files files (Rename from to number) = change_file from (λ f. record f { name = to; number = number }) files
+changed_files files (Relabel volid) = files
+
+abbrev pub changed_volid : List ℕ → Change → List ℕ
+changed_volid volid (Relabel new) = new
+changed_volid volid (Put new) = volid
+changed_volid volid (Add name more stamp) = volid
+changed_volid volid (Drop name) = volid
+changed_volid volid (Rename from to number) = volid
+
+-- the minidisk after a change
+unfoldable pub changed : Minidisk → Change → Minidisk
+changed m change = record m { volid = changed_volid m.volid change; files = changed_files m.files change }
+
+-- the file that is written anew
+unfoldable pub written_file : Minidisk → Change → Option File
+written_file m (Put new) = Some new
+written_file m (Add name more stamp) = file_named name (changed_files m.files (Add name more stamp))
+written_file m (Drop name) = None
+written_file m (Rename from to number) = None
+written_file m (Relabel volid) = None
+
+-- the blocks of the new directory, but for its first, and of the new map
+abbrev pub system_need : Minidisk → Change → ℕ
+system_need m change = directory_more m.bsize (length (changed_files m.files change)) + map_size m.bsize m.total
+
+abbrev pub file_need : ℕ → Option File → ℕ
+file_need bsize None = 0
+file_need bsize (Some f) = file_size bsize f
+
+-- the free blocks that a change needs
+unfoldable pub need : Minidisk → Change → ℕ
+need m (Relabel volid) = 0
+need m (Put new) = file_need m.bsize (written_file m (Put new)) + system_need m (Put new)
+need m (Add name more stamp) = file_need m.bsize (written_file m (Add name more stamp)) + system_need m (Add name more stamp)
+need m (Drop name) = system_need m (Drop name)
+need m (Rename from to number) = system_need m (Rename from to number)
+
+unfoldable pub is_full : Minidisk → Change → Bool
+is_full m change = nat_lt (free_count m) (need m change)
+
+abbrev pub file_limit : Option File → Option ℕ
+file_limit None = None
+file_limit (Some f) =
+    if nat_lt 1048576 (length f.records) then Some 2
+    else if nat_lt 67108864 (stored_size f.format f.records) then Some 3
+    else None
+
+-- the lowest limit that a change passes: 1, more than 16,384 files; 2, more than 1,048,576 records of the file; 3, more
+-- than 67,108,864 stored bytes of it
+unfoldable pub limit : Minidisk → Change → Option ℕ
+limit m change = if nat_lt 16384 (length (changed_files m.files change)) then Some 1 else file_limit (written_file m change)
+
+-- what a change comes to
+pub data Answer : Type 0 where
+  Limited : ℕ → Answer
+  Full : ℕ → ℕ → Answer
+  Changed : Minidisk → Answer
+
+abbrev pub unless_full : Minidisk → Change → Answer
+unless_full m change = if is_full m change then Full (need m change) (free_count m) else Changed (changed m change)
+
+abbrev pub unless_limited : Option ℕ → Answer → Answer
+unless_limited (Some k) answer = Limited k
+unless_limited None answer = answer
+
+-- the first limit, else that it is full, else the new minidisk
+unfoldable pub answer_of : Minidisk → Change → Answer
+answer_of m change = unless_limited (limit m change) (unless_full m change)
+
+-- the empty minidisk on a unit
+abbrev pub empty_minidisk : List ℕ → ℕ → ℕ → Minidisk
+empty_minidisk volid bsize total = record { volid = volid; bsize = bsize; total = total; lost = 0; files = [] }

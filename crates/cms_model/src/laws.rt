@@ -1,0 +1,96 @@
+// What follows from the definitions of volumes.
+ghost use Rattle.cms_model.specs.Built.{BuiltIsRead};
+ghost use Rattle.cms_model.specs.LawsChanges.{NamesAreTold, NamesStayDistinct, NoneIsAdded, OpenedAreDistinct, PlaceIsChanged, PlaceIsFound};
+ghost use Rattle.cms_model.specs.LawsRecords.{FixedAreCut, StandsForOne, StoredHasSize, VaryingAreRead};
+ghost use Rattle.cms_model.specs.LawsSizes.{BlocksAreShared};
+ghost use Rattle.cms_model.specs.LawsTrees.{FirstIsFixed, LeavesAreBlocks, OnlyItsPointers, PointersAreRead, ShapeIsLeast, TreeHasSize, TreeIsWithin, TreeRestsOnItsBlocks};
+ghost use Rattle.cms_model.specs.LawsUpdates.{AfterIsTold, ApartIsKept, AsideIsAsBefore, FrontsOfUpdate, KeepsOld, KeepsWiped, MakeIsWhole, RelabelIsWhole, SettledIsFirm, SyncSettles, UntouchedStarts, UpdateIsAside, UpdateIsPut, UpdateIsWhole, WipeIsWhole, WipedIsNone};
+ghost use Rattle.cms_model.specs.LawsVolumes.{NoLabelIsNone, OpenedIsInOrder, OpensWhereHeld, RestsOnFrame, StateIsMinidisk};
+ghost use Rattle.cms_model.specs.Stands.{OpenedIsMinidisk, OpenedStands, RenewedStands, StandsOpens};
+
+/// Records and the bytes that hold them: what is joined is cut again.
+pub fn record_laws()
+    ensures fixed { FixedAreCut }
+    ensures varying { VaryingAreRead }
+    ensures size { StoredHasSize }
+    ensures one { StandsForOne }
+{}
+
+/// Trees of blocks: their levels, their blocks and what they rest on.
+pub fn tree_laws()
+    ensures shape { ShapeIsLeast }
+    ensures size { TreeHasSize }
+    ensures within { TreeIsWithin }
+    ensures leaves { LeavesAreBlocks }
+    ensures first { FirstIsFixed }
+    ensures frame { TreeRestsOnItsBlocks }
+    ensures built { BuiltIsRead }
+    ensures pointers { OnlyItsPointers }
+    ensures read { PointersAreRead }
+{}
+
+/// The volume in an image: the order of tests, what it rests on, its state and where its blocks lie.
+pub fn volume_laws()
+    ensures opens { OpensWhereHeld }
+    ensures frame { RestsOnFrame }
+    ensures state { StateIsMinidisk }
+    ensures no_label { NoLabelIsNone }
+    ensures order { OpenedIsInOrder }
+{}
+
+/// An open volume file by file: what stands opens, what opens stands, and what an update exchanges for it stands.
+pub fn standing_laws()
+    ensures opens { StandsOpens }
+    ensures stands { OpenedStands }
+    ensures minidisk { OpenedIsMinidisk }
+    ensures renewed { RenewedStands }
+{}
+
+/// Sizes: the blocks of a minidisk are in use, free or lost, and the free ones are those that its map doesn't mark.
+pub fn size_laws()
+    ensures shared { BlocksAreShared }
+{}
+
+/// Changes of a list of files: all is done in the place of the name, and names stay distinct.
+pub fn change_laws()
+    ensures names { NamesAreTold }
+    ensures found { PlaceIsFound }
+    ensures place { PlaceIsChanged }
+    ensures none { NoneIsAdded }
+    ensures distinct { NamesStayDistinct }
+    ensures opened { OpenedAreDistinct }
+{}
+
+/// What a crash may leave of a unit that is settled, synced, untouched or left alone.
+///
+/// - A settled unit opens as its volume in every crash image.
+/// - A unit to which nothing happened has the state of its starting blocks.
+/// - After a sync a crash leaves the contents, and nothing else.
+/// - Events that are neither writes to a unit nor syncs of it change nothing for it, and those of an update are of its unit alone.
+pub fn crash_state_laws()
+    ensures told { AfterIsTold }
+    ensures settled { SettledIsFirm }
+    ensures untouched { UntouchedStarts }
+    ensures synced { SyncSettles }
+    ensures aside { AsideIsAsBefore }
+    ensures update_aside { UpdateIsAside }
+{}
+
+/// An update is whole or absent: so are a relabelling, a wiping and a making.
+///
+/// - After its events the contents are the old image with its writes put in.
+/// - Before the write of its label a unit is settled at the old volume, or wiped.
+/// - From that write on its contents are the new volume, and a crash leaves the old state or the new.
+/// - After the sync behind it the unit is settled at the new volume.
+pub fn update_laws()
+    ensures fronts { FrontsOfUpdate }
+    ensures put { UpdateIsPut }
+    ensures kept { ApartIsKept }
+    ensures old { KeepsOld }
+    ensures update { UpdateIsWhole }
+    ensures relabel { RelabelIsWhole }
+    ensures wiped { WipedIsNone }
+    ensures wipe { WipeIsWhole }
+    ensures still_wiped { KeepsWiped }
+    ensures make { MakeIsWhole }
+{}
