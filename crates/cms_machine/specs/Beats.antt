@@ -1,0 +1,150 @@
+-- Beats: each a single thing that was done, with its piece of the journal, the oldest event first.
+use Rattle.std.specs.Prelude.{◌≡◌, ◌⊎◌, ℕ, ℤ, List, [], ◌∷◌, ◌++◌, Option, slice_get, ⊤}
+use Rattle.cms_journal.specs.declared.event.Event.{Event}
+use Rattle.cms_journal.specs.declared.event.Event.TheVariants.{Read, Now, Typed, Wrote, Synced}
+use Rattle.cms_journal.specs.Causes.{Counted}
+use Rattle.cms_journal.specs.Told.{Told, plus, typed, syncs}
+use Rattle.cms_model.specs.Minidisks.{State}
+use Rattle.cms_machine.specs.Slots.{Slot, unit_set, IsAmong}
+use Rattle.cms_machine.specs.Steps.{Step, Outcome, unit_of, IsOutcome, IsOf, sync_count, units_after, faults_in}
+use Rattle.cms_machine.specs.Items.{Item, Takes}
+use Rattle.cms_machine.specs.Acts.{Act, Out, Take, Turn, Does}
+use Rattle.cms_machine.specs.Traces.{TraceItem, Shown, Spent, added}
+use Rattle.cms_machine.specs.Points.{Leaves, Point, Sound}
+
+-- bytes were typed; a turn was spent, with these seconds; an item was taken, or the script's end was found; a step was done
+pub data Deed : Type 0 where
+  Said : List ℕ → Deed
+  Turned : ℤ → Deed
+  Took : Option Item → Deed
+  Did : Step → Outcome → Deed
+
+pub record Beat : Type 0 where
+  pub deed : Deed
+  pub piece : List Event
+
+-- the pieces one after another
+abbrev pub pieces : List Beat → List Event
+pieces [] = []
+pieces (b ∷ bs) = b.piece ++ pieces bs
+
+-- what a deed adds to the trace
+abbrev pub shown_by : Deed → List TraceItem
+shown_by (Said b) = Shown b ∷ []
+shown_by (Turned m) = Spent ∷ []
+shown_by (Took i) = []
+shown_by (Did s o) = added s o
+
+-- the trace of beats
+abbrev pub trace : List Beat → List TraceItem
+trace [] = []
+trace (b ∷ bs) = shown_by b.deed ++ trace bs
+
+abbrev pub outcome_of : Deed → List Outcome
+outcome_of (Said b) = []
+outcome_of (Turned m) = []
+outcome_of (Took i) = []
+outcome_of (Did s o) = o ∷ []
+
+-- the outcomes of their steps
+abbrev pub outcomes : List Beat → List Outcome
+outcomes [] = []
+outcomes (b ∷ bs) = outcome_of b.deed ++ outcomes bs
+
+-- ---- the events that a piece may have
+
+abbrev pub OnlyTyped : List Event → Type 0
+OnlyTyped [] = ⊤
+OnlyTyped (Typed b ∷ es) = OnlyTyped es
+OnlyTyped (e ∷ es) = ⊥
+
+abbrev pub OnlyRead : List Event → Type 0
+OnlyRead [] = ⊤
+OnlyRead (Read b ∷ es) = OnlyRead es
+OnlyRead (e ∷ es) = ⊥
+
+-- only writes, and syncs of this unit
+abbrev pub OnlyDisk : ℕ → List Event → Type 0
+OnlyDisk u [] = ⊤
+OnlyDisk u (Wrote v k bytes ∷ es) = OnlyDisk u es
+OnlyDisk u (Synced v ∷ es) = (v ≡ u) × OnlyDisk u es
+OnlyDisk u (e ∷ es) = ⊥
+
+-- a step makes writes, and as many syncs of its unit as its outcome says; the outcome is one that it may have
+pub record FitsStep (s : Step) (o : Outcome) (es : List Event) : Type 0 where
+  pub disk : OnlyDisk (unit_of s) es
+  pub synced : syncs es ≡ sync_count s o
+  pub outcome : IsOutcome s o
+
+-- a deed may have this piece
+abbrev pub Fits : Deed → List Event → Type 0
+Fits (Said b) es = OnlyTyped es × (typed es ≡ b)
+Fits (Turned m) es = es ≡ Now m ∷ []
+Fits (Took i) es = OnlyRead es
+Fits (Did s o) es = FitsStep s o es
+
+-- ---- the console
+
+-- nothing was taken
+pub record KeepsConsole (p m : Point) : Type 0 where
+  pub unread : m.unread ≡ p.unread
+  pub ended : m.ended ≡ p.ended
+
+-- what a deed does to the script that was read
+abbrev pub OnConsole : Deed → List Event → Point → Point → Type 0
+OnConsole (Said b) es p m = KeepsConsole p m
+OnConsole (Turned t) es p m = KeepsConsole p m
+OnConsole (Took i) es p m = Takes p.unread p.ended es i m.unread m.ended
+OnConsole (Did s o) es p m = KeepsConsole p m
+
+-- ---- the units
+
+-- a deed speaks of the units as they are
+abbrev pub SpeaksOf : Deed → List Slot → Type 0
+SpeaksOf (Said b) units = ⊤
+SpeaksOf (Turned m) units = ⊤
+SpeaksOf (Took i) units = ⊤
+SpeaksOf (Did s o) units = IsOf s (slice_get units (unit_of s))
+
+-- the units after a deed
+abbrev pub units_by : List Slot → Deed → List Slot
+units_by units (Said b) = units
+units_by units (Turned m) = units
+units_by units (Took i) = units
+units_by units (Did s o) = units_after units s o
+
+-- a piece is covered, after the journal before it: a crash within it leaves the unit in a state of its set before or after the
+-- beat, a crash behind it of the set after
+pub record Covers (j : Told) (es : List Event) (u : ℕ) (before after : List State) : Type 0 where
+  pub inside : (front rest : List Event) → front ++ rest ≡ es → (x : State) → Leaves (plus j front) u x → IsAmong x before ⊎ IsAmong x after
+  pub whole : (x : State) → Leaves (plus j es) u x → IsAmong x after
+
+-- ---- runs of beats
+
+-- a beat leads from a point to a point
+pub record Beats (p : Point) (b : Beat) (m : Point) : Type 0 where
+  pub journal : m.journal ≡ plus p.journal b.piece
+  pub faults : Counted p.faults (faults_in (outcome_of b.deed)) m.faults
+  pub fits : Fits b.deed b.piece
+  pub console : OnConsole b.deed b.piece p m
+  pub speaks : SpeaksOf b.deed p.units
+  pub units : m.units ≡ units_by p.units b.deed
+  pub covered : Sound p → (u : ℕ) → Covers p.journal b.piece u (unit_set p.units u) (unit_set m.units u)
+
+-- beats lead one after another from a point to a point
+abbrev pub Chain : Point → List Beat → Point → Type 0
+Chain p [] q = p ≡ q
+Chain p (b ∷ bs) q = (m : Point) × Beats p b m × Chain m bs q
+
+-- the tree's next deed, and the rest of the tree
+abbrev pub Next : {R : Type 0} → Act R → Deed → Act R → Type 0
+Next (Out b t) (Said c) u = (c ≡ b) × (u ≡ t)
+Next (Take k) (Took i) u = u ≡ k i
+Next (Turn k) (Turned m) u = u ≡ k m
+Next (Does s k) (Did r o) u = (r ≡ s) × (u ≡ k o)
+Next _ _ u = ⊥
+
+-- the deeds of the beats are those of the tree, up to the rest of it
+abbrev pub Leads : {R : Type 0} → Act R → List Beat → Act R → Type 0
+Leads t [] u = t ≡ u
+Leads {R} t (b ∷ bs) u = (v : Act R) × Next t b.deed v × Leads v bs u

@@ -1,0 +1,104 @@
+-- What follows of all beats and all runs.
+use Rattle.std.specs.Prelude.{◌≡◌, ℕ, ℤ, Bool, false, List, ◌∷◌, ◌++◌, length}
+use Rattle.cms_journal.specs.declared.event.Event.{Event}
+use Rattle.cms_journal.specs.declared.event.Event.TheVariants.{Read}
+use Rattle.cms_journal.specs.Causes.{Counted}
+use Rattle.cms_journal.specs.Told.{plus, typed, script, moments}
+use Rattle.cms_model.specs.Minidisks.{State}
+use Rattle.cms_machine.specs.Slots.{unit_set, IsAmong}
+use Rattle.cms_machine.specs.Steps.{Outcome, faults_in}
+use Rattle.cms_machine.specs.Items.{extended, items, Goes}
+use Rattle.cms_machine.specs.Acts.{Act, Done, bind}
+use Rattle.cms_machine.specs.Traces.{TraceItem, bytes_of, turns_of, last_set, At, Within}
+use Rattle.cms_machine.specs.Feeds.{Over, feed, prepend, Waits, WaitsBehind}
+use Rattle.cms_machine.specs.Points.{Leaves, Point, Sound}
+use Rattle.cms_machine.specs.Beats.{Beat, pieces, trace, outcomes, Chain, Leads}
+use Rattle.cms_machine.specs.Runs.{Ran, Broke, events_of, fed}
+
+-- ---- beats, from a point where a crash leaves each unit in a state of its set
+
+-- a crash at any moment leaves a state within the trace, after the bytes typed and the turns spent by then; so it is however the
+-- trace goes on
+abbrev pub CrashesWithin : Type 0
+CrashesWithin =
+    (p q : Point) (bs : List Beat) → Chain p bs q → Sound p → (front rest : List Event) → front ++ rest ≡ pieces bs
+    → (u : ℕ) (x : State) → Leaves (plus p.journal front) u x → (more : List TraceItem)
+    → Within (trace bs ++ more) (length (typed front)) (length (moments front)) u (unit_set p.units u) x
+
+-- what is within two marks is at the first of them
+abbrev pub WithinIsAt : Type 0
+WithinIsAt = (tr : List TraceItem) (t n u : ℕ) (set : List State) (x : State) → Within tr t n u set x → At tr t u set x
+
+-- behind the beats a crash leaves each unit in a state of its set again
+abbrev pub KeepSound : Type 0
+KeepSound = (p q : Point) (bs : List Beat) → Chain p bs q → Sound p → Sound q
+
+-- what beats add up to: their pieces are the journal, their faults are counted, the sets are the last of their trace, its bytes
+-- are those typed, and each of its turns has a moment
+pub record AddsUp (p q : Point) (bs : List Beat) : Type 0 where
+  pub journal : q.journal ≡ plus p.journal (pieces bs)
+  pub faults : Counted p.faults (faults_in (outcomes bs)) q.faults
+  pub sets : (u : ℕ) → unit_set q.units u ≡ last_set u (unit_set p.units u) (trace bs)
+  pub bytes : bytes_of (trace bs) ≡ typed (pieces bs)
+  pub turns : turns_of (trace bs) ≡ length (moments (pieces bs))
+
+abbrev pub AddUp : Type 0
+AddUp = (p q : Point) (bs : List Beat) → Chain p bs q → AddsUp p q bs
+
+-- ---- runs that are joined
+
+-- a run that comes to a tree within a larger one, and a run of that to its result, are one run
+abbrev pub RunsJoin : Type 0 → Type 0 → Type 0
+RunsJoin A R = (p m q : Point) (t : Act R) (s : Act A) (f : A → Act R) (a : A) → Ran p m t (bind s f) → Ran m q s (Done a) → Ran p q t (f a)
+
+-- the same where the second is cut off
+abbrev pub StopsJoin : Type 0 → Type 0 → Type 0
+StopsJoin A R = (p m q : Point) (t : Act R) (s : Act A) (f : A → Act R) → Ran p m t (bind s f) → Broke m q s → Broke p q t
+
+-- beats that lead through a tree lead through it within a larger one
+abbrev pub LeadsWithin : Type 0 → Type 0 → Type 0
+LeadsWithin A R = (t u : Act A) (bs : List Beat) (f : A → Act R) → Leads t bs u → Leads (bind t f) bs (bind u f)
+
+-- ---- the machine: a tree on what was told
+
+-- on what beats took, and more, it shows their trace, and goes on as the rest of the tree
+abbrev pub FeedsBeats : Type 0 → Type 0
+FeedsBeats R =
+    (t u : Act R) (p q : Point) (bs : List Beat) → Chain p bs q → Leads t bs u → (more : List ℕ) (over : Bool) → Goes q.ended more over
+    → (ms : List ℤ) (os : List Outcome)
+    → feed t (items (extended p.unread (script (pieces bs) ++ more)) over) over (moments (pieces bs) ++ ms) (outcomes bs ++ os)
+    ≡ prepend (trace bs) (feed u (items (extended q.unread more) over) over ms os)
+
+-- a run that was cut off is one of the machine on all that was told: what was told is the journal, the faults are counted, the
+-- bytes typed are the first of the machine's, a crash at any moment leaves what is within its trace there, and a read comes only
+-- where it waits for the script, with all its bytes typed
+pub record FollowsTree {R : Type 0} (p q : Point) (t : Act R) (b : Broke p q t) : Type 0 where
+  pub journal : q.journal ≡ plus p.journal (events_of b)
+  pub faults : Counted p.faults (faults_in (outcomes b.ran.beats)) q.faults
+  pub bytes : (more : List ℕ) × (typed (events_of b) ++ more ≡ bytes_of (fed p t (events_of b) (outcomes b.ran.beats)).trace)
+  pub crash :
+      Sound p → (front rest : List Event) → front ++ rest ≡ events_of b → (u : ℕ) (x : State) → Leaves (plus p.journal front) u x
+      → Within (fed p t (events_of b) (outcomes b.ran.beats)).trace (length (typed front)) (length (moments front)) u (unit_set p.units u) x
+  pub waits :
+      (front rest : List Event) (bytes : List ℕ) → front ++ Read bytes ∷ rest ≡ events_of b
+      → Waits (feed t (items (extended p.unread (script front)) false) false (moments front) (outcomes b.ran.beats)) (typed front)
+  -- and also on a front of the script told by then, as that up to its last line feed
+  pub waits_before :
+      (front rest : List Event) (bytes : List ℕ) → front ++ Read bytes ∷ rest ≡ events_of b → (early later : List ℕ) → early ++ later ≡ script front
+      → WaitsBehind (feed t (items (extended p.unread early) false) false (moments front) (outcomes b.ran.beats)) (typed front)
+
+abbrev pub StopsFollow : Type 0 → Type 0
+StopsFollow R = (p q : Point) (t : Act R) (b : Broke p q t) → FollowsTree p q t b
+
+-- a run to its result is one of the machine to that result: the machine's bytes are those typed, each of its turns has a moment,
+-- and a crash leaves each unit in a state of its last set
+pub record ComesTo {R : Type 0} (p q : Point) (t : Act R) (a : R) (ran : Ran p q t (Done a)) : Type 0 where
+  pub journal : q.journal ≡ plus p.journal (pieces ran.beats)
+  pub close : (fed p t (pieces ran.beats) (outcomes ran.beats)).close ≡ Over a
+  pub bytes : bytes_of (fed p t (pieces ran.beats) (outcomes ran.beats)).trace ≡ typed (pieces ran.beats)
+  pub turns : turns_of (fed p t (pieces ran.beats) (outcomes ran.beats)).trace ≡ length (moments (pieces ran.beats))
+  pub sets : (u : ℕ) → unit_set q.units u ≡ last_set u (unit_set p.units u) (fed p t (pieces ran.beats) (outcomes ran.beats)).trace
+  pub states : Sound p → (u : ℕ) (x : State) → Leaves (plus p.journal (pieces ran.beats)) u x → IsAmong x (last_set u (unit_set p.units u) (fed p t (pieces ran.beats) (outcomes ran.beats)).trace)
+
+abbrev pub RunsCome : Type 0 → Type 0
+RunsCome R = (p q : Point) (t : Act R) (a : R) (ran : Ran p q t (Done a)) → ComesTo p q t a ran

@@ -1,0 +1,10 @@
+pub mod Slots
+pub mod Steps
+pub mod Items
+pub mod Acts
+pub mod Traces
+pub mod Feeds
+pub mod Points
+pub mod Beats
+pub mod Runs
+pub mod Laws

@@ -1,0 +1,36 @@
+-- Where a run stands.
+use Rattle.std.specs.Prelude.{◌≡◌, ℕ, Bool, List, Some, None, slice_get}
+use Rattle.cms_journal.specs.declared.event.Attached.{Attached}
+use Rattle.cms_journal.specs.Journal.{Journal, IsCrashImage}
+use Rattle.cms_journal.specs.Told.{Told}
+use Rattle.cms_model.specs.Minidisks.{State}
+use Rattle.cms_model.specs.Trees.{image_of}
+use Rattle.cms_model.specs.Volumes.{disk_of, state_of}
+use Rattle.cms_machine.specs.Slots.{Slot, unit_set, IsAmong}
+use Rattle.cms_machine.specs.Items.{Unread}
+
+-- a crash at this journal may leave the unit in this state
+pub record LeavesIn (j : Journal) (u : ℕ) (x : State) : Type 0 where
+  pub unit : Attached
+  pub attached : slice_get j.units u ≡ Some unit
+  pub image : List (List ℕ)
+  pub crash : IsCrashImage j.events u unit.start image
+  pub state : state_of (disk_of unit) (image_of image) ≡ x
+
+-- nothing is said of a journal that isn't told
+abbrev pub Leaves : Told → ℕ → State → Type 0
+Leaves None u x = ⊥
+Leaves (Some j) u x = LeavesIn j u x
+
+-- the journal, the count of device faults, the machine's units, and of the script what was read and not taken, and whether its
+-- end was found
+pub record Point : Type 0 where
+  pub journal : Told
+  pub faults : ℕ
+  pub units : List Slot
+  pub unread : Unread
+  pub ended : Bool
+
+-- a crash leaves each unit in a state of its set
+pub record Sound (p : Point) : Type 0 where
+  pub each : (u : ℕ) (x : State) → Leaves p.journal u x → IsAmong x (unit_set p.units u)

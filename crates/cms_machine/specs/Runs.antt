@@ -1,0 +1,56 @@
+-- Runs: what was done of a tree, as beats.
+use Rattle.std.specs.Prelude.{◌≡◌, ◌⊎◌, ℕ, ◌≤◌, ◌||◌, List, [], ◌++◌}
+use Rattle.cms_journal.specs.declared.event.Event.{Event}
+use Rattle.cms_journal.specs.Told.{plus, typed, script, is_over, moments, syncs}
+use Rattle.cms_model.specs.Minidisks.{State}
+use Rattle.cms_machine.specs.Slots.{unit_set, IsAmong}
+use Rattle.cms_machine.specs.Steps.{Step, Outcome, Good, unit_of, sync_count}
+use Rattle.cms_machine.specs.Items.{extended, items, Lazy}
+use Rattle.cms_machine.specs.Acts.{Act, Done, Out, Take, Turn, Does}
+use Rattle.cms_machine.specs.Traces.{added, last_set}
+use Rattle.cms_machine.specs.Feeds.{Fed, feed}
+use Rattle.cms_machine.specs.Points.{Leaves, Point, Sound}
+use Rattle.cms_machine.specs.Beats.{Beat, pieces, Chain, Leads, OnlyTyped, OnlyRead, OnlyDisk}
+
+-- from a point with a tree to a point with the rest of it
+pub record Ran {R : Type 0} (p q : Point) (t u : Act R) : Type 0 where
+  pub beats : List Beat
+  pub chain : Chain p beats q
+  pub leads : Leads t beats u
+
+-- the front of a step's piece, where the run was cut off in it: a crash within it leaves the unit in a state of its set before,
+-- or of the one that the step adds where it is good
+pub record Begun (p : Point) (s : Step) (es : List Event) : Type 0 where
+  pub disk : OnlyDisk (unit_of s) es
+  pub synced : syncs es ≤ sync_count s Good
+  pub inside :
+      Sound p → (u : ℕ) (front rest : List Event) → front ++ rest ≡ es → (x : State) → Leaves (plus p.journal front) u x
+      → IsAmong x (unit_set p.units u) ⊎ IsAmong x (last_set u (unit_set p.units u) (added s Good))
+
+-- events that are a front of the piece of the tree's next deed
+abbrev pub Part : {R : Type 0} → Point → Act R → List Event → Type 0
+Part p (Done a) es = es ≡ []
+Part p (Out b t) es = OnlyTyped es × ((more : List ℕ) × (typed es ++ more ≡ b))
+Part p (Take k) es = OnlyRead es × Lazy p.unread p.ended es
+Part p (Turn k) es = es ≡ []
+Part p (Does s k) es = Begun p s es
+
+-- from a point with a tree, cut off somewhere
+pub record Broke {R : Type 0} (p q : Point) (t : Act R) : Type 0 where
+  pub mid : Point
+  pub rest : Act R
+  pub ran : Ran p mid t rest
+  pub loose : List Event
+  pub part : Part mid rest loose
+  pub journal : q.journal ≡ plus mid.journal loose
+  pub faults : mid.faults ≤ q.faults
+
+-- ---- all that was told
+
+-- the events since the point, the oldest first
+abbrev pub events_of : {R : Type 0} {p q : Point} {t : Act R} → Broke p q t → List Event
+events_of b = pieces b.ran.beats ++ b.loose
+
+-- a tree run on what these events told since a point, with what was read and not taken there
+abbrev pub fed : {R : Type 0} → Point → Act R → List Event → List Outcome → Fed R
+fed p t es os = feed t (items (extended p.unread (script es)) (p.ended || is_over es)) (p.ended || is_over es) (moments es) os

@@ -1,0 +1,34 @@
+// Laws of beats and of runs.
+ghost use Rattle.cms_machine.specs.Laws.{CrashesWithin, WithinIsAt, KeepSound, AddUp, RunsJoin, StopsJoin, LeadsWithin, FeedsBeats, StopsFollow, RunsCome};
+
+/// The law of beats: what a crash leaves at any moment of a run, where each beat's piece of the journal is covered.
+///
+/// - At every moment it leaves each unit in a state that the trace has there, after the bytes typed and the turns spent by then.
+/// - So it does by the bytes typed alone.
+/// - Behind the last beat each unit is in a state of its set.
+/// - The beats' pieces, faults, sets, bytes and turns add up to those of the whole.
+pub fn law_of_beats()
+    ensures within { CrashesWithin }
+    ensures at { WithinIsAt }
+    ensures sound { KeepSound }
+    ensures sums { AddUp }
+{}
+
+/// How runs are joined: a call's run stands within its caller's, to its end or cut off.
+pub fn laws_of_joining<A, R>()
+    ensures runs { RunsJoin A R }
+    ensures stops { StopsJoin A R }
+    ensures leads { LeadsWithin A R }
+{}
+
+/// A run is one of the machine on what was told.
+///
+/// - The machine on what beats took shows their trace.
+/// - On all that was told in a run that was cut off, its bytes begin with those typed, a crash at any moment leaves a state that
+///   its trace has there, and wherever the script was read it waits for the script.
+/// - On all that was told in a run to its end it comes to the same result, with the same bytes, turns and sets.
+pub fn laws_of_runs<R>()
+    ensures feeds { FeedsBeats R }
+    ensures stops { StopsFollow R }
+    ensures ends { RunsCome R }
+{}

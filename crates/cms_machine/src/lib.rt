@@ -1,0 +1,6 @@
+//! What a session of the machine is: what is to be done as a tree, what was done as beats, and the laws that join them.
+#![tactic(auto)]
+
+mod laws;
+
+pub use laws::{law_of_beats, laws_of_joining, laws_of_runs};
