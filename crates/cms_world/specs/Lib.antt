@@ -1,0 +1,5 @@
+pub mod Crash
+pub mod Images
+pub mod Mem
+pub mod Plan
+pub mod Recorder

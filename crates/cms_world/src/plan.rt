@@ -1,0 +1,95 @@
+// The calls of a world in memory, and those that are to fail.
+ghost use Rattle.std.specs.Prelude.{◌≡◌, ◌∷◌, ◌++◌, [], OnOk, OnErr};
+
+use std::alloc::{AllocError, Global};
+
+// The letters of the seven calls.
+pub const ATTACH: u8 = b'a';
+
+pub const READ_BLOCK: u8 = b'r';
+
+pub const WRITE_BLOCK: u8 = b'w';
+
+pub const SYNC: u8 = b's';
+
+pub const READ: u8 = b'i';
+
+pub const TYPE_OUT: u8 = b'o';
+
+pub const NOW: u8 = b'n';
+
+// A call that is to fail.
+#[derive(Clone, Copy)]
+pub struct Planned {
+    // its number, from 1 over all calls
+    pub call: u32,
+    // a write adds its event
+    pub lands: bool,
+}
+
+// What the plan says of a call.
+#[derive(Clone, Copy)]
+pub enum Next {
+    // it is done
+    Goes,
+    // it fails, and nothing happens
+    Fails,
+    // it fails, and a write adds its event
+    Lands,
+}
+
+#[derive(Drop)]
+pub struct Plan {
+    // a letter for each call so far
+    pub calls: Vec<u8>,
+    // in the order in which they were planned
+    pub failing: Vec<Planned>,
+}
+
+impl Plan {
+    ghost use Rattle.cms_world.specs.Plan.{planned_of, IsNext};
+
+    pub fn new(alloc: Global) -> Self
+        ensures calls { result.calls.items ≡ [] }
+        ensures failing { result.failing.items ≡ [] }
+    {
+        Plan {
+            calls: Vec::new(alloc),
+            failing: Vec::new(alloc),
+        }
+    }
+
+    pub fn fail_at(&mut self, call: u32, lands: bool) -> Result<(), AllocError>
+        ensures ok { OnOk result (self.new.failing.items ≡ self.old.failing.items ++ record { call = call; lands = lands } ∷ []) }
+        ensures err { OnErr result (self.new.failing.items ≡ self.old.failing.items) }
+        ensures calls { self.new.calls.items ≡ self.old.calls.items }
+    {
+        self.failing.push(Planned { call, lands })?;
+        Ok(())
+    }
+
+    // Writes a call down, and says what comes of it.
+    pub fn next(&mut self, letter: u8) -> Next
+        ensures next { IsNext letter self.old self.new result }
+        ensures failing { self.new.failing.items ≡ self.old.failing.items }
+    {
+        if self.calls.push(letter).is_err() {
+            return Next::Fails;
+        }
+        match self.planned(self.calls.len()) {
+            None => Next::Goes,
+            Some(true) => Next::Lands,
+            Some(false) => Next::Fails,
+        }
+    }
+
+    fn planned(&self, number: usize) -> Option<bool>
+        ensures { result ≡ planned_of self.now.failing.items number }
+    {
+        self.failing
+            .iter()
+            .rev()
+            .find(|p| p.call as usize == number)
+            .map(|p| p.lands)
+    }
+}
