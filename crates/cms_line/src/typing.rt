@@ -1,0 +1,70 @@
+// Lines typed at the console.
+ghost use Rattle.std.specs.Prelude.{◌≡◌, ◌<◌, ◌≤◌, [], map, take, length, OnOk, OnErr};
+ghost use Rattle.cms_ebcdic.specs.CodePage.{host_of};
+ghost use Rattle.cms_journal.specs.Causes.{HasCause};
+ghost use Rattle.cms_line.specs.Typing.{TypedTo, TypedPart, typed_line};
+
+use cms_ebcdic::to_host;
+use cms_world::{Failed, World};
+
+// Room for a whole line of the console and for every message.
+const ROOM: usize = 1024;
+
+// Types all the bytes, each time as many as the world takes.
+fn type_all<W: World>(world: &mut W, bytes: &[u8]) -> Result<(), Failed>
+    ensures ok { OnOk result (TypedTo (W.told world.old) (W.told world.new) bytes.now []) }
+    ensures err { OnErr result (TypedPart (W.told world.old) (W.told world.new) bytes.now) }
+    ensures cause { HasCause (W.edges world.old) (W.edges world.new) result }
+    ensures faults { W.faults world.new ≡ W.faults world.old }
+{
+    let mut rest = bytes;
+    while !rest.is_empty() {
+        let count = world.type_out(rest)?;
+        rest = &rest[count..];
+    }
+    Ok(())
+}
+
+// Turns a text into ASCII, at the front of a buffer.
+fn turn(text: &[u8], into: &mut [u8])
+    requires { length text.now ≤ length into.old }
+    ensures { take (length text.now) into.new ≡ map host_of text.now }
+{
+    for (place, byte) in text.iter().enumerate() {
+        into[place] = to_host(*byte);
+    }
+}
+
+// Types a line through a buffer, as a whole where it has room for that.
+fn type_through<W: World>(world: &mut W, bytes: &[u8], buffer: &mut [u8]) -> Result<(), Failed>
+    requires { 0 < length buffer.old }
+    ensures ok { OnOk result (TypedTo (W.told world.old) (W.told world.new) (typed_line bytes.now) []) }
+    ensures err { OnErr result (TypedPart (W.told world.old) (W.told world.new) (typed_line bytes.now)) }
+    ensures cause { HasCause (W.edges world.old) (W.edges world.new) result }
+    ensures faults { W.faults world.new ≡ W.faults world.old }
+{
+    let room = buffer.len();
+    let mut rest = bytes;
+    while rest.len() >= room {
+        let (front, behind) = rest.split_at(room);
+        turn(front, buffer);
+        type_all(world, buffer)?;
+        rest = behind;
+    }
+    turn(rest, buffer);
+    buffer[rest.len()] = b'\n';
+    type_all(world, &buffer[..rest.len() + 1])
+}
+
+/// Types a line of EBCDIC and a line feed: each byte as its ASCII character, as a period where the code page has none.
+///
+/// A line of up to 1,023 bytes, and so every line of the console and every message, is offered to the world as a whole. After
+/// `Failed` a front of it was typed.
+pub fn type_line<W: World>(world: &mut W, bytes: &[u8]) -> Result<(), Failed>
+    ensures ok { OnOk result (TypedTo (W.told world.old) (W.told world.new) (typed_line bytes.now) []) }
+    ensures err { OnErr result (TypedPart (W.told world.old) (W.told world.new) (typed_line bytes.now)) }
+    ensures cause { HasCause (W.edges world.old) (W.edges world.new) result }
+    ensures faults { W.faults world.new ≡ W.faults world.old }
+{
+    type_through(world, bytes, &mut [0; ROOM])
+}
