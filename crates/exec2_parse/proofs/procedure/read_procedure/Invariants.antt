@@ -1,0 +1,11 @@
+use Rattle.std.proofs.Common.{◌≡◌, ◌++◌}
+use Rattle.std.specs.Prelude.{None}
+use Rattle.exec2_parse.specs.Procedures.{lines_of, number_of_long_line}
+use Rattle.exec2_parse.specs.Records.{records_in}
+use Rattle.exec2_parse.proofs.procedure.read_procedure.Given as goal
+
+abbrev pub invariant-loop-record : goal.invariant-loop-record
+invariant-loop-record l =
+    (goal.iterator-loop-record).can_next l.record-iterator × (goal.iterator-loop-record).is_finite l.record-iterator
+    × (l.lines ++ lines_of l.record-iterator ≡ lines_of (records_in l.file))
+    × (number_of_long_line (lines_of l.record-iterator) ≡ None)

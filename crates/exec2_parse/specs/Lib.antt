@@ -1,0 +1,5 @@
+pub mod Expansion
+pub mod Procedures
+pub mod Records
+pub mod Texts
+pub mod Variables

@@ -1,0 +1,100 @@
+// The expansion of a word.
+ghost use Rattle.std.specs.Prelude.{◌≡◌, ◌≤◌, ◌+◌, ◌++◌, length, Ok, Err, IfOk, MatchOption};
+ghost use Rattle.exec2_parse.specs.Expansion.{KeepsPlainWords, ReplacesFromTheRight, SplitsAtLast, ampersands, expanded};
+ghost use Rattle.exec2_parse.specs.Variables as variables;
+
+use crate::Vars;
+use cms_line::Word;
+use std::alloc::{AllocError, Global};
+use thiserror::Error;
+
+const AMPERSAND: u8 = 0x50;
+
+/// The most bytes of a word.
+const LONGEST: usize = 255;
+
+/// Why a word wasn't expanded.
+#[derive(Clone, Copy, Debug, PartialEq, Eq, Error)]
+pub enum ExpandFault {
+    /// A value, with what stands to its left in the word, has more than 255 bytes.
+    #[error("an expanded word is longer than 255 bytes")]
+    TooLong,
+    #[error("no memory")]
+    Memory,
+}
+
+impl From<AllocError> for ExpandFault {
+    ghost use Rattle.std.specs.Prelude.{◌≡◌};
+    ghost use Rattle.exec2_parse.specs.declared.expansion.ExpandFault.TheVariants as fault;
+
+    ghost from_gives = { λ _ e. e ≡ fault.Memory };
+
+    fn from(_want: AllocError) -> ExpandFault {
+        ExpandFault::Memory
+    }
+}
+
+/// The word with the values of its variables, by the rule of VM/SP EXEC 2: from the right, the last ampersand and all that follows it
+/// are a name, which gives way to its value, and then the same for the ampersand to the left of that place. A value isn't
+/// scanned again, and a variable that was never set is empty.
+pub fn expand(alloc: Global, word: &[u8], vars: &Vars) -> Result<Word, ExpandFault>
+    requires { length word.now ≤ 255 }
+    ensures value { IfOk result (λ text. expanded vars.now word.now ≡ Ok text) }
+    ensures too_long { result ≡ Err ExpandFault.TooLong
+        → expanded vars.now word.now ≡ Err ExpandFault.TooLong }
+{
+    let mut left = word;
+    let mut value: &[u8] = &[];
+    while let Some((front, name)) = split_at_last_ampersand(left) {
+        let name = joined(alloc, name, value)?;
+        value = value_of(vars, name.bytes());
+        left = front;
+        if left.len() + value.len() > LONGEST {
+            return Err(ExpandFault::TooLong);
+        }
+    }
+    Ok(joined(alloc, left, value)?)
+}
+
+/// What the expansion of a word is, at all variables and words.
+///
+/// - A word without an ampersand stays, and what follows it is put behind it.
+/// - Any other is expanded at its last ampersand first, and what stands before that is then followed by the value. Where both
+///   together pass 255 bytes, the word is too long.
+pub fn expansion_laws()
+    ensures plain { KeepsPlainWords }
+    ensures last { ReplacesFromTheRight }
+{}
+
+/// What stands before the last ampersand of a word, and what stands behind it.
+fn split_at_last_ampersand(word: &[u8]) -> Option<(&[u8], &[u8])>
+    ensures { MatchOption result (ampersands word.now ≡ 0) (λ parts. SplitsAtLast word.now parts.0.now parts.1.now) }
+{
+    let mut left = word;
+    while let [front @ .., last] = left {
+        if *last == AMPERSAND {
+            return Some((front, &word[left.len()..]));
+        }
+        left = front;
+    }
+    None
+}
+
+fn joined(alloc: Global, first: &[u8], second: &[u8]) -> Result<Word, AllocError>
+    requires { length first.now + length second.now ≤ 255 }
+    ensures { IfOk result (λ word. word ≡ first.now ++ second.now) }
+{
+    let mut bytes = first.to_vec(alloc)?;
+    bytes.extend_from_slice(second)?;
+    Ok(Word::take(bytes))
+}
+
+fn value_of<'v>(vars: &'v Vars, name: &[u8]) -> &'v [u8]
+    ensures value { result.now ≡ variables.value_of vars.now name.now }
+    ensures short { length result.now ≤ 255 }
+{
+    match vars.get(name) {
+        Some(value) => value.bytes(),
+        None => &[],
+    }
+}

@@ -1,0 +1,164 @@
+// EXEC 2 procedures.
+ghost use Rattle.std.specs.Prelude.{◌≡◌, ◌==◌, ◌≤◌, ◌⊎◌, List, ℕ, length, option_map, slice_get, Ok, Err, IfOk, IfErr};
+ghost use Rattle.std.specs.Option.{option_copied};
+ghost use Rattle.cms_model.specs.Records.{IsValid, StandsFor};
+ghost use Rattle.exec2_parse.specs.Procedures as spec;
+ghost use Rattle.exec2_parse.specs.Records.{records_in};
+
+use crate::records::Records;
+use crate::text::{first_word, is_keyword, without_trailing_blanks};
+use cms_line::{Line, Lines};
+use cms_model::FileData;
+use std::alloc::{AllocError, Global};
+use std::marker::Model;
+use thiserror::Error;
+
+/// The most bytes of a line.
+const LONGEST: usize = 255;
+
+/// The most lines of a procedure.
+const MOST_LINES: u32 = 4096;
+
+/// The character that begins a comment.
+const ASTERISK: u8 = 0x5C;
+
+/// Why a file is no procedure that can be run.
+#[derive(Clone, Copy, Debug, PartialEq, Eq, Error)]
+pub enum ProcFault {
+    /// The first word of the first line that is neither blank nor a comment isn't &TRACE, or there is no such line.
+    #[error("the file is no EXEC 2 procedure")]
+    NotExec2,
+    /// The line of this number, counted from 1, is the first with more than 255 bytes without the blanks at its end.
+    #[error("line {0} is longer than 255 bytes")]
+    LineTooLong(u32),
+    /// There are more than 4,096 lines.
+    #[error("there are more than 4096 lines")]
+    TooManyLines,
+    #[error("no memory")]
+    Memory,
+}
+
+impl From<AllocError> for ProcFault {
+    ghost use Rattle.std.specs.Prelude.{◌≡◌};
+    ghost use Rattle.exec2_parse.specs.declared.procedure.ProcFault.TheVariants as fault;
+
+    ghost from_gives = { λ _ e. e ≡ fault.Memory };
+
+    fn from(_want: AllocError) -> ProcFault {
+        ProcFault::Memory
+    }
+}
+
+/// A procedure, seen as the list of its lines. They have no blanks at their ends, and there are at most 4,096.
+#[derive(Debug, Drop)]
+pub struct Procedure {
+    lines: Lines,
+}
+
+impl Model for Procedure {
+    ghost use Rattle.std.specs.Prelude.{List, ℕ, length, ◌≤◌};
+
+    ghost Value = { List (List ℕ) };
+
+    ghost view = { λ p. p.lines };
+
+    ghost invariant = { λ p. length p.lines ≤ 4096 };
+}
+
+impl Procedure {
+    /// How many lines there are.
+    pub fn len(&self) -> usize
+        ensures count { result ≡ length self.now }
+        ensures most { length self.now ≤ 4096 }
+    {
+        self.lines.len()
+    }
+
+    /// Whether there are no lines.
+    pub fn is_empty(&self) -> bool
+        ensures { result ≡ (length self.now == 0) }
+    {
+        self.len() == 0
+    }
+
+    /// The line at a place, from 0; none past the last.
+    pub fn get(&self, place: usize) -> Option<&Line>
+        ensures { option_copied result ≡ slice_get self.now place }
+    {
+        self.lines.get(place)
+    }
+}
+
+/// The procedure in a file: its records as lines, without the blanks at their ends.
+pub fn read_procedure(alloc: Global, file: &FileData) -> Result<Procedure, ProcFault>
+    requires valid { IsValid file.now }
+    requires stored { length file.now.bytes ≤ 67108864 }
+    ensures lines { IfOk result (λ procedure.
+        (records : List (List ℕ)) → StandsFor file.now records → spec.procedure_of records ≡ Ok procedure) }
+    ensures fault { IfErr result (λ fault. (fault ≡ ProcFault.Memory)
+        ⊎ ((records : List (List ℕ)) → StandsFor file.now records → spec.procedure_of records ≡ Err fault)) }
+{
+    if !begins_with_trace(file) {
+        return Err(ProcFault::NotExec2);
+    }
+    if let Some(number) = number_of_long_line(file) {
+        return Err(ProcFault::LineTooLong(number));
+    }
+    if file.count > MOST_LINES {
+        return Err(ProcFault::TooManyLines);
+    }
+    let mut lines = Lines::new(alloc);
+    for record in Records::of(file) {
+        lines.push(Line::of(alloc, without_trailing_blanks(record))?)?;
+    }
+    Ok(Procedure { lines })
+}
+
+/// Whether the first line that is neither blank nor a comment begins with &TRACE.
+#[tactic(auto, unfolding(crate::specs::Procedures::begins_with_trace))]
+fn begins_with_trace(file: &FileData) -> bool
+    requires { IsValid file.now }
+    ensures { result ≡ spec.begins_with_trace (spec.lines_of (records_in file.now)) }
+{
+    match first_statement(file) {
+        Some(line) => is_keyword(first_word(line), "&TRACE"),
+        None => false,
+    }
+}
+
+/// The first line that is neither blank nor a comment.
+fn first_statement(file: &FileData) -> Option<&[u8]>
+    requires { IsValid file.now }
+    ensures { option_map (λ line. line.now) result ≡ spec.first_statement (spec.lines_of (records_in file.now)) }
+{
+    for record in Records::of(file) {
+        let line = without_trailing_blanks(record);
+        if !is_idle(line) {
+            return Some(line);
+        }
+    }
+    None
+}
+
+/// Whether a line is blank or a comment.
+fn is_idle(line: &[u8]) -> bool
+    ensures { result ≡ spec.is_idle line.now }
+{
+    first_word(line).is_empty() || line.first() == Some(&ASTERISK)
+}
+
+/// The number of the first line that is too long, from 1.
+fn number_of_long_line(file: &FileData) -> Option<u32>
+    requires valid { IsValid file.now }
+    requires stored { length file.now.bytes ≤ 67108864 }
+    ensures { result ≡ spec.number_of_long_line (spec.lines_of (records_in file.now)) }
+{
+    let mut before = 0;
+    for record in Records::of(file) {
+        if without_trailing_blanks(record).len() > LONGEST {
+            return Some(before + 1);
+        }
+        before += 1;
+    }
+    None
+}

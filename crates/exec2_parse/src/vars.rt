@@ -1,0 +1,75 @@
+// The variables of a procedure.
+ghost use Rattle.std.specs.Prelude.{◌≡◌, ◌==◌, OnOk, OnErr};
+ghost use Rattle.std.specs.Option.{option_copied};
+ghost use Rattle.std.specs.FinMap as finite;
+
+use cms_line::Word;
+use std::alloc::{AllocError, Global};
+use std::collections::BTreeMap;
+use std::marker::Model;
+
+/// The variables of a procedure: a finite map from names, written without their ampersand, to values.
+#[derive(Drop)]
+pub struct Vars {
+    values: BTreeMap<Vec<u8>, Word>,
+}
+
+impl Model for Vars {
+    ghost use Rattle.std.specs.FinMap as finite;
+    ghost use Rattle.std.specs.Coded.{coded_ℕ, coded_list};
+    ghost use Rattle.exec2_parse.specs.Variables.{texts_of, Values};
+
+    ghost Value = { Values };
+
+    ghost coded = { finite.code (coded_list coded_ℕ) (coded_list coded_ℕ) };
+
+    ghost view = { λ v. finite.from_entries (texts_of v.values.entries) };
+}
+
+impl Vars {
+    /// No variable is set.
+    pub fn new(alloc: Global) -> Vars
+        ensures { result ≡ finite.empty }
+    {
+        Vars {
+            values: BTreeMap::new(alloc),
+        }
+    }
+
+    /// Sets the variable, in place of the value that it had.
+    pub fn set(&mut self, name: Word, value: Word) -> Result<(), AllocError>
+        ensures ok { OnOk result (self.new ≡ finite.insert self.old name value) }
+        ensures err { OnErr result (self.new ≡ self.old) }
+    {
+        self.values.insert(name.into_bytes(), value)?;
+        Ok(())
+    }
+
+    /// Forgets the variable, if it is set.
+    pub fn unset(&mut self, name: &[u8])
+        ensures { self.new ≡ finite.remove self.old name.now }
+    {
+        self.values.remove(name);
+    }
+
+    /// The variable's value; none where it isn't set.
+    pub fn get(&self, name: &[u8]) -> Option<&Word>
+        ensures { option_copied result ≡ finite.get self.now name.now }
+    {
+        self.values.get(name)
+    }
+
+    /// How many variables are set.
+    pub fn len(&self) -> usize
+        ensures { result ≡ finite.len self.now }
+    {
+        self.values.len()
+    }
+
+    /// Whether no variable is set.
+    pub fn is_empty(&self) -> bool
+        ensures { result ≡ (finite.len self.now == 0) }
+    {
+        self.len() == 0
+    }
+}
