@@ -1,0 +1,5 @@
+pub mod Chains
+pub mod Joins
+pub mod Named
+pub mod Numerals
+pub mod Places
