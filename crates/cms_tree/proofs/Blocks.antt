@@ -1,0 +1,38 @@
+-- Blocks of a unit as they are read.
+use Rattle.std.proofs.Common.{◌≡◌, ℕ, ◌+◌, ◌-◌, ◌<◌, ◌≤◌, List, [], ◌∷◌, ◌++◌, length, take, drop, Option, Some, None, refl, sym, ◌∙◌, ap, arith}
+use Rattle.std.specs.Prelude.{IsSomeAnd, slice_get, slice_index_or}
+use Rattle.std.specs.Option.{option_map_or}
+use Rattle.std.proofs.lemmas.List.{append-nil, drop_all, take_all}
+use Rattle.cms_journal.specs.Journal.{Journal, HasBlock, HasBlocks, block_of, contents_of, start_of, block_after}
+use Rattle.cms_journal.specs.declared.event.Attached.{Attached}
+use Rattle.std.specs.Prelude.{nat_le, true}
+use Rattle.std.proofs.lemmas.Bool.{and_parts, leb-true}
+use Rattle.cms_model.specs.Trees.{image_of, is_allowed}
+use Rattle.cms_model.proofs.Images.{contents_at}
+
+-- what is written to a whole list is there
+pub written : (len : ℕ) (new old : List ℕ) → length new ≡ length old → len ≡ length old → take len (new ++ drop (length new) old) ≡ new
+written len new old same is =
+    let none : drop (length new) old ≡ [] = drop_all (length new) old (omega arith) in
+    rw (none, append-nil new) (take_all len new (omega arith))
+
+-- a block that the unit has is that of its image
+pub block_is : (j : Journal) (u n size : ℕ) → HasBlock j.units u n size → block_of j u n ≡ image_of (contents_of j u) n
+block_is j u n size has = sym (contents_at j.events u (start_of j.units u) n (within (slice_get j.units u) has).0 (within (slice_get j.units u) has).1)
+  where
+    within : (o : Option Attached) → IsSomeAnd o (λ unit. (unit.bsize ≡ size) × (1 ≤ n) × (n ≤ length unit.start)) → (1 ≤ n) × (n ≤ length (option_map_or (λ unit. unit.start) o []))
+    within (Some unit) h = (h.1, h.2)
+    within None h = absurd h
+
+-- a unit with so many blocks has each of them
+pub has_block : (j : Journal) (u last n size : ℕ) → HasBlocks j.units u last size → 6 ≤ n → n ≤ last → HasBlock j.units u n size
+has_block j u last n size has low high = go (slice_get j.units u) has
+  where
+    go : (o : Option Attached) → IsSomeAnd o (λ unit. (unit.bsize ≡ size) × (last ≤ length unit.start)) → IsSomeAnd o (λ unit. (unit.bsize ≡ size) × (1 ≤ n) × (n ≤ length unit.start))
+    go (Some unit) h = let long = h.1 in (h.0, omega arith, omega arith)
+    go None h = absurd h
+
+-- an allowed pointer
+pub allowed_lies : (last n : ℕ) → is_allowed last None n ≡ true → (6 ≤ n) × (n ≤ last)
+unfolding is_allowed
+allowed_lies last n is = let both = and_parts (nat_le 6 n) (nat_le n last) is in (leb-true 6 n both.0, leb-true n last both.1)

@@ -1,0 +1,4 @@
+pub mod Walks
+pub mod Parts
+pub mod Builds
+pub mod Levels

@@ -1,0 +1,14 @@
+//! Trees of pointer blocks over the data blocks of a file: their shape, reading them and building them.
+#![tactic(auto)]
+
+mod node;
+mod read;
+mod sizes;
+#[cfg(test)]
+mod tests;
+mod types;
+
+pub use node::{build, build_laws};
+pub use read::{leaves, walk};
+pub use sizes::shape;
+pub use types::{Mark, Shape, TreeAt, TreeFault, Walked};

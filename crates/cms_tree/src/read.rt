@@ -1,0 +1,273 @@
+// Trees read from a unit.
+ghost use Rattle.std.specs.Prelude.{◌≡◌, ◌⊎◌, ℕ, ◌+◌, ◌-◌, ◌*◌, ◌/◌, ◌^◌, ◌<◌, ◌≤◌, ◌++◌, true, [], min, length, vec_len, None, Err, IfOk, IfErr, OnOk, OnErr, IsErrOf};
+ghost use Rattle.std.specs.Option.{ForSome};
+ghost use Rattle.cms_journal.specs.Causes.{Rose};
+ghost use Rattle.cms_journal.specs.Journal.{HasBlock, HasBlocks, IsBlockSize, contents_of};
+ghost use Rattle.cms_fields.specs.Numbers.{word};
+ghost use Rattle.cms_model.specs.Trees.{Image, image_of, is_allowed, tree};
+ghost use Rattle.cms_tree.specs.Walks.{Reads, Appends, IsWithin, AppendsWithin, form_at, image_at};
+ghost use Rattle.cms_tree.specs.Parts.{form_of, Joins, JoinsPart, IsPlain, IsRefusal, IsTaken, StaysWithin};
+ghost use Rattle.cms_tree.specs.declared.types.TreeFault.TheVariants.{Device};
+
+use crate::{TreeAt, TreeFault, Walked, shape};
+use byteorder::{BigEndian, ByteOrder};
+use cms_world::World;
+use std::alloc::Global;
+
+// How the trees of a volume stand on their unit.
+#[derive(Clone, Copy)]
+struct Layout {
+    unit: u8,
+    bsize: u32,
+    // pointers in a block, and bytes of each
+    fan: u32,
+    stride: u32,
+    // the last block of the volume
+    last: u32,
+}
+
+// A tree, or the part of one below a pointer.
+#[derive(Clone, Copy)]
+struct Subtree {
+    holder: u32,
+    root: u32,
+    count: u32,
+    first: Option<u32>,
+}
+
+#[tactic(auto, unfolding(cms_model::specs::Trees::is_allowed))]
+fn is_allowed(last: u32, first: Option<u32>, block: u32) -> bool
+    ensures { result ≡ is_allowed last first block }
+{
+    match first {
+        Some(fixed) => block == fixed,
+        None => block >= 6 && block <= last,
+    }
+}
+
+// The number in the four bytes at a place.
+#[tactic(auto, unfolding(cms_fields::specs::Numbers::word))]
+fn word_at(bytes: &[u8], at: usize) -> u32
+    requires { at + 4 ≤ length bytes.now }
+    ensures { result ≡ word bytes.now at }
+{
+    BigEndian::read_u32(&bytes[at..])
+}
+
+// The bytes of a block.
+fn read_block<W: World>(
+    alloc: Global,
+    world: &mut W,
+    layout: &Layout,
+    block: u32,
+) -> Result<Vec<u8>, TreeFault>
+    requires { ForSome (W.told world.old) (λ j. HasBlock j.units layout.now.unit block layout.now.bsize) }
+    ensures bytes { IfOk result (λ v. ForSome (W.told world.old) (λ j. v.items ≡ image_of (contents_of j layout.now.unit) block)) }
+    ensures len { IfOk result (λ v. vec_len v ≡ layout.now.bsize) }
+    ensures plain { IfErr result IsPlain }
+    ensures told { W.told world.new ≡ W.told world.old }
+    ensures later { W.faults world.old ≤ W.faults world.new }
+    ensures device { IsErrOf result Device → Rose (W.faults world.old) (W.faults world.new) }
+    ensures edges { W.edges world.new ≡ W.edges world.old }
+{
+    let mut bytes = vec![in alloc; 0; layout.bsize as usize]?;
+    match world.read_block(layout.unit, block, bytes.as_mut_slice()) {
+        Ok(()) => Ok(bytes),
+        Err(_) => Err(TreeFault::Device),
+    }
+}
+
+// The number of data blocks below a pointer, where so many are left.
+fn part_of(left: u32, size: u64) -> u32
+    ensures { result ≡ min left size }
+{
+    if u64::from(left) < size {
+        left
+    } else {
+        size as u32
+    }
+}
+
+// The data blocks below each pointer of a block with so many levels.
+fn size_below(fan: u32, levels: u8) -> u64
+    requires some { 1 ≤ fan }
+    requires deep { 1 ≤ levels }
+    requires small { fan ^ levels < 2 ^ 64 }
+    ensures { result ≡ fan ^ (levels - 1) }
+{
+    u64::from(fan).pow(u32::from(levels) - 1)
+}
+
+// Appends a data block.
+fn take_leaf(layout: &Layout, part: &Subtree, into: &mut Walked) -> Result<(), TreeFault>
+    ensures read { (image : Image) (count : ℕ) → Joins into.old into.new result (tree (form_of layout.now) image 0 part.now.first part.now.holder part.now.root count) [] }
+    ensures count { OnOk result (vec_len into.new.leaves ≡ vec_len into.old.leaves + 1) }
+    ensures within { OnOk result (StaysWithin layout.now.last part.now.first into.old into.new) }
+    ensures device { result ≡ Err Device → ⊥ }
+{
+    if !is_allowed(layout.last, part.first, part.root) {
+        return Err(TreeFault::Pointer {
+            holder: part.holder,
+            value: part.root,
+        });
+    }
+    into.blocks.push(part.root)?;
+    into.leaves.push(part.root)?;
+    Ok(())
+}
+
+// Appends a pointer block.
+fn take_node(layout: &Layout, part: &Subtree, into: &mut Walked) -> Result<(), TreeFault>
+    ensures refused { IfErr result (λ fault. IsRefusal fault part.now.holder part.now.root (is_allowed layout.now.last None part.now.root)) }
+    ensures ok { OnOk result (IsTaken layout.now.last part.now.root into.old into.new) }
+    ensures device { result ≡ Err Device → ⊥ }
+{
+    if !is_allowed(layout.last, None, part.root) {
+        return Err(TreeFault::Pointer {
+            holder: part.holder,
+            value: part.root,
+        });
+    }
+    into.blocks.push(part.root)?;
+    into.pointers.push(part.root)?;
+    Ok(())
+}
+
+// How the trees stand among which this one is.
+fn layout_of(at: &TreeAt) -> Layout
+    requires bsize { IsBlockSize at.now.bsize }
+    requires psize { (at.now.psize ≡ 4) ⊎ (at.now.psize ≡ 12) }
+    ensures unit { result.unit ≡ at.now.unit }
+    ensures form { form_of result ≡ form_at at.now }
+    ensures bsize { result.bsize ≡ at.now.bsize }
+    ensures fan { (2 ≤ result.fan) × (result.fan ≤ 1024) }
+    ensures stride { (4 ≤ result.stride) × (result.fan * result.stride ≤ result.bsize) }
+{
+    let stride = u32::from(at.psize);
+    Layout {
+        unit: at.unit,
+        bsize: at.bsize,
+        fan: at.bsize / stride,
+        stride,
+        last: at.volume,
+    }
+}
+
+/// Reads a tree: all its blocks in preorder, its pointer blocks in preorder and its data blocks in order.
+///
+/// The tree has as many levels of pointer blocks as its shape; each is read once, and of it only the pointers that the data
+/// blocks below it need. A pointer is allowed from block 6 to the last of the volume, but that to the first data block where
+/// `at.first` gives its place: it is allowed there alone. The refusal is the first pointer in preorder that isn't allowed.
+pub fn walk<W: World>(alloc: Global, world: &mut W, at: &TreeAt) -> Result<Walked, TreeFault>
+    requires some { 1 ≤ at.now.count }
+    requires bsize { IsBlockSize at.now.bsize }
+    requires psize { (at.now.psize ≡ 4) ⊎ (at.now.psize ≡ 12) }
+    requires blocks { ForSome (W.told world.old) (λ j. HasBlocks j.units at.now.unit at.now.volume at.now.bsize) }
+    ensures read { ForSome (W.told world.old) (λ j. Reads (image_at j at.now) at.now result) }
+
+    // What holds of it in each world.
+    ensures count { IfOk result (λ walked. vec_len walked.leaves ≡ at.now.count) }
+    ensures within { IfOk result (IsWithin at.now.volume at.now.first) }
+    ensures told { W.told world.new ≡ W.told world.old }
+    ensures later { W.faults world.old ≤ W.faults world.new }
+    ensures device { IsErrOf result Device → Rose (W.faults world.old) (W.faults world.new) }
+    ensures edges { W.edges world.new ≡ W.edges world.old }
+{
+    let layout = layout_of(at);
+    let levels = shape(at.count, layout.fan).levels;
+    let whole = Subtree {
+        holder: at.holder,
+        root: at.root,
+        count: at.count,
+        first: at.first,
+    };
+    let mut walked = Walked {
+        blocks: Vec::new(alloc),
+        pointers: Vec::new(alloc),
+        leaves: Vec::new(alloc),
+    };
+    walk_from(alloc, world, &layout, levels, &whole, &mut walked)?;
+    Ok(walked)
+}
+
+/// Reads a tree as `walk` does, and appends its pointer blocks in preorder and its data blocks in order. After a refusal both
+/// vectors hold what they held before.
+pub fn leaves<W: World>(
+    alloc: Global,
+    world: &mut W,
+    at: &TreeAt,
+    pointers: &mut Vec<u32>,
+    leaves: &mut Vec<u32>,
+) -> Result<(), TreeFault>
+    requires some { 1 ≤ at.now.count }
+    requires bsize { IsBlockSize at.now.bsize }
+    requires psize { (at.now.psize ≡ 4) ⊎ (at.now.psize ≡ 12) }
+    requires blocks { ForSome (W.told world.old) (λ j. HasBlocks j.units at.now.unit at.now.volume at.now.bsize) }
+    ensures read { ForSome (W.told world.old)
+        (λ j. Appends (image_at j at.now) at.now pointers.old.items pointers.new.items leaves.old.items leaves.new.items result) }
+    ensures err { OnErr result ((pointers.new.items ≡ pointers.old.items) × (leaves.new.items ≡ leaves.old.items)) }
+
+    // What holds of it in each world.
+    ensures count { OnOk result (vec_len leaves.new ≡ vec_len leaves.old + at.now.count) }
+    ensures pointers_within { OnOk result (AppendsWithin at.now.volume None pointers.old.items pointers.new.items) }
+    ensures leaves_within { OnOk result (AppendsWithin at.now.volume at.now.first leaves.old.items leaves.new.items) }
+    ensures told { W.told world.new ≡ W.told world.old }
+    ensures later { W.faults world.old ≤ W.faults world.new }
+    ensures device { IsErrOf result Device → Rose (W.faults world.old) (W.faults world.new) }
+    ensures edges { W.edges world.new ≡ W.edges world.old }
+{
+    let walked = walk(alloc, world, at)?;
+    pointers.reserve(walked.pointers.len())?;
+    leaves.extend_from_slice(&walked.leaves)?;
+    pointers.extend_from_slice(&walked.pointers)?;
+    Ok(())
+}
+
+// Appends the blocks of a tree of so many levels, or of the part of one below a pointer.
+fn walk_from<W: World>(
+    alloc: Global,
+    world: &mut W,
+    layout: &Layout,
+    levels: u8,
+    part: &Subtree,
+    into: &mut Walked,
+) -> Result<(), TreeFault>
+    requires fan { 2 ≤ layout.now.fan }
+    requires stride { 4 ≤ layout.now.stride }
+    requires fits { layout.now.fan * layout.now.stride ≤ layout.now.bsize }
+    requires small { layout.now.fan ^ levels < 2 ^ 64 }
+    requires some { 1 ≤ part.now.count }
+    requires room { part.now.count ≤ layout.now.fan ^ levels }
+    requires blocks { ForSome (W.told world.old) (λ j. HasBlocks j.units layout.now.unit layout.now.last layout.now.bsize) }
+    ensures read { ForSome (W.told world.old) (λ j. JoinsPart (image_of (contents_of j layout.now.unit)) layout.now levels part.now into.old into.new result) }
+    ensures count { OnOk result (vec_len into.new.leaves ≡ vec_len into.old.leaves + part.now.count) }
+    ensures within { OnOk result (StaysWithin layout.now.last part.now.first into.old into.new) }
+    ensures told { W.told world.new ≡ W.told world.old }
+    ensures later { W.faults world.old ≤ W.faults world.new }
+    ensures device { IsErrOf result Device → Rose (W.faults world.old) (W.faults world.new) }
+    ensures edges { W.edges world.new ≡ W.edges world.old }
+{
+    if levels == 0 {
+        return take_leaf(layout, part, into);
+    }
+    take_node(layout, part, into)?;
+    let block = read_block(alloc, world, layout, part.root)?;
+    let size = size_below(layout.fan, levels);
+    let mut left = part.count;
+    let mut first = part.first;
+    for place in 0..layout.fan {
+        if left == 0 {
+            return Ok(());
+        }
+        let child = Subtree {
+            holder: part.root,
+            root: word_at(&block, (place * layout.stride) as usize),
+            count: part_of(left, size),
+            first,
+        };
+        walk_from(alloc, world, layout, levels - 1, &child, into)?;
+        left -= child.count;
+        first = None;
+    }
+    Ok(())
+}
