@@ -1,0 +1,5 @@
+pub mod OneBlock
+pub mod SmallEntries
+pub mod SmallSteps
+pub mod SmallParts
+pub mod SmallAnswers
