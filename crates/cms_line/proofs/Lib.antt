@@ -1,2 +1,10 @@
 pub mod Events
 pub mod TypedLines
+pub mod ConsoleFeeds
+pub mod ConsoleItems
+pub mod CodedLines
+pub mod ConsoleTaken
+pub mod ConsoleViews
+pub mod ConsoleReads
+pub mod TokenLemmas
+pub mod OptionLemmas

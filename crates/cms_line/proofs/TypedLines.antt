@@ -5,7 +5,8 @@ use Rattle.std.proofs.lemmas.List.{take-append-drop, map-append}
 use Rattle.cms_ebcdic.specs.CodePage.{host_of}
 use Rattle.cms_journal.specs.declared.event.Event.TheVariants.{Typed}
 use Rattle.cms_journal.specs.Told.{Told, plus, typed}
-use Rattle.cms_line.specs.Typing.{TypedTo, TypedPart, typed_line}
+use Rattle.cms_line.specs.Typing.{TypedTo, TypedPart}
+use Rattle.cms_machine.specs.Acts.{typed_line}
 use Rattle.cms_line.proofs.Events.{plus_plus, typed-append, only_typed-append}
 
 pub typed_none : (old : Told) (bytes : List ℕ) → TypedTo old old bytes bytes
@@ -39,6 +40,7 @@ part_of old new bytes rest p = (rest, p)
 -- ---- a line is its front, and the line of the rest
 
 pub line_cut : (n : ℕ) (text : List ℕ) → map host_of (take n text) ++ typed_line (drop n text) ≡ typed_line text
+unfolding typed_line
 line_cut n text =
     sym (append_assoc (map host_of (take n text)) (map host_of (drop n text)) (10 ∷ []))
     ∙ ap (λ (z : List ℕ). z ++ 10 ∷ []) (sym (map-append host_of (take n text) (drop n text)) ∙ ap (map host_of) (take-append-drop n text))
@@ -56,6 +58,7 @@ part_front old mid new bytes text front behind piece n p is_front is_behind is_p
     part_then old mid new bytes piece (typed_line behind) (subst (λ (z : List ℕ). TypedTo old mid bytes z) (sym cut) p) q
 
 pub line_ended : (buffer text : List ℕ) (n : ℕ) → length text < length buffer → n ≡ length text + 1 → take (length text) buffer ≡ map host_of text → take n (set buffer (length text) 10) ≡ typed_line text
+unfolding typed_line
 line_ended buffer text n room is turned =
     let next : length text + 1 ≡ suc (length text) = omega arith in
     rw (is, next) (take-suc-set buffer (length text) 10 room ∙ ap (λ (z : List ℕ). z ++ 10 ∷ []) turned)

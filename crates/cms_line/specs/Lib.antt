@@ -1,1 +1,7 @@
 pub mod Typing
+pub mod ConsoleState
+pub mod Consoles
+pub mod ConsoleSteps
+pub mod Tokens
+pub mod Options
+pub mod Messages

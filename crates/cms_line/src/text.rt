@@ -32,6 +32,14 @@ impl Line {
         })
     }
 
+    /// A line of these bytes. Takes no memory.
+    pub fn take(bytes: Vec<u8>) -> Self
+        requires { length bytes.items ≤ 255 }
+        ensures { result ≡ bytes.items }
+    {
+        Line { bytes }
+    }
+
     pub fn bytes(&self) -> &[u8]
         ensures bytes { result.now ≡ self.now }
         ensures short { length self.now ≤ 255 }

@@ -2,13 +2,16 @@
 ghost use Rattle.std.specs.Prelude.{◌≡◌, ◌<◌, ◌≤◌, [], map, take, length, OnOk, OnErr};
 ghost use Rattle.cms_ebcdic.specs.CodePage.{host_of};
 ghost use Rattle.cms_journal.specs.Causes.{HasCause};
-ghost use Rattle.cms_line.specs.Typing.{TypedTo, TypedPart, typed_line};
+ghost use Rattle.cms_line.specs.Typing.{TypedTo, TypedPart};
+ghost use Rattle.cms_machine.specs.Acts.{typed_line};
 
 use cms_ebcdic::to_host;
 use cms_world::{Failed, World};
 
-// Room for a whole line of the console and for every message.
+// Room for a line of the console or a message, and for a record of the greatest length, with the line feed.
 const ROOM: usize = 1024;
+
+const LONG_ROOM: usize = 65_536;
 
 // Types all the bytes, each time as many as the world takes.
 fn type_all<W: World>(world: &mut W, bytes: &[u8]) -> Result<(), Failed>
@@ -56,15 +59,40 @@ fn type_through<W: World>(world: &mut W, bytes: &[u8], buffer: &mut [u8]) -> Res
     type_all(world, &buffer[..rest.len() + 1])
 }
 
-/// Types a line of EBCDIC and a line feed: each byte as its ASCII character, as a period where the code page has none.
-///
-/// A line of up to 1,023 bytes, and so every line of the console and every message, is offered to the world as a whole. After
-/// `Failed` a front of it was typed.
-pub fn type_line<W: World>(world: &mut W, bytes: &[u8]) -> Result<(), Failed>
+// Types a line that leaves room for the line feed in `ROOM` bytes.
+fn type_short<W: World>(world: &mut W, bytes: &[u8]) -> Result<(), Failed>
     ensures ok { OnOk result (TypedTo (W.told world.old) (W.told world.new) (typed_line bytes.now) []) }
     ensures err { OnErr result (TypedPart (W.told world.old) (W.told world.new) (typed_line bytes.now)) }
     ensures cause { HasCause (W.edges world.old) (W.edges world.new) result }
     ensures faults { W.faults world.new ≡ W.faults world.old }
 {
     type_through(world, bytes, &mut [0; ROOM])
+}
+
+// The same of a longer line. A function of its own, so that only a long line pays for the room.
+#[inline(never)]
+fn type_long<W: World>(world: &mut W, bytes: &[u8]) -> Result<(), Failed>
+    ensures ok { OnOk result (TypedTo (W.told world.old) (W.told world.new) (typed_line bytes.now) []) }
+    ensures err { OnErr result (TypedPart (W.told world.old) (W.told world.new) (typed_line bytes.now)) }
+    ensures cause { HasCause (W.edges world.old) (W.edges world.new) result }
+    ensures faults { W.faults world.new ≡ W.faults world.old }
+{
+    type_through(world, bytes, &mut [0; LONG_ROOM])
+}
+
+/// Types a line of EBCDIC and a line feed: each byte as its ASCII character, as a period where the code page has none.
+///
+/// A line of up to 65,535 bytes, and so every line of the console, message and record, is offered to the world as a whole; a
+/// longer one goes out in pieces. Takes no memory. After `Failed` a front of it was typed.
+pub fn type_line<W: World>(world: &mut W, bytes: &[u8]) -> Result<(), Failed>
+    ensures ok { OnOk result (TypedTo (W.told world.old) (W.told world.new) (typed_line bytes.now) []) }
+    ensures err { OnErr result (TypedPart (W.told world.old) (W.told world.new) (typed_line bytes.now)) }
+    ensures cause { HasCause (W.edges world.old) (W.edges world.new) result }
+    ensures faults { W.faults world.new ≡ W.faults world.old }
+{
+    if bytes.len() < ROOM {
+        type_short(world, bytes)
+    } else {
+        type_long(world, bytes)
+    }
 }

@@ -1,5 +1,6 @@
 use Rattle.std.proofs.Common.{◌≡◌, ◌≤◌, length}
-use Rattle.cms_line.specs.Typing.{TypedTo, typed_line}
+use Rattle.cms_line.specs.Typing.{TypedTo}
+use Rattle.cms_machine.specs.Acts.{typed_line}
 use Rattle.cms_line.proofs.typing.type_through.Given as goal
 
 abbrev pub invariant-loop-rest : goal.invariant-loop-rest

@@ -1,0 +1,17 @@
+-- What a console holds.
+use Rattle.std.specs.Prelude.{ℕ, Bool, true, false, List, [], Option, Some, None, Vec}
+use Rattle.std.specs.declared.alloc.Global.{Global}
+use Rattle.cms_machine.specs.Items.{Unread}
+
+-- what was read and not taken, and whether the script's end was found
+pub record ConsoleState : Type 0 where
+  pub unread : Unread
+  pub ended : Bool
+
+abbrev pub state : ℕ → List ℕ → Bool → ConsoleState
+state within bytes ended = record { unread = record { within = within; bytes = bytes }; ended = ended }
+
+-- nothing was read yet; or all of a given script was
+abbrev pub fresh : Option (Vec ℕ Global) → ConsoleState
+fresh None = state 0 [] false
+fresh (Some script) = state 0 script.items true
