@@ -3,3 +3,11 @@ pub mod SmallEntries
 pub mod SmallSteps
 pub mod SmallParts
 pub mod SmallAnswers
+pub mod SmallHeld
+pub mod Removing
+pub mod Halting
+pub mod MapBits
+pub mod Erasing
+pub mod DirectoryBytes
+pub mod Dropping
+pub mod Erased

@@ -112,7 +112,7 @@ directory_small bsize origin entry wide is few =
 
 -- ---- the map
 
-map_blocks : (bsize total : ℕ) → 1 ≤ total → total ≤ 8 * bsize → up (up total 8) bsize ≡ 1
+pub map_blocks : (bsize total : ℕ) → 1 ≤ total → total ≤ 8 * bsize → up (up total 8) bsize ≡ 1
 map_blocks bsize total some few =
     let bytes = up_some total 8 (omega arith) some in
     let room = (up_spec total 8 (omega arith)).1 in

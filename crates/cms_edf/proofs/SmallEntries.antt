@@ -66,14 +66,14 @@ small_levels bsize e wide fixed one fits =
     no_levels (bsize / 4) e.levels (omega arith) shape
 
 -- what a small entry was read from
-small_then : (read : Result Entry EntryFault) (e : Entry) → small_entry read ≡ Ok e → (read ≡ Ok e) × (is_small_file read ≡ true)
+pub small_then : (read : Result Entry EntryFault) (e : Entry) → small_entry read ≡ Ok e → (read ≡ Ok e) × (is_small_file read ≡ true)
 small_then (Ok x) e is =
     let a = want_ok (is_small_file (Ok x)) NotSmall (Ok x) e is in
     let same : x ≡ e = ok_same x e a.1 in
     (ap Ok same, a.0)
 small_then (Err k) e is = absurd (cc)
 
-small_from : (read : Result Entry EntryFault) (e : Entry) → read ≡ Ok e → is_small_file read ≡ true → small_entry read ≡ Ok e
+pub small_from : (read : Result Entry EntryFault) (e : Entry) → read ≡ Ok e → is_small_file read ≡ true → small_entry read ≡ Ok e
 small_from (Ok x) e is small = rw small (again x e is)
   where
     again : (x e : Entry) → ◌≡◌ {A = Result Entry EntryFault} (Ok x) (Ok e) → ◌≡◌ {A = Result Entry Refusal} (Ok x) (Ok e)

@@ -48,7 +48,7 @@ refused_then : {A E : Type 0} (why : Refusal) (r : Result A E) (x : A) → or_re
 refused_then why (Ok y) x e = cc
 refused_then why (Err d) x e = absurd (cc)
 
-none_then : (x : Option ℕ) → is_none x ≡ true → x ≡ None
+pub none_then : (x : Option ℕ) → is_none x ≡ true → x ≡ None
 none_then None e = refl
 none_then (Some n) e = absurd (cc)
 

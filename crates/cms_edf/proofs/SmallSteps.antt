@@ -109,7 +109,7 @@ block_in_image j u k size has =
 
 -- ---- where the blocks are
 
-places_parts : (last root : ℕ) (ns : List ℕ) → have_places last (root ∷ ns) ≡ true → (is_between 6 last root ≡ true) × (are_allowed last ns ≡ true)
+pub places_parts : (last root : ℕ) (ns : List ℕ) → have_places last (root ∷ ns) ≡ true → (is_between 6 last root ≡ true) × (are_allowed last ns ≡ true)
 unfolding have_places are_allowed
 places_parts last root ns is =
     let a = and_parts (are_allowed last (root ∷ ns)) (are_apart (root ∷ ns)) is in

@@ -1,2 +1,5 @@
 pub mod Small
 pub mod Reading
+pub mod Held
+pub mod Written
+pub mod Erase

@@ -17,6 +17,7 @@ use Rattle.cms_model.specs.Maps.{lost_count}
 use Rattle.cms_model.specs.Minidisks.{Minidisk, Not}
 use Rattle.cms_model.specs.Volumes.{Disk, Opened, disk_of, open_of, minidisk_of, state_of}
 use Rattle.cms_model.specs.Settled.{IsSettled}
+use Rattle.cms_model.specs.LawsSizes.{IsWhole}
 use Rattle.cms_edf.specs.declared.small.SmallFault.{SmallFault}
 use Rattle.cms_edf.specs.declared.small.SmallFault.TheVariants as failed
 
@@ -107,11 +108,13 @@ Answers unit disk image (Err failed.Device) = Unit {0}
 abbrev pub contents_image : Journal → SmallVolume → Image
 contents_image j s = image_of (contents_of j s.unit)
 
--- it is the minidisk m: its unit is attached and looked at so, it stands in the unit's contents, and the unit is settled at it
+-- it is the minidisk m: its unit is attached and looked at so, each of the unit's blocks has the block size, it stands in the
+-- unit's contents, and the unit is settled at it
 pub record IsMinidisk (j : Journal) (s : SmallVolume) (m : Minidisk) : Type 0 where
   pub attached : Attached
   pub has : slice_get j.units s.unit ≡ Some attached
   pub looked : disk_of attached ≡ s.disk
+  pub whole : IsWhole s.disk (contents_image j s)
   pub stands : StandsIn s (contents_image j s)
   pub settled : IsSettled s.disk j s.unit (volume_of s (contents_image j s))
   pub minidisk : m ≡ minidisk_of s.disk (volume_of s (contents_image j s))

@@ -16,10 +16,10 @@ use cms_names::{Format, Name};
 use std::alloc::{AllocError, Global};
 
 /// Bytes of an entry.
-const ENTRY_SIZE: u32 = 64;
+pub const ENTRY_SIZE: u32 = 64;
 
 /// Fixed records, in EBCDIC.
-const FIXED: u8 = 0xC6;
+pub const FIXED: u8 = 0xC6;
 
 // An entry of a system file with one data block and records of this length.
 #[tactic(auto, unfolding(crate::specs::Reading::is_one_block))]

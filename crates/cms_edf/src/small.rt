@@ -21,7 +21,7 @@ use std::alloc::Global;
 use std::marker::Model;
 
 /// The block of the label.
-const LABEL: u32 = 3;
+pub const LABEL: u32 = 3;
 
 /// Why there is no small volume.
 #[derive(Clone, Copy, Debug, PartialEq, Eq)]
@@ -49,26 +49,27 @@ pub struct SmallInfo {
 /// the volume but the files' data.
 #[derive(Drop)]
 pub struct Small {
-    unit: u8,
-    bsize: u32,
-    blocks: u32,
-    label: Label,
-    label_bytes: Vec<u8>,
-    map_root: u32,
-    map_bytes: Vec<u8>,
-    files: Vec<Entry>,
+    pub(crate) unit: u8,
+    pub(crate) bsize: u32,
+    pub(crate) blocks: u32,
+    pub(crate) label: Label,
+    pub(crate) label_bytes: Vec<u8>,
+    pub(crate) map_root: u32,
+    pub(crate) map_bytes: Vec<u8>,
+    pub(crate) files: Vec<Entry>,
 }
 
 impl Model for Small {
     ghost use Rattle.std.specs.Prelude.{◌≡◌, ◌<◌, ◌≤◌, ◌^◌, true, length};
     ghost use Rattle.cms_edf.specs.Small.{SmallVolume};
     ghost use Rattle.cms_edf.specs.Reading.{roots, are_allowed};
+    ghost use Rattle.cms_edf.specs.Held.{IsHeld};
 
     ghost Value = { SmallVolume };
 
     ghost view = { λ s. record { unit = s.unit; disk = record { bsize = s.bsize; count = s.blocks }; label = s.label; label_bytes = s.label_bytes.items; map_root = s.map_root; map_bytes = s.map_bytes.items; files = s.files.items } };
 
-    ghost invariant = { λ s. (length s.files.items < 2 ^ 32) × (s.label.blocks ≤ s.blocks) × (are_allowed s.label.blocks (roots s.files.items) ≡ true) };
+    ghost invariant = { λ s. (length s.files.items < 2 ^ 32) × (s.label.blocks ≤ s.blocks) × (6 ≤ s.map_root) × (s.map_root ≤ s.label.blocks) × (4 ≤ s.label.origin) × (s.label.origin ≤ 5) × (are_allowed s.label.blocks (roots s.files.items) ≡ true) × IsHeld (record { bsize = s.bsize; count = s.blocks }) s.label s.label_bytes.items s.map_root s.map_bytes.items s.files.items };
 }
 
 // The bytes of a block of the unit.
@@ -207,6 +208,13 @@ fn next_place(place: Option<u32>, files: usize) -> Option<u32>
 }
 
 impl Small {
+    /// The bytes of a block.
+    pub fn block_size(&self) -> u32
+        ensures { result ≡ self.now.disk.bsize }
+    {
+        self.bsize
+    }
+
     /// The place of a file, from 0, by its name: file name and file type, each filled with blanks to 8 bytes of EBCDIC. None
     /// where no file has that name.
     pub fn find(&self, name: &[u8; 16]) -> Option<u32>

@@ -5,20 +5,20 @@ use std::alloc::{AllocError, Global};
 use std::test::Fail;
 
 // Bytes at a place of a block; the first block is block 1.
-type Edit = (u16, u16, &'static [u8]);
+pub type Edit = (u16, u16, &'static [u8]);
 
 // HELLO TEXT in EBCDIC.
-const NAME: [u8; 16] = [
+pub const NAME: [u8; 16] = [
     0xC8, 0xC5, 0xD3, 0xD3, 0xD6, 0x40, 0x40, 0x40, 0xE3, 0xC5, 0xE7, 0xE3, 0x40, 0x40, 0x40, 0x40,
 ];
 
 // HELLO LIST in EBCDIC.
-const OTHER_TYPE: [u8; 16] = [
+pub const OTHER_TYPE: [u8; 16] = [
     0xC8, 0xC5, 0xD3, 0xD3, 0xD6, 0x40, 0x40, 0x40, 0xD3, 0xC9, 0xE2, 0xE3, 0x40, 0x40, 0x40, 0x40,
 ];
 
 // HELL TEXT in EBCDIC.
-const OTHER_NAME: [u8; 16] = [
+pub const OTHER_NAME: [u8; 16] = [
     0xC8, 0xC5, 0xD3, 0xD3, 0x40, 0x40, 0x40, 0x40, 0xE3, 0xC5, 0xE7, 0xE3, 0x40, 0x40, 0x40, 0x40,
 ];
 
@@ -58,7 +58,7 @@ const HELLO: &[Edit] = &[
 ];
 
 // One more file in block 8: HELLO LIST A2, one record of a byte.
-const SECOND: &[Edit] = &[
+pub const SECOND: &[Edit] = &[
     (4, 48, &[0, 0, 0, 4]),
     (4, 192, &OTHER_TYPE),
     (4, 216, &[0xC1, 0xF2]),
@@ -72,7 +72,7 @@ const SECOND: &[Edit] = &[
     (6, 0, &[0xFF, 0x00]),
 ];
 
-fn put(image: &mut [u8], edits: &[Edit]) {
+pub fn put(image: &mut [u8], edits: &[Edit]) {
     for (block, at, bytes) in edits {
         let mut place = (*block as usize).saturating_sub(1) * 512 + *at as usize;
         for byte in *bytes {
@@ -85,7 +85,12 @@ fn put(image: &mut [u8], edits: &[Edit]) {
 }
 
 // HELLO on so many blocks, with the edits of two tables.
-fn image(alloc: Global, blocks: u16, more: &[Edit], edits: &[Edit]) -> Result<Vec<u8>, AllocError> {
+pub fn image(
+    alloc: Global,
+    blocks: u16,
+    more: &[Edit],
+    edits: &[Edit],
+) -> Result<Vec<u8>, AllocError> {
     let mut bytes = vec![in alloc; 0; blocks as usize * 512]?;
     put(bytes.as_mut_slice(), HELLO);
     put(bytes.as_mut_slice(), more);
@@ -104,7 +109,7 @@ fn with_files(alloc: Global, has_second: bool) -> Result<Vec<u8>, AllocError> {
 
 // What is found of a file: its place, its mode number, what is said of its records, and their bytes.
 #[derive(Clone, Copy, Debug, PartialEq, Eq)]
-struct Found {
+pub struct Found {
     place: u32,
     number: u8,
     info: SmallInfo,
@@ -112,7 +117,7 @@ struct Found {
 }
 
 #[derive(Clone, Copy, Debug, PartialEq, Eq)]
-enum Answer {
+pub enum Answer {
     Found(Found),
     Unread,
     NoFile,
@@ -152,13 +157,13 @@ fn look(alloc: Global, world: &mut MemWorld, name: &[u8; 16]) -> Answer {
     }
 }
 
-fn looked_at(alloc: Global, bytes: &[u8], name: &[u8; 16]) -> Result<Answer, AllocError> {
+pub fn looked_at(alloc: Global, bytes: &[u8], name: &[u8; 16]) -> Result<Answer, AllocError> {
     let mut world = MemWorld::new(alloc, b"", 0)?;
     world.add_image("disk", bytes)?;
     Ok(look(alloc, &mut world, name))
 }
 
-const HELLO_TEXT: Answer = Answer::Found(Found {
+pub const HELLO_TEXT: Answer = Answer::Found(Found {
     place: 0,
     number: 1,
     info: SmallInfo {
@@ -168,7 +173,7 @@ const HELLO_TEXT: Answer = Answer::Found(Found {
     front: RECORDS,
 });
 
-const HELLO_LIST: Answer = Answer::Found(Found {
+pub const HELLO_LIST: Answer = Answer::Found(Found {
     place: 1,
     number: 2,
     info: SmallInfo {

@@ -132,7 +132,7 @@ byte_bit bits place =
     let there = get_or-drop (8 * (place / 8)) bits (place % 8) false in
     subst (λ (n : ℕ). (number_of 8 (drop (8 * (place / 8)) bits) / 2 ^ n % 2 == 1) ≡ get_or bits place false) power (is ∙ there ∙ ap (λ (n : ℕ). get_or bits n false) whole)
 
-marked_bit : (bits : List Bool) (count place : ℕ) → place < 8 * count → is_marked (bytes_from 0 count bits) (place + 1) ≡ get_or bits place false
+pub marked_bit : (bits : List Bool) (count place : ℕ) → place < 8 * count → is_marked (bytes_from 0 count bits) (place + 1) ≡ get_or bits place false
 unfolding is_marked bytes_from
 marked_bit bits count place less =
     let same : place + 1 - 1 ≡ place = omega arith in

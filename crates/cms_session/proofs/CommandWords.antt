@@ -1,0 +1,97 @@
+-- Words of a line.
+use Rattle.std.proofs.Common.{◌≡◌, ℕ, ◌≤◌, Bool, true, false, List, [], ◌∷◌, length, Result, Ok, Err, Some, None, refl, ap, arith}
+use Rattle.std.specs.Prelude.{not, cond, slice_index, nat_le, nat_lt, ◌==◌, ◌&&◌, if◌then◌else◌}
+use Rattle.std.specs.List.{list_all, prefix_len, slice_split}
+use Rattle.std.specs.Option.{option_map_or}
+use Rattle.std.specs.Str.{bytes_eq}
+use Rattle.std.proofs.lemmas.Bool.{and_parts, leb-true}
+use Rattle.cms_names.specs.Names.{text_of, is_text_of, is_part, part_of, is_name_character}
+use Rattle.cms_names.specs.declared.fault.NameFault.{NameFault}
+use Rattle.cms_names.specs.declared.fault.NameFault.TheVariants.{Empty, TooLong, BadChar}
+use Rattle.cms_model.specs.Lists.{same}
+use Rattle.cms_session.specs.Commands.{letter_a, file_command, command_of_words, command_of_line, is_comment}
+use Rattle.cms_session.specs.declared.command.Command.TheVariants.{Nothing, NotBuilt}
+
+pub same_is : (xs ys : List ℕ) → bytes_eq xs ys ≡ same xs ys
+unfolding same
+same_is [] [] = refl
+same_is [] (y ∷ ys) = refl
+same_is (x ∷ xs) [] = refl
+same_is (x ∷ xs) (y ∷ ys) = ap (λ (b : Bool). (x == y) && b) (same_is xs ys)
+
+-- ---- parts of names
+
+all_or_bad : (p : ℕ → Bool) (word : List ℕ) → list_all p word ≡ not (nat_lt (prefix_len (λ c. not (not (p c))) word) (length word))
+all_or_bad p [] = refl
+all_or_bad p (c ∷ word) = let ih = all_or_bad p word in grind (arith, ih)
+
+some_or_none : (n : ℕ) → nat_le 1 n ≡ not (n == 0)
+some_or_none n = grind arith
+
+few_or_many : (n : ℕ) → nat_le n 8 ≡ not (nat_lt 8 n)
+few_or_many n = grind arith
+
+-- what reading a word as a part says of it
+abbrev pub IsRead : List ℕ → Result (List ℕ) NameFault → Type 0
+IsRead word (Ok part) = (part ≡ word) × (is_part word ≡ true)
+IsRead word (Err e) = is_part word ≡ false
+
+read_cases : (none many bad : Bool) (place : ℕ) (word : List ℕ) (r : Result (List ℕ) NameFault) → is_part word ≡ ((not none && not many) && not bad)
+    → r ≡ cond none (Err Empty) (cond many (Err TooLong) (option_map_or (λ k. Err (BadChar k)) (cond bad (Some place) None) (Ok word))) → IsRead word r
+read_cases true many bad place word r is e = rw e is
+read_cases false true bad place word r is e = rw e is
+read_cases false false true place word r is e = rw e is
+read_cases false false false place word r is e = rw e (refl, is)
+
+pub part_read : (word : List ℕ) (r : Result (List ℕ) NameFault) → r ≡ part_of word → IsRead word r
+unfolding text_of is_text_of
+part_read word r e =
+    let n = length word in
+    let some = some_or_none n in
+    let few = few_or_many n in
+    let all = all_or_bad is_name_character word in
+    let is : is_part word ≡ ((not (n == 0) && not (nat_lt 8 n)) && not (nat_lt (prefix_len (λ c. not (not (is_name_character c))) word) n)) = rw (some, few, all) refl in
+    read_cases (n == 0) (nat_lt 8 n) (nat_lt (prefix_len (λ c. not (not (is_name_character c))) word) n) (prefix_len (λ c. not (not (is_name_character c))) word) word r is e
+
+pub part_is_short : (part : List ℕ) → is_part part ≡ true → length part ≤ 255
+unfolding is_text_of
+part_is_short part is = let few = leb-true (length part) 8 (and_parts _ _ (and_parts _ _ is).0).1 in omega (arith, few)
+
+-- ---- comments
+
+pub starred : (line : List ℕ) → 1 ≤ length line → slice_index line 0 ≡ 0x5C → is_comment line ≡ true
+unfolding is_comment
+starred [] some star = absurd (omega (arith, some))
+starred (c ∷ line) some star = rw star refl
+
+pub not_starred : (line : List ℕ) → 1 ≤ length line → (slice_index line 0 ≡ 0x5C → ⊥) → is_comment line ≡ list_all (λ x. x == 0x40) line
+unfolding is_comment
+not_starred [] some other = absurd (omega (arith, some))
+not_starred (c ∷ line) some other = let e : (c == 0x5C) ≡ false = grind (arith, other) in rw e refl
+
+-- ---- commands
+
+abbrev four : List ℕ → List ℕ → List ℕ → List ℕ → List (List ℕ)
+four word file kind mode = word ∷ file ∷ kind ∷ mode ∷ []
+
+pub parts_are_read : (word file kind mode : List ℕ) (a b : List ℕ) → same mode letter_a ≡ true → IsRead file (Ok a) → IsRead kind (Ok b) → file_command word (record { file = a; kind = b }) ≡ command_of_words (four word file kind mode)
+parts_are_read word file kind mode a b letter f k = rw (f.0, k.0, f.1, k.1, letter) refl
+
+pub file_is_not_part : (word file kind mode : List ℕ) → is_part file ≡ false → NotBuilt ≡ command_of_words (four word file kind mode)
+file_is_not_part word file kind mode not_part = rw not_part refl
+
+pub kind_is_not_part : (word file kind mode : List ℕ) → is_part kind ≡ false → NotBuilt ≡ command_of_words (four word file kind mode)
+kind_is_not_part word file kind mode not_part = go (is_part file) (is_part kind) not_part
+  where
+    go : (a b : Bool) → b ≡ false → NotBuilt ≡ (if a && b && same mode letter_a then file_command word (record { file = file; kind = kind }) else NotBuilt)
+    go true true e = cc
+    go true false e = refl
+    go false b e = refl
+
+pub comment : (line : List ℕ) → is_comment line ≡ true → Nothing ≡ command_of_line line
+unfolding command_of_line
+comment line is = rw is refl
+
+pub not_comment : (line : List ℕ) (words : List (List ℕ)) → is_comment line ≡ false → words ≡ slice_split (λ x. x == 0x40) line → command_of_words words ≡ command_of_line line
+unfolding command_of_line
+not_comment line words is are = rw (is, are) refl

@@ -1,0 +1,211 @@
+-- How a session ends: its parts joined, and the headline.
+use Rattle.std.proofs.Common.{◌≡◌, inl, inr, ⊎_elim, ℕ, ◌≤◌, min, List, [], ◌∷◌, ◌++◌, Option, Some, Ok, Err, refl, ap, sym, subst, ◌∙◌, arith, append-nil, slice_get, length}
+use Rattle.cms_journal.specs.declared.event.Event.{Event}
+use Rattle.cms_journal.specs.declared.event.Event.TheVariants.{Missed}
+use Rattle.cms_journal.specs.declared.event.Access.{Access}
+use Rattle.cms_journal.specs.declared.event.Attached.{Attached}
+use Rattle.cms_journal.specs.Causes.{Rose, Counted}
+use Rattle.cms_journal.specs.Journal.{IsAttached, MayAdd, may_write}
+use Rattle.cms_session.proofs.Starts.{first_state, settled_at, left_first}
+use Rattle.cms_journal.specs.Told.{Told, typed, moments}
+use Rattle.cms_model.specs.Minidisks.{State}
+use Rattle.cms_machine.specs.Slots.{Slot, Settled, unit_set, IsAmong}
+use Rattle.cms_machine.specs.Steps.{faults_in}
+use Rattle.cms_machine.specs.Acts.{Act}
+use Rattle.cms_machine.specs.Acts as acts
+use Rattle.cms_machine.specs.Feeds.{Fed}
+use Rattle.cms_machine.specs.Points.{LeavesIn, Point, Sound}
+use Rattle.cms_machine.specs.Beats.{pieces, outcomes}
+use Rattle.cms_machine.specs.Runs.{Ran, Broke, events_of}
+use Rattle.cms_machine.proofs.Law.{at_of_within}
+use Rattle.cms_machine.proofs.Join.{ran_then, broke_then}
+use Rattle.cms_machine.proofs.Single.{broke_before}
+use Rattle.cms_machine.proofs.Whole.{follows_tree, comes_to, whole}
+use Rattle.cms_session.specs.Machine.{machine}
+use Rattle.cms_session.specs.Calls.{Holds, session_tree}
+use Rattle.cms_session.specs.Headline.{Seen, Start, Headline, Came, Begins, EndsAs, fresh, settled, first_point, start_point, start_tree, run_on}
+use Rattle.cms_session.specs.Sessions.{IsAsSeen, CameTo, WasCut, EndedAs, RanOn, NotAttached, OnUnit, IsAlone, FoundAs, start_on}
+use Rattle.cms_session.specs.Words.{UnitSpec}
+use Rattle.cms_session.specs.declared.state.Disk.{Disk}
+use Rattle.cms_session.specs.declared.state.Finish.{Finish}
+use Rattle.cms_session.specs.declared.state.Finish.TheVariants.{AtEnd, AtTurns, AtRefusal, AtFault}
+use Rattle.cms_session.specs.declared.status.Status.{Status}
+use Rattle.cms_session.specs.declared.status.Status.TheVariants.{Done, Usage, Memory, World, Turns, NotBuilt}
+
+-- ---- a run, and how it ended
+
+-- nothing was done
+pub cut_before : (p : Point) (now : Seen) (t : Act Finish) → now.told ≡ p.journal → p.faults ≤ now.faults → WasCut p now t
+cut_before p now t told later =
+    let q : Point = record { journal = now.told; faults = now.faults; units = p.units; unread = p.unread; ended = p.ended } in
+    (q, (record { told = refl; faults = refl }, broke_before p q t told later))
+
+came_then : (p m : Point) (now : Seen) (t u : Act Finish) (finish : Finish) → Ran p m t u → CameTo m now u finish → CameTo p now t finish
+came_then p m now t u finish ran came = (came.0, (came.1.0, ran_then ran came.1.1))
+
+cut_then : (p m : Point) (now : Seen) (t u : Act Finish) → Ran p m t u → WasCut m now u → WasCut p now t
+cut_then p m now t u ran cut = (cut.0, (cut.1.0, broke_then ran cut.1.1))
+
+pub ended_then : (p m : Point) (edges : ℕ) (now : Seen) (t u : Act Finish) (status : Status) → Ran p m t u → EndedAs m edges now u status → EndedAs p edges now t status
+ended_then p m edges now t u Done ran e = came_then p m now t u AtEnd ran e
+ended_then p m edges now t u Turns ran e = came_then p m now t u AtTurns ran e
+ended_then p m edges now t u NotBuilt ran e = came_then p m now t u AtRefusal ran e
+ended_then p m edges now t u World ran (inl e) = inl (came_then p m now t u AtFault ran e)
+ended_then p m edges now t u World ran (inr e) = inr (cut_then p m now t u ran e.0, e.1)
+ended_then p m edges now t u Memory ran e = cut_then p m now t u ran e
+ended_then p m edges now t u (Usage fault) ran e = e
+
+-- ---- the headline
+
+-- a crash leaves each unit as it was attached
+sound_at : (units : List Attached) (u : ℕ) (x : State) → LeavesIn (fresh units) u x → IsAmong x (unit_set (settled units) u)
+sound_at units u x l =
+    let slot : slice_get (settled units) u ≡ Some (Settled (first_state l.unit)) = settled_at units u l.unit l.attached in
+    rw slot (inl (left_first units u x l))
+
+pub sound_start : (s : Start) → Sound (start_point s)
+sound_start s = record { each = λ u x l. sound_at s.units u x l }
+
+headline_of : (s : Start) (before now : Seen) (status : Status) (q : Point) (b : Broke (start_point s) q (start_tree s)) → before.faults ≡ s.faults → IsAsSeen q now
+    → EndsAs s (events_of b) (run_on s (events_of b) (outcomes b.ran.beats)) before.edges now.edges status → Headline s before now status
+unfolding machine
+headline_of s before now status q b faults is ends =
+    let follows = follows_tree (start_point s) q (start_tree s) b in
+    record {
+      events = events_of b;
+      told = sym is.told ∙ follows.journal;
+      outcomes = outcomes b.ran.beats;
+      counted = subst (λ (n : ℕ). Counted n (faults_in (outcomes b.ran.beats)) now.faults) (sym faults) (subst (λ (n : ℕ). Counted s.faults (faults_in (outcomes b.ran.beats)) n) is.faults follows.faults);
+      agrees = record { last = q; beats = b; events_are = refl; outcomes_are = refl };
+      ends = ends;
+      crash = λ front rest e u x leaves. follows.crash (sound_start s) front rest e u x leaves;
+      between = λ front rest e u x leaves.
+          at_of_within (run_on s (events_of b) (outcomes b.ran.beats)).trace (length (typed front)) (length (moments front)) u (unit_set (settled s.units) u) x (follows.crash (sound_start s) front rest e u x leaves);
+      waits = λ front rest bytes e. follows.waits front rest bytes e;
+      waits_before = λ front rest bytes e early later cut. follows.waits_before front rest bytes e early later cut;
+    }
+
+begins_of : (s : Start) (q : Point) (b : Broke (start_point s) q (start_tree s)) → Begins (events_of b) (run_on s (events_of b) (outcomes b.ran.beats))
+unfolding machine
+begins_of s q b = (follows_tree (start_point s) q (start_tree s) b).bytes
+
+came_of : (s : Start) (q : Point) (finish : Finish) (r : Ran (start_point s) q (start_tree s) (acts.Done finish)) → Came s (pieces r.beats) (run_on s (pieces r.beats) (outcomes r.beats)) finish
+unfolding machine
+came_of s q finish r =
+    let comes = comes_to (start_point s) q (start_tree s) finish r in
+    record { close = comes.close; bytes = comes.bytes; turns = comes.turns; states = comes.states (sound_start s) }
+
+came_whole : (s : Start) (q : Point) (finish : Finish) (r : Ran (start_point s) q (start_tree s) (acts.Done finish)) → Came s (pieces r.beats ++ []) (run_on s (pieces r.beats ++ []) (outcomes r.beats)) finish
+came_whole s q finish r = subst (λ (es : List Event). Came s es (run_on s es (outcomes r.beats)) finish) (sym (append-nil (pieces r.beats))) (came_of s q finish r)
+
+pub headline : (s : Start) (before now : Seen) (status : Status) → before.faults ≡ s.faults → EndedAs (start_point s) before.edges now (start_tree s) status → Headline s before now status
+headline s before now Done faults e = headline_of s before now Done e.0 (whole (start_point s) e.0 (start_tree s) AtEnd e.1.1) faults e.1.0 (came_whole s e.0 AtEnd e.1.1)
+headline s before now Turns faults e = headline_of s before now Turns e.0 (whole (start_point s) e.0 (start_tree s) AtTurns e.1.1) faults e.1.0 (came_whole s e.0 AtTurns e.1.1)
+headline s before now NotBuilt faults e = headline_of s before now NotBuilt e.0 (whole (start_point s) e.0 (start_tree s) AtRefusal e.1.1) faults e.1.0 (came_whole s e.0 AtRefusal e.1.1)
+headline s before now World faults (inl e) = headline_of s before now World e.0 (whole (start_point s) e.0 (start_tree s) AtFault e.1.1) faults e.1.0 (inl (came_whole s e.0 AtFault e.1.1))
+headline s before now World faults (inr e) = headline_of s before now World e.0.0 e.0.1.1 faults e.0.1.0 (inr (begins_of s e.0.0 e.0.1.1, e.1))
+headline s before now Memory faults e = headline_of s before now Memory e.0 e.1.1 faults e.1.0 (begins_of s e.0 e.1.1)
+headline s before now (Usage fault) faults e = absurd e
+
+-- ---- on a unit
+
+-- the session went on from what was found
+pub ran_on : (spec : UnitSpec) (unit : Attached) (before now : Seen) (told : Told) (edges mid : ℕ) (disk : Option Disk) (status : Status) → told ≡ Some (fresh (unit ∷ [])) → edges ≡ before.edges → FoundAs spec unit before.faults mid (Ok disk)
+    → ((units : List Slot) → Holds told disk units → EndedAs (first_point told mid units) edges now (session_tree disk 1000000 units) status) → RanOn spec unit before now status
+ran_on spec unit before now told edges mid disk status is same found ended =
+    let s = start_on spec unit before.faults in
+    let units = settled (unit ∷ []) in
+    let held : Holds told disk units = subst (λ (t : Told). Holds t disk units) (sym is) found.0 in
+    let there : EndedAs (first_point (Some (fresh (unit ∷ []))) mid units) before.edges now (session_tree disk 1000000 units) status =
+    subst (λ (t : Told). EndedAs (first_point t mid units) before.edges now (session_tree disk 1000000 units) status) is
+    (subst (λ (n : ℕ). EndedAs (first_point told mid units) n now (session_tree disk 1000000 units) status) same (ended units held)) in
+    record { ran = inr (headline s before now status refl (ended_then (start_point s) (start_point (start_on spec unit mid)) before.edges now (start_tree s) (session_tree disk 1000000 units) status found.2 there)); unbuilt = λ u. absurd (found.1 u) }
+
+-- or it ended there
+pub ended_on : (spec : UnitSpec) (unit : Attached) (before now : Seen) (status : Status) → now.told ≡ Some (fresh (unit ∷ [])) → before.faults ≤ now.faults → FoundAs spec unit before.faults now.faults (Err status) → RanOn spec unit before now status
+ended_on spec unit before now NotBuilt told later found = record { ran = inl (record { status_is = refl; told = told; volume = found }); unbuilt = λ u. told }
+ended_on spec unit before now World told later found =
+    let s = start_on spec unit before.faults in
+    record { ran = inr (headline s before now World refl (inl (start_point (start_on spec unit now.faults), (record { told = sym told; faults = refl }, found)))); unbuilt = λ u. told }
+ended_on spec unit before now Memory told later found =
+    let s = start_on spec unit before.faults in
+    record { ran = inr (headline s before now Memory refl (cut_before (start_point s) now (start_tree s) told later)); unbuilt = λ u. told }
+ended_on spec unit before now Done told later found = absurd found
+ended_on spec unit before now Turns told later found = absurd found
+ended_on spec unit before now (Usage fault) told later found = absurd found
+
+-- ---- the unit was attached
+
+ends_from : (s : Start) (events : List Event) (f : Fed Finish) (before mid now : ℕ) (status : Status) → before ≤ mid → EndsAs s events f mid now status → EndsAs s events f before now status
+ends_from s events f before mid now Done earlier e = e
+ends_from s events f before mid now Turns earlier e = e
+ends_from s events f before mid now NotBuilt earlier e = e
+ends_from s events f before mid now World earlier (inl e) = inl e
+ends_from s events f before mid now World earlier (inr e) = inr (e.0, omega (arith, earlier, e.1))
+ends_from s events f before mid now Memory earlier e = e
+ends_from s events f before mid now (Usage fault) earlier e = e
+
+headline_from : (s : Start) (told : Told) (edges : ℕ) (mid now : Seen) (status : Status) → edges ≤ mid.edges → Headline s mid now status → Headline s (record { told = told; edges = edges; faults = mid.faults }) now status
+headline_from s told edges mid now status earlier h = record {
+  events = h.events;
+  told = h.told;
+  outcomes = h.outcomes;
+  counted = h.counted;
+  agrees = h.agrees;
+  ends = ends_from s h.events (run_on s h.events h.outcomes) edges mid.edges now.edges status earlier h.ends;
+  crash = h.crash;
+  between = h.between;
+  waits = h.waits;
+  waits_before = h.waits_before;
+}
+
+-- what holds from an earlier count of edges
+ran_from : (spec : UnitSpec) (unit : Attached) (told : Told) (edges : ℕ) (mid now : Seen) (status : Status) → edges ≤ mid.edges → RanOn spec unit mid now status → RanOn spec unit (record { told = told; edges = edges; faults = mid.faults }) now status
+ran_from spec unit told edges mid now status earlier r = record {
+  ran = ⊎_elim inl (λ h. inr (headline_from (start_on spec unit mid.faults) told edges mid now status earlier h)) r.ran;
+  unbuilt = r.unbuilt;
+}
+
+pub on_unit : (spec : UnitSpec) (before mid now : Seen) (name : List ℕ) (size : ℕ) (access : Access) (number blocks seen_number seen_blocks : ℕ) (status : Status) → name ≡ spec.name → size ≡ spec.bsize → access ≡ spec.access
+    → IsAttached (fresh []) mid.told name size access number blocks → seen_number ≡ number → seen_blocks ≡ min blocks 1048576 → before.faults ≡ mid.faults → before.edges ≤ mid.edges
+    → ((alone : Attached) → IsAlone mid.told (record { bsize = size; count = seen_blocks }) seen_number alone → RanOn spec alone mid now status) → OnUnit spec before now status
+on_unit spec before mid now name size access number blocks seen_number seen_blocks status is_name is_size is_access attached is_number is_blocks same earlier ran =
+    let unit : Attached = record { name = name; bsize = size; writable = may_write access; start = attached.start } in
+    let alone : IsAlone mid.told (record { bsize = size; count = seen_blocks }) seen_number unit = record {
+      told_is = attached.told;
+      number_is = is_number ∙ attached.number_is;
+      disk_is = ap (λ (n : ℕ). record { bsize = size; count = n }) (ap (λ (n : ℕ). min n 1048576) (sym attached.blocks_is) ∙ sym is_blocks);
+      sizes = attached.sizes;
+    } in
+    let from = ran_from spec unit before.told before.edges mid now status earlier (ran unit alone) in
+    let there : IsAttached (fresh []) (Some (fresh (unit ∷ []))) name size access 0 blocks = record {
+      start = attached.start;
+      told = refl;
+      number_is = refl;
+      blocks_is = attached.blocks_is;
+      sizes = attached.sizes;
+      made = attached.made;
+      fresh = attached.fresh;
+      untouched = tt;
+    } in
+    record {
+      unit = unit;
+      blocks = blocks;
+      attached =
+          subst (λ (n : List ℕ). IsAttached (fresh []) (Some (fresh (unit ∷ []))) n spec.bsize spec.access 0 blocks) is_name
+          (subst (λ (n : ℕ). IsAttached (fresh []) (Some (fresh (unit ∷ []))) name n spec.access 0 blocks) is_size
+          (subst (λ (a : Access). IsAttached (fresh []) (Some (fresh (unit ∷ []))) name size a 0 blocks) is_access there));
+      ran = subst (λ (n : ℕ). RanOn spec unit (record { told = before.told; edges = before.edges; faults = n }) now status) (sym same) from;
+    }
+
+pub not_attached : (spec : UnitSpec) (before now : Seen) (name : List ℕ) (size : ℕ) (access : Access) → before.told ≡ Some (fresh []) → name ≡ spec.name → size ≡ spec.bsize → access ≡ spec.access
+    → MayAdd (Missed name size access) before.told now.told → Rose before.edges now.edges → NotAttached spec before now World
+not_attached spec before now name size access told is_name is_size is_access added rose = record {
+  status_is = refl;
+  told =
+      subst (λ (n : List ℕ). MayAdd (Missed n spec.bsize spec.access) (Some (fresh [])) now.told) is_name
+      (subst (λ (n : ℕ). MayAdd (Missed name n spec.access) (Some (fresh [])) now.told) is_size
+      (subst (λ (a : Access). MayAdd (Missed name size a) (Some (fresh [])) now.told) is_access
+      (subst (λ (t : Told). MayAdd (Missed name size access) t now.told) told added)));
+  cause = rose;
+}

@@ -1,0 +1,153 @@
+-- A file of disk A that is read, and its records typed.
+use Rattle.std.proofs.Common.{◌≡◌, inl, inr, ℕ, zero, suc, ◌<◌, ◌≤◌, List, [], ◌∷◌, map, length, slice_index_or, Option, Some, Ok, Err, pos, refl, ap, sym, ◌∙◌, subst, arith}
+use Rattle.std.specs.Prelude.{min}
+use Rattle.std.specs.Option.{ForSome}
+use Rattle.cms_journal.specs.Causes.{Rose}
+use Rattle.cms_journal.specs.Journal.{Journal, HasBlock, block_of}
+use Rattle.cms_journal.proofs.Counts.{counted_none, counted_one}
+use Rattle.cms_journal.proofs.Pieces.{grown_same}
+use Rattle.cms_fields.specs.declared.entry.Entry.{Entry}
+use Rattle.cms_model.specs.Lists.{In, cut}
+use Rattle.cms_model.specs.Minidisks.{File, Minidisk}
+use Rattle.cms_model.specs.Volumes.{Disk, blocks_of}
+use Rattle.cms_model.proofs.InOrder.{trees_within}
+use Rattle.cms_model.proofs.Opening.{open_ok, label_reads}
+use Rattle.cms_machine.specs.Slots.{Slot}
+use Rattle.cms_machine.specs.Steps.{Get, Good, ReadFault}
+use Rattle.cms_machine.specs.Acts.{Act, Done, Out, bind, typed_line}
+use Rattle.cms_machine.specs.Runs.{Ran}
+use Rattle.cms_machine.proofs.Single.{ran_still}
+use Rattle.cms_edf.specs.Small.{SmallVolume, IsMinidisk, contents_image, records_in, volume_of, file_block}
+use Rattle.cms_edf.proofs.SmallSteps.{block_in_image}
+use Rattle.cms_session.specs.declared.state.Disk as disk
+use Rattle.cms_session.specs.declared.state.End.{End}
+use Rattle.cms_session.specs.declared.state.Course.TheVariants as course
+use Rattle.cms_session.specs.Machine.{Course, Went, Stopped, typing, type_outcome}
+use Rattle.cms_session.specs.Calls.{Spot, at, holds, Does, Acts, Comes, HasRecords, machine_at, records_tree, course_of, itself}
+use Rattle.cms_session.proofs.Holding.{holds_some}
+use Rattle.cms_session.proofs.Acts.{comes_then, comes_does, comes_same, acts_done, acts_after, does_stop}
+use Rattle.cms_session.proofs.Seen.{some_entry}
+
+-- ---- where the blocks are
+
+root_in : (es : List Entry) (k : ℕ) (e : Entry) → k < length es → In (slice_index_or es k e).root (blocks_of (map file_block es))
+unfolding blocks_of
+root_in [] k e within = absurd (omega (arith, within))
+root_in (x ∷ es) zero e within = inl refl
+root_in (x ∷ es) (suc k) e within = inr (root_in es k e (omega (arith, within)))
+
+root_within : (j : Journal) (s : SmallVolume) (m : Minidisk) (k : ℕ) (e : Entry) → IsMinidisk j s m → k < length s.files → (6 ≤ (slice_index_or s.files k e).root) × ((slice_index_or s.files k e).root ≤ s.disk.count)
+unfolding volume_of
+root_within j s m k e is within =
+    let image = contents_image j s in
+    let o = open_ok s.disk image (volume_of s image) is.stands.opens in
+    let range = trees_within s.disk.bsize s.label.blocks image _ 2 s.files (map file_block s.files) o.mets (slice_index_or s.files k e).root (root_in s.files k e within) in
+    let label = label_reads s.disk.bsize s.disk.count (image 3) s.label o.label in
+    let low = range.0 in
+    let high = range.1 in
+    let last = label.high in
+    (low, omega (arith, high, last))
+
+has_block : (j : Journal) (s : SmallVolume) (m : Minidisk) (n : ℕ) (is : IsMinidisk j s m) → 6 ≤ n → n ≤ s.disk.count → HasBlock j.units s.unit n is.attached.bsize
+has_block j s m n is low high =
+    let has = is.has in
+    let count : min (length is.attached.start) 1048576 ≡ s.disk.count = ap (λ (d : Disk). d.count) is.looked in
+    let top : n ≤ length is.attached.start = omega (arith, count, high) in
+    rw has (refl, omega (arith, low), top)
+
+-- the bytes that were read have its records
+pub records_are : (j : Journal) (d : disk.Disk) (m : Minidisk) (k length' count : ℕ) (bytes : List ℕ) (records : List (List ℕ)) → IsMinidisk j d.small m → k < length d.small.files
+    → ((e : Entry) → records ≡ records_in (contents_image j d.small) (slice_index_or d.small.files k e))
+    → ((e : Entry) → bytes ≡ block_of j d.small.unit (slice_index_or d.small.files k e).root)
+    → ((e : Entry) → (length' ≡ (slice_index_or d.small.files k e).length) × (count ≡ (slice_index_or d.small.files k e).count))
+    → records ≡ cut count length' bytes
+records_are j d m k length' count bytes records is within are read info =
+    let e = some_entry d.small.files k within in
+    let entry = slice_index_or d.small.files k e in
+    let range = root_within j d.small m k e is within in
+    let block : contents_image j d.small entry.root ≡ block_of j d.small.unit entry.root = block_in_image j d.small.unit entry.root _ (has_block j d.small m entry.root is range.0 range.1) in
+    let size = (info e).0 in
+    let many = (info e).1 in
+    are e ∙ ap (cut entry.count entry.length) (block ∙ sym (read e)) ∙ ap (λ (n : ℕ). cut n entry.length bytes) (sym many) ∙ ap (λ (n : ℕ). cut count n bytes) (sym size)
+
+-- ---- the step
+
+-- a spot with the same journal, disk and console
+pub record IsBeside (old mid : Spot) : Type 0 where
+  pub told : mid.told ≡ old.told
+  pub faults : old.faults ≤ mid.faults
+  pub disk : mid.disk ≡ old.disk
+  pub unread : mid.unread ≡ old.unread
+  pub ended : mid.ended ≡ old.ended
+
+pub holds_beside : (old mid : Spot) (units : List Slot) → IsBeside old mid → holds old units → holds mid units
+holds_beside old mid units beside h =
+    let told = beside.told in
+    let same = beside.disk in
+    rw (told, same) h
+
+abbrev pub records_left : Option disk.Disk → ℕ → List (List ℕ) → List Slot → Act Course
+records_left disk left records units = typing records (Done (Went (machine_at disk left units) (pos 0)))
+
+pub file_read : (old mid : Spot) (d : disk.Disk) (left k length' count : ℕ) (f : File) (bytes : List ℕ) → old.disk ≡ Some d → IsBeside old mid → k < length d.small.files → HasRecords old.told d k f.records
+    → ForSome old.told (λ j. (e : Entry) → bytes ≡ block_of j d.small.unit (slice_index_or d.small.files k e).root)
+    → ((e : Entry) → (length' ≡ (slice_index_or d.small.files k e).length) × (count ≡ (slice_index_or d.small.files k e).count))
+    → Comes old mid (records_tree old.disk left d.small.unit f) (records_left old.disk left (cut count length' bytes))
+file_read old mid d left k length' count f bytes disk_a beside within has read info = record {
+  each = λ units h.
+      let held = holds_some old.told old.disk units h in
+      let seat = held.2.disk_a d disk_a in
+      let records : f.records ≡ cut count length' bytes = records_are held.0 d seat.0 k length' count bytes f.records seat.1.1 within (has held.0 held.1) (read held.0 held.1) info in
+      let ran : Ran (at old units) (at mid units) (records_tree old.disk left d.small.unit f units) (records_left old.disk left f.records units) =
+      ran_still (at old units) (at mid units) (Get d.small.unit) Good (type_outcome (machine_at old.disk left units) f) beside.told (counted_none old.faults mid.faults beside.faults) refl tt (seat.0, seat.1.0) refl refl (record { unread = beside.unread; ended = beside.ended }) in
+      (units, (holds_beside old mid units beside h, subst (λ (rs : List (List ℕ)). Ran (at old units) (at mid units) (records_tree old.disk left d.small.unit f units) (records_left old.disk left rs units)) records ran));
+  grown = grown_same old.told mid.told beside.told;
+}
+
+abbrev pub stopped : List Slot → Act Course
+stopped units = Done Stopped
+
+pub file_fault : (old mid : Spot) (d : disk.Disk) (left : ℕ) (f : File) → old.disk ≡ Some d → IsBeside old mid → Rose old.faults mid.faults → Comes old mid (records_tree old.disk left d.small.unit f) stopped
+unfolding typing
+file_fault old mid d left f disk_a beside rose = record {
+  each = λ units h.
+      let held = holds_some old.told old.disk units h in
+      let seat = held.2.disk_a d disk_a in (
+        units,
+        (
+          holds_beside old mid units beside h,
+          ran_still (at old units) (at mid units) (Get d.small.unit) (ReadFault 0) (type_outcome (machine_at old.disk left units) f) beside.told (counted_one old.faults mid.faults beside.faults rose) refl tt (seat.0, seat.1.0) refl refl (record { unread = beside.unread; ended = beside.ended }),
+        ),
+      );
+  grown = grown_same old.told mid.told beside.told;
+}
+
+-- ---- the records
+
+typing_then : {R : Type 0} (records : List (List ℕ)) (next : Act R) → bind (typing records (Done (tt {0}))) (λ x. next) ≡ typing records next
+unfolding typing
+typing_then [] next = refl
+typing_then (text ∷ more) next = ap (λ (t : Act _). Out (typed_line text) t) (typing_then more next)
+
+abbrev records_in_tree : Option disk.Disk → ℕ → List (List ℕ) → List Slot → Act Course
+records_in_tree disk left records units = bind (typing records (Done (tt {0}))) (λ x. Done (Went (machine_at disk left units) (pos 0)))
+
+as_call : (mid : Spot) (disk : Option disk.Disk) (left : ℕ) (records : List (List ℕ)) → Comes mid mid (records_left disk left records) (records_in_tree disk left records)
+as_call mid disk left records = comes_same mid (records_left disk left records) (records_in_tree disk left records) (λ units h. sym (typing_then records (Done (Went (machine_at disk left units) (pos 0)))))
+
+pub records_typed : (old mid new : Spot) (tree : List Slot → Act Course) (disk : Option disk.Disk) (left : ℕ) (records : List (List ℕ)) (x : Unit {0}) → Comes old mid tree (records_left disk left records) → Does mid new (typing records (Done (tt {0}))) (Ok x) itself
+    → Acts old new tree (Ok (course.Went (pos 0))) (course_of disk left)
+records_typed old mid new tree disk left records x g d =
+    acts_done old new tree (course.Went (pos 0)) (course_of disk left)
+    (comes_then old mid new tree (records_left disk left records) _ g
+    (comes_then mid mid new (records_left disk left records) (records_in_tree disk left records) _ (as_call mid disk left records) (comes_does mid new (typing records (Done (tt {0}))) (λ units y. Done (Went (machine_at disk left units) (pos 0))) x itself d)))
+
+pub records_stop : (old mid new : Spot) (tree : List Slot → Act Course) (disk : Option disk.Disk) (left : ℕ) (records : List (List ℕ)) (e : End) → Comes old mid tree (records_left disk left records) → Does {T = Unit {0}} mid new (typing records (Done (tt {0}))) (Err e) itself
+    → Acts old new tree (Err e) (course_of disk left)
+records_stop old mid new tree disk left records e g d =
+    acts_after old mid new tree (records_left disk left records) (Err e) (course_of disk left) g
+    (acts_after mid mid new (records_left disk left records) (records_in_tree disk left records) (Err e) (course_of disk left) (as_call mid disk left records)
+    (does_stop mid new (typing records (Done (tt {0}))) (λ units y. Done (Went (machine_at disk left units) (pos 0))) e itself (course_of disk left) d))
+
+pub stopped_done : (old new : Spot) (tree : List Slot → Act Course) (disk : Option disk.Disk) (left : ℕ) → Comes old new tree stopped → Acts old new tree (Ok course.Stopped) (course_of disk left)
+stopped_done old new tree disk left g = acts_done old new tree course.Stopped (course_of disk left) g

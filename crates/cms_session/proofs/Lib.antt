@@ -1,0 +1,17 @@
+pub mod Holding
+pub mod Acts
+pub mod CommandWords
+pub mod WordLemmas
+pub mod Says
+pub mod Starts
+pub mod Ends
+pub mod Ready
+pub mod Records
+pub mod Seen
+pub mod Files
+pub mod Commands
+pub mod Decimals
+pub mod Drops
+pub mod Erasures
+pub mod Rounds
+pub mod Plays

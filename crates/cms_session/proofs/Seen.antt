@@ -1,0 +1,202 @@
+-- Files of disk A by their names.
+use Rattle.std.proofs.Common.{◌≡◌, ◌≢◌, ⊎_elim, ℕ, zero, suc, ◌+◌, ◌<◌, ◌≤◌, Bool, true, false, List, [], ◌∷◌, ◌++◌, map, length, take, drop, slice_index_or, Some, None, Result, Ok, Err, refl, ap, sym, ◌∙◌, subst, arith}
+use Rattle.std.specs.Prelude.{◌&&◌, ◌==◌, take_while}
+use Rattle.std.specs.List.{list_all, prefix_len}
+use Rattle.std.proofs.lemmas.Bool.{and_parts, and_from, le-leb, cases_Bool}
+use Rattle.std.proofs.lemmas.List.Sums.{prefix_len-le-length}
+use Rattle.std.proofs.lemmas.List.Folds.{length-prefix_len}
+use Rattle.cms_names.specs.Names.{is_part, is_text_of, is_name_character, filled}
+use Rattle.cms_names.specs.declared.name.Name.{Name}
+use Rattle.cms_fields.specs.Entries.{part_in, is_part_field, name_at, entry_fields, has_name, has_mode, has_format, length_fits, counts_fit, levels_fit, has_pointer_size, entry_of}
+use Rattle.cms_fields.specs.Stamps.{has_stamp}
+use Rattle.cms_fields.specs.declared.entry.Entry.{Entry}
+use Rattle.cms_fields.specs.declared.entry.EntryFault.TheVariants as fault
+use Rattle.cms_fields.proofs.Parts.{length-filled, part_in-filled}
+use Rattle.cms_journal.specs.Journal.{Journal}
+use Rattle.cms_model.specs.Trees.{Image}
+use Rattle.cms_model.specs.Minidisks.{File, Minidisk, same_name}
+use Rattle.cms_model.specs.Changes.{file_named}
+use Rattle.cms_model.specs.LawsChanges.{NoneNamed, AreDistinct}
+use Rattle.cms_model.specs.Volumes.{entries_of, blamed, files_of, minidisk_of}
+use Rattle.cms_model.specs.declared.fault.OpenFault.{OpenFault}
+use Rattle.cms_model.specs.declared.fault.OpenFault.TheVariants as failed
+use Rattle.cms_model.proofs.Results.{ok_same, want_ok, bind_then}
+use Rattle.cms_model.proofs.Changing.{name_self, name_other}
+use Rattle.cms_model.proofs.Opening.{open_ok}
+use Rattle.cms_model.proofs.OpenedNames.{opened_distinct}
+use Rattle.cms_edf.specs.Small.{SmallVolume, IsMinidisk, IsPlaceOf, contents_image, spelled, records_in, volume_of}
+use Rattle.cms_session.specs.Machine.{seen_file}
+use Rattle.cms_session.specs.declared.state.Disk.{Disk}
+use Rattle.cms_session.specs.Calls.{file_in, seen_as}
+
+-- ---- names that are spelled the same are the same
+
+abbrev pub HasParts : Name → Type 0
+HasParts n = (is_part n.file ≡ true) × (is_part n.kind ≡ true)
+
+pub take_front : (n : ℕ) (xs ys : List ℕ) → length xs ≡ n → take n (xs ++ ys) ≡ xs
+take_front zero [] ys e = refl
+take_front zero (x ∷ xs) ys e = absurd (omega arith)
+take_front (suc n) [] ys e = absurd (omega arith)
+take_front (suc n) (x ∷ xs) ys e = ap (λ (l : List ℕ). x ∷ l) (take_front n xs ys (omega arith))
+
+drop_front : (n : ℕ) (xs ys : List ℕ) → length xs ≡ n → drop n (xs ++ ys) ≡ ys
+drop_front zero [] ys e = refl
+drop_front zero (x ∷ xs) ys e = absurd (omega arith)
+drop_front (suc n) [] ys e = absurd (omega arith)
+drop_front (suc n) (x ∷ xs) ys e = drop_front n xs ys (omega arith)
+
+filled_same : (a b : List ℕ) → is_part a ≡ true → is_part b ≡ true → filled a ≡ filled b → a ≡ b
+filled_same a b a_part b_part is = sym (part_in-filled a a_part) ∙ ap part_in is ∙ part_in-filled b b_part
+
+pub spelled_same : (a b : Name) → HasParts a → HasParts b → spelled a ≡ spelled b → a ≡ b
+spelled_same a b a_parts b_parts is =
+    let long_a = length-filled a.file a_parts.0 in
+    let long_b = length-filled b.file b_parts.0 in
+    let file : filled a.file ≡ filled b.file = sym (take_front 8 (filled a.file) (filled a.kind) long_a) ∙ ap (take 8) is ∙ take_front 8 (filled b.file) (filled b.kind) long_b in
+    let kind : filled a.kind ≡ filled b.kind = sym (drop_front 8 (filled a.file) (filled a.kind) long_a) ∙ ap (drop 8) is ∙ drop_front 8 (filled b.file) (filled b.kind) long_b in
+    let f = filled_same a.file b.file a_parts.0 b_parts.0 file in
+    let k = filled_same a.kind b.kind a_parts.1 b_parts.1 kind in
+    named a b f k
+  where
+    named : (x y : Name) → x.file ≡ y.file → x.kind ≡ y.kind → x ≡ y
+    named x y f k = ap (λ (file : List ℕ). record { file = file; kind = x.kind }) f ∙ ap (λ (kind : List ℕ). record { file = y.file; kind = kind }) k
+
+-- ---- the names of a volume's entries are of parts
+
+few_taken : (n : ℕ) (xs : List ℕ) → length (take n xs) ≤ n
+few_taken zero xs = omega arith
+few_taken (suc n) [] = omega arith
+few_taken (suc n) (x ∷ xs) = let ih = few_taken n xs in omega (arith, ih)
+
+front_passes : (p : ℕ → Bool) (field : List ℕ) → list_all p (take_while p field) ≡ true
+front_passes p [] = refl
+front_passes p (c ∷ field) = ⊎_elim
+    (λ (passes : p c ≡ true).
+    let next : 1 + prefix_len p field ≡ suc (prefix_len p field) = omega arith in
+    rw (passes, next, passes) (front_passes p field))
+    (λ (other : p c ≡ false). rw other refl)
+    (cases_Bool (p c))
+
+few_in : (a b c : ℕ) → a ≡ b → b ≤ c → c ≤ 8 → a ≤ 8
+few_in a b c same less few = omega (arith, same, less, few)
+
+field_part : (field : List ℕ) → length field ≤ 8 → is_part_field field ≡ true → is_part (part_in field) ≡ true
+unfolding is_part_field is_text_of
+field_part field short is =
+    let some = (and_parts _ _ is).0 in
+    let within = prefix_len-le-length is_name_character field in
+    let size = length-prefix_len is_name_character field in
+    let few : length (part_in field) ≤ 8 = few_in (length (part_in field)) (prefix_len is_name_character field) (length field) size within short in
+    and_from _ _ (and_from _ _ some (le-leb (length (part_in field)) 8 few)) (front_passes is_name_character field)
+
+entry_parts : (bsize : ℕ) (bytes : List ℕ) (e : Entry) → entry_of bsize bytes ≡ Ok e → HasParts e.name
+unfolding entry_of entry_fields name_at has_name
+entry_parts bsize bytes e is =
+    let a = want_ok (has_name bytes) fault.Name _ e is in
+    let b = want_ok (has_mode bytes) fault.Mode _ e a.1 in
+    let c = want_ok (has_format bytes) fault.Format _ e b.1 in
+    let d = want_ok (length_fits (entry_fields bytes)) fault.Length _ e c.1 in
+    let f = want_ok (counts_fit bsize (entry_fields bytes)) fault.Counts _ e d.1 in
+    let g = want_ok (levels_fit bsize (entry_fields bytes)) fault.Levels _ e f.1 in
+    let h = want_ok (has_pointer_size bytes) fault.PointerSize _ e g.1 in
+    let i = want_ok (has_stamp bytes 54) fault.Date _ e h.1 in
+    let same : entry_fields bytes ≡ e = ok_same (entry_fields bytes) e i.1 in
+    let both = and_parts (is_part_field (take 8 bytes)) (is_part_field (take 8 (drop 8 bytes))) a.0 in
+    subst (λ (x : Entry). HasParts x.name) same (field_part (take 8 bytes) (few_taken 8 bytes) both.0, field_part (take 8 (drop 8 bytes)) (few_taken 8 (drop 8 bytes)) both.1)
+
+abbrev pub AllHaveParts : List Entry → Type 0
+AllHaveParts [] = Unit {0}
+AllHaveParts (e ∷ es) = HasParts e.name × AllHaveParts es
+
+blamed_ok : {A E : Type 0} (why : E → OpenFault) (r : Result A E) (x : A) → blamed why r ≡ Ok x → r ≡ Ok x
+blamed_ok why (Ok y) x is = cc
+blamed_ok why (Err e) x is = absurd (cc)
+
+entries_parts : (bsize number : ℕ) (pieces : List (List ℕ)) (es : List Entry) → entries_of bsize number pieces ≡ Ok es → AllHaveParts es
+unfolding entries_of
+entries_parts bsize number [] es is = subst AllHaveParts (ok_same [] es is) tt
+entries_parts bsize number (bytes ∷ more) es is =
+    bind_then (blamed (failed.Entry number) (entry_of bsize bytes)) _ es is (λ e is_e e1.
+    bind_then (entries_of bsize (number + 1) more) _ es e1 (λ others is_others e2.
+    subst AllHaveParts (ok_same (e ∷ others) es e2) (entry_parts bsize bytes e (blamed_ok (failed.Entry number) (entry_of bsize bytes) e is_e), entries_parts bsize (number + 1) more others is_others)))
+
+-- ---- the file of a name
+
+abbrev files_in : Image → List Entry → List File
+files_in image es = files_of es (map (records_in image) es)
+
+none_of_name : (image : Image) (name : Name) (es : List Entry) → IsPlaceOf (spelled name) es None → file_named name (files_in image es) ≡ None
+unfolding file_named files_of
+none_of_name image name [] none = refl
+none_of_name image name (e ∷ es) none =
+    let other : e.name ≢ name = λ same. none 0 e (omega arith) (ap spelled same) in
+    let not_same = name_other name e.name other in
+    rw not_same (none_of_name image name es (λ k d within. none (suc k) d (omega (arith, within))))
+
+absent_at : (image : Image) (name : Name) (es : List Entry) (k : ℕ) → k < length es → NoneNamed name (files_in image es) → (e : Entry) → (slice_index_or es k e).name ≢ name
+unfolding files_of
+absent_at image name [] k within none d = absurd (omega (arith, within))
+absent_at image name (e ∷ es) zero within none d = none.0
+absent_at image name (e ∷ es) (suc k) within none d = absent_at image name es k (omega (arith, within)) none.1 d
+
+found_of_name : (image : Image) (name : Name) (es : List Entry) (k : ℕ) (d : Entry) → HasParts name → AllHaveParts es → AreDistinct (files_in image es) → IsPlaceOf (spelled name) es (Some k)
+    → file_named name (files_in image es) ≡ Some (file_in image (slice_index_or es k d))
+unfolding file_named files_of
+found_of_name image name [] k d parts all distinct place = absurd (let within = place.0 in omega (arith, within))
+found_of_name image name (e ∷ es) zero d parts all distinct place =
+    let same : e.name ≡ name = spelled_same e.name name all.0 parts (place.1 d) in
+    let test : same_name name e.name ≡ true = subst (λ (n : Name). same_name name n ≡ true) (sym same) (name_self name) in
+    rw test refl
+found_of_name image name (e ∷ es) (suc k) d parts all distinct place =
+    let within : k < length es = (let w = place.0 in omega (arith, w)) in
+    let there : (slice_index_or es k d).name ≡ name = spelled_same (slice_index_or es k d).name name (parts_at es k d within all.1) parts (place.1 d) in
+    let other : e.name ≢ name = λ same. absent_at image e.name es k within distinct.0 d (there ∙ sym same) in
+    let not_same = name_other name e.name other in
+    rw not_same (found_of_name image name es k d parts all.1 distinct.1 (within, λ c. place.1 c))
+  where
+    parts_at : (fs : List Entry) (i : ℕ) (c : Entry) → i < length fs → AllHaveParts fs → HasParts (slice_index_or fs i c).name
+    parts_at [] i c below h = absurd (omega (arith, below))
+    parts_at (f ∷ fs) zero c below h = h.0
+    parts_at (f ∷ fs) (suc i) c below h = parts_at fs i c (omega (arith, below)) h.1
+
+-- ---- what is seen
+
+files_are : (j : Journal) (s : SmallVolume) (m : Minidisk) → IsMinidisk j s m → m.files ≡ files_in (contents_image j s) s.files
+unfolding minidisk_of volume_of
+files_are j s m is = ap (λ (x : Minidisk). x.files) is.minidisk
+
+-- its entries have names of parts, and no two the same
+opened : (j : Journal) (s : SmallVolume) (m : Minidisk) → IsMinidisk j s m → AllHaveParts s.files × AreDistinct (files_in (contents_image j s) s.files)
+unfolding volume_of minidisk_of
+opened j s m is =
+    let image = contents_image j s in
+    let o = open_ok s.disk image (volume_of s image) is.stands.opens in
+    (entries_parts s.disk.bsize 2 _ s.files o.entries, opened_distinct s.disk image (volume_of s image) is.stands.opens)
+
+pub not_found : (j : Journal) (d : Disk) (name : Name) (m : Minidisk) → IsMinidisk j d.small m → IsPlaceOf (spelled name) d.small.files None → seen_file (seen_as d) name m ≡ None
+not_found j d name m is none =
+    let files = files_are j d.small m is in
+    let found : file_named name m.files ≡ None = ap (file_named name) files ∙ none_of_name (contents_image j d.small) name d.small.files none in
+    rw found refl
+
+file_there : (j : Journal) (d : Disk) (name : Name) (m : Minidisk) (k : ℕ) (e : Entry) → HasParts name → IsMinidisk j d.small m → IsPlaceOf (spelled name) d.small.files (Some k)
+    → file_named name m.files ≡ Some (file_in (contents_image j d.small) (slice_index_or d.small.files k e))
+file_there j d name m k e parts is place =
+    let files = files_are j d.small m is in
+    let open' = opened j d.small m is in
+    ap (file_named name) files ∙ found_of_name (contents_image j d.small) name d.small.files k e parts open'.0 open'.1 place
+
+pub some_entry : (es : List Entry) (k : ℕ) → k < length es → Entry
+some_entry [] k within = absurd (omega (arith, within))
+some_entry (e ∷ es) k within = e
+
+pub hidden : (j : Journal) (d : Disk) (name : Name) (m : Minidisk) (k : ℕ) → HasParts name → IsMinidisk j d.small m → IsPlaceOf (spelled name) d.small.files (Some k)
+    → ((e : Entry) → (d.read_only && ((slice_index_or d.small.files k e).number == 0)) ≡ true) → seen_file (seen_as d) name m ≡ None
+hidden j d name m k parts is place not_seen =
+    let e = some_entry d.small.files k place.0 in
+    rw (file_there j d name m k e parts is place, not_seen e) refl
+
+pub shown : (j : Journal) (d : Disk) (name : Name) (m : Minidisk) (k : ℕ) (e : Entry) → HasParts name → IsMinidisk j d.small m → IsPlaceOf (spelled name) d.small.files (Some k)
+    → (d.read_only && ((slice_index_or d.small.files k e).number == 0)) ≡ false → seen_file (seen_as d) name m ≡ Some (file_in (contents_image j d.small) (slice_index_or d.small.files k e))
+shown j d name m k e parts is place seen = rw (file_there j d name m k e parts is place, seen) refl

@@ -1,0 +1,41 @@
+use Rattle.std.proofs.Common.{◌≡◌, refl, sym, ◌∙◌, Some, None, arith}
+use Rattle.std.proofs.lemmas.Result.{err_from_is_err_and}
+use Rattle.cms_session.specs.Calls.{erase_tree, course_of, kept_disk}
+use Rattle.cms_session.proofs.Erasures.{erase_no_disk, cut_off, kept_went}
+use Rattle.cms_session.proofs.erasing.erase_file.Goals as goal
+
+pub returns-in_err-no_disk-clause-acts : goal.returns-in_err-no_disk-clause-acts
+returns-in_err-no_disk-clause-acts g c =
+    let p = err_from_is_err_and c.from_residual.result c.from_residual.ensures.1 in
+    let s = c.args.session.now in
+    rw (p.1, p.2) (cut_off _ _ (erase_tree s.disk_a s.left c.args.name.now) _ (course_of c.take.new.self s.left) refl (omega arith))
+
+pub returns-in_default-clause-acts : goal.returns-in_default-clause-acts
+returns-in_default-clause-acts g c =
+    let s = c.args.session.now in
+    let message = c.in_ok-no_disk.ensures in
+    let acts = rw message at (c.refuse.ensures.acts s) in
+    let none : s.disk_a ≡ None = sym c.take.ensures.value ∙ c.in_default.is in
+    let same : c.take.new.self ≡ s.disk_a = c.take.ensures.after ∙ sym none in
+    rw same (erase_no_disk _ _ s.disk_a s.left c.args.name.now _ none acts)
+
+pub returns-in_err-course-clause-acts : goal.returns-in_err-course-clause-acts
+returns-in_err-course-clause-acts g c =
+    let s = c.args.session.now in
+    let p = err_from_is_err_and c.from_residual-in_err-course.result c.from_residual-in_err-course.ensures.1 in
+    let some : s.disk_a ≡ Some c.in-Some.disk = sym c.take.ensures.value ∙ c.in-Some.is in
+    rw (p.1, p.2) (c.in_err-course.ensures.acts s (record { disk_a = c.take.new.self; console = s.console; left = s.left }) some tt refl)
+
+pub returns-in-Stopped-clause-acts : goal.returns-in-Stopped-clause-acts
+returns-in-Stopped-clause-acts g c =
+    let s = c.args.session.now in
+    let some : s.disk_a ≡ Some c.in-Some.disk = sym c.take.ensures.value ∙ c.in-Some.is in
+    let stopped = c.in-Stopped.is in
+    let none : c.take.new.self ≡ kept_disk c.in_ok-course.course c.erase_on.new.disk = c.take.ensures.after ∙ (rw stopped refl) in
+    c.in_ok-course.ensures.acts s (record { disk_a = c.take.new.self; console = s.console; left = s.left }) some none refl
+
+pub returns-clause-acts : goal.returns-clause-acts
+returns-clause-acts g c =
+    let s = c.args.session.now in
+    let some : s.disk_a ≡ Some c.in-Some.disk = sym c.take.ensures.value ∙ c.in-Some.is in
+    c.in_ok-course.ensures.acts s (record { disk_a = Some c.erase_on.new.disk; console = s.console; left = s.left }) some (kept_went c.in_ok-course.course c.erase_on.new.disk c.in_default-course.not-Stopped) refl

@@ -1,0 +1,125 @@
+-- The headline: a session on a unit is a run of the machine.
+use Rattle.std.specs.Prelude.{◌≡◌, ◌⊎◌, ℕ, false, List, [], ◌∷◌, ◌++◌, length, map, Option, Some, None}
+use Rattle.cms_journal.specs.declared.event.Event.{Event}
+use Rattle.cms_journal.specs.declared.event.Event.TheVariants.{Read}
+use Rattle.cms_journal.specs.declared.event.Attached.{Attached}
+use Rattle.cms_journal.specs.Causes.{Rose, Counted}
+use Rattle.cms_journal.specs.Journal.{Journal}
+use Rattle.cms_journal.specs.Told.{Told, plus, typed, script, is_over, moments}
+use Rattle.cms_model.specs.Trees.{image_of}
+use Rattle.cms_model.specs.Minidisks.{State}
+use Rattle.cms_model.specs.Volumes.{disk_of, state_of}
+use Rattle.cms_machine.specs.Slots.{Slot, Settled, unit_set, IsAmong}
+use Rattle.cms_machine.specs.Steps.{Outcome, faults_in}
+use Rattle.cms_machine.specs.Acts.{Act}
+use Rattle.cms_machine.specs.Traces.{bytes_of, turns_of, last_set, At, Within}
+use Rattle.cms_machine.specs.Feeds.{Fed, Over, Waits, WaitsBehind}
+use Rattle.cms_machine.specs.Points.{Leaves, Point}
+use Rattle.cms_machine.specs.Beats.{outcomes}
+use Rattle.cms_machine.specs.Runs.{Broke, events_of}
+use Rattle.cms_session.specs.Machine.{DiskA, machine, started}
+use Rattle.cms_session.specs.declared.state.Finish.{Finish}
+use Rattle.cms_session.specs.declared.state.Finish.TheVariants.{AtEnd, AtTurns, AtRefusal, AtFault}
+use Rattle.cms_session.specs.declared.status.Status.{Status}
+use Rattle.cms_session.specs.declared.status.Status.TheVariants.{Done, Usage, Memory, World, Turns, NotBuilt}
+
+-- what a world shows of itself: its journal and its two counts
+pub record Seen : Type 0 where
+  pub told : Told
+  pub edges : ℕ
+  pub faults : ℕ
+
+abbrev pub seen : Told → ℕ → ℕ → Seen
+seen told edges faults = record { told = told; edges = edges; faults = faults }
+
+-- ---- the start
+
+-- units are attached, and nothing happened
+abbrev pub fresh : List Attached → Journal
+fresh units = record { units = units; events = [] }
+
+-- the machine's units: each is settled at the state of its starting blocks
+abbrev pub settled : List Attached → List Slot
+settled units = map (λ unit. Settled (state_of (disk_of unit) (image_of unit.start))) units
+
+-- how a session starts: its units, the one among them that is device 191, the turns, and the count of device faults
+pub record Start : Type 0 where
+  pub units : List Attached
+  pub device : Option DiskA
+  pub turns : ℕ
+  pub faults : ℕ
+
+-- a point at which nothing of the script was read
+abbrev pub first_point : Told → ℕ → List Slot → Point
+first_point told faults units = record { journal = told; faults = faults; units = units; unread = record { within = 0; bytes = [] }; ended = false }
+
+abbrev pub start_point : Start → Point
+start_point s = first_point (Some (fresh s.units)) s.faults (settled s.units)
+
+abbrev pub start_tree : Start → Act Finish
+start_tree s = started (record { units = settled s.units; disk_a = None; left = s.turns }) s.device
+
+-- the machine on what these events told
+abbrev pub run_on : Start → List Event → List Outcome → Fed Finish
+run_on s events os = machine (settled s.units) s.device s.turns (script events) (is_over events) (moments events) os
+
+-- the machine where the script goes on behind these bytes
+abbrev pub run_before : Start → List ℕ → List Event → List Outcome → Fed Finish
+run_before s bytes events os = machine (settled s.units) s.device s.turns bytes false (moments events) os
+
+-- ---- the end
+
+-- the machine came to this end: all bytes of its trace are typed, each of its turns has a moment, and a crash leaves each unit
+-- in a state of its last set
+pub record Came (s : Start) (events : List Event) (fed : Fed Finish) (finish : Finish) : Type 0 where
+  pub close : fed.close ≡ Over finish
+  pub bytes : bytes_of fed.trace ≡ typed events
+  pub turns : turns_of fed.trace ≡ length (moments events)
+  pub states : (u : ℕ) (x : State) → Leaves (plus (Some (fresh s.units)) events) u x → IsAmong x (last_set u (unit_set (settled s.units) u) fed.trace)
+
+-- the bytes typed are the first of the machine's
+abbrev pub Begins : List Event → Fed Finish → Type 0
+Begins events fed = (more : List ℕ) × (typed events ++ more ≡ bytes_of fed.trace)
+
+-- the status tells the machine's end, or where the session was cut off; edges are the counts before and now
+abbrev pub EndsAs : Start → List Event → Fed Finish → ℕ → ℕ → Status → Type 0
+EndsAs s events fed before now Done = Came s events fed AtEnd
+EndsAs s events fed before now Turns = Came s events fed AtTurns
+EndsAs s events fed before now NotBuilt = Came s events fed AtRefusal
+EndsAs s events fed before now World = Came s events fed AtFault ⊎ (Begins events fed × Rose before now)
+EndsAs s events fed before now Memory = Begins events fed
+EndsAs s events fed before now (Usage fault) = ⊥
+
+-- ---- all of it
+
+-- beats of the machine, with these events as their pieces, in which its steps have these outcomes
+pub record Agrees (s : Start) (events : List Event) (os : List Outcome) : Type 0 where
+  pub last : Point
+  pub beats : Broke (start_point s) last (start_tree s)
+  pub events_are : events_of beats ≡ events
+  pub outcomes_are : outcomes beats.ran.beats ≡ os
+
+-- a session from a start is a run of the machine on the script and the moments told
+pub record Headline (s : Start) (before now : Seen) (status : Status) : Type 0 where
+  -- what happened, the oldest event first
+  pub events : List Event
+  pub told : now.told ≡ plus (Some (fresh s.units)) events
+  -- the places and kinds of the faults are all that is left open
+  pub outcomes : List Outcome
+  pub counted : Counted before.faults (faults_in outcomes) now.faults
+  pub agrees : Agrees s events outcomes
+  pub ends : EndsAs s events (run_on s events outcomes) before.edges now.edges status
+  -- a crash at any moment leaves a state that the machine has there, after the bytes typed and the turns spent by then
+  pub crash :
+      (front rest : List Event) → front ++ rest ≡ events → (u : ℕ) (x : State) → Leaves (plus (Some (fresh s.units)) front) u x
+      → Within (run_on s events outcomes).trace (length (typed front)) (length (moments front)) u (unit_set (settled s.units) u) x
+  -- so it is between the last byte typed by then and the next
+  pub between :
+      (front rest : List Event) → front ++ rest ≡ events → (u : ℕ) (x : State) → Leaves (plus (Some (fresh s.units)) front) u x
+      → At (run_on s events outcomes).trace (length (typed front)) u (unit_set (settled s.units) u) x
+  -- at each read the machine waits for the script, and all its bytes are typed
+  pub waits : (front rest : List Event) (bytes : List ℕ) → front ++ Read bytes ∷ rest ≡ events → Waits (run_before s (script front) front outcomes) (typed front)
+  -- so it does on a front of the script told by then, as that up to its last line feed
+  pub waits_before :
+      (front rest : List Event) (bytes : List ℕ) → front ++ Read bytes ∷ rest ≡ events → (early later : List ℕ) → early ++ later ≡ script front
+      → WaitsBehind (run_before s early front outcomes) (typed front)

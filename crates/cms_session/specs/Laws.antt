@@ -1,0 +1,21 @@
+-- What follows for every session.
+use Rattle.std.specs.Prelude.{◌≡◌, ◌⊎◌}
+use Rattle.cms_journal.specs.Causes.{Rose}
+use Rattle.cms_machine.specs.Steps.{faults_in}
+use Rattle.cms_machine.specs.Feeds.{Over}
+use Rattle.cms_session.specs.Headline.{Seen, Start, Headline, run_on}
+use Rattle.cms_session.specs.Sessions.{status_of}
+use Rattle.cms_session.specs.declared.state.Finish.{Finish}
+use Rattle.cms_session.specs.declared.status.Status.{Status}
+use Rattle.cms_session.specs.declared.status.Status.TheVariants.{Memory}
+
+-- a session with memory, in which no call of the console, of the clock and of the attaching failed, ends as its machine does
+abbrev pub EndsLikeMachine : Type 0
+EndsLikeMachine =
+    (s : Start) (before now : Seen) (status : Status) (h : Headline s before now status) → (Rose before.edges now.edges → ⊥)
+    → (finish : Finish) → (run_on s h.events h.outcomes).close ≡ Over finish → (status ≡ status_of finish) ⊎ (status ≡ Memory)
+
+-- where no call on a unit failed every outcome is good
+abbrev pub FaultsAreCounted : Type 0
+FaultsAreCounted =
+    (s : Start) (before now : Seen) (status : Status) (h : Headline s before now status) → (Rose before.faults now.faults → ⊥) → faults_in h.outcomes ≡ 0

@@ -1,0 +1,8 @@
+pub mod Words
+pub mod Statuses
+pub mod Commands
+pub mod Machine
+pub mod Calls
+pub mod Headline
+pub mod Sessions
+pub mod Laws

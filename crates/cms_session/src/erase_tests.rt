@@ -1,0 +1,392 @@
+// Sessions that erase files of disk A, on images in memory.
+use crate::Status;
+use crate::session_tests::{
+    EXEC_TOO, Edit, HELLO, NO_LABEL, WORD as READ_ONLY, ended, image, put, world,
+};
+use cms_world::MemWorld;
+use std::alloc::{AllocError, Global};
+use std::process::Abort;
+use std::test::Fail;
+
+const WORD: &str = "191,512,rw,disk.img";
+
+// 1 July 26 at noon, in seconds after 1970.
+const NOON: i64 = 1_782_907_200;
+
+// No block is free.
+const MARKED: &[Edit] = &[(6, 0, &[0xFF, 0x80])];
+
+// HELLO TEXT has mode number 0.
+const HIDDEN: &[Edit] = &[(4, 152, &[0xC1, 0xF0])];
+
+// ERASE EXEC in the place of HELLO TEXT.
+const PROCEDURE: &[Edit] = &[
+    (4, 128, &[0xC5, 0xD9, 0xC1, 0xE2, 0xC5, 0x40, 0x40, 0x40]),
+    (4, 136, &[0xC5, 0xE7, 0xC5, 0xC3, 0x40, 0x40, 0x40, 0x40]),
+];
+
+// On ten blocks with two files more: HELLO LIST A2 with the record B in block 8, and HELL TEXT A1 with the record C in block 9.
+const MORE: &[Edit] = &[
+    (3, 28, &[0, 0, 0, 10]),
+    (4, 48, &[0, 0, 0, 5]),
+    (4, 192, &[0xC8, 0xC5, 0xD3, 0xD3, 0xD6, 0x40, 0x40, 0x40]),
+    (4, 200, &[0xD3, 0xC9, 0xE2, 0xE3, 0x40, 0x40, 0x40, 0x40]),
+    (4, 216, &[0xC1, 0xF2]),
+    (4, 222, &[0xC6]),
+    (4, 224, &[0, 0, 0, 1]),
+    (4, 232, &[0, 0, 0, 8]),
+    (4, 236, &[0, 0, 0, 1]),
+    (4, 240, &[0, 0, 0, 1]),
+    (4, 244, &[0, 4]),
+    (4, 246, &[0x99, 0x12, 0x31, 0x23, 0x59, 0x59]),
+    (4, 256, &[0xC8, 0xC5, 0xD3, 0xD3, 0x40, 0x40, 0x40, 0x40]),
+    (4, 264, &[0xE3, 0xC5, 0xE7, 0xE3, 0x40, 0x40, 0x40, 0x40]),
+    (4, 280, &[0xC1, 0xF1]),
+    (4, 286, &[0xC6]),
+    (4, 288, &[0, 0, 0, 1]),
+    (4, 296, &[0, 0, 0, 9]),
+    (4, 300, &[0, 0, 0, 1]),
+    (4, 304, &[0, 0, 0, 1]),
+    (4, 308, &[0, 4]),
+    (4, 310, &[0x99, 0x12, 0x31, 0x23, 0x59, 0x59]),
+    (6, 0, &[0xFF, 0x80]),
+    (8, 0, &[0xC2]),
+    (9, 0, &[0xC3]),
+];
+
+// What is written where HELLO TEXT is erased at noon: the map to block 8, the directory to block 5, and the label.
+const MAP: &[Edit] = &[(8, 0, &[0xF9, 0x00])];
+
+const DIRECTORY: &[Edit] = &[
+    (5, 0, &[0, 0, 0, 1, 0, 0, 0, 0]),
+    (5, 8, &[0xC4, 0xC9, 0xD9, 0xC5, 0xC3, 0xE3, 0xD6, 0xD9]),
+    (5, 24, &[0xC1, 0xF1]),
+    (5, 30, &[0xC6]),
+    (5, 32, &[0, 0, 0, 64]),
+    (5, 40, &[0, 0, 0, 5]),
+    (5, 44, &[0, 0, 0, 1]),
+    (5, 48, &[0, 0, 0, 2]),
+    (5, 53, &[4]),
+    (5, 54, &[0x26, 0x07, 0x01, 0x12, 0x00, 0x00]),
+    (5, 64, &[0, 0, 0, 2, 0, 0, 0, 0]),
+    (5, 72, &[0xC1, 0xD3, 0xD3, 0xD6, 0xC3, 0xD4, 0xC1, 0xD7]),
+    (5, 88, &[0xC1, 0xF1]),
+    (5, 94, &[0xC6]),
+    (5, 96, &[0, 0, 2, 0]),
+    (5, 104, &[0, 0, 0, 8]),
+    (5, 108, &[0, 0, 0, 1]),
+    (5, 112, &[0, 0, 0, 1]),
+    (5, 117, &[4]),
+    (5, 118, &[0x26, 0x07, 0x01, 0x12, 0x00, 0x00]),
+];
+
+const LABEL: &[Edit] = &[(3, 16, &[0, 0, 0, 5]), (3, 32, &[0, 0, 0, 6])];
+
+// The unit word, the edits of the image, the script, what is typed, the status, and the world's calls.
+type Row = (
+    &'static str,
+    &'static [Edit],
+    &'static str,
+    &'static str,
+    Status,
+    &'static [u8],
+);
+
+// Files that are erased.
+const ERASED: &[Row] = &[
+    (
+        WORD,
+        &[],
+        "ERASE HELLO TEXT A\n",
+        "R;\n",
+        Status::Done,
+        b"arrrinwwswsoi",
+    ),
+    (
+        WORD,
+        HIDDEN,
+        "ERASE HELLO TEXT A\n",
+        "R;\n",
+        Status::Done,
+        b"arrrinwwswsoi",
+    ),
+    (
+        WORD,
+        EXEC_TOO,
+        "ERASE TYPE EXEC A\n",
+        "R;\n",
+        Status::Done,
+        b"arrrinwwswsoi",
+    ),
+    (
+        WORD,
+        &[],
+        "ERASE HELLO TEXT A\nTYPE HELLO TEXT A\n",
+        "R;\nCMS002E File HELLO TEXT A not found\nR(00028);\n",
+        Status::Done,
+        b"arrrinwwswsonooi",
+    ),
+    (
+        WORD,
+        &[],
+        "ERASE HELLO TEXT A\nERASE HELLO TEXT A\n",
+        "R;\nCMS002E File HELLO TEXT A not found\nR(00028);\n",
+        Status::Done,
+        b"arrrinwwswsonooi",
+    ),
+];
+
+// Files that are kept.
+const KEPT: &[Row] = &[
+    (
+        WORD,
+        MARKED,
+        "ERASE HELLO TEXT A\n",
+        "CMS107E Disk A is full, 1 blocks needed, 0 free\nR(00100);\n",
+        Status::Done,
+        b"arrrinooi",
+    ),
+    (
+        READ_ONLY,
+        &[],
+        "ERASE HELLO TEXT A\n",
+        "CMS037E Disk A is read-only\nR(00036);\n",
+        Status::Done,
+        b"arrrinooi",
+    ),
+    (
+        READ_ONLY,
+        &[],
+        "ERASE NO TEXT A\n",
+        "CMS037E Disk A is read-only\nR(00036);\n",
+        Status::Done,
+        b"arrrinooi",
+    ),
+    (
+        WORD,
+        &[],
+        "ERASE NO TEXT A\n",
+        "CMS002E File NO TEXT A not found\nR(00028);\n",
+        Status::Done,
+        b"arrrinooi",
+    ),
+    (
+        READ_ONLY,
+        NO_LABEL,
+        "ERASE HELLO TEXT A\n",
+        "CMS069E Disk A is not accessed\nR(00036);\n",
+        Status::Done,
+        b"arinooi",
+    ),
+    (
+        "192,512,rw,disk.img",
+        &[],
+        "ERASE HELLO TEXT A\n",
+        "CMS069E Disk A is not accessed\nR(00036);\n",
+        Status::Done,
+        b"ainooi",
+    ),
+    (
+        WORD,
+        PROCEDURE,
+        "ERASE ERASE EXEC A\n",
+        "",
+        Status::NotBuilt,
+        b"arrrin",
+    ),
+    (
+        WORD,
+        &[],
+        "erase hello text a\n",
+        "",
+        Status::NotBuilt,
+        b"arrrin",
+    ),
+    (
+        WORD,
+        &[],
+        "ERASE HELLO TEXT\n",
+        "",
+        Status::NotBuilt,
+        b"arrrin",
+    ),
+];
+
+// What a crash after so many events leaves of the unit, by these choices; none where nothing was attached.
+fn crashed(
+    alloc: Global,
+    world: &MemWorld,
+    at: usize,
+    choice: u64,
+) -> Result<Option<Vec<u8>>, AllocError> {
+    if world.has_unit(0) && at <= world.events() {
+        Ok(Some(world.crash(alloc, 0, at, choice)?))
+    } else {
+        Ok(None)
+    }
+}
+
+// Each row is as it says.
+fn are_so(rt: &impl Abort, alloc: Global, rows: &[Row]) -> Result<(), Fail> {
+    for (words, edits, script, typed, wanted, calls) in rows {
+        let mut world = world(alloc, script, &image(alloc, edits)?)?;
+        let status = ended(alloc, words, &mut world)?;
+        assert_eq!(rt; status, *wanted, "{words}: {script}");
+        assert_eq!(rt; world.typed(), typed.as_bytes(), "{words}: {script}");
+        assert_eq!(rt; world.calls(), *calls, "{words}: {script}");
+    }
+    Ok(())
+}
+
+#[test]
+fn files_are_erased(rt: HostRuntime) -> Result<(), Fail> {
+    are_so(&rt, rt.alloc(), ERASED)
+}
+
+#[test]
+fn files_are_kept(rt: HostRuntime) -> Result<(), Fail> {
+    are_so(&rt, rt.alloc(), KEPT)
+}
+
+#[test]
+fn the_update_is_stamped_and_written_in_order(rt: HostRuntime) -> Result<(), Fail> {
+    let alloc = rt.alloc();
+    let mut world = MemWorld::new(alloc, b"ERASE HELLO TEXT A\n", NOON)?;
+    world.add_image("disk.img", &image(alloc, &[])?)?;
+    assert_eq!(rt; ended(alloc, WORD, &mut world)?, Status::Done);
+    // the line, the turn, two writes, a sync, the label, a sync, the ready line and the script's end
+    assert_eq!(rt; world.events(), 9);
+    let mut wanted = image(alloc, &[])?;
+    for (at, edits) in [
+        (2, &[] as &[Edit]),
+        (3, MAP),
+        (4, DIRECTORY),
+        (5, &[]),
+        (6, LABEL),
+        (9, &[]),
+    ] {
+        put(wanted.as_mut_slice(), edits);
+        assert_eq!(rt;
+            crashed(alloc, &world, at, u64::MAX)?,
+            Some(wanted.to_vec(alloc)?),
+            "event {at}"
+        );
+    }
+    Ok(())
+}
+
+// HELLO TEXT, HELLO LIST and HELL TEXT.
+fn three(alloc: Global) -> Result<Vec<u8>, AllocError> {
+    let mut bytes = vec![in alloc; 0; 10 * 512]?;
+    put(bytes.as_mut_slice(), HELLO);
+    put(bytes.as_mut_slice(), MORE);
+    Ok(bytes)
+}
+
+const SCRIPT: &str = "ERASE HELLO TEXT A\nTYPE HELL TEXT A\nERASE HELLO LIST A\n";
+
+const TYPED: &str = "R;\nC\nR;\nR;\n";
+
+const CALLS: &[u8] = b"arrrinwwswsonroonwwswsoi";
+
+const LOOK: &str = "TYPE HELLO TEXT A\nTYPE HELLO LIST A\nTYPE HELL TEXT A\n";
+
+// What looking shows before the first erasure, between the two, and after the second.
+const SHOWN: [&str; 3] = [
+    "HELLO\nWORLD\nR;\nB\nR;\nC\nR;\n",
+    "CMS002E File HELLO TEXT A not found\nR(00028);\nB\nR;\nC\nR;\n",
+    "CMS002E File HELLO TEXT A not found\nR(00028);\nCMS002E File HELLO LIST A not found\nR(00028);\nC\nR;\n",
+];
+
+// The files of an image are those after so many erasures.
+fn shows(
+    rt: &impl Abort,
+    alloc: Global,
+    image: &[u8],
+    erasures: usize,
+    moment: usize,
+) -> Result<(), Fail> {
+    let mut looked = world(alloc, LOOK, image)?;
+    assert_eq!(rt; ended(alloc, READ_ONLY, &mut looked)?, Status::Done);
+    let wanted = SHOWN.get(erasures).copied().unwrap_or("");
+    assert_eq!(rt; looked.typed(), wanted.as_bytes(), "at {moment}");
+    Ok(())
+}
+
+// The erasures that a crash after so many events leaves: a label that isn't synced may be written or not.
+//
+// The events are the script, a turn, the map, the directory, a sync, the label (6), a sync, the ready line; a turn, a record and
+// the ready line; a turn, the map, the directory, a sync, the label (16), a sync, the ready line and the script's end.
+fn erasures_at(events: usize, is_written: bool) -> usize {
+    match events {
+        0..=5 => 0,
+        6 => usize::from(is_written),
+        7..=15 => 1,
+        16 => 1 + usize::from(is_written),
+        _ => 2,
+    }
+}
+
+#[test]
+fn a_crash_leaves_the_old_or_the_new(rt: HostRuntime) -> Result<(), Fail> {
+    let alloc = rt.alloc();
+    let mut world = world(alloc, SCRIPT, &three(alloc)?)?;
+    assert_eq!(rt; ended(alloc, WORD, &mut world)?, Status::Done);
+    assert_eq!(rt; world.typed(), TYPED.as_bytes());
+    assert_eq!(rt; world.calls(), CALLS);
+    assert_eq!(rt; world.events(), 19);
+    for at in 0..20usize {
+        for choice in 0..4u64 {
+            let Some(left) = crashed(alloc, &world, at, choice)? else {
+                panic!(rt; "a unit");
+            };
+            shows(&rt, alloc, &left, erasures_at(at, choice % 2 == 1), at)?;
+        }
+    }
+    Ok(())
+}
+
+// The erasures that are left where this call failed: the labels are written by calls 10 and 21.
+fn erasures_before(call: usize, lands: bool) -> usize {
+    match call {
+        0..=9 => 0,
+        10 => usize::from(lands),
+        11..=20 => 1,
+        21 => 1 + usize::from(lands),
+        _ => 2,
+    }
+}
+
+// The session ends where this call fails, and what was written by then is there.
+fn fails_at(rt: &impl Abort, alloc: Global, call: u32, lands: bool) -> Result<(), Fail> {
+    let bytes = three(alloc)?;
+    let mut failing = world(alloc, SCRIPT, &bytes)?;
+    failing.fail_at(call, lands)?;
+    assert_eq!(rt;
+        ended(alloc, WORD, &mut failing)?,
+        Status::World,
+        "call {call}"
+    );
+    assert!(rt;
+        TYPED.as_bytes().starts_with(failing.typed()),
+        "call {call}"
+    );
+    assert_eq!(rt; failing.calls().len(), call as usize);
+    let left = crashed(alloc, &failing, failing.events(), u64::MAX)?.unwrap_or(bytes);
+    shows(
+        rt,
+        alloc,
+        &left,
+        erasures_before(call as usize, lands),
+        call as usize,
+    )
+}
+
+#[test]
+fn each_call_fails_in_turn(rt: HostRuntime) -> Result<(), Fail> {
+    for call in 1..25u32 {
+        fails_at(&rt, rt.alloc(), call, false)?;
+        fails_at(&rt, rt.alloc(), call, true)?;
+    }
+    Ok(())
+}

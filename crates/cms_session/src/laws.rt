@@ -1,0 +1,11 @@
+// Laws of sessions.
+ghost use Rattle.cms_session.specs.Laws.{EndsLikeMachine, FaultsAreCounted};
+
+/// A session ends as its machine does, but where there is no memory or the world failed.
+///
+/// - Where the count of the console, the clock and the attaching didn't rise, the status is that of the machine's end, or `Memory`.
+/// - Where the count of the units didn't rise, every outcome of the machine's steps is good.
+pub fn laws_of_sessions()
+    ensures ends { EndsLikeMachine }
+    ensures faults { FaultsAreCounted }
+{}

@@ -1,0 +1,27 @@
+//! The top call of `cms`: a session of CMS commands on the units of a world.
+#![tactic(auto)]
+
+mod command;
+mod erasing;
+mod laws;
+mod reading;
+mod round;
+mod saying;
+mod session;
+mod start;
+mod state;
+mod status;
+mod words;
+
+pub use laws::laws_of_sessions;
+pub use session::play;
+pub use start::run;
+pub use state::{Course, Disk, End, Finish, Round, Session};
+pub use status::{Status, WordFault};
+
+#[cfg(test)]
+mod erase_tests;
+#[cfg(test)]
+mod session_tests;
+#[cfg(test)]
+mod word_tests;

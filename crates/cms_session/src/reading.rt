@@ -1,0 +1,155 @@
+// TYPE: the records of a file, typed.
+ghost use Rattle.std.specs.Prelude.{◌≡◌, ◌≤◌, ◌<◌, ◌&&◌, ◌==◌, ℕ, List, Some, None, IfOk, IfSome, length, true};
+ghost use Rattle.cms_journal.specs.Causes.{Rose};
+ghost use Rattle.cms_journal.specs.Journal.{Journal};
+ghost use Rattle.cms_names.specs.Names.{is_part};
+ghost use Rattle.cms_names.specs.declared.name.Name.{Name};
+ghost use Rattle.cms_model.specs.Lists.{cut};
+ghost use Rattle.cms_model.specs.Minidisks.{File};
+ghost use Rattle.cms_machine.specs.Acts.{Done};
+ghost use Rattle.cms_line.specs.declared.message.Message.TheVariants.{M002, M069};
+ghost use Rattle.cms_edf.specs.Small.{spelled};
+ghost use Rattle.cms_session.specs.Commands.{letter_a};
+ghost use Rattle.cms_session.specs.Machine.{typing};
+ghost use Rattle.cms_session.specs.Calls.{spot, Does, Acts, Usable, EndCause, IsSeen, HasRecords, itself, course_of, refusal_tree, records_tree, type_tree};
+ghost use Rattle.cms_session.specs.declared.state.Session.{Session};
+ghost use Rattle.cms_session.specs.declared.state.Course.TheVariants.{Went, Stopped};
+
+use crate::command::LETTER_A;
+use crate::saying::{say, say_message};
+use crate::state::{Course, Disk, End, Session};
+use cms_edf::SmallInfo;
+use cms_line::{Message, Word};
+use cms_names::Name;
+use cms_world::World;
+use std::alloc::{AllocError, Global};
+
+/// The return code where no disk is accessed as A.
+pub const NOT_ACCESSED: i32 = 36;
+
+/// The return code of a file that isn't there.
+pub const NOT_FOUND: i32 = 28;
+
+/// A name as directories spell it: each part filled with blanks.
+pub fn spelled(name: &Name) -> [u8; 16]
+    ensures bytes { result ≡ spelled name.now }
+    ensures file { is_part name.now.file ≡ true }
+    ensures kind { is_part name.now.kind ≡ true }
+{
+    let mut bytes = [0; 16];
+    let (file, kind) = bytes.split_at_mut(8);
+    file.copy_from_slice(name.file.padded());
+    kind.copy_from_slice(name.kind.padded());
+    bytes
+}
+
+// A file of mode number 0 isn't seen on a read-only disk.
+fn is_hidden(read_only: bool, number: u8) -> bool
+    ensures { result ≡ (read_only && (number == 0)) }
+{
+    read_only && number == 0
+}
+
+/// The place of the file of a name that is spelled so, where it is seen.
+pub fn seen_place(disk: &Disk, name: &[u8; 16]) -> Option<u32>
+    ensures seen { (n : Name) (j : Journal) → is_part n.file ≡ true → is_part n.kind ≡ true → name.now ≡ spelled n → IsSeen j disk.now n result }
+    ensures within { IfSome result (λ place. place < length disk.now.small.files) }
+{
+    let place = disk.small.find(name)?;
+    if is_hidden(disk.read_only, disk.small.number(place)) {
+        return None;
+    }
+    Some(place)
+}
+
+// Types the records, one after another from the front.
+fn type_records<W: World>(world: &mut W, bytes: &[u8], info: &SmallInfo) -> Result<(), End>
+    ensures does { (session : Session) → Does (spot (W.told world.old) (W.faults world.old) session) (spot (W.told world.new) (W.faults world.new) session) (typing (cut info.now.count info.now.length bytes.now) (Done tt)) result itself }
+    ensures cause { EndCause (W.edges world.old) (W.edges world.new) result }
+    ensures faults { W.faults world.new ≡ W.faults world.old }
+{
+    let size = info.length as usize;
+    let mut rest = bytes;
+    for _ in 0..info.count {
+        let (record, behind) = rest.split_at(size.min(rest.len()));
+        say(world, record)?;
+        rest = behind;
+    }
+    Ok(())
+}
+
+// Types the file at a place of disk A, whose block is read once.
+fn type_at<W: World>(alloc: Global, world: &mut W, disk: &Disk, place: u32) -> Result<Course, End>
+    requires within { place < length disk.now.small.files }
+    requires usable { Usable (W.told world.old) (Some disk.now) }
+    ensures acts { (session : Session) (f : File) → session.disk_a ≡ Some disk.now → HasRecords (W.told world.old) disk.now place f.records → Acts (spot (W.told world.old) (W.faults world.old) session) (spot (W.told world.new) (W.faults world.new) session) (records_tree session.disk_a session.left disk.now.small.unit f) result (course_of session.disk_a session.left) }
+    ensures cause { EndCause (W.edges world.old) (W.edges world.new) result }
+    ensures faults { W.faults world.old ≤ W.faults world.new }
+    ensures fault { IfOk result (λ course. course ≡ Stopped → Rose (W.faults world.old) (W.faults world.new)) }
+{
+    let small = &disk.small;
+    let mut block = vec![in alloc; 0; small.block_size() as usize]?;
+    match small.get(world, place, block.as_mut_slice()) {
+        Ok(info) => {
+            type_records(world, block.as_slice(), &info)?;
+            Ok(Course::Went(0))
+        }
+        Err(_) => Ok(Course::Stopped),
+    }
+}
+
+/// No disk is accessed as A.
+pub fn no_disk(alloc: Global) -> Result<Message, AllocError>
+    ensures { IfOk result (λ message. message ≡ M069 letter_a) }
+{
+    Ok(Message::M069(Word::of(alloc, LETTER_A)?))
+}
+
+/// Disk A has no file of this name.
+pub fn no_file(alloc: Global, name: &Name) -> Result<Message, AllocError>
+    ensures { IfOk result (λ message. message ≡ M002 name.now.file name.now.kind letter_a) }
+{
+    Ok(Message::M002(
+        Word::of(alloc, name.file.as_bytes())?,
+        Word::of(alloc, name.kind.as_bytes())?,
+        Word::of(alloc, LETTER_A)?,
+    ))
+}
+
+/// Types a message, and gives its code.
+pub fn refuse<W: World>(
+    alloc: Global,
+    world: &mut W,
+    message: Message,
+    code: i32,
+) -> Result<Course, End>
+    ensures acts { (session : Session) → Acts (spot (W.told world.old) (W.faults world.old) session) (spot (W.told world.new) (W.faults world.new) session) (refusal_tree session.disk_a session.left message code) result (course_of session.disk_a session.left) }
+    ensures cause { EndCause (W.edges world.old) (W.edges world.new) result }
+    ensures faults { W.faults world.new ≡ W.faults world.old }
+    ensures went { IfOk result (λ course. course ≡ Went code) }
+{
+    say_message(alloc, world, &message)?;
+    Ok(Course::Went(code))
+}
+
+/// Types the records of a file of disk A, each as a line.
+pub fn type_file<W: World>(
+    alloc: Global,
+    world: &mut W,
+    session: &Session,
+    name: &Name,
+) -> Result<Course, End>
+    requires usable { Usable (W.told world.old) session.now.disk_a }
+    ensures acts { Acts (spot (W.told world.old) (W.faults world.old) session.now) (spot (W.told world.new) (W.faults world.new) session.now) (type_tree session.now.disk_a session.now.left name.now) result (course_of session.now.disk_a session.now.left) }
+    ensures cause { EndCause (W.edges world.old) (W.edges world.new) result }
+    ensures faults { W.faults world.old ≤ W.faults world.new }
+    ensures fault { IfOk result (λ course. course ≡ Stopped → Rose (W.faults world.old) (W.faults world.new)) }
+{
+    let Some(disk) = &session.disk_a else {
+        return refuse(alloc, world, no_disk(alloc)?, NOT_ACCESSED);
+    };
+    match seen_place(disk, &spelled(name)) {
+        None => refuse(alloc, world, no_file(alloc, name)?, NOT_FOUND),
+        Some(place) => type_at(alloc, world, disk, place),
+    }
+}

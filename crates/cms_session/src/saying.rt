@@ -1,0 +1,112 @@
+// Lines, messages and the ready line.
+ghost use Rattle.std.specs.Prelude.{◌≡◌, ◌<◌, ◌≤◌, ◌+◌, ◌++◌, ◌/◌, ◌%◌, length, OnOk, IfOk};
+ghost use Rattle.cms_machine.specs.Acts.{saying, typed_line};
+ghost use Rattle.cms_line.specs.Messages.{message_text};
+ghost use Rattle.cms_session.specs.Machine.{ready_line, ready_with, decimal_of};
+ghost use Rattle.cms_session.specs.Calls.{spot, Does, EndCause, itself};
+ghost use Rattle.cms_session.specs.declared.state.Session.{Session};
+
+use crate::state::End;
+use cms_line::{Message, Word, type_line, write_message};
+use cms_world::World;
+use std::alloc::{AllocError, Global};
+
+// The characters of ready lines in EBCDIC.
+const R: u8 = 0xD9;
+
+const OPENS: u8 = 0x4D;
+
+const MINUS: u8 = 0x60;
+
+const ZERO: u8 = 0xF0;
+
+const CLOSES: u8 = 0x5D;
+
+const SEMICOLON: u8 = 0x5E;
+
+/// Types a line of EBCDIC, whatever the session holds.
+pub fn say<W: World>(world: &mut W, line: &[u8]) -> Result<(), End>
+    ensures does { (session : Session) → Does (spot (W.told world.old) (W.faults world.old) session) (spot (W.told world.new) (W.faults world.new) session) (saying (typed_line line.now)) result itself }
+    ensures cause { EndCause (W.edges world.old) (W.edges world.new) result }
+    ensures faults { W.faults world.new ≡ W.faults world.old }
+{
+    match type_line(world, line) {
+        Ok(()) => Ok(()),
+        Err(_) => Err(End::Edge),
+    }
+}
+
+/// Types a message.
+pub fn say_message<W: World>(alloc: Global, world: &mut W, message: &Message) -> Result<(), End>
+    ensures does { (session : Session) → Does (spot (W.told world.old) (W.faults world.old) session) (spot (W.told world.new) (W.faults world.new) session) (saying (typed_line (message_text message.now))) result itself }
+    ensures cause { EndCause (W.edges world.old) (W.edges world.new) result }
+    ensures faults { W.faults world.new ≡ W.faults world.old }
+{
+    let mut text = Vec::new(alloc);
+    write_message(&mut text, message)?;
+    say(world, &text)
+}
+
+// A decimal digit of a number, in EBCDIC: how often `unit`, a power of ten, goes into it.
+fn digit(number: u32, unit: u32) -> u8
+    requires { 0 < unit }
+    ensures { result ≡ 0xF0 + number / unit % 10 }
+{
+    ZERO + (number / unit % 10) as u8
+}
+
+// The ready line of a code that isn't 0.
+fn ready_with(code: i32) -> [u8; 9]
+    ensures { result ≡ ready_with code }
+{
+    let number = code.unsigned_abs();
+    [
+        R,
+        OPENS,
+        if code < 0 {
+            MINUS
+        } else {
+            digit(number, 10_000)
+        },
+        digit(number, 1_000),
+        digit(number, 100),
+        digit(number, 10),
+        digit(number, 1),
+        CLOSES,
+        SEMICOLON,
+    ]
+}
+
+/// Types the ready line of a return code, -9999 to 99999.
+pub fn say_ready<W: World>(world: &mut W, code: i32) -> Result<(), End>
+    ensures does { (session : Session) → Does (spot (W.told world.old) (W.faults world.old) session) (spot (W.told world.new) (W.faults world.new) session) (saying (typed_line (ready_line code))) result itself }
+    ensures cause { EndCause (W.edges world.old) (W.edges world.new) result }
+    ensures faults { W.faults world.new ≡ W.faults world.old }
+{
+    if code == 0 {
+        return say(world, &[R, SEMICOLON]);
+    }
+    say(world, &ready_with(code))
+}
+
+// Adds the decimal digits of a number, in EBCDIC.
+#[tactic(auto, using(crate::proofs::Decimals::decimal_one, crate::proofs::Decimals::decimal_more))]
+fn add_decimal(into: &mut Vec<u8>, number: u32) -> Result<(), AllocError>
+    ensures { OnOk result (into.new.items ≡ into.old.items ++ decimal_of number) }
+{
+    if number >= 10 {
+        add_decimal(into, number / 10)?;
+    }
+    into.push(0xF0 + (number % 10) as u8)?;
+    Ok(())
+}
+
+/// A number in decimal, in EBCDIC, without leading zeros.
+#[tactic(auto, using(crate::proofs::Decimals::decimal_short))]
+pub fn decimal(alloc: Global, number: u32) -> Result<Word, AllocError>
+    ensures { IfOk result (λ word. word ≡ decimal_of number) }
+{
+    let mut digits = Vec::new(alloc);
+    add_decimal(&mut digits, number)?;
+    Ok(Word::take(digits))
+}
