@@ -1,5 +1,5 @@
 -- ERASE.
-use Rattle.std.proofs.Common.{◌≡◌, inl, inr, ℕ, ◌<◌, ◌≤◌, List, [], ◌∷◌, length, slice_index_or, slice_get, Option, Some, None, Result, Ok, Err, IfOk, OnOk, ℤ, pos, true, false, refl, ap, sym, ◌∙◌, subst}
+use Rattle.std.proofs.Common.{◌≡◌, inl, inr, ℕ, ◌<◌, ◌≤◌, List, [], ◌∷◌, length, slice_index_or, slice_get, Option, Some, None, Result, Ok, Err, IfOk, OnOk, ℤ, pos, true, false, refl, ap, sym, ◌∙◌, subst, arith}
 use Rattle.std.specs.Prelude.{⊤, if◌then◌else◌}
 use Rattle.std.specs.Option.{option_and_then}
 use Rattle.std.proofs.lemmas.Bool.{cases_Bool}
@@ -35,7 +35,7 @@ use Rattle.cms_session.specs.declared.state.Course as declared
 use Rattle.cms_session.specs.declared.state.Course.TheVariants as course
 use Rattle.cms_session.specs.Commands.{letter_a}
 use Rattle.cms_session.specs.Machine.{Machine, DiskA, Course, Went, Stopped, decimal_of, seen_file, drop_step, dropping, erase_outcome}
-use Rattle.cms_session.specs.Calls.{Spot, spot, kept_disk, IsUsable, Usable, at, HoldsIn, Acts, Comes, IsSeen, machine_at, seen_as, seen_disk, erase_tree, refusal_tree, course_of, file_in}
+use Rattle.cms_session.specs.Calls.{Spot, spot, kept_disk, IsStamped, IsUsable, Usable, at, HoldsIn, Acts, Comes, IsSeen, machine_at, seen_as, seen_disk, erase_tree, refusal_tree, course_of, file_in}
 use Rattle.cms_session.proofs.Holding.{holds_some, some_same, usable_grown}
 use Rattle.cms_session.proofs.Acts.{comes_same, acts_after}
 use Rattle.cms_session.proofs.Seen.{some_entry}
@@ -267,3 +267,17 @@ usable_kept (Err e) told now d t same grown usable = tt
 pub kept_went : (c : declared.Course) (d : Disk) → (c ≡ course.Stopped → ⊥) → Some d ≡ kept_disk c d
 kept_went (course.Went code) d went = refl
 kept_went course.Stopped d went = absurd (went refl)
+
+-- another code than 0
+pub other_code : (P : Type 0) (r : Result declared.Course End) (n : ℕ) → 0 < n → IfOk r (λ c. c ≡ course.Went (pos n)) → IfOk r (λ c. c ≡ course.Went (pos 0) → P)
+other_code P (Ok c) n some went = λ zero. let e : course.Went (pos n) ≡ course.Went (pos 0) = sym went ∙ zero in let same : n ≡ 0 = cc in absurd (omega (arith, some, same))
+other_code P (Err e) n some went = tt
+
+pub stopped_code : (P : Type 0) (c : declared.Course) → c ≡ course.Stopped → c ≡ course.Went (pos 0) → P
+stopped_code P c stopped zero = let e : course.Stopped ≡ course.Went (pos 0) = sym stopped ∙ zero in absurd (cc)
+
+pub stamped_from : (told now : Told) (d : Disk) (t : SmallVolume) (nth : ℕ) (stamp wanted : Stamp) → stamp ≡ wanted → Updated told now d.small t nth stamp → IsStamped told now (Some d) (Some (record { small = t; read_only = d.read_only })) wanted
+stamped_from told now d t nth stamp wanted same u = (nth, subst (λ (s : Stamp). Updated told now d.small t nth s) same u)
+
+pub stamped_on : (told now : Told) (disk : Option Disk) (d e : Disk) (stamp : Stamp) → disk ≡ Some d → IsStamped told now (Some d) (Some e) stamp → IsStamped told now disk (Some e) stamp
+stamped_on told now disk d e stamp is s = subst (λ (x : Option Disk). IsStamped told now x (Some e) stamp) (sym is) s

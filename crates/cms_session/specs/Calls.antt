@@ -7,6 +7,7 @@ use Rattle.cms_journal.specs.Journal.{Journal, HasBlocks, IsWritable}
 use Rattle.cms_journal.specs.Told.{Told, Idle, Grown}
 use Rattle.cms_model.specs.Trees.{Image}
 use Rattle.cms_model.specs.Minidisks.{File, Minidisk, State, Volume}
+use Rattle.cms_fields.specs.declared.time.Stamp.{Stamp}
 use Rattle.cms_fields.specs.declared.entry.Entry.{Entry}
 use Rattle.cms_model.specs.Records.{length_of}
 use Rattle.cms_machine.specs.Slots.{Slot, Settled, set_of, IsAmong}
@@ -19,6 +20,7 @@ use Rattle.cms_machine.specs.Runs.{Ran, Broke}
 use Rattle.cms_line.specs.declared.message.Message.{Message}
 use Rattle.cms_line.specs.Messages.{message_text}
 use Rattle.cms_edf.specs.Small.{IsMinidisk, contents_image, records_in}
+use Rattle.cms_edf.specs.Erase.{Updated}
 use Rattle.cms_names.specs.declared.name.Name.{Name}
 use Rattle.cms_session.specs.Machine.{DiskA, Machine, Course, Went, Stopped, seen_file, type_outcome, type_file, erase_file, Round, Finished, NoTurns, Refused, Failed, Ready, readied, is_procedure, run_command, round, session}
 use Rattle.cms_session.specs.Commands.{command_of, exec_word}
@@ -131,6 +133,12 @@ course_of disk left units course.Stopped = Stopped
 abbrev pub kept_disk : declared.Course.Course → Disk → Option Disk
 kept_disk (course.Went code) d = Some d
 kept_disk course.Stopped d = None
+
+-- a file of disk A went in an update with this stamp
+abbrev pub IsStamped : Told → Told → Option Disk → Option Disk → Stamp → Type 0
+IsStamped told now (Some d) (Some e) stamp = (nth : ℕ) × Updated told now d.small e.small nth stamp
+IsStamped told now (Some d) None stamp = ⊥
+IsStamped told now None disk stamp = ⊥
 
 abbrev pub round_of : Option Disk → ℕ → List Slot → declared.Round.Round → Round
 round_of disk left units end.Finished = Finished

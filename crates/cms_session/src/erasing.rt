@@ -6,9 +6,9 @@ ghost use Rattle.cms_fields.specs.Moments.{moment_of, stamp_of};
 ghost use Rattle.cms_line.specs.declared.message.Message.TheVariants.{M037, M107};
 ghost use Rattle.cms_session.specs.Commands.{letter_a};
 ghost use Rattle.cms_session.specs.Machine.{decimal_of};
-ghost use Rattle.cms_session.specs.Calls.{spot, kept_disk, Acts, Usable, EndCause, course_of, erase_tree};
+ghost use Rattle.cms_session.specs.Calls.{spot, kept_disk, IsStamped, Acts, Usable, EndCause, course_of, erase_tree};
 ghost use Rattle.cms_session.specs.declared.state.Session.{Session};
-ghost use Rattle.cms_session.specs.declared.state.Course.TheVariants.{Stopped};
+ghost use Rattle.cms_session.specs.declared.state.Course.TheVariants.{Went, Stopped};
 
 use crate::command::LETTER_A;
 use crate::reading::{NOT_ACCESSED, NOT_FOUND, no_disk, no_file, refuse, seen_place, spelled};
@@ -61,6 +61,7 @@ fn erase_on<W: World>(
     requires usable { Usable (W.told world.old) (Some disk.old) }
     ensures acts { (old new : Session) → old.disk_a ≡ Some disk.old → IfOk result (λ course. new.disk_a ≡ kept_disk course disk.new) → new.console ≡ old.console → Acts (spot (W.told world.old) (W.faults world.old) old) (spot (W.told world.new) (W.faults world.new) new) (erase_tree old.disk_a old.left name.now) result (course_of new.disk_a old.left) }
     ensures usable { OnOk result (Usable (W.told world.new) (Some disk.new)) }
+    ensures stamped { IfOk result (λ course. course ≡ Went (pos 0) → IsStamped (W.told world.old) (W.told world.new) (Some disk.old) (Some disk.new) (stamp_of (moment_of seconds (pos 0)))) }
     ensures cause { EndCause (W.edges world.old) (W.edges world.new) result }
     ensures faults { W.faults world.old ≤ W.faults world.new }
     ensures fault { IfOk result (λ course. course ≡ Stopped → Rose (W.faults world.old) (W.faults world.new)) }
@@ -93,6 +94,7 @@ pub fn erase_file<W: World>(
     requires usable { Usable (W.told world.old) session.old.disk_a }
     ensures acts { Acts (spot (W.told world.old) (W.faults world.old) session.old) (spot (W.told world.new) (W.faults world.new) session.new) (erase_tree session.old.disk_a session.old.left name.now) result (course_of session.new.disk_a session.new.left) }
     ensures usable { OnOk result (Usable (W.told world.new) session.new.disk_a) }
+    ensures stamped { IfOk result (λ course. course ≡ Went (pos 0) → IsStamped (W.told world.old) (W.told world.new) session.old.disk_a session.new.disk_a (stamp_of (moment_of seconds (pos 0)))) }
     ensures left { session.new.left ≡ session.old.left }
     ensures cause { EndCause (W.edges world.old) (W.edges world.new) result }
     ensures faults { W.faults world.old ≤ W.faults world.new }

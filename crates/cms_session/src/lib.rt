@@ -14,9 +14,7 @@ mod status;
 mod words;
 
 pub use laws::laws_of_sessions;
-pub use session::play;
 pub use start::run;
-pub use state::{Course, Disk, End, Finish, Round, Session};
 pub use status::{Status, WordFault};
 
 #[cfg(test)]

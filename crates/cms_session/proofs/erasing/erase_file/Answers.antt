@@ -1,7 +1,8 @@
-use Rattle.std.proofs.Common.{◌≡◌, refl, sym, ◌∙◌, Some, None, arith}
+use Rattle.std.proofs.Common.{◌≡◌, refl, sym, ◌∙◌, Some, None, arith, w64}
+use Rattle.std.proofs.lemmas.Int.{to_z-of_z}
 use Rattle.std.proofs.lemmas.Result.{err_from_is_err_and}
 use Rattle.cms_session.specs.Calls.{erase_tree, course_of, kept_disk}
-use Rattle.cms_session.proofs.Erasures.{erase_no_disk, cut_off, kept_went}
+use Rattle.cms_session.proofs.Erasures.{erase_no_disk, cut_off, kept_went, other_code, stopped_code, stamped_on}
 use Rattle.cms_session.proofs.erasing.erase_file.Goals as goal
 
 pub returns-in_err-no_disk-clause-acts : goal.returns-in_err-no_disk-clause-acts
@@ -39,3 +40,15 @@ returns-clause-acts g c =
     let s = c.args.session.now in
     let some : s.disk_a ≡ Some c.in-Some.disk = sym c.take.ensures.value ∙ c.in-Some.is in
     c.in_ok-course.ensures.acts s (record { disk_a = Some c.erase_on.new.disk; console = s.console; left = s.left }) some (kept_went c.in_ok-course.course c.erase_on.new.disk c.in_default-course.not-Stopped) refl
+
+pub returns-in_default-clause-stamped : goal.returns-in_default-clause-stamped
+returns-in_default-clause-stamped g c = other_code _ _ 36 (omega arith) c.refuse.ensures.went
+
+pub returns-in-Stopped-clause-stamped : goal.returns-in-Stopped-clause-stamped
+returns-in-Stopped-clause-stamped g c zero = stopped_code _ c.in_ok-course.course c.in-Stopped.is zero
+
+pub returns-clause-stamped : goal.returns-clause-stamped
+returns-clause-stamped g c zero =
+    let same = to_z-of_z w64 c.args.seconds c.ranges.seconds in
+    let stamped = rw same at (c.in_ok-course.ensures.stamped zero) in
+    stamped_on _ _ c.args.session.now.disk_a c.in-Some.disk c.erase_on.new.disk _ (sym c.take.ensures.value ∙ c.in-Some.is) stamped

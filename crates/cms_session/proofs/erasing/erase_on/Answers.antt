@@ -1,11 +1,12 @@
-use Rattle.std.proofs.Common.{refl, ap, Ok, Err, pos, arith}
+use Rattle.std.proofs.Common.{refl, ap, Ok, Err, pos, arith, w64}
+use Rattle.std.proofs.lemmas.Int.{to_z-of_z}
 use Rattle.std.proofs.lemmas.Result.{err_from_is_err_and}
 use Rattle.cms_journal.proofs.Pieces.{grown_then}
 use Rattle.cms_line.specs.ConsoleState.{ConsoleState}
 use Rattle.cms_edf.specs.declared.erase.SmallErase.TheVariants as failed
 use Rattle.cms_session.specs.Calls.{erase_tree, course_of}
 use Rattle.cms_session.proofs.Holding.{usable_ok}
-use Rattle.cms_session.proofs.Erasures.{erase_read_only, erase_missing, is_erasing, erased_so, erase_stopped, full_refused, cut_off, disk_kept, small_kept, grown_by, erased_place, usable_erased, usable_still, usable_kept}
+use Rattle.cms_session.proofs.Erasures.{erase_read_only, erase_missing, is_erasing, erased_so, erase_stopped, full_refused, cut_off, disk_kept, small_kept, grown_by, erased_place, usable_erased, usable_still, usable_kept, other_code, stamped_from}
 use Rattle.cms_session.proofs.erasing.erase_on.Goals as goal
 
 pub returns-in_err-no_writing-clause-acts : goal.returns-in_err-no_writing-clause-acts
@@ -88,3 +89,18 @@ pub returns-in-Err-Memory-clause-acts : goal.returns-in-Err-Memory-clause-acts
 returns-in-Err-Memory-clause-acts g c old new disk_a kept console =
     let is = c.in-Err-Memory.field-0-is in
     cut_off _ _ (erase_tree old.disk_a old.left c.args.name.now) _ (course_of new.disk_a old.left) (rw is at c.in-Err-Memory.ensures.nothing) c.in-Err-Memory.ensures.faults
+
+pub returns-then-disk-clause-stamped : goal.returns-then-disk-clause-stamped
+returns-then-disk-clause-stamped g c = other_code _ _ 36 (omega arith) c.refuse.ensures.went
+
+pub returns-in_default-clause-stamped : goal.returns-in_default-clause-stamped
+returns-in_default-clause-stamped g c = other_code _ _ 28 (omega arith) c.refuse-in_default.ensures.went
+
+pub returns-in_ok-no_room-in-Err-Full-clause-stamped : goal.returns-in_ok-no_room-in-Err-Full-clause-stamped
+returns-in_ok-no_room-in-Err-Full-clause-stamped g c = other_code _ _ 100 (omega arith) c.refuse-in-Err-Full.ensures.went
+
+pub returns-in-Ok-clause-stamped : goal.returns-in-Ok-clause-stamped
+returns-in-Ok-clause-stamped g c zero =
+    let same = to_z-of_z w64 c.args.seconds c.ranges.seconds in
+    let value = rw same at c.stamp_at.ensures.value in
+    stamped_from _ _ c.args.disk.now c.erase.new.self c.in-Some.place _ _ value c.in-Ok.ensures.updated
