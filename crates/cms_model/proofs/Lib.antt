@@ -20,6 +20,7 @@ pub mod FileSizes
 pub mod MinidiskSizes
 pub mod Changing
 pub mod OpenedNames
+pub mod Needing
 pub mod Standing
 pub mod Renewing
 pub mod Putting

@@ -15,4 +15,5 @@ pub mod LawsVolumes
 pub mod LawsUpdates
 pub mod LawsSizes
 pub mod LawsChanges
+pub mod LawsRoom
 pub mod Stands

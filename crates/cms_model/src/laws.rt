@@ -2,6 +2,7 @@
 ghost use Rattle.cms_model.specs.Built.{BuiltIsRead};
 ghost use Rattle.cms_model.specs.LawsChanges.{NamesAreTold, NamesStayDistinct, NoneIsAdded, OpenedAreDistinct, PlaceIsChanged, PlaceIsFound};
 ghost use Rattle.cms_model.specs.LawsRecords.{FixedAreCut, StandsForOne, StoredHasSize, VaryingAreRead};
+ghost use Rattle.cms_model.specs.LawsRoom.{ChangedWhereMade, FullWhereLacking, NeedIsTaken, RoomIsKept};
 ghost use Rattle.cms_model.specs.LawsSizes.{BlocksAreShared};
 ghost use Rattle.cms_model.specs.LawsTrees.{FirstIsFixed, LeavesAreBlocks, OnlyItsPointers, PointersAreRead, ShapeIsLeast, TreeHasSize, TreeIsWithin, TreeRestsOnItsBlocks};
 ghost use Rattle.cms_model.specs.LawsUpdates.{AfterIsTold, ApartIsKept, AsideIsAsBefore, FrontsOfUpdate, KeepsOld, KeepsWiped, MakeIsWhole, RelabelIsWhole, SettledIsFirm, SyncSettles, UntouchedStarts, UpdateIsAside, UpdateIsPut, UpdateIsWhole, WipeIsWhole, WipedIsNone};
@@ -59,6 +60,18 @@ pub fn change_laws()
     ensures none { NoneIsAdded }
     ensures distinct { NamesStayDistinct }
     ensures opened { OpenedAreDistinct }
+{}
+
+/// The room that a change needs.
+///
+/// - What it needs is what it takes: the blocks in use after it are those before, and these, without those that it gives back.
+/// - It is made exactly where it passes no limit and there is room, and full exactly where it passes none and there isn't.
+/// - A minidisk that has room for what it holds has it after each change that is made.
+pub fn room_laws()
+    ensures need { NeedIsTaken }
+    ensures made { ChangedWhereMade }
+    ensures full { FullWhereLacking }
+    ensures room { RoomIsKept }
 {}
 
 /// What a crash may leave of a unit that is settled, synced, untouched or left alone.

@@ -1,0 +1,14 @@
+use Rattle.cms_model.proofs.Needing.{need_taken, changed_where_made, full_where_lacking, room_kept}
+use Rattle.cms_model.proofs.laws.room_laws.Goals as goal
+
+pub returns-clause-need : goal.returns-clause-need
+returns-clause-need c = need_taken
+
+pub returns-clause-made : goal.returns-clause-made
+returns-clause-made c = changed_where_made
+
+pub returns-clause-full : goal.returns-clause-full
+returns-clause-full c = full_where_lacking
+
+pub returns-clause-room : goal.returns-clause-room
+returns-clause-room c = room_kept
