@@ -1,11 +1,11 @@
 // The options of a command.
-ghost use Rattle.std.specs.Prelude.{◌≡◌, ◌+◌, ◌<◌, [], ◌∷◌, ◌++◌, length, drop, slice_get, IfOk, OnOk, OnErr, IsTrue, ◌↔◌, position};
+ghost use Rattle.std.specs.Prelude.{◌≡◌, ◌+◌, ◌<◌, [], length, drop, IfOk, position};
 ghost use Rattle.cms_line.specs.Options.{options_of, options_from, missing, is_right, is_left, is_named, AnswersOptions};
 
 use crate::words::{LEFT, RIGHT};
 use crate::{Token, Tokens};
+use cms_text::Series;
 use std::alloc::{AllocError, Global};
-use std::marker::Model;
 
 /// An option of a command: its name, filled with blanks, the length of its shortest spelling, and how many words it takes as
 /// parameters.
@@ -37,58 +37,7 @@ pub enum OptionFault {
 }
 
 /// The options that were chosen, in the order of the words.
-#[derive(Debug, Drop)]
-pub struct Chosen {
-    choices: Vec<Choice>,
-}
-
-impl Model for Chosen {
-    ghost use Rattle.std.specs.Prelude.{List};
-    ghost use Rattle.cms_line.specs.declared.choices.Choice.{Choice};
-
-    ghost Value = { List Choice };
-
-    ghost view = { λ c. c.choices.items };
-}
-
-impl Chosen {
-    /// No options.
-    pub fn new(alloc: Global) -> Self
-        ensures { result ≡ [] }
-    {
-        Chosen {
-            choices: Vec::new(alloc),
-        }
-    }
-
-    /// Adds an option last.
-    pub fn push(&mut self, choice: Choice) -> Result<(), AllocError>
-        ensures ok { OnOk result (self.new ≡ self.old ++ choice ∷ []) }
-        ensures err { OnErr result (self.new ≡ self.old) }
-    {
-        self.choices.push(choice)?;
-        Ok(())
-    }
-
-    pub fn len(&self) -> usize
-        ensures { result ≡ length self.now }
-    {
-        self.choices.len()
-    }
-
-    pub fn is_empty(&self) -> bool
-        ensures { IsTrue result ↔ (self.now ≡ []) }
-    {
-        self.choices.is_empty()
-    }
-
-    /// The option at a place, from 0; none past the last.
-    pub fn get(&self, place: usize) -> Option<Choice>
-        ensures { result ≡ slice_get self.now place }
-    {
-        self.choices.get(place).copied()
-    }
-}
+pub type Chosen = Series<Choice>;
 
 /// The options left of the first word that is refused, each with all its parameters, and why that word is.
 ///

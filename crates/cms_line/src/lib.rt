@@ -1,20 +1,19 @@
-//! Lines: small texts and lists of them, the console, words and options of a line, messages and the program stack.
+//! The console, words and options of a line, messages and the program stack.
 #![tactic(auto)]
 
 mod choices;
 mod console;
 mod message;
 mod stack;
-mod text;
 mod token;
 mod typing;
 mod words;
 
 pub use choices::{Accepted, Choice, Chosen, OptionFault, OptionRule, accepted_options, options};
+pub use cms_text::{Line, Lines, Word, WordList};
 pub use console::{Console, ConsoleLine, LineFault};
 pub use message::{Message, write_message};
 pub use stack::{ProgStack, PushFault, STACK_LINES};
-pub use text::{Line, Lines, Word, WordList};
 pub use token::{Token, Tokens};
 pub use typing::type_line;
 pub use words::tokens;

@@ -23,6 +23,7 @@ use Rattle.cms_machine.specs.Steps.{Step, Outcome, Good, ReadFault, SyncFault, O
 use Rattle.cms_machine.specs.Acts.{Act, Done}
 use Rattle.cms_machine.specs.Runs.{Ran}
 use Rattle.cms_machine.proofs.Single.{ran_still, broke_before}
+use Rattle.cms_text.specs.Numbers.{decimal_of}
 use Rattle.cms_line.specs.declared.message.Message.TheVariants.{M002, M037, M069, M107}
 use Rattle.cms_edf.specs.Small.{SmallVolume, IsMinidisk, contents_image}
 use Rattle.cms_edf.specs.Erase.{without, Updated, Changes, IsLeft, Erases}
@@ -34,7 +35,7 @@ use Rattle.cms_session.specs.declared.state.End.{End}
 use Rattle.cms_session.specs.declared.state.Course as declared
 use Rattle.cms_session.specs.declared.state.Course.TheVariants as course
 use Rattle.cms_session.specs.Commands.{letter_a}
-use Rattle.cms_session.specs.Machine.{Machine, DiskA, Course, Went, Stopped, decimal_of, seen_file, drop_step, dropping, erase_outcome}
+use Rattle.cms_session.specs.Machine.{Machine, DiskA, Course, Went, Stopped, seen_file, drop_step, dropping, erase_outcome}
 use Rattle.cms_session.specs.Calls.{Spot, spot, kept_disk, IsStamped, IsUsable, Usable, at, HoldsIn, Acts, Comes, IsSeen, machine_at, seen_as, seen_disk, erase_tree, refusal_tree, course_of, file_in}
 use Rattle.cms_session.proofs.Holding.{holds_some, some_same, usable_grown}
 use Rattle.cms_session.proofs.Acts.{comes_same, acts_after}

@@ -10,7 +10,6 @@ pub mod Records
 pub mod Seen
 pub mod Files
 pub mod Commands
-pub mod Decimals
 pub mod Drops
 pub mod Erasures
 pub mod Rounds

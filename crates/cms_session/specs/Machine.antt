@@ -9,6 +9,7 @@ use Rattle.cms_machine.specs.Steps.{Step, Access, Get, Put, Outcome, Good, ReadF
 use Rattle.cms_machine.specs.Items.{Item, items}
 use Rattle.cms_machine.specs.Acts.{Act, Done, Out, Take, Turn, Does, bind, typed_line}
 use Rattle.cms_machine.specs.Feeds.{Fed, feed}
+use Rattle.cms_text.specs.Numbers.{decimal_of}
 use Rattle.cms_line.specs.declared.message.Message.{Message}
 use Rattle.cms_line.specs.declared.message.Message.TheVariants.{M002, M037, M069, M107}
 use Rattle.cms_line.specs.Messages.{message_text}
@@ -50,15 +51,6 @@ unfoldable pub ready_line : ℤ → List ℕ
 ready_line (pos zero) = 0xD9 ∷ 0x5E ∷ []
 ready_line (pos (suc n)) = ready_with (pos (suc n))
 ready_line (negsuc n) = ready_with (negsuc n)
-
--- the last of the decimal digits of a number, so many at most, in EBCDIC, without leading zeros
-unfoldable pub decimal_from : ℕ → ℕ → List ℕ
-decimal_from zero n = []
-decimal_from (suc places) n = if nat_lt n 10 then (0xF0 + n % 10) ∷ [] else decimal_from places (n / 10) ++ (0xF0 + n % 10) ∷ []
-
--- all of them: a number has no more digits than one more than itself
-unfoldable pub decimal_of : ℕ → List ℕ
-decimal_of n = decimal_from (suc n) n
 
 -- ---- commands
 

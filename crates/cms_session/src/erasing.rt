@@ -5,19 +5,19 @@ ghost use Rattle.cms_fields.specs.Stamps.{is_stamp};
 ghost use Rattle.cms_fields.specs.Moments.{moment_of, stamp_of};
 ghost use Rattle.cms_line.specs.declared.message.Message.TheVariants.{M037, M107};
 ghost use Rattle.cms_session.specs.Commands.{letter_a};
-ghost use Rattle.cms_session.specs.Machine.{decimal_of};
+ghost use Rattle.cms_text.specs.Numbers.{decimal_of};
 ghost use Rattle.cms_session.specs.Calls.{spot, kept_disk, IsStamped, Acts, Usable, EndCause, course_of, erase_tree};
 ghost use Rattle.cms_session.specs.declared.state.Session.{Session};
 ghost use Rattle.cms_session.specs.declared.state.Course.TheVariants.{Went, Stopped};
 
 use crate::command::LETTER_A;
 use crate::reading::{NOT_ACCESSED, NOT_FOUND, no_disk, no_file, refuse, seen_place, spelled};
-use crate::saying::decimal;
 use crate::state::{Course, Disk, End, Session};
 use cms_edf::SmallErase;
 use cms_fields::{Moment, Stamp};
 use cms_line::{Message, Word};
 use cms_names::Name;
+use cms_text::decimal;
 use cms_world::World;
 use std::alloc::{AllocError, Global};
 

@@ -1,15 +1,15 @@
 // Lines, messages and the ready line.
-ghost use Rattle.std.specs.Prelude.{◌≡◌, ◌<◌, ◌≤◌, ◌+◌, ◌++◌, ◌/◌, ◌%◌, length, OnOk, IfOk};
+ghost use Rattle.std.specs.Prelude.{◌≡◌, ◌<◌, ◌+◌, ◌/◌, ◌%◌};
 ghost use Rattle.cms_machine.specs.Acts.{saying, typed_line};
 ghost use Rattle.cms_line.specs.Messages.{message_text};
-ghost use Rattle.cms_session.specs.Machine.{ready_line, ready_with, decimal_of};
+ghost use Rattle.cms_session.specs.Machine.{ready_line, ready_with};
 ghost use Rattle.cms_session.specs.Calls.{spot, Does, EndCause, itself};
 ghost use Rattle.cms_session.specs.declared.state.Session.{Session};
 
 use crate::state::End;
-use cms_line::{Message, Word, type_line, write_message};
+use cms_line::{Message, type_line, write_message};
 use cms_world::World;
-use std::alloc::{AllocError, Global};
+use std::alloc::Global;
 
 // The characters of ready lines in EBCDIC.
 const R: u8 = 0xD9;
@@ -87,26 +87,4 @@ pub fn say_ready<W: World>(world: &mut W, code: i32) -> Result<(), End>
         return say(world, &[R, SEMICOLON]);
     }
     say(world, &ready_with(code))
-}
-
-// Adds the decimal digits of a number, in EBCDIC.
-#[tactic(auto, using(crate::proofs::Decimals::decimal_one, crate::proofs::Decimals::decimal_more))]
-fn add_decimal(into: &mut Vec<u8>, number: u32) -> Result<(), AllocError>
-    ensures { OnOk result (into.new.items ≡ into.old.items ++ decimal_of number) }
-{
-    if number >= 10 {
-        add_decimal(into, number / 10)?;
-    }
-    into.push(0xF0 + (number % 10) as u8)?;
-    Ok(())
-}
-
-/// A number in decimal, in EBCDIC, without leading zeros.
-#[tactic(auto, using(crate::proofs::Decimals::decimal_short))]
-pub fn decimal(alloc: Global, number: u32) -> Result<Word, AllocError>
-    ensures { IfOk result (λ word. word ≡ decimal_of number) }
-{
-    let mut digits = Vec::new(alloc);
-    add_decimal(&mut digits, number)?;
-    Ok(Word::take(digits))
 }

@@ -9,7 +9,7 @@ use Rattle.std.proofs.lemmas.List.{append-nil, append_assoc, length-append, take
 use Rattle.exec2_funcs.specs.Calls.{concat_call, fitting, literal_call, string_call}
 use Rattle.exec2_funcs.specs.declared.fault.FuncFault.{FuncFault}
 use Rattle.exec2_funcs.specs.declared.fault.FuncFault.TheVariants.{Memory, TooLong}
-use Rattle.exec2_parse.specs.Texts.{Text}
+use Rattle.cms_text.specs.Texts.{Text}
 use Rattle.exec2_funcs.specs.Values.{joined, text_of}
 
 -- words behind others, each with a blank before it

@@ -1,5 +1,4 @@
 pub mod Chains
 pub mod Joins
 pub mod Named
-pub mod Numerals
 pub mod Places

@@ -2,9 +2,9 @@
 use Rattle.std.proofs.Common.{◌≡◌, ◌∷◌, [], refl}
 use Rattle.std.specs.Prelude.{ℤ, Some, None}
 use Rattle.cms_ebcdic.specs.CodePage.{code_of, code_page}
-use Rattle.exec2_parse.specs.Texts.{Text, ebcdic}
+use Rattle.cms_text.specs.Texts.{Text, ebcdic}
 use Rattle.exec2_funcs.specs.Calls.{kind_of}
-use Rattle.exec2_funcs.specs.Numbers.{number_of}
+use Rattle.cms_text.specs.Numbers.{number_of}
 
 pub num : (word : Text) (z : ℤ) → number_of word ≡ Some z → 0xD5 ∷ 0xE4 ∷ 0xD4 ∷ [] ≡ kind_of word
 unfolding ebcdic code_of code_page

@@ -5,7 +5,7 @@ use Rattle.std.specs.List.{position_or_len}
 use Rattle.std.specs.Option.{option_map_or}
 use Rattle.std.proofs.lemmas.Bool.Decides.{nat_tests}
 use Rattle.std.proofs.lemmas.List.{take_all}
-use Rattle.exec2_parse.specs.Texts.{Text}
+use Rattle.cms_text.specs.Texts.{Text}
 use Rattle.exec2_funcs.specs.Values.{rests}
 
 later : (n m : ℕ) → cond (nat_lt (1 + n) (suc m)) (Some (1 + n)) None ≡ option_map (λ k. k + 1) (cond (nat_lt n m) (Some n) None)

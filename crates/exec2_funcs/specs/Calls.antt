@@ -3,8 +3,8 @@ use Rattle.std.specs.Prelude.{◌≡◌, ◌⊎◌, ℕ, nat_le, nat_lt, ◌&&�
 use Rattle.std.specs.List.{concat}
 use Rattle.std.specs.Ordering.{int_eq}
 use Rattle.cms_fields.specs.Steps.{◌>>=◌}
-use Rattle.exec2_parse.specs.Texts.{Text, ebcdic, without_trailing_blanks}
-use Rattle.exec2_funcs.specs.Numbers.{fits, number_of, written}
+use Rattle.cms_text.specs.Texts.{Text, ebcdic, without_trailing_blanks}
+use Rattle.cms_text.specs.Numbers.{fits, number_of, written}
 use Rattle.exec2_funcs.specs.Values.{first_filled, from_place, joined, last_filled, location_of, nth_word, position_of, text_of, translated}
 use Rattle.exec2_funcs.specs.declared.fault.FuncFault.{FuncFault}
 use Rattle.exec2_funcs.specs.declared.fault.FuncFault.TheVariants.{Arity, Memory, NotNumber, Overflow, TooLong, Zero}

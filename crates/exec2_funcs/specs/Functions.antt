@@ -1,6 +1,6 @@
 -- The function words.
 use Rattle.std.specs.Prelude.{ℕ, List, [], ◌∷◌, codes, Option, find}
-use Rattle.exec2_parse.specs.Texts.{Text, is_keyword}
+use Rattle.cms_text.specs.Texts.{Text, is_keyword}
 use Rattle.exec2_funcs.specs.declared.function.Function.{Function}
 use Rattle.exec2_funcs.specs.declared.function.Function.TheVariants as function
 

@@ -1,4 +1,3 @@
 pub mod Calls
 pub mod Functions
-pub mod Numbers
 pub mod Values

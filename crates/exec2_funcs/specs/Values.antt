@@ -3,7 +3,7 @@ use Rattle.std.specs.Prelude.{ℕ, ◌+◌, ◌-◌, ◌==◌, nat_eq, Bool, not
 use Rattle.std.specs.List.{join_with_byte, starts_with}
 use Rattle.std.specs.Option.{option_map_or}
 use Rattle.std.specs.Str.{bytes_eq}
-use Rattle.exec2_parse.specs.Texts.{Text}
+use Rattle.cms_text.specs.Texts.{Text}
 
 abbrev pub blanks : ℕ → Text
 blanks n = replicate n 0x40

@@ -4,8 +4,7 @@ ghost use Rattle.exec2_funcs.specs.Calls as spec;
 ghost use Rattle.exec2_funcs.specs.Calls.{Answers};
 
 use crate::FuncFault;
-use crate::numbers::{number, written};
-use cms_line::Word;
+use cms_text::{Word, number, written};
 use std::alloc::Global;
 
 /// An operation on signed numbers of 64 bits.

@@ -2,8 +2,7 @@
 ghost use Rattle.std.specs.Prelude.{◌≡◌, ◌+◌, ◌≤◌, length, position, take, ◌==◌, IfOk};
 ghost use Rattle.exec2_funcs.specs.Values as spec;
 
-use cms_line::Word;
-use exec2_parse::BLANK;
+use cms_text::{BLANK, Word};
 use std::alloc::{AllocError, Global};
 
 /// The first bytes of a text, filled with blanks on the right.

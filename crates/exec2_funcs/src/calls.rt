@@ -8,10 +8,8 @@ ghost use Rattle.exec2_funcs.specs.Values as values;
 use crate::arithmetic::{Operation, arithmetic};
 use crate::bytes::{first_bytes, first_filled, from_place, last_filled, location, translated};
 use crate::join::{concat, literal, string};
-use crate::numbers::{number, written};
 use crate::{FuncFault, Function};
-use cms_line::{Word, WordList};
-use exec2_parse::without_trailing_blanks;
+use cms_text::{Word, WordList, number, without_trailing_blanks, written};
 use std::alloc::Global;
 
 /// The value of a function at these words, which are what follows its OF, expanded. The faults are those of VM/SP EXEC 2's

@@ -2,7 +2,7 @@
 ghost use Rattle.std.specs.Prelude.{◌≡◌};
 ghost use Rattle.exec2_funcs.specs.Functions as spec;
 
-use exec2_parse::is_keyword;
+use cms_text::is_keyword;
 
 /// A function of EXEC 2. Its word is its name with an ampersand before it.
 #[derive(Clone, Copy, Debug, PartialEq, Eq)]

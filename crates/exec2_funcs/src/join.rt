@@ -3,8 +3,7 @@ ghost use Rattle.std.specs.Prelude.{◌≡◌, ◌+◌, ◌<◌, ◌≤◌, ◌�
 ghost use Rattle.exec2_funcs.specs.Calls.{Answers, concat_call, literal_call, string_call};
 
 use crate::FuncFault;
-use cms_line::Word;
-use exec2_parse::BLANK;
+use cms_text::{BLANK, Word};
 use std::alloc::Global;
 
 /// The most bytes of a value.

@@ -7,12 +7,10 @@ mod calls;
 mod fault;
 mod function;
 mod join;
-mod numbers;
 
 pub use calls::call;
 pub use fault::FuncFault;
 pub use function::Function;
-pub use numbers::{number, written};
 
 #[cfg(test)]
 mod tests;

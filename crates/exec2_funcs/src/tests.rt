@@ -1,14 +1,10 @@
 // Calls of the functions, by the rules of VM/SP EXEC 2.
-use crate::{FuncFault, Function, call, number, written};
-use cms_ebcdic::{from_host, to_host};
-use cms_line::{Word, WordList};
+use crate::{FuncFault, Function, call};
+use cms_ebcdic::to_host;
+use cms_text::{Word, WordList, ebcdic, number, written};
 use std::alloc::{AllocError, Global};
 use std::process::Abort;
 use std::test::Fail;
-
-fn ebcdic(alloc: Global, text: &str) -> Result<Vec<u8>, AllocError> {
-    text.bytes().filter_map(from_host).collect(alloc)
-}
 
 fn word(rt: &impl Abort, alloc: Global, text: &str) -> Result<Word, AllocError> {
     let bytes = ebcdic(alloc, text)?;

@@ -1,14 +1,13 @@
 -- Bytes cut into records of one length are a valid file.
-use Rattle.std.proofs.Common.{◌≡◌, ◌∙◌, ◌++◌, ◌∷◌, [], ◌+◌, ◌-◌, ◌*◌, ◌≤◌, ℕ, zero, suc, List, length, take, drop, refl, sym, ap, subst, arith, lit≤, true}
+use Rattle.std.proofs.Common.{◌≡◌, ◌∙◌, ◌++◌, ◌∷◌, [], ◌+◌, ◌-◌, ◌*◌, ◌≤◌, ℕ, zero, suc, List, length, take, drop, refl, sym, ap, arith, lit≤, true}
 use Rattle.std.specs.Prelude.{All}
 use Rattle.std.specs.List.{concat}
 use Rattle.std.proofs.lemmas.List.{length-drop, length-take-le, take-append-drop}
 use Rattle.std.proofs.lemmas.List.Elements.{All-cons, All-nil}
-use Rattle.cms_names.specs.declared.name.Format.{Format}
 use Rattle.cms_names.specs.declared.name.Format.TheVariants.{F, V}
 use Rattle.cms_fields.specs.Stamps.{is_stamp}
 use Rattle.cms_model.specs.Lists.{cut}
-use Rattle.cms_model.specs.Records.{Fits, IsValid, StandsFor, length_of, longest, stored}
+use Rattle.cms_model.specs.Records.{Fits, IsValid, longest}
 use Rattle.cms_model.specs.declared.file.FileData.{FileData}
 
 less : (n size k : ℕ) → k ≡ suc n * size → k - size ≡ n * size

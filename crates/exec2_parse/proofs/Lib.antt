@@ -1,6 +1,5 @@
 pub mod Cards
 pub mod Finite
-pub mod Keywords
 pub mod Procedures
 pub mod Reading
 pub mod Splits

@@ -6,7 +6,7 @@ use Rattle.std.proofs.lemmas.Grind.{common_steps}
 use Rattle.std.proofs.lemmas.List.{append-nil, length-map}
 use Rattle.cms_model.specs.Records.{StandsFor}
 use Rattle.cms_model.specs.declared.file.FileData.{FileData}
-use Rattle.exec2_parse.specs.Texts.{Text, without_trailing_blanks}
+use Rattle.cms_text.specs.Texts.{Text, without_trailing_blanks}
 use Rattle.exec2_parse.specs.Records.{records_in}
 use Rattle.exec2_parse.specs.Procedures.{begins_with_trace, lines_of, number_of_long_line, procedure_of}
 use Rattle.exec2_parse.specs.declared.procedure.ProcFault.TheVariants.{LineTooLong, NotExec2, TooManyLines}

@@ -1,10 +1,10 @@
 -- A word cut at its last ampersand, and the steps of an expansion.
 use Rattle.std.proofs.Common.{◌≡◌, ◌∙◌, ◌++◌, ◌+◌, ◌-◌, ◌<◌, ◌≤◌, [], ◌∷◌, ℕ, suc, length, take, drop, get_or, refl, sym, ap, subst, arith, Bool, true, false, cond}
-use Rattle.std.specs.Prelude.{not, nat_lt, Result, Ok, Err}
+use Rattle.std.specs.Prelude.{not, nat_lt, Ok, Err}
 use Rattle.std.specs.List.{suffix_len}
 use Rattle.std.proofs.lemmas.List.{append_assoc, drop_at, get_or-append-add, get_or-take, get_or_at, length-append, length-drop, length-take-le, take_all, take_at, take-take}
 use Rattle.std.proofs.lemmas.List.Sums.{count_by_more_yes, suffix_len_is, sum_by-append, sum_by-take-le}
-use Rattle.exec2_parse.specs.Texts.{Text}
+use Rattle.cms_text.specs.Texts.{Text}
 use Rattle.exec2_parse.specs.Variables.{Values, value_of}
 use Rattle.exec2_parse.specs.Expansion.{ReplacesFromTheRight, SplitsAtLast, ampersands, expanded, expanded_before, expanded_with, is_ampersand}
 use Rattle.exec2_parse.specs.declared.expansion.ExpandFault.TheVariants.{TooLong}

@@ -1,7 +1,7 @@
 -- The expansion of a word, from the right. A value isn't scanned again.
 use Rattle.std.specs.Prelude.{◌≡◌, ◌+◌, ℕ, zero, suc, ◌==◌, Bool, [], ◌∷◌, ◌++◌, length, nat_lt, if◌then◌else◌, Result, Ok, Err, count_by}
 use Rattle.std.specs.List.{before_last, after_last}
-use Rattle.exec2_parse.specs.Texts.{Text}
+use Rattle.cms_text.specs.Texts.{Text}
 use Rattle.exec2_parse.specs.Variables.{Values, value_of}
 use Rattle.exec2_parse.specs.declared.expansion.ExpandFault.{ExpandFault}
 use Rattle.exec2_parse.specs.declared.expansion.ExpandFault.TheVariants.{TooLong}

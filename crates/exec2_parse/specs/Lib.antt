@@ -1,5 +1,4 @@
 pub mod Expansion
 pub mod Procedures
 pub mod Records
-pub mod Texts
 pub mod Variables

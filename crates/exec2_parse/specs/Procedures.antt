@@ -2,7 +2,7 @@
 use Rattle.std.specs.Prelude.{ℕ, ◌+◌, ◌==◌, nat_le, nat_lt, Bool, false, not, ◌||◌, List, map, length, slice_index, codes, Option, Some, None, Result, Ok, Err, find, option_map, position}
 use Rattle.std.specs.Option.{option_map_or}
 use Rattle.cms_fields.specs.Steps.{◌>>◌, want}
-use Rattle.exec2_parse.specs.Texts.{Text, first_word, is_keyword, without_trailing_blanks}
+use Rattle.cms_text.specs.Texts.{Text, first_word, is_keyword, without_trailing_blanks}
 use Rattle.exec2_parse.specs.declared.procedure.ProcFault.{ProcFault}
 use Rattle.exec2_parse.specs.declared.procedure.ProcFault.TheVariants.{NotExec2, LineTooLong, TooManyLines}
 

@@ -3,7 +3,7 @@ use Rattle.std.specs.Prelude.{ℕ, List, [], unwrap_or, map, Vec}
 use Rattle.std.specs.Ordering.{nat_cmp}
 use Rattle.std.specs.Cmp.Lexicographic.{slice_cmp}
 use Rattle.std.specs.FinMap.{FinMap, get}
-use Rattle.exec2_parse.specs.Texts.{Text}
+use Rattle.cms_text.specs.Texts.{Text}
 
 -- a finite map from names, which are written here without their ampersand, to values
 abbrev pub Values : Type 0

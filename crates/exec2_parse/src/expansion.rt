@@ -4,7 +4,7 @@ ghost use Rattle.exec2_parse.specs.Expansion.{KeepsPlainWords, ReplacesFromTheRi
 ghost use Rattle.exec2_parse.specs.Variables as variables;
 
 use crate::Vars;
-use cms_line::Word;
+use cms_text::Word;
 use std::alloc::{AllocError, Global};
 use thiserror::Error;
 

@@ -6,9 +6,8 @@ ghost use Rattle.exec2_parse.specs.Procedures as spec;
 ghost use Rattle.exec2_parse.specs.Records.{records_in};
 
 use crate::records::Records;
-use crate::text::{first_word, is_keyword, without_trailing_blanks};
-use cms_line::{Line, Lines};
 use cms_model::FileData;
+use cms_text::{Line, Lines, first_word, is_keyword, without_trailing_blanks};
 use std::alloc::{AllocError, Global};
 use std::marker::Model;
 use thiserror::Error;

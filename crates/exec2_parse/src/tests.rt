@@ -2,22 +2,15 @@
 ghost use Rattle.std.specs.Prelude.{◌≤◌, length, IfOk};
 ghost use Rattle.cms_model.specs.Records.{IsValid};
 
-use crate::{
-    ExpandFault, ProcFault, Vars, expand, first_word, is_keyword, read_procedure,
-    without_trailing_blanks,
-};
-use cms_ebcdic::{from_host, to_host};
+use crate::{ExpandFault, ProcFault, Vars, expand, read_procedure};
+use cms_ebcdic::to_host;
 use cms_fields::Stamp;
-use cms_line::Word;
 use cms_model::{FileData, Stored};
 use cms_names::Format;
+use cms_text::{Word, ebcdic, first_word, is_keyword, without_trailing_blanks};
 use std::alloc::{AllocError, Global};
 use std::process::Abort;
 use std::test::Fail;
-
-fn ebcdic(alloc: Global, text: &str) -> Result<Vec<u8>, AllocError> {
-    text.bytes().filter_map(from_host).collect(alloc)
-}
 
 fn word(rt: &impl Abort, alloc: Global, text: &str) -> Result<Word, AllocError> {
     let bytes = ebcdic(alloc, text)?;

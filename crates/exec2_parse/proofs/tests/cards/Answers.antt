@@ -1,4 +1,4 @@
-use Rattle.std.proofs.Common.{◌≡◌, ◌∙◌, ◌*◌, ◌≤◌, length, refl, rules, arith, lit≤, true}
+use Rattle.std.proofs.Common.{refl, rules, lit≤}
 use Rattle.cms_fields.specs.Stamps.{days_of_month, is_stamp}
 use Rattle.exec2_parse.proofs.Cards.{cards_are_valid}
 use Rattle.exec2_parse.proofs.tests.cards.Goals as goal

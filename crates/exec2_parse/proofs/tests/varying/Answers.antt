@@ -1,4 +1,4 @@
-use Rattle.std.proofs.Common.{◌≡◌, ◌∙◌, refl, rules}
+use Rattle.std.proofs.Common.{refl, rules}
 use Rattle.cms_fields.specs.Stamps.{days_of_month, is_stamp}
 use Rattle.exec2_parse.proofs.Cards.{two_are_valid}
 use Rattle.exec2_parse.proofs.tests.varying.Goals as goal

@@ -1,0 +1,18 @@
+//! Small texts in EBCDIC code page 037, lists of them, their blanks and words, and decimal numbers.
+#![tactic(auto)]
+
+mod list;
+mod numbers;
+mod text;
+mod words;
+
+pub use list::Series;
+pub use numbers::{decimal, number, written};
+pub use text::{Line, Word};
+pub use words::{BLANK, ebcdic, first_word, is_keyword, without_trailing_blanks};
+
+/// A list of lines.
+pub type Lines = Series<Line>;
+
+/// A list of words.
+pub type WordList = Series<Word>;

@@ -1,0 +1,96 @@
+// Texts in EBCDIC: blanks and words.
+ghost use Rattle.std.specs.Prelude.{◌≡◌, ◌≤◌, ◌∷◌, List, ℕ, false, length, IfOk};
+ghost use Rattle.std.specs.Option.{option_map_or};
+ghost use Rattle.std.specs.List.{position_or_len, prefix_len};
+ghost use Rattle.cms_text.specs.Texts as texts;
+
+use cms_ebcdic::{fold_upper, from_host};
+use std::alloc::{AllocError, Global};
+
+/// The blank of code page 037.
+pub const BLANK: u8 = 0x40;
+
+/// An ASCII text in EBCDIC, without what code page 037 doesn't have.
+#[tactic(auto, unfolding(crate::specs::Texts::ebcdic))]
+pub fn ebcdic(alloc: Global, text: &str) -> Result<Vec<u8>, AllocError>
+    ensures { IfOk result (λ bytes. bytes.items ≡ texts.ebcdic text.now) }
+{
+    text.bytes().filter_map(from_host).collect(alloc)
+}
+
+/// The text without the blanks at its end.
+pub fn without_trailing_blanks(text: &[u8]) -> &[u8]
+    ensures { result.now ≡ texts.without_trailing_blanks text.now }
+{
+    let mut kept = text;
+    while let [front @ .., last] = kept {
+        if *last != BLANK {
+            break;
+        }
+        kept = front;
+    }
+    kept
+}
+
+/// Whether a word is this keyword, which is given in ASCII capitals, in capital or small letters.
+pub fn is_keyword(word: &[u8], name: &str) -> bool
+    ensures { result ≡ texts.is_keyword name.now word.now }
+{
+    let mut left = word;
+    for letter in name.as_bytes() {
+        match strip_letter(left, *letter) {
+            Some(rest) => left = rest,
+            None => return false,
+        }
+    }
+    left.is_empty()
+}
+
+/// The word without the letter at its front, if it begins with that letter. A character that code page 037 doesn't have is none.
+fn strip_letter(word: &[u8], letter: u8) -> Option<&[u8]>
+    ensures { (more : List ℕ) → texts.is_keyword (letter ∷ more) word.now
+        ≡ option_map_or (λ rest. texts.is_keyword more rest.now) result false }
+{
+    let Some(code) = from_host(letter) else {
+        return Some(word);
+    };
+    match word {
+        [first, rest @ ..] if fold_upper(*first) == code => Some(rest),
+        _ => None,
+    }
+}
+
+/// The first word of a text: the bytes up to a blank, behind the blanks that the text begins with.
+/// Empty where the text has blanks alone.
+pub fn first_word(text: &[u8]) -> &[u8]
+    ensures { result.now ≡ texts.first_word text.now }
+{
+    before_blank(without_leading_blanks(text))
+}
+
+fn without_leading_blanks(text: &[u8]) -> &[u8]
+    ensures { result.now ≡ texts.without_leading_blanks text.now }
+{
+    &text[leading_blanks(text)..]
+}
+
+fn before_blank(text: &[u8]) -> &[u8]
+    ensures { result.now ≡ texts.before_blank text.now }
+{
+    &text[..place_of_blank(text)]
+}
+
+fn leading_blanks(text: &[u8]) -> usize
+    ensures count { result ≡ prefix_len texts.is_blank text.now }
+    ensures within { result ≤ length text.now }
+{
+    text.iter().take_while(|byte| **byte == BLANK).count()
+}
+
+/// The place of the first blank, or the text's length where it has none.
+fn place_of_blank(text: &[u8]) -> usize
+    ensures place { result ≡ position_or_len texts.is_blank text.now }
+    ensures within { result ≤ length text.now }
+{
+    text.iter().take_while(|byte| **byte != BLANK).count()
+}

@@ -1,6 +1,0 @@
-use Rattle.std.proofs.Common.{◌∙◌, arith}
-use Rattle.exec2_parse.proofs.Keywords.{ends_here}
-use Rattle.exec2_parse.proofs.text.is_keyword.Goals as goal
-
-pub returns : goal.returns
-returns c = c.is_empty.ensures ∙ ends_here c.args.name.now c.loop-letter.letter-index c.loop-letter.left.now (omega arith) ∙ c.loop-letter.invariant

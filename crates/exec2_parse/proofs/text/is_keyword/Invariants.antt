@@ -1,6 +1,0 @@
-use Rattle.std.proofs.Common.{◌≡◌, drop}
-use Rattle.exec2_parse.specs.Texts as texts
-use Rattle.exec2_parse.proofs.text.is_keyword.Given as goal
-
-abbrev pub invariant-loop-letter : goal.invariant-loop-letter
-invariant-loop-letter l = texts.is_keyword (drop l.letter-index l.name) l.left ≡ texts.is_keyword l.name l.word

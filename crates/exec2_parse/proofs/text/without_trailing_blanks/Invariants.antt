@@ -1,9 +1,0 @@
-use Rattle.std.proofs.Common.{◌≡◌, length}
-use Rattle.exec2_parse.specs.Texts as texts
-use Rattle.exec2_parse.proofs.text.without_trailing_blanks.Given as goal
-
-abbrev pub invariant-loop-kept : goal.invariant-loop-kept
-invariant-loop-kept l = texts.without_trailing_blanks l.kept ≡ texts.without_trailing_blanks l.text
-
-abbrev pub decreases-loop-kept : goal.decreases-loop-kept
-decreases-loop-kept l = length l.kept
