@@ -34,11 +34,12 @@ use Rattle.cms_map.specs.Bits.{free_blocks, bytes_from}
 use Rattle.cms_machine.specs.Slots.{Before, After, Settled, set_of}
 use Rattle.cms_machine.specs.Points.{LeavesIn, Leaves}
 use Rattle.cms_machine.specs.Steps.{Put, Outcome, Good, OldFault, EitherFault, MayPut, after_put, put_syncs, slot_after}
-use Rattle.cms_machine.specs.Beats.{OnlyDisk, Covers}
+use Rattle.cms_machine.specs.Beats.{OnlyDisk, HasStamp, AreStamped, Covers}
 use Rattle.cms_edf.specs.Small.{SmallVolume, small_blocks, records_in, volume_of, StandsIn, IsMinidisk}
 use Rattle.cms_edf.specs.Reading.{roots, small_in}
 use Rattle.cms_edf.specs.Held.{Holds}
-use Rattle.cms_edf.specs.Written.{IsDirectoryOf, directory_bytes, writes_with, system_writes}
+use Rattle.cms_fields.specs.Stamps.{stamp_bytes}
+use Rattle.cms_edf.specs.Written.{IsDirectoryOf, system_bytes, directory_bytes, writes_with, system_writes}
 use Rattle.cms_edf.specs.Erase.{bits_of, bits_without, IsLowest, without, HasNone, Halted, AllOf, Changes, HasState, Erased, CutOff, Erases}
 use Rattle.cms_edf.specs.declared.erase.SmallErase.{SmallErase}
 use Rattle.cms_edf.specs.declared.erase.SmallErase.TheVariants as failed
@@ -401,12 +402,41 @@ of_update : (u : ℕ) (t : SmallVolume) (stamp : Stamp) (p : List Event) → IsF
 unfolding update writes
 of_update u t stamp p front = of_front u p front.rest (subst (AllOf u) (sym front.is) (refl, (refl, (refl, (refl, (refl, tt))))))
 
+stamped_front : (u : ℕ) (stamp : Option Stamp) (p q : List Event) → AreStamped u stamp (p ++ q) → AreStamped u stamp p
+stamped_front u stamp [] q o = tt
+stamped_front u stamp (Wrote v k b ∷ p) q o = (o.0, stamped_front u stamp p q o.1)
+stamped_front u stamp (Synced v ∷ p) q o = stamped_front u stamp p q o
+stamped_front u stamp (Read b ∷ p) q o = stamped_front u stamp p q o
+stamped_front u stamp (Typed b ∷ p) q o = stamped_front u stamp p q o
+stamped_front u stamp (Now t ∷ p) q o = stamped_front u stamp p q o
+stamped_front u stamp (Missed name size access ∷ p) q o = stamped_front u stamp p q o
+
+-- the directory is written with the stamp
+has_stamp : (t : SmallVolume) (stamp : Stamp) → HasStamp (directory_bytes t stamp) stamp
+unfolding directory_bytes system_bytes stamp_bytes
+has_stamp t stamp = record { directory = refl; map = refl }
+
+no_directory : (n : ℕ) → 6 ≤ n → (n ≡ 4) ⊎ (n ≡ 5) → ⊥
+no_directory n low (inl is) = omega (arith, low, is)
+no_directory n low (inr is) = omega (arith, low, is)
+
+label_apart : (◌≡◌ {A = ℕ} 3 4) ⊎ (◌≡◌ {A = ℕ} 3 5) → ⊥
+label_apart (inl is) = omega (arith, is)
+label_apart (inr is) = omega (arith, is)
+
+-- and so is a front of the update
+stamped_update : (u : ℕ) (t : SmallVolume) (stamp : Stamp) (p : List Event) → 6 ≤ t.map_root → IsFront p (update u (system_writes t stamp) t.label_bytes) → AreStamped u (Some stamp) p
+unfolding update writes
+stamped_update u t stamp p low front =
+    stamped_front u (Some stamp) p front.rest
+    (subst (AreStamped u (Some stamp)) (sym front.is) (λ same at. absurd (no_directory t.map_root low at), (λ same at. has_stamp t stamp, (λ same at. absurd (label_apart at), tt))))
+
 -- the events of a change with an outcome
 changes_from : (j : Journal) (s t : SmallVolume) (m : Minidisk) (nth : ℕ) (e : Entry) (stamp : Stamp) → Setting j s t m nth e stamp → (old new : Told) → old ≡ Some j → (events : List Event) (o : Outcome) → new ≡ plus old events
     → IsFront events (update s.unit (system_writes t stamp) t.label_bytes) → syncs events ≡ put_syncs (Drop (slice_index_or s.files nth e).name) (Changed (without_file s m nth e)) o
     → MayPut (Drop (slice_index_or s.files nth e).name) (Changed (without_file s m nth e)) o
     → Covers (Some j) events s.unit (Volume m ∷ []) (set_of (unwrap_or (after_put m (Changed (without_file s m nth e)) o) (Settled (Volume m))))
-    → Changes old new s.unit m (slice_index_or s.files nth e).name o
+    → Changes old new s.unit m (slice_index_or s.files nth e).name stamp o
 changes_from j s t m nth e stamp x old new is events o told front synced may covers =
     let name = (slice_index_or s.files nth e).name in
     let answer = sym (old_answer j s t m nth e stamp x) in
@@ -418,9 +448,10 @@ changes_from j s t m nth e stamp x old new is events o told front synced may cov
       fits = record {
         disk = of_disk s.unit events only;
         synced = subst (λ (a : Answer). syncs events ≡ put_syncs (Drop name) a o) answer synced;
+        stamped = stamped_update s.unit t stamp events (places j s t m nth e stamp x).low front;
         outcome = subst (λ (a : Answer). MayPut (Drop name) a o) answer may;
       };
-      covers = subst (λ (k : Told). Covers k events s.unit (Volume m ∷ []) (set_of (slot_after (Settled (Volume m)) (Put s.unit m (Drop name)) o))) (sym is)
+      covers = subst (λ (k : Told). Covers k events s.unit (Volume m ∷ []) (set_of (slot_after (Settled (Volume m)) (Put s.unit m (Drop name) stamp) o))) (sym is)
           (subst (λ (a : Answer). Covers (Some j) events s.unit (Volume m ∷ []) (set_of (unwrap_or (after_put m a o) (Settled (Volume m))))) answer covers);
     }
 
@@ -479,7 +510,7 @@ told_after j old new events is told = told ∙ ap (λ (k : Told). plus k events)
 
 -- all was done
 pub erased_well : (j : Journal) (s t : SmallVolume) (m : Minidisk) (nth : ℕ) (e : Entry) (stamp : Stamp) → Setting j s t m nth e stamp → (old new : Told) → old ≡ Some j → new ≡ plus old (update s.unit (system_writes t stamp) t.label_bytes)
-    → Erased old new t m (slice_index_or s.files nth e).name
+    → Erased old new t m (slice_index_or s.files nth e).name stamp
 erased_well j s t m nth e stamp x old new is told =
     let f = fields s t nth e x.volume in
     let later = u_of j s t stamp in
@@ -500,7 +531,7 @@ erased_well j s t m nth e stamp x old new is told =
             (subst (λ (d : Disk). IsSettled d later s.unit (volume_of t (now later s.unit))) (sym f.disk) l.whole);
         minidisk = subst (λ (u : ℕ). without_file s m nth e ≡ minidisk_of t.disk (volume_of t (now later u))) (sym f.unit) (new_minidisk j s t m nth e stamp x);
       };
-      changes = subst (λ (u : ℕ). Changes old new u m name Good) (sym f.unit)
+      changes = subst (λ (u : ℕ). Changes old new u m name stamp Good) (sym f.unit)
           (changes_from j s t m nth e stamp x old new is (update s.unit (system_writes t stamp) t.label_bytes) Good told (all_front s.unit t stamp) (two s.unit) tt covers);
     }
   where
@@ -517,7 +548,7 @@ erased_well j s t m nth e stamp x old new is told =
 
 -- the update was cut off
 pub cut_off : (j : Journal) (s t : SmallVolume) (m : Minidisk) (nth : ℕ) (e : Entry) (stamp : Stamp) → Setting j s t m nth e stamp → (old new : Told) → old ≡ Some j → Halted old new s.unit (system_writes t stamp) t.label_bytes
-    → CutOff old new s m (slice_index_or s.files nth e).name
+    → CutOff old new s m (slice_index_or s.files nth e).name stamp
 cut_off j s t m nth e stamp x old new is h = ⊎_elim
     (λ in_writes.
     let front = writes_front s.unit t stamp h.events in_writes in
@@ -581,13 +612,13 @@ full_for j s m nth e is h within none =
     full_answer m (slice_index_or s.files nth e).name (shrinks_from j s m nth e is h within) (free_blocks_of j s m is h ∙ ap (λ (l : List ℕ). length l) none)
 
 -- nothing was begun
-pub none_begun : (j : Journal) (s : SmallVolume) (m : Minidisk) (nth : ℕ) (e : Entry) (told : Told) (r : Result (Unit {0}) SmallErase) (err : SmallErase) → IsMinidisk j s m → Holds s → nth < length s.files → r ≡ Err err → HasNone (bits_of s) err
-    → Erases told told s s m (slice_index_or s.files nth e).name r
-none_begun j s m nth e told r (failed.Full need free) is h within err none =
+pub none_begun : (j : Journal) (s : SmallVolume) (m : Minidisk) (nth : ℕ) (e : Entry) (stamp : Stamp) (told : Told) (r : Result (Unit {0}) SmallErase) (err : SmallErase) → IsMinidisk j s m → Holds s → nth < length s.files → r ≡ Err err → HasNone (bits_of s) err
+    → Erases told told s s m (slice_index_or s.files nth e).name stamp r
+none_begun j s m nth e stamp told r (failed.Full need free) is h within err none =
     let one = none.0 in let zero' = none.1 in
     rw (err, one, zero') (full_for j s m nth e is h within none.2)
-none_begun j s m nth e told r failed.Device is h within err none = absurd none
-none_begun j s m nth e told r failed.Memory is h within err none = rw err tt
+none_begun j s m nth e stamp told r failed.Device is h within err none = absurd none
+none_begun j s m nth e stamp told r failed.Memory is h within err none = rw err tt
 
 -- the new volume is on the same unit
 pub same_place : (s t : SmallVolume) (nth : ℕ) → nth < length s.files → ((e : Entry) → t ≡ without s nth t.map_root e) → (t.unit ≡ s.unit) × (t.disk ≡ s.disk)

@@ -97,14 +97,14 @@ AllOf u (Wrote v k bytes ∷ es) = (v ≡ u) × AllOf u es
 AllOf u (Synced v ∷ es) = (v ≡ u) × AllOf u es
 AllOf u (e ∷ es) = ⊥
 
--- the piece of the journal that a drop of a unit's minidisk made, with its outcome: it has the events of its unit and the syncs
--- that the outcome has, a crash within it leaves the minidisk before or after, and a crash behind it what the unit then is
-pub record Changes (old new : Told) (u : ℕ) (m : Minidisk) (name : Name) (o : Outcome) : Type 0 where
+-- the piece of the journal that a drop of a unit's minidisk made, with its stamp and its outcome: it has the events of its unit and
+-- the syncs that the outcome has, a crash within it leaves the minidisk before or after, and a crash behind it what the unit then is
+pub record Changes (old new : Told) (u : ℕ) (m : Minidisk) (name : Name) (stamp : Stamp) (o : Outcome) : Type 0 where
   pub events : List Event
   pub told : new ≡ plus old events
   pub of_unit : AllOf u events
-  pub fits : FitsStep (Put u m (Drop name)) o events
-  pub covers : Covers old events u (Volume m ∷ []) (set_of (slot_after (Settled (Volume m)) (Put u m (Drop name)) o))
+  pub fits : FitsStep (Put u m (Drop name) stamp) o events
+  pub covers : Covers old events u (Volume m ∷ []) (set_of (slot_after (Settled (Volume m)) (Put u m (Drop name) stamp) o))
 
 -- the contents of a unit have this state
 abbrev pub HasState : Told → Disk → ℕ → State → Type 0
@@ -120,25 +120,26 @@ IsLeft new disk u before after (ReadFault j) = ⊥
 IsLeft new disk u before after SyncFault = ⊥
 
 -- the minidisk without a file of this name, which the small volume t now is
-pub record Erased (old new : Told) (t : SmallVolume) (m : Minidisk) (name : Name) : Type 0 where
+pub record Erased (old new : Told) (t : SmallVolume) (m : Minidisk) (name : Name) (stamp : Stamp) : Type 0 where
   pub after : Minidisk
   pub answer : answer_of m (Drop name) ≡ Changed after
   pub later : Journal
   pub told : new ≡ Some later
   pub minidisk : IsMinidisk later t after
-  pub changes : Changes old new t.unit m name Good
+  pub changes : Changes old new t.unit m name stamp Good
 
 -- the device failed before the minidisk without that file was sure to stay
-pub record CutOff (old new : Told) (s : SmallVolume) (m : Minidisk) (name : Name) : Type 0 where
+pub record CutOff (old new : Told) (s : SmallVolume) (m : Minidisk) (name : Name) (stamp : Stamp) : Type 0 where
   pub after : Minidisk
   pub answer : answer_of m (Drop name) ≡ Changed after
   pub outcome : Outcome
   pub left : IsLeft new s.disk s.unit (Volume m) (Volume after) outcome
-  pub changes : Changes old new s.unit m name outcome
+  pub changes : Changes old new s.unit m name stamp outcome
 
--- what an erasure of a file of this name from the small volume s, which is the minidisk m, comes to; t is the volume then
-abbrev pub Erases : Told → Told → SmallVolume → SmallVolume → Minidisk → Name → Result ⊤ SmallErase → Type 0
-Erases old new s t m name (Ok x) = Erased old new t m name
-Erases old new s t m name (Err (failed.Full need free)) = answer_of m (Drop name) ≡ model.Full need free
-Erases old new s t m name (Err failed.Device) = CutOff old new s m name
-Erases old new s t m name (Err failed.Memory) = ⊤
+-- what an erasure of a file of this name, with this stamp, from the small volume s, which is the minidisk m, comes to; t is the
+-- volume then
+abbrev pub Erases : Told → Told → SmallVolume → SmallVolume → Minidisk → Name → Stamp → Result ⊤ SmallErase → Type 0
+Erases old new s t m name stamp (Ok x) = Erased old new t m name stamp
+Erases old new s t m name stamp (Err (failed.Full need free)) = answer_of m (Drop name) ≡ model.Full need free
+Erases old new s t m name stamp (Err failed.Device) = CutOff old new s m name stamp
+Erases old new s t m name stamp (Err failed.Memory) = ⊤

@@ -173,7 +173,7 @@ impl Small {
         requires blocks { ForSome (W.told world.old) (λ j. HasBlocks j.units self.old.unit self.old.disk.count self.old.disk.bsize) }
         requires writable { ForSome (W.told world.old) (λ j. IsWritable j.units self.old.unit) }
         ensures updated { OnOk result (Updated (W.told world.old) (W.told world.new) self.old self.new nth stamp.now) }
-        ensures erases { (j : Journal) (m : Minidisk) (e : Entry) → W.told world.old ≡ Some j → IsMinidisk j self.old m → Erases (W.told world.old) (W.told world.new) self.old self.new m (slice_index_or self.old.files nth e).name result }
+        ensures erases { (j : Journal) (m : Minidisk) (e : Entry) → W.told world.old ≡ Some j → IsMinidisk j self.old m → Erases (W.told world.old) (W.told world.new) self.old self.new m (slice_index_or self.old.files nth e).name stamp.now result }
         ensures nothing { IfErr result (Keeps (W.told world.old) (W.told world.new) self.old) }
         ensures kept { OnErr result (self.new ≡ self.old) }
         ensures grown { Grown (W.told world.old) (W.told world.new) }

@@ -1,13 +1,16 @@
 -- Events that leave a unit alone.
-use Rattle.std.proofs.Common.{◌≡◌, ◌≢◌, inl, ℕ, List, [], ◌∷◌, ◌++◌, Some, None, sym, ◌∙◌, subst}
+use Rattle.std.proofs.Common.{◌≡◌, ◌≢◌, inl, ℕ, List, [], ◌∷◌, ◌++◌, Some, None, sym, ap, ◌∙◌, subst}
 use Rattle.cms_journal.specs.declared.event.Event.{Event}
 use Rattle.cms_journal.specs.declared.event.Event.TheVariants.{Read, Now, Typed, Wrote, Synced, Missed}
 use Rattle.cms_journal.specs.Journal.{IsAside, IsUntouched, adds}
 use Rattle.cms_journal.specs.Told.{Told, plus, NoDisk}
 use Rattle.cms_journal.proofs.Crashes.{changes_nothing}
 use Rattle.cms_model.specs.Minidisks.{State}
+use Rattle.cms_model.specs.Trees.{image_of}
+use Rattle.cms_model.specs.Volumes.{disk_of, state_of}
+use Rattle.cms_journal.specs.Journal.{start_of}
 use Rattle.cms_machine.specs.Slots.{unit_set, IsAmong}
-use Rattle.cms_machine.specs.Points.{Leaves, Point, Sound}
+use Rattle.cms_machine.specs.Points.{Leaves, HasNow, Point, with_events, Sound}
 use Rattle.cms_machine.specs.Beats.{OnlyTyped, OnlyRead, OnlyDisk, Covers}
 
 pub aside_front : (p q : List Event) (u : ℕ) → IsUntouched (p ++ q) u → IsUntouched p u
@@ -99,6 +102,26 @@ leaves_one (Some j) e u x aside l = record {
 pub leaves_aside : (t : Told) (es : List Event) (u : ℕ) (x : State) → IsUntouched es u → Leaves (plus t es) u x → Leaves t u x
 leaves_aside t [] u x aside l = l
 leaves_aside t (e ∷ es) u x aside l = leaves_one t e u x aside.0 (leaves_aside (adds e t) es u x aside.1 l)
+
+now_one : (t : Told) (e : Event) (u : ℕ) (x : State) → IsAside e u → HasNow (adds e t) u x → HasNow t u x
+now_one None e u x aside h = h
+now_one (Some j) e u x aside h = record {
+  unit = h.unit;
+  attached = h.attached;
+  state = ap (λ (blocks : List (List ℕ)). state_of (disk_of h.unit) (image_of blocks)) (sym (changes_nothing e j.events u (start_of j.units u) aside).contents_same) ∙ h.state;
+}
+
+-- the state of its contents is what it was before them
+pub now_aside : (t : Told) (es : List Event) (u : ℕ) (x : State) → IsUntouched es u → HasNow (plus t es) u x → HasNow t u x
+now_aside t [] u x aside h = h
+now_aside t (e ∷ es) u x aside h = now_one t e u x aside.0 (now_aside (adds e t) es u x aside.1 h)
+
+-- and so is all that is known of the units, where they leave each unit alone
+pub sound_aside : (p : Point) (es : List Event) → ((u : ℕ) → IsUntouched es u) → Sound p → Sound (with_events p es)
+sound_aside p es aside sound = record {
+  each = λ u x leaves. sound.each u x (leaves_aside p.journal es u x (aside u) leaves);
+  now = λ u x has. sound.now u x (now_aside p.journal es u x (aside u) has);
+}
 
 -- a piece of such events is covered, where the unit keeps its set
 pub covers_aside : (p : Point) (es : List Event) (u : ℕ) (after : List State) → IsUntouched es u → after ≡ unit_set p.units u → Sound p → Covers p.journal es u (unit_set p.units u) after

@@ -1,6 +1,7 @@
 -- Worked rows of the definitions.
 use Rattle.std.proofs.Common.{◌≡◌, inl, inr, ℕ, ℤ, true, false, List, [], ◌∷◌, refl, arith, ⊎_elim}
 use Rattle.cms_ebcdic.specs.CodePage as page
+use Rattle.cms_fields.specs.declared.time.Stamp.{Stamp}
 use Rattle.cms_model.specs.Minidisks.{File, Minidisk, State, Volume, Not}
 use Rattle.cms_model.specs.Changes.{Put, Relabel, Full, Changed, empty_minidisk}
 use Rattle.cms_machine.specs.Slots.{Before, After, Slot, Settled, Doubt}
@@ -75,8 +76,8 @@ access_read = refl
 access_sync : sync_count (Access 0 doubt) SyncFault ≡ 0
 access_sync = refl
 
-get_fault : sync_count (Get 0) (ReadFault 3) ≡ 0
-get_fault = refl
+get_fault : (file : File) → sync_count (Get 0 file 5) (ReadFault 3) ≡ 0
+get_fault file = refl
 
 wipe_good : sync_count (Wipe 0 (Not 9)) Good ≡ 1
 wipe_good = refl
@@ -84,14 +85,14 @@ wipe_good = refl
 wipe_either : sync_count (Wipe 0 (Not 9)) (EitherFault Before) ≡ 0
 wipe_either = refl
 
-make_good : sync_count (Make 0 (Not 2) disk) Good ≡ 2
-make_good = refl
+make_good : (stamp : Stamp) → sync_count (Make 0 (Not 2) disk stamp) Good ≡ 2
+make_good stamp = refl
 
-make_old : sync_count (Make 0 (Not 2) disk) OldFault ≡ 0
-make_old = refl
+make_old : (stamp : Stamp) → sync_count (Make 0 (Not 2) disk stamp) OldFault ≡ 0
+make_old stamp = refl
 
-make_either : sync_count (Make 0 (Not 2) disk) (EitherFault After) ≡ 1
-make_either = refl
+make_either : (stamp : Stamp) → sync_count (Make 0 (Not 2) disk stamp) (EitherFault After) ≡ 1
+make_either stamp = refl
 
 relabel_good : put_syncs (Relabel (87 ∷ [])) (Changed disk) Good ≡ 1
 relabel_good = refl
@@ -122,11 +123,11 @@ doubt_stays = refl
 wiped : added (Wipe 1 (Not 9)) Good ≡ States 1 (Not 2 ∷ []) ∷ []
 wiped = refl
 
-in_doubt : added (Make 1 (Not 2) disk) (EitherFault Before) ≡ States 1 (Not 2 ∷ Volume disk ∷ []) ∷ []
-in_doubt = refl
+in_doubt : (stamp : Stamp) → added (Make 1 (Not 2) disk stamp) (EitherFault Before) ≡ States 1 (Not 2 ∷ Volume disk ∷ []) ∷ []
+in_doubt stamp = refl
 
-as_before : added (Make 1 (Not 2) disk) OldFault ≡ []
-as_before = refl
+as_before : (stamp : Stamp) → added (Make 1 (Not 2) disk stamp) OldFault ≡ []
+as_before stamp = refl
 
 -- ---- trees
 

@@ -1,11 +1,11 @@
 -- Runs that are joined.
-use Rattle.std.proofs.Common.{◌≡◌, inl, ◌≤◌, List, [], ◌∷◌, ◌++◌, refl, ap, sym, ◌∙◌, subst, arith}
+use Rattle.std.proofs.Common.{◌≡◌, ◌≤◌, List, [], ◌∷◌, ◌++◌, refl, ap, sym, subst, arith}
 use Rattle.cms_journal.specs.declared.event.Event.{Event}
 use Rattle.cms_journal.specs.declared.event.Event.TheVariants.{Read}
-use Rattle.cms_journal.specs.Told.{Told, plus}
+use Rattle.cms_journal.specs.Told.{plus}
 use Rattle.cms_machine.specs.Steps.{Step}
 use Rattle.cms_machine.specs.Acts.{Act, Done, Out, Take, Turn, Does, bind}
-use Rattle.cms_machine.specs.Points.{Leaves, Point}
+use Rattle.cms_machine.specs.Points.{Point, with_events, Sound}
 use Rattle.cms_machine.specs.Beats.{Deed, Said, Turned, Took, Did, Beat, Beats, Chain, Next, Leads}
 use Rattle.cms_machine.specs.Runs.{Ran, Begun, Part, Broke}
 use Rattle.cms_machine.proofs.Lists.{empty_front, no_element}
@@ -71,7 +71,7 @@ begun_none : (p : Point) (s : Step) → Begun p s []
 begun_none p s = record {
   disk = tt;
   synced = omega arith;
-  inside = λ sound u front rest eq x leaves. inl (sound.each u x (subst (λ (j : Told). Leaves j u x) (ap (plus p.journal) (empty_front front rest eq) ∙ plus-nil p.journal) leaves));
+  kept = λ sound front rest eq. subst (λ (es : List Event). Sound (with_events p es)) (sym (empty_front front rest eq)) sound;
 }
 
 pub part_none : {R : Type 0} (p : Point) (t : Act R) → Part p t []
@@ -89,18 +89,18 @@ part_bind p (Turn k) f es h = h
 part_bind p (Does s k) f es h = h
 
 pub broke_then : {R : Type 0} {p m q : Point} {t u : Act R} → Ran p m t u → Broke m q u → Broke p q t
-broke_then a b = record { mid = b.mid; rest = b.rest; ran = ran_then a b.ran; loose = b.loose; part = b.part; journal = b.journal; faults = b.faults }
+broke_then a b = record { mid = b.mid; rest = b.rest; ran = ran_then a b.ran; loose = b.loose; part = b.part; journal = b.journal; faults = b.faults; units = b.units }
 
 pub broke_bind : {A B : Type 0} {p q : Point} {t : Act A} (f : A → Act B) → Broke p q t → Broke p q (bind t f)
-broke_bind f b = record { mid = b.mid; rest = bind b.rest f; ran = ran_bind f b.ran; loose = b.loose; part = part_bind b.mid b.rest f b.loose b.part; journal = b.journal; faults = b.faults }
+broke_bind f b = record { mid = b.mid; rest = bind b.rest f; ran = ran_bind f b.ran; loose = b.loose; part = part_bind b.mid b.rest f b.loose b.part; journal = b.journal; faults = b.faults; units = b.units }
 
 -- cut off at once, with these events
-pub broke_now : {R : Type 0} {p q : Point} {t : Act R} (es : List Event) → Part p t es → q.journal ≡ plus p.journal es → p.faults ≤ q.faults → Broke p q t
-broke_now {p = p} {t = t} es part journal faults = record { mid = p; rest = t; ran = ran_none p t; loose = es; part = part; journal = journal; faults = faults }
+pub broke_now : {R : Type 0} {p q : Point} {t : Act R} (es : List Event) → Part p t es → q.journal ≡ plus p.journal es → p.faults ≤ q.faults → q.units ≡ p.units → Broke p q t
+broke_now {p = p} {t = t} es part journal faults units = record { mid = p; rest = t; ran = ran_none p t; loose = es; part = part; journal = journal; faults = faults; units = units }
 
 -- a run that stops where it is
 pub broke_here : {R : Type 0} {p q : Point} {t u : Act R} → Ran p q t u → Broke p q t
-broke_here {p = p} {q = q} {t = t} {u = u} a = record { mid = q; rest = u; ran = a; loose = []; part = part_none q u; journal = sym (plus-nil q.journal); faults = omega arith }
+broke_here {p = p} {q = q} {t = t} {u = u} a = record { mid = q; rest = u; ran = a; loose = []; part = part_none q u; journal = sym (plus-nil q.journal); faults = omega arith; units = refl }
 
 -- ---- a call within a tree, after a run up to it
 

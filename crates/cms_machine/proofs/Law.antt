@@ -88,9 +88,9 @@ past_beat (Did s o) es fits tr t n u set x w =
     let zn : 0 + n ≡ n = omega arith in
     rw (a, b, zt, zn) (past_states (unit_of s) (new_slot s o) tr t n u set x w)
 
--- after a beat a crash still leaves each unit in a state of its set
+-- after a beat what is known of the units holds again
 pub sound_beat : (p m : Point) (b : Beat) → Beats p b m → Sound p → Sound m
-sound_beat p m b beat sound = record { each = λ u x leaves. (beat.covered sound u).whole x (subst (λ (j : Told). Leaves j u x) beat.journal leaves) }
+sound_beat p m b beat sound = record { each = λ u x leaves. (beat.covered sound u).whole x (subst (λ (j : Told). Leaves j u x) beat.journal leaves); now = beat.now sound }
 
 -- and after any number of beats
 pub chain_sound : (p q : Point) (bs : List Beat) → Chain p bs q → Sound p → Sound q

@@ -1,22 +1,22 @@
 -- A single deed as a run of its tree, and one that was cut off.
-use Rattle.std.proofs.Common.{◌≡◌, ◌≢◌, ◌⊎◌, inl, inr, ℕ, ℤ, ◌≤◌, List, [], ◌∷◌, ◌++◌, Option, Some, None, refl, ap, sym, ◌∙◌, subst, arith, slice_get, ⊎_elim}
+use Rattle.std.proofs.Common.{◌≡◌, ◌≢◌, inl, inr, ℕ, ℤ, ◌≤◌, List, [], ◌∷◌, ◌++◌, Option, Some, None, refl, ap, sym, ◌∙◌, subst, arith, slice_get}
+use Rattle.std.specs.Prelude.{option_map}
 use Rattle.std.proofs.lemmas.Bool.Decides.{eqb_tells}
 use Rattle.cms_journal.specs.declared.event.Event.{Event}
 use Rattle.cms_journal.specs.declared.event.Event.TheVariants.{Now}
 use Rattle.cms_journal.specs.Journal.{IsUntouched}
 use Rattle.cms_journal.specs.Causes.{Counted}
-use Rattle.cms_journal.specs.Told.{plus, typed, syncs}
+use Rattle.cms_journal.specs.Told.{Told, plus, typed, syncs}
 use Rattle.cms_model.specs.Minidisks.{State}
-use Rattle.cms_machine.specs.Slots.{Slot, unit_set, IsAmong}
+use Rattle.cms_machine.specs.Slots.{Slot, state_in, unit_set, unit_state, IsAmong}
 use Rattle.cms_machine.specs.Steps.{Step, Outcome, Good, unit_of, new_slot, put_slot, units_after, IsOutcome, IsOf, sync_count, faults_in}
 use Rattle.cms_machine.specs.Items.{Item, Lazy, Takes}
 use Rattle.cms_machine.specs.Acts.{Act, Out, Take, Turn, Does}
-use Rattle.cms_machine.specs.Traces.{added, last_set}
-use Rattle.cms_machine.specs.Points.{Leaves, Point, Sound}
+use Rattle.cms_machine.specs.Points.{Leaves, HasNow, Point, with_events, Sound}
 use Rattle.cms_machine.specs.Beats.{Said, Turned, Took, Did, OnlyTyped, OnlyRead, FitsStep, KeepsConsole, Covers, Beats}
 use Rattle.cms_machine.specs.Runs.{Ran, Begun, Broke}
-use Rattle.cms_machine.proofs.Units.{get_other, sets_by}
-use Rattle.cms_machine.proofs.Aside.{typed_aside, read_aside, OnlyOf, of_disk, of_front, of_aside, leaves_aside, covers_aside}
+use Rattle.cms_machine.proofs.Units.{get_other}
+use Rattle.cms_machine.proofs.Aside.{typed_aside, read_aside, OnlyOf, of_disk, of_front, of_aside, leaves_aside, now_aside, covers_aside}
 use Rattle.cms_machine.proofs.Join.{ran_one, broke_now, part_none}
 
 -- ---- deeds that know of no unit
@@ -26,6 +26,12 @@ not_counted before now later = record { later = later; rose = inl (omega (arith,
 
 same_sets : (p m : Point) (u : ℕ) → m.units ≡ p.units → unit_set m.units u ≡ unit_set p.units u
 same_sets p m u same = ap (λ (units : List Slot). unit_set units u) same
+
+-- the contents of each unit are as before
+now_kept : (p m : Point) (es : List Event) → m.journal ≡ plus p.journal es → m.units ≡ p.units → ((u : ℕ) → IsUntouched es u) → Sound p → (u : ℕ) (x : State) → HasNow m.journal u x → unit_state m.units u ≡ Some x
+now_kept p m es journal units aside sound u x has =
+    let before : HasNow p.journal u x = now_aside p.journal es u x (aside u) (subst (λ (t : Told). HasNow t u x) journal has) in
+    ap (λ (z : List Slot). unit_state z u) units ∙ sound.now u x before
 
 -- bytes were typed
 pub ran_out : {R : Type 0} (p m : Point) (b : List ℕ) (t : Act R) (es : List Event) → m.journal ≡ plus p.journal es → OnlyTyped es → typed es ≡ b → p.faults ≤ m.faults → m.units ≡ p.units → KeepsConsole p m → Ran p m (Out b t) t
@@ -40,6 +46,7 @@ ran_out p m b t es journal only is later units console = ran_one p m (Out b t) t
       speaks = tt;
       units = units;
       covered = λ sound u. covers_aside p es u (unit_set m.units u) (typed_aside es u only) (same_sets p m u units) sound;
+      now = now_kept p m es journal units (λ u. typed_aside es u only);
     }
 
 -- a turn was spent
@@ -55,6 +62,7 @@ ran_turn p m seconds k journal later units console = ran_one p m (Turn k) (k sec
       speaks = tt;
       units = units;
       covered = λ sound u. covers_aside p (Now seconds ∷ []) u (unit_set m.units u) (tt, tt) (same_sets p m u units) sound;
+      now = now_kept p m (Now seconds ∷ []) journal units (λ u. (tt, tt));
     }
 
 -- an item was taken, or the script's end was found
@@ -70,26 +78,31 @@ ran_take p m i k es journal only later units takes = ran_one p m (Take k) (k i) 
       speaks = tt;
       units = units;
       covered = λ sound u. covers_aside p es u (unit_set m.units u) (read_aside es u only) (same_sets p m u units) sound;
+      now = now_kept p m es journal units (λ u. read_aside es u only);
     }
 
 -- only a part of the bytes was typed
-pub broke_out : {R : Type 0} (p q : Point) (b : List ℕ) (t : Act R) (es : List Event) (more : List ℕ) → q.journal ≡ plus p.journal es → OnlyTyped es → typed es ++ more ≡ b → p.faults ≤ q.faults → Broke p q (Out b t)
-broke_out p q b t es more journal only is later = broke_now es (only, (more, is)) journal later
+pub broke_out : {R : Type 0} (p q : Point) (b : List ℕ) (t : Act R) (es : List Event) (more : List ℕ) → q.journal ≡ plus p.journal es → OnlyTyped es → typed es ++ more ≡ b → p.faults ≤ q.faults → q.units ≡ p.units → Broke p q (Out b t)
+broke_out p q b t es more journal only is later units = broke_now es (only, (more, is)) journal later units
 
 -- it was read, and nothing could be taken
-pub broke_take : {R : Type 0} (p q : Point) (k : Option Item → Act R) (es : List Event) → q.journal ≡ plus p.journal es → OnlyRead es → Lazy p.unread p.ended es → p.faults ≤ q.faults → Broke p q (Take k)
-broke_take p q k es journal only lazy later = broke_now es (only, lazy) journal later
+pub broke_take : {R : Type 0} (p q : Point) (k : Option Item → Act R) (es : List Event) → q.journal ≡ plus p.journal es → OnlyRead es → Lazy p.unread p.ended es → p.faults ≤ q.faults → q.units ≡ p.units → Broke p q (Take k)
+broke_take p q k es journal only lazy later units = broke_now es (only, lazy) journal later units
 
 -- nothing was done
-pub broke_before : {R : Type 0} (p q : Point) (t : Act R) → q.journal ≡ p.journal → p.faults ≤ q.faults → Broke p q t
-broke_before p q t journal later = broke_now [] (part_none p t) journal later
+pub broke_before : {R : Type 0} (p q : Point) (t : Act R) → q.journal ≡ p.journal → p.faults ≤ q.faults → q.units ≡ p.units → Broke p q t
+broke_before p q t journal later units = broke_now [] (part_none p t) journal later units
 
 -- ---- device steps
 
--- another unit keeps its set
+-- another unit keeps its slot
+other_slot : (units : List Slot) (v u : ℕ) (new : Option Slot) → v ≢ u → slice_get (put_slot units v new) u ≡ slice_get units u
+other_slot units v u None other = refl
+other_slot units v u (Some new) other = get_other units v u new (λ e. other (sym e))
+
+-- and its set
 pub other_set : (units : List Slot) (v u : ℕ) (new : Option Slot) → v ≢ u → unit_set (put_slot units v new) u ≡ unit_set units u
-other_set units v u None other = refl
-other_set units v u (Some new) other = let g : slice_get (put_slot units v (Some new)) u ≡ slice_get units u = get_other units v u new (λ e. other (sym e)) in rw g refl
+other_set units v u new other = let g = other_slot units v u new other in rw g refl
 
 -- a step whose events are all of its own unit is covered where it is for that unit
 pub covers_step : (p m : Point) (s : Step) (o : Outcome) (es : List Event) → OnlyOf (unit_of s) es → m.units ≡ units_after p.units s o → Sound p
@@ -99,10 +112,25 @@ covers_step p m s o es only units sound own u = elim (eqb_tells (unit_of s) u) [
   | inr other ↦ covers_aside p es u (unit_set m.units u) (of_aside (unit_of s) es u other.1 only) (ap (λ (z : List Slot). unit_set z u) units ∙ other_set p.units (unit_of s) u (new_slot s o) other.1) sound
 ]
 
+-- behind it the contents of its own unit have the state of its slot
+abbrev pub OwnNow : Point → ℕ → Type 0
+OwnNow m u = (x : State) → HasNow m.journal u x → unit_state m.units u ≡ Some x
+
+-- then so have those of each unit
+now_step : (p m : Point) (s : Step) (o : Outcome) (es : List Event) → m.journal ≡ plus p.journal es → OnlyOf (unit_of s) es → m.units ≡ units_after p.units s o → Sound p → OwnNow m (unit_of s) → (u : ℕ) → OwnNow m u
+now_step p m s o es journal only units sound own u = elim (eqb_tells (unit_of s) u) [
+  | inl same ↦ subst (OwnNow m) same.1 own
+  | inr other ↦ λ x has.
+      let before : HasNow p.journal u x = now_aside p.journal es u x (of_aside (unit_of s) es u other.1 only) (subst (λ (t : Told). HasNow t u x) journal has) in
+      let slot : slice_get (units_after p.units s o) u ≡ slice_get p.units u = other_slot p.units (unit_of s) u (new_slot s o) other.1 in
+      ap (λ (z : List Slot). unit_state z u) units ∙ ap (λ (z : Option Slot). option_map state_in z) slot ∙ sound.now u x before
+]
+
 -- a step was done, with this outcome
 pub ran_step_all : {R : Type 0} (p m : Point) (s : Step) (o : Outcome) (k : Outcome → Act R) (es : List Event) → m.journal ≡ plus p.journal es → Counted p.faults (faults_in (o ∷ [])) m.faults → FitsStep s o es
-    → IsOf s (slice_get p.units (unit_of s)) → m.units ≡ units_after p.units s o → KeepsConsole p m → (Sound p → (u : ℕ) → Covers p.journal es u (unit_set p.units u) (unit_set m.units u)) → Ran p m (Does s k) (k o)
-ran_step_all p m s o k es journal counted fits speaks units console covered = ran_one p m (Does s k) (k o) (record { deed = Did s o; piece = es }) beat (refl, refl)
+    → IsOf s (slice_get p.units (unit_of s)) → m.units ≡ units_after p.units s o → KeepsConsole p m → (Sound p → (u : ℕ) → Covers p.journal es u (unit_set p.units u) (unit_set m.units u))
+    → (Sound p → (u : ℕ) → OwnNow m u) → Ran p m (Does s k) (k o)
+ran_step_all p m s o k es journal counted fits speaks units console covered now = ran_one p m (Does s k) (k o) (record { deed = Did s o; piece = es }) beat (refl, refl)
   where
     beat : Beats p (record { deed = Did s o; piece = es }) m
     beat = record {
@@ -113,39 +141,44 @@ ran_step_all p m s o k es journal counted fits speaks units console covered = ra
       speaks = speaks;
       units = units;
       covered = covered;
+      now = now;
     }
 
 -- the same with events of its own unit alone
 pub ran_step : {R : Type 0} (p m : Point) (s : Step) (o : Outcome) (k : Outcome → Act R) (es : List Event) → m.journal ≡ plus p.journal es → Counted p.faults (faults_in (o ∷ [])) m.faults
-    → OnlyOf (unit_of s) es → syncs es ≡ sync_count s o → IsOutcome s o → IsOf s (slice_get p.units (unit_of s)) → m.units ≡ units_after p.units s o → KeepsConsole p m
-    → (Sound p → Covers p.journal es (unit_of s) (unit_set p.units (unit_of s)) (unit_set m.units (unit_of s))) → Ran p m (Does s k) (k o)
-ran_step p m s o k es journal counted only synced outcome speaks units console own =
-    ran_step_all p m s o k es journal counted (record { disk = of_disk (unit_of s) es only; synced = synced; outcome = outcome }) speaks units console (λ sound u. covers_step p m s o es only units sound (own sound) u)
+    → OnlyOf (unit_of s) es → FitsStep s o es → IsOf s (slice_get p.units (unit_of s)) → m.units ≡ units_after p.units s o → KeepsConsole p m
+    → (Sound p → Covers p.journal es (unit_of s) (unit_set p.units (unit_of s)) (unit_set m.units (unit_of s))) → (Sound p → OwnNow m (unit_of s)) → Ran p m (Does s k) (k o)
+ran_step p m s o k es journal counted only fits speaks units console own own_now =
+    ran_step_all p m s o k es journal counted fits speaks units console (λ sound u. covers_step p m s o es only units sound (own sound) u) (λ sound u. now_step p m s o es journal only units sound (own_now sound) u)
 
 -- a step that adds no event and leaves the unit as it is
 pub ran_still : {R : Type 0} (p m : Point) (s : Step) (o : Outcome) (k : Outcome → Act R) → m.journal ≡ p.journal → Counted p.faults (faults_in (o ∷ [])) m.faults → sync_count s o ≡ 0 → IsOutcome s o
     → IsOf s (slice_get p.units (unit_of s)) → m.units ≡ p.units → new_slot s o ≡ None → KeepsConsole p m → Ran p m (Does s k) (k o)
 ran_still p m s o k journal counted synced outcome speaks units none console =
     let after : m.units ≡ units_after p.units s o = units ∙ ap (put_slot p.units (unit_of s)) (sym none) in
-    ran_step p m s o k [] journal counted tt (sym synced) outcome speaks after console (λ sound. covers_aside p [] (unit_of s) (unit_set m.units (unit_of s)) tt (same_sets p m (unit_of s) units) sound)
+    ran_step p m s o k [] journal counted tt (record { disk = tt; synced = sym synced; stamped = tt; outcome = outcome }) speaks after console
+    (λ sound. covers_aside p [] (unit_of s) (unit_set m.units (unit_of s)) tt (same_sets p m (unit_of s) units) sound) (λ sound. now_kept p m [] journal units (λ u. tt) sound (unit_of s))
 
 -- a step was cut off, with events of its own unit alone: it is enough to know that unit
-pub begun_by : (p : Point) (s : Step) (es : List Event) → OnlyOf (unit_of s) es → syncs es ≤ sync_count s Good → IsOf s (slice_get p.units (unit_of s))
-    → (Sound p → (front rest : List Event) → front ++ rest ≡ es → (x : State) → Leaves (plus p.journal front) (unit_of s) x → IsAmong x (unit_set p.units (unit_of s)) ⊎ IsAmong x (unit_set (units_after p.units s Good) (unit_of s)))
-    → Begun p s es
-begun_by p s es only synced speaks own = record {
+pub begun_by : (p : Point) (s : Step) (es : List Event) → OnlyOf (unit_of s) es → syncs es ≤ sync_count s Good
+    → (Sound p → (front rest : List Event) → front ++ rest ≡ es → (x : State) → Leaves (plus p.journal front) (unit_of s) x → IsAmong x (unit_set p.units (unit_of s)))
+    → (Sound p → (front rest : List Event) → front ++ rest ≡ es → OwnNow (with_events p front) (unit_of s)) → Begun p s es
+begun_by p s es only synced own own_now = record {
   disk = of_disk (unit_of s) es only;
   synced = synced;
-  inside = λ sound u front rest e x leaves. elim (eqb_tells (unit_of s) u) [
-    | inl same ↦
-        let sets = sets_by (Did s Good) p.units speaks in
-        subst (λ (v : ℕ). IsAmong x (unit_set p.units v) ⊎ IsAmong x (last_set v (unit_set p.units v) (added s Good))) same.1
-        (⊎_elim inl (λ h. inr (subst (IsAmong x) (sets (unit_of s)) h)) (own sound front rest e x (subst (λ (v : ℕ). Leaves (plus p.journal front) v x) (sym same.1) leaves)))
-    | inr other ↦
-        let aside : IsUntouched front u = of_aside (unit_of s) front u other.1 (of_front (unit_of s) front rest (subst (OnlyOf (unit_of s)) (sym e) only)) in
-        inl (sound.each u x (leaves_aside p.journal front u x aside leaves))
-  ];
+  kept = λ sound front rest e.
+      let own_front : OnlyOf (unit_of s) front = of_front (unit_of s) front rest (subst (OnlyOf (unit_of s)) (sym e) only) in
+      record {
+        each = λ u x leaves. elim (eqb_tells (unit_of s) u) [
+          | inl same ↦ subst (λ (v : ℕ). IsAmong x (unit_set p.units v)) same.1 (own sound front rest e x (subst (λ (v : ℕ). Leaves (plus p.journal front) v x) (sym same.1) leaves))
+          | inr other ↦ sound.each u x (leaves_aside p.journal front u x (of_aside (unit_of s) front u other.1 own_front) leaves)
+        ];
+        now = λ u x has. elim (eqb_tells (unit_of s) u) [
+          | inl same ↦ subst (λ (v : ℕ). unit_state p.units v ≡ Some x) same.1 (own_now sound front rest e x (subst (λ (v : ℕ). HasNow (plus p.journal front) v x) (sym same.1) has))
+          | inr other ↦ sound.now u x (now_aside p.journal front u x (of_aside (unit_of s) front u other.1 own_front) has)
+        ];
+      };
 }
 
-pub broke_step : {R : Type 0} (p q : Point) (s : Step) (k : Outcome → Act R) (es : List Event) → q.journal ≡ plus p.journal es → Begun p s es → p.faults ≤ q.faults → Broke p q (Does s k)
-broke_step p q s k es journal begun later = broke_now es begun journal later
+pub broke_step : {R : Type 0} (p q : Point) (s : Step) (k : Outcome → Act R) (es : List Event) → q.journal ≡ plus p.journal es → Begun p s es → p.faults ≤ q.faults → q.units ≡ p.units → Broke p q (Does s k)
+broke_step p q s k es journal begun later units = broke_now es begun journal later units

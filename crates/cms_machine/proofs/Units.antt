@@ -35,10 +35,10 @@ set_put units v u old new there = elim (eqb_tells v u) [
 -- a unit of which a step speaks is there
 pub is_there : (s : Step) (now : Option Slot) → IsOf s now → (old : Slot) × (now ≡ Some old)
 is_there (Access u slot) now is = (slot, is)
-is_there (Get u) now is = (Settled (Volume is.0), is.1)
-is_there (Put u m change) now is = (Settled (Volume m), is)
+is_there (Get u f wanted) now is = (Settled (Volume is.minidisk), is.settled)
+is_there (Put u m change stamp) now is = (Settled (Volume m), is)
 is_there (Wipe u old) now is = (Settled old, is)
-is_there (Make u old m) now is = (Settled old, is)
+is_there (Make u old m stamp) now is = (Settled old, is)
 
 sets_put : (units : List Slot) (v u : ℕ) (old : Slot) (new : Option Slot) → slice_get units v ≡ Some old → unit_set (put_slot units v new) u ≡ last_set u (unit_set units u) (states_in v new)
 sets_put units v u old None there = refl

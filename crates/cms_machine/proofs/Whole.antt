@@ -1,25 +1,26 @@
 -- A run from a point, cut off or not: what it adds up to, and the machine on all that was told.
 use Rattle.std.proofs.Common.{◌≡◌, ◌⊎◌, inl, inr, ℕ, ℤ, ◌^◌, ◌+◌, ◌-◌, ◌≤◌, Bool, true, false, ◌||◌, List, [], ◌∷◌, ◌++◌, length, if◌then◌else◌, ◌==◌, Option, Some, None, refl, ap, sym, ◌∙◌, subst, arith, append_assoc, append-nil, length-append, ⊎_elim}
+use Rattle.std.proofs.lemmas.List.{length-set}
 use Rattle.cms_journal.specs.declared.event.Event.{Event}
 use Rattle.cms_journal.specs.declared.event.Event.TheVariants.{Read, Now, Typed, Wrote, Synced, Missed}
 use Rattle.cms_journal.specs.Journal.{IsUntouched}
 use Rattle.cms_journal.specs.Causes.{Counted}
 use Rattle.cms_journal.specs.Told.{Told, plus, typed, script, is_over, moments}
 use Rattle.cms_model.specs.Minidisks.{State}
-use Rattle.cms_machine.specs.Slots.{Slot, unit_set, IsAmong}
-use Rattle.cms_machine.specs.Steps.{Outcome, Good, ReadFault, SyncFault, OldFault, EitherFault, unit_of, new_slot, faults_in}
+use Rattle.cms_machine.specs.Slots.{Slot, unit_set, unit_state, IsAmong}
+use Rattle.cms_machine.specs.Steps.{Outcome, Good, ReadFault, SyncFault, OldFault, EitherFault, unit_of, new_slot, put_slot, faults_in}
 use Rattle.cms_machine.specs.Items.{Item, extended, items, Goes}
 use Rattle.cms_machine.specs.Acts.{Act, Done, Out, Take, Turn, Does}
 use Rattle.cms_machine.specs.Traces.{TraceItem, Shown, Spent, States, bytes_of, turns_of, states_in, last_set, Within}
 use Rattle.cms_machine.specs.Feeds.{Fed, Over, WaitsForScript, feed, prepend, Waits}
-use Rattle.cms_machine.specs.Points.{Leaves, Point, Sound}
-use Rattle.cms_machine.specs.Beats.{Deed, Said, Turned, Took, Did, Beat, pieces, shown_by, trace, outcome_of, outcomes, Fits, OnConsole, OnlyTyped, OnlyRead, OnlyDisk, Chain}
+use Rattle.cms_machine.specs.Points.{Leaves, HasNow, Point, with_events, Sound}
+use Rattle.cms_machine.specs.Beats.{Deed, Said, Turned, Took, Did, Beat, pieces, shown_by, trace, outcome_of, outcomes, Fits, OnConsole, OnlyTyped, OnlyRead, OnlyDisk, units_by, Chain}
 use Rattle.cms_machine.specs.Runs.{Ran, Part, Broke, events_of, fed}
 use Rattle.cms_machine.specs.Laws.{AddsUp, FollowsTree, ComesTo}
 use Rattle.cms_machine.proofs.Lists.{lt_or_le, split, split_at, empty_front, no_element, typed-append, script-append, moments-append, over-append}
 use Rattle.cms_machine.proofs.Pieces.{plus_plus, plus-nil, typed_front, read_front, disk_front, syncs_front, typed_silent, read_silent, disk_silent, read_not_typed, read_not_disk}
 use Rattle.cms_machine.proofs.Units.{beat_sets}
-use Rattle.cms_machine.proofs.Aside.{leaves_aside, typed_aside, read_aside}
+use Rattle.cms_machine.proofs.Aside.{leaves_aside, sound_aside, typed_aside, read_aside}
 use Rattle.cms_machine.proofs.Law.{here, here_states, past_beat, chain_sound, law}
 use Rattle.cms_machine.proofs.Feed.{feed_beats}
 use Rattle.cms_machine.proofs.Waits.{waits, waits_early, bytes_chain, bytes-append}
@@ -135,6 +136,22 @@ turns_chain p q (b ∷ bs) chain =
     turns-append (shown_by b.deed) (trace bs) ∙ ap (λ (n : ℕ). n + turns_of (trace bs)) (turns_beat b.deed b.piece chain.1.fits) ∙ ap (λ (n : ℕ). length (moments b.piece) + n) (turns_chain chain.0 q bs chain.2)
     ∙ sym (ap length (moments-append b.piece (pieces bs)) ∙ length-append (moments b.piece) (moments (pieces bs)))
 
+-- ---- as many units
+
+units_put : (units : List Slot) (u : ℕ) (new : Option Slot) → length (put_slot units u new) ≡ length units
+units_put units u None = refl
+units_put units u (Some new) = length-set units u new
+
+units_beat : (units : List Slot) (d : Deed) → length (units_by units d) ≡ length units
+units_beat units (Said b) = refl
+units_beat units (Turned m) = refl
+units_beat units (Took i) = refl
+units_beat units (Did s o) = units_put units (unit_of s) (new_slot s o)
+
+pub units_chain : (p q : Point) (bs : List Beat) → Chain p bs q → length q.units ≡ length p.units
+units_chain p q [] chain = ap (λ (z : Point). length z.units) (sym chain)
+units_chain p q (b ∷ bs) chain = units_chain chain.0 q bs chain.2 ∙ ap (λ (z : List Slot). length z) chain.1.units ∙ units_beat p.units b.deed
+
 -- ---- the events at the end, of a beat that was cut off
 
 -- they tell no moment
@@ -179,7 +196,7 @@ part_front p (Turn k) a b h = empty_front a b h
 part_front p (Does s k) a b h = record {
   disk = disk_front (unit_of s) a b h.disk;
   synced = omega (arith, syncs_front a b, h.synced);
-  inside = λ sound u front rest e x leaves. h.inside sound u front (rest ++ b) (sym (append_assoc front rest b) ∙ ap (λ (w : List Event). w ++ b) e) x leaves;
+  kept = λ sound front rest e. h.kept sound front (rest ++ b) (sym (append_assoc front rest b) ∙ ap (λ (w : List Event). w ++ b) e);
 }
 
 -- of a tree that does no step next they leave the units alone
@@ -188,6 +205,20 @@ part_keeps p es u x aside sound leaves = sound.each u x (leaves_aside p.journal 
 
 none_untouched : (es : List Event) (u : ℕ) → es ≡ [] → IsUntouched es u
 none_untouched es u e = subst (λ (z : List Event). IsUntouched z u) (sym e) tt
+
+-- behind them what is known of the units holds still
+pub part_sound : {R : Type 0} (p : Point) (t : Act R) (es : List Event) → Part p t es → Sound p → Sound (with_events p es)
+part_sound p (Done c) es h sound = sound_aside p es (λ u. none_untouched es u h) sound
+part_sound p (Out b t) es h sound = sound_aside p es (λ u. typed_aside es u h.0) sound
+part_sound p (Take k) es h sound = sound_aside p es (λ u. read_aside es u h.0) sound
+part_sound p (Turn k) es h sound = sound_aside p es (λ u. none_untouched es u h) sound
+part_sound p (Does s k) es h sound = h.kept sound es [] (append-nil es)
+
+sound_same : (a q : Point) → q.journal ≡ a.journal → q.units ≡ a.units → Sound a → Sound q
+sound_same a q journal units sound = record {
+  each = λ u x leaves. subst (λ (z : List Slot). IsAmong x (unit_set z u)) (sym units) (sound.each u x (subst (λ (j : Told). Leaves j u x) journal leaves));
+  now = λ u x has. ap (λ (z : List Slot). unit_state z u) units ∙ sound.now u x (subst (λ (j : Told). HasNow j u x) journal has);
+}
 
 -- a mark among them
 pub part_within : {R : Type 0} (p : Point) (t : Act R) (es : List Event) → Part p t es → Sound p → (u : ℕ) (x : State) → Leaves (plus p.journal es) u x → (is : List Item) (e : Bool) (ms : List ℤ)
@@ -209,9 +240,9 @@ part_within p (Turn k) es h sound u x leaves is e ms =
     let z : typed es ≡ [] = ap typed h in
     rw z (here (feed (Turn k) is e ms []).trace u (unit_set p.units u) x among)
 part_within p (Does s k) es h sound u x leaves is e ms =
-    let among = h.inside sound u es [] (append-nil es) x leaves in
+    let among = (h.kept sound es [] (append-nil es)).each u x leaves in
     let z : typed es ≡ [] = (disk_silent (unit_of s) es h.disk).typed_none in
-    rw z (here_states (unit_of s) (new_slot s Good) (feed (k Good) is e ms []).trace u (unit_set p.units u) x among)
+    rw z (here_states (unit_of s) (new_slot s Good) (feed (k Good) is e ms []).trace u (unit_set p.units u) x (inl among))
 
 -- a read among them comes where the machine waits
 pub part_waits : {R : Type 0} (p : Point) (t : Act R) (es a c : List Event) (b : List ℕ) → Part p t es → a ++ Read b ∷ c ≡ es → (ms : List ℤ) (os : List Outcome)
@@ -244,6 +275,10 @@ module _ {R : Type 0} (p q : Point) (t : Act R) (b : Broke p q t) where
 
   mid_goes : Goes b.mid.ended (script b.loose) (p.ended || is_over (pieces b.ran.beats ++ b.loose))
   mid_goes ended = (part_no_script b.mid b.rest b.loose b.part ended, mid_over ∙ ap (λ (z : Bool). z || is_over b.loose) ended)
+
+  -- where it was cut off what is known of the units holds
+  pub all_sound : Sound p → Sound q
+  all_sound sound = sound_same (with_events b.mid b.loose) q b.journal b.units (part_sound b.mid b.rest b.loose b.part (chain_sound p b.mid b.ran.beats b.ran.chain sound))
 
   -- the tree on all that was told is the beats' trace, and then the rest of the tree on what the last events told
   pub fed_all : fed p t (events_of b) (outcomes b.ran.beats) ≡ prepend (trace b.ran.beats) (fed b.mid b.rest b.loose [])
@@ -310,7 +345,7 @@ module _ {R : Type 0} (p q : Point) (t : Act R) (b : Broke p q t) where
 
 -- as one that is cut off behind its last beat
 abbrev pub whole : {R : Type 0} (p q : Point) (t : Act R) (a : R) → Ran p q t (Done a) → Broke p q t
-whole p q t a r = record { mid = q; rest = Done a; ran = r; loose = []; part = refl; journal = sym (plus-nil q.journal); faults = omega arith }
+whole p q t a r = record { mid = q; rest = Done a; ran = r; loose = []; part = refl; journal = sym (plus-nil q.journal); faults = omega arith; units = refl }
 
 -- the tree on all that was told comes to its result, with the beats' trace
 pub fed_whole : {R : Type 0} (p q : Point) (t : Act R) (a : R) (r : Ran p q t (Done a)) → fed p t (pieces r.beats) (outcomes r.beats) ≡ record { trace = trace r.beats; close = Over a }
@@ -345,6 +380,7 @@ adds_up p q bs chain = record {
   sets = chain_last p q bs chain;
   bytes = bytes_chain p q bs chain;
   turns = turns_chain p q bs chain;
+  as_many = units_chain p q bs chain;
 }
 
 pub follows_tree : {R : Type 0} (p q : Point) (t : Act R) (b : Broke p q t) → FollowsTree p q t b
@@ -353,6 +389,8 @@ follows_tree p q t b = record {
   faults = counted_all p q t b;
   bytes = bytes_all p q t b;
   crash = crashes p q t b;
+  sound = all_sound p q t b;
+  as_many = ap (λ (z : List Slot). length z) b.units ∙ units_chain p b.mid b.ran.beats b.ran.chain;
   waits = all_wait p q t b;
   waits_before = λ front rest bytes e early later cut.
       waits_early t p.unread early later (moments front) (outcomes b.ran.beats) (typed front)

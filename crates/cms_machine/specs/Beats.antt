@@ -1,16 +1,18 @@
 -- Beats: each a single thing that was done, with its piece of the journal, the oldest event first.
-use Rattle.std.specs.Prelude.{◌≡◌, ◌⊎◌, ℕ, ℤ, List, [], ◌∷◌, ◌++◌, Option, slice_get, ⊤}
+use Rattle.std.specs.Prelude.{◌≡◌, ◌⊎◌, ℕ, ℤ, List, [], ◌∷◌, ◌++◌, take, drop, Option, Some, None, slice_get, ⊤}
 use Rattle.cms_journal.specs.declared.event.Event.{Event}
 use Rattle.cms_journal.specs.declared.event.Event.TheVariants.{Read, Now, Typed, Wrote, Synced}
 use Rattle.cms_journal.specs.Causes.{Counted}
 use Rattle.cms_journal.specs.Told.{Told, plus, typed, syncs}
+use Rattle.cms_fields.specs.Stamps.{stamp_bytes}
+use Rattle.cms_fields.specs.declared.time.Stamp.{Stamp}
 use Rattle.cms_model.specs.Minidisks.{State}
-use Rattle.cms_machine.specs.Slots.{Slot, unit_set, IsAmong}
-use Rattle.cms_machine.specs.Steps.{Step, Outcome, unit_of, IsOutcome, IsOf, sync_count, units_after, faults_in}
+use Rattle.cms_machine.specs.Slots.{Slot, unit_set, unit_state, IsAmong}
+use Rattle.cms_machine.specs.Steps.{Step, Outcome, unit_of, IsOutcome, IsOf, sync_count, stamp_in, units_after, faults_in}
 use Rattle.cms_machine.specs.Items.{Item, Takes}
 use Rattle.cms_machine.specs.Acts.{Act, Out, Take, Turn, Does}
 use Rattle.cms_machine.specs.Traces.{TraceItem, Shown, Spent, added}
-use Rattle.cms_machine.specs.Points.{Leaves, Point, Sound}
+use Rattle.cms_machine.specs.Points.{Leaves, HasNow, Point, Sound}
 
 -- bytes were typed; a turn was spent, with these seconds; an item was taken, or the script's end was found; a step was done
 pub data Deed : Type 0 where
@@ -70,10 +72,27 @@ OnlyDisk u (Wrote v k bytes ∷ es) = OnlyDisk u es
 OnlyDisk u (Synced v ∷ es) = (v ≡ u) × OnlyDisk u es
 OnlyDisk u (e ∷ es) = ⊥
 
--- a step makes writes, and as many syncs of its unit as its outcome says; the outcome is one that it may have
+-- a directory's first block has this stamp in its own entry and in the allocation map's, each of 64 bytes
+pub record HasStamp (bytes : List ℕ) (stamp : Stamp) : Type 0 where
+  pub directory : take 6 (drop 54 bytes) ≡ stamp_bytes stamp
+  pub map : take 6 (drop 118 bytes) ≡ stamp_bytes stamp
+
+-- a directory begins in block 4 or 5: such a block is written with this stamp, where there is one, and not else
+abbrev pub MayWrite : Option Stamp → ℕ → List ℕ → Type 0
+MayWrite None block bytes = (block ≡ 4) ⊎ (block ≡ 5) → ⊥
+MayWrite (Some stamp) block bytes = (block ≡ 4) ⊎ (block ≡ 5) → HasStamp bytes stamp
+
+-- so is each that is written of this unit
+abbrev pub AreStamped : ℕ → Option Stamp → List Event → Type 0
+AreStamped u stamp [] = ⊤
+AreStamped u stamp (Wrote v block bytes ∷ es) = (v ≡ u → MayWrite stamp block bytes) × AreStamped u stamp es
+AreStamped u stamp (e ∷ es) = AreStamped u stamp es
+
+-- a step makes writes, with its stamp, and as many syncs of its unit as its outcome says; the outcome is one that it may have
 pub record FitsStep (s : Step) (o : Outcome) (es : List Event) : Type 0 where
   pub disk : OnlyDisk (unit_of s) es
   pub synced : syncs es ≡ sync_count s o
+  pub stamped : AreStamped (unit_of s) (stamp_in s) es
   pub outcome : IsOutcome s o
 
 -- a deed may have this piece
@@ -130,6 +149,8 @@ pub record Beats (p : Point) (b : Beat) (m : Point) : Type 0 where
   pub speaks : SpeaksOf b.deed p.units
   pub units : m.units ≡ units_by p.units b.deed
   pub covered : Sound p → (u : ℕ) → Covers p.journal b.piece u (unit_set p.units u) (unit_set m.units u)
+  -- behind it the contents of each unit have the state of its slot
+  pub now : Sound p → (u : ℕ) (x : State) → HasNow m.journal u x → unit_state m.units u ≡ Some x
 
 -- beats lead one after another from a point to a point
 abbrev pub Chain : Point → List Beat → Point → Type 0

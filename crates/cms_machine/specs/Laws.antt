@@ -1,12 +1,12 @@
 -- What follows of all beats and all runs.
-use Rattle.std.specs.Prelude.{◌≡◌, ℕ, ℤ, Bool, false, List, ◌∷◌, ◌++◌, length}
+use Rattle.std.specs.Prelude.{◌≡◌, ℕ, ◌≤◌, ℤ, Bool, false, List, ◌∷◌, ◌++◌, length, Some}
 use Rattle.cms_journal.specs.declared.event.Event.{Event}
 use Rattle.cms_journal.specs.declared.event.Event.TheVariants.{Read}
 use Rattle.cms_journal.specs.Causes.{Counted}
 use Rattle.cms_journal.specs.Told.{plus, typed, script, moments}
-use Rattle.cms_model.specs.Minidisks.{State}
-use Rattle.cms_machine.specs.Slots.{unit_set, IsAmong}
-use Rattle.cms_machine.specs.Steps.{Outcome, faults_in}
+use Rattle.cms_model.specs.Minidisks.{File, State}
+use Rattle.cms_machine.specs.Slots.{Side, Slot, Settled, Doubt, state_in, set_of, unit_set, IsAmong}
+use Rattle.cms_machine.specs.Steps.{Get, Access, Outcome, ReadFault, IsOutcome, new_slot, faults_in}
 use Rattle.cms_machine.specs.Items.{extended, items, Goes}
 use Rattle.cms_machine.specs.Acts.{Act, Done, bind}
 use Rattle.cms_machine.specs.Traces.{TraceItem, bytes_of, turns_of, last_set, At, Within}
@@ -29,18 +29,19 @@ CrashesWithin =
 abbrev pub WithinIsAt : Type 0
 WithinIsAt = (tr : List TraceItem) (t n u : ℕ) (set : List State) (x : State) → Within tr t n u set x → At tr t u set x
 
--- behind the beats a crash leaves each unit in a state of its set again
+-- behind the beats a crash leaves each unit in a state of its set again, and its contents have the state of its slot
 abbrev pub KeepSound : Type 0
 KeepSound = (p q : Point) (bs : List Beat) → Chain p bs q → Sound p → Sound q
 
 -- what beats add up to: their pieces are the journal, their faults are counted, the sets are the last of their trace, its bytes
--- are those typed, and each of its turns has a moment
+-- are those typed, each of its turns has a moment, and the machine has as many units as before
 pub record AddsUp (p q : Point) (bs : List Beat) : Type 0 where
   pub journal : q.journal ≡ plus p.journal (pieces bs)
   pub faults : Counted p.faults (faults_in (outcomes bs)) q.faults
   pub sets : (u : ℕ) → unit_set q.units u ≡ last_set u (unit_set p.units u) (trace bs)
   pub bytes : bytes_of (trace bs) ≡ typed (pieces bs)
   pub turns : turns_of (trace bs) ≡ length (moments (pieces bs))
+  pub as_many : length q.units ≡ length p.units
 
 abbrev pub AddUp : Type 0
 AddUp = (p q : Point) (bs : List Beat) → Chain p bs q → AddsUp p q bs
@@ -70,8 +71,8 @@ FeedsBeats R =
     ≡ prepend (trace bs) (feed u (items (extended q.unread more) over) over ms os)
 
 -- a run that was cut off is one of the machine on all that was told: what was told is the journal, the faults are counted, the
--- bytes typed are the first of the machine's, a crash at any moment leaves what is within its trace there, and a read comes only
--- where it waits for the script, with all its bytes typed
+-- bytes typed are the first of the machine's, a crash at any moment leaves what is within its trace there, a read comes only where
+-- it waits for the script, with all its bytes typed, and where the run was cut off a crash leaves each unit as the machine knows it
 pub record FollowsTree {R : Type 0} (p q : Point) (t : Act R) (b : Broke p q t) : Type 0 where
   pub journal : q.journal ≡ plus p.journal (events_of b)
   pub faults : Counted p.faults (faults_in (outcomes b.ran.beats)) q.faults
@@ -79,6 +80,8 @@ pub record FollowsTree {R : Type 0} (p q : Point) (t : Act R) (b : Broke p q t) 
   pub crash :
       Sound p → (front rest : List Event) → front ++ rest ≡ events_of b → (u : ℕ) (x : State) → Leaves (plus p.journal front) u x
       → Within (fed p t (events_of b) (outcomes b.ran.beats)).trace (length (typed front)) (length (moments front)) u (unit_set p.units u) x
+  pub sound : Sound p → Sound q
+  pub as_many : length q.units ≡ length p.units
   pub waits :
       (front rest : List Event) (bytes : List ℕ) → front ++ Read bytes ∷ rest ≡ events_of b
       → Waits (feed t (items (extended p.unread (script front)) false) false (moments front) (outcomes b.ran.beats)) (typed front)
@@ -102,3 +105,21 @@ pub record ComesTo {R : Type 0} (p q : Point) (t : Act R) (a : R) (ran : Ran p q
 
 abbrev pub RunsCome : Type 0 → Type 0
 RunsCome R = (p q : Point) (t : Act R) (a : R) (ran : Ran p q t (Done a)) → ComesTo p q t a ran
+
+-- ---- what is known of a unit
+
+-- a read fails after no more records than were wanted
+abbrev pub ReadsAreWanted : Type 0
+ReadsAreWanted = (u : ℕ) (f : File) (wanted j : ℕ) → IsOutcome (Get u f wanted) (ReadFault j) → j ≤ wanted
+
+-- an access that ends a doubt settles the unit at the state that its contents have
+abbrev pub DoubtEndsNow : Type 0
+DoubtEndsNow = (u : ℕ) (slot new : Slot) (o : Outcome) → new_slot (Access u slot) o ≡ Some new → new ≡ Settled (state_in slot)
+
+-- of a unit that is settled, or is left as it was, the contents have one state, which a crash leaves too
+abbrev pub SettledIsNow : Type 0
+SettledIsNow = (state : State) (x : State) → IsAmong x (set_of (Settled state)) → x ≡ state_in (Settled state)
+
+-- the contents of a unit in doubt have one of its two states
+abbrev pub DoubtIsOfBoth : Type 0
+DoubtIsOfBoth = (before after : State) (side : Side) → IsAmong (state_in (Doubt before after side)) (set_of (Doubt before after side))

@@ -1,15 +1,12 @@
 -- Runs: what was done of a tree, as beats.
-use Rattle.std.specs.Prelude.{◌≡◌, ◌⊎◌, ℕ, ◌≤◌, ◌||◌, List, [], ◌++◌}
+use Rattle.std.specs.Prelude.{◌≡◌, ℕ, ◌≤◌, ◌||◌, List, [], ◌++◌}
 use Rattle.cms_journal.specs.declared.event.Event.{Event}
 use Rattle.cms_journal.specs.Told.{plus, typed, script, is_over, moments, syncs}
-use Rattle.cms_model.specs.Minidisks.{State}
-use Rattle.cms_machine.specs.Slots.{unit_set, IsAmong}
 use Rattle.cms_machine.specs.Steps.{Step, Outcome, Good, unit_of, sync_count}
 use Rattle.cms_machine.specs.Items.{extended, items, Lazy}
 use Rattle.cms_machine.specs.Acts.{Act, Done, Out, Take, Turn, Does}
-use Rattle.cms_machine.specs.Traces.{added, last_set}
 use Rattle.cms_machine.specs.Feeds.{Fed, feed}
-use Rattle.cms_machine.specs.Points.{Leaves, Point, Sound}
+use Rattle.cms_machine.specs.Points.{Point, with_events, Sound}
 use Rattle.cms_machine.specs.Beats.{Beat, pieces, Chain, Leads, OnlyTyped, OnlyRead, OnlyDisk}
 
 -- from a point with a tree to a point with the rest of it
@@ -18,14 +15,12 @@ pub record Ran {R : Type 0} (p q : Point) (t u : Act R) : Type 0 where
   pub chain : Chain p beats q
   pub leads : Leads t beats u
 
--- the front of a step's piece, where the run was cut off in it: a crash within it leaves the unit in a state of its set before,
--- or of the one that the step adds where it is good
+-- what was written of a step in which the run was cut off: at every moment each unit is as before the step, so an update of which
+-- a crash might leave anything was carried to its end or to a device's fault
 pub record Begun (p : Point) (s : Step) (es : List Event) : Type 0 where
   pub disk : OnlyDisk (unit_of s) es
   pub synced : syncs es ≤ sync_count s Good
-  pub inside :
-      Sound p → (u : ℕ) (front rest : List Event) → front ++ rest ≡ es → (x : State) → Leaves (plus p.journal front) u x
-      → IsAmong x (unit_set p.units u) ⊎ IsAmong x (last_set u (unit_set p.units u) (added s Good))
+  pub kept : Sound p → (front rest : List Event) → front ++ rest ≡ es → Sound (with_events p front)
 
 -- events that are a front of the piece of the tree's next deed
 abbrev pub Part : {R : Type 0} → Point → Act R → List Event → Type 0
@@ -35,7 +30,7 @@ Part p (Take k) es = OnlyRead es × Lazy p.unread p.ended es
 Part p (Turn k) es = es ≡ []
 Part p (Does s k) es = Begun p s es
 
--- from a point with a tree, cut off somewhere
+-- from a point with a tree, cut off somewhere; the machine's units are those before the deed that was cut off
 pub record Broke {R : Type 0} (p q : Point) (t : Act R) : Type 0 where
   pub mid : Point
   pub rest : Act R
@@ -44,6 +39,7 @@ pub record Broke {R : Type 0} (p q : Point) (t : Act R) : Type 0 where
   pub part : Part mid rest loose
   pub journal : q.journal ≡ plus mid.journal loose
   pub faults : mid.faults ≤ q.faults
+  pub units : q.units ≡ mid.units
 
 -- ---- all that was told
 

@@ -1,5 +1,5 @@
 -- What a machine knows of a unit.
-use Rattle.std.specs.Prelude.{◌≡◌, ◌⊎◌, ℕ, List, [], ◌∷◌, slice_get}
+use Rattle.std.specs.Prelude.{◌≡◌, ◌⊎◌, ℕ, List, [], ◌∷◌, Option, option_map, slice_get}
 use Rattle.std.specs.Option.{option_map_or}
 use Rattle.cms_model.specs.Minidisks.{State}
 
@@ -18,6 +18,15 @@ pub data Slot : Type 0 where
 abbrev pub named : State → State → Side → State
 named before after Before = before
 named before after After = after
+
+-- the state that the unit's contents have
+abbrev pub state_in : Slot → State
+state_in (Settled state) = state
+state_in (Doubt before after side) = named before after side
+
+-- the same of the unit of this number, where it is there
+abbrev pub unit_state : List Slot → ℕ → Option State
+unit_state units u = option_map state_in (slice_get units u)
 
 -- the states that a crash may leave
 abbrev pub set_of : Slot → List State

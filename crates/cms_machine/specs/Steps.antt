@@ -1,18 +1,19 @@
 -- Device steps: the five things that a machine does with a unit, and how each may end.
-use Rattle.std.specs.Prelude.{◌≡◌, ℕ, suc, Bool, true, false, not, IsTrue, List, [], ◌∷◌, Option, Some, None, unwrap_or, slice_set, ⊤}
-use Rattle.cms_model.specs.Minidisks.{Minidisk, State, Volume, Not}
-use Rattle.cms_model.specs.Changes.{Change, Add, Relabel, Answer, Limited, Full, Changed, answer_of}
+use Rattle.std.specs.Prelude.{◌≡◌, ℕ, suc, ◌≤◌, length, Bool, true, false, not, IsTrue, List, [], ◌∷◌, Option, Some, None, unwrap_or, slice_set, ⊤}
+use Rattle.cms_fields.specs.declared.time.Stamp.{Stamp}
+use Rattle.cms_model.specs.Minidisks.{File, Minidisk, State, Volume, Not}
+use Rattle.cms_model.specs.Changes.{Change, Add, Relabel, Answer, Limited, Full, Changed, answer_of, file_named}
 use Rattle.cms_machine.specs.Slots.{Side, Slot, Settled, Doubt, named}
 
--- each with the unit's number. Access: what the unit holds is found; the slot is the unit's. Get: a file's records are read.
--- Put: a minidisk is changed. Wipe: the label of a unit in this state is made zero. Make: on a unit in this state an empty
--- minidisk is made.
+-- each with the unit's number. Access: what the unit holds is found; the slot is the unit's. Get: so many records of a file are
+-- read. Put: a minidisk is changed, and its directory has this stamp then. Wipe: the label of a unit in this state is made zero.
+-- Make: on a unit in this state an empty minidisk is made, with this stamp.
 pub data Step : Type 0 where
   Access : ℕ → Slot → Step
-  Get : ℕ → Step
-  Put : ℕ → Minidisk → Change → Step
+  Get : ℕ → File → ℕ → Step
+  Put : ℕ → Minidisk → Change → Stamp → Step
   Wipe : ℕ → State → Step
-  Make : ℕ → State → Minidisk → Step
+  Make : ℕ → State → Minidisk → Stamp → Step
 
 -- Good, or the fault of the device. ReadFault: a read failed, after so many of the records wanted were handed out. SyncFault:
 -- the sync that was to end a doubt failed. OldFault: an update failed and the unit is as before. EitherFault: an update
@@ -27,10 +28,10 @@ pub data Outcome : Type 0 where
 -- the unit of a step
 abbrev pub unit_of : Step → ℕ
 unit_of (Access u slot) = u
-unit_of (Get u) = u
-unit_of (Put u m change) = u
+unit_of (Get u f wanted) = u
+unit_of (Put u m change stamp) = u
 unit_of (Wipe u old) = u
-unit_of (Make u old m) = u
+unit_of (Make u old m stamp) = u
 
 -- ---- which outcomes a step may have
 
@@ -60,13 +61,13 @@ MayAccess slot SyncFault = IsTrue (is_doubt slot)
 MayAccess slot OldFault = ⊥
 MayAccess slot (EitherFault side) = ⊥
 
--- a reading of records: a read may fail after any of them
-abbrev pub MayGet : Outcome → Type 0
-MayGet Good = ⊤
-MayGet (ReadFault j) = ⊤
-MayGet SyncFault = ⊥
-MayGet OldFault = ⊥
-MayGet (EitherFault side) = ⊥
+-- a reading of so many records: a read may fail after any of them
+abbrev pub MayGet : ℕ → Outcome → Type 0
+MayGet wanted Good = ⊤
+MayGet wanted (ReadFault j) = j ≤ wanted
+MayGet wanted SyncFault = ⊥
+MayGet wanted OldFault = ⊥
+MayGet wanted (EitherFault side) = ⊥
 
 -- a change with this answer: where records are added a read may fail; an update may fail only where the change isn't refused,
 -- and one that writes nothing but the label can't leave the unit as before
@@ -96,10 +97,10 @@ MayMake (EitherFault side) = ⊤
 -- the step may have this outcome
 abbrev pub IsOutcome : Step → Outcome → Type 0
 IsOutcome (Access u slot) o = MayAccess slot o
-IsOutcome (Get u) o = MayGet o
-IsOutcome (Put u m change) o = MayPut change (answer_of m change) o
+IsOutcome (Get u f wanted) o = MayGet wanted o
+IsOutcome (Put u m change stamp) o = MayPut change (answer_of m change) o
 IsOutcome (Wipe u old) o = MayWipe o
-IsOutcome (Make u old m) o = MayMake o
+IsOutcome (Make u old m stamp) o = MayMake o
 
 -- ---- what the unit is after a step
 
@@ -129,10 +130,10 @@ after_put old (Full need free) o = None
 -- the unit's new slot, where it isn't as before; a wiped unit is none for the second reason, its label
 abbrev pub new_slot : Step → Outcome → Option Slot
 new_slot (Access u slot) o = after_access slot o
-new_slot (Get u) o = None
-new_slot (Put u m change) o = after_put m (answer_of m change) o
+new_slot (Get u f wanted) o = None
+new_slot (Put u m change stamp) o = after_put m (answer_of m change) o
 new_slot (Wipe u old) o = after_update old (Not 2) o
-new_slot (Make u old m) o = after_update old (Volume m) o
+new_slot (Make u old m stamp) o = after_update old (Volume m) o
 
 -- the unit's slot after a step, from that before
 abbrev pub slot_after : Slot → Step → Outcome → Slot
@@ -146,13 +147,20 @@ put_slot units u (Some slot) = slice_set units u slot
 abbrev pub units_after : List Slot → Step → Outcome → List Slot
 units_after units s o = put_slot units (unit_of s) (new_slot s o)
 
+-- the file is one of the unit's minidisk, and has so many records
+pub record Offers (now : Option Slot) (f : File) (wanted : ℕ) : Type 0 where
+  pub minidisk : Minidisk
+  pub settled : now ≡ Some (Settled (Volume minidisk))
+  pub file : file_named f.name minidisk.files ≡ Some f
+  pub enough : wanted ≤ length f.records
+
 -- the step speaks of its unit as the machine has it
 abbrev pub IsOf : Step → Option Slot → Type 0
 IsOf (Access u slot) now = now ≡ Some slot
-IsOf (Get u) now = (m : Minidisk) × (now ≡ Some (Settled (Volume m)))
-IsOf (Put u m change) now = now ≡ Some (Settled (Volume m))
+IsOf (Get u f wanted) now = Offers now f wanted
+IsOf (Put u m change stamp) now = now ≡ Some (Settled (Volume m))
 IsOf (Wipe u old) now = now ≡ Some (Settled old)
-IsOf (Make u old m) now = now ≡ Some (Settled old)
+IsOf (Make u old m stamp) now = now ≡ Some (Settled old)
 
 -- ---- how many syncs of the unit a step makes
 
@@ -190,10 +198,24 @@ put_syncs _ (Changed m) o = update_syncs o
 -- the syncs that a step with this outcome makes
 abbrev pub sync_count : Step → Outcome → ℕ
 sync_count (Access u slot) o = access_syncs slot o
-sync_count (Get u) o = 0
-sync_count (Put u m change) o = put_syncs change (answer_of m change) o
+sync_count (Get u f wanted) o = 0
+sync_count (Put u m change stamp) o = put_syncs change (answer_of m change) o
 sync_count (Wipe u old) o = label_syncs o
-sync_count (Make u old m) o = update_syncs o
+sync_count (Make u old m stamp) o = update_syncs o
+
+-- ---- the stamp of the directory that a step writes
+
+-- a relabelling writes none
+abbrev pub put_stamp : Change → Stamp → Option Stamp
+put_stamp (Relabel volid) stamp = None
+put_stamp _ stamp = Some stamp
+
+abbrev pub stamp_in : Step → Option Stamp
+stamp_in (Access u slot) = None
+stamp_in (Get u f wanted) = None
+stamp_in (Put u m change stamp) = put_stamp change stamp
+stamp_in (Wipe u old) = None
+stamp_in (Make u old m stamp) = Some stamp
 
 -- ---- faults
 

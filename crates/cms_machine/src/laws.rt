@@ -1,11 +1,21 @@
 // Laws of beats and of runs.
-ghost use Rattle.cms_machine.specs.Laws.{CrashesWithin, WithinIsAt, KeepSound, AddUp, RunsJoin, StopsJoin, LeadsWithin, FeedsBeats, StopsFollow, RunsCome};
+ghost use Rattle.cms_machine.specs.Items.{ToldAreSure, WholeByLines};
+ghost use Rattle.cms_machine.specs.Laws.{CrashesWithin, WithinIsAt, KeepSound, AddUp, RunsJoin, StopsJoin, LeadsWithin, FeedsBeats, StopsFollow, RunsCome, ReadsAreWanted, DoubtEndsNow, SettledIsNow, DoubtIsOfBoth};
+
+/// The items of a console.
+///
+/// - What is told by a part of a script is exactly what every script that begins so has at that place.
+/// - The items of a whole script are those of its lines.
+pub fn laws_of_items()
+    ensures told { ToldAreSure }
+    ensures whole { WholeByLines }
+{}
 
 /// The law of beats: what a crash leaves at any moment of a run, where each beat's piece of the journal is covered.
 ///
 /// - At every moment it leaves each unit in a state that the trace has there, after the bytes typed and the turns spent by then.
 /// - So it does by the bytes typed alone.
-/// - Behind the last beat each unit is in a state of its set.
+/// - Behind the last beat a crash leaves each unit in a state of its set, and its contents have the state of its slot.
 /// - The beats' pieces, faults, sets, bytes and turns add up to those of the whole.
 pub fn law_of_beats()
     ensures within { CrashesWithin }
@@ -25,10 +35,23 @@ pub fn laws_of_joining<A, R>()
 ///
 /// - The machine on what beats took shows their trace.
 /// - On all that was told in a run that was cut off, its bytes begin with those typed, a crash at any moment leaves a state that
-///   its trace has there, and wherever the script was read it waits for the script.
+///   its trace has there, and wherever the script was read it waits for the script. Where it was cut off a crash leaves each unit
+///   as the machine knows it then.
 /// - On all that was told in a run to its end it comes to the same result, with the same bytes, turns and sets.
 pub fn laws_of_runs<R>()
     ensures feeds { FeedsBeats R }
     ensures stops { StopsFollow R }
     ensures ends { RunsCome R }
+{}
+
+/// What is known of a unit.
+///
+/// - A read fails after no more records than were wanted.
+/// - An access that ends a doubt settles the unit at the state that its contents have.
+/// - Of a settled unit that is the one state that a crash may leave, and of one in doubt it is one of the two.
+pub fn laws_of_units()
+    ensures wanted { ReadsAreWanted }
+    ensures ended { DoubtEndsNow }
+    ensures settled { SettledIsNow }
+    ensures doubt { DoubtIsOfBoth }
 {}

@@ -1,11 +1,16 @@
 -- Commands.
-use Rattle.std.proofs.Common.{◌≡◌, ℕ, zero, suc, ◌<◌, List, [], ◌∷◌, length, slice_index_or, slice_get, Option, Some, None, Result, Ok, Err, ℤ, pos, refl, ap, ◌∙◌, subst, arith}
+use Rattle.std.proofs.Common.{◌≡◌, inl, inr, ℕ, zero, suc, ◌<◌, List, [], ◌∷◌, length, slice_index_or, slice_get, Option, Some, None, Result, Ok, Err, ℤ, pos, refl, ap, sym, ◌∙◌, subst, arith}
+use Rattle.std.specs.Prelude.{Bool, true, false, if◌then◌else◌}
+use Rattle.std.specs.Option.{option_and_then}
+use Rattle.std.proofs.lemmas.Bool.{cases_Bool}
 use Rattle.cms_journal.specs.Journal.{Journal}
 use Rattle.cms_journal.specs.Told.{Told}
 use Rattle.cms_names.specs.declared.name.Name.{Name}
 use Rattle.cms_fields.specs.declared.entry.Entry.{Entry}
 use Rattle.cms_model.specs.Trees.{Image}
-use Rattle.cms_model.specs.Minidisks.{File, Minidisk, Volume}
+use Rattle.cms_model.specs.Minidisks.{File, Minidisk, Volume, same_name}
+use Rattle.cms_model.specs.Changes.{file_named}
+use Rattle.cms_model.proofs.Changing.{name_from}
 use Rattle.cms_machine.specs.Slots.{Slot, Settled}
 use Rattle.cms_machine.specs.Acts.{Act, Done, saying, typed_line}
 use Rattle.cms_line.specs.declared.message.Message.{Message}
@@ -17,8 +22,8 @@ use Rattle.cms_session.specs.declared.state.End.{End}
 use Rattle.cms_session.specs.declared.state.Course as declared
 use Rattle.cms_session.specs.declared.state.Course.TheVariants as course
 use Rattle.cms_session.specs.Commands.{letter_a}
-use Rattle.cms_session.specs.Machine.{Course, Went, seen_file}
-use Rattle.cms_session.specs.Calls.{Spot, holds, Does, Acts, IsSeen, HasRecords, machine_at, seen_as, type_tree, refusal_tree, records_tree, course_of, itself, file_in}
+use Rattle.cms_session.specs.Machine.{DiskA, Course, Went, is_seen, seen_file}
+use Rattle.cms_session.specs.Calls.{Spot, holds, Does, Acts, IsSeen, IsFile, machine_at, seen_as, type_tree, refusal_tree, records_tree, course_of, itself, file_in}
 use Rattle.cms_session.proofs.Holding.{holds_some, some_same}
 use Rattle.cms_session.proofs.Acts.{comes_does, comes_same, acts_done, acts_after, does_stop}
 use Rattle.cms_session.proofs.Seen.{some_entry}
@@ -75,7 +80,30 @@ image_at (Some j) d n = contents_image j d.small n
 abbrev chosen : Told → (d : Disk) (k : ℕ) → k < length d.small.files → File
 chosen told d k within = file_in (image_at told d) (slice_index_or d.small.files k (some_entry d.small.files k within))
 
-chosen_has : (told : Told) (d : Disk) (k : ℕ) (within : k < length d.small.files) → HasRecords told d k (chosen told d k within).records
+-- the file of a name has it
+pub named_so : (name : Name) (fs : List File) (f : File) → file_named name fs ≡ Some f → f.name ≡ name
+unfolding file_named
+named_so name [] f is = absurd (cc)
+named_so name (g ∷ fs) f is = elim (cases_Bool (same_name name g.name)) [
+  | inl same ↦ let e : Some g ≡ Some f = rw same at is in let there : g ≡ f = some_same g f e in sym (ap (λ (x : File). x.name) there) ∙ sym (name_from name g.name same)
+  | inr other ↦ named_so name fs f (rw other at is)
+]
+
+-- where a file of this name is seen it is the one of the name
+seen_named : (disk : DiskA) (name : Name) (m : Minidisk) (f : File) → seen_file disk name m ≡ Some f → file_named f.name m.files ≡ Some f
+seen_named disk name m f is =
+    let there : file_named name m.files ≡ Some f = one_seen (file_named name m.files) f is in
+    subst (λ (n : Name). file_named n m.files ≡ Some f) (sym (named_so name m.files f there)) there
+  where
+    if_seen : (b : Bool) (g : File) → (if b then Some g else None) ≡ Some f → Some g ≡ Some f
+    if_seen true g e = e
+    if_seen false g e = absurd (cc)
+
+    one_seen : (x : Option File) (g : File) → option_and_then (λ (h : File). if is_seen disk h then Some h else None) x ≡ Some f → x ≡ Some f
+    one_seen None g e = absurd (cc)
+    one_seen (Some h) g e = if_seen (is_seen disk h) h e
+
+chosen_has : (told : Told) (d : Disk) (k : ℕ) (within : k < length d.small.files) (j : Journal) → told ≡ Some j → (e : Entry) → (chosen told d k within).records ≡ records_in (contents_image j d.small) (slice_index_or d.small.files k e)
 chosen_has None d k within j is = absurd (cc)
 chosen_has (Some i) d k within j is =
     let same : i ≡ j = some_same i j is in
@@ -83,6 +111,13 @@ chosen_has (Some i) d k within j is =
 
 chosen_is : (told : Told) (d : Disk) (k : ℕ) (within : k < length d.small.files) (j : Journal) → told ≡ Some j → file_in (contents_image j d.small) (slice_index_or d.small.files k (some_entry d.small.files k within)) ≡ chosen told d k within
 chosen_is told d k within j is = rw is refl
+
+chosen_file : (told : Told) (d : Disk) (name : Name) (k : ℕ) (within : k < length d.small.files) → ((j : Journal) → IsSeen j d name (Some k)) → IsFile told d k (chosen told d k within)
+chosen_file told d name k within seen j is = record {
+  records = chosen_has told d k within j is;
+  named = λ m there. seen_named (seen_as d) name m (chosen told d k within)
+      (seen j m (some_entry d.small.files k within) there ∙ ap (λ (f : File). Some f) (chosen_is told d k within j is));
+}
 
 type_found_is : (old : Spot) (d : Disk) (left : ℕ) (name : Name) (k : ℕ) (within : k < length d.small.files) (units : List Slot) → ((j : Journal) → IsSeen j d name (Some k)) → MeetsDisk old d units
     → type_tree (Some d) left name units ≡ records_tree (Some d) left d.small.unit (chosen old.told d k within) units
@@ -92,9 +127,9 @@ type_found_is old d left name k within units seen met =
     rw (slot, file) refl
 
 pub type_found : (old new : Spot) (d : Disk) (left : ℕ) (name : Name) (k : ℕ) (r : Result declared.Course End) → old.disk ≡ Some d → k < length d.small.files → ((j : Journal) → IsSeen j d name (Some k))
-    → ((f : File) → HasRecords old.told d k f.records → Acts old new (records_tree old.disk left d.small.unit f) r (course_of old.disk left)) → Acts old new (type_tree old.disk left name) r (course_of old.disk left)
+    → ((f : File) → IsFile old.told d k f → Acts old new (records_tree old.disk left d.small.unit f) r (course_of old.disk left)) → Acts old new (type_tree old.disk left name) r (course_of old.disk left)
 type_found old new d left name k r disk_a within seen acts =
     let f = chosen old.told d k within in
     acts_after old old new (type_tree old.disk left name) (records_tree old.disk left d.small.unit f) r (course_of old.disk left)
     (comes_same old (type_tree old.disk left name) (records_tree old.disk left d.small.unit f) (λ units h. rw disk_a (type_found_is old d left name k within units seen (meets old d units disk_a h))))
-    (acts f (chosen_has old.told d k within))
+    (acts f (chosen_file old.told d name k within seen))

@@ -1,6 +1,6 @@
 -- What is held after a file of disk A was erased, or after the device failed in that.
-use Rattle.std.proofs.Common.{◌≡◌, ◌≢◌, inl, inr, ℕ, List, [], ◌∷◌, Option, Some, None, refl, sym, ◌∙◌, subst, slice_get, length}
-use Rattle.std.specs.Prelude.{unwrap_or}
+use Rattle.std.proofs.Common.{◌≡◌, ◌≢◌, inl, inr, ℕ, List, [], ◌∷◌, Option, Some, None, refl, sym, ap, ◌∙◌, subst, slice_get, length}
+use Rattle.std.specs.Prelude.{option_map, unwrap_or}
 use Rattle.std.proofs.lemmas.Option.{slice_get_within}
 use Rattle.std.proofs.lemmas.List.{length-set}
 use Rattle.std.proofs.lemmas.Bool.Decides.{eqb_tells}
@@ -11,12 +11,13 @@ use Rattle.cms_journal.specs.Journal.{Journal}
 use Rattle.cms_journal.specs.Told.{Told, plus}
 use Rattle.cms_journal.proofs.Pieces.{plus-some}
 use Rattle.cms_names.specs.declared.name.Name.{Name}
+use Rattle.cms_fields.specs.declared.time.Stamp.{Stamp}
 use Rattle.cms_model.specs.Minidisks.{Minidisk, State, Volume}
 use Rattle.cms_model.specs.Changes.{Drop, Changed, answer_of}
 use Rattle.cms_model.specs.LawsUpdates.{after}
-use Rattle.cms_machine.specs.Slots.{Slot, Settled, set_of, unit_set, IsAmong}
+use Rattle.cms_machine.specs.Slots.{Slot, Settled, state_in, set_of, unit_set, IsAmong}
 use Rattle.cms_machine.specs.Steps.{Outcome, Good, new_slot, put_slot, slot_after, units_after, faults_in}
-use Rattle.cms_machine.specs.Points.{Leaves}
+use Rattle.cms_machine.specs.Points.{Leaves, HasNow}
 use Rattle.cms_machine.specs.Acts.{Act, Does}
 use Rattle.cms_machine.specs.Beats.{Covers}
 use Rattle.cms_machine.specs.Runs.{Ran}
@@ -28,7 +29,7 @@ use Rattle.cms_edf.specs.Erase.{AllOf, Changes}
 use Rattle.cms_session.specs.declared.state.Disk.{Disk}
 use Rattle.cms_session.specs.Machine.{drop_step}
 use Rattle.cms_session.specs.Calls.{Spot, at, IsCovered, HoldsIn}
-use Rattle.cms_session.proofs.Holding.{left_before, some_same}
+use Rattle.cms_session.proofs.Holding.{left_before, now_before, some_same}
 
 only_of : (u : ℕ) (es : List Event) → AllOf u es → OnlyOf u es
 only_of u [] o = tt
@@ -54,64 +55,79 @@ as_many units u None = refl
 as_many units u (Some new) = length-set units u new
 
 -- the slot of the unit after its file was dropped
-abbrev pub dropped_slot : ℕ → Minidisk → Name → Outcome → Slot
-dropped_slot u m name o = slot_after (Settled (Volume m)) (drop_step u m name) o
+abbrev pub dropped_slot : ℕ → Minidisk → Name → Stamp → Outcome → Slot
+dropped_slot u m name stamp o = slot_after (Settled (Volume m)) (drop_step u m name stamp) o
 
-abbrev pub dropped_units : List Slot → ℕ → Minidisk → Name → Outcome → List Slot
-dropped_units units u m name o = units_after units (drop_step u m name) o
+abbrev pub dropped_units : List Slot → ℕ → Minidisk → Name → Stamp → Outcome → List Slot
+dropped_units units u m name stamp o = units_after units (drop_step u m name stamp) o
 
-there_after : (units : List Slot) (u : ℕ) (m : Minidisk) (name : Name) (o : Outcome) → slice_get units u ≡ Some (Settled (Volume m)) → slice_get (dropped_units units u m name o) u ≡ Some (dropped_slot u m name o)
-there_after units u m name o there = slot_there units u (Settled (Volume m)) (new_slot (drop_step u m name) o) there
+there_after : (units : List Slot) (u : ℕ) (m : Minidisk) (name : Name) (stamp : Stamp) (o : Outcome) → slice_get units u ≡ Some (Settled (Volume m)) → slice_get (dropped_units units u m name stamp o) u ≡ Some (dropped_slot u m name stamp o)
+there_after units u m name stamp o there = slot_there units u (Settled (Volume m)) (new_slot (drop_step u m name stamp) o) there
 
 -- ---- what is held
 
 -- the piece of a drop, after a journal that is told
-abbrev pub DropsIn : Journal → ℕ → Minidisk → Name → Outcome → List Event → Type 0
-DropsIn j u m name o es = AllOf u es × ((x : State) → Leaves (plus (Some j) es) u x → IsAmong x (set_of (dropped_slot u m name o)))
+pub record DropsIn (j : Journal) (u : ℕ) (m : Minidisk) (name : Name) (stamp : Stamp) (o : Outcome) (es : List Event) : Type 0 where
+  pub of_unit : AllOf u es
+  pub crash : (x : State) → Leaves (plus (Some j) es) u x → IsAmong x (set_of (dropped_slot u m name stamp o))
+  pub now : (x : State) → HasNow (plus (Some j) es) u x → state_in (dropped_slot u m name stamp o) ≡ x
 
-other_covered : (j : Journal) (es : List Event) (units : List Slot) (u v : ℕ) (m : Minidisk) (name : Name) (o : Outcome) → AllOf u es → u ≢ v → IsCovered j units v → IsCovered (after j es) (dropped_units units u m name o) v
-other_covered j es units u v m name o all other c =
-    (c.0, (slot_elsewhere units u v (new_slot (drop_step u m name) o) other ∙ c.1.0, λ x leaves. c.1.1 x (left_before j es v x (of_aside u es v other (only_of u es all)) leaves)))
+other_covered : (j : Journal) (es : List Event) (units : List Slot) (u v : ℕ) (m : Minidisk) (name : Name) (stamp : Stamp) (o : Outcome) → AllOf u es → u ≢ v → IsCovered j units v → IsCovered (after j es) (dropped_units units u m name stamp o) v
+other_covered j es units u v m name stamp o all other c =
+    let aside = of_aside u es v other (only_of u es all) in
+    record {
+      slot = c.slot;
+      there = slot_elsewhere units u v (new_slot (drop_step u m name stamp) o) other ∙ c.there;
+      crash = λ x leaves. c.crash x (left_before j es v x aside leaves);
+      now = λ x has. c.now x (now_before j es v x aside has);
+    }
 
-own_covered : (j : Journal) (es : List Event) (units : List Slot) (u : ℕ) (m : Minidisk) (name : Name) (o : Outcome) → slice_get units u ≡ Some (Settled (Volume m)) → DropsIn j u m name o es → IsCovered (after j es) (dropped_units units u m name o) u
-own_covered j es units u m name o there drops =
-    (dropped_slot u m name o, (there_after units u m name o there, λ x leaves. drops.1 x (subst (λ (t : Told). Leaves t u x) (sym (plus-some j es)) leaves)))
+own_covered : (j : Journal) (es : List Event) (units : List Slot) (u : ℕ) (m : Minidisk) (name : Name) (stamp : Stamp) (o : Outcome) → slice_get units u ≡ Some (Settled (Volume m)) → DropsIn j u m name stamp o es → IsCovered (after j es) (dropped_units units u m name stamp o) u
+own_covered j es units u m name stamp o there drops =
+    record {
+      slot = dropped_slot u m name stamp o;
+      there = there_after units u m name stamp o there;
+      crash = λ x leaves. drops.crash x (subst (λ (t : Told). Leaves t u x) (sym (plus-some j es)) leaves);
+      now = λ x has. drops.now x (subst (λ (t : Told). HasNow t u x) (sym (plus-some j es)) has);
+    }
 
 -- after a fault no disk is accessed
-pub held_none : (j : Journal) (es : List Event) (units : List Slot) (d : Disk) (m : Minidisk) (name : Name) (o : Outcome) → slice_get units d.small.unit ≡ Some (Settled (Volume m)) → DropsIn j d.small.unit m name o es
-    → HoldsIn j (Some d) units → HoldsIn (after j es) None (dropped_units units d.small.unit m name o)
-held_none j es units d m name o there drops h = record {
-  same = as_many units d.small.unit (new_slot (drop_step d.small.unit m name) o) ∙ h.same;
+pub held_none : (j : Journal) (es : List Event) (units : List Slot) (d : Disk) (m : Minidisk) (name : Name) (stamp : Stamp) (o : Outcome) → slice_get units d.small.unit ≡ Some (Settled (Volume m)) → DropsIn j d.small.unit m name stamp o es
+    → HoldsIn j (Some d) units → HoldsIn (after j es) None (dropped_units units d.small.unit m name stamp o)
+held_none j es units d m name stamp o there drops h = record {
+  same = as_many units d.small.unit (new_slot (drop_step d.small.unit m name stamp) o) ∙ h.same;
   disk_a = λ x is. absurd (cc);
   others = λ v unit has none. elim (eqb_tells d.small.unit v) [
-    | inl same ↦ subst (λ (w : ℕ). IsCovered (after j es) (dropped_units units d.small.unit m name o) w) same.1 (own_covered j es units d.small.unit m name o there drops)
-    | inr other ↦ other_covered j es units d.small.unit v m name o drops.0 other.1 (h.others v unit has other.1)
+    | inl same ↦ subst (λ (w : ℕ). IsCovered (after j es) (dropped_units units d.small.unit m name stamp o) w) same.1 (own_covered j es units d.small.unit m name stamp o there drops)
+    | inr other ↦ other_covered j es units d.small.unit v m name stamp o drops.of_unit other.1 (h.others v unit has other.1)
   ];
 }
 
 -- and else disk A is the minidisk without the file
-pub held_later : (j : Journal) (es : List Event) (units : List Slot) (d new : Disk) (m later : Minidisk) (name : Name) → new.small.unit ≡ d.small.unit → answer_of m (Drop name) ≡ Changed later → IsMinidisk (after j es) new.small later
-    → slice_get units d.small.unit ≡ Some (Settled (Volume m)) → DropsIn j d.small.unit m name Good es → HoldsIn j (Some d) units → HoldsIn (after j es) (Some new) (dropped_units units d.small.unit m name Good)
-held_later j es units d new m later name same answer is there drops h = record {
-  same = as_many units d.small.unit (new_slot (drop_step d.small.unit m name) Good) ∙ h.same;
+pub held_later : (j : Journal) (es : List Event) (units : List Slot) (d new : Disk) (m later : Minidisk) (name : Name) (stamp : Stamp) → new.small.unit ≡ d.small.unit → answer_of m (Drop name) ≡ Changed later → IsMinidisk (after j es) new.small later
+    → slice_get units d.small.unit ≡ Some (Settled (Volume m)) → DropsIn j d.small.unit m name stamp Good es → HoldsIn j (Some d) units → HoldsIn (after j es) (Some new) (dropped_units units d.small.unit m name stamp Good)
+held_later j es units d new m later name stamp same answer is there drops h = record {
+  same = as_many units d.small.unit (new_slot (drop_step d.small.unit m name stamp) Good) ∙ h.same;
   disk_a = λ x found.
       let e : new ≡ x = some_same new x found in
-      let slot : slice_get (dropped_units units d.small.unit m name Good) new.small.unit ≡ Some (Settled (Volume later)) =
-      rw same (there_after units d.small.unit m name Good there ∙ (rw answer refl)) in
-      (later, (subst (λ (y : Disk). slice_get (dropped_units units d.small.unit m name Good) y.small.unit ≡ Some (Settled (Volume later))) e slot, subst (λ (y : Disk). IsMinidisk (after j es) y.small later) e is));
+      let slot : slice_get (dropped_units units d.small.unit m name stamp Good) new.small.unit ≡ Some (Settled (Volume later)) =
+      rw same (there_after units d.small.unit m name stamp Good there ∙ (rw answer refl)) in
+      (later, (subst (λ (y : Disk). slice_get (dropped_units units d.small.unit m name stamp Good) y.small.unit ≡ Some (Settled (Volume later))) e slot, subst (λ (y : Disk). IsMinidisk (after j es) y.small later) e is));
   others = λ v unit has elsewhere.
       let other : d.small.unit ≢ v = λ e. elsewhere (same ∙ e) in
-      other_covered j es units d.small.unit v m name Good drops.0 other (h.others v unit has other);
+      other_covered j es units d.small.unit v m name stamp Good drops.of_unit other (h.others v unit has other);
 }
 
 -- ---- the step
 
 -- a file was dropped, with this outcome
-pub drop_ran : {R : Type 0} (old new : Spot) (units : List Slot) (u : ℕ) (m : Minidisk) (name : Name) (o : Outcome) (k : Outcome → Act R) → slice_get units u ≡ Some (Settled (Volume m)) → Changes old.told new.told u m name o
-    → Counted old.faults (faults_in (o ∷ [])) new.faults → new.unread ≡ old.unread → new.ended ≡ old.ended → Ran (at old units) (at new (dropped_units units u m name o)) (Does (drop_step u m name) k) (k o)
-drop_ran old new units u m name o k there changes counted unread ended =
+pub drop_ran : {R : Type 0} (old new : Spot) (units : List Slot) (u : ℕ) (m : Minidisk) (name : Name) (stamp : Stamp) (o : Outcome) (k : Outcome → Act R) → slice_get units u ≡ Some (Settled (Volume m))
+    → (changes : Changes old.told new.told u m name stamp o) → ((x : State) → HasNow new.told u x → state_in (dropped_slot u m name stamp o) ≡ x)
+    → Counted old.faults (faults_in (o ∷ [])) new.faults → new.unread ≡ old.unread → new.ended ≡ old.ended → Ran (at old units) (at new (dropped_units units u m name stamp o)) (Does (drop_step u m name stamp) k) (k o)
+drop_ran old new units u m name stamp o k there changes now counted unread ended =
+    let slot = there_after units u m name stamp o there in
     let before : unit_set units u ≡ Volume m ∷ [] = rw there refl in
-    let behind : unit_set (dropped_units units u m name o) u ≡ set_of (dropped_slot u m name o) = (let e = there_after units u m name o there in rw e refl) in
-    let covers : Covers old.told changes.events u (unit_set units u) (unit_set (dropped_units units u m name o) u) = rw (before, behind) changes.covers in
-    ran_step (at old units) (at new (dropped_units units u m name o)) (drop_step u m name) o k changes.events changes.told counted (only_of u changes.events changes.of_unit) changes.fits.synced changes.fits.outcome there refl
-    (record { unread = unread; ended = ended }) (λ sound. covers)
+    let behind : unit_set (dropped_units units u m name stamp o) u ≡ set_of (dropped_slot u m name stamp o) = rw slot refl in
+    let covers : Covers old.told changes.events u (unit_set units u) (unit_set (dropped_units units u m name stamp o) u) = rw (before, behind) changes.covers in
+    ran_step (at old units) (at new (dropped_units units u m name stamp o)) (drop_step u m name stamp) o k changes.events changes.told counted (only_of u changes.events changes.of_unit) changes.fits there refl
+    (record { unread = unread; ended = ended }) (λ sound. covers) (λ sound x has. ap (λ (z : Option Slot). option_map state_in z) slot ∙ ap (λ (y : State). Some y) (now x has))

@@ -6,15 +6,18 @@ use Rattle.cms_journal.specs.declared.event.Access.{Access}
 use Rattle.cms_journal.specs.declared.event.Attached.{Attached}
 use Rattle.cms_journal.specs.Causes.{Rose, Counted}
 use Rattle.cms_journal.specs.Journal.{IsAttached, MayAdd, may_write}
-use Rattle.cms_session.proofs.Starts.{first_state, settled_at, left_first}
+use Rattle.std.specs.Prelude.{option_map}
+use Rattle.std.proofs.lemmas.List.{length-map}
+use Rattle.cms_session.proofs.Holding.{some_same}
+use Rattle.cms_session.proofs.Starts.{first_state, settled_at, left_first, now_first}
 use Rattle.cms_journal.specs.Told.{Told, typed, moments}
 use Rattle.cms_model.specs.Minidisks.{State}
-use Rattle.cms_machine.specs.Slots.{Slot, Settled, unit_set, IsAmong}
+use Rattle.cms_machine.specs.Slots.{Slot, Settled, state_in, set_of, unit_set, unit_state, IsAmong}
 use Rattle.cms_machine.specs.Steps.{faults_in}
 use Rattle.cms_machine.specs.Acts.{Act}
 use Rattle.cms_machine.specs.Acts as acts
 use Rattle.cms_machine.specs.Feeds.{Fed}
-use Rattle.cms_machine.specs.Points.{LeavesIn, Point, Sound}
+use Rattle.cms_machine.specs.Points.{LeavesIn, Leaves, HasNowIn, HasNow, Point, Sound}
 use Rattle.cms_machine.specs.Beats.{pieces, outcomes}
 use Rattle.cms_machine.specs.Runs.{Ran, Broke, events_of}
 use Rattle.cms_machine.proofs.Law.{at_of_within}
@@ -23,7 +26,7 @@ use Rattle.cms_machine.proofs.Single.{broke_before}
 use Rattle.cms_machine.proofs.Whole.{follows_tree, comes_to, whole}
 use Rattle.cms_session.specs.Machine.{machine}
 use Rattle.cms_session.specs.Calls.{Holds, session_tree}
-use Rattle.cms_session.specs.Headline.{Seen, Start, Headline, Came, Begins, EndsAs, fresh, settled, first_point, start_point, start_tree, run_on}
+use Rattle.cms_session.specs.Headline.{Seen, Start, Headline, Came, Begins, EndsAs, IsAs, fresh, settled, first_point, start_point, start_tree, run_on}
 use Rattle.cms_session.specs.Sessions.{IsAsSeen, CameTo, WasCut, EndedAs, RanOn, NotAttached, OnUnit, IsAlone, FoundAs, start_on}
 use Rattle.cms_session.specs.Words.{UnitSpec}
 use Rattle.cms_session.specs.declared.state.Disk.{Disk}
@@ -38,7 +41,7 @@ use Rattle.cms_session.specs.declared.status.Status.TheVariants.{Done, Usage, Me
 pub cut_before : (p : Point) (now : Seen) (t : Act Finish) → now.told ≡ p.journal → p.faults ≤ now.faults → WasCut p now t
 cut_before p now t told later =
     let q : Point = record { journal = now.told; faults = now.faults; units = p.units; unread = p.unread; ended = p.ended } in
-    (q, (record { told = refl; faults = refl }, broke_before p q t told later))
+    (q, (record { told = refl; faults = refl }, broke_before p q t told later refl))
 
 came_then : (p m : Point) (now : Seen) (t u : Act Finish) (finish : Finish) → Ran p m t u → CameTo m now u finish → CameTo p now t finish
 came_then p m now t u finish ran came = (came.0, (came.1.0, ran_then ran came.1.1))
@@ -63,11 +66,28 @@ sound_at units u x l =
     let slot : slice_get (settled units) u ≡ Some (Settled (first_state l.unit)) = settled_at units u l.unit l.attached in
     rw slot (inl (left_first units u x l))
 
+-- and the contents of each are those that it was attached with
+now_at : (units : List Attached) (u : ℕ) (x : State) → HasNowIn (fresh units) u x → unit_state (settled units) u ≡ Some x
+now_at units u x h =
+    let slot : slice_get (settled units) u ≡ Some (Settled (first_state h.unit)) = settled_at units u h.unit h.attached in
+    ap (λ (z : Option Slot). option_map state_in z) slot ∙ ap (λ (y : State). Some y) (now_first units u x h)
+
 pub sound_start : (s : Start) → Sound (start_point s)
-sound_start s = record { each = λ u x l. sound_at s.units u x l }
+sound_start s = record { each = λ u x l. sound_at s.units u x l; now = λ u x h. now_at s.units u x h }
+
+as_its_slot : (q : Point) (told : Told) (u : ℕ) (slot : Slot) → q.journal ≡ told → Sound q → slice_get q.units u ≡ Some slot → IsAs told u slot
+as_its_slot q told u slot same sound there = record {
+  crash = λ x leaves.
+      let set : unit_set q.units u ≡ set_of slot = rw there refl in
+      subst (IsAmong x) set (sound.each u x (subst (λ (t : Told). Leaves t u x) (sym same) leaves));
+  now = λ x has.
+      let is : unit_state q.units u ≡ Some x = sound.now u x (subst (λ (t : Told). HasNow t u x) (sym same) has) in
+      let at : unit_state q.units u ≡ Some (state_in slot) = ap (λ (z : Option Slot). option_map state_in z) there in
+      some_same (state_in slot) x (sym at ∙ is);
+}
 
 headline_of : (s : Start) (before now : Seen) (status : Status) (q : Point) (b : Broke (start_point s) q (start_tree s)) → before.faults ≡ s.faults → IsAsSeen q now
-    → EndsAs s (events_of b) (run_on s (events_of b) (outcomes b.ran.beats)) before.edges now.edges status → Headline s before now status
+    → EndsAs s (events_of b) (run_on s (events_of b) (outcomes b.ran.beats)) q.units before.edges now.edges status → Headline s before now status
 unfolding machine
 headline_of s before now status q b faults is ends =
     let follows = follows_tree (start_point s) q (start_tree s) b in
@@ -76,7 +96,10 @@ headline_of s before now status q b faults is ends =
       told = sym is.told ∙ follows.journal;
       outcomes = outcomes b.ran.beats;
       counted = subst (λ (n : ℕ). Counted n (faults_in (outcomes b.ran.beats)) now.faults) (sym faults) (subst (λ (n : ℕ). Counted s.faults (faults_in (outcomes b.ran.beats)) n) is.faults follows.faults);
-      agrees = record { last = q; beats = b; events_are = refl; outcomes_are = refl };
+      units = q.units;
+      agrees = record { last = q; beats = b; events_are = refl; outcomes_are = refl; units_are = refl };
+      units_there = follows.as_many ∙ length-map s.units (λ (unit : Attached). Settled (first_state unit));
+      stands = λ u slot there. as_its_slot q now.told u slot is.told (follows.sound (sound_start s)) there;
       ends = ends;
       crash = λ front rest e u x leaves. follows.crash (sound_start s) front rest e u x leaves;
       between = λ front rest e u x leaves.
@@ -89,14 +112,14 @@ begins_of : (s : Start) (q : Point) (b : Broke (start_point s) q (start_tree s))
 unfolding machine
 begins_of s q b = (follows_tree (start_point s) q (start_tree s) b).bytes
 
-came_of : (s : Start) (q : Point) (finish : Finish) (r : Ran (start_point s) q (start_tree s) (acts.Done finish)) → Came s (pieces r.beats) (run_on s (pieces r.beats) (outcomes r.beats)) finish
+came_of : (s : Start) (q : Point) (finish : Finish) (r : Ran (start_point s) q (start_tree s) (acts.Done finish)) → Came s (pieces r.beats) (run_on s (pieces r.beats) (outcomes r.beats)) q.units finish
 unfolding machine
 came_of s q finish r =
     let comes = comes_to (start_point s) q (start_tree s) finish r in
-    record { close = comes.close; bytes = comes.bytes; turns = comes.turns; states = comes.states (sound_start s) }
+    record { close = comes.close; bytes = comes.bytes; turns = comes.turns; sets = comes.sets; states = comes.states (sound_start s) }
 
-came_whole : (s : Start) (q : Point) (finish : Finish) (r : Ran (start_point s) q (start_tree s) (acts.Done finish)) → Came s (pieces r.beats ++ []) (run_on s (pieces r.beats ++ []) (outcomes r.beats)) finish
-came_whole s q finish r = subst (λ (es : List Event). Came s es (run_on s es (outcomes r.beats)) finish) (sym (append-nil (pieces r.beats))) (came_of s q finish r)
+came_whole : (s : Start) (q : Point) (finish : Finish) (r : Ran (start_point s) q (start_tree s) (acts.Done finish)) → Came s (pieces r.beats ++ []) (run_on s (pieces r.beats ++ []) (outcomes r.beats)) q.units finish
+came_whole s q finish r = subst (λ (es : List Event). Came s es (run_on s es (outcomes r.beats)) q.units finish) (sym (append-nil (pieces r.beats))) (came_of s q finish r)
 
 pub headline : (s : Start) (before now : Seen) (status : Status) → before.faults ≡ s.faults → EndedAs (start_point s) before.edges now (start_tree s) status → Headline s before now status
 headline s before now Done faults e = headline_of s before now Done e.0 (whole (start_point s) e.0 (start_tree s) AtEnd e.1.1) faults e.1.0 (came_whole s e.0 AtEnd e.1.1)
@@ -136,14 +159,14 @@ ended_on spec unit before now (Usage fault) told later found = absurd found
 
 -- ---- the unit was attached
 
-ends_from : (s : Start) (events : List Event) (f : Fed Finish) (before mid now : ℕ) (status : Status) → before ≤ mid → EndsAs s events f mid now status → EndsAs s events f before now status
-ends_from s events f before mid now Done earlier e = e
-ends_from s events f before mid now Turns earlier e = e
-ends_from s events f before mid now NotBuilt earlier e = e
-ends_from s events f before mid now World earlier (inl e) = inl e
-ends_from s events f before mid now World earlier (inr e) = inr (e.0, omega (arith, earlier, e.1))
-ends_from s events f before mid now Memory earlier e = e
-ends_from s events f before mid now (Usage fault) earlier e = e
+ends_from : (s : Start) (events : List Event) (f : Fed Finish) (units : List Slot) (before mid now : ℕ) (status : Status) → before ≤ mid → EndsAs s events f units mid now status → EndsAs s events f units before now status
+ends_from s events f units before mid now Done earlier e = e
+ends_from s events f units before mid now Turns earlier e = e
+ends_from s events f units before mid now NotBuilt earlier e = e
+ends_from s events f units before mid now World earlier (inl e) = inl e
+ends_from s events f units before mid now World earlier (inr e) = inr (e.0, omega (arith, earlier, e.1))
+ends_from s events f units before mid now Memory earlier e = e
+ends_from s events f units before mid now (Usage fault) earlier e = e
 
 headline_from : (s : Start) (told : Told) (edges : ℕ) (mid now : Seen) (status : Status) → edges ≤ mid.edges → Headline s mid now status → Headline s (record { told = told; edges = edges; faults = mid.faults }) now status
 headline_from s told edges mid now status earlier h = record {
@@ -151,8 +174,11 @@ headline_from s told edges mid now status earlier h = record {
   told = h.told;
   outcomes = h.outcomes;
   counted = h.counted;
+  units = h.units;
   agrees = h.agrees;
-  ends = ends_from s h.events (run_on s h.events h.outcomes) edges mid.edges now.edges status earlier h.ends;
+  units_there = h.units_there;
+  stands = h.stands;
+  ends = ends_from s h.events (run_on s h.events h.outcomes) h.units edges mid.edges now.edges status earlier h.ends;
   crash = h.crash;
   between = h.between;
   waits = h.waits;

@@ -1,19 +1,20 @@
 -- A file of disk A that is read, and its records typed.
-use Rattle.std.proofs.Common.{◌≡◌, inl, inr, ℕ, zero, suc, ◌<◌, ◌≤◌, List, [], ◌∷◌, map, length, slice_index_or, Option, Some, Ok, Err, pos, refl, ap, sym, ◌∙◌, subst, arith}
+use Rattle.std.proofs.Common.{◌≡◌, inl, inr, ℕ, zero, suc, ◌<◌, ◌≤◌, List, [], ◌∷◌, map, length, slice_index_or, slice_get, Option, Some, Ok, Err, pos, refl, ap, sym, ◌∙◌, subst, arith}
 use Rattle.std.specs.Prelude.{min}
 use Rattle.std.specs.Option.{ForSome}
 use Rattle.cms_journal.specs.Causes.{Rose}
 use Rattle.cms_journal.specs.Journal.{Journal, HasBlock, block_of}
+use Rattle.cms_journal.specs.Told.{Told}
 use Rattle.cms_journal.proofs.Counts.{counted_none, counted_one}
 use Rattle.cms_journal.proofs.Pieces.{grown_same}
 use Rattle.cms_fields.specs.declared.entry.Entry.{Entry}
 use Rattle.cms_model.specs.Lists.{In, cut}
-use Rattle.cms_model.specs.Minidisks.{File, Minidisk}
+use Rattle.cms_model.specs.Minidisks.{File, Minidisk, Volume}
 use Rattle.cms_model.specs.Volumes.{Disk, blocks_of}
 use Rattle.cms_model.proofs.InOrder.{trees_within}
 use Rattle.cms_model.proofs.Opening.{open_ok, label_reads}
-use Rattle.cms_machine.specs.Slots.{Slot}
-use Rattle.cms_machine.specs.Steps.{Get, Good, ReadFault}
+use Rattle.cms_machine.specs.Slots.{Slot, Settled}
+use Rattle.cms_machine.specs.Steps.{Get, Good, ReadFault, Offers}
 use Rattle.cms_machine.specs.Acts.{Act, Done, Out, bind, typed_line}
 use Rattle.cms_machine.specs.Runs.{Ran}
 use Rattle.cms_machine.proofs.Single.{ran_still}
@@ -23,7 +24,7 @@ use Rattle.cms_session.specs.declared.state.Disk as disk
 use Rattle.cms_session.specs.declared.state.End.{End}
 use Rattle.cms_session.specs.declared.state.Course.TheVariants as course
 use Rattle.cms_session.specs.Machine.{Course, Went, Stopped, typing, type_outcome}
-use Rattle.cms_session.specs.Calls.{Spot, at, holds, Does, Acts, Comes, HasRecords, machine_at, records_tree, course_of, itself}
+use Rattle.cms_session.specs.Calls.{Spot, at, holds, Does, Acts, Comes, IsFile, machine_at, records_tree, course_of, itself}
 use Rattle.cms_session.proofs.Holding.{holds_some}
 use Rattle.cms_session.proofs.Acts.{comes_then, comes_does, comes_same, acts_done, acts_after, does_stop}
 use Rattle.cms_session.proofs.Seen.{some_entry}
@@ -86,10 +87,15 @@ holds_beside old mid units beside h =
     let same = beside.disk in
     rw (told, same) h
 
+-- the file is one of the unit's minidisk
+file_offered : (told : Told) (d : disk.Disk) (k : ℕ) (f : File) (units : List Slot) (j : Journal) (m : Minidisk) → IsFile told d k f → told ≡ Some j → slice_get units d.small.unit ≡ Some (Settled (Volume m)) → IsMinidisk j d.small m
+    → Offers (slice_get units d.small.unit) f (length f.records)
+file_offered told d k f units j m has there slot is = record { minidisk = m; settled = slot; file = (has j there).named m is; enough = omega arith }
+
 abbrev pub records_left : Option disk.Disk → ℕ → List (List ℕ) → List Slot → Act Course
 records_left disk left records units = typing records (Done (Went (machine_at disk left units) (pos 0)))
 
-pub file_read : (old mid : Spot) (d : disk.Disk) (left k length' count : ℕ) (f : File) (bytes : List ℕ) → old.disk ≡ Some d → IsBeside old mid → k < length d.small.files → HasRecords old.told d k f.records
+pub file_read : (old mid : Spot) (d : disk.Disk) (left k length' count : ℕ) (f : File) (bytes : List ℕ) → old.disk ≡ Some d → IsBeside old mid → k < length d.small.files → IsFile old.told d k f
     → ForSome old.told (λ j. (e : Entry) → bytes ≡ block_of j d.small.unit (slice_index_or d.small.files k e).root)
     → ((e : Entry) → (length' ≡ (slice_index_or d.small.files k e).length) × (count ≡ (slice_index_or d.small.files k e).count))
     → Comes old mid (records_tree old.disk left d.small.unit f) (records_left old.disk left (cut count length' bytes))
@@ -97,9 +103,10 @@ file_read old mid d left k length' count f bytes disk_a beside within has read i
   each = λ units h.
       let held = holds_some old.told old.disk units h in
       let seat = held.2.disk_a d disk_a in
-      let records : f.records ≡ cut count length' bytes = records_are held.0 d seat.0 k length' count bytes f.records seat.1.1 within (has held.0 held.1) (read held.0 held.1) info in
+      let records : f.records ≡ cut count length' bytes = records_are held.0 d seat.0 k length' count bytes f.records seat.1.1 within (has held.0 held.1).records (read held.0 held.1) info in
+      let offers = file_offered old.told d k f units held.0 seat.0 has held.1 seat.1.0 seat.1.1 in
       let ran : Ran (at old units) (at mid units) (records_tree old.disk left d.small.unit f units) (records_left old.disk left f.records units) =
-      ran_still (at old units) (at mid units) (Get d.small.unit) Good (type_outcome (machine_at old.disk left units) f) beside.told (counted_none old.faults mid.faults beside.faults) refl tt (seat.0, seat.1.0) refl refl (record { unread = beside.unread; ended = beside.ended }) in
+      ran_still (at old units) (at mid units) (Get d.small.unit f (length f.records)) Good (type_outcome (machine_at old.disk left units) f) beside.told (counted_none old.faults mid.faults beside.faults) refl tt offers refl refl (record { unread = beside.unread; ended = beside.ended }) in
       (units, (holds_beside old mid units beside h, subst (λ (rs : List (List ℕ)). Ran (at old units) (at mid units) (records_tree old.disk left d.small.unit f units) (records_left old.disk left rs units)) records ran));
   grown = grown_same old.told mid.told beside.told;
 }
@@ -107,16 +114,17 @@ file_read old mid d left k length' count f bytes disk_a beside within has read i
 abbrev pub stopped : List Slot → Act Course
 stopped units = Done Stopped
 
-pub file_fault : (old mid : Spot) (d : disk.Disk) (left : ℕ) (f : File) → old.disk ≡ Some d → IsBeside old mid → Rose old.faults mid.faults → Comes old mid (records_tree old.disk left d.small.unit f) stopped
+pub file_fault : (old mid : Spot) (d : disk.Disk) (left k : ℕ) (f : File) → old.disk ≡ Some d → IsFile old.told d k f → IsBeside old mid → Rose old.faults mid.faults → Comes old mid (records_tree old.disk left d.small.unit f) stopped
 unfolding typing
-file_fault old mid d left f disk_a beside rose = record {
+file_fault old mid d left k f disk_a has beside rose = record {
   each = λ units h.
       let held = holds_some old.told old.disk units h in
       let seat = held.2.disk_a d disk_a in (
         units,
         (
           holds_beside old mid units beside h,
-          ran_still (at old units) (at mid units) (Get d.small.unit) (ReadFault 0) (type_outcome (machine_at old.disk left units) f) beside.told (counted_one old.faults mid.faults beside.faults rose) refl tt (seat.0, seat.1.0) refl refl (record { unread = beside.unread; ended = beside.ended }),
+          ran_still (at old units) (at mid units) (Get d.small.unit f (length f.records)) (ReadFault 0) (type_outcome (machine_at old.disk left units) f) beside.told (counted_one old.faults mid.faults beside.faults rose) refl (omega arith)
+              (file_offered old.told d k f units held.0 seat.0 has held.1 seat.1.0 seat.1.1) refl refl (record { unread = beside.unread; ended = beside.ended }),
         ),
       );
   grown = grown_same old.told mid.told beside.told;

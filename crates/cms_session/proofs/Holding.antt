@@ -12,8 +12,8 @@ use Rattle.cms_model.specs.LawsSizes.{IsWhole}
 use Rattle.cms_model.specs.LawsUpdates.{after}
 use Rattle.cms_model.proofs.Settling.{aside_is_as_before}
 use Rattle.cms_machine.specs.Slots.{Slot}
-use Rattle.cms_machine.specs.Points.{LeavesIn, Leaves}
-use Rattle.cms_machine.proofs.Aside.{no_disk_aside, leaves_aside}
+use Rattle.cms_machine.specs.Points.{LeavesIn, Leaves, HasNowIn, HasNow}
+use Rattle.cms_machine.proofs.Aside.{no_disk_aside, leaves_aside, now_aside}
 use Rattle.cms_edf.specs.Small.{SmallVolume, StandsIn, IsMinidisk, contents_image, volume_of}
 use Rattle.cms_session.specs.declared.state.Disk.{Disk}
 use Rattle.cms_session.specs.Calls.{HoldsIn, Holds, Usable}
@@ -37,12 +37,24 @@ minidisk_idle j piece s m none h =
 pub left_before : (j : Journal) (piece : List Event) (u : ℕ) (x : State) → IsUntouched piece u → LeavesIn (after j piece) u x → LeavesIn j u x
 left_before j piece u x aside l = leaves_aside (Some j) piece u x aside (subst (λ (t : Told). Leaves t u x) (sym (plus-some j piece)) l)
 
+-- and the state of its contents
+pub now_before : (j : Journal) (piece : List Event) (u : ℕ) (x : State) → IsUntouched piece u → HasNowIn (after j piece) u x → HasNowIn j u x
+now_before j piece u x aside h = now_aside (Some j) piece u x aside (subst (λ (t : Told). HasNow t u x) (sym (plus-some j piece)) h)
+
 -- what is held is held still
 held_idle : (j : Journal) (piece : List Event) (disk : Option Disk) (units : List Slot) → NoDisk piece → HoldsIn j disk units → HoldsIn (after j piece) disk units
 held_idle j piece disk units none h = record {
   same = h.same;
   disk_a = λ d is. let held = h.disk_a d is in (held.0, (held.1.0, minidisk_idle j piece d.small held.0 none held.1.1));
-  others = λ u unit has other. let held = h.others u unit has other in (held.0, (held.1.0, λ state leaves. held.1.1 state (left_before j piece u state (no_disk_aside piece u none) leaves)));
+  others = λ u unit has other.
+      let held = h.others u unit has other in
+      let aside = no_disk_aside piece u none in
+      record {
+        slot = held.slot;
+        there = held.there;
+        crash = λ state leaves. held.crash state (left_before j piece u state aside leaves);
+        now = λ state has_now. held.now state (now_before j piece u state aside has_now);
+      };
 }
 
 pub holds_idle : (old new : Told) (disk : Option Disk) (units : List Slot) → Idle old new → Holds old disk units → Holds new disk units

@@ -22,6 +22,7 @@ use Rattle.cms_machine.proofs.Single.{ran_take, ran_turn, broke_take, broke_befo
 use Rattle.cms_line.specs.ConsoleState.{ConsoleState}
 use Rattle.cms_line.specs.Consoles.{Took, Stayed, item_of}
 use Rattle.cms_line.specs.declared.console.ConsoleLine.{ConsoleLine}
+use Rattle.cms_fields.specs.declared.time.Stamp.{Stamp}
 use Rattle.cms_session.specs.Commands.{command_of, type_word, erase_word, exec_word}
 use Rattle.cms_session.specs.declared.command.Command.{Command}
 use Rattle.cms_session.specs.declared.state.Disk.{Disk}
@@ -30,7 +31,7 @@ use Rattle.cms_session.specs.declared.state.Course as declared
 use Rattle.cms_session.specs.declared.state.Round as rounds
 use Rattle.cms_session.specs.declared.state.Course.TheVariants as course
 use Rattle.cms_session.specs.declared.state.Round.TheVariants as end
-use Rattle.cms_session.specs.Machine.{Course, Round, Ready, readied, ready_line, seen_file, is_procedure, unless_procedure, turned, on_turn, on_item}
+use Rattle.cms_session.specs.Machine.{Course, Round, Ready, readied, ready_line, seen_file, is_procedure, stamp_at, unless_procedure, turned, on_turn, on_item}
 use Rattle.cms_session.specs.Calls.{Spot, at, Holds, Does, Acts, Comes, IsSeen, IsTest, procedure_name, IsTaken, Usable, machine_at, seen_as, seen_disk, course_of, round_of, ready_tree, command_tree, round_tree, itself}
 use Rattle.cms_session.proofs.Acts.{comes_then, comes_in, comes_does, comes_same, acts_done, acts_after, acts_stop, does_stop}
 
@@ -57,7 +58,7 @@ took old new l t faults disk = record {
 
 pub stayed : (old new : Spot) (e : End) → Stayed old.told new.told (console_at old) (console_at new) → new.faults ≡ old.faults → new.disk ≡ old.disk → Does {T = ConsoleLine} old new taking (Err e) item_of
 stayed old new e s faults disk = record {
-  each = λ units. broke_take (at old units) (at new units) (λ i. Done i) s.events s.told s.only s.keeps.lazy (omega (arith, faults));
+  each = λ units. broke_take (at old units) (at new units) (λ i. Done i) s.events s.told s.only s.keeps.lazy (omega (arith, faults)) refl;
   idle = record { events = s.events; told = s.told; none = read_no_disk s.events s.only };
   disk = disk;
 }
@@ -69,7 +70,7 @@ turned_so old new (Ok m) ok err faults disk unread ended = record {
   disk = disk;
 }
 turned_so old new (Err e) ok err faults disk unread ended = record {
-  each = λ units. broke_before (at old units) (at new units) turning err (omega (arith, faults));
+  each = λ units. broke_before (at old units) (at new units) turning err (omega (arith, faults)) refl;
   idle = idle_same old.told new.told err;
   disk = disk;
 }
@@ -198,18 +199,18 @@ turn_stops old mid new disk now left n now_left command e l some d =
     (does_stop mid new turning (λ units. turned units (seen_disk disk) n l.0) e itself (round_of now now_left) d)
 
 pub begun : (old mid new : Spot) (disk : Option Disk) (left n : ℕ) (command : Command) (m : ℤ) → IsLined old mid disk left command → left ≡ suc n → Does mid new turning (Ok m) itself
-    → Comes old new (round_tree disk left) (command_tree disk n command)
+    → Comes old new (round_tree disk left) (command_tree disk n command (stamp_at m))
 begun old mid new disk left n command m l some d =
     let same : command_of l.0 ≡ command = sym l.1.0 in
-    subst (λ (c : Command). Comes old new (round_tree disk left) (command_tree disk n c)) same
-    (comes_then old mid new (round_tree disk left) (turn_tree disk (suc n) l.0) (command_tree disk n (command_of l.0)) (subst (λ (k : ℕ). Comes old mid (round_tree disk left) (turn_tree disk k l.0)) some l.1.1)
+    subst (λ (c : Command). Comes old new (round_tree disk left) (command_tree disk n c (stamp_at m))) same
+    (comes_then old mid new (round_tree disk left) (turn_tree disk (suc n) l.0) (command_tree disk n (command_of l.0) (stamp_at m)) (subst (λ (k : ℕ). Comes old mid (round_tree disk left) (turn_tree disk k l.0)) some l.1.1)
     (comes_does mid new turning (λ units. turned units (seen_disk disk) n l.0) m itself d))
 
 -- and what it asks for was done, with the disk as it was before
-pub command_done : (old mid new : Spot) (disk same now : Option Disk) (left n now_left : ℕ) (command : Command) (r : Result rounds.Round End) → same ≡ disk → Comes old mid (round_tree disk left) (command_tree disk n command)
-    → Acts mid new (command_tree same n command) r (round_of now now_left) → Acts old new (round_tree disk left) r (round_of now now_left)
-command_done old mid new disk same now left n now_left command r is g a =
-    acts_after old mid new (round_tree disk left) (command_tree disk n command) r (round_of now now_left) g (subst (λ (d : Option Disk). Acts mid new (command_tree d n command) r (round_of now now_left)) is a)
+pub command_done : (old mid new : Spot) (disk same now : Option Disk) (left n now_left : ℕ) (command : Command) (stamp : Stamp) (r : Result rounds.Round End) → same ≡ disk → Comes old mid (round_tree disk left) (command_tree disk n command stamp)
+    → Acts mid new (command_tree same n command stamp) r (round_of now now_left) → Acts old new (round_tree disk left) r (round_of now now_left)
+command_done old mid new disk same now left n now_left command stamp r is g a =
+    acts_after old mid new (round_tree disk left) (command_tree disk n command stamp) r (round_of now now_left) g (subst (λ (d : Option Disk). Acts mid new (command_tree d n command stamp) r (round_of now now_left)) is a)
 
 -- ---- the disk that may be read
 

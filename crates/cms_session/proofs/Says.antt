@@ -33,7 +33,7 @@ said old new text (Err e) ok err faults disk unread ended =
     let rest = err.0 in
     let part = err.1 in
     record {
-      each = λ units. broke_out (at old units) (at new units) (typed_line text) (Done tt) part.events rest part.told part.only part.is (omega (arith, faults));
+      each = λ units. broke_out (at old units) (at new units) (typed_line text) (Done tt) part.events rest part.told part.only part.is (omega (arith, faults)) refl;
       idle = record { events = part.events; told = part.told; none = typed_no_disk part.events part.only };
       disk = disk;
     }

@@ -19,7 +19,7 @@ use Rattle.cms_model.specs.declared.fault.OpenFault.TheVariants as failed
 use Rattle.cms_model.proofs.Opening.{open_ok, state_opens}
 use Rattle.cms_model.proofs.Settling.{untouched_starts}
 use Rattle.cms_machine.specs.Slots.{Settled}
-use Rattle.cms_machine.specs.Points.{LeavesIn}
+use Rattle.cms_machine.specs.Points.{LeavesIn, HasNowIn}
 use Rattle.cms_model.specs.LawsSizes.{IsWhole}
 use Rattle.cms_session.proofs.Holding.{some_same}
 use Rattle.cms_machine.specs.Steps.{Access, Outcome, Good, ReadFault, faults_in}
@@ -60,17 +60,26 @@ left_first units u x l =
     let firm = (untouched_starts (disk_of l.unit) (fresh units) u tt).firm l.image crash in
     sym l.state ∙ firm ∙ ap (λ (blocks : List (List ℕ)). state_of (disk_of l.unit) (image_of blocks)) start
 
+-- nor is it another by its contents
+pub now_first : (units : List Attached) (u : ℕ) (x : State) (h : HasNowIn (fresh units) u x) → first_state h.unit ≡ x
+now_first units u x h =
+    let attached = h.attached in
+    let start : start_of units u ≡ h.unit.start = rw attached refl in
+    let blocks : contents_of (fresh units) u ≡ h.unit.start = (untouched_starts (disk_of h.unit) (fresh units) u tt).contents_are ∙ start in
+    ap (λ (b : List (List ℕ)). state_of (disk_of h.unit) (image_of b)) (sym blocks) ∙ h.state
+
 covered_at : (units : List Attached) (u : ℕ) (unit : Attached) → slice_get units u ≡ Some unit → IsCovered (fresh units) (settled units) u
-covered_at units u unit e = (
-  Settled (first_state unit),
-  (
-    settled_at units u unit e,
-    λ x l.
-        let has : slice_get units u ≡ Some l.unit = l.attached in
-        let same : l.unit ≡ unit = some_same l.unit unit (sym has ∙ e) in
-        inl (left_first units u x l ∙ ap first_state same),
-  ),
-)
+covered_at units u unit e = record {
+  slot = Settled (first_state unit);
+  there = settled_at units u unit e;
+  crash = λ x l.
+      let has : slice_get units u ≡ Some l.unit = l.attached in
+      let same : l.unit ≡ unit = some_same l.unit unit (sym has ∙ e) in
+      inl (left_first units u x l ∙ ap first_state same);
+  now = λ x h.
+      let same : h.unit ≡ unit = some_same h.unit unit (sym h.attached ∙ e) in
+      sym (ap first_state same) ∙ now_first units u x h;
+}
 
 pub holds_none : (unit : Attached) → HoldsIn (fresh (unit ∷ [])) None (settled (unit ∷ []))
 holds_none unit = record { same = refl; disk_a = λ d e. absurd (cc); others = λ u found e apart. covered_at (unit ∷ []) u found e }

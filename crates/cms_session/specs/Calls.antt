@@ -7,15 +7,16 @@ use Rattle.cms_journal.specs.Journal.{Journal, HasBlocks, IsWritable}
 use Rattle.cms_journal.specs.Told.{Told, Idle, Grown}
 use Rattle.cms_model.specs.Trees.{Image}
 use Rattle.cms_model.specs.Minidisks.{File, Minidisk, State, Volume}
+use Rattle.cms_model.specs.Changes.{file_named}
 use Rattle.cms_fields.specs.declared.time.Stamp.{Stamp}
 use Rattle.cms_fields.specs.declared.entry.Entry.{Entry}
 use Rattle.cms_model.specs.Records.{length_of}
-use Rattle.cms_machine.specs.Slots.{Slot, Settled, set_of, IsAmong}
+use Rattle.cms_machine.specs.Slots.{Slot, Settled, state_in, set_of, IsAmong}
 use Rattle.cms_machine.specs.Items.{Unread, Item}
 use Rattle.cms_machine.specs.Acts as acts
 use Rattle.cms_machine.specs.Acts.{Act, Done, taking, typed_line}
 use Rattle.cms_machine.specs.Steps.{Get}
-use Rattle.cms_machine.specs.Points.{Point, LeavesIn}
+use Rattle.cms_machine.specs.Points.{Point, LeavesIn, HasNowIn}
 use Rattle.cms_machine.specs.Runs.{Ran, Broke}
 use Rattle.cms_line.specs.declared.message.Message.{Message}
 use Rattle.cms_line.specs.Messages.{message_text}
@@ -42,17 +43,20 @@ seen_as d = record { unit = d.small.unit; read_only = d.read_only }
 abbrev pub seen_disk : Option Disk → Option DiskA
 seen_disk disk = option_map seen_as disk
 
--- a crash leaves the unit in a state of its slot's set
-abbrev pub IsCovered : Journal → List Slot → ℕ → Type 0
-IsCovered j units u = (slot : Slot) × ((slice_get units u ≡ Some slot) × ((state : State) → LeavesIn j u state → IsAmong state (set_of slot)))
+-- a crash leaves the unit in a state of its slot's set, and its contents have the slot's state
+pub record IsCovered (j : Journal) (units : List Slot) (u : ℕ) : Type 0 where
+  pub slot : Slot
+  pub there : slice_get units u ≡ Some slot
+  pub crash : (state : State) → LeavesIn j u state → IsAmong state (set_of slot)
+  pub now : (state : State) → HasNowIn j u state → state_in slot ≡ state
 
 -- the unit is that of disk A
 abbrev pub IsDiskA : Option Disk → ℕ → Type 0
 IsDiskA None u = ⊥
 IsDiskA (Some d) u = d.small.unit ≡ u
 
--- the machine's units are those of this journal: disk A is a minidisk at which its unit is settled, and a crash leaves every
--- other unit in a state of its set
+-- the machine's units are those of this journal: disk A is a minidisk at which its unit is settled, and every other unit is as its
+-- slot says
 pub record HoldsIn (j : Journal) (disk : Option Disk) (units : List Slot) : Type 0 where
   pub same : length units ≡ length j.units
   pub disk_a : ForSome disk (λ d. (m : Minidisk) × ((slice_get units d.small.unit ≡ Some (Settled (Volume m))) × IsMinidisk j d.small m))
@@ -165,9 +169,13 @@ IsSeen j d name None = (m : Minidisk) → IsMinidisk j d.small m → seen_file (
 IsSeen j d name (Some k) =
     (m : Minidisk) (e : Entry) → IsMinidisk j d.small m → seen_file (seen_as d) name m ≡ Some (file_in (contents_image j d.small) (slice_index_or d.small.files k e))
 
--- these are the records of the file at a place of disk A
-abbrev pub HasRecords : Told → Disk → ℕ → List (List ℕ) → Type 0
-HasRecords told d k records = ForSome told (λ j. (e : Entry) → records ≡ records_in (contents_image j d.small) (slice_index_or d.small.files k e))
+-- this is the file at a place of disk A
+pub record IsFileIn (j : Journal) (d : Disk) (k : ℕ) (f : File) : Type 0 where
+  pub records : (e : Entry) → f.records ≡ records_in (contents_image j d.small) (slice_index_or d.small.files k e)
+  pub named : (m : Minidisk) → IsMinidisk j d.small m → file_named f.name m.files ≡ Some f
+
+abbrev pub IsFile : Told → Disk → ℕ → File → Type 0
+IsFile told d k f = ForSome told (λ j. IsFileIn j d k f)
 
 -- an item was taken, or the script's end was found, and this is what it asks for
 abbrev pub IsTaken : Spot → Spot → Result (Option Command) End → Type 0
@@ -182,10 +190,10 @@ abbrev pub refusal_tree : Option Disk → ℕ → Message → ℤ → List Slot 
 refusal_tree disk left message code units = acts.Out (typed_line (message_text message)) (Done (Went (machine_at disk left units) code))
 
 abbrev pub records_tree : Option Disk → ℕ → ℕ → File → List Slot → Act Course
-records_tree disk left unit f units = acts.Does (Get unit) (type_outcome (machine_at disk left units) f)
+records_tree disk left unit f units = acts.Does (Get unit f (length f.records)) (type_outcome (machine_at disk left units) f)
 
-abbrev pub erase_tree : Option Disk → ℕ → Name → List Slot → Act Course
-erase_tree disk left name units = erase_file (machine_at disk left units) name (seen_disk disk)
+abbrev pub erase_tree : Option Disk → ℕ → Name → Stamp → List Slot → Act Course
+erase_tree disk left name stamp units = erase_file (machine_at disk left units) name stamp (seen_disk disk)
 
 abbrev pub ready_tree : Option Disk → ℕ → declared.Course.Course → List Slot → Act Round
 ready_tree disk left c units = readied (course_of disk left units c)
@@ -198,8 +206,8 @@ procedure_name word = record { file = word; kind = exec_word }
 abbrev pub IsTest : Option Disk → List ℕ → Bool → Type 0
 IsTest disk word test = (told : Told) (left : ℕ) (units : List Slot) → Holds told disk units → test ≡ is_procedure (machine_at disk left units) word (seen_disk disk)
 
-abbrev pub command_tree : Option Disk → ℕ → Command → List Slot → Act Round
-command_tree disk left command units = run_command (machine_at disk left units) command
+abbrev pub command_tree : Option Disk → ℕ → Command → Stamp → List Slot → Act Round
+command_tree disk left command stamp units = run_command (machine_at disk left units) command stamp
 
 abbrev pub round_tree : Option Disk → ℕ → List Slot → Act Round
 round_tree disk left units = round (machine_at disk left units)

@@ -1,5 +1,5 @@
 -- The headline: a session on a unit is a run of the machine.
-use Rattle.std.specs.Prelude.{◌≡◌, ◌⊎◌, ℕ, false, List, [], ◌∷◌, ◌++◌, length, map, Option, Some, None}
+use Rattle.std.specs.Prelude.{◌≡◌, ◌⊎◌, ℕ, false, List, [], ◌∷◌, ◌++◌, length, map, slice_get, Option, Some, None}
 use Rattle.cms_journal.specs.declared.event.Event.{Event}
 use Rattle.cms_journal.specs.declared.event.Event.TheVariants.{Read}
 use Rattle.cms_journal.specs.declared.event.Attached.{Attached}
@@ -9,12 +9,12 @@ use Rattle.cms_journal.specs.Told.{Told, plus, typed, script, is_over, moments}
 use Rattle.cms_model.specs.Trees.{image_of}
 use Rattle.cms_model.specs.Minidisks.{State}
 use Rattle.cms_model.specs.Volumes.{disk_of, state_of}
-use Rattle.cms_machine.specs.Slots.{Slot, Settled, unit_set, IsAmong}
+use Rattle.cms_machine.specs.Slots.{Slot, Settled, state_in, set_of, unit_set, IsAmong}
 use Rattle.cms_machine.specs.Steps.{Outcome, faults_in}
 use Rattle.cms_machine.specs.Acts.{Act}
 use Rattle.cms_machine.specs.Traces.{bytes_of, turns_of, last_set, At, Within}
 use Rattle.cms_machine.specs.Feeds.{Fed, Over, Waits, WaitsBehind}
-use Rattle.cms_machine.specs.Points.{Leaves, Point}
+use Rattle.cms_machine.specs.Points.{Leaves, HasNow, Point}
 use Rattle.cms_machine.specs.Beats.{outcomes}
 use Rattle.cms_machine.specs.Runs.{Broke, events_of}
 use Rattle.cms_session.specs.Machine.{DiskA, machine, started}
@@ -69,12 +69,13 @@ run_before s bytes events os = machine (settled s.units) s.device s.turns bytes 
 
 -- ---- the end
 
--- the machine came to this end: all bytes of its trace are typed, each of its turns has a moment, and a crash leaves each unit
--- in a state of its last set
-pub record Came (s : Start) (events : List Event) (fed : Fed Finish) (finish : Finish) : Type 0 where
+-- the machine came to this end, with these units: all bytes of its trace are typed, each of its turns has a moment, the sets of its
+-- units are the last of the trace, and a crash leaves each unit in a state of its set
+pub record Came (s : Start) (events : List Event) (fed : Fed Finish) (units : List Slot) (finish : Finish) : Type 0 where
   pub close : fed.close ≡ Over finish
   pub bytes : bytes_of fed.trace ≡ typed events
   pub turns : turns_of fed.trace ≡ length (moments events)
+  pub sets : (u : ℕ) → unit_set units u ≡ last_set u (unit_set (settled s.units) u) fed.trace
   pub states : (u : ℕ) (x : State) → Leaves (plus (Some (fresh s.units)) events) u x → IsAmong x (last_set u (unit_set (settled s.units) u) fed.trace)
 
 -- the bytes typed are the first of the machine's
@@ -82,22 +83,29 @@ abbrev pub Begins : List Event → Fed Finish → Type 0
 Begins events fed = (more : List ℕ) × (typed events ++ more ≡ bytes_of fed.trace)
 
 -- the status tells the machine's end, or where the session was cut off; edges are the counts before and now
-abbrev pub EndsAs : Start → List Event → Fed Finish → ℕ → ℕ → Status → Type 0
-EndsAs s events fed before now Done = Came s events fed AtEnd
-EndsAs s events fed before now Turns = Came s events fed AtTurns
-EndsAs s events fed before now NotBuilt = Came s events fed AtRefusal
-EndsAs s events fed before now World = Came s events fed AtFault ⊎ (Begins events fed × Rose before now)
-EndsAs s events fed before now Memory = Begins events fed
-EndsAs s events fed before now (Usage fault) = ⊥
+abbrev pub EndsAs : Start → List Event → Fed Finish → List Slot → ℕ → ℕ → Status → Type 0
+EndsAs s events fed units before now Done = Came s events fed units AtEnd
+EndsAs s events fed units before now Turns = Came s events fed units AtTurns
+EndsAs s events fed units before now NotBuilt = Came s events fed units AtRefusal
+EndsAs s events fed units before now World = Came s events fed units AtFault ⊎ (Begins events fed × Rose before now)
+EndsAs s events fed units before now Memory = Begins events fed
+EndsAs s events fed units before now (Usage fault) = ⊥
+
+-- in the end a unit is as its slot says: a crash leaves it in the state at which it is settled, or in one of the two of its doubt, and
+-- its contents have that state, or that of the doubt's side
+pub record IsAs (told : Told) (u : ℕ) (slot : Slot) : Type 0 where
+  pub crash : (x : State) → Leaves told u x → IsAmong x (set_of slot)
+  pub now : (x : State) → HasNow told u x → state_in slot ≡ x
 
 -- ---- all of it
 
--- beats of the machine, with these events as their pieces, in which its steps have these outcomes
-pub record Agrees (s : Start) (events : List Event) (os : List Outcome) : Type 0 where
+-- beats of the machine, with these events as their pieces, in which its steps have these outcomes, and behind which it has these units
+pub record Agrees (s : Start) (events : List Event) (os : List Outcome) (units : List Slot) : Type 0 where
   pub last : Point
   pub beats : Broke (start_point s) last (start_tree s)
   pub events_are : events_of beats ≡ events
   pub outcomes_are : outcomes beats.ran.beats ≡ os
+  pub units_are : last.units ≡ units
 
 -- a session from a start is a run of the machine on the script and the moments told
 pub record Headline (s : Start) (before now : Seen) (status : Status) : Type 0 where
@@ -107,8 +115,12 @@ pub record Headline (s : Start) (before now : Seen) (status : Status) : Type 0 w
   -- the places and kinds of the faults are all that is left open
   pub outcomes : List Outcome
   pub counted : Counted before.faults (faults_in outcomes) now.faults
-  pub agrees : Agrees s events outcomes
-  pub ends : EndsAs s events (run_on s events outcomes) before.edges now.edges status
+  -- what the machine knows of the units in the end, also where the session was cut off
+  pub units : List Slot
+  pub agrees : Agrees s events outcomes units
+  pub ends : EndsAs s events (run_on s events outcomes) units before.edges now.edges status
+  pub units_there : length units ≡ length s.units
+  pub stands : (u : ℕ) (slot : Slot) → slice_get units u ≡ Some slot → IsAs now.told u slot
   -- a crash at any moment leaves a state that the machine has there, after the bytes typed and the turns spent by then
   pub crash :
       (front rest : List Event) → front ++ rest ≡ events → (u : ℕ) (x : State) → Leaves (plus (Some (fresh s.units)) front) u x

@@ -1,7 +1,10 @@
 -- What follows for every session.
-use Rattle.std.specs.Prelude.{◌≡◌, ◌⊎◌}
+use Rattle.std.specs.Prelude.{◌≡◌, ◌⊎◌, ℕ, Some, slice_get}
 use Rattle.cms_journal.specs.Causes.{Rose}
 use Rattle.cms_machine.specs.Steps.{faults_in}
+use Rattle.cms_model.specs.Minidisks.{State}
+use Rattle.cms_machine.specs.Slots.{Settled}
+use Rattle.cms_machine.specs.Points.{Leaves}
 use Rattle.cms_machine.specs.Feeds.{Over}
 use Rattle.cms_session.specs.Headline.{Seen, Start, Headline, run_on}
 use Rattle.cms_session.specs.Sessions.{status_of}
@@ -19,3 +22,9 @@ EndsLikeMachine =
 abbrev pub FaultsAreCounted : Type 0
 FaultsAreCounted =
     (s : Start) (before now : Seen) (status : Status) (h : Headline s before now status) → (Rose before.faults now.faults → ⊥) → faults_in h.outcomes ≡ 0
+
+-- at every status a crash leaves each unit that isn't in doubt in one state
+abbrev pub SettledIsOne : Type 0
+SettledIsOne =
+    (s : Start) (before now : Seen) (status : Status) (h : Headline s before now status) (u : ℕ) (state : State)
+    → slice_get h.units u ≡ Some (Settled state) → (x : State) → Leaves now.told u x → x ≡ state

@@ -1,7 +1,9 @@
 -- The machine: minidisks as lists of named record lists, and what a session does with them. No block occurs here.
-use Rattle.std.specs.Prelude.{ℕ, zero, suc, ◌+◌, ◌/◌, ◌%◌, ◌^◌, ℤ, pos, negsuc, Bool, true, false, not, if◌then◌else◌, ◌==◌, nat_lt, ◌&&◌, List, [], ◌∷◌, ◌++◌, take, Option, Some, None, slice_get, is_some}
+use Rattle.std.specs.Prelude.{ℕ, zero, suc, ◌+◌, ◌/◌, ◌%◌, ◌^◌, ℤ, pos, negsuc, Bool, true, false, not, if◌then◌else◌, ◌==◌, nat_lt, ◌&&◌, List, [], ◌∷◌, ◌++◌, take, length, Option, Some, None, slice_get, is_some}
 use Rattle.std.specs.Option.{option_and_then}
 use Rattle.cms_names.specs.declared.name.Name.{Name}
+use Rattle.cms_fields.specs.Moments.{moment_of, stamp_of}
+use Rattle.cms_fields.specs.declared.time.Stamp.{Stamp}
 use Rattle.cms_model.specs.Minidisks.{File, Minidisk, Volume, Not}
 use Rattle.cms_model.specs.Changes.{Drop, Answer, Limited, Full, Changed, answer_of, file_named}
 use Rattle.cms_machine.specs.Slots.{Slot, Settled, Doubt}
@@ -99,7 +101,7 @@ no_file s name = told s (M002 name.file name.kind letter_a) 28
 
 abbrev pub type_found : Machine → DiskA → Name → Option File → Act Course
 type_found s disk name None = no_file s name
-type_found s disk name (Some f) = Does (Get disk.unit) (type_outcome s f)
+type_found s disk name (Some f) = Does (Get disk.unit f (length f.records)) (type_outcome s f)
 
 abbrev pub type_on : Machine → DiskA → Name → Option Minidisk → Act Course
 type_on s disk name None = no_disk s
@@ -127,28 +129,28 @@ erase_outcome s step answer SyncFault = Done Stopped
 erase_outcome s step answer OldFault = Done Stopped
 erase_outcome s step answer (EitherFault side) = Done Stopped
 
--- a file of this name goes
-abbrev pub drop_step : ℕ → Minidisk → Name → Step
-drop_step unit m name = Put unit m (Drop name)
+-- a file of this name goes, with this stamp of the directory
+abbrev pub drop_step : ℕ → Minidisk → Name → Stamp → Step
+drop_step unit m name stamp = Put unit m (Drop name) stamp
 
-abbrev pub dropping : Machine → ℕ → Minidisk → Name → Act Course
-dropping s unit m name = Does (drop_step unit m name) (erase_outcome s (drop_step unit m name) (answer_of m (Drop name)))
+abbrev pub dropping : Machine → ℕ → Minidisk → Name → Stamp → Act Course
+dropping s unit m name stamp = Does (drop_step unit m name stamp) (erase_outcome s (drop_step unit m name stamp) (answer_of m (Drop name)))
 
-abbrev pub erase_found : Machine → DiskA → Minidisk → Name → Option File → Act Course
-erase_found s disk m name None = no_file s name
-erase_found s disk m name (Some f) = dropping s disk.unit m name
+abbrev pub erase_found : Machine → DiskA → Minidisk → Name → Stamp → Option File → Act Course
+erase_found s disk m name stamp None = no_file s name
+erase_found s disk m name stamp (Some f) = dropping s disk.unit m name stamp
 
 abbrev pub no_writing : Machine → Act Course
 no_writing s = told s (M037 letter_a) 36
 
-abbrev pub erase_on : Machine → DiskA → Name → Option Minidisk → Act Course
-erase_on s disk name None = no_disk s
-erase_on s disk name (Some m) = if disk.read_only then no_writing s else erase_found s disk m name (file_named name m.files)
+abbrev pub erase_on : Machine → DiskA → Name → Stamp → Option Minidisk → Act Course
+erase_on s disk name stamp None = no_disk s
+erase_on s disk name stamp (Some m) = if disk.read_only then no_writing s else erase_found s disk m name stamp (file_named name m.files)
 
--- ERASE fn ft A
-abbrev pub erase_file : Machine → Name → Option DiskA → Act Course
-erase_file s name None = no_disk s
-erase_file s name (Some disk) = erase_on s disk name (minidisk_in (slice_get s.units disk.unit))
+-- ERASE fn ft A, with the stamp of its turn
+abbrev pub erase_file : Machine → Name → Stamp → Option DiskA → Act Course
+erase_file s name stamp None = no_disk s
+erase_file s name stamp (Some disk) = erase_on s disk name stamp (minidisk_in (slice_get s.units disk.unit))
 
 -- ---- rounds
 
@@ -176,15 +178,21 @@ abbrev pub unless_procedure : Bool → Act Round → Act Round
 unless_procedure true next = Done Refused
 unless_procedure false next = next
 
-abbrev pub run_command : Machine → Command → Act Round
-run_command s Nothing = Done (Ready s)
-run_command s (TypeFile name) = unless_procedure (is_procedure s type_word s.disk_a) (bind (type_file s name s.disk_a) readied)
-run_command s (EraseFile name) = unless_procedure (is_procedure s erase_word s.disk_a) (bind (erase_file s name s.disk_a) readied)
-run_command s NotBuilt = Done Refused
+-- what a line asks for, with the stamp of its turn
+abbrev pub run_command : Machine → Command → Stamp → Act Round
+run_command s Nothing stamp = Done (Ready s)
+run_command s (TypeFile name) stamp = unless_procedure (is_procedure s type_word s.disk_a) (bind (type_file s name s.disk_a) readied)
+run_command s (EraseFile name) stamp = unless_procedure (is_procedure s erase_word s.disk_a) (bind (erase_file s name stamp s.disk_a) readied)
+run_command s NotBuilt stamp = Done Refused
+
+-- the stamp of a turn, by the seconds that the clock told; civil time is UTC
+abbrev pub stamp_at : ℤ → Stamp
+stamp_at seconds = stamp_of (moment_of seconds (pos 0))
 
 -- with the turn spent
 abbrev pub turned : List Slot → Option DiskA → ℕ → Item → ℤ → Act Round
-turned units disk_a left item seconds = run_command (record { units = units; disk_a = disk_a; left = left }) (command_of item)
+turned units disk_a left item seconds =
+    run_command (record { units = units; disk_a = disk_a; left = left }) (command_of item) (stamp_at seconds)
 
 abbrev pub on_turn : List Slot → Option DiskA → Item → ℕ → Act Round
 on_turn units disk_a item zero = Done NoTurns

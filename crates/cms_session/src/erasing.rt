@@ -2,7 +2,6 @@
 ghost use Rattle.std.specs.Prelude.{◌≡◌, ◌≤◌, ◌<◌, ℕ, pos, List, Some, None, IfOk, OnOk, length, true};
 ghost use Rattle.cms_journal.specs.Causes.{Rose};
 ghost use Rattle.cms_fields.specs.Stamps.{is_stamp};
-ghost use Rattle.cms_fields.specs.Moments.{moment_of, stamp_of};
 ghost use Rattle.cms_line.specs.declared.message.Message.TheVariants.{M037, M107};
 ghost use Rattle.cms_session.specs.Commands.{letter_a};
 ghost use Rattle.cms_text.specs.Numbers.{decimal_of};
@@ -14,7 +13,7 @@ use crate::command::LETTER_A;
 use crate::reading::{NOT_ACCESSED, NOT_FOUND, no_disk, no_file, refuse, seen_place, spelled};
 use crate::state::{Course, Disk, End, Session};
 use cms_edf::SmallErase;
-use cms_fields::{Moment, Stamp};
+use cms_fields::Stamp;
 use cms_line::{Message, Word};
 use cms_names::Name;
 use cms_text::decimal;
@@ -42,26 +41,19 @@ fn no_room(alloc: Global, need: u32, free: u32) -> Result<Message, AllocError>
     ))
 }
 
-// The stamp of a moment, in seconds after 1970-01-01 00:00:00 UTC.
-fn stamp_at(seconds: i64) -> Stamp
-    ensures value { result ≡ stamp_of (moment_of seconds (pos 0)) }
-    ensures valid { is_stamp result ≡ true }
-{
-    Stamp::of(&Moment::of_epoch(seconds, 0))
-}
-
-// Erases a file of disk A.
+// Erases a file of disk A, with this stamp.
 fn erase_on<W: World>(
     alloc: Global,
     world: &mut W,
     disk: &mut Disk,
     name: &Name,
-    seconds: i64,
+    stamp: &Stamp,
 ) -> Result<Course, End>
     requires usable { Usable (W.told world.old) (Some disk.old) }
-    ensures acts { (old new : Session) → old.disk_a ≡ Some disk.old → IfOk result (λ course. new.disk_a ≡ kept_disk course disk.new) → new.console ≡ old.console → Acts (spot (W.told world.old) (W.faults world.old) old) (spot (W.told world.new) (W.faults world.new) new) (erase_tree old.disk_a old.left name.now) result (course_of new.disk_a old.left) }
+    requires stamp { is_stamp stamp.now ≡ true }
+    ensures acts { (old new : Session) → old.disk_a ≡ Some disk.old → IfOk result (λ course. new.disk_a ≡ kept_disk course disk.new) → new.console ≡ old.console → Acts (spot (W.told world.old) (W.faults world.old) old) (spot (W.told world.new) (W.faults world.new) new) (erase_tree old.disk_a old.left name.now stamp.now) result (course_of new.disk_a old.left) }
     ensures usable { OnOk result (Usable (W.told world.new) (Some disk.new)) }
-    ensures stamped { IfOk result (λ course. course ≡ Went (pos 0) → IsStamped (W.told world.old) (W.told world.new) (Some disk.old) (Some disk.new) (stamp_of (moment_of seconds (pos 0)))) }
+    ensures stamped { IfOk result (λ course. course ≡ Went (pos 0) → IsStamped (W.told world.old) (W.told world.new) (Some disk.old) (Some disk.new) stamp.now) }
     ensures cause { EndCause (W.edges world.old) (W.edges world.new) result }
     ensures faults { W.faults world.old ≤ W.faults world.new }
     ensures fault { IfOk result (λ course. course ≡ Stopped → Rose (W.faults world.old) (W.faults world.new)) }
@@ -72,7 +64,7 @@ fn erase_on<W: World>(
     let Some(place) = seen_place(disk, &spelled(name)) else {
         return refuse(alloc, world, no_file(alloc, name)?, NOT_FOUND);
     };
-    match disk.small.erase(alloc, world, place, &stamp_at(seconds)) {
+    match disk.small.erase(alloc, world, place, stamp) {
         Ok(()) => Ok(Course::Went(0)),
         Err(SmallErase::Full { need, free }) => {
             refuse(alloc, world, no_room(alloc, need, free)?, FULL)
@@ -82,19 +74,19 @@ fn erase_on<W: World>(
     }
 }
 
-/// Erases a file of disk A, with the stamp of a moment, in seconds after 1970-01-01 00:00:00 UTC. Where the device fails no disk
-/// is accessed as A any more.
+/// Erases a file of disk A, whose directory has this stamp then. Where the device fails no disk is accessed as A any more.
 pub fn erase_file<W: World>(
     alloc: Global,
     world: &mut W,
     session: &mut Session,
     name: &Name,
-    seconds: i64,
+    stamp: &Stamp,
 ) -> Result<Course, End>
     requires usable { Usable (W.told world.old) session.old.disk_a }
-    ensures acts { Acts (spot (W.told world.old) (W.faults world.old) session.old) (spot (W.told world.new) (W.faults world.new) session.new) (erase_tree session.old.disk_a session.old.left name.now) result (course_of session.new.disk_a session.new.left) }
+    requires stamp { is_stamp stamp.now ≡ true }
+    ensures acts { Acts (spot (W.told world.old) (W.faults world.old) session.old) (spot (W.told world.new) (W.faults world.new) session.new) (erase_tree session.old.disk_a session.old.left name.now stamp.now) result (course_of session.new.disk_a session.new.left) }
     ensures usable { OnOk result (Usable (W.told world.new) session.new.disk_a) }
-    ensures stamped { IfOk result (λ course. course ≡ Went (pos 0) → IsStamped (W.told world.old) (W.told world.new) session.old.disk_a session.new.disk_a (stamp_of (moment_of seconds (pos 0)))) }
+    ensures stamped { IfOk result (λ course. course ≡ Went (pos 0) → IsStamped (W.told world.old) (W.told world.new) session.old.disk_a session.new.disk_a stamp.now) }
     ensures left { session.new.left ≡ session.old.left }
     ensures cause { EndCause (W.edges world.old) (W.edges world.new) result }
     ensures faults { W.faults world.old ≤ W.faults world.new }
@@ -103,7 +95,7 @@ pub fn erase_file<W: World>(
     let Some(mut disk) = session.disk_a.take() else {
         return refuse(alloc, world, no_disk(alloc)?, NOT_ACCESSED);
     };
-    let course = erase_on(alloc, world, &mut disk, name, seconds)?;
+    let course = erase_on(alloc, world, &mut disk, name, stamp)?;
     if let Course::Stopped = course {
         return Ok(course);
     }

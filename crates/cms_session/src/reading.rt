@@ -11,7 +11,7 @@ ghost use Rattle.cms_line.specs.declared.message.Message.TheVariants.{M002, M069
 ghost use Rattle.cms_edf.specs.Small.{spelled};
 ghost use Rattle.cms_session.specs.Commands.{letter_a};
 ghost use Rattle.cms_session.specs.Machine.{typing};
-ghost use Rattle.cms_session.specs.Calls.{spot, Does, Acts, Usable, EndCause, IsSeen, HasRecords, itself, course_of, refusal_tree, records_tree, type_tree};
+ghost use Rattle.cms_session.specs.Calls.{spot, Does, Acts, Usable, EndCause, IsSeen, IsFile, itself, course_of, refusal_tree, records_tree, type_tree};
 ghost use Rattle.cms_session.specs.declared.state.Session.{Session};
 ghost use Rattle.cms_session.specs.declared.state.Course.TheVariants.{Went, Stopped};
 
@@ -82,7 +82,7 @@ fn type_records<W: World>(world: &mut W, bytes: &[u8], info: &SmallInfo) -> Resu
 fn type_at<W: World>(alloc: Global, world: &mut W, disk: &Disk, place: u32) -> Result<Course, End>
     requires within { place < length disk.now.small.files }
     requires usable { Usable (W.told world.old) (Some disk.now) }
-    ensures acts { (session : Session) (f : File) → session.disk_a ≡ Some disk.now → HasRecords (W.told world.old) disk.now place f.records → Acts (spot (W.told world.old) (W.faults world.old) session) (spot (W.told world.new) (W.faults world.new) session) (records_tree session.disk_a session.left disk.now.small.unit f) result (course_of session.disk_a session.left) }
+    ensures acts { (session : Session) (f : File) → session.disk_a ≡ Some disk.now → IsFile (W.told world.old) disk.now place f → Acts (spot (W.told world.old) (W.faults world.old) session) (spot (W.told world.new) (W.faults world.new) session) (records_tree session.disk_a session.left disk.now.small.unit f) result (course_of session.disk_a session.left) }
     ensures cause { EndCause (W.edges world.old) (W.edges world.new) result }
     ensures faults { W.faults world.old ≤ W.faults world.new }
     ensures fault { IfOk result (λ course. course ≡ Stopped → Rose (W.faults world.old) (W.faults world.new)) }

@@ -3,11 +3,13 @@ ghost use Rattle.std.specs.Prelude.{◌≡◌, ◌≤◌, ◌<◌, ℕ, suc, tru
 ghost use Rattle.cms_journal.specs.Causes.{Rose};
 ghost use Rattle.cms_journal.specs.Journal.{adds};
 ghost use Rattle.cms_journal.specs.declared.event.Event.TheVariants.{Now};
+ghost use Rattle.cms_fields.specs.Stamps.{is_stamp};
 ghost use Rattle.cms_machine.specs.Acts.{taking, turning};
 ghost use Rattle.cms_names.specs.Names.{is_part};
 ghost use Rattle.cms_edf.specs.Small.{spelled};
 ghost use Rattle.cms_line.specs.Consoles.{item_of};
 ghost use Rattle.cms_session.specs.Commands.{command_of};
+ghost use Rattle.cms_session.specs.Machine.{stamp_at};
 ghost use Rattle.cms_session.specs.Calls.{spot, Does, Acts, Usable, EndCause, IsTaken, IsTest, procedure_name, itself, round_of, ready_tree, command_tree, round_tree};
 ghost use Rattle.cms_session.specs.declared.state.Session.{Session};
 ghost use Rattle.cms_session.specs.declared.state.Course.TheVariants.{Stopped};
@@ -18,6 +20,7 @@ use crate::erasing::erase_file;
 use crate::reading::{seen_place, type_file};
 use crate::saying::say_ready;
 use crate::state::{Course, Disk, End, Round, Session};
+use cms_fields::{Moment, Stamp};
 use cms_line::{ConsoleLine, LineFault};
 use cms_world::World;
 use std::alloc::{AllocError, Global};
@@ -68,6 +71,14 @@ fn turn<W: World>(world: &mut W, session: &mut Session) -> Result<i64, End>
 {
     session.left -= 1;
     clock(world)
+}
+
+// The stamp of a moment, in seconds after 1970-01-01 00:00:00 UTC.
+fn stamp_at(seconds: i64) -> Stamp
+    ensures value { result ≡ stamp_at seconds }
+    ensures valid { is_stamp result ≡ true }
+{
+    Stamp::of(&Moment::of_epoch(seconds, 0))
 }
 
 // What a console line asks for; none at the script's end.
@@ -125,16 +136,17 @@ fn ready<W: World>(world: &mut W, course: Course) -> Result<Round, End>
     }
 }
 
-// Does what a line asks for, at a moment of the clock.
+// Does what a line asks for, with the stamp of its turn.
 fn run_command<W: World>(
     alloc: Global,
     world: &mut W,
     session: &mut Session,
     command: Command,
-    seconds: i64,
+    stamp: &Stamp,
 ) -> Result<Round, End>
-    requires { Usable (W.told world.old) session.old.disk_a }
-    ensures acts { Acts (spot (W.told world.old) (W.faults world.old) session.old) (spot (W.told world.new) (W.faults world.new) session.new) (command_tree session.old.disk_a session.old.left command) result (round_of session.new.disk_a session.new.left) }
+    requires usable { Usable (W.told world.old) session.old.disk_a }
+    requires stamp { is_stamp stamp.now ≡ true }
+    ensures acts { Acts (spot (W.told world.old) (W.faults world.old) session.old) (spot (W.told world.new) (W.faults world.new) session.new) (command_tree session.old.disk_a session.old.left command stamp.now) result (round_of session.new.disk_a session.new.left) }
     ensures usable { OnOk result (Usable (W.told world.new) session.new.disk_a) }
     ensures left { session.new.left ≡ session.old.left }
     ensures cause { EndCause (W.edges world.old) (W.edges world.new) result }
@@ -151,7 +163,7 @@ fn run_command<W: World>(
         }
         Command::EraseFile(_) if is_procedure(&session.disk_a, &ERASE_EXEC) => Ok(Round::Refused),
         Command::EraseFile(name) => {
-            let course = erase_file(alloc, world, session, &name, seconds)?;
+            let course = erase_file(alloc, world, session, &name, stamp)?;
             ready(world, course)
         }
     }
@@ -174,5 +186,5 @@ pub fn round<W: World>(alloc: Global, world: &mut W, session: &mut Session) -> R
         return Ok(Round::NoTurns);
     }
     let seconds = turn(world, session)?;
-    run_command(alloc, world, session, command, seconds)
+    run_command(alloc, world, session, command, &stamp_at(seconds))
 }

@@ -1,5 +1,4 @@
-use Rattle.std.proofs.Common.{◌≡◌, refl, sym, ◌∙◌, Some, None, arith, w64}
-use Rattle.std.proofs.lemmas.Int.{to_z-of_z}
+use Rattle.std.proofs.Common.{◌≡◌, refl, sym, ◌∙◌, Some, None, arith}
 use Rattle.std.proofs.lemmas.Result.{err_from_is_err_and}
 use Rattle.cms_session.specs.Calls.{erase_tree, course_of, kept_disk}
 use Rattle.cms_session.proofs.Erasures.{erase_no_disk, cut_off, kept_went, other_code, stopped_code, stamped_on}
@@ -9,7 +8,7 @@ pub returns-in_err-no_disk-clause-acts : goal.returns-in_err-no_disk-clause-acts
 returns-in_err-no_disk-clause-acts g c =
     let p = err_from_is_err_and c.from_residual.result c.from_residual.ensures.1 in
     let s = c.args.session.now in
-    rw (p.1, p.2) (cut_off _ _ (erase_tree s.disk_a s.left c.args.name.now) _ (course_of c.take.new.self s.left) refl (omega arith))
+    rw (p.1, p.2) (cut_off _ _ (erase_tree s.disk_a s.left c.args.name.now c.args.stamp.now) _ (course_of c.take.new.self s.left) refl (omega arith))
 
 pub returns-in_default-clause-acts : goal.returns-in_default-clause-acts
 returns-in_default-clause-acts g c =
@@ -18,7 +17,7 @@ returns-in_default-clause-acts g c =
     let acts = rw message at (c.refuse.ensures.acts s) in
     let none : s.disk_a ≡ None = sym c.take.ensures.value ∙ c.in_default.is in
     let same : c.take.new.self ≡ s.disk_a = c.take.ensures.after ∙ sym none in
-    rw same (erase_no_disk _ _ s.disk_a s.left c.args.name.now _ none acts)
+    rw same (erase_no_disk _ _ s.disk_a s.left c.args.name.now c.args.stamp.now _ none acts)
 
 pub returns-in_err-course-clause-acts : goal.returns-in_err-course-clause-acts
 returns-in_err-course-clause-acts g c =
@@ -49,6 +48,4 @@ returns-in-Stopped-clause-stamped g c zero = stopped_code _ c.in_ok-course.cours
 
 pub returns-clause-stamped : goal.returns-clause-stamped
 returns-clause-stamped g c zero =
-    let same = to_z-of_z w64 c.args.seconds c.ranges.seconds in
-    let stamped = rw same at (c.in_ok-course.ensures.stamped zero) in
-    stamped_on _ _ c.args.session.now.disk_a c.in-Some.disk c.erase_on.new.disk _ (sym c.take.ensures.value ∙ c.in-Some.is) stamped
+    stamped_on _ _ c.args.session.now.disk_a c.in-Some.disk c.erase_on.new.disk _ (sym c.take.ensures.value ∙ c.in-Some.is) (c.in_ok-course.ensures.stamped zero)

@@ -2,6 +2,7 @@ use Rattle.std.proofs.Common.{◌≡◌, ◌⊎◌, inl, inr, ⊎_elim, ℕ, ◌
 use Rattle.cms_machine.proofs.Lists.{lt_or_le}
 use Rattle.cms_journal.specs.Causes.{Rose, Counted}
 use Rattle.cms_journal.specs.declared.event.Event.{Event}
+use Rattle.cms_machine.specs.Slots.{Slot, Settled}
 use Rattle.cms_machine.specs.Feeds.{Fed, Over}
 use Rattle.cms_session.specs.Headline.{Start, EndsAs}
 use Rattle.cms_session.specs.Sessions.{status_of}
@@ -14,14 +15,14 @@ use Rattle.cms_session.proofs.laws.laws_of_sessions.Goals as goal
 same_finish : (f : Fed Finish) (a b : Finish) → f.close ≡ Over a → f.close ≡ Over b → a ≡ b
 same_finish f a b x y = let e : Over a ≡ Over b = sym x ∙ y in cc
 
-as_machine : (s : Start) (events : List Event) (f : Fed Finish) (before now : ℕ) (status : Status) → EndsAs s events f before now status → (Rose before now → ⊥) → (finish : Finish) → f.close ≡ Over finish → (status ≡ status_of finish) ⊎ (status ≡ Memory)
-as_machine s events f before now Done e still finish close = inl (ap status_of (same_finish f AtEnd finish e.close close))
-as_machine s events f before now Turns e still finish close = inl (ap status_of (same_finish f AtTurns finish e.close close))
-as_machine s events f before now NotBuilt e still finish close = inl (ap status_of (same_finish f AtRefusal finish e.close close))
-as_machine s events f before now World (inl e) still finish close = inl (ap status_of (same_finish f AtFault finish e.close close))
-as_machine s events f before now World (inr e) still finish close = absurd (still e.1)
-as_machine s events f before now Memory e still finish close = inr refl
-as_machine s events f before now (Usage fault) e still finish close = absurd e
+as_machine : (s : Start) (events : List Event) (f : Fed Finish) (units : List Slot) (before now : ℕ) (status : Status) → EndsAs s events f units before now status → (Rose before now → ⊥) → (finish : Finish) → f.close ≡ Over finish → (status ≡ status_of finish) ⊎ (status ≡ Memory)
+as_machine s events f units before now Done e still finish close = inl (ap status_of (same_finish f AtEnd finish e.close close))
+as_machine s events f units before now Turns e still finish close = inl (ap status_of (same_finish f AtTurns finish e.close close))
+as_machine s events f units before now NotBuilt e still finish close = inl (ap status_of (same_finish f AtRefusal finish e.close close))
+as_machine s events f units before now World (inl e) still finish close = inl (ap status_of (same_finish f AtFault finish e.close close))
+as_machine s events f units before now World (inr e) still finish close = absurd (still e.1)
+as_machine s events f units before now Memory e still finish close = inr refl
+as_machine s events f units before now (Usage fault) e still finish close = absurd e
 
 none_counted : (before now n : ℕ) → Counted before n now → (Rose before now → ⊥) → n ≡ 0
 none_counted before now n c still =
@@ -32,7 +33,10 @@ none_counted before now n c still =
     (lt_or_le now (min (before + 1) (2 ^ 64 - 1)))
 
 pub returns-clause-ends : goal.returns-clause-ends
-returns-clause-ends c = λ s before now status h still finish close. as_machine s h.events _ before.edges now.edges status h.ends still finish close
+returns-clause-ends c = λ s before now status h still finish close. as_machine s h.events _ h.units before.edges now.edges status h.ends still finish close
 
 pub returns-clause-faults : goal.returns-clause-faults
 returns-clause-faults c = λ s before now status h still. none_counted before.faults now.faults _ h.counted still
+
+pub returns-clause-settled : goal.returns-clause-settled
+returns-clause-settled c = λ s before now status h u state slot x leaves. ⊎_elim (λ e. e) (λ none. absurd none) ((h.stands u (Settled state) slot).crash x leaves)

@@ -40,4 +40,4 @@ returns-clause-acts g c session f disk_a has =
     let d = c.args.disk.now in
     let got = c.in-Err.ensures in
     stopped_done _ _ (records_tree session.disk_a session.left d.small.unit f) session.disk_a session.left
-    (file_fault _ _ d session.left f disk_a (record { told = got.told; faults = got.cause.later; disk = refl; unread = refl; ended = refl }) got.cause.failed)
+    (file_fault _ _ d session.left c.args.place f disk_a has (record { told = got.told; faults = got.cause.later; disk = refl; unread = refl; ended = refl }) got.cause.failed)

@@ -1,4 +1,5 @@
-use Rattle.std.proofs.Common.{◌≡◌, suc, sym, ◌∙◌}
+use Rattle.std.proofs.Common.{◌≡◌, suc, sym, ◌∙◌, rules, w64, FitsSigned}
+use Rattle.std.proofs.lemmas.Int.{to_z-of_z}
 use Rattle.std.proofs.lemmas.Result.{err_from_is_err_and}
 use Rattle.cms_session.proofs.Rounds.{take_stops, finished_so, lined, no_turns, turn_stops, begun, command_done, usable_taken, usable_turned, disk_kept}
 use Rattle.cms_session.proofs.round.round.Goals as goal
@@ -38,8 +39,8 @@ returns-in_err-seconds-clause-acts g c =
     let some : s.left ≡ suc c.turn.new.session.left = sym c.take_command.ensures.left ∙ c.turn.ensures.left in
     rw (p.1, p.2) (turn_stops _ _ _ s.disk_a _ s.left c.turn.new.session.left _ c.in-Some.command _ (lined _ _ s.disk_a s.left c.in-Some.command taken) some c.in_err-seconds.ensures.does)
 
-pub run_command-requires : goal.run_command-requires
-run_command-requires g c = usable_turned _ _ _ c.in_ok-command.field-0 _ c.in_ok-command.ensures.taken c.in_ok-seconds.ensures.does c.requires
+pub run_command-requires-clause-usable : goal.run_command-requires-clause-usable
+run_command-requires-clause-usable g c = usable_turned _ _ _ c.in_ok-command.field-0 _ c.in_ok-command.ensures.taken c.in_ok-seconds.ensures.does c.requires
 
 pub returns-clause-acts : goal.returns-clause-acts
 returns-clause-acts g c =
@@ -48,6 +49,10 @@ returns-clause-acts g c =
     let taken = rw is at c.in_ok-command.ensures.taken in
     let some : s.left ≡ suc c.turn.new.session.left = sym c.take_command.ensures.left ∙ c.turn.ensures.left in
     let same = disk_kept _ _ _ c.in_ok-command.field-0 _ c.in_ok-command.ensures.taken c.in_ok-seconds.ensures.does in
-    command_done _ _ _ s.disk_a c.turn.new.session.disk_a _ s.left c.turn.new.session.left _ c.in-Some.command _ same
+    let fits : FitsSigned w64 c.in_ok-seconds.seconds = search rules in
+    let seconds = to_z-of_z w64 c.in_ok-seconds.seconds fits in
+    let stamp = rw seconds at c.stamp_at.ensures.value in
+    let acts = rw stamp at c.run_command.ensures.acts in
+    command_done _ _ _ s.disk_a c.turn.new.session.disk_a _ s.left c.turn.new.session.left _ c.in-Some.command _ _ same
     (begun _ _ _ s.disk_a s.left c.turn.new.session.left c.in-Some.command _ (lined _ _ s.disk_a s.left c.in-Some.command taken) some c.in_ok-seconds.ensures.does)
-    c.run_command.ensures.acts
+    acts

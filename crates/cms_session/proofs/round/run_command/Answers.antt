@@ -32,13 +32,13 @@ returns-in_ok-course-in-TypeFile-2-clause-acts g c =
 pub returns-in_ok-course-in-TypeFile-2-clause-usable : goal.returns-in_ok-course-in-TypeFile-2-clause-usable
 returns-in_ok-course-in-TypeFile-2-clause-usable g c =
     let s = c.args.session.now in
-    usable_ok _ _ _ _ (grown_then _ _ _ c.in_ok-course-in-TypeFile-2.ensures.acts.grown (c.ready.ensures.acts s).grown) c.requires
+    usable_ok _ _ _ _ (grown_then _ _ _ c.in_ok-course-in-TypeFile-2.ensures.acts.grown (c.ready.ensures.acts s).grown) c.requires.usable
 
 pub returns-in-EraseFile-clause-acts : goal.returns-in-EraseFile-clause-acts
 returns-in-EraseFile-clause-acts g c =
     let s = c.args.session.now in
     let is = c.in-EraseFile.is in
-    rw is (procedure_met _ s.left erase_word (erase_tree s.disk_a s.left c.in-EraseFile.field-0) _ (c.if-is_procedure-2.ensures erase_word erase_part erase_exec_spelled) refl)
+    rw is (procedure_met _ s.left erase_word (erase_tree s.disk_a s.left c.in-EraseFile.field-0 c.args.stamp.now) _ (c.if-is_procedure-2.ensures erase_word erase_part erase_exec_spelled) refl)
 
 pub returns-in_err-course-in-EraseFile-2-clause-acts : goal.returns-in_err-course-in-EraseFile-2-clause-acts
 returns-in_err-course-in-EraseFile-2-clause-acts g c =
@@ -46,14 +46,14 @@ returns-in_err-course-in-EraseFile-2-clause-acts g c =
     let s = c.args.session.now in
     let is = c.in-EraseFile.is in
     rw (p.1, p.2, is)
-    (guarded_stops _ _ s.left _ _ erase_word (erase_tree s.disk_a s.left c.in-EraseFile.field-0) _ _ (c.if-is_procedure-2.ensures erase_word erase_part erase_exec_spelled) refl c.in_err-course-in-EraseFile-2.ensures.acts)
+    (guarded_stops _ _ s.left _ _ erase_word (erase_tree s.disk_a s.left c.in-EraseFile.field-0 c.args.stamp.now) _ _ (c.if-is_procedure-2.ensures erase_word erase_part erase_exec_spelled) refl c.in_err-course-in-EraseFile-2.ensures.acts)
 
 pub returns-in_ok-course-in-EraseFile-2-clause-acts : goal.returns-in_ok-course-in-EraseFile-2-clause-acts
 returns-in_ok-course-in-EraseFile-2-clause-acts g c =
     let s = c.args.session.now in
     let is = c.in-EraseFile.is in
     rw is
-    (guarded_done _ _ _ s.left _ _ erase_word (erase_tree s.disk_a s.left c.in-EraseFile.field-0) _ c.in_ok-course-in-EraseFile-2.course _ (c.if-is_procedure-2.ensures erase_word erase_part erase_exec_spelled) refl
+    (guarded_done _ _ _ s.left _ _ erase_word (erase_tree s.disk_a s.left c.in-EraseFile.field-0 c.args.stamp.now) _ c.in_ok-course-in-EraseFile-2.course _ (c.if-is_procedure-2.ensures erase_word erase_part erase_exec_spelled) refl
     c.in_ok-course-in-EraseFile-2.ensures.acts (c.ready-in-EraseFile-2.ensures.acts c.erase_file.new.session))
 
 pub returns-in_ok-course-in-EraseFile-2-clause-usable : goal.returns-in_ok-course-in-EraseFile-2-clause-usable

@@ -8,7 +8,7 @@ use Rattle.cms_edf.proofs.small.Small.erase.Goals as goal
 pub returns-in_err-renewed-clause-erases : goal.returns-in_err-renewed-clause-erases
 returns-in_err-renewed-clause-erases g c = λ j m e told is.
     let p = err_from_is_err_and c.from_residual.result c.from_residual.ensures.1 in
-    none_begun j c.args.self.now m c.args.nth e (g.W.World.told c.args.world.now) c.from_residual.result c.in_err-renewed.field-0.0 is c.without.ensures.held c.requires.nth (rw (p.1, p.2) refl) c.in_err-renewed.ensures.none
+    none_begun j c.args.self.now m c.args.nth e c.args.stamp.now (g.W.World.told c.args.world.now) c.from_residual.result c.in_err-renewed.field-0.0 is c.without.ensures.held c.requires.nth (rw (p.1, p.2) refl) c.in_err-renewed.ensures.none
 
 pub carry_out-requires-clause-blocks : goal.carry_out-requires-clause-blocks
 carry_out-requires-clause-blocks g c = λ x told.
