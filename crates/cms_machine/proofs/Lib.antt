@@ -11,4 +11,5 @@ pub mod Single
 pub mod Feed
 pub mod Waits
 pub mod Whole
+pub mod StepsFit
 mod Examples

@@ -8,3 +8,4 @@ pub mod Points
 pub mod Beats
 pub mod Runs
 pub mod Laws
+pub mod LawsSteps

@@ -1,6 +1,7 @@
 // Laws of beats and of runs.
 ghost use Rattle.cms_machine.specs.Items.{ToldAreSure, WholeByLines};
 ghost use Rattle.cms_machine.specs.Laws.{CrashesWithin, WithinIsAt, KeepSound, AddUp, RunsJoin, StopsJoin, LeadsWithin, FeedsBeats, StopsFollow, RunsCome, ReadsAreWanted, DoubtEndsNow, SettledIsNow, DoubtIsOfBoth};
+ghost use Rattle.cms_machine.specs.LawsSteps.{SyncsAreCounted, RefusedIsNothing, KeptWithoutSync, AccessEndsDoubt, DoubtHasBoth, FaultsAreCounted};
 
 /// The items of a console.
 ///
@@ -54,4 +55,21 @@ pub fn laws_of_units()
     ensures ended { DoubtEndsNow }
     ensures settled { SettledIsNow }
     ensures doubt { DoubtIsOfBoth }
+{}
+
+/// Device steps: what is said of their outcomes fits the events of an update and what a crash leaves of them.
+///
+/// - An outcome tells the syncs of its events.
+/// - A change that is refused writes nothing, changes nothing and has no fault of an update.
+/// - Where nothing was synced by an access or an update, the machine knows of the unit what it knew.
+/// - An access ends a doubt with the state that the unit's contents have.
+/// - A unit in doubt has the old state and the new in its set.
+/// - Each outcome but a good one counts as a fault.
+pub fn laws_of_steps()
+    ensures syncs { SyncsAreCounted }
+    ensures refused { RefusedIsNothing }
+    ensures kept { KeptWithoutSync }
+    ensures ended { AccessEndsDoubt }
+    ensures doubt { DoubtHasBoth }
+    ensures faults { FaultsAreCounted }
 {}

@@ -3,4 +3,6 @@
 
 mod laws;
 
-pub use laws::{law_of_beats, laws_of_items, laws_of_joining, laws_of_runs, laws_of_units};
+pub use laws::{
+    law_of_beats, laws_of_items, laws_of_joining, laws_of_runs, laws_of_steps, laws_of_units,
+};

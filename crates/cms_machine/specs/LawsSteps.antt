@@ -1,0 +1,63 @@
+-- What follows for device steps: what is said of their outcomes fits the events of an update and what a crash leaves of them.
+use Rattle.std.specs.Prelude.{◌≡◌, ◌≢◌, ◌⊎◌, ℕ, suc, if◌then◌else◌, false, List, [], ◌∷◌, Some, None}
+use Rattle.cms_journal.specs.declared.event.Event.{Event}
+use Rattle.cms_journal.specs.declared.event.Event.TheVariants.{Wrote, Synced}
+use Rattle.cms_journal.specs.Journal.{Journal}
+use Rattle.cms_journal.specs.Told.{syncs}
+use Rattle.cms_model.specs.Minidisks.{Minidisk, State}
+use Rattle.cms_model.specs.Volumes.{Disk, state_of}
+use Rattle.cms_model.specs.Settled.{EachCrash, Write, writes, update}
+use Rattle.cms_model.specs.Changes.{Change, Changed, answer_of}
+use Rattle.cms_model.specs.LawsUpdates.{after, now, IsFront, with_label, relabel, wipe}
+use Rattle.cms_machine.specs.Slots.{Side, Slot, Doubt, named, set_of, IsAmong}
+use Rattle.cms_machine.specs.Steps.{Outcome, Good, ReadFault, OldFault, EitherFault, is_relabel, is_taken, MayPut, after_access, after_update, after_put, access_syncs, update_syncs, label_syncs, put_syncs, faults_in}
+
+-- the events of a change that is made
+abbrev pub change_events : ℕ → Change → List Write → List ℕ → List Event
+change_events u change ws label = if is_relabel change then relabel u label else update u ws label
+
+-- a step's outcome tells the syncs of its events: of a whole change or wiping, of one that was cut off at the sync behind its
+-- label, and of an update that was cut off before its first sync
+pub record CountsSyncs (u : ℕ) (ws : List Write) (label : List ℕ) (size : ℕ) : Type 0 where
+  pub whole : (change : Change) (m : Minidisk) → syncs (change_events u change ws label) ≡ put_syncs change (Changed m) Good
+  pub update_either : (side : Side) → syncs (with_label u ws label) ≡ update_syncs (EitherFault side)
+  pub update_old : (front : List Event) → IsFront front (writes u ws) → syncs front ≡ update_syncs OldFault
+  pub wiped : syncs (wipe u size) ≡ label_syncs Good
+  pub label_either : (side : Side) → syncs (Wrote u 3 label ∷ []) ≡ label_syncs (EitherFault side)
+
+abbrev pub SyncsAreCounted : Type 0
+SyncsAreCounted = (u : ℕ) (ws : List Write) (label : List ℕ) (size : ℕ) → CountsSyncs u ws label size
+
+-- a change that is refused writes nothing and changes nothing, and no device fault is one of an update
+pub record IsRefused (m : Minidisk) (change : Change) (o : Outcome) : Type 0 where
+  pub none : put_syncs change (answer_of m change) o ≡ 0
+  pub same : after_put m (answer_of m change) o ≡ None
+  pub read : MayPut change (answer_of m change) o → (o ≡ Good) ⊎ (o ≡ ReadFault 0)
+
+abbrev pub RefusedIsNothing : Type 0
+RefusedIsNothing = (m : Minidisk) (change : Change) (o : Outcome) → is_taken (answer_of m change) ≡ false → IsRefused m change o
+
+-- an access that syncs nothing, and an update, leave the machine's knowledge of the unit as it was
+pub record KeepsSlot (slot : Slot) (old new : State) (o : Outcome) : Type 0 where
+  pub access : access_syncs slot o ≡ 0 → after_access slot o ≡ None
+  pub update : update_syncs o ≡ 0 → after_update old new o ≡ None
+
+abbrev pub KeptWithoutSync : Type 0
+KeptWithoutSync = (slot : Slot) (old new : State) (o : Outcome) → KeepsSlot slot old new o
+
+-- an access ends a doubt: where the contents have the state of its side, a crash behind the sync leaves what the machine knows then
+abbrev pub AccessEndsDoubt : Type 0
+AccessEndsDoubt =
+    (disk : Disk) (j : Journal) (u : ℕ) (before later : State) (side : Side) → state_of disk (now j u) ≡ named before later side
+    → (slot : Slot) → after_access (Doubt before later side) Good ≡ Some slot
+    → EachCrash (after j (Synced u ∷ [])) u (λ image. IsAmong (state_of disk image) (set_of slot))
+
+-- an update that a device's fault cut off behind its label leaves the old state or the new, and both are what the machine knows then
+abbrev pub DoubtHasBoth : Type 0
+DoubtHasBoth =
+    (old new : State) (side : Side) (slot : Slot) → after_update old new (EitherFault side) ≡ Some slot
+    → (x : State) → (x ≡ old) ⊎ (x ≡ new) → IsAmong x (set_of slot)
+
+-- each outcome but Good is a fault
+abbrev pub FaultsAreCounted : Type 0
+FaultsAreCounted = (o : Outcome) (os : List Outcome) → o ≢ Good → faults_in (o ∷ os) ≡ suc (faults_in os)
