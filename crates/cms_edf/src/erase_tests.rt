@@ -1,10 +1,11 @@
 // Files erased from small volumes on the units of a world in memory.
 use super::*;
 use crate::tests::{
-    Answer, Edit, HELLO_LIST, HELLO_TEXT, NAME, OTHER_NAME, OTHER_TYPE, SECOND, image, looked_at,
-    put,
+    Answer, HELLO_LIST, HELLO_TEXT, NAME, OTHER_NAME, OTHER_TYPE, image, looked_at,
 };
 use cms_fields::Stamp;
+use cms_images::hello::{MARKED, NEW_DIRECTORY, NEW_LABEL, NEW_MAP, three};
+use cms_images::{Edit, put_edits};
 use cms_world::{Access, MemWorld, World};
 use std::alloc::{AllocError, Global};
 use std::test::Fail;
@@ -18,55 +19,6 @@ const NOON: Stamp = Stamp {
     minute: 0,
     second: 0,
 };
-
-// The map in block 8 after HELLO TEXT is erased from TEST01.
-const MAP: &[Edit] = &[(8, 0, &[0xF9, 0x00])];
-
-// Its directory in block 5.
-const DIRECTORY: &[Edit] = &[
-    (5, 0, &[0, 0, 0, 1, 0, 0, 0, 0]),
-    (5, 8, &[0xC4, 0xC9, 0xD9, 0xC5, 0xC3, 0xE3, 0xD6, 0xD9]),
-    (5, 24, &[0xC1, 0xF1]),
-    (5, 30, &[0xC6]),
-    (5, 32, &[0, 0, 0, 64]),
-    (5, 40, &[0, 0, 0, 5]),
-    (5, 44, &[0, 0, 0, 1]),
-    (5, 48, &[0, 0, 0, 2]),
-    (5, 53, &[4]),
-    (5, 54, &[0x26, 0x07, 0x01, 0x12, 0x00, 0x00]),
-    (5, 64, &[0, 0, 0, 2, 0, 0, 0, 0]),
-    (5, 72, &[0xC1, 0xD3, 0xD3, 0xD6, 0xC3, 0xD4, 0xC1, 0xD7]),
-    (5, 88, &[0xC1, 0xF1]),
-    (5, 94, &[0xC6]),
-    (5, 96, &[0, 0, 2, 0]),
-    (5, 104, &[0, 0, 0, 8]),
-    (5, 108, &[0, 0, 0, 1]),
-    (5, 112, &[0, 0, 0, 1]),
-    (5, 117, &[4]),
-    (5, 118, &[0x26, 0x07, 0x01, 0x12, 0x00, 0x00]),
-];
-
-// Its label.
-const LABEL: &[Edit] = &[(3, 16, &[0, 0, 0, 5]), (3, 32, &[0, 0, 0, 6])];
-
-// No block is free.
-const MARKED: &[Edit] = &[(6, 0, &[0xFF, 0x80])];
-
-// With the second file one more in block 9, on ten blocks: HELL TEXT A1, one record of a byte.
-const THIRD: &[Edit] = &[
-    (3, 28, &[0, 0, 0, 10]),
-    (4, 48, &[0, 0, 0, 5]),
-    (4, 256, &OTHER_NAME),
-    (4, 280, &[0xC1, 0xF1]),
-    (4, 286, &[0xC6]),
-    (4, 288, &[0, 0, 0, 1]),
-    (4, 296, &[0, 0, 0, 9]),
-    (4, 300, &[0, 0, 0, 1]),
-    (4, 304, &[0, 0, 0, 1]),
-    (4, 308, &[0, 4]),
-    (4, 310, &[0x99, 0x12, 0x31, 0x23, 0x59, 0x59]),
-    (6, 0, &[0xFF, 0x80]),
-];
 
 #[derive(Clone, Copy, Debug, PartialEq, Eq)]
 enum Erasure {
@@ -113,7 +65,7 @@ fn crashed(world: &MemWorld, alloc: Global, at: usize, choice: u64) -> Result<Ve
 fn edited(alloc: Global, tables: &[&[Edit]]) -> Result<Vec<u8>, AllocError> {
     let mut bytes = image(alloc, 9, &[], &[])?;
     for table in tables {
-        put(bytes.as_mut_slice(), table);
+        put_edits(bytes.as_mut_slice(), table);
     }
     Ok(bytes)
 }
@@ -128,11 +80,11 @@ fn the_update_is_written_in_order(rt: HostRuntime) -> Result<(), Fail> {
     assert_eq!(rt; world.events(), 5);
     let tables: [&[&[Edit]]; 6] = [
         &[],
-        &[MAP],
-        &[MAP, DIRECTORY],
-        &[MAP, DIRECTORY],
-        &[MAP, DIRECTORY, LABEL],
-        &[MAP, DIRECTORY, LABEL],
+        &[NEW_MAP],
+        &[NEW_MAP, NEW_DIRECTORY],
+        &[NEW_MAP, NEW_DIRECTORY],
+        &[NEW_MAP, NEW_DIRECTORY, NEW_LABEL],
+        &[NEW_MAP, NEW_DIRECTORY, NEW_LABEL],
     ];
     for (at, written) in tables.iter().enumerate() {
         assert_eq!(rt;
@@ -210,7 +162,7 @@ fn the_last_file_takes_the_place(rt: HostRuntime) -> Result<(), Fail> {
         (OTHER_NAME, Erasure::Left(None, Some(1))),
     ] {
         let mut world = MemWorld::new(alloc, b"", 0)?;
-        world.add_image("disk", &image(alloc, 10, SECOND, THIRD)?)?;
+        world.add_image("disk", &three(alloc)?)?;
         assert_eq!(rt; erase(alloc, &mut world, &name), wanted);
         let now = crashed(&world, alloc, 5, 0)?;
         assert_eq!(rt; looked_at(alloc, &now, &name)?, Answer::NoFile);

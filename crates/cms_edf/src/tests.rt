@@ -1,11 +1,10 @@
 // Small volumes on the units of a world in memory.
 use super::*;
+use cms_images::hello::{HELLO, SECOND};
+use cms_images::{Edit, edited, put_edits};
 use cms_world::{Access, MemWorld, World};
 use std::alloc::{AllocError, Global};
 use std::test::Fail;
-
-// Bytes at a place of a block; the first block is block 1.
-pub type Edit = (u16, u16, &'static [u8]);
 
 // HELLO TEXT in EBCDIC.
 pub const NAME: [u8; 16] = [
@@ -25,65 +24,6 @@ pub const OTHER_NAME: [u8; 16] = [
 // HELLOWORLD in EBCDIC.
 const RECORDS: [u8; 10] = [0xC8, 0xC5, 0xD3, 0xD3, 0xD6, 0xE6, 0xD6, 0xD9, 0xD3, 0xC4];
 
-// TEST01 with 9 blocks of 512 bytes: the directory in block 4, the map in block 6, and in block 7 HELLO TEXT A1 with the records
-// HELLO and WORLD.
-const HELLO: &[Edit] = &[
-    (3, 0, &[0xC3, 0xD4, 0xE2, 0xF1]),
-    (3, 4, &[0xE3, 0xC5, 0xE2, 0xE3, 0xF0, 0xF1]),
-    (3, 12, &[0, 0, 2, 0]),
-    (3, 16, &[0, 0, 0, 4]),
-    (3, 28, &[0, 0, 0, 9]),
-    (3, 36, &[0, 0, 0, 64]),
-    (4, 30, &[0xC6]),
-    (4, 32, &[0, 0, 0, 64]),
-    (4, 40, &[0, 0, 0, 4]),
-    (4, 44, &[0, 0, 0, 1]),
-    (4, 48, &[0, 0, 0, 3]),
-    (4, 94, &[0xC6]),
-    (4, 96, &[0, 0, 2, 0]),
-    (4, 104, &[0, 0, 0, 6]),
-    (4, 108, &[0, 0, 0, 1]),
-    (4, 112, &[0, 0, 0, 1]),
-    (4, 128, &NAME),
-    (4, 152, &[0xC1, 0xF1]),
-    (4, 158, &[0xC6]),
-    (4, 160, &[0, 0, 0, 5]),
-    (4, 168, &[0, 0, 0, 7]),
-    (4, 172, &[0, 0, 0, 1]),
-    (4, 176, &[0, 0, 0, 2]),
-    (4, 180, &[0, 4]),
-    (4, 182, &[0x00, 0x01, 0x01, 0x00, 0x00, 0x00]),
-    (6, 0, &[0xFE, 0x00]),
-    (7, 0, &RECORDS),
-];
-
-// One more file in block 8: HELLO LIST A2, one record of a byte.
-pub const SECOND: &[Edit] = &[
-    (4, 48, &[0, 0, 0, 4]),
-    (4, 192, &OTHER_TYPE),
-    (4, 216, &[0xC1, 0xF2]),
-    (4, 222, &[0xC6]),
-    (4, 224, &[0, 0, 0, 1]),
-    (4, 232, &[0, 0, 0, 8]),
-    (4, 236, &[0, 0, 0, 1]),
-    (4, 240, &[0, 0, 0, 1]),
-    (4, 244, &[0, 4]),
-    (4, 246, &[0x99, 0x12, 0x31, 0x23, 0x59, 0x59]),
-    (6, 0, &[0xFF, 0x00]),
-];
-
-pub fn put(image: &mut [u8], edits: &[Edit]) {
-    for (block, at, bytes) in edits {
-        let mut place = (*block as usize).saturating_sub(1) * 512 + *at as usize;
-        for byte in *bytes {
-            if place < image.len() {
-                image[place] = *byte;
-                place += 1;
-            }
-        }
-    }
-}
-
 // HELLO on so many blocks, with the edits of two tables.
 pub fn image(
     alloc: Global,
@@ -91,10 +31,9 @@ pub fn image(
     more: &[Edit],
     edits: &[Edit],
 ) -> Result<Vec<u8>, AllocError> {
-    let mut bytes = vec![in alloc; 0; blocks as usize * 512]?;
-    put(bytes.as_mut_slice(), HELLO);
-    put(bytes.as_mut_slice(), more);
-    put(bytes.as_mut_slice(), edits);
+    let mut bytes = edited(alloc, blocks, &[HELLO])?;
+    put_edits(bytes.as_mut_slice(), more);
+    put_edits(bytes.as_mut_slice(), edits);
     Ok(bytes)
 }
 
@@ -180,7 +119,7 @@ pub const HELLO_LIST: Answer = Answer::Found(Found {
         length: 1,
         count: 1,
     },
-    front: [0; 10],
+    front: [0xC2, 0, 0, 0, 0, 0, 0, 0, 0, 0],
 });
 
 #[test]

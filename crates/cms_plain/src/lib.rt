@@ -8,7 +8,6 @@
 
 mod bytes;
 mod files;
-pub mod images;
 mod lists;
 mod map;
 mod met;

@@ -3,14 +3,13 @@ ghost use Rattle.std.specs.Prelude.{◌≡◌, ◌+◌, ◌*◌, ◌<◌, ◌≤
 ghost use Rattle.cms_plain.specs.Plains.{IsModest};
 ghost use Rattle.cms_fields.specs.Numbers.{is_block_size};
 
-use crate::images::{
-    empty, erased, full, hello, long_directory, one_file, put, spanning, two_files,
-};
 use crate::minidisk::{Plain, PlainFile};
 use crate::opening::open;
 use crate::script::{ScriptItem, script_items};
 use crate::space::{Shape, drop_need, free_count, put_need, shape_of};
 use cms_fields::{EntryFault, LabelFault};
+use cms_images::hello::hello;
+use cms_images::known::{empty, erased, full, long_directory, one_file, put, spanning, two_files};
 use cms_journal::Blocks;
 use cms_model::{OpenFault, VarFault};
 use cms_names::{Format, Name, Part};
@@ -101,7 +100,7 @@ fn images_hold_their_files(rt: HostRuntime) -> Result<(), AllocError> {
         length: 5,
         records: &[HELLO, &[0xE6, 0xD6, 0xD9, 0xD3, 0xC4]],
     };
-    assert!(rt; holds(alloc, &hello(alloc)?, 9, 0, &[hello_text]));
+    assert!(rt; holds(alloc, &hello(alloc, &[])?, 9, 0, &[hello_text]));
     let mut marked = empty(alloc)?;
     assert!(rt; holds(alloc, &marked, 9, 0, &[]));
     put(marked.as_mut_slice(), 6, 1, &[0x80]);

@@ -1,8 +1,10 @@
 // Sessions that erase files of disk A, on images in memory.
 use crate::Status;
-use crate::session_tests::{
-    EXEC_TOO, Edit, HELLO, NO_LABEL, WORD as READ_ONLY, ended, image, put, world,
+use crate::session_tests::{WORD as READ_ONLY, ended, world};
+use cms_images::hello::{
+    ERASE_EXEC, MARKED, NEW_DIRECTORY, NEW_LABEL, NEW_MAP, NO_LABEL, TYPE_EXEC, hello, three,
 };
+use cms_images::{Edit, put_edits};
 use cms_world::MemWorld;
 use std::alloc::{AllocError, Global};
 use std::process::Abort;
@@ -13,74 +15,8 @@ const WORD: &str = "191,512,rw,disk.img";
 // 1 July 26 at noon, in seconds after 1970.
 const NOON: i64 = 1_782_907_200;
 
-// No block is free.
-const MARKED: &[Edit] = &[(6, 0, &[0xFF, 0x80])];
-
 // HELLO TEXT has mode number 0.
 const HIDDEN: &[Edit] = &[(4, 152, &[0xC1, 0xF0])];
-
-// ERASE EXEC in the place of HELLO TEXT.
-const PROCEDURE: &[Edit] = &[
-    (4, 128, &[0xC5, 0xD9, 0xC1, 0xE2, 0xC5, 0x40, 0x40, 0x40]),
-    (4, 136, &[0xC5, 0xE7, 0xC5, 0xC3, 0x40, 0x40, 0x40, 0x40]),
-];
-
-// On ten blocks with two files more: HELLO LIST A2 with the record B in block 8, and HELL TEXT A1 with the record C in block 9.
-const MORE: &[Edit] = &[
-    (3, 28, &[0, 0, 0, 10]),
-    (4, 48, &[0, 0, 0, 5]),
-    (4, 192, &[0xC8, 0xC5, 0xD3, 0xD3, 0xD6, 0x40, 0x40, 0x40]),
-    (4, 200, &[0xD3, 0xC9, 0xE2, 0xE3, 0x40, 0x40, 0x40, 0x40]),
-    (4, 216, &[0xC1, 0xF2]),
-    (4, 222, &[0xC6]),
-    (4, 224, &[0, 0, 0, 1]),
-    (4, 232, &[0, 0, 0, 8]),
-    (4, 236, &[0, 0, 0, 1]),
-    (4, 240, &[0, 0, 0, 1]),
-    (4, 244, &[0, 4]),
-    (4, 246, &[0x99, 0x12, 0x31, 0x23, 0x59, 0x59]),
-    (4, 256, &[0xC8, 0xC5, 0xD3, 0xD3, 0x40, 0x40, 0x40, 0x40]),
-    (4, 264, &[0xE3, 0xC5, 0xE7, 0xE3, 0x40, 0x40, 0x40, 0x40]),
-    (4, 280, &[0xC1, 0xF1]),
-    (4, 286, &[0xC6]),
-    (4, 288, &[0, 0, 0, 1]),
-    (4, 296, &[0, 0, 0, 9]),
-    (4, 300, &[0, 0, 0, 1]),
-    (4, 304, &[0, 0, 0, 1]),
-    (4, 308, &[0, 4]),
-    (4, 310, &[0x99, 0x12, 0x31, 0x23, 0x59, 0x59]),
-    (6, 0, &[0xFF, 0x80]),
-    (8, 0, &[0xC2]),
-    (9, 0, &[0xC3]),
-];
-
-// What is written where HELLO TEXT is erased at noon: the map to block 8, the directory to block 5, and the label.
-const MAP: &[Edit] = &[(8, 0, &[0xF9, 0x00])];
-
-const DIRECTORY: &[Edit] = &[
-    (5, 0, &[0, 0, 0, 1, 0, 0, 0, 0]),
-    (5, 8, &[0xC4, 0xC9, 0xD9, 0xC5, 0xC3, 0xE3, 0xD6, 0xD9]),
-    (5, 24, &[0xC1, 0xF1]),
-    (5, 30, &[0xC6]),
-    (5, 32, &[0, 0, 0, 64]),
-    (5, 40, &[0, 0, 0, 5]),
-    (5, 44, &[0, 0, 0, 1]),
-    (5, 48, &[0, 0, 0, 2]),
-    (5, 53, &[4]),
-    (5, 54, &[0x26, 0x07, 0x01, 0x12, 0x00, 0x00]),
-    (5, 64, &[0, 0, 0, 2, 0, 0, 0, 0]),
-    (5, 72, &[0xC1, 0xD3, 0xD3, 0xD6, 0xC3, 0xD4, 0xC1, 0xD7]),
-    (5, 88, &[0xC1, 0xF1]),
-    (5, 94, &[0xC6]),
-    (5, 96, &[0, 0, 2, 0]),
-    (5, 104, &[0, 0, 0, 8]),
-    (5, 108, &[0, 0, 0, 1]),
-    (5, 112, &[0, 0, 0, 1]),
-    (5, 117, &[4]),
-    (5, 118, &[0x26, 0x07, 0x01, 0x12, 0x00, 0x00]),
-];
-
-const LABEL: &[Edit] = &[(3, 16, &[0, 0, 0, 5]), (3, 32, &[0, 0, 0, 6])];
 
 // The unit word, the edits of the image, the script, what is typed, the status, and the world's calls.
 type Row = (
@@ -112,7 +48,7 @@ const ERASED: &[Row] = &[
     ),
     (
         WORD,
-        EXEC_TOO,
+        TYPE_EXEC,
         "ERASE TYPE EXEC A\n",
         "R;\n",
         Status::Done,
@@ -188,7 +124,7 @@ const KEPT: &[Row] = &[
     ),
     (
         WORD,
-        PROCEDURE,
+        ERASE_EXEC,
         "ERASE ERASE EXEC A\n",
         "",
         Status::NotBuilt,
@@ -229,7 +165,7 @@ fn crashed(
 // Each row is as it says.
 fn are_so(rt: &impl Abort, alloc: Global, rows: &[Row]) -> Result<(), Fail> {
     for (words, edits, script, typed, wanted, calls) in rows {
-        let mut world = world(alloc, script, &image(alloc, edits)?)?;
+        let mut world = world(alloc, script, &hello(alloc, edits)?)?;
         let status = ended(alloc, words, &mut world)?;
         assert_eq!(rt; status, *wanted, "{words}: {script}");
         assert_eq!(rt; world.typed(), typed.as_bytes(), "{words}: {script}");
@@ -252,20 +188,20 @@ fn files_are_kept(rt: HostRuntime) -> Result<(), Fail> {
 fn the_update_is_stamped_and_written_in_order(rt: HostRuntime) -> Result<(), Fail> {
     let alloc = rt.alloc();
     let mut world = MemWorld::new(alloc, b"ERASE HELLO TEXT A\n", NOON)?;
-    world.add_image("disk.img", &image(alloc, &[])?)?;
+    world.add_image("disk.img", &hello(alloc, &[])?)?;
     assert_eq!(rt; ended(alloc, WORD, &mut world)?, Status::Done);
     // the line, the turn, two writes, a sync, the label, a sync, the ready line and the script's end
     assert_eq!(rt; world.events(), 9);
-    let mut wanted = image(alloc, &[])?;
+    let mut wanted = hello(alloc, &[])?;
     for (at, edits) in [
         (2, &[] as &[Edit]),
-        (3, MAP),
-        (4, DIRECTORY),
+        (3, NEW_MAP),
+        (4, NEW_DIRECTORY),
         (5, &[]),
-        (6, LABEL),
+        (6, NEW_LABEL),
         (9, &[]),
     ] {
-        put(wanted.as_mut_slice(), edits);
+        put_edits(wanted.as_mut_slice(), edits);
         assert_eq!(rt;
             crashed(alloc, &world, at, u64::MAX)?,
             Some(wanted.to_vec(alloc)?),
@@ -273,14 +209,6 @@ fn the_update_is_stamped_and_written_in_order(rt: HostRuntime) -> Result<(), Fai
         );
     }
     Ok(())
-}
-
-// HELLO TEXT, HELLO LIST and HELL TEXT.
-fn three(alloc: Global) -> Result<Vec<u8>, AllocError> {
-    let mut bytes = vec![in alloc; 0; 10 * 512]?;
-    put(bytes.as_mut_slice(), HELLO);
-    put(bytes.as_mut_slice(), MORE);
-    Ok(bytes)
 }
 
 const SCRIPT: &str = "ERASE HELLO TEXT A\nTYPE HELL TEXT A\nERASE HELLO LIST A\n";

@@ -1,67 +1,10 @@
 // Whole sessions on images in memory.
 use crate::{Status, WordFault, run};
+use cms_images::hello::{NO_LABEL, TYPE_EXEC, hello};
+use cms_images::{Edit, many_files};
 use cms_world::{Argv, MemWorld};
 use std::alloc::{AllocError, Global};
 use std::test::Fail;
-
-// Bytes at a place of a block of 512 bytes; the first block is block 1.
-pub type Edit = (u16, u16, &'static [u8]);
-
-// TEST01: the directory in block 4, the map in block 6, and in block 7 HELLO TEXT A1 with the records HELLO and WORLD.
-pub const HELLO: &[Edit] = &[
-    (3, 0, &[0xC3, 0xD4, 0xE2, 0xF1]),
-    (3, 4, &[0xE3, 0xC5, 0xE2, 0xE3, 0xF0, 0xF1]),
-    (3, 12, &[0, 0, 2, 0]),
-    (3, 16, &[0, 0, 0, 4]),
-    (3, 28, &[0, 0, 0, 9]),
-    (3, 36, &[0, 0, 0, 64]),
-    (4, 30, &[0xC6]),
-    (4, 32, &[0, 0, 0, 64]),
-    (4, 40, &[0, 0, 0, 4]),
-    (4, 44, &[0, 0, 0, 1]),
-    (4, 48, &[0, 0, 0, 3]),
-    (4, 94, &[0xC6]),
-    (4, 96, &[0, 0, 2, 0]),
-    (4, 104, &[0, 0, 0, 6]),
-    (4, 108, &[0, 0, 0, 1]),
-    (4, 112, &[0, 0, 0, 1]),
-    (4, 128, &[0xC8, 0xC5, 0xD3, 0xD3, 0xD6, 0x40, 0x40, 0x40]),
-    (4, 136, &[0xE3, 0xC5, 0xE7, 0xE3, 0x40, 0x40, 0x40, 0x40]),
-    (4, 152, &[0xC1, 0xF1]),
-    (4, 158, &[0xC6]),
-    (4, 160, &[0, 0, 0, 5]),
-    (4, 168, &[0, 0, 0, 7]),
-    (4, 172, &[0, 0, 0, 1]),
-    (4, 176, &[0, 0, 0, 2]),
-    (4, 180, &[0, 4]),
-    (4, 182, &[0x00, 0x01, 0x01, 0x00, 0x00, 0x00]),
-    (6, 0, &[0xFE, 0x00]),
-    (
-        7,
-        0,
-        &[0xC8, 0xC5, 0xD3, 0xD3, 0xD6, 0xE6, 0xD6, 0xD9, 0xD3, 0xC4],
-    ),
-];
-
-pub fn put(image: &mut [u8], edits: &[Edit]) {
-    for (block, at, bytes) in edits {
-        let mut place = (*block as usize).saturating_sub(1) * 512 + *at as usize;
-        for byte in *bytes {
-            if place < image.len() {
-                image[place] = *byte;
-                place += 1;
-            }
-        }
-    }
-}
-
-// HELLO on 9 blocks, with these edits.
-pub fn image(alloc: Global, edits: &[Edit]) -> Result<Vec<u8>, AllocError> {
-    let mut bytes = vec![in alloc; 0; 9 * 512]?;
-    put(bytes.as_mut_slice(), HELLO);
-    put(bytes.as_mut_slice(), edits);
-    Ok(bytes)
-}
 
 // The program's name and the words that blanks part.
 fn argv(alloc: Global, line: &str) -> Result<Argv, AllocError> {
@@ -91,14 +34,7 @@ pub fn ended(alloc: Global, words: &str, world: &mut MemWorld) -> Result<Status,
 
 pub const WORD: &str = "191,512,ro,disk.img";
 
-pub const NO_LABEL: &[Edit] = &[(3, 0, &[0x00])];
-
 const FORMAT_V: &[Edit] = &[(4, 158, &[0xE5])];
-
-pub const EXEC_TOO: &[Edit] = &[
-    (4, 128, &[0xE3, 0xE8, 0xD7, 0xC5, 0x40, 0x40, 0x40, 0x40]),
-    (4, 136, &[0xC5, 0xE7, 0xC5, 0xC3, 0x40, 0x40, 0x40, 0x40]),
-];
 
 // The words, the edits of the image, the script, what is typed, and the status.
 type Row = (
@@ -156,7 +92,7 @@ const ROWS: &[Row] = &[
         Status::Done,
     ),
     (WORD, FORMAT_V, "TYPE HELLO TEXT A\n", "", Status::NotBuilt),
-    (WORD, EXEC_TOO, "TYPE TYPE EXEC A\n", "", Status::NotBuilt),
+    (WORD, TYPE_EXEC, "TYPE TYPE EXEC A\n", "", Status::NotBuilt),
     (
         "192,512,ro,disk.img",
         &[],
@@ -165,6 +101,27 @@ const ROWS: &[Row] = &[
         Status::Done,
     ),
     ("192,512,ro,disk.img", FORMAT_V, "", "", Status::Done),
+    (
+        "001,512,rw,disk.img",
+        &[],
+        "TYPE HELLO TEXT A\n",
+        "CMS069E Disk A is not accessed\nR(00036);\n",
+        Status::Done,
+    ),
+    (
+        "FfF,512,ro,disk.img",
+        &[],
+        "* a comment\nERASE HELLO TEXT A\n",
+        "CMS069E Disk A is not accessed\nR(00036);\n",
+        Status::Done,
+    ),
+    (
+        WORD,
+        &[],
+        "TYPE ABCDEFGH IJKLMNOP A\nTYPE $#@+-:_0 A A\n",
+        "CMS002E File ABCDEFGH IJKLMNOP A not found\nR(00028);\nCMS002E File $#@+-:_0 A A not found\nR(00028);\n",
+        Status::Done,
+    ),
     (
         "191,1024,ro,disk.img",
         &[],
@@ -200,7 +157,7 @@ const ROWS: &[Row] = &[
 fn scripts_are_typed(rt: HostRuntime) -> Result<(), Fail> {
     let alloc = rt.alloc();
     for (words, edits, script, typed, wanted) in ROWS {
-        let mut world = world(alloc, script, &image(alloc, edits)?)?;
+        let mut world = world(alloc, script, &hello(alloc, edits)?)?;
         let status = ended(alloc, words, &mut world)?;
         assert_eq!(rt; status, *wanted, "{words}: {script}");
         assert_eq!(rt; world.typed(), typed.as_bytes(), "{words}: {script}");
@@ -211,7 +168,7 @@ fn scripts_are_typed(rt: HostRuntime) -> Result<(), Fail> {
 #[test]
 fn each_call_fails_in_turn(rt: HostRuntime) -> Result<(), Fail> {
     let alloc = rt.alloc();
-    let bytes = image(alloc, &[])?;
+    let bytes = hello(alloc, &[])?;
     let typed = b"HELLO\nWORLD\nR;\n".as_slice();
     let mut calls = 1;
     let mut untouched = world(alloc, "TYPE HELLO TEXT A\n", &bytes)?;
@@ -226,6 +183,88 @@ fn each_call_fails_in_turn(rt: HostRuntime) -> Result<(), Fail> {
         );
         assert!(rt; typed.starts_with(failing.typed()), "call {calls}");
         calls = calls.saturating_add(1);
+    }
+    Ok(())
+}
+
+// Volumes of each block size with a full directory block, two of them as large as one map block allows: size, blocks, files, the
+// last file and its record.
+type Wide = (u32, u32, u32, &'static str, &'static str);
+
+const WIDE: [Wide; 4] = [
+    (512, 4096, 6, "FILE0006", "0006"),
+    (1024, 8192, 14, "FILE0014", "0014"),
+    (2048, 38, 30, "FILE0030", "0030"),
+    (4096, 70, 62, "FILE0062", "0062"),
+];
+
+// What a session types that types the last file, erases it, looks for it and types the first.
+fn typed_of_wide(
+    alloc: Global,
+    bsize: u32,
+    last: &str,
+    record: &str,
+) -> Result<String, AllocError> {
+    let mut typed = format!(in alloc;
+        "{record}\nR;\nR;\nCMS002E File {last} TEXT A not found\nR(00028);\n"
+    )?;
+    for _ in 0..bsize {
+        typed.push_str("1\n")?;
+    }
+    typed.push_str("R;\n")?;
+    Ok(typed)
+}
+
+#[test]
+fn wide_volumes_have_room_in_memory(rt: HostRuntime) -> Result<(), Fail> {
+    let alloc = rt.alloc();
+    for (bsize, blocks, files, last, record) in WIDE {
+        let script = format!(in alloc;
+            "TYPE {last} TEXT A\nERASE {last} TEXT A\nTYPE {last} TEXT A\nTYPE FILE0001 TEXT A\n"
+        )?;
+        let words = format!(in alloc; "191,{bsize},rw,disk.img")?;
+        let mut world = world(alloc, &script, &many_files(alloc, bsize, blocks, files)?)?;
+        assert_eq!(rt; ended(alloc, &words, &mut world)?, Status::Done, "{bsize}");
+        let typed = typed_of_wide(alloc, bsize, last, record)?;
+        assert_eq!(rt; world.typed(), typed.as_bytes(), "{bsize}");
+    }
+    Ok(())
+}
+
+// So many times the same bytes.
+fn repeated(alloc: Global, bytes: &str, count: u32) -> Result<String, AllocError> {
+    let mut text = String::new(alloc);
+    for _ in 0..count {
+        text.push_str(bytes)?;
+    }
+    Ok(text)
+}
+
+#[test]
+fn long_scripts_have_room_in_memory(rt: HostRuntime) -> Result<(), Fail> {
+    let alloc = rt.alloc();
+    let (stars, blanks, lines) = (
+        repeated(alloc, "*", 255)?,
+        repeated(alloc, " ", 255)?,
+        repeated(alloc, "*\n", 1_000_000)?,
+    );
+    let table = [
+        (
+            format!(in alloc; "{stars}\n{blanks}\n{stars}\r\nTYPE HELLO TEXT A\n{blanks}")?,
+            "HELLO\nWORLD\nR;\n",
+            Status::Done,
+        ),
+        (
+            format!(in alloc; "TYPE HELLO TEXT A\n{lines}")?,
+            "HELLO\nWORLD\nR;\n",
+            Status::Turns,
+        ),
+        (lines, "", Status::Done),
+    ];
+    for (row, (script, typed, wanted)) in table.iter().enumerate() {
+        let mut world = world(alloc, script, &hello(alloc, &[])?)?;
+        assert_eq!(rt; ended(alloc, WORD, &mut world)?, *wanted, "row {row}");
+        assert_eq!(rt; world.typed(), typed.as_bytes(), "row {row}");
     }
     Ok(())
 }

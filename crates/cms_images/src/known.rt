@@ -1,21 +1,16 @@
-//! Images of small volumes of 512-byte blocks, made byte by byte from the published layout.
+//! Volumes of 512-byte blocks as a system would leave them, one after another change.
 ghost use Rattle.std.specs.Prelude.{◌≡◌, ◌+◌, ◌*◌, ◌<◌, ◌≤◌, length, vec_len, IfOk};
 
+use crate::edits::put_at;
 use std::alloc::{AllocError, Global};
 
-/// Bytes of a block.
+// Bytes of a block.
 const BLOCK: usize = 512;
 
 /// Puts bytes at a place of a block, the first of which is block 1; what isn't there is left out.
 pub fn put(image: &mut [u8], block: usize, at: usize, bytes: &[u8]) {
     let start = block.saturating_sub(1).saturating_mul(BLOCK);
-    let mut place = start.saturating_add(at);
-    for byte in bytes {
-        if place < image.len() {
-            image[place] = *byte;
-            place += 1;
-        }
-    }
+    put_at(image, start.saturating_add(at), bytes);
 }
 
 /// Puts a number of four bytes, the highest first.
@@ -129,47 +124,6 @@ fn zeros(alloc: Global, blocks: usize) -> Result<Vec<u8>, AllocError>
     ensures { IfOk result (λ image. vec_len image ≡ blocks * 512) }
 {
     vec![in alloc; 0; blocks * BLOCK]
-}
-
-/// TEST01 with HELLO TEXT in block 7: two records HELLO and WORLD of fixed length. Nothing stands in it but what a reader looks at.
-pub fn hello(alloc: Global) -> Result<Vec<u8>, AllocError>
-    ensures { IfOk result (λ image. vec_len image ≡ 4608) }
-{
-    let mut volume = zeros(alloc, 9)?;
-    let image = volume.as_mut_slice();
-    put(image, 3, 0, &[0xC3, 0xD4, 0xE2, 0xF1]);
-    put(image, 3, 4, &[0xE3, 0xC5, 0xE2, 0xE3, 0xF0, 0xF1]);
-    put_number(image, 3, 12, 512);
-    put_number(image, 3, 16, 4);
-    put_number(image, 3, 28, 9);
-    put_number(image, 3, 36, 64);
-    put_entry(image, 4, 0, &directory(4, 3, 0));
-    put_entry(image, 4, 1, &map(6, 0));
-    put_entry(
-        image,
-        4,
-        2,
-        &Row {
-            name: [0xC8, 0xC5, 0xD3, 0xD3, 0xD6, 0x40, 0x40, 0x40],
-            kind: [0xE3, 0xC5, 0xE7, 0xE3, 0x40, 0x40, 0x40, 0x40],
-            format: 0xC6,
-            length: 5,
-            root: 7,
-            blocks: 1,
-            records: 2,
-            levels: 0,
-            pointer_size: 4,
-            second: 0,
-        },
-    );
-    put(image, 6, 0, &[0xFE, 0x00]);
-    put(
-        image,
-        7,
-        0,
-        &[0xC8, 0xC5, 0xD3, 0xD3, 0xD6, 0xE6, 0xD6, 0xD9, 0xD3, 0xC4],
-    );
-    Ok(volume)
 }
 
 /// TEST01 with 9 blocks as it was formatted: the directory in block 4, the map in block 6, no files.

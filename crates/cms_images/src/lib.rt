@@ -1,0 +1,10 @@
+//! Images for tests, made byte by byte from the layout of a volume, not by the program. No part of the product.
+#![tactic(auto)]
+
+mod edits;
+pub mod hello;
+pub mod known;
+mod many;
+
+pub use edits::{Edit, edited, put_edits};
+pub use many::many_files;

@@ -1,0 +1,113 @@
+// Small volumes of any block size, with many files.
+ghost use Rattle.std.specs.Prelude.{◌≤◌};
+
+use crate::edits::put_at;
+use std::alloc::{AllocError, Global};
+
+// The names of the directory and the allocation map, as they are written.
+const DIRECTORY: [u8; 16] = [
+    0, 0, 0, 1, 0, 0, 0, 0, 0xC4, 0xC9, 0xD9, 0xC5, 0xC3, 0xE3, 0xD6, 0xD9,
+];
+
+const MAP: [u8; 16] = [
+    0, 0, 0, 2, 0, 0, 0, 0, 0xC1, 0xD3, 0xD3, 0xD6, 0xC3, 0xD4, 0xC1, 0xD7,
+];
+
+// FILE0000 TEXT.
+const FILE: [u8; 16] = [
+    0xC6, 0xC9, 0xD3, 0xC5, 0xF0, 0xF0, 0xF0, 0xF0, 0xE3, 0xC5, 0xE7, 0xE3, 0x40, 0x40, 0x40, 0x40,
+];
+
+// Where a block begins.
+fn start_of(bsize: u32, block: u32) -> usize {
+    block.saturating_sub(1) as usize * bsize as usize
+}
+
+// Puts a number of four bytes, the highest first.
+fn put_number(image: &mut [u8], start: usize, number: u32) {
+    put_at(image, start, &number.to_be_bytes());
+}
+
+// Puts the entry of a file of one block: its name, the length and the count of its records, and its block.
+fn put_entry(image: &mut [u8], start: usize, name: &[u8; 16], length: u32, count: u32, root: u32) {
+    put_at(image, start, name);
+    put_at(image, start.saturating_add(24), &[0xC1, 0xF1]);
+    put_at(image, start.saturating_add(30), &[0xC6]);
+    put_number(image, start.saturating_add(32), length);
+    put_number(image, start.saturating_add(40), root);
+    put_number(image, start.saturating_add(44), 1);
+    put_number(image, start.saturating_add(48), count);
+    put_at(
+        image,
+        start.saturating_add(52),
+        &[0, 4, 0x26, 0x07, 0x01, 0x12, 0x00, 0x00],
+    );
+}
+
+// The four digits of a number below 10,000, in EBCDIC.
+fn digits(number: u32) -> [u8; 4] {
+    let digit = |power: u32| 0xF0 + (number / power % 10) as u8;
+    [digit(1000), digit(100), digit(10), digit(1)]
+}
+
+// FILEnnnn TEXT, for a number.
+fn name_of(number: u32) -> [u8; 16] {
+    let mut name = FILE;
+    put_at(&mut name, 4, &digits(number));
+    name
+}
+
+// Marks blocks from the first to the last in the map that begins at a place.
+fn put_marks(image: &mut [u8], start: usize, last: u32) {
+    for place in 0..last {
+        let at = start.saturating_add(place as usize / 8);
+        if at < image.len() {
+            image[at] |= 0x80 >> (place % 8);
+        }
+    }
+}
+
+/// TEST01 on so many blocks of a size: the directory in block 4, the map in block 6, and from block 7 on the files FILE0001 TEXT A1
+/// to that of the number of files. The first has as many records as a block has bytes, each of one byte, 1. Each other has one record,
+/// the four digits of its number. What isn't there is left out.
+pub fn many_files(alloc: Global, bsize: u32, blocks: u32, files: u32) -> Result<Vec<u8>, AllocError>
+    requires size { bsize ≤ 4096 }
+    requires blocks { blocks ≤ 65536 }
+{
+    let mut volume = vec![in alloc; 0; blocks as usize * bsize as usize]?;
+    let image = volume.as_mut_slice();
+    let label = start_of(bsize, 3);
+    put_at(
+        image,
+        label,
+        &[0xC3, 0xD4, 0xE2, 0xF1, 0xE3, 0xC5, 0xE2, 0xE3, 0xF0, 0xF1],
+    );
+    put_number(image, label.saturating_add(12), bsize);
+    put_number(image, label.saturating_add(16), 4);
+    put_number(image, label.saturating_add(28), blocks);
+    put_number(image, label.saturating_add(36), 64);
+    let directory = start_of(bsize, 4);
+    put_entry(image, directory, &DIRECTORY, 64, files.saturating_add(2), 4);
+    put_entry(image, directory.saturating_add(64), &MAP, bsize, 1, 6);
+    put_marks(image, start_of(bsize, 6), files.saturating_add(6));
+    for number in 1..files.saturating_add(1) {
+        let entry = directory
+            .saturating_add(64)
+            .saturating_add(number as usize * 64);
+        let root = number.saturating_add(6);
+        if number == 1 {
+            put_entry(image, entry, &name_of(number), 1, bsize, root);
+            for place in 0..bsize {
+                put_at(
+                    image,
+                    start_of(bsize, root).saturating_add(place as usize),
+                    &[0xF1],
+                );
+            }
+        } else {
+            put_entry(image, entry, &name_of(number), 4, 1, root);
+            put_at(image, start_of(bsize, root), &digits(number));
+        }
+    }
+    Ok(volume)
+}
