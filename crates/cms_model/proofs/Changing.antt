@@ -135,7 +135,7 @@ none_put name new (f ∷ fs) ne none = go (same_name new.name f.name) (none_put 
     go true more = (ne, none.1)
     go false more = (none.0, more)
 
-none_same : (a b : Name) (files : List File) → a ≡ b → NoneNamed a files → NoneNamed b files
+pub none_same : (a b : Name) (files : List File) → a ≡ b → NoneNamed a files → NoneNamed b files
 none_same a b files is none = subst (λ (n : Name). NoneNamed n files) is none
 
 pub put_distinct : (new : File) (files : List File) → AreDistinct files → AreDistinct (put_file new files)
@@ -175,7 +175,7 @@ none_behind : (name : Name) (f : File) (fs : List File) → f.name ≢ name → 
 none_behind name f [] ne none = (ne, tt)
 none_behind name f (g ∷ fs) ne none = (none.0, (ne, none.1))
 
-none_last : (name : Name) (fs : List File) → NoneNamed name fs → NoneNamed name (last_first fs)
+pub none_last : (name : Name) (fs : List File) → NoneNamed name fs → NoneNamed name (last_first fs)
 unfolding last_first
 none_last name [] none = tt
 none_last name (f ∷ fs) none = none_behind name f (last_first fs) none.0 (none_last name fs none.1)

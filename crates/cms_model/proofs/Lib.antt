@@ -21,6 +21,7 @@ pub mod MinidiskSizes
 pub mod Changing
 pub mod OpenedNames
 pub mod Needing
+pub mod Lookup
 pub mod Standing
 pub mod Renewing
 pub mod Putting

@@ -16,4 +16,5 @@ pub mod LawsUpdates
 pub mod LawsSizes
 pub mod LawsChanges
 pub mod LawsRoom
+pub mod LawsLookup
 pub mod Stands

@@ -1,6 +1,7 @@
 // What follows from the definitions of volumes.
 ghost use Rattle.cms_model.specs.Built.{BuiltIsRead};
 ghost use Rattle.cms_model.specs.LawsChanges.{NamesAreTold, NamesStayDistinct, NoneIsAdded, OpenedAreDistinct, PlaceIsChanged, PlaceIsFound};
+ghost use Rattle.cms_model.specs.LawsLookup.{ChangedIsFound, OthersStay, RestIsLeft};
 ghost use Rattle.cms_model.specs.LawsRecords.{FixedAreCut, StandsForOne, StoredHasSize, VaryingAreRead};
 ghost use Rattle.cms_model.specs.LawsRoom.{ChangedWhereMade, FullWhereLacking, NeedIsTaken, RoomIsKept};
 ghost use Rattle.cms_model.specs.LawsSizes.{BlocksAreShared};
@@ -60,6 +61,17 @@ pub fn change_laws()
     ensures none { NoneIsAdded }
     ensures distinct { NamesStayDistinct }
     ensures opened { OpenedAreDistinct }
+{}
+
+/// What is found by a name after a change.
+///
+/// - The name that was changed has the file that was put, added to or renamed, or none.
+/// - Each other name has the file that it had.
+/// - All else of the minidisk is as before, but for the volume id at a relabelling.
+pub fn lookup_laws()
+    ensures found { ChangedIsFound }
+    ensures others { OthersStay }
+    ensures rest { RestIsLeft }
 {}
 
 /// The room that a change needs.
