@@ -61,7 +61,7 @@ only_reads change answer OldFault none may = absurd (cc)
 only_reads change answer (EitherFault side) none may = absurd (cc)
 
 refused : (m : Minidisk) (change : Change) (answer : Answer) (o : Outcome) → is_taken answer ≡ false
-  → (put_syncs change answer o ≡ 0) × (after_put m answer o ≡ None) × (MayPut change answer o → (o ≡ Good) ⊎ (o ≡ ReadFault 0))
+    → (put_syncs change answer o ≡ 0) × (after_put m answer o ≡ None) × (MayPut change answer o → (o ≡ Good) ⊎ (o ≡ ReadFault 0))
 refused m change (Changed new) o none = absurd (cc)
 refused m change (Limited k) o none = (refl, refl, only_reads change (Limited k) o none)
 refused m change (Full need free) o none = (refl, refl, only_reads change (Full need free) o none)

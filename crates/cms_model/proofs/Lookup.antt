@@ -1,11 +1,11 @@
 -- What is found by a name after a change.
-use Rattle.std.proofs.Common.{◌≡◌, ◌≢◌, ◌⊎◌, inl, inr, ⊎_elim, ℕ, Bool, true, false, List, [], ◌∷◌, ◌++◌, if◌then◌else◌, Option, Some, None, refl, sym, ◌∙◌, ap, subst}
+use Rattle.std.proofs.Common.{◌≡◌, ◌≢◌, ◌⊎◌, inl, inr, ⊎_elim, true, false, List, [], ◌∷◌, if◌then◌else◌, Option, Some, refl, sym, ◌∙◌, ap, subst}
 use Rattle.std.proofs.lemmas.Bool.{cases_Bool}
 use Rattle.cms_names.specs.declared.name.Name.{Name}
-use Rattle.cms_model.specs.Minidisks.{File, Minidisk, same_name}
-use Rattle.cms_model.specs.Changes.{Change, Put, Add, Drop, Rename, Relabel, file_named, put_file, added_to, change_file, behind_first, last_first, drop_file, changed_files, changed}
+use Rattle.cms_model.specs.Minidisks.{File, same_name}
+use Rattle.cms_model.specs.Changes.{Put, Add, Drop, Rename, Relabel, file_named, put_file, added_to, change_file, behind_first, last_first, drop_file, changed_files, changed}
 use Rattle.cms_model.specs.LawsChanges.{NoneNamed, AreDistinct}
-use Rattle.cms_model.specs.LawsLookup.{IsAdded, IsRenamed, ChangedIsFound, OthersStay, RestIsLeft}
+use Rattle.cms_model.specs.LawsLookup.{ChangedIsFound, OthersStay, RestIsLeft}
 use Rattle.cms_model.proofs.Changing.{name_from, name_self, name_other, name_differs, none_added, none_same, none_last}
 
 -- ---- the name that is changed
