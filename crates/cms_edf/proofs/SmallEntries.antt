@@ -11,6 +11,7 @@ use Rattle.cms_fields.specs.Stamps.{has_stamp}
 use Rattle.cms_fields.specs.declared.entry.Entry.{Entry}
 use Rattle.cms_fields.specs.declared.entry.EntryFault.{EntryFault}
 use Rattle.cms_fields.specs.declared.entry.EntryFault.TheVariants as entry
+use Rattle.cms_fields.proofs.ReadEntry.{entry_is}
 use Rattle.cms_model.specs.Lists.{times, holds}
 use Rattle.cms_model.specs.Trees.{Image, Met, form_of, tree, bytes_at, is_allowed}
 use Rattle.cms_model.specs.Maps.{is_marked}
@@ -47,17 +48,9 @@ fixed_is F e = refl
 fixed_is V e = absurd (cc)
 
 entry_levels : (bsize : ℕ) (bytes : List ℕ) (e : Entry) → entry_of bsize bytes ≡ Ok e → levels_fit bsize e ≡ true
-unfolding entry_of
 entry_levels bsize bytes e is =
-    let a = want_ok (has_name bytes) entry.Name _ e is in
-    let b = want_ok (has_mode bytes) entry.Mode _ e a.1 in
-    let c = want_ok (has_format bytes) entry.Format _ e b.1 in
-    let d = want_ok (length_fits (entry_fields bytes)) entry.Length _ e c.1 in
-    let f = want_ok (counts_fit bsize (entry_fields bytes)) entry.Counts _ e d.1 in
-    let g = want_ok (levels_fit bsize (entry_fields bytes)) entry.Levels _ e f.1 in
-    let h = want_ok (has_pointer_size bytes) entry.PointerSize _ e g.1 in
-    let i = want_ok (has_stamp bytes 54) entry.Date _ e h.1 in
-    subst (λ (x : Entry). levels_fit bsize x ≡ true) (ok_same (entry_fields bytes) e i.1) g.0
+    let tests = entry_is bsize bytes e is in
+    subst (λ (x : Entry). levels_fit bsize x ≡ true) tests.fields tests.levels
 
 small_levels : (bsize : ℕ) (e : Entry) → 4 ≤ bsize → e.format ≡ F → e.blocks ≡ 1 → levels_fit bsize e ≡ true → e.levels ≡ 0
 unfolding levels_fit

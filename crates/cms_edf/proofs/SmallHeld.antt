@@ -12,6 +12,7 @@ use Rattle.cms_fields.specs.declared.label.Label.{Label}
 use Rattle.cms_fields.specs.declared.entry.Entry.{Entry}
 use Rattle.cms_fields.specs.declared.entry.EntryFault.{EntryFault}
 use Rattle.cms_fields.specs.declared.entry.EntryFault.TheVariants as entry
+use Rattle.cms_fields.proofs.ReadEntry.{entry_is}
 use Rattle.cms_model.specs.Volumes.{Disk, first_twice}
 use Rattle.cms_model.proofs.Results.{ok_same, want_ok, bind_then}
 use Rattle.cms_model.proofs.TreeFrame.{between}
@@ -34,17 +35,9 @@ fields_pass bsize bytes mode size counts levels stamp =
     and_from _ _ (and_from _ _ (and_from _ _ (and_from _ _ number size) counts) levels) date
 
 pub entry_passes : (bsize : ℕ) (bytes : List ℕ) (e : Entry) → entry_of bsize bytes ≡ Ok e → passes bsize e ≡ true
-unfolding entry_of
 entry_passes bsize bytes e is =
-    let a = want_ok (has_name bytes) entry.Name _ e is in
-    let b = want_ok (has_mode bytes) entry.Mode _ e a.1 in
-    let c = want_ok (has_format bytes) entry.Format _ e b.1 in
-    let d = want_ok (length_fits (entry_fields bytes)) entry.Length _ e c.1 in
-    let f = want_ok (counts_fit bsize (entry_fields bytes)) entry.Counts _ e d.1 in
-    let g = want_ok (levels_fit bsize (entry_fields bytes)) entry.Levels _ e f.1 in
-    let h = want_ok (has_pointer_size bytes) entry.PointerSize _ e g.1 in
-    let i = want_ok (has_stamp bytes 54) entry.Date _ e h.1 in
-    subst (λ (x : Entry). passes bsize x ≡ true) (ok_same (entry_fields bytes) e i.1) (fields_pass bsize bytes b.0 d.0 f.0 g.0 i.0)
+    let tests = entry_is bsize bytes e is in
+    subst (λ (x : Entry). passes bsize x ≡ true) tests.fields (fields_pass bsize bytes tests.mode tests.long tests.counts tests.levels tests.stamp)
 
 pub all_files : (bsize : ℕ) (pieces : List (List ℕ)) (es : List Entry) → small_entries bsize pieces ≡ Ok es → All (IsFile bsize) es
 unfolding small_entries

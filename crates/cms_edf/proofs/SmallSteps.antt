@@ -3,6 +3,8 @@ use Rattle.std.proofs.Common.{◌≡◌, ◌≢◌, ◌<◌, Option, Some, None,
 use Rattle.std.specs.Prelude.{IfOk, Bool, true, false, option_map, nat_le, ◌==◌, ◌&&◌, ◌*◌}
 use Rattle.std.proofs.lemmas.Bool.{and_parts, and_from, eqb-true, eq-eqb}
 use Rattle.std.proofs.lemmas.Option.{slice_get_cases}
+use Rattle.std.proofs.lemmas.List.{take-append-drop}
+use Rattle.std.proofs.Math.Seq.{take-append_seam, drop-append_seam}
 use Rattle.cms_names.specs.Names.{is_between}
 use Rattle.cms_fields.specs.Steps.{◌>>=◌}
 use Rattle.cms_fields.specs.Numbers.{word}
@@ -15,7 +17,7 @@ use Rattle.cms_journal.specs.Journal.{Journal, IsBlockSize, HasBlock, block_of, 
 use Rattle.cms_fields.specs.Labels.{label_of}
 use Rattle.cms_fields.specs.Numbers.{is_block_size}
 use Rattle.cms_model.specs.Trees.{image_of}
-use Rattle.cms_model.proofs.Images.{contents_at}
+pub use Rattle.cms_model.proofs.Images.{block_in_image}
 use Rattle.cms_model.proofs.Opening.{label_reads}
 use Rattle.cms_edf.specs.declared.small.SmallFault.{SmallFault}
 use Rattle.cms_edf.specs.declared.small.SmallFault.TheVariants as failed
@@ -101,12 +103,6 @@ label_ok (Ok label) bsize count bytes is =
     (place.0, place.1, reads.high)
 label_ok (Err why) bsize count bytes is = tt
 
--- a block of a unit is that of its image
-pub block_in_image : (j : Journal) (u k size : ℕ) → HasBlock j.units u k size → image_of (contents_of j u) k ≡ block_of j u k
-block_in_image j u k size has =
-    let within : (1 ≤ k) × (k ≤ length (start_of j.units u)) = grind (arith, slice_get_cases j.units u) in
-    contents_at j.events u (start_of j.units u) k within.0 within.1
-
 -- ---- where the blocks are
 
 pub places_parts : (last root : ℕ) (ns : List ℕ) → have_places last (root ∷ ns) ≡ true → (is_between 6 last root ≡ true) × (are_allowed last ns ≡ true)
@@ -137,21 +133,10 @@ file_high last (f ∷ fs) (suc k) e is within = file_high last fs k e (and_parts
 -- ---- looking a file up
 
 take_front : (n : ℕ) (xs ys : List ℕ) → length xs ≡ n → take n (xs ++ ys) ≡ xs
-take_front zero [] ys e = refl
-take_front zero (x ∷ xs) ys e = absurd (omega arith)
-take_front (suc n) [] ys e = absurd (omega arith)
-take_front (suc n) (x ∷ xs) ys e = ap (λ (l : List ℕ). x ∷ l) (take_front n xs ys (omega arith))
+take_front n xs ys e = rw (sym e) (take-append_seam xs ys)
 
 drop_front : (n : ℕ) (xs ys : List ℕ) → length xs ≡ n → drop n (xs ++ ys) ≡ ys
-drop_front zero [] ys e = refl
-drop_front zero (x ∷ xs) ys e = absurd (omega arith)
-drop_front (suc n) [] ys e = absurd (omega arith)
-drop_front (suc n) (x ∷ xs) ys e = drop_front n xs ys (omega arith)
-
-take_drop : (n : ℕ) (xs : List ℕ) → take n xs ++ drop n xs ≡ xs
-take_drop zero xs = refl
-take_drop (suc n) [] = refl
-take_drop (suc n) (x ∷ xs) = ap (λ (l : List ℕ). x ∷ l) (take_drop n xs)
+drop_front n xs ys e = rw (sym e) (drop-append_seam xs ys)
 
 same_is : (xs ys : List ℕ) → same xs ys ≡ true → xs ≡ ys
 unfolding same
@@ -174,7 +159,7 @@ spelled_same name n is =
     let a = and_parts (same (filled n.file) (take 8 name)) (same (filled n.kind) (drop 8 name)) is in
     let first = same_is (filled n.file) (take 8 name) a.0 in
     let second = same_is (filled n.kind) (drop 8 name) a.1 in
-    rw (first, second) (take_drop 8 name)
+    rw (first, second) (take-append-drop 8 name)
 
 spelled_other : (name : List ℕ) (n : Name) → length (filled n.file) ≡ 8 → is_spelled name n ≡ false → spelled n ≢ name
 spelled_other name n long other is =

@@ -68,7 +68,7 @@ none_bad p (c ∷ text) all =
     rw (both.0, none_bad p text both.1) (omega arith)
 
 -- what passes at the front passes
-front_passes : (p : ℕ → Bool) (field : List ℕ) → list_all p (take_while p field) ≡ true
+pub front_passes : (p : ℕ → Bool) (field : List ℕ) → list_all p (take_while p field) ≡ true
 front_passes p [] = refl
 front_passes p (c ∷ field) = ⊎_elim
     (λ (yes : p c ≡ true).

@@ -9,7 +9,9 @@ use Rattle.cms_line.specs.Consoles.{item_of, Took, Stayed}
 use Rattle.cms_line.specs.ConsoleSteps.{Gives, GivesLine, Filled}
 use Rattle.cms_line.specs.declared.console.ConsoleLine.{ConsoleLine}
 use Rattle.cms_line.specs.declared.console.ConsoleLine.TheVariants.{End}
-use Rattle.cms_line.proofs.Events.{plus_plus, script-append, over-append, only_read-append, split_at}
+use Rattle.cms_journal.proofs.Pieces.{plus_plus, script-append, is_over-append}
+use Rattle.cms_machine.proofs.Lists.{split_at}
+use Rattle.cms_machine.proofs.Pieces.{read_join}
 
 more_none : (u : Unread) → extended u [] ≡ u
 more_none u = ap (λ (z : List ℕ). record { within = u.within; bytes = z }) (append-nil u.bytes)
@@ -88,7 +90,7 @@ stayed_filled j k l was now later s yet none f =
     record {
       events = after;
       told = f.told ∙ ap (λ (z : Told). plus z (Read f.bytes ∷ [])) s.told ∙ plus_plus j es (Read f.bytes ∷ []);
-      only = only_read-append es (Read f.bytes ∷ []) s.only tt;
+      only = read_join es (Read f.bytes ∷ []) s.only tt;
       keeps = record {
         told = λ more e goes.
             let read : script after ≡ script es ++ f.bytes = script-append es (Read f.bytes ∷ []) ∙ ap (λ (z : List ℕ). script es ++ z) (append-nil f.bytes) in
@@ -98,7 +100,7 @@ stayed_filled j k l was now later s yet none f =
             ∙ s.keeps.told (f.bytes ++ more) e (λ over. let h = yet in cc)
             ∙ ap (λ (z : Unread). items z e) (sym (more_more now.unread f.bytes more))
             ∙ ap (λ (z : Unread). items (extended z more) e) (sym f.unread);
-        over = f.ended ∙ ap (λ (z : Bool). z || is_over (Read f.bytes ∷ [])) (sym unended) ∙ or_assoc was.ended (is_over es) (is_over (Read f.bytes ∷ [])) ∙ ap (λ (z : Bool). was.ended || z) (sym (over-append es (Read f.bytes ∷ [])));
+        over = f.ended ∙ ap (λ (z : Bool). z || is_over (Read f.bytes ∷ [])) (sym unended) ∙ or_assoc was.ended (is_over es) (is_over (Read f.bytes ∷ [])) ∙ ap (λ (z : Bool). was.ended || z) (sym (is_over-append es (Read f.bytes ∷ [])));
         lazy = lazy_more was.unread was.ended es f.bytes s.keeps.lazy unended untold;
       };
     }

@@ -5,7 +5,8 @@ use borrow.Rule.Slice.PartMut.{put_mid, post_of}
 use Rattle.std.specs.Vec.{with_items}
 use Rattle.std.specs.declared.alloc.Global.{Global}
 use Rattle.std.specs.List.{copy_within}
-use Rattle.std.proofs.lemmas.List.{drop-drop, drop-take, with_items_is}
+use Rattle.std.proofs.lemmas.List.{drop-drop, drop-take, take-append-le, with_items_is}
+use Rattle.std.proofs.Math.Seq.{take-append-add}
 
 -- without the first of them
 pub moved : (buffer : List ℕ) (start end count : ℕ) → start ≤ end → count ≤ length (take (end - start) (drop start buffer)) → take (end - (start + count)) (drop (start + count) buffer) ≡ drop count (take (end - start) (drop start buffer))
@@ -18,14 +19,8 @@ moved buffer start end count ordered within =
 pub unread_length : (buffer : List ℕ) (start end : ℕ) → start ≤ end → end ≤ length buffer → length (take (end - start) (drop start buffer)) ≡ end - start
 unread_length buffer start end ordered inside = grind (arith, common_steps)
 
-take_front : (b c : List ℕ) (m : ℕ) → m ≤ length b → take m (b ++ c) ≡ take m b
-take_front b c zero le = refl
-take_front [] c (suc m) le = absurd (omega arith)
-take_front (x ∷ b) c (suc m) le = ap (λ (y : List ℕ). x ∷ y) (take_front b c m (omega arith))
-
 take_two : (a b c : List ℕ) (m : ℕ) → m ≤ length b → take (length a + m) (a ++ (b ++ c)) ≡ a ++ take m b
-take_two [] b c m le = let z : 0 + m ≡ m = omega arith in rw z (take_front b c m le)
-take_two (x ∷ a) b c m le = let z : suc (length a) + m ≡ suc (length a + m) = omega arith in rw z (ap (λ (y : List ℕ). x ∷ y) (take_two a b c m le))
+take_two a b c m le = take-append-add a (b ++ c) m ∙ ap (λ (z : List ℕ). a ++ z) (take-append-le m b c le)
 
 copied_front : (old : List ℕ) (start end : ℕ) → start ≤ end → end ≤ length old → take (end - start) (copy_within old start end 0) ≡ take (end - start) (drop start old)
 copied_front old start end ordered inside =

@@ -1,4 +1,3 @@
-pub mod Events
 pub mod TypedLines
 pub mod ConsoleFeeds
 pub mod ConsoleItems

@@ -7,7 +7,8 @@ use Rattle.cms_journal.specs.declared.event.Event.TheVariants.{Typed}
 use Rattle.cms_journal.specs.Told.{Told, plus, typed}
 use Rattle.cms_line.specs.Typing.{TypedTo, TypedPart}
 use Rattle.cms_machine.specs.Acts.{typed_line}
-use Rattle.cms_line.proofs.Events.{plus_plus, typed-append, only_typed-append}
+use Rattle.cms_journal.proofs.Pieces.{plus_plus, typed-append}
+use Rattle.cms_machine.proofs.Pieces.{typed_join}
 
 pub typed_none : (old : Told) (bytes : List ℕ) → TypedTo old old bytes bytes
 typed_none old bytes = record { events = []; told = refl; only = tt; is = refl }
@@ -17,7 +18,7 @@ pub typed_then : (old mid new : Told) (bytes b left rest : List ℕ) → TypedTo
 typed_then old mid new bytes b left rest p q = record {
   events = p.events ++ q.events;
   told = q.told ∙ ap (λ (j : Told). plus j q.events) p.told ∙ plus_plus old p.events q.events;
-  only = only_typed-append p.events q.events p.only q.only;
+  only = typed_join p.events q.events p.only q.only;
   is =
       ap (λ (z : List ℕ). z ++ (rest ++ left)) (typed-append p.events q.events)
       ∙ append_assoc (typed p.events) (typed q.events) (rest ++ left)

@@ -88,6 +88,7 @@ impl ProgStack {
         self.lines.len()
     }
 
+    /// Whether no line is stacked.
     pub fn is_empty(&self) -> bool
         ensures { IsTrue result ↔ (self.now ≡ []) }
     {

@@ -1,8 +1,6 @@
--- Lists that are cut in two, and the same of what a piece of the journal tells.
-use Rattle.std.proofs.Common.{◌≡◌, ◌⊎◌, inl, inr, ℕ, zero, suc, ◌+◌, ◌<◌, ◌≤◌, ◌||◌, List, [], ◌∷◌, ◌++◌, refl, ap, sym, ◌∙◌, arith, append_assoc, ⊎_elim}
-use Rattle.cms_journal.specs.declared.event.Event.{Event}
-use Rattle.cms_journal.specs.declared.event.Event.TheVariants.{Read, Now, Typed, Wrote, Synced, Missed}
-use Rattle.cms_journal.specs.Told.{typed, moments, script, is_over, syncs}
+-- Lists that are cut in two.
+use Rattle.std.proofs.Common.{◌≡◌, ◌⊎◌, inl, inr, ℕ, zero, suc, ◌<◌, ◌≤◌, List, [], ◌∷◌, ◌++◌, refl, ap, arith, ⊎_elim}
+pub use Rattle.cms_journal.proofs.Pieces.{typed-append, script-append, moments-append, syncs-append, is_over-append as over-append}
 
 pub lt_or_le : (a b : ℕ) → (a < b) ⊎ (b ≤ a)
 lt_or_le a zero = inr (omega arith)
@@ -42,51 +40,3 @@ empty_front (x ∷ p) q e = cc
 pub no_element : {A : Type 0} (p q : List A) (x : A) → p ++ x ∷ q ≡ [] → ⊥
 no_element [] q x e = cc
 no_element (y ∷ p) q x e = cc
-
--- ---- pieces that are joined
-
-pub typed-append : (p q : List Event) → typed (p ++ q) ≡ typed p ++ typed q
-typed-append [] q = refl
-typed-append (Typed b ∷ p) q = ap (λ r. b ++ r) (typed-append p q) ∙ sym (append_assoc b (typed p) (typed q))
-typed-append (Read b ∷ p) q = typed-append p q
-typed-append (Now m ∷ p) q = typed-append p q
-typed-append (Missed name size access ∷ p) q = typed-append p q
-typed-append (Wrote u k b ∷ p) q = typed-append p q
-typed-append (Synced u ∷ p) q = typed-append p q
-
-pub script-append : (p q : List Event) → script (p ++ q) ≡ script p ++ script q
-script-append [] q = refl
-script-append (Read b ∷ p) q = ap (λ r. b ++ r) (script-append p q) ∙ sym (append_assoc b (script p) (script q))
-script-append (Typed b ∷ p) q = script-append p q
-script-append (Now m ∷ p) q = script-append p q
-script-append (Missed name size access ∷ p) q = script-append p q
-script-append (Wrote u k b ∷ p) q = script-append p q
-script-append (Synced u ∷ p) q = script-append p q
-
-pub moments-append : (p q : List Event) → moments (p ++ q) ≡ moments p ++ moments q
-moments-append [] q = refl
-moments-append (Now m ∷ p) q = ap (λ r. m ∷ r) (moments-append p q)
-moments-append (Read b ∷ p) q = moments-append p q
-moments-append (Missed name size access ∷ p) q = moments-append p q
-moments-append (Typed b ∷ p) q = moments-append p q
-moments-append (Wrote u k b ∷ p) q = moments-append p q
-moments-append (Synced u ∷ p) q = moments-append p q
-
-pub over-append : (p q : List Event) → is_over (p ++ q) ≡ (is_over p || is_over q)
-over-append [] q = refl
-over-append (Read [] ∷ p) q = refl
-over-append (Read (x ∷ b) ∷ p) q = over-append p q
-over-append (Typed b ∷ p) q = over-append p q
-over-append (Now m ∷ p) q = over-append p q
-over-append (Missed name size access ∷ p) q = over-append p q
-over-append (Wrote u k b ∷ p) q = over-append p q
-over-append (Synced u ∷ p) q = over-append p q
-
-pub syncs-append : (p q : List Event) → syncs (p ++ q) ≡ syncs p + syncs q
-syncs-append [] q = omega arith
-syncs-append (Synced u ∷ p) q = let h = syncs-append p q in omega (arith, h)
-syncs-append (Read b ∷ p) q = syncs-append p q
-syncs-append (Now m ∷ p) q = syncs-append p q
-syncs-append (Typed b ∷ p) q = syncs-append p q
-syncs-append (Missed name size access ∷ p) q = syncs-append p q
-syncs-append (Wrote u k b ∷ p) q = syncs-append p q

@@ -2,16 +2,10 @@
 use Rattle.std.proofs.Common.{◌≡◌, ℕ, ℤ, ◌≤◌, false, List, [], ◌∷◌, ◌++◌, refl, arith}
 use Rattle.cms_journal.specs.declared.event.Event.{Event}
 use Rattle.cms_journal.specs.declared.event.Event.TheVariants.{Read, Now, Typed, Wrote, Synced, Missed}
-use Rattle.cms_journal.specs.Journal.{adds}
 use Rattle.cms_journal.specs.Told.{Told, plus, typed, moments, script, is_over, syncs}
 use Rattle.cms_machine.specs.Beats.{OnlyTyped, OnlyRead, OnlyDisk}
-use Rattle.cms_machine.proofs.Lists.{syncs-append}
-
--- ---- a journal with pieces added
-
-pub plus_plus : (j : Told) (a b : List Event) → plus (plus j a) b ≡ plus j (a ++ b)
-plus_plus j [] b = refl
-plus_plus j (e ∷ a) b = plus_plus (adds e j) a b
+use Rattle.cms_journal.proofs.Pieces.{syncs-append}
+pub use Rattle.cms_journal.proofs.Pieces.{plus_plus}
 
 pub plus-nil : (j : Told) → plus j [] ≡ j
 plus-nil j = refl

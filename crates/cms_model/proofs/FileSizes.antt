@@ -9,10 +9,9 @@ use Rattle.cms_names.specs.Names.{is_between}
 use Rattle.cms_names.specs.declared.name.Format.{Format}
 use Rattle.cms_names.specs.declared.name.Format.TheVariants.{F, V}
 use Rattle.cms_fields.specs.Numbers.{half, up}
-use Rattle.cms_fields.specs.Stamps.{has_stamp}
-use Rattle.cms_fields.specs.Entries.{is_fixed, fan_of, entry_fields, has_name, has_mode, has_format, length_fits, counts_fit, levels_fit, has_pointer_size, entry_of}
+use Rattle.cms_fields.specs.Entries.{is_fixed, fan_of, length_fits, counts_fit, levels_fit, entry_of}
 use Rattle.cms_fields.specs.declared.entry.Entry.{Entry}
-use Rattle.cms_fields.specs.declared.entry.EntryFault.TheVariants as wrong
+use Rattle.cms_fields.proofs.ReadEntry.{entry_is}
 use Rattle.cms_model.specs.Lists.{In, cut}
 use Rattle.cms_model.specs.Trees.{Image, Met, form_of, tree, bytes_at}
 use Rattle.cms_model.specs.Records.{varying, records_of, length_of}
@@ -49,17 +48,9 @@ pub record EntryFits (bsize : ℕ) (e : Entry) : Type 0 where
   pub levels : levels_fit bsize e ≡ true
 
 pub entry_fits : (bsize : ℕ) (bytes : List ℕ) (e : Entry) → entry_of bsize bytes ≡ Ok e → EntryFits bsize e
-unfolding entry_of
 entry_fits bsize bytes e is =
-    let a = want_ok (has_name bytes) wrong.Name _ e is in
-    let b = want_ok (has_mode bytes) wrong.Mode _ e a.1 in
-    let c = want_ok (has_format bytes) wrong.Format _ e b.1 in
-    let d = want_ok (length_fits (entry_fields bytes)) wrong.Length _ e c.1 in
-    let f = want_ok (counts_fit bsize (entry_fields bytes)) wrong.Counts _ e d.1 in
-    let g = want_ok (levels_fit bsize (entry_fields bytes)) wrong.Levels _ e f.1 in
-    let h = want_ok (has_pointer_size bytes) wrong.PointerSize _ e g.1 in
-    let i = want_ok (has_stamp bytes 54) wrong.Date _ e h.1 in
-    subst (EntryFits bsize) (ok_same (entry_fields bytes) e i.1) (record { long = d.0; counts = f.0; levels = g.0 })
+    let tests = entry_is bsize bytes e is in
+    subst (EntryFits bsize) tests.fields (record { long = tests.long; counts = tests.counts; levels = tests.levels })
 
 abbrev pub AllFit : ℕ → List Entry → Type 0
 AllFit bsize [] = Unit {0}

@@ -2,12 +2,13 @@
 use Rattle.std.proofs.Common.{◌≡◌, ◌≢◌, ◌⊎◌, ◌↔◌, inl, inr, ⊎_elim, ℕ, zero, suc, ◌+◌, ◌-◌, ◌<◌, ◌≤◌, List, [], ◌∷◌, length, refl, sym, ◌∙◌, ap, arith, slice_index_or, slice_set, get_or-set_same, get_or-set_other, ext_get_or}
 use Rattle.std.proofs.lemmas.Bool.{cases_lt}
 use Rattle.std.proofs.lemmas.Bool.Decides.{nat_tests, eqb_tells}
+use Rattle.std.proofs.lemmas.Option.{slice_get_cases}
 use Rattle.cms_journal.specs.declared.event.Event.{Event}
 use Rattle.cms_journal.specs.declared.event.Event.TheVariants.{Read, Now, Typed, Wrote, Synced, Missed}
-use Rattle.cms_journal.specs.Journal.{Journal, block_after, blocks_after, block_at_sync, WroteSince, IsCrashImage, IsUntouched, contents, contents_of, start_of}
+use Rattle.cms_journal.specs.Journal.{Journal, HasBlock, block_of, block_after, blocks_after, block_at_sync, WroteSince, IsCrashImage, IsUntouched, contents, contents_of, start_of}
 use Rattle.cms_journal.specs.Told.{back}
 use Rattle.cms_journal.specs.Laws.{NoneWrote}
-use Rattle.cms_journal.proofs.Crashes.{left_now, unwritten_left, length-contents, get-contents, aside_since, changes_nothing}
+use Rattle.cms_journal.proofs.Crashes.{left_now, unwritten_left, untouched_unwritten, length-contents, get-contents, aside_since, changes_nothing}
 use Rattle.cms_model.specs.Trees.{Image, image_of}
 use Rattle.cms_model.specs.Settled.{EachCrash}
 
@@ -28,6 +29,12 @@ contents_at events u start n low high =
     let same : n - 1 + 1 ≡ n = omega arith in
     let got = get-contents events u start (n - 1) (omega arith) in
     rw same at got
+
+-- a block of a unit is that of its image
+pub block_in_image : (j : Journal) (u k size : ℕ) → HasBlock j.units u k size → image_of (contents_of j u) k ≡ block_of j u k
+block_in_image j u k size has =
+    let within : (1 ≤ k) × (k ≤ length (start_of j.units u)) = grind (arith, slice_get_cases j.units u) in
+    contents_at j.events u (start_of j.units u) k within.0 within.1
 
 pub crash_now : (events : List Event) (u : ℕ) (start : List (List ℕ)) → IsCrashImage events u start (contents events u start)
 crash_now events u start = record {
@@ -127,15 +134,6 @@ aside_same (e ∷ es) events u start h =
       since = λ k bytes w. (aside_since e events u k bytes h.0).0 (rest.since k bytes w);
     }
 
-none_wrote : (events : List Event) (u : ℕ) → IsUntouched events u → NoneWrote events u
-none_wrote [] u h = tt
-none_wrote (Wrote v w bytes ∷ older) u h = (h.0, none_wrote older u h.1)
-none_wrote (Synced v ∷ older) u h = none_wrote older u h.1
-none_wrote (Read bytes ∷ older) u h = none_wrote older u h.1
-none_wrote (Now t ∷ older) u h = none_wrote older u h.1
-none_wrote (Typed bytes ∷ older) u h = none_wrote older u h.1
-none_wrote (Missed name size access ∷ older) u h = none_wrote older u h.1
-
 none_since : (events : List Event) (u k : ℕ) (bytes : List ℕ) → NoneWrote events u → WroteSince events u k bytes → ⊥
 none_since [] u k bytes none w = w
 none_since (Wrote v x b ∷ older) u k bytes none (inl here) = none.0 here.0
@@ -154,7 +152,7 @@ pub record AsStart (events : List Event) (u : ℕ) (start : List (List ℕ)) : T
 
 pub untouched_start : (events : List Event) (u : ℕ) (start : List (List ℕ)) → IsUntouched events u → AsStart events u start
 untouched_start events u start h =
-    let none = none_wrote events u h in
+    let none = untouched_unwritten events u h in
     let only : (image : List (List ℕ)) → IsCrashImage events u start image → image ≡ start =
     λ image crash. ext_get_or [] image start crash.same_length (λ k below. unwritten_left events u (k + 1) (slice_index_or start k []) (slice_index_or image k []) none (crash.each k (let same = crash.same_length in omega arith))) in
     record {

@@ -11,6 +11,7 @@ use Rattle.cms_fields.specs.Numbers.{up, is_shape}
 use Rattle.cms_fields.specs.Entries.{entry_of, entry_fields, fan_of, is_fixed, length_fits, counts_fit, levels_fit, has_name, has_mode, has_format, has_pointer_size}
 use Rattle.cms_fields.specs.declared.entry.Entry.{Entry}
 use Rattle.cms_fields.specs.declared.entry.EntryFault.TheVariants as failed
+use Rattle.cms_fields.proofs.ReadEntry.{entry_is}
 use Rattle.cms_model.specs.Trees.{Met, image_of, form_of, tree, bytes_at}
 use Rattle.cms_model.specs.Volumes.{blamed, entries_of, holder_of, file_trees}
 use Rattle.cms_model.specs.declared.fault.OpenFault.{OpenFault}
@@ -62,19 +63,11 @@ fields_shaped bsize e some most long counts =
         (b.0, varying_shaped bsize e.blocks some b.1)
 
 pub entry_shaped : (bsize : ℕ) (bytes : List ℕ) (e : Entry) → 0 < bsize → bsize ≤ 4096 → entry_of bsize bytes ≡ Ok e → IsShaped bsize e
-unfolding entry_of levels_fit
+unfolding levels_fit
 entry_shaped bsize bytes e some most is =
-    let a = want_ok (has_name bytes) failed.Name _ e is in
-    let b = want_ok (has_mode bytes) failed.Mode _ e a.1 in
-    let c = want_ok (has_format bytes) failed.Format _ e b.1 in
-    let d = want_ok (length_fits (entry_fields bytes)) failed.Length _ e c.1 in
-    let f = want_ok (counts_fit bsize (entry_fields bytes)) failed.Counts _ e d.1 in
-    let g = want_ok (levels_fit bsize (entry_fields bytes)) failed.Levels _ e f.1 in
-    let h = want_ok (has_pointer_size bytes) failed.PointerSize _ e g.1 in
-    let i = want_ok _ failed.Date _ e h.1 in
-    let same : entry_fields bytes ≡ e = ok_same (entry_fields bytes) e i.1 in
-    let sized = fields_shaped bsize (entry_fields bytes) some most d.0 f.0 in
-    subst (IsShaped bsize) same (record { some = sized.0; few = sized.1; shape = g.0 })
+    let tests = entry_is bsize bytes e is in
+    let sized = fields_shaped bsize (entry_fields bytes) some most tests.long tests.counts in
+    subst (IsShaped bsize) tests.fields (record { some = sized.0; few = sized.1; shape = tests.levels })
 
 pub unblamed : {A E : Type 0} (why : E → OpenFault) (r : Result A E) (x : A) → blamed why r ≡ Ok x → r ≡ Ok x
 unblamed why (Ok y) x is = cc

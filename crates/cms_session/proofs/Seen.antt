@@ -5,13 +5,15 @@ use Rattle.std.specs.List.{list_all, prefix_len}
 use Rattle.std.proofs.lemmas.Bool.{and_parts, and_from, le-leb, cases_Bool}
 use Rattle.std.proofs.lemmas.List.Sums.{prefix_len-le-length}
 use Rattle.std.proofs.lemmas.List.Folds.{length-prefix_len}
+use Rattle.std.proofs.Math.Seq.{take-append_seam, drop-append_seam}
 use Rattle.cms_names.specs.Names.{is_part, is_text_of, is_name_character, filled}
 use Rattle.cms_names.specs.declared.name.Name.{Name}
 use Rattle.cms_fields.specs.Entries.{part_in, is_part_field, name_at, entry_fields, has_name, has_mode, has_format, length_fits, counts_fit, levels_fit, has_pointer_size, entry_of}
 use Rattle.cms_fields.specs.Stamps.{has_stamp}
 use Rattle.cms_fields.specs.declared.entry.Entry.{Entry}
 use Rattle.cms_fields.specs.declared.entry.EntryFault.TheVariants as fault
-use Rattle.cms_fields.proofs.Parts.{length-filled, part_in-filled}
+use Rattle.cms_fields.proofs.Parts.{length-filled, part_in-filled, front_passes}
+use Rattle.cms_fields.proofs.ReadEntry.{entry_is}
 use Rattle.cms_journal.specs.Journal.{Journal}
 use Rattle.cms_model.specs.Trees.{Image}
 use Rattle.cms_model.specs.Minidisks.{File, Minidisk, same_name}
@@ -35,16 +37,10 @@ abbrev pub HasParts : Name → Type 0
 HasParts n = (is_part n.file ≡ true) × (is_part n.kind ≡ true)
 
 pub take_front : (n : ℕ) (xs ys : List ℕ) → length xs ≡ n → take n (xs ++ ys) ≡ xs
-take_front zero [] ys e = refl
-take_front zero (x ∷ xs) ys e = absurd (omega arith)
-take_front (suc n) [] ys e = absurd (omega arith)
-take_front (suc n) (x ∷ xs) ys e = ap (λ (l : List ℕ). x ∷ l) (take_front n xs ys (omega arith))
+take_front n xs ys e = rw (sym e) (take-append_seam xs ys)
 
 drop_front : (n : ℕ) (xs ys : List ℕ) → length xs ≡ n → drop n (xs ++ ys) ≡ ys
-drop_front zero [] ys e = refl
-drop_front zero (x ∷ xs) ys e = absurd (omega arith)
-drop_front (suc n) [] ys e = absurd (omega arith)
-drop_front (suc n) (x ∷ xs) ys e = drop_front n xs ys (omega arith)
+drop_front n xs ys e = rw (sym e) (drop-append_seam xs ys)
 
 filled_same : (a b : List ℕ) → is_part a ≡ true → is_part b ≡ true → filled a ≡ filled b → a ≡ b
 filled_same a b a_part b_part is = sym (part_in-filled a a_part) ∙ ap part_in is ∙ part_in-filled b b_part
@@ -69,15 +65,6 @@ few_taken zero xs = omega arith
 few_taken (suc n) [] = omega arith
 few_taken (suc n) (x ∷ xs) = let ih = few_taken n xs in omega (arith, ih)
 
-front_passes : (p : ℕ → Bool) (field : List ℕ) → list_all p (take_while p field) ≡ true
-front_passes p [] = refl
-front_passes p (c ∷ field) = ⊎_elim
-    (λ (passes : p c ≡ true).
-    let next : 1 + prefix_len p field ≡ suc (prefix_len p field) = omega arith in
-    rw (passes, next, passes) (front_passes p field))
-    (λ (other : p c ≡ false). rw other refl)
-    (cases_Bool (p c))
-
 few_in : (a b c : ℕ) → a ≡ b → b ≤ c → c ≤ 8 → a ≤ 8
 few_in a b c same less few = omega (arith, same, less, few)
 
@@ -91,19 +78,11 @@ field_part field short is =
     and_from _ _ (and_from _ _ some (le-leb (length (part_in field)) 8 few)) (front_passes is_name_character field)
 
 entry_parts : (bsize : ℕ) (bytes : List ℕ) (e : Entry) → entry_of bsize bytes ≡ Ok e → HasParts e.name
-unfolding entry_of entry_fields name_at has_name
+unfolding entry_fields name_at has_name
 entry_parts bsize bytes e is =
-    let a = want_ok (has_name bytes) fault.Name _ e is in
-    let b = want_ok (has_mode bytes) fault.Mode _ e a.1 in
-    let c = want_ok (has_format bytes) fault.Format _ e b.1 in
-    let d = want_ok (length_fits (entry_fields bytes)) fault.Length _ e c.1 in
-    let f = want_ok (counts_fit bsize (entry_fields bytes)) fault.Counts _ e d.1 in
-    let g = want_ok (levels_fit bsize (entry_fields bytes)) fault.Levels _ e f.1 in
-    let h = want_ok (has_pointer_size bytes) fault.PointerSize _ e g.1 in
-    let i = want_ok (has_stamp bytes 54) fault.Date _ e h.1 in
-    let same : entry_fields bytes ≡ e = ok_same (entry_fields bytes) e i.1 in
-    let both = and_parts (is_part_field (take 8 bytes)) (is_part_field (take 8 (drop 8 bytes))) a.0 in
-    subst (λ (x : Entry). HasParts x.name) same (field_part (take 8 bytes) (few_taken 8 bytes) both.0, field_part (take 8 (drop 8 bytes)) (few_taken 8 (drop 8 bytes)) both.1)
+    let tests = entry_is bsize bytes e is in
+    let both = and_parts (is_part_field (take 8 bytes)) (is_part_field (take 8 (drop 8 bytes))) tests.name in
+    subst (λ (x : Entry). HasParts x.name) tests.fields (field_part (take 8 bytes) (few_taken 8 bytes) both.0, field_part (take 8 (drop 8 bytes)) (few_taken 8 (drop 8 bytes)) both.1)
 
 abbrev pub AllHaveParts : List Entry → Type 0
 AllHaveParts [] = Unit {0}

@@ -8,21 +8,6 @@ use Rattle.cms_journal.specs.declared.event.Attached.{Attached}
 use Rattle.std.specs.Prelude.{nat_le, true}
 use Rattle.std.proofs.lemmas.Bool.{and_parts, leb-true}
 use Rattle.cms_model.specs.Trees.{image_of, is_allowed}
-use Rattle.cms_model.proofs.Images.{contents_at}
-
--- what is written to a whole list is there
-pub written : (len : ℕ) (new old : List ℕ) → length new ≡ length old → len ≡ length old → take len (new ++ drop (length new) old) ≡ new
-written len new old same is =
-    let none : drop (length new) old ≡ [] = drop_all (length new) old (omega arith) in
-    rw (none, append-nil new) (take_all len new (omega arith))
-
--- a block that the unit has is that of its image
-pub block_is : (j : Journal) (u n size : ℕ) → HasBlock j.units u n size → block_of j u n ≡ image_of (contents_of j u) n
-block_is j u n size has = sym (contents_at j.events u (start_of j.units u) n (within (slice_get j.units u) has).0 (within (slice_get j.units u) has).1)
-  where
-    within : (o : Option Attached) → IsSomeAnd o (λ unit. (unit.bsize ≡ size) × (1 ≤ n) × (n ≤ length unit.start)) → (1 ≤ n) × (n ≤ length (option_map_or (λ unit. unit.start) o []))
-    within (Some unit) h = (h.1, h.2)
-    within None h = absurd h
 
 -- a unit with so many blocks has each of them
 pub has_block : (j : Journal) (u last n size : ℕ) → HasBlocks j.units u last size → 6 ≤ n → n ≤ last → HasBlock j.units u n size

@@ -11,7 +11,7 @@ ghost use Rattle.cms_tree.specs.declared.types.TreeFault.TheVariants.{Device};
 
 use crate::{TreeAt, TreeFault, Walked, shape};
 use byteorder::{BigEndian, ByteOrder};
-use cms_world::World;
+use cms_world::{ReadFault, World};
 use std::alloc::Global;
 
 // How the trees of a volume stand on their unit.
@@ -55,6 +55,7 @@ fn word_at(bytes: &[u8], at: usize) -> u32
 }
 
 // The bytes of a block.
+#[tactic(auto, using(cms_model::proofs::Images::block_in_image))]
 fn read_block<W: World>(
     alloc: Global,
     world: &mut W,
@@ -70,10 +71,10 @@ fn read_block<W: World>(
     ensures device { IsErrOf result Device → Rose (W.faults world.old) (W.faults world.new) }
     ensures edges { W.edges world.new ≡ W.edges world.old }
 {
-    let mut bytes = vec![in alloc; 0; layout.bsize as usize]?;
-    match world.read_block(layout.unit, block, bytes.as_mut_slice()) {
-        Ok(()) => Ok(bytes),
-        Err(_) => Err(TreeFault::Device),
+    match cms_world::read_block(alloc, world, layout.unit, block, layout.bsize) {
+        Ok(bytes) => Ok(bytes),
+        Err(ReadFault::Device) => Err(TreeFault::Device),
+        Err(ReadFault::Memory) => Err(TreeFault::Memory),
     }
 }
 

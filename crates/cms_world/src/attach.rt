@@ -9,8 +9,8 @@ use crate::{Access, Unit};
 use cms_journal::{Attached, Blocks, Bytes};
 use std::alloc::{AllocError, Global};
 
-// Attaches a unit by what stands under its name: none is attached where there is no image, or where one is to be made that is
-// there.
+/// Attaches a unit by what stands under its name: none is attached where there is no image, or where one is to be made that is
+/// there.
 pub fn attach_image(
     alloc: Global,
     recorder: &mut Recorder,

@@ -74,7 +74,7 @@ fn image_of(
     Ok(image)
 }
 
-// The same after the first of these events.
+/// The same after the first of these events.
 pub fn image_at(
     alloc: Global,
     events: &[Event],

@@ -26,7 +26,7 @@ fn joined(alloc: Global, blocks: &Blocks) -> Result<Vec<u8>, AllocError>
     Ok(bytes)
 }
 
-// These bytes with those of the blocks over their beginning.
+/// These bytes with those of the blocks over their beginning.
 pub fn overlaid(alloc: Global, blocks: &Blocks, bytes: &[u8]) -> Result<Vec<u8>, AllocError>
     ensures { IfOk result (λ written. written.items ≡ over (concat blocks.now) bytes.now) }
 {
@@ -37,7 +37,7 @@ pub fn overlaid(alloc: Global, blocks: &Blocks, bytes: &[u8]) -> Result<Vec<u8>,
     Ok(written)
 }
 
-// The blocks with which a unit is attached, by what stands under its name.
+/// The blocks with which a unit is attached, by what stands under its name.
 pub fn starting_blocks(
     alloc: Global,
     standing: Option<Vec<u8>>,

@@ -7,6 +7,7 @@
 
 mod argv;
 mod attach;
+mod block;
 mod crash;
 mod image_name;
 mod images;
@@ -17,6 +18,7 @@ mod script;
 mod world;
 
 pub use argv::Argv;
+pub use block::{ReadFault, read_block};
 pub use cms_journal::{Access, Failed, Unit};
 pub use image_name::ImageName;
 pub use mem::MemWorld;

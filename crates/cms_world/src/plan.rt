@@ -49,6 +49,7 @@ pub struct Plan {
 impl Plan {
     ghost use Rattle.cms_world.specs.Plan.{planned_of, IsNext};
 
+    /// A plan under which no call fails.
     pub fn new(alloc: Global) -> Self
         ensures calls { result.calls.items ≡ [] }
         ensures failing { result.failing.items ≡ [] }
@@ -59,6 +60,7 @@ impl Plan {
         }
     }
 
+    /// The call with this number, from 0, is to fail; `lands` says whether what it writes stands all the same.
     pub fn fail_at(&mut self, call: u32, lands: bool) -> Result<(), AllocError>
         ensures ok { OnOk result (self.new.failing.items ≡ self.old.failing.items ++ record { call = call; lands = lands } ∷ []) }
         ensures err { OnErr result (self.new.failing.items ≡ self.old.failing.items) }
@@ -68,7 +70,7 @@ impl Plan {
         Ok(())
     }
 
-    // Writes a call down, and says what comes of it.
+    /// Writes a call down, and says what comes of it.
     pub fn next(&mut self, letter: u8) -> Next
         ensures next { IsNext letter self.old self.new result }
         ensures failing { self.new.failing.items ≡ self.old.failing.items }

@@ -36,6 +36,7 @@ impl Model for Recorder {
 }
 
 impl Recorder {
+    /// A journal with no unit and no event.
     pub fn new(alloc: Global) -> Self
         ensures { result ≡ record { units = []; events = [] } }
     {
@@ -47,7 +48,7 @@ impl Recorder {
         }
     }
 
-    // Adds an event that is no write and isn't typed.
+    /// Adds an event that is no write and isn't typed.
     pub fn add(&mut self, event: Event) -> Result<(), AllocError>
         requires { MayHappen self.old.units event }
         ensures ok { OnOk result (self.new ≡ record { units = self.old.units; events = event ∷ self.old.events }) }
@@ -57,6 +58,7 @@ impl Recorder {
         Ok(())
     }
 
+    /// Adds bytes that were typed.
     pub fn add_typed(&mut self, alloc: Global, bytes: &[u8]) -> Result<(), AllocError>
         ensures ok { OnOk result (self.new ≡ record { units = self.old.units; events = Typed bytes.now ∷ self.old.events }) }
         ensures err { OnErr result (self.new ≡ self.old) }
@@ -71,6 +73,7 @@ impl Recorder {
         Ok(())
     }
 
+    /// Adds a write of a block, which then has these bytes.
     pub fn add_write(
         &mut self,
         alloc: Global,
@@ -89,6 +92,7 @@ impl Recorder {
         Ok(())
     }
 
+    /// Adds bytes that were read from the console.
     pub fn add_read(&mut self, alloc: Global, bytes: &[u8]) -> Result<(), AllocError>
         ensures ok { OnOk result (self.new ≡ record { units = self.old.units; events = Read bytes.now ∷ self.old.events }) }
         ensures err { OnErr result (self.new ≡ self.old) }
@@ -96,6 +100,7 @@ impl Recorder {
         self.add(Event::Read(Bytes::of(alloc, bytes)?))
     }
 
+    /// Adds an attach that failed.
     pub fn add_missed(
         &mut self,
         alloc: Global,
@@ -109,6 +114,7 @@ impl Recorder {
         self.add(Event::Missed(Bytes::of(alloc, name.as_bytes())?, bsize, access))
     }
 
+    /// Attaches a unit with its starting blocks.
     pub fn attach(&mut self, alloc: Global, unit: Attached) -> Result<(), AllocError>
         requires { All (λ block. length block ≡ unit.bsize) unit.start }
         ensures ok { OnOk result (self.new ≡ record { units = self.old.units ++ unit ∷ []; events = self.old.events }) }
@@ -124,14 +130,14 @@ impl Recorder {
         Ok(())
     }
 
-    // All that was typed.
+    /// All that was typed.
     pub fn typed(&self) -> &[u8]
         ensures { result.now ≡ typed_of self.now.events }
     {
         &self.typed
     }
 
-    // Whether a unit has this name.
+    /// Whether a unit has this name.
     pub fn is_named(&self, name: &str) -> bool
         ensures { result ≡ is_named self.now.units name.now }
     {
@@ -140,7 +146,7 @@ impl Recorder {
             .any(|unit| unit.name.bytes() == name.as_bytes())
     }
 
-    // These bytes with the contents of the units of this name, from one unit on, over them.
+    /// These bytes with the contents of the units of this name, from one unit on, over them.
     pub fn written_over(
         &self,
         alloc: Global,
@@ -175,28 +181,28 @@ impl Recorder {
         }
     }
 
-    // How many units are attached.
+    /// How many units are attached.
     pub fn units(&self) -> usize
         ensures { result ≡ length self.now.units }
     {
         self.units.len()
     }
 
-    // How many events there are.
+    /// How many events there are.
     pub fn len(&self) -> usize
         ensures { result ≡ length self.now.events }
     {
         self.events.len()
     }
 
-    // Whether the unit is attached.
+    /// Whether the unit is attached.
     pub fn has_unit(&self, unit: u8) -> bool
         ensures { IsTrue result ↔ HasUnit self.now.units unit }
     {
         self.units.get(unit as usize).is_some()
     }
 
-    // Whether the unit is attached with this block size and has this block.
+    /// Whether the unit is attached with this block size and has this block.
     pub fn has_block(&self, unit: u8, block: u32, size: usize) -> bool
         ensures { IsTrue result ↔ HasBlock self.now.units unit block size }
     {
@@ -210,7 +216,7 @@ impl Recorder {
         }
     }
 
-    // Whether the unit is attached so that it may be written.
+    /// Whether the unit is attached so that it may be written.
     pub fn is_writable(&self, unit: u8) -> bool
         ensures { IsTrue result ↔ IsWritable self.now.units unit }
     {
@@ -220,7 +226,7 @@ impl Recorder {
         }
     }
 
-    // A block of a unit as it is by now.
+    /// A block of a unit as it is by now.
     pub fn block(&self, unit: u8, block: u32, size: usize) -> &[u8]
         requires { HasBlock self.now.units unit block size }
         ensures bytes { result.now ≡ block_of self.now unit block }
@@ -229,7 +235,7 @@ impl Recorder {
         self.current[unit as usize].get(block as usize - 1)
     }
 
-    // What a crash right after the first events leaves of a unit, as the bits of the choice say.
+    /// What a crash right after the first events leaves of a unit, as the bits of the choice say.
     pub fn crash(
         &self,
         alloc: Global,

@@ -19,13 +19,14 @@ impl Model for Script {
 }
 
 impl Script {
+    /// A script of which nothing is taken yet.
     pub fn new(bytes: Vec<u8>) -> Self
         ensures { result ≡ bytes.items }
     {
         Script { bytes, taken: 0 }
     }
 
-    // Copies the next bytes to the front, as many as there is room for, and says how many: none at the end.
+    /// Copies the next bytes to the front, as many as there is room for, and says how many: none at the end.
     pub fn copy(&self, into: &mut [u8]) -> usize
         ensures count { result ≡ min (length into.old) (length self.now) }
         ensures bytes { take result into.new ≡ take result self.now }
@@ -36,7 +37,7 @@ impl Script {
         count
     }
 
-    // Goes on past so many bytes.
+    /// Goes on past so many bytes.
     pub fn advance(&mut self, count: usize)
         requires { count ≤ length self.old }
         ensures { self.new ≡ drop count self.old }
