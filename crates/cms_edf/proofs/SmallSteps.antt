@@ -14,8 +14,8 @@ use Rattle.cms_fields.specs.declared.label.Label.{Label}
 use Rattle.cms_model.specs.Lists.{cut, same}
 use Rattle.cms_model.proofs.TreeFrame.{between}
 use Rattle.cms_journal.specs.Journal.{Journal, IsBlockSize, HasBlock, block_of, contents_of, start_of}
+use Rattle.cms_journal.proofs.Sizes.{block_bounds}
 use Rattle.cms_fields.specs.Labels.{label_of}
-use Rattle.cms_fields.specs.Numbers.{is_block_size}
 use Rattle.cms_model.specs.Trees.{image_of}
 pub use Rattle.cms_model.proofs.Images.{block_in_image}
 use Rattle.cms_model.proofs.Opening.{label_reads}
@@ -72,23 +72,11 @@ systems_most bsize label directory is = (directory_counts bsize label directory 
 
 -- ---- sizes, and the blocks that may be read
 
-pub size_is : (bsize : ℕ) → IsBlockSize bsize → is_block_size bsize ≡ true
-size_is bsize (inl e) = rw e refl
-size_is bsize (inr (inl e)) = rw e refl
-size_is bsize (inr (inr (inl e))) = rw e refl
-size_is bsize (inr (inr (inr e))) = rw e refl
-
 pub size_least : (bsize : ℕ) → IsBlockSize bsize → 512 ≤ bsize
-size_least bsize (inl e) = omega arith
-size_least bsize (inr (inl e)) = omega arith
-size_least bsize (inr (inr (inl e))) = omega arith
-size_least bsize (inr (inr (inr e))) = omega arith
+size_least bsize size = (block_bounds bsize size).0
 
 pub size_most : (bsize : ℕ) → IsBlockSize bsize → bsize ≤ 4096
-size_most bsize (inl e) = omega arith
-size_most bsize (inr (inl e)) = omega arith
-size_most bsize (inr (inr (inl e))) = omega arith
-size_most bsize (inr (inr (inr e))) = omega arith
+size_most bsize size = (block_bounds bsize size).1
 
 label_place : (origin : ℕ) → (origin ≡ 4) ⊎ (origin ≡ 5) → (4 ≤ origin) × (origin ≤ 5)
 label_place origin (inl e) = (omega arith, omega arith)

@@ -1,6 +1,6 @@
 // The directory of a small volume.
 ghost use Rattle.std.specs.Prelude.{◌≡◌, ◌≤◌, ◌+◌, ◌*◌, ◌-◌, ◌^◌, ◌<◌, ℕ, true, Ok, Err, List, length, take, drop, IfOk, IfErr, OnOk, MatchOption};
-ghost use Rattle.cms_fields.specs.Numbers.{word, is_block_size};
+ghost use Rattle.cms_fields.specs.Numbers.{word};
 ghost use Rattle.cms_fields.specs.Entries.{is_fixed, entry_of};
 ghost use Rattle.cms_model.specs.Lists.{cut, same};
 ghost use Rattle.cms_model.specs.Minidisks.{same_name, is_named};
@@ -12,6 +12,7 @@ use crate::blocks::{after, word};
 use crate::map::have_places;
 use crate::small::SmallFault;
 use cms_fields::{Entry, Label, read_entry};
+use cms_journal::BlockSize;
 use cms_names::{Format, Name};
 use std::alloc::{AllocError, Global};
 
@@ -71,9 +72,8 @@ fn is_small_file(entry: &Entry) -> bool
 }
 
 // The entry of a small file that the first 64 bytes spell.
-fn small_entry(bsize: u32, bytes: &[u8]) -> Option<Entry>
+fn small_entry(bsize: BlockSize, bytes: &[u8]) -> Option<Entry>
     requires long { 64 ≤ length bytes.now }
-    requires size { is_block_size bsize ≡ true }
     ensures { MatchOption result (small_entry (entry_of bsize (take 64 bytes.now)) ≡ Err NotSmall) (λ entry. small_entry (entry_of bsize (take 64 bytes.now)) ≡ Ok entry) }
 {
     let Ok(entry) = read_entry(&bytes[..64], bsize) else {
@@ -89,13 +89,12 @@ fn small_entry(bsize: u32, bytes: &[u8]) -> Option<Entry>
 // Reads so many entries, which must be those of small files.
 #[tactic(auto, using(crate::proofs::SmallSteps::entries_end, crate::proofs::SmallSteps::entries_bad, crate::proofs::SmallSteps::entries_more))]
 fn read_entries(
-    bsize: u32,
+    bsize: BlockSize,
     count: u32,
     bytes: &[u8],
     into: &mut Vec<Entry>,
 ) -> Result<(), SmallFault>
     requires long { count * 64 ≤ length bytes.now }
-    requires size { is_block_size bsize ≡ true }
     ensures entries { ReadsEntries into.old.items into.new.items (small_entries bsize (cut count 64 bytes.now)) result }
     ensures count { OnOk result (length into.new.items ≡ length into.old.items + count) }
 {
@@ -175,18 +174,17 @@ fn first_twice(
 #[tactic(auto, using(crate::proofs::SmallSteps::systems_least, crate::proofs::SmallSteps::systems_most, crate::proofs::SmallSteps::places_ok), unfolding(crate::specs::Reading::small_files))]
 pub fn small_files(
     alloc: Global,
-    bsize: u32,
+    bsize: BlockSize,
     label: &Label,
     directory: &[u8],
 ) -> Result<Vec<Entry>, SmallFault>
     requires long { length directory.now ≡ bsize }
-    requires size { is_block_size bsize ≡ true }
     ensures files { IfOk result (λ files. small_files bsize label.now directory.now ≡ Ok files.items) }
     ensures few { IfOk result (λ files. length files.items < 2 ^ 32) }
     ensures places { IfOk result (λ files. (6 ≤ map_root_in directory.now) × (map_root_in directory.now ≤ label.now.blocks) × (are_allowed label.now.blocks (roots files.items) ≡ true)) }
     ensures none { IfErr result (RefusesFiles (small_files bsize label.now directory.now)) }
 {
-    if !has_small_systems(bsize, label, directory) {
+    if !has_small_systems(bsize.bytes(), label, directory) {
         return Err(SmallFault::NotBuilt);
     }
     let count = word(directory, 48) - 2;

@@ -6,6 +6,7 @@ use crate::tests::{
 use cms_fields::Stamp;
 use cms_images::hello::{MARKED, NEW_DIRECTORY, NEW_LABEL, NEW_MAP, three};
 use cms_images::{Edit, put_edits};
+use cms_journal::BlockSize;
 use cms_world::{Access, MemWorld, World};
 use std::alloc::{AllocError, Global};
 use std::test::Fail;
@@ -39,7 +40,7 @@ fn erase(alloc: Global, world: &mut MemWorld, name: &[u8; 16]) -> Erasure {
     let Ok(unit) = world.attach("disk", 512, Access::ReadWrite) else {
         return Erasure::Unattached;
     };
-    let mut small = match small_volume(alloc, world, &unit, 512) {
+    let mut small = match small_volume(alloc, world, &unit, BlockSize::new(512)) {
         Ok(small) => small,
         Err(fault) => return Erasure::No(fault),
     };

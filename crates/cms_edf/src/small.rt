@@ -15,6 +15,7 @@ use crate::blocks::{ReadFault, after, read_block};
 use crate::directory::{map_root, same, small_files};
 use crate::map::marks;
 use cms_fields::{Entry, Label, LabelFault, read_label};
+use cms_journal::BlockSize;
 use cms_names::Name;
 use cms_world::{Failed, Unit, World};
 use std::alloc::Global;
@@ -98,7 +99,7 @@ fn block<W: World>(
 }
 
 // The label that the bytes spell.
-fn label_in(bytes: &[u8], bsize: u32, blocks: u32) -> Result<Label, LabelFault>
+fn label_in(bytes: &[u8], bsize: BlockSize, blocks: u32) -> Result<Label, LabelFault>
     requires { 80 ≤ length bytes.now }
     ensures is { result ≡ label_of bsize blocks bytes.now }
     ensures within { IfOk result (λ label. (4 ≤ label.origin) × (label.origin ≤ 5) × (label.blocks ≤ blocks)) }
@@ -107,14 +108,13 @@ fn label_in(bytes: &[u8], bsize: u32, blocks: u32) -> Result<Label, LabelFault>
 }
 
 // Looks for a small volume, test by test.
-#[tactic(auto, using(crate::proofs::SmallSteps::size_is, crate::proofs::SmallSteps::size_least), unfolding(crate::specs::Reading::small_in))]
+#[tactic(auto, using(crate::proofs::SmallSteps::size_least), unfolding(crate::specs::Reading::small_in))]
 fn read_small<W: World>(
     alloc: Global,
     world: &mut W,
     unit: &Unit,
-    bsize: u32,
+    bsize: BlockSize,
 ) -> Result<Small, SmallFault>
-    requires size { IsBlockSize bsize }
     requires blocks { ForSome (W.told world.old) (λ j. HasBlocks j.units unit.now.number unit.now.blocks bsize) }
     ensures reads { ForSome (W.told world.old) (λ j. ReadsSmall unit.now.number (record { bsize = bsize; count = unit.now.blocks }) (image_of (contents_of j unit.now.number)) result) }
     ensures cause { IfErr result (λ e. e ≡ Device → Rose (W.faults world.old) (W.faults world.new)) }
@@ -125,21 +125,22 @@ fn read_small<W: World>(
     if unit.blocks < 6 {
         return Err(SmallFault::NoVolume);
     }
-    let label_bytes = block(alloc, world, unit.number, LABEL, bsize)?;
+    let size = bsize.bytes();
+    let label_bytes = block(alloc, world, unit.number, LABEL, size)?;
     let label = match label_in(&label_bytes, bsize, unit.blocks) {
         Ok(label) => label,
         Err(_) => return Err(SmallFault::NoVolume),
     };
-    let directory = block(alloc, world, unit.number, label.origin, bsize)?;
+    let directory = block(alloc, world, unit.number, label.origin, size)?;
     let files = small_files(alloc, bsize, &label, &directory)?;
     let map_root = map_root(&directory);
-    let map_bytes = block(alloc, world, unit.number, map_root, bsize)?;
+    let map_bytes = block(alloc, world, unit.number, map_root, size)?;
     if !marks(&map_bytes, map_root, &files) {
         return Err(SmallFault::NotBuilt);
     }
     Ok(Small {
         unit: unit.number,
-        bsize,
+        bsize: size,
         blocks: unit.blocks,
         label,
         label_bytes,
@@ -149,16 +150,15 @@ fn read_small<W: World>(
     })
 }
 
-/// The small volume that stands on an attached unit, with blocks of 512, 1024, 2048 or 4096 bytes. It reads the label, the
+/// The small volume that stands on an attached unit. It reads the label, the
 /// directory and the map, each once, and nothing of the files' data.
 #[tactic(auto, using(crate::proofs::SmallAnswers::answered))]
 pub fn small_volume<W: World>(
     alloc: Global,
     world: &mut W,
     unit: &Unit,
-    bsize: u32,
+    bsize: BlockSize,
 ) -> Result<Small, SmallFault>
-    requires size { IsBlockSize bsize }
     requires blocks { ForSome (W.told world.old) (λ j. HasBlocks j.units unit.now.number unit.now.blocks bsize) }
     ensures answers { ForSome (W.told world.old) (λ j. Answers unit.now.number (record { bsize = bsize; count = unit.now.blocks }) (image_of (contents_of j unit.now.number)) result) }
     ensures cause { IfErr result (λ e. e ≡ Device → Rose (W.faults world.old) (W.faults world.new)) }

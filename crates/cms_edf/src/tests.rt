@@ -2,6 +2,7 @@
 use super::*;
 use cms_images::hello::{HELLO, SECOND};
 use cms_images::{Edit, edited, put_edits};
+use cms_journal::BlockSize;
 use cms_world::{Access, MemWorld, World};
 use std::alloc::{AllocError, Global};
 use std::test::Fail;
@@ -72,7 +73,7 @@ fn look(alloc: Global, world: &mut MemWorld, name: &[u8; 16]) -> Answer {
     let Ok(unit) = world.attach("disk", 512, Access::ReadOnly) else {
         return Answer::Unattached;
     };
-    let small = match small_volume(alloc, world, &unit, 512) {
+    let small = match small_volume(alloc, world, &unit, BlockSize::new(512)) {
         Ok(small) => small,
         Err(fault) => return Answer::No(fault),
     };

@@ -1,5 +1,5 @@
 -- Numbers in bytes, the highest byte first.
-use Rattle.std.specs.Prelude.{ℕ, ◌+◌, ◌-◌, ◌/◌, ◌^◌, zero, suc, Bool, nat_le, nat_lt, ◌==◌, ◌&&◌, ◌||◌, List, ◌++◌, length, take, drop, slice_index}
+use Rattle.std.specs.Prelude.{ℕ, ◌+◌, ◌-◌, ◌/◌, ◌^◌, zero, suc, Bool, nat_le, nat_lt, ◌==◌, ◌&&◌, List, ◌++◌, length, take, drop, slice_index}
 use Rattle.byteorder.specs.Endian.{big_number}
 
 -- the number in the four bytes at a place
@@ -21,10 +21,6 @@ overwritten at field bytes = take at bytes ++ (field ++ drop (at + length field)
 -- the quotient rounded up
 abbrev pub up : ℕ → ℕ → ℕ
 up a b = (a + (b - 1)) / b
-
--- a size that the blocks of a volume can have
-abbrev pub is_block_size : ℕ → Bool
-is_block_size bsize = (bsize == 512) || (bsize == 1024) || (bsize == 2048) || (bsize == 4096)
 
 -- k levels of pointer blocks, and no fewer, have room for so many data blocks
 abbrev pub is_shape : ℕ → ℕ → ℕ → Bool

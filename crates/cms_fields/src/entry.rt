@@ -1,6 +1,6 @@
 // An entry of a directory.
 ghost use Rattle.std.specs.Prelude.{◌≡◌, ℕ, ◌-◌, ◌≤◌, length, true, Ok};
-ghost use Rattle.cms_fields.specs.Numbers.{byte, is_block_size};
+ghost use Rattle.cms_fields.specs.Numbers.{byte};
 ghost use Rattle.cms_fields.specs.Stamps.{is_stamp};
 ghost use Rattle.cms_fields.specs.Entries.{name_at, format_at, entry_of, entry_fields, entry_bytes, passes};
 
@@ -11,6 +11,7 @@ use crate::grammar::{
 };
 use crate::packed::{has_stamp, packed_stamp, stamp_at};
 use crate::time::Stamp;
+use cms_journal::BlockSize;
 use cms_names::{Format, Name};
 
 /// What an entry says of its file, by VM/SP's published description of the file status table; its
@@ -65,13 +66,11 @@ const DIGIT_0: u8 = 0xF0;
 /// Where the date stands.
 const DATE: usize = 54;
 
-/// The entry that the first 64 bytes spell on a volume with blocks of this size: 512, 1024, 2048 or
-/// 4096 bytes. Bytes in which no field stands, the mode's letter, the flags and the length of V
+/// The entry that the first 64 bytes spell on a volume with blocks of this size. Bytes in which no field stands, the mode's letter, the flags and the length of V
 /// records in a file aren't tested.
 #[tactic(auto, unfolding(crate::specs::Entries::entry_of, crate::specs::Entries::entry_fields))]
-pub fn read_entry(bytes: &[u8], bsize: u32) -> Result<Entry, EntryFault>
+pub fn read_entry(bytes: &[u8], bsize: BlockSize) -> Result<Entry, EntryFault>
     requires long { 64 ≤ length bytes.now }
-    requires size { is_block_size bsize ≡ true }
     ensures { result ≡ entry_of bsize bytes.now }
 {
     let Some(name) = name_in(bytes) else {

@@ -1,11 +1,12 @@
 // The single tests of an entry, and the fields that they read.
 ghost use Rattle.std.specs.Prelude.{◌≡◌, ◌≤◌, ◌==◌, true, length, is_some, IfSome, ◌-◌};
 ghost use Rattle.std.specs.List.{list_all};
-ghost use Rattle.cms_fields.specs.Numbers.{byte, is_block_size};
+ghost use Rattle.cms_fields.specs.Numbers.{byte};
 ghost use Rattle.cms_fields.specs.Entries.{part_in, is_part_field, has_name, name_at, has_mode, has_format, format_at, format_byte, fan_of, pointer_size, length_fits, counts_fit, levels_fit, has_pointer_size};
 
 use crate::entry::Entry;
 use crate::levels::is_shape;
+use cms_journal::BlockSize;
 use cms_names::{Format, Name, Part, is_name_character};
 
 /// Fills up the field of a name.
@@ -104,14 +105,13 @@ pub(crate) fn pointer_size(format: Format) -> u8
 }
 
 // The pointers in a block.
-fn fan_of(bsize: u32, format: Format) -> u32
-    requires { is_block_size bsize ≡ true }
+fn fan_of(bsize: BlockSize, format: Format) -> u32
     ensures is { result ≡ fan_of bsize format }
     ensures wide { 2 ≤ result }
 {
     match format {
-        Format::F => bsize / 4,
-        Format::V => bsize / 12,
+        Format::F => bsize.bytes() / 4,
+        Format::V => bsize.bytes() / 12,
     }
 }
 
@@ -126,8 +126,7 @@ pub(crate) fn length_fits(entry: &Entry) -> bool
 }
 
 #[tactic(auto, unfolding(crate::specs::Entries::counts_fit))]
-pub(crate) fn counts_fit(bsize: u32, entry: &Entry) -> bool
-    requires { is_block_size bsize ≡ true }
+pub(crate) fn counts_fit(bsize: BlockSize, entry: &Entry) -> bool
     ensures { result ≡ counts_fit bsize entry.now }
 {
     if entry.count < 1 || entry.count > MOST_RECORDS {
@@ -137,15 +136,14 @@ pub(crate) fn counts_fit(bsize: u32, entry: &Entry) -> bool
         Format::F => {
             let stored = u64::from(entry.count) * u64::from(entry.length);
             stored <= u64::from(MOST_BYTES)
-                && u64::from(entry.blocks) == stored.div_ceil(u64::from(bsize))
+                && u64::from(entry.blocks) == stored.div_ceil(u64::from(bsize.bytes()))
         }
-        Format::V => entry.blocks >= 1 && entry.blocks <= MOST_BYTES / bsize,
+        Format::V => entry.blocks >= 1 && entry.blocks <= MOST_BYTES / bsize.bytes(),
     }
 }
 
 #[tactic(auto, unfolding(crate::specs::Entries::levels_fit))]
-pub(crate) fn levels_fit(bsize: u32, entry: &Entry) -> bool
-    requires { is_block_size bsize ≡ true }
+pub(crate) fn levels_fit(bsize: BlockSize, entry: &Entry) -> bool
     ensures { result ≡ levels_fit bsize entry.now }
 {
     is_shape(fan_of(bsize, entry.format), entry.blocks, entry.levels)

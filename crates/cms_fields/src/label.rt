@@ -4,6 +4,7 @@ ghost use Rattle.cms_names.specs.Names.{is_between};
 ghost use Rattle.cms_fields.specs.Labels.{label_fields, label_of, with_label, has_identifier, is_origin, SpellsSame};
 
 use crate::bytes::{put, put_word, word};
+use cms_journal::BlockSize;
 
 /// What a label says of its volume, by VM/SP's published description of the CMS disk label; its
 /// place and layout are this product's own.
@@ -76,7 +77,7 @@ fn label_fields(bytes: &[u8]) -> Label
 /// The label that the bytes of block 3 spell, on a unit of this block size and so many blocks. It
 /// looks at the first 80 bytes alone.
 #[tactic(auto, unfolding(crate::specs::Labels::label_of, crate::specs::Labels::label_fields))]
-pub fn read_label(bytes: &[u8], bsize: u32, blocks: u32) -> Result<Label, LabelFault>
+pub fn read_label(bytes: &[u8], bsize: BlockSize, blocks: u32) -> Result<Label, LabelFault>
     requires { 80 ≤ length bytes.now }
     ensures { result ≡ label_of bsize blocks bytes.now }
 {
@@ -84,7 +85,7 @@ pub fn read_label(bytes: &[u8], bsize: u32, blocks: u32) -> Result<Label, LabelF
     if !has_identifier(bytes) {
         return Err(LabelFault::Id);
     }
-    if label.bsize != bsize {
+    if label.bsize != bsize.bytes() {
         return Err(LabelFault::BlockSize);
     }
     if !is_origin(label.origin) {

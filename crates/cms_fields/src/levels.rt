@@ -1,27 +1,29 @@
 // The levels of pointer blocks above data blocks.
-ghost use Rattle.std.specs.Prelude.{◌≡◌, true, ◌≤◌};
+ghost use Rattle.std.specs.Prelude.{◌≡◌, ◌^◌, ◌-◌, ◌≤◌, ◌&&◌, nat_le, nat_lt, min};
 ghost use Rattle.cms_fields.specs.Numbers.{is_shape};
 
-// The levels above this many data blocks.
-#[tactic(auto, using(crate::proofs::Shapes::whole, crate::proofs::Shapes::steps, crate::proofs::Shapes::doubles))]
-fn levels_above(count: u32, fan: u32) -> u8
-    requires { 2 ≤ fan }
-    ensures { is_shape fan count result ≡ true }
+// The data blocks for which so many levels have room, held at the greatest number of 64 bits.
+fn room_below(fan: u32, levels: u8) -> u64
+    ensures { result ≡ min (fan ^ levels) (2 ^ 64 - 1) }
 {
-    let mut levels: u8 = 0;
-    let mut room: u64 = 1;
-    while room < u64::from(count) {
-        room *= u64::from(fan);
-        levels += 1;
-    }
-    levels
+    u64::from(fan).saturating_pow(u32::from(levels))
 }
 
-// Whether these are the levels above this many data blocks.
-#[tactic(auto, using(crate::proofs::Shapes::decides))]
+// Whether these are the levels above this many data blocks: they have room for all, and one fewer doesn't.
+#[tactic(auto, using(crate::proofs::Shapes::some_levels, crate::proofs::Shapes::no_level))]
 pub(crate) fn is_shape(fan: u32, count: u32, levels: u8) -> bool
-    requires { 2 ≤ fan }
     ensures { result ≡ is_shape fan count levels }
 {
-    levels == levels_above(count, fan)
+    match levels.checked_sub(1) {
+        None => count <= 1,
+        Some(fewer) => is_first(count, room_below(fan, fewer), room_below(fan, levels)),
+    }
+}
+
+// Whether there are more data blocks than the one room has, and no more than the other.
+fn is_first(count: u32, room: u64, next: u64) -> bool
+    ensures { result ≡ (nat_lt room count && nat_le count next) }
+{
+    let count = u64::from(count);
+    room < count && count <= next
 }

@@ -4,6 +4,7 @@ use crate::{
     Entry, EntryFault, Label, LabelFault, Moment, Stamp, put_stamp, read_entry, read_label,
     write_entry, write_label,
 };
+use cms_journal::BlockSize;
 use cms_names::{Format, Name, Part};
 
 /// The entry of HELLO TEXT A1: two F records of 5 bytes in block 7, written 2000-01-01 00:00:00.
@@ -127,7 +128,7 @@ fn dates_exist_or_not(rt: HostRuntime) {
     for (date, exists) in rows {
         let mut bytes = HELLO;
         bytes[54..60].copy_from_slice(&date);
-        match read_entry(&bytes, 512) {
+        match read_entry(&bytes, BlockSize::new(512)) {
             Ok(_) => assert!(rt; exists, "{date:?}"),
             Err(fault) => {
                 assert!(rt; !exists, "{date:?}");
@@ -146,10 +147,19 @@ fn labels_are_read(rt: HostRuntime) {
         blocks: 9,
         in_use: 7,
     };
-    assert_eq!(rt; read_label(&TEST01, 512, 9), Ok(want));
-    assert_eq!(rt; read_label(&TEST01, 512, 1_048_576), Ok(want));
-    assert_eq!(rt; read_label(&TEST01, 512, 8), Err(LabelFault::Count));
-    assert_eq!(rt; read_label(&TEST01, 1024, 9), Err(LabelFault::BlockSize));
+    assert_eq!(rt; read_label(&TEST01, BlockSize::new(512), 9), Ok(want));
+    assert_eq!(rt;
+        read_label(&TEST01, BlockSize::new(512), 1_048_576),
+        Ok(want)
+    );
+    assert_eq!(rt;
+        read_label(&TEST01, BlockSize::new(512), 8),
+        Err(LabelFault::Count)
+    );
+    assert_eq!(rt;
+        read_label(&TEST01, BlockSize::new(1024), 9),
+        Err(LabelFault::BlockSize)
+    );
     let rows: [(&[(usize, u8)], LabelFault); 8] = [
         (&[(0, 0x00)], LabelFault::Id),
         (&[(14, 0x04)], LabelFault::BlockSize),
@@ -163,7 +173,7 @@ fn labels_are_read(rt: HostRuntime) {
     for (edits, fault) in rows {
         let mut bytes = TEST01;
         edit(&mut bytes, edits);
-        assert_eq!(rt; read_label(&bytes, 512, 9), Err(fault));
+        assert_eq!(rt; read_label(&bytes, BlockSize::new(512), 9), Err(fault));
     }
 }
 
@@ -183,7 +193,7 @@ fn labels_are_written_over_labels(rt: HostRuntime) {
     want[19] = 5;
     want[32..36].copy_from_slice(&[1, 2, 3, 4]);
     assert_eq!(rt; bytes, want);
-    assert_eq!(rt; read_label(&bytes, 512, 9), Ok(label));
+    assert_eq!(rt; read_label(&bytes, BlockSize::new(512), 9), Ok(label));
 }
 
 #[test]
@@ -209,7 +219,7 @@ fn entries_are_written_and_read(rt: HostRuntime) {
         write_entry(&entry, &mut bytes);
     }
     assert_eq!(rt; bytes, HELLO);
-    assert_eq!(rt; read_entry(&HELLO, 512), Ok(entry));
+    assert_eq!(rt; read_entry(&HELLO, BlockSize::new(512)), Ok(entry));
 }
 
 #[test]
@@ -239,7 +249,11 @@ fn entries_fail_the_first_test(rt: HostRuntime) {
     for (edits, fault) in rows {
         let mut bytes = HELLO;
         edit(&mut bytes, edits);
-        assert_eq!(rt; read_entry(&bytes, 512), Err(fault), "{edits:?}");
+        assert_eq!(rt;
+            read_entry(&bytes, BlockSize::new(512)),
+            Err(fault),
+            "{edits:?}"
+        );
     }
 }
 
@@ -262,7 +276,7 @@ fn entries_ignore_what_no_test_names(rt: HostRuntime) {
     for edits in rows {
         let mut bytes = HELLO;
         edit(&mut bytes, edits);
-        let read = read_entry(&bytes, 512);
+        let read = read_entry(&bytes, BlockSize::new(512));
         assert!(rt; read.is_ok(), "{edits:?} {read:?}");
     }
 }

@@ -4,3 +4,4 @@ pub mod Cuts
 pub mod Pieces
 pub mod Counts
 pub mod Examples
+pub mod Sizes

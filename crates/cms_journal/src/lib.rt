@@ -12,10 +12,12 @@
 //! the counts that a failed call raises. [`crash_laws`] says what follows for every journal.
 #![tactic(auto)]
 
+mod block_size;
 mod bytes;
 mod event;
 mod laws;
 
+pub use block_size::BlockSize;
 pub use bytes::{Blocks, Bytes};
 pub use event::{Access, Attached, Event, Failed, Unit};
 pub use laws::crash_laws;

@@ -5,6 +5,7 @@ use Rattle.std.specs.Prelude.{nat_le, nat_lt, ◌==◌, ◌&&◌, ◌||◌}
 use Rattle.std.proofs.lemmas.Bool.{and_parts, leb-true, ltb-true, eqb-true}
 use Rattle.std.proofs.lemmas.List.Sums.{sum_by-cons}
 use Rattle.cms_journal.specs.Journal.{IsBlockSize}
+use Rattle.cms_journal.proofs.Sizes.{block_bounds}
 use Rattle.cms_names.specs.Names.{is_between}
 use Rattle.cms_names.specs.declared.name.Format.{Format}
 use Rattle.cms_names.specs.declared.name.Format.TheVariants.{F, V}
@@ -30,12 +31,6 @@ use Rattle.cms_model.proofs.Opening.{blamed_ok}
 use Rattle.cms_model.proofs.InOrder.{place_none}
 
 -- the bounds of a block size
-pub block_bounds : (size : ℕ) → IsBlockSize size → (512 ≤ size) × (size ≤ 4096)
-block_bounds size (inl is) = (omega arith, omega arith)
-block_bounds size (inr (inl is)) = (omega arith, omega arith)
-block_bounds size (inr (inr (inl is))) = (omega arith, omega arith)
-block_bounds size (inr (inr (inr is))) = (omega arith, omega arith)
-
 pub fan_wide : (size : ℕ) (format : Format) → IsBlockSize size → 2 ≤ fan_of size format
 fan_wide size F is = let low = (block_bounds size is).0 in omega arith
 fan_wide size V is = let low = (block_bounds size is).0 in omega arith

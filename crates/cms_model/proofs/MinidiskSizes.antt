@@ -24,7 +24,8 @@ use Rattle.cms_model.proofs.Members.{In-left}
 use Rattle.cms_model.proofs.Repeats.{in_held, held, in_from}
 use Rattle.cms_model.proofs.Shares.{range_times, range_all, shares}
 use Rattle.cms_model.proofs.Records.{length_cut}
-use Rattle.cms_model.proofs.FileSizes.{block_bounds, fan_wide, entries_fit, files_blocks}
+use Rattle.cms_journal.proofs.Sizes.{block_bounds}
+use Rattle.cms_model.proofs.FileSizes.{fan_wide, entries_fit, files_blocks}
 
 -- ---- the directory and the map
 

@@ -4,7 +4,9 @@ use Rattle.std.specs.Prelude.{◌==◌, ◌&&◌, ◌||◌}
 use Rattle.std.proofs.lemmas.Bool.{and_parts, or_cases, eqb-true, leb-true}
 use Rattle.cms_names.specs.Names.{is_between}
 use Rattle.cms_names.specs.declared.name.Format.TheVariants.{F}
-use Rattle.cms_fields.specs.Numbers.{word, byte, up, is_shape, is_block_size}
+use Rattle.cms_journal.specs.Journal.{IsBlockSize}
+use Rattle.cms_journal.proofs.Sizes.{block_bounds}
+use Rattle.cms_fields.specs.Numbers.{word, byte, up, is_shape}
 use Rattle.cms_fields.specs.Labels.{label_of, label_fields, has_identifier, is_origin}
 use Rattle.cms_fields.specs.declared.label.Label.{Label}
 use Rattle.cms_fields.specs.declared.label.LabelFault.TheVariants as label_failed
@@ -80,26 +82,13 @@ total_within bsize count bytes l is = (label_within bsize count bytes l is).1
 pub total_least : (bsize count : ℕ) (bytes : List ℕ) (l : Label) → label_of bsize count bytes ≡ Ok l → 6 ≤ l.blocks
 total_least bsize count bytes l is = (label_within bsize count bytes l is).0
 
-size_either : (bsize : ℕ) → is_block_size bsize ≡ true → (512 ≤ bsize) × (bsize ≤ 4096)
-size_either bsize is =
-    ⊎_elim
-    (λ e. ⊎_elim
-    (λ e. ⊎_elim
-    (λ e. let same = eqb-true bsize 512 e in (omega arith, omega arith))
-    (λ e. let same = eqb-true bsize 1024 e in (omega arith, omega arith))
-    (or_cases (bsize == 512) (bsize == 1024) e))
-    (λ e. let same = eqb-true bsize 2048 e in (omega arith, omega arith))
-    (or_cases ((bsize == 512) || (bsize == 1024)) (bsize == 2048) e))
-    (λ e. let same = eqb-true bsize 4096 e in (omega arith, omega arith))
-    (or_cases ((bsize == 512) || (bsize == 1024) || (bsize == 2048)) (bsize == 4096) is)
+pub size_least : (bsize : ℕ) → IsBlockSize bsize → 512 ≤ bsize
+size_least bsize is = (block_bounds bsize is).0
 
-pub size_least : (bsize : ℕ) → is_block_size bsize ≡ true → 512 ≤ bsize
-size_least bsize is = (size_either bsize is).0
+pub size_most : (bsize : ℕ) → IsBlockSize bsize → bsize ≤ 4096
+size_most bsize is = (block_bounds bsize is).1
 
-pub size_most : (bsize : ℕ) → is_block_size bsize ≡ true → bsize ≤ 4096
-size_most bsize is = (size_either bsize is).1
-
-pub pieces_whole : (bsize count : ℕ) (blocks : List (List ℕ)) (h : Heads) → HaveLength bsize blocks → is_block_size bsize ≡ true → count ≤ length blocks → AreHeads (record { bsize = bsize; count = count }) (image_of blocks) h
+pub pieces_whole : (bsize count : ℕ) (blocks : List (List ℕ)) (h : Heads) → HaveLength bsize blocks → IsBlockSize bsize → count ≤ length blocks → AreHeads (record { bsize = bsize; count = count }) (image_of blocks) h
     → HaveLength 64 (cut (h.directory.count - 2) 64 (drop 128 (bytes_at (image_of blocks) h.met.leaves)))
 pieces_whole bsize count blocks h whole size within heads =
     let some = size_least bsize size in
@@ -126,7 +115,7 @@ pieces_whole bsize count blocks h whole size within heads =
 
 -- the data blocks of the files' trees have places in 32 bits
 pub are_placed : (bsize count : ℕ) (blocks : List (List ℕ)) (h : Heads) (es : List Entry) (w : Walks)
-    → HaveLength bsize blocks → is_block_size bsize ≡ true → count ≤ length blocks → AreHeads (record { bsize = bsize; count = count }) (image_of blocks) h
+    → HaveLength bsize blocks → IsBlockSize bsize → count ≤ length blocks → AreHeads (record { bsize = bsize; count = count }) (image_of blocks) h
     → AreEntries (record { bsize = bsize; count = count }) (image_of blocks) h es → AreWalks (record { bsize = bsize; count = count }) (image_of blocks) h es w
     → HavePlaces (image_of blocks) w.mets
 are_placed bsize count blocks h es w whole size within heads entries walks =
@@ -138,7 +127,7 @@ are_placed bsize count blocks h es w whole size within heads entries walks =
 
 -- the files that are read are counted in 32 bits
 pub files_read : (bsize count : ℕ) (blocks : List (List ℕ)) (h : Heads) (es : List Entry) (w : Walks) (c : Contents)
-    → HaveLength bsize blocks → is_block_size bsize ≡ true → count ≤ length blocks → AreHeads (record { bsize = bsize; count = count }) (image_of blocks) h
+    → HaveLength bsize blocks → IsBlockSize bsize → count ≤ length blocks → AreHeads (record { bsize = bsize; count = count }) (image_of blocks) h
     → AreEntries (record { bsize = bsize; count = count }) (image_of blocks) h es → AreWalks (record { bsize = bsize; count = count }) (image_of blocks) h es w
     → AreContents (record { bsize = bsize; count = count }) (image_of blocks) h es w c
     → AreModest (files_of es c.records)

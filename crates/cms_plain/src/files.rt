@@ -1,6 +1,6 @@
 // The files of a directory: their trees, their records and their names.
 ghost use Rattle.std.specs.Prelude.{◌≡◌, true, ◌+◌, ◌*◌, ◌^◌, ◌<◌, ◌≤◌, List, length, IfOk};
-ghost use Rattle.cms_fields.specs.Numbers.{is_block_size};
+ghost use Rattle.cms_journal.specs.Journal.{IsBlockSize};
 ghost use Rattle.cms_model.specs.Trees.{image_of, bytes_at};
 ghost use Rattle.cms_model.specs.Lists.{same};
 ghost use Rattle.cms_model.specs.Minidisks.{same_name, is_named};
@@ -13,7 +13,7 @@ use crate::met::Met;
 use crate::records::records_of;
 use crate::tree::{Found, Root, Trees, tree};
 use cms_fields::{Entry, read_entry};
-use cms_journal::{Blocks, Bytes};
+use cms_journal::{BlockSize, Blocks, Bytes};
 use cms_model::OpenFault;
 use cms_names::Name;
 use std::alloc::{AllocError, Global};
@@ -60,14 +60,14 @@ fn same(some: &[u8], others: &[u8]) -> bool
 pub fn entries_of(alloc: Global, bsize: u32, number: u32, pieces: &[Bytes]) -> Found<Items<Entry>>
     requires numbers { number + length pieces.now < 2 ^ 32 }
     requires pieces { HaveLength 64 pieces.now }
-    requires size { is_block_size bsize ≡ true }
+    requires size { IsBlockSize bsize }
     ensures entries { IfOk result (λ entries. entries ≡ entries_of bsize number pieces.now) }
     ensures count { IfOk result (λ entries. IfOk entries (λ entries. length entries ≡ length pieces.now)) }
 {
     let [bytes, rest @ ..] = pieces else {
         return Ok(Ok(Items::new(alloc)));
     };
-    let entry = match read_entry(bytes.bytes(), bsize) {
+    let entry = match read_entry(bytes.bytes(), BlockSize::new(bsize)) {
         Ok(entry) => entry,
         Err(fault) => return Ok(Err(OpenFault::Entry(number, fault))),
     };

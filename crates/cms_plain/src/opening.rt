@@ -1,6 +1,6 @@
 // The tests on opening, in their order.
 ghost use Rattle.std.specs.Prelude.{◌≡◌, true, ◌+◌, ◌*◌, ◌^◌, ◌<◌, ◌≤◌, List, length, IfOk};
-ghost use Rattle.cms_fields.specs.Numbers.{is_block_size};
+ghost use Rattle.cms_journal.specs.Journal.{IsBlockSize};
 ghost use Rattle.cms_model.specs.Trees.{image_of, bytes_at};
 ghost use Rattle.cms_model.specs.Volumes.{files_of};
 ghost use Rattle.cms_plain.specs.Places.{HaveLength};
@@ -16,7 +16,7 @@ use crate::minidisk::{Plain, files_of};
 use crate::system::{System, directory_of, map_of};
 use crate::tree::{Found, Trees, tree};
 use cms_fields::{Entry, Label, LabelFault, read_label};
-use cms_journal::{Blocks, Bytes};
+use cms_journal::{BlockSize, Blocks, Bytes};
 use cms_model::OpenFault;
 use cms_names::Format;
 use std::alloc::{AllocError, Global};
@@ -48,7 +48,7 @@ pub struct Contents {
 /// Tests the label, the directory's own entry and tree, and the map's entry.
 #[tactic(auto, using(crate::proofs::Sizes::whole_block, crate::proofs::Openings::least_count, crate::proofs::Openings::most_count, crate::proofs::Openings::total_within, crate::proofs::Openings::total_least), unfolding(cms_model::specs::Volumes::open_of))]
 fn heads_of(alloc: Global, blocks: &Blocks, bsize: u32, count: u32) -> Found<Heads>
-    requires size { 512 ≤ bsize }
+    requires size { IsBlockSize bsize }
     requires whole { HaveLength bsize blocks.now }
     requires count { count ≤ length blocks.now }
     ensures { IfOk result (Heading (record { bsize = bsize; count = count }) (image_of blocks.now)) }
@@ -56,7 +56,7 @@ fn heads_of(alloc: Global, blocks: &Blocks, bsize: u32, count: u32) -> Found<Hea
     if count < 6 {
         return Ok(Err(OpenFault::Label(LabelFault::Count)));
     }
-    let label = match read_label(block_at(blocks, 3), bsize, count) {
+    let label = match read_label(block_at(blocks, 3), BlockSize::new(bsize), count) {
         Ok(label) => label,
         Err(fault) => return Ok(Err(OpenFault::Label(fault))),
     };
@@ -96,7 +96,7 @@ fn entries_in(
     count: u32,
     heads: &Heads,
 ) -> Found<Items<Entry>>
-    requires size { is_block_size bsize ≡ true }
+    requires size { IsBlockSize bsize }
     requires whole { HaveLength bsize blocks.now }
     requires count { count ≤ length blocks.now }
     requires heads { AreHeads (record { bsize = bsize; count = count }) (image_of blocks.now) heads.now }
@@ -169,7 +169,7 @@ fn contents_of(
     entries: &[Entry],
     walks: &Walks,
 ) -> Found<Contents>
-    requires size { is_block_size bsize ≡ true }
+    requires size { IsBlockSize bsize }
     requires whole { HaveLength bsize blocks.now }
     requires count { (count ≤ length blocks.now) × (count ≤ 1048576) }
     requires heads { AreHeads (record { bsize = bsize; count = count }) (image_of blocks.now) heads.now }
@@ -201,7 +201,7 @@ fn contents_of(
 /// All tests in their order.
 #[tactic(auto, using(crate::proofs::Openings::size_least, crate::proofs::Openings::files_read), unfolding(cms_model::specs::Volumes::open_of, cms_model::specs::Volumes::state_of, cms_model::specs::Volumes::minidisk_of))]
 fn minidisk_in(alloc: Global, blocks: &Blocks, bsize: u32, count: u32) -> Found<Plain>
-    requires size { is_block_size bsize ≡ true }
+    requires size { IsBlockSize bsize }
     requires whole { HaveLength bsize blocks.now }
     requires count { (count ≤ length blocks.now) × (count ≤ 1048576) }
     ensures opens { IfOk result (Opens (record { bsize = bsize; count = count }) (image_of blocks.now)) }
@@ -243,7 +243,7 @@ fn plain_of(
     entries: &[Entry],
     contents: Contents,
 ) -> Result<Plain, AllocError>
-    requires size { is_block_size bsize ≡ true }
+    requires size { IsBlockSize bsize }
     requires few { length entries.now ≤ 16384 }
     requires files { AreModest (files_of entries.now contents.records) }
     ensures is { IfOk result (λ p. minidisk p ≡ record { volid = heads.now.label.volid; bsize = bsize; total = heads.now.label.blocks; lost = contents.lost; files = files_of entries.now contents.records }) }
@@ -263,7 +263,7 @@ fn plain_of(
 /// The minidisk for which an image stands, or the first test that it fails. The blocks are whole ones of `bsize` bytes, which is 512, 1024,
 /// 2048 or 4096; the first `count` of them are looked at.
 pub fn open(alloc: Global, blocks: &Blocks, bsize: u32, count: u32) -> Result<Plain, OpenFault>
-    requires size { is_block_size bsize ≡ true }
+    requires size { IsBlockSize bsize }
     requires whole { HaveLength bsize blocks.now }
     requires count { (count ≤ length blocks.now) × (count ≤ 1048576) }
     ensures reads { Reads (record { bsize = bsize; count = count }) (image_of blocks.now) result }

@@ -1,7 +1,7 @@
 // Images against what they are known to hold.
 ghost use Rattle.std.specs.Prelude.{◌≡◌, ◌+◌, ◌*◌, ◌<◌, ◌≤◌, true, length, IfOk};
 ghost use Rattle.cms_plain.specs.Plains.{IsModest};
-ghost use Rattle.cms_fields.specs.Numbers.{is_block_size};
+ghost use Rattle.cms_journal.specs.Journal.{IsBlockSize};
 
 use crate::minidisk::{Plain, PlainFile};
 use crate::opening::open;

@@ -1,5 +1,6 @@
 // Records in bytes, through all the calls.
 use crate::{FixedView, VarFault, VarView, fit, put_var, var_check};
+use cms_journal::BlockSize;
 use std::test::Fail;
 
 // Two records whose second length spans two blocks of 512 bytes.
@@ -12,8 +13,8 @@ fn reads_what_it_put(rt: HostRuntime) -> Result<(), Fail> {
     assert_eq!(rt; &bytes[..2], [1, 0xFD].as_slice());
     assert_eq!(rt; &bytes[511..], [0, 3, 0xC9, 0xD1, 0xD2].as_slice());
     bytes.resize(1024, 0)?;
-    assert_eq!(rt; var_check(&bytes, 2, 512), Ok(509));
-    let Ok(mut view) = VarView::new(&bytes, 2, 512) else {
+    assert_eq!(rt; var_check(&bytes, 2, BlockSize::new(512)), Ok(509));
+    let Ok(mut view) = VarView::new(&bytes, 2, BlockSize::new(512)) else {
         return Err("no view").map_err(Fail::from);
     };
     assert_eq!(rt; view.next().map_or(0, |text| text.len()), 509);
@@ -26,32 +27,22 @@ fn reads_what_it_put(rt: HostRuntime) -> Result<(), Fail> {
 #[test]
 fn finds_the_first_fault(rt: HostRuntime) -> Result<(), Fail> {
     let bytes = [0, 5, 0xC8, 0xC5, 0xD3, 0xD3, 0xD6, 0, 1, 0xC1];
-    for (bytes, count, bsize, want) in [
-        (&bytes[..], 2, 512, Ok(5)),
-        (&bytes[..], 1, 512, Ok(5)),
-        (&bytes[..], 0, 11, Ok(0)),
-        (&bytes[..], 0, 10, Err(VarFault::Left(0))),
-        (&bytes[..], 1, 3, Err(VarFault::Left(7))),
-        (&bytes[..], 2, 0, Err(VarFault::Left(10))),
-        (&bytes[..], 3, 512, Err(VarFault::PastEnd(10))),
-        (&bytes[9..], 1, 512, Err(VarFault::PastEnd(0))),
-        (&bytes[1..], 1, 512, Err(VarFault::PastEnd(0))),
-        (&bytes[5..], 1, 512, Err(VarFault::PastEnd(0))),
+    let size = BlockSize::new(512);
+    let zeros = [0; 512];
+    for (bytes, count, want) in [
+        (&bytes[..], 2, Ok(5)),
+        (&bytes[..], 1, Ok(5)),
+        (&zeros[1..], 0, Ok(0)),
+        (&zeros[..], 0, Err(VarFault::Left(0))),
+        (&bytes[..], 3, Err(VarFault::PastEnd(10))),
+        (&bytes[9..], 1, Err(VarFault::PastEnd(0))),
+        (&bytes[1..], 1, Err(VarFault::PastEnd(0))),
+        (&bytes[5..], 1, Err(VarFault::PastEnd(0))),
+        (&[0, 1, 0xC1, 0, 0, 0][..], 2, Err(VarFault::Zero(3))),
+        (&[0, 1, 0xC1, 0][..], 2, Err(VarFault::PastEnd(3))),
     ] {
-        assert_eq!(rt;
-            var_check(bytes, count, bsize),
-            want,
-            "{count} of {bytes:?}"
-        );
+        assert_eq!(rt; var_check(bytes, count, size), want, "{count} of {bytes:?}");
     }
-    assert_eq!(rt;
-        var_check(&[0, 1, 0xC1, 0, 0, 0], 2, 512),
-        Err(VarFault::Zero(3))
-    );
-    assert_eq!(rt;
-        var_check(&[0, 1, 0xC1, 0], 2, 512),
-        Err(VarFault::PastEnd(3))
-    );
     Ok(())
 }
 

@@ -5,6 +5,7 @@ ghost use Rattle.cms_model.specs.Records.{varying, with_length};
 ghost use Rattle.cms_records.specs.Views.{longest_in, first_size};
 
 use byteorder::{BigEndian, ByteOrder};
+use cms_journal::BlockSize;
 use cms_model::VarFault;
 use std::alloc::AllocError;
 use std::marker::Model;
@@ -28,9 +29,9 @@ impl<'a> Model for VarView<'a> {
 }
 
 impl<'a> VarView<'a> {
-    /// The `count` records that the bytes of whole blocks of `bsize` bytes hold. The bytes that are left behind them, fewer
+    /// The `count` records that the bytes of whole blocks of this size hold. The bytes that are left behind them, fewer
     /// than a block, are ignored. Faults as `var_check`.
-    pub fn new(bytes: &'a [u8], count: u32, bsize: u32) -> Result<VarView<'a>, VarFault>
+    pub fn new(bytes: &'a [u8], count: u32, bsize: BlockSize) -> Result<VarView<'a>, VarFault>
         requires { length bytes.now ≤ 67108864 }
         ensures { result ≡ varying bsize count 0 bytes.now }
     {
@@ -54,9 +55,9 @@ impl<'a> VarView<'a> {
     }
 }
 
-/// The length of the longest of the `count` records that these bytes of whole blocks of `bsize` bytes hold. The places in
+/// The length of the longest of the `count` records that these bytes of whole blocks of this size hold. The places in
 /// the faults are counted in bytes from 0, and the fault is that at the first place.
-pub fn var_check(bytes: &[u8], count: u32, bsize: u32) -> Result<u32, VarFault>
+pub fn var_check(bytes: &[u8], count: u32, bsize: BlockSize) -> Result<u32, VarFault>
     requires { length bytes.now ≤ 67108864 }
     ensures { result ≡ longest_in bsize count bytes.now }
 {
@@ -67,7 +68,7 @@ pub fn var_check(bytes: &[u8], count: u32, bsize: u32) -> Result<u32, VarFault>
         longest = longest.max(size);
         place += 2 + size;
     }
-    if bytes.len() - place as usize >= bsize as usize {
+    if bytes.len() - place as usize >= bsize.bytes() as usize {
         return Err(VarFault::Left(place));
     }
     Ok(longest)

@@ -16,6 +16,7 @@ use crate::state::{Disk, End, Finish, Session};
 use crate::status::{Status, WordFault};
 use crate::words::{UnitWord, Words, read_words};
 use cms_edf::{SmallFault, small_volume};
+use cms_journal::BlockSize;
 use cms_line::Console;
 use cms_world::{Access, Argv, Failed, Unit, World};
 use std::alloc::Global;
@@ -71,7 +72,7 @@ fn disk_a<W: World>(
     if word.vdev != DEVICE_A {
         return Ok(None);
     }
-    match small_volume(alloc, world, unit, word.bsize) {
+    match small_volume(alloc, world, unit, BlockSize::new(word.bsize)) {
         Ok(small) => Ok(Some(Disk {
             small,
             read_only: is_read_only(word.access),

@@ -1,7 +1,6 @@
 // Pointer blocks built over data blocks.
 ghost use Rattle.std.specs.Prelude.{◌≡◌, ◌⊎◌, ℕ, ◌+◌, ◌-◌, ◌*◌, ◌/◌, ◌^◌, ◌<◌, ◌≤◌, ◌++◌, length};
 ghost use Rattle.byteorder.specs.Endian.{big_bytes};
-ghost use Rattle.cms_journal.specs.Journal.{IsBlockSize};
 ghost use Rattle.cms_fields.specs.Numbers.{overwritten, up};
 ghost use Rattle.cms_model.specs.Sizes.{levels, pointer_count};
 ghost use Rattle.cms_model.specs.LawsTrees.{cell_bytes};
@@ -10,26 +9,25 @@ ghost use Rattle.cms_tree.specs.Levels.{wide_mark, children_from, IsGroup};
 
 use crate::Mark;
 use byteorder::{BigEndian, ByteOrder};
+use cms_journal::BlockSize;
 
 /// Fills a pointer block of a tree over these data blocks: the block at the place `nth` of all its pointer blocks, from 0,
 /// counted from the bottom level up and from left to right on each.
 ///
-/// `fresh` has a number for each pointer block in this order. Pointers have `psize` bytes, 4 or 12, and blocks `bsize`: 512,
-/// 1024, 2048 or 4096. Each block has as many pointers as it has room for, but the last of a level; zeros stand behind them. A
+/// `fresh` has a number for each pointer block in this order. Pointers have `psize` bytes, 4 or 12. Each block has as many pointers as it has room for, but the last of a level; zeros stand behind them. A
 /// pointer of 12 bytes also has the `last` of the last data block below it and the `place` of the first, of which `marks` has
 /// one for each data block.
 pub fn build(
     leaves: &[u32],
     marks: &[Mark],
     fresh: &[u32],
-    bsize: u32,
+    bsize: BlockSize,
     psize: u8,
     nth: u32,
     into: &mut [u8],
 )
     requires some { 1 ≤ length leaves.now }
     requires few { length leaves.now < 2 ^ 32 }
-    requires bsize { IsBlockSize bsize }
     requires psize { (psize ≡ 4) ⊎ (psize ≡ 12) }
     requires marks { psize ≡ 12 → length marks.now ≡ length leaves.now }
     requires fresh { pointer_count (bsize / psize) (length leaves.now) ≤ length fresh.now }
@@ -37,7 +35,7 @@ pub fn build(
     requires room { length into.old ≡ bsize }
     ensures { into.new ≡ node_at bsize psize leaves.now marks.now fresh.now nth }
 {
-    let fan = bsize as usize / usize::from(psize);
+    let fan = bsize.bytes() as usize / usize::from(psize);
     let group = group_of(leaves, fresh, fan, nth as usize);
     fill_node(&group, leaves.len(), marks, psize, into);
 }

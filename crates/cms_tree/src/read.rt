@@ -2,7 +2,7 @@
 ghost use Rattle.std.specs.Prelude.{◌≡◌, ◌⊎◌, ℕ, ◌+◌, ◌-◌, ◌*◌, ◌/◌, ◌^◌, ◌<◌, ◌≤◌, ◌++◌, true, [], min, length, vec_len, None, Err, IfOk, IfErr, OnOk, OnErr, IsErrOf};
 ghost use Rattle.std.specs.Option.{ForSome};
 ghost use Rattle.cms_journal.specs.Causes.{Rose};
-ghost use Rattle.cms_journal.specs.Journal.{HasBlock, HasBlocks, IsBlockSize, contents_of};
+ghost use Rattle.cms_journal.specs.Journal.{HasBlock, HasBlocks, contents_of};
 ghost use Rattle.cms_fields.specs.Numbers.{word};
 ghost use Rattle.cms_model.specs.Trees.{Image, image_of, is_allowed, tree};
 ghost use Rattle.cms_tree.specs.Walks.{Reads, Appends, IsWithin, AppendsWithin, form_at, image_at};
@@ -136,7 +136,6 @@ fn take_node(layout: &Layout, part: &Subtree, into: &mut Walked) -> Result<(), T
 
 // How the trees stand among which this one is.
 fn layout_of(at: &TreeAt) -> Layout
-    requires bsize { IsBlockSize at.now.bsize }
     requires psize { (at.now.psize ≡ 4) ⊎ (at.now.psize ≡ 12) }
     ensures unit { result.unit ≡ at.now.unit }
     ensures form { form_of result ≡ form_at at.now }
@@ -145,10 +144,11 @@ fn layout_of(at: &TreeAt) -> Layout
     ensures stride { (4 ≤ result.stride) × (result.fan * result.stride ≤ result.bsize) }
 {
     let stride = u32::from(at.psize);
+    let bsize = at.bsize.bytes();
     Layout {
         unit: at.unit,
-        bsize: at.bsize,
-        fan: at.bsize / stride,
+        bsize,
+        fan: bsize / stride,
         stride,
         last: at.volume,
     }
@@ -161,7 +161,6 @@ fn layout_of(at: &TreeAt) -> Layout
 /// `at.first` gives its place: it is allowed there alone. The refusal is the first pointer in preorder that isn't allowed.
 pub fn walk<W: World>(alloc: Global, world: &mut W, at: &TreeAt) -> Result<Walked, TreeFault>
     requires some { 1 ≤ at.now.count }
-    requires bsize { IsBlockSize at.now.bsize }
     requires psize { (at.now.psize ≡ 4) ⊎ (at.now.psize ≡ 12) }
     requires blocks { ForSome (W.told world.old) (λ j. HasBlocks j.units at.now.unit at.now.volume at.now.bsize) }
     ensures read { ForSome (W.told world.old) (λ j. Reads (image_at j at.now) at.now result) }
@@ -201,7 +200,6 @@ pub fn leaves<W: World>(
     leaves: &mut Vec<u32>,
 ) -> Result<(), TreeFault>
     requires some { 1 ≤ at.now.count }
-    requires bsize { IsBlockSize at.now.bsize }
     requires psize { (at.now.psize ≡ 4) ⊎ (at.now.psize ≡ 12) }
     requires blocks { ForSome (W.told world.old) (λ j. HasBlocks j.units at.now.unit at.now.volume at.now.bsize) }
     ensures read { ForSome (W.told world.old)

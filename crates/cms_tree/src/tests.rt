@@ -5,6 +5,7 @@ ghost use Rattle.cms_model.specs.Sizes.{pointer_count};
 ghost use Rattle.cms_world.specs.Mem.{journal_of};
 
 use crate::{Mark, Shape, TreeAt, TreeFault, build, leaves, shape};
+use cms_journal::BlockSize;
 use cms_world::{Access, MemWorld, Unit, World};
 use std::alloc::{AllocError, Global};
 use std::test::Fail;
@@ -42,7 +43,15 @@ fn marks_its_pointers(rt: HostRuntime) {
     ];
     let mut block = [7; 512];
     assert_eq!(rt; shape(2, 42).pointers, 1);
-    build(&[7, 8], &marks, &[9], 512, 12, 0, &mut block);
+    build(
+        &[7, 8],
+        &marks,
+        &[9],
+        BlockSize::new(512),
+        12,
+        0,
+        &mut block,
+    );
     let want = [
         0, 0, 0, 7, 0, 0, 0, 2, 0, 0, 0, 0, 0, 0, 0, 8, 0, 0, 0, 2, 0xFF, 0xFF, 0xFF, 0xFF,
     ];
@@ -71,7 +80,15 @@ fn tree_image(
         let mut block = [0; 512];
         for nth in 0..fresh.len() {
             if fresh[nth] == number {
-                build(leaves, marks, fresh, 512, psize, nth as u32, &mut block);
+                build(
+                    leaves,
+                    marks,
+                    fresh,
+                    BlockSize::new(512),
+                    psize,
+                    nth as u32,
+                    &mut block,
+                );
             }
         }
         image.extend_from_slice(&block)?;
@@ -106,7 +123,7 @@ fn read_tree(
     {
         let at = TreeAt {
             unit: unit.number,
-            bsize: 512,
+            bsize: BlockSize::new(512),
             volume: unit.blocks,
             holder: 3,
             root,

@@ -2,6 +2,7 @@
 ghost use Rattle.std.specs.Prelude.{◌≡◌};
 ghost use Rattle.cms_tree.specs.declared.types.TreeFault.TheVariants.{Memory};
 
+use cms_journal::BlockSize;
 use std::alloc::{AllocError, AllocFailed};
 
 /// How a tree stands over its data blocks.
@@ -18,8 +19,8 @@ pub struct Shape {
 pub struct TreeAt {
     /// the unit's number
     pub unit: u8,
-    /// the unit's block size: 512, 1024, 2048 or 4096
-    pub bsize: u32,
+    /// the unit's block size
+    pub bsize: BlockSize,
     /// blocks of the volume: a pointer is allowed from 6 to this
     pub volume: u32,
     /// the block in which the root's number stands
