@@ -1,0 +1,5 @@
+mod NumberLemmas
+mod UnitLemmas
+mod UnitLists
+mod CommandLemmas
+mod ReadingLemmas

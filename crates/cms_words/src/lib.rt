@@ -1,0 +1,20 @@
+//! The words with which the program is called.
+//!
+//! `cms [-t TURNS] [-z ZONE] [-g NUMBER] UNIT...`, read by `clap` as one simple command: three options that take a value each, and
+//! the unit words. [`read_words`] gives what they say, or the first fault by the order of [`WordFault`].
+#![tactic(auto)]
+
+mod command;
+mod fault;
+mod numbers;
+mod reading;
+mod unit;
+mod units;
+
+pub use fault::WordFault;
+pub use reading::{Words, read_words};
+pub use unit::UnitWord;
+pub use units::UnitWords;
+
+#[cfg(test)]
+mod tests;
