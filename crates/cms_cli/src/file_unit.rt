@@ -8,6 +8,9 @@ use std::io;
 use std::io::ErrorKind;
 use std::os::unix::fs::FileExt;
 
+#[cfg(test)]
+mod tests;
+
 /// The blocks of an image that count: its first 1,048,576.
 const MOST_BLOCKS: u64 = 1_048_576;
 

@@ -1,17 +1,24 @@
 //! CMS minidisks and their commands over image files.
 #![tactic(auto)]
 
+ghost use Rattle.std.specs.Prelude.{◌≡◌, if◌then◌else◌};
+ghost use Rattle.cms_session.specs.Statuses.{code_of};
+ghost use Rattle.cms_session.specs.declared.status.Status.TheVariants as statuses;
+
 mod file_unit;
 mod file_world;
 mod help;
+mod output;
+mod telling;
 
 use cms_session::{Status, WordFault, run};
 use cms_world::Argv;
 use file_world::FileWorld;
 use help::{HELP, VERSION};
-use std::io::ErrorKind;
+use std::io::{ErrorKind, IsTerminal};
 use std::process::ExitCode;
 use std::{env, io};
+use telling::{tell_ending, tell_world};
 
 /// Why the words can't be had: there is no memory, or one isn't text.
 fn argument_status(error: &io::Error) -> Status {
@@ -39,13 +46,42 @@ fn told(rt: &HostRuntime, text: &str) -> Status {
     }
 }
 
+/// How the program ends: as the session did, or as one whose world failed where what it typed couldn't be written.
+fn ending(status: Status, written: bool) -> Status
+    ensures { result ≡ (if written then status else statuses.World) }
+{
+    if written { status } else { Status::World }
+}
+
+/// A session over real files. Where the world failed it says on standard error what.
+fn session(rt: &HostRuntime, words: &Argv) -> Status {
+    let lines = rt.stdout().is_terminal();
+    let Ok(mut world) = FileWorld::new(rt.alloc(), rt, lines) else {
+        return Status::Memory;
+    };
+    let status = run(rt.alloc(), words, &mut world);
+    let written = world.finish();
+    let status = ending(status, written);
+    if let Status::World = status {
+        tell_world(rt, words, &world);
+    }
+    status
+}
+
 /// What the words ask for: a text of the program itself, or a session.
 fn answer(rt: &HostRuntime, words: &Argv) -> Status {
     match words.get(1) {
         Some("--help" | "-h") => told(rt, HELP),
         Some("--version") => told(rt, VERSION),
-        _ => run(rt.alloc(), words, &mut FileWorld::new(rt.alloc(), rt)),
+        _ => session(rt, words),
     }
+}
+
+/// The program's exit code: 0, or 2 to 6.
+fn exit_code(status: Status) -> u8
+    ensures { result ≡ code_of status }
+{
+    status.code()
 }
 
 fn main(rt: HostRuntime) -> ExitCode {
@@ -56,5 +92,6 @@ fn main(rt: HostRuntime) -> ExitCode {
     if let Status::Usage(fault) = status {
         let _ = println!(rt; "cms: words refused, reason {}", fault.number());
     }
-    ExitCode::from(status.code())
+    tell_ending(&rt, status);
+    ExitCode::from(exit_code(status))
 }

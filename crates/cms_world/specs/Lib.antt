@@ -2,4 +2,5 @@ pub mod Crash
 pub mod Images
 pub mod Mem
 pub mod Plan
+pub mod Quiet
 pub mod Recorder

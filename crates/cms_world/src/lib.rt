@@ -2,7 +2,7 @@
 //!
 //! [`World`] is what a session asks of its surroundings; it counts its failures and may tell a journal of what happened.
 //! [`MemWorld`] is one in memory, for tests: it tells its journal, fails where it is told to, and makes the images that a crash
-//! may leave.
+//! may leave. [`QuietWorld`] tells nothing and never fails.
 #![tactic(auto)]
 
 mod argv;
@@ -13,6 +13,7 @@ mod image_name;
 mod images;
 mod mem;
 mod plan;
+mod quiet;
 mod recorder;
 mod script;
 mod world;
@@ -22,7 +23,10 @@ pub use block::{ReadFault, read_block};
 pub use cms_journal::{Access, Failed, Unit};
 pub use image_name::ImageName;
 pub use mem::MemWorld;
+pub use quiet::{Image, ImageList, QuietWorld, quiet_laws};
 pub use world::World;
 
+#[cfg(test)]
+mod quiet_tests;
 #[cfg(test)]
 mod tests;

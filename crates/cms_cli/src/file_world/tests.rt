@@ -1,8 +1,10 @@
 // Units that are real files.
-use super::FileWorld;
+use super::{FileWorld, read_some, seconds};
 use cms_world::{Access, Failed, Unit, World};
+use std::io::{ErrorKind, Read};
 use std::test::Fail;
-use std::{env, fs};
+use std::time::{Clock, Duration};
+use std::{env, fs, io};
 
 type Files<'a> = FileWorld<&'a HostRuntime>;
 
@@ -35,7 +37,7 @@ fn images_are_attached(rt: HostRuntime) -> Result<(), Fail> {
     let new = path(&rt, "new")?;
     let folder = String::from_str(rt.alloc(), "/")?;
     fs::write(&rt, &torn, &[7; 2000])?;
-    let mut world = FileWorld::new(rt.alloc(), &rt);
+    let mut world = FileWorld::new(rt.alloc(), &rt, false)?;
     let rows = [
         (&torn, Access::ReadWrite, Ok((0, 3))),
         (&new, Access::ReadOnly, Err(Failed)),
@@ -58,7 +60,7 @@ fn images_are_attached(rt: HostRuntime) -> Result<(), Fail> {
 #[test]
 fn blocks_are_written_and_read(rt: HostRuntime) -> Result<(), Fail> {
     let name = path(&rt, "blocks")?;
-    let mut world = FileWorld::new(rt.alloc(), &rt);
+    let mut world = FileWorld::new(rt.alloc(), &rt, false)?;
     assert!(rt; attach(&mut world, &name, Access::New(8)).is_ok());
     assert!(rt; attach(&mut world, &name, Access::ReadOnly).is_ok());
     let writes = [
@@ -95,8 +97,52 @@ fn blocks_are_written_and_read(rt: HostRuntime) -> Result<(), Fail> {
     Ok(())
 }
 
+// A clock that stands still, or one that can't be read.
+#[derive(Drop)]
+struct Still(Option<u64>);
+
+impl Clock for Still {
+    fn monotonic(&self) -> io::Result<Duration> {
+        Err(io::Error::from(ErrorKind::Unsupported))
+    }
+
+    fn since_1970(&self) -> io::Result<Duration> {
+        match self.0 {
+            Some(seconds) => Ok(Duration::from_secs(seconds)),
+            None => Err(io::Error::from(ErrorKind::Unsupported)),
+        }
+    }
+}
+
+// A reader that is interrupted, gives three bytes, and fails.
+#[derive(Drop)]
+struct Breaks(u32);
+
+impl Read for Breaks {
+    fn read(&mut self, into: &mut [u8]) -> io::Result<usize> {
+        self.0 = self.0.wrapping_add(1);
+        match self.0 {
+            1 => Err(io::Error::from(ErrorKind::Interrupted)),
+            2 => {
+                let count = into.len().min(3);
+                into[..count].fill(b'X');
+                Ok(count)
+            }
+            _ => Err(io::Error::from(ErrorKind::BrokenPipe)),
+        }
+    }
+}
+
 #[test]
-fn the_clock_is_read(rt: HostRuntime) {
-    let mut world = FileWorld::new(rt.alloc(), &rt);
+fn clocks_and_readers_that_fail(rt: HostRuntime) -> Result<(), Fail> {
+    assert_eq!(rt; seconds(&Still(Some(946_684_800))), Some(946_684_800));
+    assert_eq!(rt; seconds(&Still(None)), None);
+    let mut reader = Breaks(0);
+    let mut bytes = [0; 5];
+    assert_eq!(rt; read_some(&mut reader, &mut bytes), Some(3));
+    assert_eq!(rt; &bytes, b"XXX\0\0");
+    assert_eq!(rt; read_some(&mut reader, &mut bytes), None);
+    let mut world = FileWorld::new(rt.alloc(), &rt, false)?;
     assert!(rt; world.now().is_ok_and(|seconds| seconds > 1_700_000_000));
+    Ok(())
 }

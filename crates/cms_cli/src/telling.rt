@@ -1,0 +1,70 @@
+// What failed, on standard error, for a person.
+use crate::file_world::{FileWorld, Trouble};
+use cms_session::{Status, WordFault};
+use cms_words::read_words;
+use cms_world::Argv;
+use std::io;
+use std::io::ErrorKind;
+
+/// The form of the words.
+const FORM: &str = "cms VDEV,BSIZE,ACCESS,NAME";
+
+// Why words are refused, and which.
+fn tell_refusal(rt: &HostRuntime, fault: WordFault) -> io::Result<()> {
+    match fault {
+        WordFault::Syntax => eprintln!(rt; "cms: the words must be {FORM}; cms --help says more"),
+        WordFault::Unit(place) => eprintln!(rt;
+            "cms: word {place} must be VDEV,BSIZE,ACCESS,NAME, as 191,1024,rw,disk.img; cms --help says more"
+        ),
+    }
+}
+
+/// Says why a session ended that ended early, but where the world failed.
+pub fn tell_ending(rt: &HostRuntime, status: Status) {
+    let _ = match status {
+        Status::Done | Status::World => Ok(()),
+        Status::Usage(fault) => tell_refusal(rt, fault),
+        Status::Memory => eprintln!(rt; "cms: there is no memory"),
+        Status::Turns => eprintln!(rt; "cms: the turns of the session are spent"),
+        Status::NotBuilt => eprintln!(rt; "cms: the words or a line ask for what isn't built yet"),
+    };
+}
+
+// Why an image can't be attached.
+fn tell_image(
+    rt: &HostRuntime,
+    words: &Argv,
+    attached: usize,
+    error: &io::Error,
+) -> io::Result<()> {
+    let units = match read_words(rt.alloc(), words) {
+        Ok(words) => words.units,
+        Err(_) => return eprintln!(rt; "cms: an image can't be attached: {error}"),
+    };
+    match units.get(attached) {
+        Some(unit) => {
+            let name = unit.name.text();
+            if error.kind() == ErrorKind::InvalidInput {
+                return eprintln!(rt; "cms: {name} can't be attached: it is no plain file");
+            }
+            eprintln!(rt; "cms: {name} can't be attached: {error}")
+        }
+        None => eprintln!(rt; "cms: an image can't be attached: {error}"),
+    }
+}
+
+/// Says what failed in a world of files.
+pub fn tell_world(rt: &HostRuntime, words: &Argv, world: &FileWorld<&HostRuntime>) {
+    let _ = match world.trouble() {
+        Some(Trouble::Image(error)) => tell_image(rt, words, world.attached(), error),
+        Some(Trouble::Device) => eprintln!(rt; "cms: a block of an image can't be read or written"),
+        Some(Trouble::Input) => eprintln!(rt;
+            "cms: the commands can't be read from standard input"
+        ),
+        Some(Trouble::Output) => eprintln!(rt;
+            "cms: what was typed can't be written to standard output"
+        ),
+        Some(Trouble::Clock) => eprintln!(rt; "cms: the clock can't be read"),
+        None => Ok(()),
+    };
+}

@@ -1,0 +1,73 @@
+#!/bin/sh
+# Runs the program on the example's image, and looks at its statuses, what it types and what it says on standard error. It is no
+# part of the gate: tests/program.sh, in a repository whose program is built.
+home=$(dirname -- "$(readlink -f -- "$0")")/..
+folder=$(mktemp -d)
+trap 'rm -rf "$folder"' EXIT
+cp "$home/examples/disk.img" "$folder/disk.img"
+cd "$folder" || exit 1
+passed=0
+failed=0
+
+# A run with the script in the file `script`: its status and a text that standard output (or standard error) must have.
+expect() {
+    title=$1 want=$2 stream=$3 text=$4
+    shift 4
+    "$home/cms" "$@" <script >output 2>error
+    got=$?
+    if [ "$got" = "$want" ] && { [ -z "$text" ] || grep -qF -- "$text" "$stream"; }; then
+        passed=$((passed + 1))
+    else
+        failed=$((failed + 1))
+        printf 'FAILED: %s: status %s, wanted %s, with %s in %s:\n' "$title" "$got" "$want" "$text" "$stream"
+        cat output error
+    fi
+}
+
+# Standard output is exactly this text.
+same() {
+    if [ "$(cat output)" = "$2" ]; then
+        passed=$((passed + 1))
+    else
+        failed=$((failed + 1))
+        printf 'FAILED: %s:\n' "$1"
+        cat output
+    fi
+}
+
+: >script
+expect 'an empty script' 0 output '' 191,512,ro,disk.img
+same 'an empty script types nothing' ''
+expect 'help' 0 output 'usage: cms' --help
+expect 'help in short' 0 output 'status:' -h
+expect 'version' 0 output 'cms 0' --version
+expect 'no words' 2 output 'cms: words refused, reason 1'
+expect 'no words, in words' 2 error 'VDEV,BSIZE,ACCESS,NAME'
+expect 'a bad unit word' 2 output 'cms: words refused, reason 2' 191,513,ro,disk.img
+same 'one line at a refusal' 'cms: words refused, reason 2'
+expect 'a bad unit word, in words' 2 error 'word 1' 191,513,ro,disk.img
+expect 'a missing image' 4 error 'missing.img' 191,512,rw,missing.img
+same 'nothing is typed without an image' ''
+if [ -e missing.img ]; then echo 'FAILED: a missing image was made'; failed=$((failed + 1)); fi
+expect 'a device file' 4 error 'plain file' 191,512,ro,/dev/null
+
+printf 'TYPE HELLO TEXT A\n' >script
+expect 'a file is typed' 0 output 'HELLO' 191,512,ro,disk.img
+same 'a file is typed whole' "$(printf 'HELLO\nWORLD\nR;')"
+printf 'FROB\nTYPE HELLO TEXT A\n' >script
+expect 'a line that is not built' 6 error '' 191,512,ro,disk.img
+same 'nothing runs behind an ended session' ''
+head -c 1000000 /dev/zero | tr '\0' '\n' >script
+printf 'TYPE HELLO TEXT A\n' >>script
+expect 'the turns are spent' 5 error 'turns' 191,512,ro,disk.img
+same 'nothing runs behind the turns' ''
+
+# Standard output and input that fail.
+printf 'TYPE HELLO TEXT A\n' >script
+"$home/cms" 191,512,ro,disk.img <script >/dev/full 2>error
+if [ $? = 4 ] && grep -q 'standard output' error; then passed=$((passed + 1)); else failed=$((failed + 1)); echo 'FAILED: a full output'; cat error; fi
+"$home/cms" 191,512,ro,disk.img </ >output 2>error
+if [ $? = 4 ] && grep -q 'standard input' error; then passed=$((passed + 1)); else failed=$((failed + 1)); echo 'FAILED: a folder as input'; cat error; fi
+
+echo "$passed passed, $failed failed"
+[ "$failed" = 0 ]
