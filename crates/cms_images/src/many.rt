@@ -67,15 +67,8 @@ fn put_marks(image: &mut [u8], start: usize, last: u32) {
     }
 }
 
-/// TEST01 on so many blocks of a size: the directory in block 4, the map in block 6, and from block 7 on the files FILE0001 TEXT A1
-/// to that of the number of files. The first has as many records as a block has bytes, each of one byte, 1. Each other has one record,
-/// the four digits of its number. What isn't there is left out.
-pub fn many_files(alloc: Global, bsize: u32, blocks: u32, files: u32) -> Result<Vec<u8>, AllocError>
-    requires size { bsize ≤ 4096 }
-    requires blocks { blocks ≤ 65536 }
-{
-    let mut volume = vec![in alloc; 0; blocks as usize * bsize as usize]?;
-    let image = volume.as_mut_slice();
+// Puts the label of TEST01 on so many blocks.
+fn put_label(image: &mut [u8], bsize: u32, blocks: u32) {
     let label = start_of(bsize, 3);
     put_at(
         image,
@@ -86,28 +79,40 @@ pub fn many_files(alloc: Global, bsize: u32, blocks: u32, files: u32) -> Result<
     put_number(image, label.saturating_add(16), 4);
     put_number(image, label.saturating_add(28), blocks);
     put_number(image, label.saturating_add(36), 64);
+}
+
+// Puts a file of a number, from 1: its entry behind those of the directory and the map, and its records.
+fn put_file(image: &mut [u8], bsize: u32, number: u32) {
+    let entry = start_of(bsize, 4).saturating_add((number as usize + 1) * 64);
+    let root = number.saturating_add(6);
+    let records = start_of(bsize, root);
+    if number == 1 {
+        put_entry(image, entry, &name_of(number), 1, bsize, root);
+        for place in 0..bsize {
+            put_at(image, records.saturating_add(place as usize), &[0xF1]);
+        }
+    } else {
+        put_entry(image, entry, &name_of(number), 4, 1, root);
+        put_at(image, records, &digits(number));
+    }
+}
+
+/// TEST01 on so many blocks of a size: the directory in block 4, the map in block 6, and from block 7 on the files FILE0001 TEXT A1
+/// to that of the number of files. The first has as many records as a block has bytes, each of one byte, 1. Each other has one record,
+/// the four digits of its number. What isn't there is left out.
+pub fn many_files(alloc: Global, bsize: u32, blocks: u32, files: u32) -> Result<Vec<u8>, AllocError>
+    requires size { bsize ≤ 4096 }
+    requires blocks { blocks ≤ 65536 }
+{
+    let mut volume = vec![in alloc; 0; blocks as usize * bsize as usize]?;
+    let image = volume.as_mut_slice();
+    put_label(image, bsize, blocks);
     let directory = start_of(bsize, 4);
     put_entry(image, directory, &DIRECTORY, 64, files.saturating_add(2), 4);
     put_entry(image, directory.saturating_add(64), &MAP, bsize, 1, 6);
     put_marks(image, start_of(bsize, 6), files.saturating_add(6));
     for number in 1..files.saturating_add(1) {
-        let entry = directory
-            .saturating_add(64)
-            .saturating_add(number as usize * 64);
-        let root = number.saturating_add(6);
-        if number == 1 {
-            put_entry(image, entry, &name_of(number), 1, bsize, root);
-            for place in 0..bsize {
-                put_at(
-                    image,
-                    start_of(bsize, root).saturating_add(place as usize),
-                    &[0xF1],
-                );
-            }
-        } else {
-            put_entry(image, entry, &name_of(number), 4, 1, root);
-            put_at(image, start_of(bsize, root), &digits(number));
-        }
+        put_file(image, bsize, number);
     }
     Ok(volume)
 }

@@ -19,7 +19,7 @@ put_found new (f ∷ fs) = ⊎_elim
     (cases_Bool (same_name new.name f.name))
 
 change_found : (name to : Name) (edit : File → File) (files : List File) (old : File) → ((f : File) → f.name ≡ name → (edit f).name ≡ to)
-  → file_named name files ≡ Some old → NoneNamed to files ⊎ (to ≡ name) → file_named to (change_file name edit files) ≡ Some (edit old)
+    → file_named name files ≡ Some old → NoneNamed to files ⊎ (to ≡ name) → file_named to (change_file name edit files) ≡ Some (edit old)
 unfolding file_named change_file
 change_found name to edit [] old named found free = absurd (cc)
 change_found name to edit (f ∷ fs) old named found free = ⊎_elim
@@ -47,13 +47,15 @@ unfolding changed_files
 changed_is_found files name = record {
   put = λ new is. subst (λ (n : Name). file_named n (put_file new files) ≡ Some new) is (put_found new files);
   added = λ old more stamp found. (
-      added_to more stamp old,
-      record { name_same = refl; number_same = refl; format_same = refl; length_is = refl; stamp_is = refl; records_are = refl },
-      change_found name name (added_to more stamp) files old (λ f is. is) found (inr refl));
+    added_to more stamp old,
+    record { name_same = refl; number_same = refl; format_same = refl; length_is = refl; stamp_is = refl; records_are = refl },
+    change_found name name (added_to more stamp) files old (λ f is. is) found (inr refl),
+  );
   renamed = λ old to number found free. (
-      record old { name = to; number = number },
-      record { name_is = refl; number_is = refl; format_same = refl; length_same = refl; stamp_same = refl; records_same = refl },
-      change_found name to (λ f. record f { name = to; number = number }) files old (λ f is. refl) found free);
+    record old { name = to; number = number },
+    record { name_is = refl; number_is = refl; format_same = refl; length_same = refl; stamp_same = refl; records_same = refl },
+    change_found name to (λ f. record f { name = to; number = number }) files old (λ f is. refl) found free,
+  );
   dropped = λ d. (none_added name (drop_file name files) (none_left name files d)).absent;
 }
 
@@ -75,7 +77,7 @@ put_other other new (f ∷ fs) ne = ⊎_elim
     (cases_Bool (same_name new.name f.name))
 
 change_other : (other from : Name) (edit : File → File) (files : List File) → from ≢ other → ((f : File) → f.name ≡ from → (edit f).name ≢ other)
-  → file_named other (change_file from edit files) ≡ file_named other files
+    → file_named other (change_file from edit files) ≡ file_named other files
 unfolding file_named change_file
 change_other other from edit [] ne apart = refl
 change_other other from edit (f ∷ fs) ne apart = ⊎_elim

@@ -23,33 +23,33 @@ put_sizes bsize new [] = let one = sizes_more bsize new [] in omega (arith, one)
 put_sizes bsize new (f ∷ fs) = go (same_name new.name f.name) (put_sizes bsize new fs)
   where
     go : (b : Bool) → sizes bsize (put_file new fs) + file_need bsize (file_named new.name fs) ≡ sizes bsize fs + file_size bsize new
-      → sizes bsize (if b then new ∷ fs else f ∷ put_file new fs) + file_need bsize (if b then Some f else file_named new.name fs) ≡ sizes bsize (f ∷ fs) + file_size bsize new
+        → sizes bsize (if b then new ∷ fs else f ∷ put_file new fs) + file_need bsize (if b then Some f else file_named new.name fs) ≡ sizes bsize (f ∷ fs) + file_size bsize new
     go true deeper =
         let here : sizes bsize (new ∷ fs) + file_size bsize f ≡ sizes bsize (f ∷ fs) + file_size bsize new =
-          (let a = sizes_more bsize new fs in let b = sizes_more bsize f fs in omega (arith, a, b)) in here
+        (let a = sizes_more bsize new fs in let b = sizes_more bsize f fs in omega (arith, a, b)) in here
     go false deeper =
         let there : sizes bsize (f ∷ put_file new fs) + file_need bsize (file_named new.name fs) ≡ sizes bsize (f ∷ fs) + file_size bsize new =
-          (let a = sizes_more bsize f (put_file new fs) in let b = sizes_more bsize f fs in omega (arith, a, b, deeper)) in there
+        (let a = sizes_more bsize f (put_file new fs) in let b = sizes_more bsize f fs in omega (arith, a, b, deeper)) in there
 
 -- the file that is changed, as it is then
 change_sizes : (bsize : ℕ) (name : Name) (edit : File → File) (files : List File) → ((f : File) → (edit f).name ≡ f.name)
-  → sizes bsize (change_file name edit files) + file_need bsize (file_named name files) ≡ sizes bsize files + file_need bsize (file_named name (change_file name edit files))
+    → sizes bsize (change_file name edit files) + file_need bsize (file_named name files) ≡ sizes bsize files + file_need bsize (file_named name (change_file name edit files))
 unfolding change_file file_named
 change_sizes bsize name edit [] keeps = refl
 change_sizes bsize name edit (f ∷ fs) keeps = go (same_name name f.name) refl (change_sizes bsize name edit fs keeps)
   where
     go : (b : Bool) → same_name name f.name ≡ b
-      → sizes bsize (change_file name edit fs) + file_need bsize (file_named name fs) ≡ sizes bsize fs + file_need bsize (file_named name (change_file name edit fs))
-      → sizes bsize (if b then edit f ∷ fs else f ∷ change_file name edit fs) + file_need bsize (if b then Some f else file_named name fs)
-      ≡ sizes bsize (f ∷ fs) + file_need bsize (file_named name (if b then edit f ∷ fs else f ∷ change_file name edit fs))
+        → sizes bsize (change_file name edit fs) + file_need bsize (file_named name fs) ≡ sizes bsize fs + file_need bsize (file_named name (change_file name edit fs))
+        → sizes bsize (if b then edit f ∷ fs else f ∷ change_file name edit fs) + file_need bsize (if b then Some f else file_named name fs)
+        ≡ sizes bsize (f ∷ fs) + file_need bsize (file_named name (if b then edit f ∷ fs else f ∷ change_file name edit fs))
     go true is deeper =
         let found : same_name name (edit f).name ≡ true = subst (λ (n : Name). same_name name n ≡ true) (sym (keeps f)) is in
         let here : sizes bsize (edit f ∷ fs) + file_size bsize f ≡ sizes bsize (f ∷ fs) + file_size bsize (edit f) =
-          (let a = sizes_more bsize (edit f) fs in let b = sizes_more bsize f fs in omega (arith, a, b)) in
+        (let a = sizes_more bsize (edit f) fs in let b = sizes_more bsize f fs in omega (arith, a, b)) in
         rw found here
     go false is deeper =
         let there : sizes bsize (f ∷ change_file name edit fs) + file_need bsize (file_named name fs) ≡ sizes bsize (f ∷ fs) + file_need bsize (file_named name (change_file name edit fs)) =
-          (let a = sizes_more bsize f (change_file name edit fs) in let b = sizes_more bsize f fs in omega (arith, a, b, deeper)) in
+        (let a = sizes_more bsize f (change_file name edit fs) in let b = sizes_more bsize f fs in omega (arith, a, b, deeper)) in
         rw is there
 
 last_sizes : (bsize : ℕ) (files : List File) → sizes bsize (last_first files) ≡ sizes bsize files
@@ -71,13 +71,13 @@ drop_sizes bsize name [] = refl
 drop_sizes bsize name (f ∷ fs) = go (same_name name f.name) (drop_sizes bsize name fs)
   where
     go : (b : Bool) → sizes bsize (drop_file name fs) + file_need bsize (file_named name fs) ≡ sizes bsize fs
-      → sizes bsize (if b then last_first fs else f ∷ drop_file name fs) + file_need bsize (if b then Some f else file_named name fs) ≡ sizes bsize (f ∷ fs)
+        → sizes bsize (if b then last_first fs else f ∷ drop_file name fs) + file_need bsize (if b then Some f else file_named name fs) ≡ sizes bsize (f ∷ fs)
     go true deeper =
         let here : sizes bsize (last_first fs) + file_size bsize f ≡ sizes bsize (f ∷ fs) =
-          (let last = last_sizes bsize fs in let a = sizes_more bsize f fs in omega (arith, last, a)) in here
+        (let last = last_sizes bsize fs in let a = sizes_more bsize f fs in omega (arith, last, a)) in here
     go false deeper =
         let there : sizes bsize (f ∷ drop_file name fs) + file_need bsize (file_named name fs) ≡ sizes bsize (f ∷ fs) =
-          (let a = sizes_more bsize f (drop_file name fs) in let b = sizes_more bsize f fs in omega (arith, a, b, deeper)) in there
+        (let a = sizes_more bsize f (drop_file name fs) in let b = sizes_more bsize f fs in omega (arith, a, b, deeper)) in there
 
 -- a name and a mode number take no room
 renamed_size : (bsize : ℕ) (to : Name) (number : ℕ) (f : File) → file_size bsize (record f { name = to; number = number }) ≡ file_size bsize f
@@ -90,7 +90,7 @@ rename_sizes bsize from to number [] = refl
 rename_sizes bsize from to number (f ∷ fs) = go (same_name from f.name) (rename_sizes bsize from to number fs)
   where
     go : (b : Bool) → sizes bsize (change_file from (λ f. record f { name = to; number = number }) fs) ≡ sizes bsize fs
-      → sizes bsize (if b then record f { name = to; number = number } ∷ fs else f ∷ change_file from (λ f. record f { name = to; number = number }) fs) ≡ sizes bsize (f ∷ fs)
+        → sizes bsize (if b then record f { name = to; number = number } ∷ fs else f ∷ change_file from (λ f. record f { name = to; number = number }) fs) ≡ sizes bsize (f ∷ fs)
     go true deeper =
         sizes_more bsize (record f { name = to; number = number }) fs ∙ ap (λ (n : ℕ). n + sizes bsize fs) (renamed_size bsize to number f) ∙ sym (sizes_more bsize f fs)
     go false deeper =
@@ -121,12 +121,12 @@ file_case (Some f) = ⊎_elim
     (λ (many : nat_lt 1048576 (length f.records) ≡ true).
     inr (2, rw many refl, λ within. let h = (within f refl).records in let more = ltb-true 1048576 (length f.records) many in absurd (omega (arith, h, more))))
     (λ (some : nat_lt 1048576 (length f.records) ≡ false). ⊎_elim
-        (λ (much : nat_lt 67108864 (stored_size f.format f.records) ≡ true).
-        inr (3, rw (some, much) refl, λ within. let h = (within f refl).bytes in let more = ltb-true 67108864 (stored_size f.format f.records) much in absurd (omega (arith, h, more))))
-        (λ (few : nat_lt 67108864 (stored_size f.format f.records) ≡ false).
-        let own : IsWithin f = record { records = ltb-false 1048576 (length f.records) some; bytes = ltb-false 67108864 (stored_size f.format f.records) few } in
-        inl (rw (some, few) refl, λ g is. (let same : f ≡ g = cc in subst IsWithin same own)))
-        (cases_Bool (nat_lt 67108864 (stored_size f.format f.records))))
+    (λ (much : nat_lt 67108864 (stored_size f.format f.records) ≡ true).
+    inr (3, rw (some, much) refl, λ within. let h = (within f refl).bytes in let more = ltb-true 67108864 (stored_size f.format f.records) much in absurd (omega (arith, h, more))))
+    (λ (few : nat_lt 67108864 (stored_size f.format f.records) ≡ false).
+    let own : IsWithin f = record { records = ltb-false 1048576 (length f.records) some; bytes = ltb-false 67108864 (stored_size f.format f.records) few } in
+    inl (rw (some, few) refl, λ g is. (let same : f ≡ g = cc in subst IsWithin same own)))
+    (cases_Bool (nat_lt 67108864 (stored_size f.format f.records))))
     (cases_Bool (nat_lt 1048576 (length f.records)))
 
 record Passes (m : Minidisk) (change : Change) : Type 0 where
@@ -157,46 +157,48 @@ answer_case m change = ⊎_elim
     (λ (many : nat_lt 16384 (length (changed_files m.files change)) ≡ true).
     limited_case m change 1 (rw many refl) (λ p. let h = p.few in let more = ltb-true 16384 (length (changed_files m.files change)) many in absurd (omega (arith, h, more))))
     (λ (few : nat_lt 16384 (length (changed_files m.files change)) ≡ false). ⊎_elim
-        (λ f. unlimited_case m change (record { few = ltb-false 16384 (length (changed_files m.files change)) few; within = f.1 }) (rw few f.0))
-        (λ f. limited_case m change f.0 (rw few f.1) (λ p. f.2 p.within))
-        (file_case (written_file m change)))
+    (λ f. unlimited_case m change (record { few = ltb-false 16384 (length (changed_files m.files change)) few; within = f.1 }) (rw few f.0))
+    (λ f. limited_case m change f.0 (rw few f.1) (λ p. f.2 p.within))
+    (file_case (written_file m change)))
     (cases_Bool (nat_lt 16384 (length (changed_files m.files change))))
 
 pub changed_where_made : ChangedWhereMade
 changed_where_made m new change = (
-    λ is. ⊎_elim
+  λ is. ⊎_elim
       (λ a. let clash : Limited a.0 ≡ Changed new = sym a.1 ∙ is in absurd (cc))
       (⊎_elim
-        (λ a. let clash : Full (need m change) (free_count m) ≡ Changed new = sym a.2 ∙ is in absurd (cc))
-        (λ a. let same : Changed (changed m change) ≡ Changed new = sym a.2 ∙ is in
-        let made : changed m change ≡ new = cc in
-        subst (λ (n : Minidisk). Makes m change n) made (record { is = refl; few = a.0.few; within = a.0.within; room = a.1 })))
+      (λ a. let clash : Full (need m change) (free_count m) ≡ Changed new = sym a.2 ∙ is in absurd (cc))
+      (λ a. let same : Changed (changed m change) ≡ Changed new = sym a.2 ∙ is in
+      let made : changed m change ≡ new = cc in
+      subst (λ (n : Minidisk). Makes m change n) made (record { is = refl; few = a.0.few; within = a.0.within; room = a.1 })))
       (answer_case m change),
-    λ made. ⊎_elim
+  λ made. ⊎_elim
       (λ a. absurd (a.2 (record { few = subst (λ (n : Minidisk). length n.files ≤ 16384) made.is made.few; within = made.within })))
       (⊎_elim
-        (λ a. let room = made.room in let less = a.1 in absurd (omega (arith, room, less)))
-        (λ a. a.2 ∙ ap Changed (sym made.is)))
-      (answer_case m change))
+      (λ a. let room = made.room in let less = a.1 in absurd (omega (arith, room, less)))
+      (λ a. a.2 ∙ ap Changed (sym made.is)))
+      (answer_case m change),
+)
 
 pub full_where_lacking : FullWhereLacking
 full_where_lacking m change needed free = (
-    λ is. ⊎_elim
+  λ is. ⊎_elim
       (λ a. let clash : Limited a.0 ≡ Full needed free = sym a.1 ∙ is in absurd (cc))
       (⊎_elim
-        (λ a. let same : Full (need m change) (free_count m) ≡ Full needed free = sym a.2 ∙ is in
-        let first : need m change ≡ needed = cc in
-        let second : free_count m ≡ free = cc in
-        let less = a.1 in
-        record { few = a.0.few; within = a.0.within; needed_is = sym first; free_is = sym second; short = rw (sym first, sym second) less })
-        (λ a. let clash : Changed (changed m change) ≡ Full needed free = sym a.2 ∙ is in absurd (cc)))
+      (λ a. let same : Full (need m change) (free_count m) ≡ Full needed free = sym a.2 ∙ is in
+      let first : need m change ≡ needed = cc in
+      let second : free_count m ≡ free = cc in
+      let less = a.1 in
+      record { few = a.0.few; within = a.0.within; needed_is = sym first; free_is = sym second; short = rw (sym first, sym second) less })
+      (λ a. let clash : Changed (changed m change) ≡ Full needed free = sym a.2 ∙ is in absurd (cc)))
       (answer_case m change),
-    λ lacks. ⊎_elim
+  λ lacks. ⊎_elim
       (λ a. absurd (a.2 (record { few = lacks.few; within = lacks.within })))
       (⊎_elim
-        (λ a. rw (lacks.needed_is, lacks.free_is) a.2)
-        (λ a. let short = lacks.short in let room = a.1 in let n = lacks.needed_is in let f = lacks.free_is in absurd (omega (arith, short, room, n, f))))
-      (answer_case m change))
+      (λ a. rw (lacks.needed_is, lacks.free_is) a.2)
+      (λ a. let short = lacks.short in let room = a.1 in let n = lacks.needed_is in let f = lacks.free_is in absurd (omega (arith, short, room, n, f))))
+      (answer_case m change),
+)
 
 -- ---- room
 
