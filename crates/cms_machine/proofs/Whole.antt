@@ -23,7 +23,7 @@ use Rattle.cms_machine.proofs.Units.{beat_sets}
 use Rattle.cms_machine.proofs.Aside.{leaves_aside, sound_aside, typed_aside, read_aside}
 use Rattle.cms_machine.proofs.Law.{here, here_states, past_beat, chain_sound, law}
 use Rattle.cms_machine.proofs.Feed.{feed_beats}
-use Rattle.cms_machine.proofs.Waits.{waits, waits_early, bytes_chain, bytes-append}
+use Rattle.cms_machine.proofs.Waits.{no_read, waits, waits_early, bytes_chain, bytes-append}
 
 -- ---- what a chain adds up to
 
@@ -341,6 +341,17 @@ module _ {R : Type 0} (p q : Point) (t : Act R) (b : Broke p q t) where
       record { close = ap (λ (z : Fed R). z.close) run; bytes_are = ap (λ (z : Fed R). bytes_of z.trace) run ∙ bytes })
       (split_at front (Read c) rest (pieces b.ran.beats) b.loose e)
 
+  -- none comes where the script had ended
+  pub no_reads : p.ended ≡ true → (front rest : List Event) (c : List ℕ) → front ++ Read c ∷ rest ≡ events_of b → ⊥
+  no_reads ended front rest c e =
+      ⊎_elim
+      (λ i. no_read p b.mid b.ran.beats b.ran.chain ended front i.0 c i.1)
+      (λ i.
+      let w = part_waits b.mid b.rest b.loose i.0 rest c b.part i.2 [] [] in
+      let kept : b.mid.ended ≡ true = chain_ended p b.mid b.ran.beats b.ran.chain ∙ ap (λ (z : Bool). z || is_over (pieces b.ran.beats)) ended in
+      false_true b.mid.ended w.0 kept)
+      (split_at front (Read c) rest (pieces b.ran.beats) b.loose e)
+
 -- ---- a run that came to its end
 
 -- as one that is cut off behind its last beat
@@ -392,6 +403,7 @@ follows_tree p q t b = record {
   sound = all_sound p q t b;
   as_many = ap (λ (z : List Slot). length z) b.units ∙ units_chain p b.mid b.ran.beats b.ran.chain;
   waits = all_wait p q t b;
+  given = no_reads p q t b;
   waits_before = λ front rest bytes e early later cut.
       waits_early t p.unread early later (moments front) (outcomes b.ran.beats) (typed front)
       (subst (λ (told : List ℕ). Waits (feed t (items (extended p.unread told) false) false (moments front) (outcomes b.ran.beats)) (typed front)) (sym cut) (all_wait p q t b front rest bytes e));

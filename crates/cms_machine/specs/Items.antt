@@ -9,7 +9,8 @@ use Rattle.cms_journal.specs.declared.event.Event.{Event}
 use Rattle.cms_journal.specs.declared.event.Event.TheVariants.{Read}
 use Rattle.cms_journal.specs.Told.{script, is_over}
 
--- a line in EBCDIC; one with a byte that isn't printable; the first 255 bytes of a longer one; each further piece of that, of up to 255 bytes
+-- a line in EBCDIC; one with a byte that isn't printable; the first 255 bytes of a longer one; each further piece of that, of up to 255
+-- bytes
 pub data Item : Type 0 where
   Text : List ℕ → Item
   Bad : Item
@@ -46,7 +47,8 @@ line_items bytes = if nat_le (length bytes) 255 then short_line bytes ∷ [] els
 
 -- ---- a script, or what is left of it
 
--- at the beginning of a line `within` is 0; else it is how many bytes, 1 to 255, of a long line's current piece were taken, whose item was given
+-- at the beginning of a line `within` is 0; else it is how many bytes, 1 to 255, of a long line's current piece were taken, whose item
+-- was given
 pub record Unread : Type 0 where
   pub within : ℕ
   pub bytes : List ℕ
@@ -65,7 +67,8 @@ abbrev pub items_sure : ℕ → List ℕ → List Item
 items_sure zero bytes = if nat_le (length bytes) 255 then [] else line_items bytes
 items_sure (suc within) bytes = rests (suc within) (length bytes)
 
--- the part behind the last line feed: at the script's end a line where it isn't empty; before that it may go on, and its last carriage return may belong to a line feed
+-- the part behind the last line feed: at the script's end a line where it isn't empty; before that it may go on, and its last carriage
+-- return may belong to a line feed
 abbrev pub last_items : ℕ → List ℕ → Bool → List Item
 last_items zero [] true = []
 last_items within bytes true = items_left within bytes
@@ -109,11 +112,13 @@ listed (Some item) = item ∷ []
 
 -- a read comes only where no item is told, and not past the script's end
 abbrev pub Lazy : Unread → Bool → List Event → Type 0
-Lazy u ended es = (p q : List Event) (b : List ℕ) → p ++ Read b ∷ q ≡ es → ((ended || is_over p) ≡ false) × (items (extended u (script p)) false ≡ [])
+Lazy u ended es = (p q : List Event) (b : List ℕ) → p ++ Read b ∷ q ≡ es → ((ended || is_over p) ≡ false)
+    × (items (extended u (script p)) false ≡ [])
 
 -- after these reads an item is taken, which every continuation of the bytes told has there; none is taken exactly at the script's end
 pub record Takes (u : Unread) (ended : Bool) (es : List Event) (item : Option Item) (u' : Unread) (ended' : Bool) : Type 0 where
-  pub told : (more : List ℕ) (e : Bool) → Goes ended' more e → items (extended (extended u (script es)) more) e ≡ listed item ++ items (extended u' more) e
+  pub told : (more : List ℕ) (e : Bool) → Goes ended' more e
+      → items (extended (extended u (script es)) more) e ≡ listed item ++ items (extended u' more) e
   pub over : ended' ≡ (ended || is_over es)
   pub none : item ≡ None → (ended' ≡ true) × (items u' true ≡ [])
   pub lazy : Lazy u ended es

@@ -1,5 +1,5 @@
 -- What follows of all beats and all runs.
-use Rattle.std.specs.Prelude.{◌≡◌, ℕ, ◌≤◌, ℤ, Bool, false, List, ◌∷◌, ◌++◌, length, Some}
+use Rattle.std.specs.Prelude.{◌≡◌, ℕ, ◌≤◌, ℤ, Bool, true, false, List, ◌∷◌, ◌++◌, length, Some}
 use Rattle.cms_journal.specs.declared.event.Event.{Event}
 use Rattle.cms_journal.specs.declared.event.Event.TheVariants.{Read}
 use Rattle.cms_journal.specs.Causes.{Counted}
@@ -85,9 +85,12 @@ pub record FollowsTree {R : Type 0} (p q : Point) (t : Act R) (b : Broke p q t) 
   pub waits :
       (front rest : List Event) (bytes : List ℕ) → front ++ Read bytes ∷ rest ≡ events_of b
       → Waits (feed t (items (extended p.unread (script front)) false) false (moments front) (outcomes b.ran.beats)) (typed front)
+  -- no read comes where the script had ended
+  pub given : p.ended ≡ true → (front rest : List Event) (bytes : List ℕ) → front ++ Read bytes ∷ rest ≡ events_of b → ⊥
   -- and also on a front of the script told by then, as that up to its last line feed
   pub waits_before :
-      (front rest : List Event) (bytes : List ℕ) → front ++ Read bytes ∷ rest ≡ events_of b → (early later : List ℕ) → early ++ later ≡ script front
+      (front rest : List Event) (bytes : List ℕ) → front ++ Read bytes ∷ rest ≡ events_of b → (early later : List ℕ)
+      → early ++ later ≡ script front
       → WaitsBehind (feed t (items (extended p.unread early) false) false (moments front) (outcomes b.ran.beats)) (typed front)
 
 abbrev pub StopsFollow : Type 0 → Type 0
@@ -101,7 +104,8 @@ pub record ComesTo {R : Type 0} (p q : Point) (t : Act R) (a : R) (ran : Ran p q
   pub bytes : bytes_of (fed p t (pieces ran.beats) (outcomes ran.beats)).trace ≡ typed (pieces ran.beats)
   pub turns : turns_of (fed p t (pieces ran.beats) (outcomes ran.beats)).trace ≡ length (moments (pieces ran.beats))
   pub sets : (u : ℕ) → unit_set q.units u ≡ last_set u (unit_set p.units u) (fed p t (pieces ran.beats) (outcomes ran.beats)).trace
-  pub states : Sound p → (u : ℕ) (x : State) → Leaves (plus p.journal (pieces ran.beats)) u x → IsAmong x (last_set u (unit_set p.units u) (fed p t (pieces ran.beats) (outcomes ran.beats)).trace)
+  pub states : Sound p → (u : ℕ) (x : State) → Leaves (plus p.journal (pieces ran.beats)) u x
+      → IsAmong x (last_set u (unit_set p.units u) (fed p t (pieces ran.beats) (outcomes ran.beats)).trace)
 
 abbrev pub RunsCome : Type 0 → Type 0
 RunsCome R = (p q : Point) (t : Act R) (a : R) (ran : Ran p q t (Done a)) → ComesTo p q t a ran

@@ -26,10 +26,11 @@ use Rattle.cms_machine.proofs.Aside.{OnlyOf, of_aside}
 use Rattle.cms_machine.proofs.Single.{ran_step}
 use Rattle.cms_edf.specs.Small.{IsMinidisk}
 use Rattle.cms_edf.specs.Erase.{AllOf, Changes}
-use Rattle.cms_session.specs.declared.state.Disk.{Disk}
+use Rattle.cms_line.specs.ConsoleState.{ConsoleState}
+use Rattle.cms_search.specs.declared.state.Disk.{Disk}
+use Rattle.cms_search.specs.Calls.{Spot, at, IsCovered, IsSeated, HoldsIn}
+use Rattle.cms_search.proofs.Holding.{left_before, now_before, some_same}
 use Rattle.cms_session.specs.Machine.{drop_step}
-use Rattle.cms_session.specs.Calls.{Spot, at, IsCovered, HoldsIn}
-use Rattle.cms_session.proofs.Holding.{left_before, now_before, some_same}
 
 only_of : (u : ℕ) (es : List Event) → AllOf u es → OnlyOf u es
 only_of u [] o = tt
@@ -112,7 +113,7 @@ held_later j es units d new m later name stamp same answer is there drops h = re
       let e : new ≡ x = some_same new x found in
       let slot : slice_get (dropped_units units d.small.unit m name stamp Good) new.small.unit ≡ Some (Settled (Volume later)) =
       rw same (there_after units d.small.unit m name stamp Good there ∙ (rw answer refl)) in
-      (later, (subst (λ (y : Disk). slice_get (dropped_units units d.small.unit m name stamp Good) y.small.unit ≡ Some (Settled (Volume later))) e slot, subst (λ (y : Disk). IsMinidisk (after j es) y.small later) e is));
+      subst (IsSeated (after j es) (dropped_units units d.small.unit m name stamp Good)) e (record { minidisk = later; slot = slot; is = is });
   others = λ v unit has elsewhere.
       let other : d.small.unit ≢ v = λ e. elsewhere (same ∙ e) in
       other_covered j es units d.small.unit v m name stamp Good drops.of_unit other (h.others v unit has other);
@@ -123,11 +124,11 @@ held_later j es units d new m later name stamp same answer is there drops h = re
 -- a file was dropped, with this outcome
 pub drop_ran : {R : Type 0} (old new : Spot) (units : List Slot) (u : ℕ) (m : Minidisk) (name : Name) (stamp : Stamp) (o : Outcome) (k : Outcome → Act R) → slice_get units u ≡ Some (Settled (Volume m))
     → (changes : Changes old.told new.told u m name stamp o) → ((x : State) → HasNow new.told u x → state_in (dropped_slot u m name stamp o) ≡ x)
-    → Counted old.faults (faults_in (o ∷ [])) new.faults → new.unread ≡ old.unread → new.ended ≡ old.ended → Ran (at old units) (at new (dropped_units units u m name stamp o)) (Does (drop_step u m name stamp) k) (k o)
-drop_ran old new units u m name stamp o k there changes now counted unread ended =
+    → Counted old.faults (faults_in (o ∷ [])) new.faults → new.state.console ≡ old.state.console → Ran (at old units) (at new (dropped_units units u m name stamp o)) (Does (drop_step u m name stamp) k) (k o)
+drop_ran old new units u m name stamp o k there changes now counted console =
     let slot = there_after units u m name stamp o there in
     let before : unit_set units u ≡ Volume m ∷ [] = rw there refl in
     let behind : unit_set (dropped_units units u m name stamp o) u ≡ set_of (dropped_slot u m name stamp o) = rw slot refl in
     let covers : Covers old.told changes.events u (unit_set units u) (unit_set (dropped_units units u m name stamp o) u) = rw (before, behind) changes.covers in
     ran_step (at old units) (at new (dropped_units units u m name stamp o)) (drop_step u m name stamp) o k changes.events changes.told counted (only_of u changes.events changes.of_unit) changes.fits there refl
-    (record { unread = unread; ended = ended }) (λ sound. covers) (λ sound x has. ap (λ (z : Option Slot). option_map state_in z) slot ∙ ap (λ (y : State). Some y) (now x has))
+    (record { unread = ap (λ (c : ConsoleState). c.unread) console; ended = ap (λ (c : ConsoleState). c.ended) console }) (λ sound. covers) (λ sound x has. ap (λ (z : Option Slot). option_map state_in z) slot ∙ ap (λ (y : State). Some y) (now x has))

@@ -1,14 +1,14 @@
 -- How a session ends: its parts joined, and the headline.
-use Rattle.std.proofs.Common.{◌≡◌, inl, inr, ⊎_elim, ℕ, ◌≤◌, min, List, [], ◌∷◌, ◌++◌, Option, Some, Ok, Err, refl, ap, sym, subst, ◌∙◌, arith, append-nil, slice_get, length}
+use Rattle.std.proofs.Common.{◌≡◌, inl, inr, ⊎_elim, ℕ, ◌≤◌, min, List, [], ◌∷◌, ◌++◌, Option, Some, Ok, Err, pos, refl, ap, sym, subst, ◌∙◌, arith, append-nil, slice_get, length}
 use Rattle.cms_journal.specs.declared.event.Event.{Event}
 use Rattle.cms_journal.specs.declared.event.Event.TheVariants.{Missed}
 use Rattle.cms_journal.specs.declared.event.Access.{Access}
 use Rattle.cms_journal.specs.declared.event.Attached.{Attached}
 use Rattle.cms_journal.specs.Causes.{Rose, Counted}
 use Rattle.cms_journal.specs.Journal.{IsAttached, MayAdd, may_write}
-use Rattle.std.specs.Prelude.{option_map}
+use Rattle.std.specs.Prelude.{option_map, is_some, true, None}
 use Rattle.std.proofs.lemmas.List.{length-map}
-use Rattle.cms_session.proofs.Holding.{some_same}
+use Rattle.cms_search.proofs.Holding.{some_same}
 use Rattle.cms_session.proofs.Starts.{first_state, settled_at, left_first, now_first}
 use Rattle.cms_journal.specs.Told.{Told, typed, moments}
 use Rattle.cms_model.specs.Minidisks.{State}
@@ -25,13 +25,21 @@ use Rattle.cms_machine.proofs.Join.{ran_then, broke_then}
 use Rattle.cms_machine.proofs.Single.{broke_before}
 use Rattle.cms_machine.proofs.Whole.{follows_tree, comes_to, whole}
 use Rattle.cms_session.specs.Machine.{machine}
-use Rattle.cms_session.specs.Calls.{Holds, session_tree}
+use Rattle.cms_fields.specs.declared.time.Moment.{Moment}
+use Rattle.cms_fields.specs.Moments.{moment_of}
+use Rattle.cms_line.specs.ConsoleState.{ConsoleState}
+use Rattle.cms_line.specs.ConsoleState as consoles
+use Rattle.cms_search.specs.declared.state.Device.{Device}
+use Rattle.cms_search.specs.declared.state.End.{End}
+use Rattle.cms_search.specs.declared.state.State as declared
+use Rattle.cms_search.specs.Calls.{Holds, Acts, spot, at}
+use Rattle.cms_session.specs.Calls.{session_tree, finished}
 use Rattle.cms_session.specs.Headline.{Seen, Start, Headline, Came, Begins, EndsAs, IsAs, fresh, settled, first_point, start_point, start_tree, run_on}
-use Rattle.cms_session.specs.Sessions.{IsAsSeen, CameTo, WasCut, EndedAs, RanOn, NotAttached, OnUnit, IsAlone, FoundAs, start_on}
+use Rattle.cms_session.specs.Sessions.{IsAsSeen, CameTo, WasCut, EndedAs, RanOn, NotAttached, OnUnit, IsAlone, FoundAs, start_on, device_of, lines_tree}
 use Rattle.cms_session.specs.Words.{UnitSpec}
-use Rattle.cms_session.specs.declared.state.Disk.{Disk}
+use Rattle.cms_search.specs.declared.state.Disk.{Disk}
 use Rattle.cms_session.specs.declared.state.Finish.{Finish}
-use Rattle.cms_session.specs.declared.state.Finish.TheVariants.{AtEnd, AtTurns, AtRefusal, AtFault}
+use Rattle.cms_session.specs.declared.state.Finish.TheVariants as finish
 use Rattle.cms_session.specs.declared.status.Status.{Status}
 use Rattle.cms_session.specs.declared.status.Status.TheVariants.{Done, Usage, Memory, World, Turns, NotBuilt}
 
@@ -43,17 +51,27 @@ cut_before p now t told later =
     let q : Point = record { journal = now.told; faults = now.faults; units = p.units; unread = p.unread; ended = p.ended } in
     (q, (record { told = refl; faults = refl }, broke_before p q t told later refl))
 
-came_then : (p m : Point) (now : Seen) (t u : Act Finish) (finish : Finish) → Ran p m t u → CameTo m now u finish → CameTo p now t finish
-came_then p m now t u finish ran came = (came.0, (came.1.0, ran_then ran came.1.1))
+-- the lines of a session were cut off
+pub lines_cut : (told : Told) (count : ℕ) (now : Seen) (device : Device) (disk : Option Disk) (console : ConsoleState) (moment : Moment) (new : declared.State) (e : End) (units : List Slot) → console ≡ consoles.fresh None → moment ≡ moment_of (pos 0) (pos 0)
+    → Acts {T = Finish} (spot told count (record { device = device; disk_a = disk; console = console; offset = pos 0; moment = moment; left = 1000000 })) (spot now.told now.faults new)
+    (session_tree (record { device = device; disk_a = disk; console = console; offset = pos 0; moment = moment; left = 1000000 })) (Err e) finished
+    → Holds told disk units → WasCut (first_point told count units None) now (lines_tree device disk units)
+lines_cut told count now device disk console moment new e units is_console is_moment acts h =
+    let there = rw (is_console, is_moment) at acts in
+    let x = there.each units h in
+    (at (spot now.told now.faults new) x.0, (record { told = refl; faults = refl }, x.1))
+
+came_then : (p m : Point) (now : Seen) (t u : Act Finish) (end : Finish) → Ran p m t u → CameTo m now u end → CameTo p now t end
+came_then p m now t u end ran came = (came.0, (came.1.0, ran_then ran came.1.1))
 
 cut_then : (p m : Point) (now : Seen) (t u : Act Finish) → Ran p m t u → WasCut m now u → WasCut p now t
 cut_then p m now t u ran cut = (cut.0, (cut.1.0, broke_then ran cut.1.1))
 
 pub ended_then : (p m : Point) (edges : ℕ) (now : Seen) (t u : Act Finish) (status : Status) → Ran p m t u → EndedAs m edges now u status → EndedAs p edges now t status
-ended_then p m edges now t u Done ran e = came_then p m now t u AtEnd ran e
-ended_then p m edges now t u Turns ran e = came_then p m now t u AtTurns ran e
-ended_then p m edges now t u NotBuilt ran e = came_then p m now t u AtRefusal ran e
-ended_then p m edges now t u World ran (inl e) = inl (came_then p m now t u AtFault ran e)
+ended_then p m edges now t u Done ran e = came_then p m now t u finish.AtEnd ran e
+ended_then p m edges now t u Turns ran e = came_then p m now t u finish.AtTurns ran e
+ended_then p m edges now t u NotBuilt ran e = came_then p m now t u finish.NotBuilt ran e
+ended_then p m edges now t u World ran (inl e) = inl (came_then p m now t u finish.DeviceFault ran e)
 ended_then p m edges now t u World ran (inr e) = inr (cut_then p m now t u ran e.0, e.1)
 ended_then p m edges now t u Memory ran e = cut_then p m now t u ran e
 ended_then p m edges now t u (Usage fault) ran e = e
@@ -86,6 +104,10 @@ as_its_slot q told u slot same sound there = record {
       some_same (state_in slot) x (sym at ∙ is);
 }
 
+not_given : (given : Option (List ℕ)) → (is_some given ≡ true → ⊥) → given ≡ None
+not_given None none = refl
+not_given (Some bytes) none = absurd (none refl)
+
 headline_of : (s : Start) (before now : Seen) (status : Status) (q : Point) (b : Broke (start_point s) q (start_tree s)) → before.faults ≡ s.faults → IsAsSeen q now
     → EndsAs s (events_of b) (run_on s (events_of b) (outcomes b.ran.beats)) q.units before.edges now.edges status → Headline s before now status
 unfolding machine
@@ -105,6 +127,7 @@ headline_of s before now status q b faults is ends =
       between = λ front rest e u x leaves.
           at_of_within (run_on s (events_of b) (outcomes b.ran.beats)).trace (length (typed front)) (length (moments front)) u (unit_set (settled s.units) u) x (follows.crash (sound_start s) front rest e u x leaves);
       waits = λ front rest bytes e. follows.waits front rest bytes e;
+      given = λ front rest bytes e. not_given s.given (λ ended. follows.given ended front rest bytes e);
       waits_before = λ front rest bytes e early later cut. follows.waits_before front rest bytes e early later cut;
     }
 
@@ -112,20 +135,20 @@ begins_of : (s : Start) (q : Point) (b : Broke (start_point s) q (start_tree s))
 unfolding machine
 begins_of s q b = (follows_tree (start_point s) q (start_tree s) b).bytes
 
-came_of : (s : Start) (q : Point) (finish : Finish) (r : Ran (start_point s) q (start_tree s) (acts.Done finish)) → Came s (pieces r.beats) (run_on s (pieces r.beats) (outcomes r.beats)) q.units finish
+came_of : (s : Start) (q : Point) (end : Finish) (r : Ran (start_point s) q (start_tree s) (acts.Done end)) → Came s (pieces r.beats) (run_on s (pieces r.beats) (outcomes r.beats)) q.units end
 unfolding machine
-came_of s q finish r =
-    let comes = comes_to (start_point s) q (start_tree s) finish r in
+came_of s q end r =
+    let comes = comes_to (start_point s) q (start_tree s) end r in
     record { close = comes.close; bytes = comes.bytes; turns = comes.turns; sets = comes.sets; states = comes.states (sound_start s) }
 
-came_whole : (s : Start) (q : Point) (finish : Finish) (r : Ran (start_point s) q (start_tree s) (acts.Done finish)) → Came s (pieces r.beats ++ []) (run_on s (pieces r.beats ++ []) (outcomes r.beats)) q.units finish
-came_whole s q finish r = subst (λ (es : List Event). Came s es (run_on s es (outcomes r.beats)) q.units finish) (sym (append-nil (pieces r.beats))) (came_of s q finish r)
+came_whole : (s : Start) (q : Point) (end : Finish) (r : Ran (start_point s) q (start_tree s) (acts.Done end)) → Came s (pieces r.beats ++ []) (run_on s (pieces r.beats ++ []) (outcomes r.beats)) q.units end
+came_whole s q end r = subst (λ (es : List Event). Came s es (run_on s es (outcomes r.beats)) q.units end) (sym (append-nil (pieces r.beats))) (came_of s q end r)
 
 pub headline : (s : Start) (before now : Seen) (status : Status) → before.faults ≡ s.faults → EndedAs (start_point s) before.edges now (start_tree s) status → Headline s before now status
-headline s before now Done faults e = headline_of s before now Done e.0 (whole (start_point s) e.0 (start_tree s) AtEnd e.1.1) faults e.1.0 (came_whole s e.0 AtEnd e.1.1)
-headline s before now Turns faults e = headline_of s before now Turns e.0 (whole (start_point s) e.0 (start_tree s) AtTurns e.1.1) faults e.1.0 (came_whole s e.0 AtTurns e.1.1)
-headline s before now NotBuilt faults e = headline_of s before now NotBuilt e.0 (whole (start_point s) e.0 (start_tree s) AtRefusal e.1.1) faults e.1.0 (came_whole s e.0 AtRefusal e.1.1)
-headline s before now World faults (inl e) = headline_of s before now World e.0 (whole (start_point s) e.0 (start_tree s) AtFault e.1.1) faults e.1.0 (inl (came_whole s e.0 AtFault e.1.1))
+headline s before now Done faults e = headline_of s before now Done e.0 (whole (start_point s) e.0 (start_tree s) finish.AtEnd e.1.1) faults e.1.0 (came_whole s e.0 finish.AtEnd e.1.1)
+headline s before now Turns faults e = headline_of s before now Turns e.0 (whole (start_point s) e.0 (start_tree s) finish.AtTurns e.1.1) faults e.1.0 (came_whole s e.0 finish.AtTurns e.1.1)
+headline s before now NotBuilt faults e = headline_of s before now NotBuilt e.0 (whole (start_point s) e.0 (start_tree s) finish.NotBuilt e.1.1) faults e.1.0 (came_whole s e.0 finish.NotBuilt e.1.1)
+headline s before now World faults (inl e) = headline_of s before now World e.0 (whole (start_point s) e.0 (start_tree s) finish.DeviceFault e.1.1) faults e.1.0 (inl (came_whole s e.0 finish.DeviceFault e.1.1))
 headline s before now World faults (inr e) = headline_of s before now World e.0.0 e.0.1.1 faults e.0.1.0 (inr (begins_of s e.0.0 e.0.1.1, e.1))
 headline s before now Memory faults e = headline_of s before now Memory e.0 e.1.1 faults e.1.0 (begins_of s e.0 e.1.1)
 headline s before now (Usage fault) faults e = absurd e
@@ -134,15 +157,15 @@ headline s before now (Usage fault) faults e = absurd e
 
 -- the session went on from what was found
 pub ran_on : (spec : UnitSpec) (unit : Attached) (before now : Seen) (told : Told) (edges mid : ℕ) (disk : Option Disk) (status : Status) → told ≡ Some (fresh (unit ∷ [])) → edges ≡ before.edges → FoundAs spec unit before.faults mid (Ok disk)
-    → ((units : List Slot) → Holds told disk units → EndedAs (first_point told mid units) edges now (session_tree disk 1000000 units) status) → RanOn spec unit before now status
+    → ((units : List Slot) → Holds told disk units → EndedAs (first_point told mid units None) edges now (lines_tree (device_of spec) disk units) status) → RanOn spec unit before now status
 ran_on spec unit before now told edges mid disk status is same found ended =
     let s = start_on spec unit before.faults in
     let units = settled (unit ∷ []) in
     let held : Holds told disk units = subst (λ (t : Told). Holds t disk units) (sym is) found.0 in
-    let there : EndedAs (first_point (Some (fresh (unit ∷ []))) mid units) before.edges now (session_tree disk 1000000 units) status =
-    subst (λ (t : Told). EndedAs (first_point t mid units) before.edges now (session_tree disk 1000000 units) status) is
-    (subst (λ (n : ℕ). EndedAs (first_point told mid units) n now (session_tree disk 1000000 units) status) same (ended units held)) in
-    record { ran = inr (headline s before now status refl (ended_then (start_point s) (start_point (start_on spec unit mid)) before.edges now (start_tree s) (session_tree disk 1000000 units) status found.2 there)); unbuilt = λ u. absurd (found.1 u) }
+    let there : EndedAs (first_point (Some (fresh (unit ∷ []))) mid units None) before.edges now (lines_tree (device_of spec) disk units) status =
+    subst (λ (t : Told). EndedAs (first_point t mid units None) before.edges now (lines_tree (device_of spec) disk units) status) is
+    (subst (λ (n : ℕ). EndedAs (first_point told mid units None) n now (lines_tree (device_of spec) disk units) status) same (ended units held)) in
+    record { ran = inr (headline s before now status refl (ended_then (start_point s) (start_point (start_on spec unit mid)) before.edges now (start_tree s) (lines_tree (device_of spec) disk units) status found.2 there)); unbuilt = λ u. absurd (found.1 u) }
 
 -- or it ended there
 pub ended_on : (spec : UnitSpec) (unit : Attached) (before now : Seen) (status : Status) → now.told ≡ Some (fresh (unit ∷ [])) → before.faults ≤ now.faults → FoundAs spec unit before.faults now.faults (Err status) → RanOn spec unit before now status
@@ -182,6 +205,7 @@ headline_from s told edges mid now status earlier h = record {
   crash = h.crash;
   between = h.between;
   waits = h.waits;
+  given = h.given;
   waits_before = h.waits_before;
 }
 

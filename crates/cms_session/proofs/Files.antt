@@ -1,5 +1,5 @@
 -- A file of disk A that is read, and its records typed.
-use Rattle.std.proofs.Common.{◌≡◌, inl, inr, ℕ, zero, suc, ◌<◌, ◌≤◌, List, [], ◌∷◌, map, length, slice_index_or, slice_get, Option, Some, Ok, Err, pos, refl, ap, sym, ◌∙◌, subst, arith}
+use Rattle.std.proofs.Common.{◌≡◌, inl, inr, ℕ, zero, suc, ◌<◌, ◌≤◌, List, [], ◌∷◌, map, length, slice_index_or, slice_get, Some, Ok, Err, pos, refl, ap, sym, ◌∙◌, subst, arith}
 use Rattle.std.specs.Prelude.{min}
 use Rattle.std.specs.Option.{ForSome}
 use Rattle.cms_journal.specs.Causes.{Rose}
@@ -20,13 +20,17 @@ use Rattle.cms_machine.specs.Runs.{Ran}
 use Rattle.cms_machine.proofs.Single.{ran_still}
 use Rattle.cms_edf.specs.Small.{SmallVolume, IsMinidisk, contents_image, records_in, volume_of, file_block}
 use Rattle.cms_edf.proofs.SmallSteps.{block_in_image}
-use Rattle.cms_session.specs.declared.state.Disk as disk
-use Rattle.cms_session.specs.declared.state.End.{End}
-use Rattle.cms_session.specs.declared.state.Course.TheVariants as course
-use Rattle.cms_session.specs.Machine.{Course, Went, Stopped, typing, type_outcome}
-use Rattle.cms_session.specs.Calls.{Spot, at, holds, Does, Acts, Comes, IsFile, machine_at, records_tree, course_of, itself}
-use Rattle.cms_session.proofs.Holding.{holds_some}
-use Rattle.cms_session.proofs.Acts.{comes_then, comes_does, comes_same, acts_done, acts_after, does_stop}
+use Rattle.cms_machine.specs.Beats.{KeepsConsole}
+use Rattle.cms_search.specs.declared.state.Disk as disk
+use Rattle.cms_search.specs.declared.state.End.{End}
+use Rattle.cms_search.specs.declared.state.State.{State}
+use Rattle.cms_search.specs.declared.state.Course.TheVariants as course
+use Rattle.cms_search.specs.Machine.{Course, Went, DeviceFault, typing}
+use Rattle.cms_search.specs.Calls.{Spot, at, holds, Does, Acts, Comes, itself, machine_of, course_of}
+use Rattle.cms_search.proofs.Holding.{holds_some}
+use Rattle.cms_search.proofs.Acts.{comes_then, comes_does, comes_same, acts_done, acts_after, does_stop}
+use Rattle.cms_session.specs.Machine.{type_outcome}
+use Rattle.cms_session.specs.Calls.{IsFile, records_tree}
 use Rattle.cms_session.proofs.Seen.{some_entry}
 
 -- ---- where the blocks are
@@ -77,14 +81,15 @@ records_are j d m k length' count bytes records is within are read info =
 pub record IsBeside (old mid : Spot) : Type 0 where
   pub told : mid.told ≡ old.told
   pub faults : old.faults ≤ mid.faults
-  pub disk : mid.disk ≡ old.disk
-  pub unread : mid.unread ≡ old.unread
-  pub ended : mid.ended ≡ old.ended
+  pub state : mid.state ≡ old.state
+
+pub keeps_beside : (old mid : Spot) → IsBeside old mid → {units : List Slot} → KeepsConsole (at old units) (at mid units)
+keeps_beside old mid beside = record { unread = ap (λ (s : State). s.console.unread) beside.state; ended = ap (λ (s : State). s.console.ended) beside.state }
 
 pub holds_beside : (old mid : Spot) (units : List Slot) → IsBeside old mid → holds old units → holds mid units
 holds_beside old mid units beside h =
     let told = beside.told in
-    let same = beside.disk in
+    let same = beside.state in
     rw (told, same) h
 
 -- the file is one of the unit's minidisk
@@ -92,39 +97,39 @@ file_offered : (told : Told) (d : disk.Disk) (k : ℕ) (f : File) (units : List 
     → Offers (slice_get units d.small.unit) f (length f.records)
 file_offered told d k f units j m has there slot is = record { minidisk = m; settled = slot; file = (has j there).named m is; enough = omega arith }
 
-abbrev pub records_left : Option disk.Disk → ℕ → List (List ℕ) → List Slot → Act Course
-records_left disk left records units = typing records (Done (Went (machine_at disk left units) (pos 0)))
+abbrev pub records_left : State → List (List ℕ) → List Slot → Act Course
+records_left s records units = typing records (Done (Went (machine_of s units) (pos 0)))
 
-pub file_read : (old mid : Spot) (d : disk.Disk) (left k length' count : ℕ) (f : File) (bytes : List ℕ) → old.disk ≡ Some d → IsBeside old mid → k < length d.small.files → IsFile old.told d k f
+pub file_read : (old mid : Spot) (d : disk.Disk) (k length' count : ℕ) (f : File) (bytes : List ℕ) → old.state.disk_a ≡ Some d → IsBeside old mid → k < length d.small.files → IsFile old.told d k f
     → ForSome old.told (λ j. (e : Entry) → bytes ≡ block_of j d.small.unit (slice_index_or d.small.files k e).root)
     → ((e : Entry) → (length' ≡ (slice_index_or d.small.files k e).length) × (count ≡ (slice_index_or d.small.files k e).count))
-    → Comes old mid (records_tree old.disk left d.small.unit f) (records_left old.disk left (cut count length' bytes))
-file_read old mid d left k length' count f bytes disk_a beside within has read info = record {
+    → Comes old mid (records_tree old.state d.small.unit f) (records_left old.state (cut count length' bytes))
+file_read old mid d k length' count f bytes disk_a beside within has read info = record {
   each = λ units h.
-      let held = holds_some old.told old.disk units h in
+      let held = holds_some old.told old.state.disk_a units h in
       let seat = held.2.disk_a d disk_a in
-      let records : f.records ≡ cut count length' bytes = records_are held.0 d seat.0 k length' count bytes f.records seat.1.1 within (has held.0 held.1).records (read held.0 held.1) info in
-      let offers = file_offered old.told d k f units held.0 seat.0 has held.1 seat.1.0 seat.1.1 in
-      let ran : Ran (at old units) (at mid units) (records_tree old.disk left d.small.unit f units) (records_left old.disk left f.records units) =
-      ran_still (at old units) (at mid units) (Get d.small.unit f (length f.records)) Good (type_outcome (machine_at old.disk left units) f) beside.told (counted_none old.faults mid.faults beside.faults) refl tt offers refl refl (record { unread = beside.unread; ended = beside.ended }) in
-      (units, (holds_beside old mid units beside h, subst (λ (rs : List (List ℕ)). Ran (at old units) (at mid units) (records_tree old.disk left d.small.unit f units) (records_left old.disk left rs units)) records ran));
+      let records : f.records ≡ cut count length' bytes = records_are held.0 d seat.minidisk k length' count bytes f.records seat.is within (has held.0 held.1).records (read held.0 held.1) info in
+      let offers = file_offered old.told d k f units held.0 seat.minidisk has held.1 seat.slot seat.is in
+      let ran : Ran (at old units) (at mid units) (records_tree old.state d.small.unit f units) (records_left old.state f.records units) =
+      ran_still (at old units) (at mid units) (Get d.small.unit f (length f.records)) Good (type_outcome (machine_of old.state units) f) beside.told (counted_none old.faults mid.faults beside.faults) refl tt offers refl refl (keeps_beside old mid beside) in
+      (units, (holds_beside old mid units beside h, subst (λ (rs : List (List ℕ)). Ran (at old units) (at mid units) (records_tree old.state d.small.unit f units) (records_left old.state rs units)) records ran));
   grown = grown_same old.told mid.told beside.told;
 }
 
 abbrev pub stopped : List Slot → Act Course
-stopped units = Done Stopped
+stopped units = Done DeviceFault
 
-pub file_fault : (old mid : Spot) (d : disk.Disk) (left k : ℕ) (f : File) → old.disk ≡ Some d → IsFile old.told d k f → IsBeside old mid → Rose old.faults mid.faults → Comes old mid (records_tree old.disk left d.small.unit f) stopped
+pub file_fault : (old mid : Spot) (d : disk.Disk) (k : ℕ) (f : File) → old.state.disk_a ≡ Some d → IsFile old.told d k f → IsBeside old mid → Rose old.faults mid.faults → Comes old mid (records_tree old.state d.small.unit f) stopped
 unfolding typing
-file_fault old mid d left k f disk_a has beside rose = record {
+file_fault old mid d k f disk_a has beside rose = record {
   each = λ units h.
-      let held = holds_some old.told old.disk units h in
+      let held = holds_some old.told old.state.disk_a units h in
       let seat = held.2.disk_a d disk_a in (
         units,
         (
           holds_beside old mid units beside h,
-          ran_still (at old units) (at mid units) (Get d.small.unit f (length f.records)) (ReadFault 0) (type_outcome (machine_at old.disk left units) f) beside.told (counted_one old.faults mid.faults beside.faults rose) refl (omega arith)
-              (file_offered old.told d k f units held.0 seat.0 has held.1 seat.1.0 seat.1.1) refl refl (record { unread = beside.unread; ended = beside.ended }),
+          ran_still (at old units) (at mid units) (Get d.small.unit f (length f.records)) (ReadFault 0) (type_outcome (machine_of old.state units) f) beside.told (counted_one old.faults mid.faults beside.faults rose) refl (omega arith)
+              (file_offered old.told d k f units held.0 seat.minidisk has held.1 seat.slot seat.is) refl refl (keeps_beside old mid beside),
         ),
       );
   grown = grown_same old.told mid.told beside.told;
@@ -137,25 +142,25 @@ unfolding typing
 typing_then [] next = refl
 typing_then (text ∷ more) next = ap (λ (t : Act _). Out (typed_line text) t) (typing_then more next)
 
-abbrev records_in_tree : Option disk.Disk → ℕ → List (List ℕ) → List Slot → Act Course
-records_in_tree disk left records units = bind (typing records (Done (tt {0}))) (λ x. Done (Went (machine_at disk left units) (pos 0)))
+abbrev records_in_tree : State → List (List ℕ) → List Slot → Act Course
+records_in_tree s records units = bind (typing records (Done (tt {0}))) (λ x. Done (Went (machine_of s units) (pos 0)))
 
-as_call : (mid : Spot) (disk : Option disk.Disk) (left : ℕ) (records : List (List ℕ)) → Comes mid mid (records_left disk left records) (records_in_tree disk left records)
-as_call mid disk left records = comes_same mid (records_left disk left records) (records_in_tree disk left records) (λ units h. sym (typing_then records (Done (Went (machine_at disk left units) (pos 0)))))
+as_call : (mid : Spot) (s : State) (records : List (List ℕ)) → Comes mid mid (records_left s records) (records_in_tree s records)
+as_call mid s records = comes_same mid (records_left s records) (records_in_tree s records) (λ units h. sym (typing_then records (Done (Went (machine_of s units) (pos 0)))))
 
-pub records_typed : (old mid new : Spot) (tree : List Slot → Act Course) (disk : Option disk.Disk) (left : ℕ) (records : List (List ℕ)) (x : Unit {0}) → Comes old mid tree (records_left disk left records) → Does mid new (typing records (Done (tt {0}))) (Ok x) itself
-    → Acts old new tree (Ok (course.Went (pos 0))) (course_of disk left)
-records_typed old mid new tree disk left records x g d =
-    acts_done old new tree (course.Went (pos 0)) (course_of disk left)
-    (comes_then old mid new tree (records_left disk left records) _ g
-    (comes_then mid mid new (records_left disk left records) (records_in_tree disk left records) _ (as_call mid disk left records) (comes_does mid new (typing records (Done (tt {0}))) (λ units y. Done (Went (machine_at disk left units) (pos 0))) x itself d)))
+pub records_typed : (old mid new : Spot) (tree : List Slot → Act Course) (s : State) (records : List (List ℕ)) (x : Unit {0}) → Comes old mid tree (records_left s records) → Does mid.told mid.faults new.told new.faults (typing records (Done (tt {0}))) (Ok x) itself → new.state ≡ mid.state
+    → Acts old new tree (Ok (course.Went (pos 0))) (course_of s)
+records_typed old mid new tree s records x g d same =
+    acts_done old new tree (course.Went (pos 0)) (course_of s)
+    (comes_then old mid new tree (records_left s records) _ g
+    (comes_then mid mid new (records_left s records) (records_in_tree s records) _ (as_call mid s records) (comes_does mid new (typing records (Done (tt {0}))) (λ units y. Done (Went (machine_of s units) (pos 0))) x itself d same)))
 
-pub records_stop : (old mid new : Spot) (tree : List Slot → Act Course) (disk : Option disk.Disk) (left : ℕ) (records : List (List ℕ)) (e : End) → Comes old mid tree (records_left disk left records) → Does {T = Unit {0}} mid new (typing records (Done (tt {0}))) (Err e) itself
-    → Acts old new tree (Err e) (course_of disk left)
-records_stop old mid new tree disk left records e g d =
-    acts_after old mid new tree (records_left disk left records) (Err e) (course_of disk left) g
-    (acts_after mid mid new (records_left disk left records) (records_in_tree disk left records) (Err e) (course_of disk left) (as_call mid disk left records)
-    (does_stop mid new (typing records (Done (tt {0}))) (λ units y. Done (Went (machine_at disk left units) (pos 0))) e itself (course_of disk left) d))
+pub records_stop : (old mid new : Spot) (tree : List Slot → Act Course) (s : State) (records : List (List ℕ)) (e : End) → Comes old mid tree (records_left s records) → Does {T = Unit {0}} mid.told mid.faults new.told new.faults (typing records (Done (tt {0}))) (Err e) itself → new.state ≡ mid.state
+    → Acts old new tree (Err e) (course_of s)
+records_stop old mid new tree s records e g d same =
+    acts_after old mid new tree (records_left s records) (Err e) (course_of s) g
+    (acts_after mid mid new (records_left s records) (records_in_tree s records) (Err e) (course_of s) (as_call mid s records)
+    (does_stop mid new (typing records (Done (tt {0}))) (λ units y. Done (Went (machine_of s units) (pos 0))) e itself (course_of s) d same))
 
-pub stopped_done : (old new : Spot) (tree : List Slot → Act Course) (disk : Option disk.Disk) (left : ℕ) → Comes old new tree stopped → Acts old new tree (Ok course.Stopped) (course_of disk left)
-stopped_done old new tree disk left g = acts_done old new tree course.Stopped (course_of disk left) g
+pub stopped_done : (old new : Spot) (tree : List Slot → Act Course) (s : State) → Comes old new tree stopped → Acts old new tree (Ok course.DeviceFault) (course_of s)
+stopped_done old new tree s g = acts_done old new tree course.DeviceFault (course_of s) g

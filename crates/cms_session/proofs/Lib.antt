@@ -1,11 +1,7 @@
-pub mod Holding
-pub mod Acts
 pub mod CommandWords
 pub mod WordLemmas
-pub mod Says
 pub mod Starts
 pub mod Ends
-pub mod Ready
 pub mod Records
 pub mod Seen
 pub mod Files

@@ -27,9 +27,10 @@ use Rattle.cms_model.proofs.Changing.{name_self, name_other}
 use Rattle.cms_model.proofs.Opening.{open_ok}
 use Rattle.cms_model.proofs.OpenedNames.{opened_distinct}
 use Rattle.cms_edf.specs.Small.{SmallVolume, IsMinidisk, IsPlaceOf, contents_image, spelled, records_in, volume_of}
-use Rattle.cms_session.specs.Machine.{seen_file}
-use Rattle.cms_session.specs.declared.state.Disk.{Disk}
-use Rattle.cms_session.specs.Calls.{file_in, seen_as}
+use Rattle.cms_search.specs.Machine.{seen_file}
+use Rattle.cms_search.specs.Calls.{letter_of}
+use Rattle.cms_search.specs.declared.state.Disk.{Disk}
+use Rattle.cms_session.specs.Calls.{file_in}
 
 -- ---- names that are spelled the same are the same
 
@@ -153,7 +154,7 @@ opened j s m is =
     let o = open_ok s.disk image (volume_of s image) is.stands.opens in
     (entries_parts s.disk.bsize 2 _ s.files o.entries, opened_distinct s.disk image (volume_of s image) is.stands.opens)
 
-pub not_found : (j : Journal) (d : Disk) (name : Name) (m : Minidisk) → IsMinidisk j d.small m → IsPlaceOf (spelled name) d.small.files None → seen_file (seen_as d) name m ≡ None
+pub not_found : (j : Journal) (d : Disk) (name : Name) (m : Minidisk) → IsMinidisk j d.small m → IsPlaceOf (spelled name) d.small.files None → seen_file (letter_of d) name m ≡ None
 not_found j d name m is none =
     let files = files_are j d.small m is in
     let found : file_named name m.files ≡ None = ap (file_named name) files ∙ none_of_name (contents_image j d.small) name d.small.files none in
@@ -171,11 +172,11 @@ some_entry [] k within = absurd (omega (arith, within))
 some_entry (e ∷ es) k within = e
 
 pub hidden : (j : Journal) (d : Disk) (name : Name) (m : Minidisk) (k : ℕ) → HasParts name → IsMinidisk j d.small m → IsPlaceOf (spelled name) d.small.files (Some k)
-    → ((e : Entry) → (d.read_only && ((slice_index_or d.small.files k e).number == 0)) ≡ true) → seen_file (seen_as d) name m ≡ None
+    → ((e : Entry) → (d.read_only && ((slice_index_or d.small.files k e).number == 0)) ≡ true) → seen_file (letter_of d) name m ≡ None
 hidden j d name m k parts is place not_seen =
     let e = some_entry d.small.files k place.0 in
     rw (file_there j d name m k e parts is place, not_seen e) refl
 
 pub shown : (j : Journal) (d : Disk) (name : Name) (m : Minidisk) (k : ℕ) (e : Entry) → HasParts name → IsMinidisk j d.small m → IsPlaceOf (spelled name) d.small.files (Some k)
-    → (d.read_only && ((slice_index_or d.small.files k e).number == 0)) ≡ false → seen_file (seen_as d) name m ≡ Some (file_in (contents_image j d.small) (slice_index_or d.small.files k e))
+    → (d.read_only && ((slice_index_or d.small.files k e).number == 0)) ≡ false → seen_file (letter_of d) name m ≡ Some (file_in (contents_image j d.small) (slice_index_or d.small.files k e))
 shown j d name m k e parts is place seen = rw (file_there j d name m k e parts is place, seen) refl

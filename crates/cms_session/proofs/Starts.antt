@@ -21,9 +21,9 @@ use Rattle.cms_model.proofs.Settling.{untouched_starts}
 use Rattle.cms_machine.specs.Slots.{Settled}
 use Rattle.cms_machine.specs.Points.{LeavesIn, HasNowIn}
 use Rattle.cms_model.specs.LawsSizes.{IsWhole}
-use Rattle.cms_session.proofs.Holding.{some_same}
+use Rattle.cms_search.proofs.Holding.{some_same}
 use Rattle.cms_machine.specs.Steps.{Access, Outcome, Good, ReadFault, faults_in}
-use Rattle.cms_machine.specs.Acts.{Done}
+use Rattle.cms_machine.specs.Acts.{Act, Done}
 use Rattle.cms_machine.specs.Runs.{Ran}
 use Rattle.cms_machine.proofs.Lists.{lt_or_le}
 use Rattle.cms_machine.proofs.Join.{ran_none}
@@ -31,13 +31,16 @@ use Rattle.cms_machine.proofs.Single.{ran_still}
 use Rattle.cms_edf.specs.Small.{SmallVolume, HasNoLabel, IsNotBuilt, StandsIn, Answers, IsMinidisk, is_small, volume_of, contents_image}
 use Rattle.cms_edf.specs.declared.small.SmallFault.{SmallFault}
 use Rattle.cms_edf.specs.declared.small.SmallFault.TheVariants.{NoVolume, NotBuilt}
-use Rattle.cms_session.specs.Machine.{DiskA, Machine, session_on, found_on, accessed, started}
-use Rattle.cms_session.specs.Calls.{IsCovered, HoldsIn, seen_disk, session_tree}
-use Rattle.cms_session.specs.Headline.{fresh, settled, start_point, start_tree}
-use Rattle.cms_session.specs.Sessions.{device_of, start_on, IsAlone, FoundAs}
+use Rattle.std.specs.Prelude.{option_map}
+use Rattle.cms_search.specs.Machine.{Letter, Machine}
+use Rattle.cms_search.specs.Calls.{IsCovered, IsSeated, HoldsIn, letter_of}
+use Rattle.cms_search.specs.declared.state.Disk.{Disk}
+use Rattle.cms_session.specs.Machine.{run_lines, with_disk_a, found_on, accessed, device_191, started_on}
+use Rattle.cms_session.specs.Headline.{fresh, settled, start_machine, start_point, start_tree}
+use Rattle.cms_session.specs.Sessions.{device_of, start_on, lines_tree, IsAlone, FoundAs}
 use Rattle.cms_session.specs.Words.{UnitSpec}
-use Rattle.cms_session.specs.declared.state.Disk.{Disk}
-use Rattle.cms_session.specs.declared.state.Finish.TheVariants.{AtFault}
+use Rattle.cms_session.specs.declared.state.Finish.{Finish}
+use Rattle.cms_session.specs.declared.state.Finish.TheVariants.{DeviceFault}
 
 -- ---- the unit
 
@@ -126,13 +129,11 @@ small_state unit s number disk first_whole stands =
       ),
     )
 
-abbrev Holding : Attached → Disk → Type 0
-Holding unit d = (m : Minidisk) × ((slice_get (settled (unit ∷ [])) d.small.unit ≡ Some (Settled (Volume m))) × IsMinidisk (fresh (unit ∷ [])) d.small m)
-
 pub holds_disk : (unit : Attached) (disk : Disk) (m : Minidisk) → disk.small.unit ≡ 0 → first_state unit ≡ Volume m → IsMinidisk (fresh (unit ∷ [])) disk.small m → HoldsIn (fresh (unit ∷ [])) (Some disk) (settled (unit ∷ []))
 holds_disk unit disk m number state is = record {
   same = refl;
-  disk_a = λ d e. let same : disk ≡ d = cc in subst (Holding unit) same (m, (ap (slice_get (settled (unit ∷ []))) number ∙ ap (λ (st : State). Some (Settled st)) state, is));
+  disk_a = λ d e. let same : disk ≡ d = cc in subst (IsSeated (fresh (unit ∷ [])) (settled (unit ∷ []))) same
+      (record { minidisk = m; slot = ap (slice_get (settled (unit ∷ []))) number ∙ ap (λ (st : State). Some (Settled st)) state; is = is });
   others = λ u found e apart. covered_at (unit ∷ []) u found e;
 }
 
@@ -148,17 +149,24 @@ state_unlabelled disk image none = go (nat_le 6 disk.count) refl none
 
 -- ---- the tree
 
-pub device_none : (spec : UnitSpec) → spec.vdev ≢ 0x191 → device_of spec ≡ None
+abbrev first_letter : UnitSpec → Option Letter
+first_letter spec = device_191 0 (device_of spec ∷ [])
+
+device_none : (spec : UnitSpec) → spec.vdev ≢ 0x191 → first_letter spec ≡ None
 device_none spec other = elim (eqb_tells spec.vdev 0x191) [ inl same ↦ absurd (other same.1) | inr e ↦ let f : (spec.vdev == 0x191) ≡ false = e.0 in rw f refl ]
 
-abbrev pub disk_a_of : UnitSpec → DiskA
-disk_a_of spec = record { unit = 0; read_only = not (may_write spec.access) }
+abbrev pub disk_a_of : UnitSpec → Letter
+disk_a_of spec = record { unit = 0; parent = None; read_only = not (may_write spec.access) }
 
-pub device_is : (spec : UnitSpec) → spec.vdev ≡ 0x191 → device_of spec ≡ Some (disk_a_of spec)
+device_is : (spec : UnitSpec) → spec.vdev ≡ 0x191 → first_letter spec ≡ Some (disk_a_of spec)
 device_is spec e = rw e refl
 
-abbrev pub first_machine : Attached → Machine
-first_machine unit = record { units = settled (unit ∷ []); disk_a = None; left = 1000000 }
+abbrev machine_on : UnitSpec → Attached → Machine
+machine_on spec unit = start_machine (start_on spec unit 0)
+
+-- the lines of a session on the unit
+abbrev pub lines_on : UnitSpec → Attached → Option Disk → Act Finish
+lines_on spec unit disk = lines_tree (device_of spec) disk (settled (unit ∷ []))
 
 counted_none : (before now : ℕ) → before ≤ now → Counted before (faults_in (Good ∷ [])) now
 counted_none before now later = record { later = later; rose = inl (omega (arith, later)) }
@@ -171,29 +179,29 @@ counted_one before now later rose = record {
 
 -- nothing was accessed
 pub ran_no_device : (spec : UnitSpec) (unit : Attached) (before : ℕ) → spec.vdev ≢ 0x191
-    → Ran (start_point (start_on spec unit before)) (start_point (start_on spec unit before)) (start_tree (start_on spec unit before)) (session_tree None 1000000 (settled (unit ∷ [])))
+    → Ran (start_point (start_on spec unit before)) (start_point (start_on spec unit before)) (start_tree (start_on spec unit before)) (lines_on spec unit None)
 ran_no_device spec unit before other =
-    subst (λ (device : Option DiskA). Ran (start_point (start_on spec unit before)) (start_point (start_on spec unit before)) (started (first_machine unit) device) (session_tree None 1000000 (settled (unit ∷ [])))) (sym (device_none spec other))
-    (ran_none (start_point (start_on spec unit before)) (session_tree None 1000000 (settled (unit ∷ []))))
+    subst (λ (letter : Option Letter). Ran (start_point (start_on spec unit before)) (start_point (start_on spec unit before)) (started_on (machine_on spec unit) letter) (lines_on spec unit None)) (sym (device_none spec other))
+    (ran_none (start_point (start_on spec unit before)) (lines_on spec unit None))
 
 -- the unit was accessed, with this outcome
 ran_access : (spec : UnitSpec) (unit : Attached) (before now : ℕ) (o : Outcome) → spec.vdev ≡ 0x191 → (o ≡ Good) ⊎ (o ≡ ReadFault 0) → Counted before (faults_in (o ∷ [])) now
-    → Ran (start_point (start_on spec unit before)) (start_point (start_on spec unit now)) (start_tree (start_on spec unit before)) (accessed (first_machine unit) (disk_a_of spec) (Settled (first_state unit)) o)
+    → Ran (start_point (start_on spec unit before)) (start_point (start_on spec unit now)) (start_tree (start_on spec unit before)) (accessed (machine_on spec unit) (disk_a_of spec) (Settled (first_state unit)) o)
 ran_access spec unit before now o device may counted =
-    subst (λ (d : Option DiskA). Ran (start_point (start_on spec unit before)) (start_point (start_on spec unit now)) (started (first_machine unit) d) (accessed (first_machine unit) (disk_a_of spec) (Settled (first_state unit)) o)) (sym (device_is spec device))
-    (ran_still (start_point (start_on spec unit before)) (start_point (start_on spec unit now)) (Access 0 (Settled (first_state unit))) o (accessed (first_machine unit) (disk_a_of spec) (Settled (first_state unit))) refl counted refl
+    subst (λ (d : Option Letter). Ran (start_point (start_on spec unit before)) (start_point (start_on spec unit now)) (started_on (machine_on spec unit) d) (accessed (machine_on spec unit) (disk_a_of spec) (Settled (first_state unit)) o)) (sym (device_is spec device))
+    (ran_still (start_point (start_on spec unit before)) (start_point (start_on spec unit now)) (Access 0 (Settled (first_state unit))) o (accessed (machine_on spec unit) (disk_a_of spec) (Settled (first_state unit))) refl counted refl
     (⊎_elim (λ (e : o ≡ Good). rw e tt) (λ (e : o ≡ ReadFault 0). rw e refl) may) refl refl refl (record { unread = refl; ended = refl }))
 
-pub ran_found : (spec : UnitSpec) (unit : Attached) (before now : ℕ) (state : State) (disk : Option Disk) → spec.vdev ≡ 0x191 → before ≤ now → first_state unit ≡ state → found_on (disk_a_of spec) (Settled state) ≡ seen_disk disk
-    → Ran (start_point (start_on spec unit before)) (start_point (start_on spec unit now)) (start_tree (start_on spec unit before)) (session_tree disk 1000000 (settled (unit ∷ [])))
+pub ran_found : (spec : UnitSpec) (unit : Attached) (before now : ℕ) (state : State) (disk : Option Disk) → spec.vdev ≡ 0x191 → before ≤ now → first_state unit ≡ state → found_on (disk_a_of spec) (Settled state) ≡ option_map letter_of disk
+    → Ran (start_point (start_on spec unit before)) (start_point (start_on spec unit now)) (start_tree (start_on spec unit before)) (lines_on spec unit disk)
 ran_found spec unit before now state disk device later is found =
-    subst (λ (d : Option DiskA). Ran (start_point (start_on spec unit before)) (start_point (start_on spec unit now)) (start_tree (start_on spec unit before)) (session_on (first_machine unit) d))
+    subst (λ (d : Option Letter). Ran (start_point (start_on spec unit before)) (start_point (start_on spec unit now)) (start_tree (start_on spec unit before)) (run_lines (with_disk_a (machine_on spec unit) d)))
     (ap (λ (st : State). found_on (disk_a_of spec) (Settled st)) is ∙ found)
     (ran_access spec unit before now Good device (inl refl) (counted_none before now later))
 
 -- the device failed
 pub ran_fault : (spec : UnitSpec) (unit : Attached) (before now : ℕ) → spec.vdev ≡ 0x191 → before ≤ now → Rose before now
-    → Ran (start_point (start_on spec unit before)) (start_point (start_on spec unit now)) (start_tree (start_on spec unit before)) (Done AtFault)
+    → Ran (start_point (start_on spec unit before)) (start_point (start_on spec unit now)) (start_tree (start_on spec unit before)) (Done DeviceFault)
 ran_fault spec unit before now device later rose = ran_access spec unit before now (ReadFault 0) device (inr refl) (counted_one before now later rose)
 
 -- ---- what was found
@@ -243,7 +251,8 @@ found_small spec unit told looked number before now small read_only device size 
     let answer = answered_at told looked number unit (Ok small) alone h in
     let found = small_state unit small answer.0 (sym answer.1) (whole_first unit sized alone.sizes) answer.2 in
     let disk : Disk = record { small = small; read_only = read_only } in
-    let same : found_on (disk_a_of spec) (Settled (Volume found.0)) ≡ seen_disk (Some disk) = ap (λ (d : DiskA). Some d) (ap (λ (n : ℕ). record { unit = n; read_only = not (may_write spec.access) }) (sym answer.0) ∙ ap (λ (b : Bool). record { unit = small.unit; read_only = b }) (sym access)) in
+    let letter : disk_a_of spec ≡ letter_of disk = ap (λ (n : ℕ). record (disk_a_of spec) { unit = n }) (sym answer.0) ∙ ap (λ (b : Bool). record (letter_of disk) { read_only = b }) (sym access) in
+    let same : found_on (disk_a_of spec) (Settled (Volume found.0)) ≡ option_map letter_of (Some disk) = ap (λ (d : Letter). Some d) letter in
     (holds_disk unit disk found.0 answer.0 found.1.0 found.1.1, λ u. built unit small (sym answer.1) answer.2 u.1, ran_found spec unit before now (Volume found.0) (Some disk) device later found.1.0 same)
 
 pub found_unlabelled : (spec : UnitSpec) (unit : Attached) (told : Told) (looked : LookedAt) (number before now : ℕ) → spec.vdev ≡ 0x191 → IsAlone told looked number unit → before ≤ now → Answered told looked number (Err NoVolume) → FoundAs spec unit before now (Ok None)

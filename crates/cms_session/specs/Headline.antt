@@ -1,5 +1,6 @@
 -- The headline: a session on a unit is a run of the machine.
-use Rattle.std.specs.Prelude.{◌≡◌, ◌⊎◌, ℕ, false, List, [], ◌∷◌, ◌++◌, length, map, slice_get, Option, Some, None}
+use Rattle.std.specs.Prelude.{◌≡◌, ◌⊎◌, ℕ, ℤ, pos, false, ◌||◌, List, [], ◌∷◌, ◌++◌, length, map, replicate, slice_get, Option, Some, None, is_some}
+use Rattle.std.specs.FinMap.{empty}
 use Rattle.cms_journal.specs.declared.event.Event.{Event}
 use Rattle.cms_journal.specs.declared.event.Event.TheVariants.{Read}
 use Rattle.cms_journal.specs.declared.event.Attached.{Attached}
@@ -17,9 +18,12 @@ use Rattle.cms_machine.specs.Feeds.{Fed, Over, Waits, WaitsBehind}
 use Rattle.cms_machine.specs.Points.{Leaves, HasNow, Point}
 use Rattle.cms_machine.specs.Beats.{outcomes}
 use Rattle.cms_machine.specs.Runs.{Broke, events_of}
-use Rattle.cms_session.specs.Machine.{DiskA, machine, started}
+use Rattle.cms_fields.specs.Moments.{moment_of}
+use Rattle.cms_search.specs.Machine.{Letter, Machine}
+use Rattle.cms_search.specs.declared.state.Device.{Device}
+use Rattle.cms_session.specs.Machine.{machine, started}
 use Rattle.cms_session.specs.declared.state.Finish.{Finish}
-use Rattle.cms_session.specs.declared.state.Finish.TheVariants.{AtEnd, AtTurns, AtRefusal, AtFault}
+use Rattle.cms_session.specs.declared.state.Finish.TheVariants as finish
 use Rattle.cms_session.specs.declared.status.Status.{Status}
 use Rattle.cms_session.specs.declared.status.Status.TheVariants.{Done, Usage, Memory, World, Turns, NotBuilt}
 
@@ -42,41 +46,73 @@ fresh units = record { units = units; events = [] }
 abbrev pub settled : List Attached → List Slot
 settled units = map (λ unit. Settled (state_of (disk_of unit) (image_of unit.start))) units
 
--- how a session starts: its units, the one among them that is device 191, the turns, and the count of device faults
+-- how a session starts: its units and their devices, the turns, by how many seconds civil time is ahead of UTC, a script that is given
+-- in place of the world's, and the count of device faults
 pub record Start : Type 0 where
   pub units : List Attached
-  pub device : Option DiskA
+  pub devices : List Device
   pub turns : ℕ
+  pub offset : ℤ
+  pub given : Option (List ℕ)
   pub faults : ℕ
 
--- a point at which nothing of the script was read
-abbrev pub first_point : Told → ℕ → List Slot → Point
-first_point told faults units = record { journal = told; faults = faults; units = units; unread = record { within = 0; bytes = [] }; ended = false }
+-- the bytes of a script that is given
+abbrev pub given_bytes : Option (List ℕ) → List ℕ
+given_bytes None = []
+given_bytes (Some bytes) = bytes
+
+-- a point at which nothing of the world's script was read; a script that is given is read, and ended
+abbrev pub first_point : Told → ℕ → List Slot → Option (List ℕ) → Point
+first_point told faults units given = record {
+  journal = told;
+  faults = faults;
+  units = units;
+  unread = record { within = 0; bytes = given_bytes given };
+  ended = is_some given;
+}
+
+-- the machine with no turn spent, these letters, no line stacked and no place kept
+abbrev pub first_machine : List Slot → List Device → List (Option Letter) → ℤ → ℕ → Machine
+first_machine units devices letters offset turns = record {
+  units = units;
+  devices = devices;
+  letters = letters;
+  stack = [];
+  places = empty;
+  offset = offset;
+  moment = moment_of (pos 0) offset;
+  left = turns;
+}
 
 abbrev pub start_point : Start → Point
-start_point s = first_point (Some (fresh s.units)) s.faults (settled s.units)
+start_point s = first_point (Some (fresh s.units)) s.faults (settled s.units) s.given
+
+abbrev pub start_machine : Start → Machine
+start_machine s = first_machine (settled s.units) s.devices (None ∷ replicate 25 None) s.offset s.turns
 
 abbrev pub start_tree : Start → Act Finish
-start_tree s = started (record { units = settled s.units; disk_a = None; left = s.turns }) s.device
+start_tree s = started (start_machine s)
 
 -- the machine on what these events told
 abbrev pub run_on : Start → List Event → List Outcome → Fed Finish
-run_on s events os = machine (settled s.units) s.device s.turns (script events) (is_over events) (moments events) os
+run_on s events os = machine (start_machine s) (given_bytes s.given ++ script events) (is_some s.given || is_over events)
+    (moments events) os
 
 -- the machine where the script goes on behind these bytes
 abbrev pub run_before : Start → List ℕ → List Event → List Outcome → Fed Finish
-run_before s bytes events os = machine (settled s.units) s.device s.turns bytes false (moments events) os
+run_before s bytes events os = machine (start_machine s) (given_bytes s.given ++ bytes) false (moments events) os
 
 -- ---- the end
 
 -- the machine came to this end, with these units: all bytes of its trace are typed, each of its turns has a moment, the sets of its
 -- units are the last of the trace, and a crash leaves each unit in a state of its set
-pub record Came (s : Start) (events : List Event) (fed : Fed Finish) (units : List Slot) (finish : Finish) : Type 0 where
-  pub close : fed.close ≡ Over finish
+pub record Came (s : Start) (events : List Event) (fed : Fed Finish) (units : List Slot) (end : Finish) : Type 0 where
+  pub close : fed.close ≡ Over end
   pub bytes : bytes_of fed.trace ≡ typed events
   pub turns : turns_of fed.trace ≡ length (moments events)
   pub sets : (u : ℕ) → unit_set units u ≡ last_set u (unit_set (settled s.units) u) fed.trace
-  pub states : (u : ℕ) (x : State) → Leaves (plus (Some (fresh s.units)) events) u x → IsAmong x (last_set u (unit_set (settled s.units) u) fed.trace)
+  pub states : (u : ℕ) (x : State) → Leaves (plus (Some (fresh s.units)) events) u x
+      → IsAmong x (last_set u (unit_set (settled s.units) u) fed.trace)
 
 -- the bytes typed are the first of the machine's
 abbrev pub Begins : List Event → Fed Finish → Type 0
@@ -84,10 +120,10 @@ Begins events fed = (more : List ℕ) × (typed events ++ more ≡ bytes_of fed.
 
 -- the status tells the machine's end, or where the session was cut off; edges are the counts before and now
 abbrev pub EndsAs : Start → List Event → Fed Finish → List Slot → ℕ → ℕ → Status → Type 0
-EndsAs s events fed units before now Done = Came s events fed units AtEnd
-EndsAs s events fed units before now Turns = Came s events fed units AtTurns
-EndsAs s events fed units before now NotBuilt = Came s events fed units AtRefusal
-EndsAs s events fed units before now World = Came s events fed units AtFault ⊎ (Begins events fed × Rose before now)
+EndsAs s events fed units before now Done = Came s events fed units finish.AtEnd
+EndsAs s events fed units before now Turns = Came s events fed units finish.AtTurns
+EndsAs s events fed units before now NotBuilt = Came s events fed units finish.NotBuilt
+EndsAs s events fed units before now World = Came s events fed units finish.DeviceFault ⊎ (Begins events fed × Rose before now)
 EndsAs s events fed units before now Memory = Begins events fed
 EndsAs s events fed units before now (Usage fault) = ⊥
 
@@ -130,8 +166,12 @@ pub record Headline (s : Start) (before now : Seen) (status : Status) : Type 0 w
       (front rest : List Event) → front ++ rest ≡ events → (u : ℕ) (x : State) → Leaves (plus (Some (fresh s.units)) front) u x
       → At (run_on s events outcomes).trace (length (typed front)) u (unit_set (settled s.units) u) x
   -- at each read the machine waits for the script, and all its bytes are typed
-  pub waits : (front rest : List Event) (bytes : List ℕ) → front ++ Read bytes ∷ rest ≡ events → Waits (run_before s (script front) front outcomes) (typed front)
+  pub waits : (front rest : List Event) (bytes : List ℕ) → front ++ Read bytes ∷ rest ≡ events
+      → Waits (run_before s (script front) front outcomes) (typed front)
+  -- no read comes where the script is given
+  pub given : (front rest : List Event) (bytes : List ℕ) → front ++ Read bytes ∷ rest ≡ events → s.given ≡ None
   -- so it does on a front of the script told by then, as that up to its last line feed
   pub waits_before :
-      (front rest : List Event) (bytes : List ℕ) → front ++ Read bytes ∷ rest ≡ events → (early later : List ℕ) → early ++ later ≡ script front
+      (front rest : List Event) (bytes : List ℕ) → front ++ Read bytes ∷ rest ≡ events → (early later : List ℕ)
+      → early ++ later ≡ script front
       → WaitsBehind (run_before s early front outcomes) (typed front)

@@ -21,7 +21,8 @@ EndsLikeMachine =
 -- where no call on a unit failed every outcome is good
 abbrev pub FaultsAreCounted : Type 0
 FaultsAreCounted =
-    (s : Start) (before now : Seen) (status : Status) (h : Headline s before now status) → (Rose before.faults now.faults → ⊥) → faults_in h.outcomes ≡ 0
+    (s : Start) (before now : Seen) (status : Status) (h : Headline s before now status) → (Rose before.faults now.faults → ⊥)
+    → faults_in h.outcomes ≡ 0
 
 -- at every status a crash leaves each unit that isn't in doubt in one state
 abbrev pub SettledIsOne : Type 0

@@ -1,206 +1,142 @@
 -- The machine: minidisks as lists of named record lists, and what a session does with them. No block occurs here.
-use Rattle.std.specs.Prelude.{ℕ, zero, suc, ◌+◌, ◌/◌, ◌%◌, ◌^◌, ℤ, pos, negsuc, Bool, true, false, not, if◌then◌else◌, ◌==◌, nat_lt, ◌&&◌, List, [], ◌∷◌, ◌++◌, take, length, Option, Some, None, slice_get, is_some}
+use Rattle.std.specs.Prelude.{ℕ, zero, suc, ◌+◌, ℤ, pos, Bool, true, false, not, if◌then◌else◌, ◌==◌, List, [], ◌∷◌, take, length, replicate, Option, Some, None, slice_get, is_some}
 use Rattle.std.specs.Option.{option_and_then}
 use Rattle.cms_names.specs.declared.name.Name.{Name}
-use Rattle.cms_fields.specs.Moments.{moment_of, stamp_of}
+use Rattle.cms_fields.specs.Moments.{stamp_of}
 use Rattle.cms_fields.specs.declared.time.Stamp.{Stamp}
 use Rattle.cms_model.specs.Minidisks.{File, Minidisk, Volume, Not}
 use Rattle.cms_model.specs.Changes.{Drop, Answer, Limited, Full, Changed, answer_of, file_named}
 use Rattle.cms_machine.specs.Slots.{Slot, Settled, Doubt}
-use Rattle.cms_machine.specs.Steps.{Step, Access, Get, Put, Outcome, Good, ReadFault, SyncFault, OldFault, EitherFault, units_after}
+use Rattle.cms_machine.specs.Steps.{Step, Access, Get, Put, Outcome, Good, ReadFault, SyncFault, OldFault, EitherFault}
 use Rattle.cms_machine.specs.Items.{Item, items}
 use Rattle.cms_machine.specs.Acts.{Act, Done, Out, Take, Turn, Does, bind, typed_line}
 use Rattle.cms_machine.specs.Feeds.{Fed, feed}
-use Rattle.cms_text.specs.Numbers.{decimal_of}
-use Rattle.cms_line.specs.declared.message.Message.{Message}
 use Rattle.cms_line.specs.declared.message.Message.TheVariants.{M002, M037, M069, M107}
-use Rattle.cms_line.specs.Messages.{message_text}
+use Rattle.cms_text.specs.Numbers.{decimal_of}
+use Rattle.cms_search.specs.Machine.{Letter, Machine, turned, after_step, letter_at, minidisk_in, seen_file, Course, Went, DeviceFault, refusal, typing}
+use Rattle.cms_search.specs.Ready.{ready_line}
+use Rattle.cms_search.specs.declared.state.Device.{Device}
 use Rattle.cms_session.specs.Commands.{command_of, type_word, erase_word, exec_word, letter_a}
-use Rattle.cms_session.specs.declared.command.Command.{Command}
-use Rattle.cms_session.specs.declared.command.Command.TheVariants.{Nothing, TypeFile, EraseFile, NotBuilt}
+use Rattle.cms_session.specs.declared.command.Command as asked
+use Rattle.cms_session.specs.declared.command.Command.TheVariants as command
 use Rattle.cms_session.specs.declared.state.Finish.{Finish}
-use Rattle.cms_session.specs.declared.state.Finish.TheVariants.{AtEnd, AtTurns, AtRefusal, AtFault}
-
--- disk A: its unit, and whether it is read-only
-pub record DiskA : Type 0 where
-  pub unit : ℕ
-  pub read_only : Bool
-
--- what the machine knows: its units, disk A where it is accessed, and the turns left
-pub record Machine : Type 0 where
-  pub units : List Slot
-  pub disk_a : Option DiskA
-  pub left : ℕ
-
--- ---- what is typed
-
--- n decimal digits of a number, in EBCDIC
-unfoldable pub digits_of : ℕ → ℕ → List ℕ
-digits_of zero n = []
-digits_of (suc k) n = (0xF0 + n / 10 ^ k % 10) ∷ digits_of k n
-
--- a return code in five places, the first of which is the sign of a negative one
-unfoldable pub code_places : ℤ → List ℕ
-code_places (pos n) = digits_of 5 n
-code_places (negsuc n) = 0x60 ∷ digits_of 4 (suc n)
-
--- R( and the code and );
-abbrev pub ready_with : ℤ → List ℕ
-ready_with code = 0xD9 ∷ 0x4D ∷ (code_places code ++ 0x5D ∷ 0x5E ∷ [])
-
--- R; where the code is 0
-unfoldable pub ready_line : ℤ → List ℕ
-ready_line (pos zero) = 0xD9 ∷ 0x5E ∷ []
-ready_line (pos (suc n)) = ready_with (pos (suc n))
-ready_line (negsuc n) = ready_with (negsuc n)
+use Rattle.cms_session.specs.declared.state.Finish.TheVariants as finish
 
 -- ---- commands
 
--- how a command ends: with the machine that it leaves and a return code, or stopped by a device's fault
-pub data Course : Type 0 where
-  Went : Machine → ℤ → Course
-  Stopped : Course
+abbrev pub no_disk : Machine → Act Course
+no_disk s = refusal s (M069 letter_a) 36
 
--- a message, and the code
-abbrev pub told : Machine → Message → ℕ → Act Course
-told s message code = Out (typed_line (message_text message)) (Done (Went s (pos code)))
-
--- a file of mode number 0 isn't seen on a read-only disk
-abbrev pub is_seen : DiskA → File → Bool
-is_seen disk f = not (disk.read_only && (f.number == 0))
-
--- the file of a name that is seen
-abbrev pub seen_file : DiskA → Name → Minidisk → Option File
-seen_file disk name m = option_and_then (λ f. if is_seen disk f then Some f else None) (file_named name m.files)
-
--- the minidisk of disk A
-abbrev pub minidisk_in : Option Slot → Option Minidisk
-minidisk_in (Some (Settled (Volume m))) = Some m
-minidisk_in (Some (Settled (Not k))) = None
-minidisk_in (Some (Doubt before after side)) = None
-minidisk_in None = None
-
--- each record is a line
-unfoldable pub typing : {R : Type 0} → List (List ℕ) → Act R → Act R
-typing [] next = next
-typing (text ∷ more) next = Out (typed_line text) (typing more next)
+abbrev pub no_file : Machine → Name → Act Course
+no_file s name = refusal s (M002 name.file name.kind letter_a) 28
 
 -- the records of a file are typed as they are handed out
 abbrev pub type_outcome : Machine → File → Outcome → Act Course
 type_outcome s f Good = typing f.records (Done (Went s (pos 0)))
-type_outcome s f (ReadFault j) = typing (take j f.records) (Done Stopped)
-type_outcome s f SyncFault = Done Stopped
-type_outcome s f OldFault = Done Stopped
-type_outcome s f (EitherFault side) = Done Stopped
+type_outcome s f (ReadFault j) = typing (take j f.records) (Done DeviceFault)
+type_outcome s f SyncFault = Done DeviceFault
+type_outcome s f OldFault = Done DeviceFault
+type_outcome s f (EitherFault side) = Done DeviceFault
 
-abbrev pub no_disk : Machine → Act Course
-no_disk s = told s (M069 letter_a) 36
-
-abbrev pub no_file : Machine → Name → Act Course
-no_file s name = told s (M002 name.file name.kind letter_a) 28
-
-abbrev pub type_found : Machine → DiskA → Name → Option File → Act Course
+abbrev pub type_found : Machine → Letter → Name → Option File → Act Course
 type_found s disk name None = no_file s name
 type_found s disk name (Some f) = Does (Get disk.unit f (length f.records)) (type_outcome s f)
 
-abbrev pub type_on : Machine → DiskA → Name → Option Minidisk → Act Course
-type_on s disk name None = no_disk s
-type_on s disk name (Some m) = type_found s disk name (seen_file disk name m)
+abbrev pub type_in : Machine → Letter → Name → Option Minidisk → Act Course
+type_in s disk name None = no_disk s
+type_in s disk name (Some m) = type_found s disk name (seen_file disk name m)
+
+abbrev pub type_on : Machine → Name → Option Letter → Act Course
+type_on s name None = no_disk s
+type_on s name (Some disk) = type_in s disk name (minidisk_in (slice_get s.units disk.unit))
 
 -- TYPE fn ft A
-abbrev pub type_file : Machine → Name → Option DiskA → Act Course
-type_file s name None = no_disk s
-type_file s name (Some disk) = type_on s disk name (minidisk_in (slice_get s.units disk.unit))
-
--- the machine after a step
-abbrev pub after_step : Machine → Step → Outcome → Machine
-after_step s step o = record s { units = units_after s.units step o }
+abbrev pub type_file : Machine → Name → Act Course
+type_file s name = type_on s name (letter_at s 0)
 
 -- what an erasure whose step was good comes to; it passes no limit
 abbrev pub erased : Machine → Step → Answer → Act Course
 erased s step (Changed m) = Done (Went (after_step s step Good) (pos 0))
-erased s step (Full need free) = told s (M107 letter_a (decimal_of need) (decimal_of free)) 100
-erased s step (Limited k) = Done Stopped
+erased s step (Full need free) = refusal s (M107 letter_a (decimal_of need) (decimal_of free)) 100
+erased s step (Limited k) = Done DeviceFault
 
 abbrev pub erase_outcome : Machine → Step → Answer → Outcome → Act Course
 erase_outcome s step answer Good = erased s step answer
-erase_outcome s step answer (ReadFault j) = Done Stopped
-erase_outcome s step answer SyncFault = Done Stopped
-erase_outcome s step answer OldFault = Done Stopped
-erase_outcome s step answer (EitherFault side) = Done Stopped
+erase_outcome s step answer (ReadFault j) = Done DeviceFault
+erase_outcome s step answer SyncFault = Done DeviceFault
+erase_outcome s step answer OldFault = Done DeviceFault
+erase_outcome s step answer (EitherFault side) = Done DeviceFault
 
 -- a file of this name goes, with this stamp of the directory
 abbrev pub drop_step : ℕ → Minidisk → Name → Stamp → Step
 drop_step unit m name stamp = Put unit m (Drop name) stamp
 
-abbrev pub dropping : Machine → ℕ → Minidisk → Name → Stamp → Act Course
-dropping s unit m name stamp = Does (drop_step unit m name stamp) (erase_outcome s (drop_step unit m name stamp) (answer_of m (Drop name)))
+abbrev pub dropping : Machine → ℕ → Minidisk → Name → Act Course
+dropping s unit m name = Does (drop_step unit m name (stamp_of s.moment)) (erase_outcome s (drop_step unit m name (stamp_of s.moment))
+    (answer_of m (Drop name)))
 
-abbrev pub erase_found : Machine → DiskA → Minidisk → Name → Stamp → Option File → Act Course
-erase_found s disk m name stamp None = no_file s name
-erase_found s disk m name stamp (Some f) = dropping s disk.unit m name stamp
+abbrev pub erase_found : Machine → Letter → Minidisk → Name → Option File → Act Course
+erase_found s disk m name None = no_file s name
+erase_found s disk m name (Some f) = dropping s disk.unit m name
 
 abbrev pub no_writing : Machine → Act Course
-no_writing s = told s (M037 letter_a) 36
+no_writing s = refusal s (M037 letter_a) 36
 
-abbrev pub erase_on : Machine → DiskA → Name → Stamp → Option Minidisk → Act Course
-erase_on s disk name stamp None = no_disk s
-erase_on s disk name stamp (Some m) = if disk.read_only then no_writing s else erase_found s disk m name stamp (file_named name m.files)
+abbrev pub erase_in : Machine → Letter → Name → Option Minidisk → Act Course
+erase_in s disk name None = no_disk s
+erase_in s disk name (Some m) = if disk.read_only then no_writing s else erase_found s disk m name (file_named name m.files)
 
--- ERASE fn ft A, with the stamp of its turn
-abbrev pub erase_file : Machine → Name → Stamp → Option DiskA → Act Course
-erase_file s name stamp None = no_disk s
-erase_file s name stamp (Some disk) = erase_on s disk name stamp (minidisk_in (slice_get s.units disk.unit))
+abbrev pub erase_on : Machine → Name → Option Letter → Act Course
+erase_on s name None = no_disk s
+erase_on s name (Some disk) = erase_in s disk name (minidisk_in (slice_get s.units disk.unit))
+
+-- ERASE fn ft A; the directory has the stamp of the turn's moment
+abbrev pub erase_file : Machine → Name → Act Course
+erase_file s name = erase_on s name (letter_at s 0)
 
 -- ---- rounds
 
--- how a round ends: the script is at its end; no turns are left; the line isn't built yet; a device failed; or another may
--- follow
+-- how a round ends: so that the session ends, or another may follow
 pub data Round : Type 0 where
-  Finished : Round
-  NoTurns : Round
-  Refused : Round
-  Failed : Round
+  Ended : Finish → Round
   Ready : Machine → Round
 
 -- a procedure has the name of the command's word: a file of that name and type EXEC is seen on disk A
-abbrev pub is_procedure : Machine → List ℕ → Option DiskA → Bool
-is_procedure s word None = false
-is_procedure s word (Some disk) =
-    is_some (option_and_then (seen_file disk (record { file = word; kind = exec_word })) (minidisk_in (slice_get s.units disk.unit)))
+abbrev pub is_procedure_on : List Slot → List ℕ → Option Letter → Bool
+is_procedure_on units word None = false
+is_procedure_on units word (Some disk) =
+    is_some (option_and_then (seen_file disk (record { file = word; kind = exec_word })) (minidisk_in (slice_get units disk.unit)))
+
+abbrev pub is_procedure : Machine → List ℕ → Bool
+is_procedure s word = is_procedure_on s.units word (letter_at s 0)
 
 -- the ready line
 abbrev pub readied : Course → Act Round
 readied (Went s code) = Out (typed_line (ready_line code)) (Done (Ready s))
-readied Stopped = Done Failed
+readied DeviceFault = Done (Ended finish.DeviceFault)
 
 abbrev pub unless_procedure : Bool → Act Round → Act Round
-unless_procedure true next = Done Refused
+unless_procedure true next = Done (Ended finish.NotBuilt)
 unless_procedure false next = next
 
--- what a line asks for, with the stamp of its turn
-abbrev pub run_command : Machine → Command → Stamp → Act Round
-run_command s Nothing stamp = Done (Ready s)
-run_command s (TypeFile name) stamp = unless_procedure (is_procedure s type_word s.disk_a) (bind (type_file s name s.disk_a) readied)
-run_command s (EraseFile name) stamp = unless_procedure (is_procedure s erase_word s.disk_a) (bind (erase_file s name stamp s.disk_a) readied)
-run_command s NotBuilt stamp = Done Refused
-
--- the stamp of a turn, by the seconds that the clock told; civil time is UTC
-abbrev pub stamp_at : ℤ → Stamp
-stamp_at seconds = stamp_of (moment_of seconds (pos 0))
+-- what a line asks for
+abbrev pub run_command : Machine → asked.Command → Act Round
+run_command s command.Nothing = Done (Ready s)
+run_command s (command.TypeFile name) = unless_procedure (is_procedure s type_word) (bind (type_file s name) readied)
+run_command s (command.EraseFile name) = unless_procedure (is_procedure s erase_word) (bind (erase_file s name) readied)
+run_command s command.NotBuilt = Done (Ended finish.NotBuilt)
 
 -- with the turn spent
-abbrev pub turned : List Slot → Option DiskA → ℕ → Item → ℤ → Act Round
-turned units disk_a left item seconds =
-    run_command (record { units = units; disk_a = disk_a; left = left }) (command_of item) (stamp_at seconds)
+abbrev pub on_line : Machine → ℕ → Item → ℤ → Act Round
+on_line s left item seconds = run_command (turned s left seconds) (command_of item)
 
-abbrev pub on_turn : List Slot → Option DiskA → Item → ℕ → Act Round
-on_turn units disk_a item zero = Done NoTurns
-on_turn units disk_a item (suc left) = Turn (turned units disk_a left item)
+abbrev pub on_turn : Machine → Item → ℕ → Act Round
+on_turn s item zero = Done (Ended finish.AtTurns)
+on_turn s item (suc left) = Turn (on_line s left item)
 
 abbrev pub on_item : Machine → Option Item → Act Round
-on_item s None = Done Finished
-on_item s (Some item) = on_turn s.units s.disk_a item s.left
+on_item s None = Done (Ended finish.AtEnd)
+on_item s (Some item) = on_turn s item s.left
 
 -- the next item is taken, a turn is spent, and what the line says is done
 abbrev pub round : Machine → Act Round
@@ -209,45 +145,54 @@ round s = Take (on_item s)
 -- ---- the session
 
 abbrev pub then_round : (Machine → Act Finish) → Round → Act Finish
-then_round next Finished = Done AtEnd
-then_round next NoTurns = Done AtTurns
-then_round next Refused = Done AtRefusal
-then_round next Failed = Done AtFault
+then_round next (Ended end) = Done end
 then_round next (Ready s) = next s
 
 -- so many rounds at most: each spends a turn, so one more than the turns is enough
 unfoldable pub session : ℕ → Machine → Act Finish
-session zero s = Done AtTurns
+session zero s = Done finish.AtTurns
 session (suc more) s = bind (round s) (then_round (session more))
 
--- with this disk A
-abbrev pub session_on : Machine → Option DiskA → Act Finish
-session_on s disk = session (suc s.left) (record { units = s.units; disk_a = disk; left = s.left })
+-- lines are run
+abbrev pub run_lines : Machine → Act Finish
+run_lines s = session (suc s.left) s
+
+-- with this disk as A, and no other
+abbrev pub with_disk_a : Machine → Option Letter → Machine
+with_disk_a s disk = record s { letters = disk ∷ replicate 25 None }
 
 -- the disk where its unit holds a minidisk
-abbrev pub found_on : DiskA → Slot → Option DiskA
+abbrev pub found_on : Letter → Slot → Option Letter
 found_on disk (Settled (Volume m)) = Some disk
 found_on disk (Settled (Not k)) = None
 found_on disk (Doubt before after side) = None
 
 -- after the access of the disk's unit
-abbrev pub accessed : Machine → DiskA → Slot → Outcome → Act Finish
-accessed s disk slot Good = session_on s (found_on disk slot)
-accessed s disk slot (ReadFault j) = Done AtFault
-accessed s disk slot SyncFault = Done AtFault
-accessed s disk slot OldFault = Done AtFault
-accessed s disk slot (EitherFault side) = Done AtFault
+abbrev pub accessed : Machine → Letter → Slot → Outcome → Act Finish
+accessed s disk slot Good = run_lines (with_disk_a s (found_on disk slot))
+accessed s disk slot (ReadFault j) = Done finish.DeviceFault
+accessed s disk slot SyncFault = Done finish.DeviceFault
+accessed s disk slot OldFault = Done finish.DeviceFault
+accessed s disk slot (EitherFault side) = Done finish.DeviceFault
 
-abbrev pub started_on : Machine → DiskA → Option Slot → Act Finish
-started_on s disk None = session_on s None
-started_on s disk (Some slot) = Does (Access disk.unit slot) (accessed s disk slot)
+abbrev pub access_first : Machine → Letter → Option Slot → Act Finish
+access_first s disk None = run_lines s
+access_first s disk (Some slot) = Does (Access disk.unit slot) (accessed s disk slot)
+
+-- the first of the devices, counted from a unit's number on, that is device 191: read-only where it may not be written
+abbrev pub device_191 : ℕ → List Device → Option Letter
+device_191 u [] = None
+device_191 u (d ∷ ds) = if d.vdev == 0x191 then Some (record { unit = u; parent = None; read_only = not d.writable }) else device_191
+    (u + 1) ds
+
+abbrev pub started_on : Machine → Option Letter → Act Finish
+started_on s None = run_lines s
+started_on s (Some disk) = access_first s disk (slice_get s.units disk.unit)
 
 -- where a unit is device 191 it is accessed as A without a message, and then lines are run
-abbrev pub started : Machine → Option DiskA → Act Finish
-started s None = session_on s None
-started s (Some disk) = started_on s disk (slice_get s.units disk.unit)
+abbrev pub started : Machine → Act Finish
+started s = started_on s (device_191 0 s.devices)
 
--- the machine with these units, and with that of device 191, on what was told of the script and of the clock, with these outcomes
-unfoldable pub machine : List Slot → Option DiskA → ℕ → List ℕ → Bool → List ℤ → List Outcome → Fed Finish
-machine units device turns script ended seconds outcomes =
-    feed (started (record { units = units; disk_a = None; left = turns }) device) (items (record { within = 0; bytes = script }) ended) ended seconds outcomes
+-- the machine from a start, on what was told of the script and of the clock, with these outcomes
+unfoldable pub machine : Machine → List ℕ → Bool → List ℤ → List Outcome → Fed Finish
+machine s script ended seconds outcomes = feed (started s) (items (record { within = 0; bytes = script }) ended) ended seconds outcomes

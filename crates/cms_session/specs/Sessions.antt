@@ -1,5 +1,5 @@
 -- What a call of the session's top does.
-use Rattle.std.specs.Prelude.{⊤, ◌≡◌, ◌≢◌, ◌⊎◌, ◌≤◌, ℕ, ◌==◌, if◌then◌else◌, not, [], ◌∷◌, length, All, Option, Some, None, Result, Ok, Err}
+use Rattle.std.specs.Prelude.{⊤, ◌≡◌, ◌≢◌, ◌⊎◌, ◌≤◌, ℕ, pos, List, [], ◌∷◌, length, All, Option, Some, None, Result, Ok, Err}
 use Rattle.cms_journal.specs.declared.event.Event.TheVariants.{Missed}
 use Rattle.cms_journal.specs.declared.event.Attached.{Attached}
 use Rattle.cms_journal.specs.Causes.{Rose}
@@ -13,18 +13,20 @@ use Rattle.cms_machine.specs.Acts as acts
 use Rattle.cms_machine.specs.Points.{Point}
 use Rattle.cms_machine.specs.Runs.{Ran, Broke}
 use Rattle.cms_edf.specs.Small.{IsNotBuilt}
-use Rattle.cms_session.specs.Machine.{DiskA}
-use Rattle.cms_session.specs.Calls.{Holds, session_tree}
+use Rattle.cms_search.specs.Calls.{letters_of, Holds}
+use Rattle.cms_search.specs.declared.state.Device.{Device}
+use Rattle.cms_search.specs.declared.state.Disk.{Disk}
+use Rattle.cms_machine.specs.Slots.{Slot}
+use Rattle.cms_session.specs.Machine.{run_lines}
 use Rattle.cms_session.specs.Words.{UnitSpec, Read}
 use Rattle.cms_session.specs.Words as words
-use Rattle.cms_session.specs.Headline.{Seen, Start, Headline, fresh, settled, start_point, start_tree}
+use Rattle.cms_session.specs.Headline.{Seen, Start, Headline, fresh, settled, first_machine, start_point, start_tree}
 use Rattle.cms_session.specs.declared.state.Finish.{Finish}
-use Rattle.cms_session.specs.declared.state.Finish.TheVariants.{AtEnd, AtTurns, AtRefusal, AtFault}
+use Rattle.cms_session.specs.declared.state.Finish.TheVariants as finish
 use Rattle.cms_session.specs.declared.status.Status.{Status}
 use Rattle.cms_session.specs.declared.status.Status.TheVariants.{Done, Usage, Memory, World, Turns, NotBuilt}
 use Rattle.cms_session.specs.declared.status.WordFault.{WordFault}
 use Rattle.cms_session.specs.declared.status.WordFault.TheVariants.{Syntax, Unit}
-use Rattle.cms_session.specs.declared.state.Disk.{Disk}
 
 -- ---- the words
 
@@ -44,13 +46,24 @@ RunsNone (words.OneUnit spec) = ⊥
 
 -- ---- the unit
 
--- of a unit word for device 191, disk A: the first unit, read-only where it may not be written
-abbrev pub device_of : UnitSpec → Option DiskA
-device_of spec = if spec.vdev == 0x191 then Some (record { unit = 0; read_only = not (may_write spec.access) }) else None
+-- the device of a unit word
+abbrev pub device_of : UnitSpec → Device
+device_of spec = record { vdev = spec.vdev; bsize = spec.bsize; writable = may_write spec.access }
 
 -- how a session on a unit starts
 abbrev pub start_on : UnitSpec → Attached → ℕ → Start
-start_on spec unit faults = record { units = unit ∷ []; device = device_of spec; turns = 1000000; faults = faults }
+start_on spec unit faults = record {
+  units = unit ∷ [];
+  devices = device_of spec ∷ [];
+  turns = 1000000;
+  offset = pos 0;
+  given = None;
+  faults = faults;
+}
+
+-- lines are run, with this disk A
+abbrev pub lines_tree : Device → Option Disk → List Slot → Act Finish
+lines_tree device disk units = run_lines (first_machine units (device ∷ []) (letters_of disk) (pos 0) 1000000)
 
 -- the unit is device 191, and its volume isn't built yet
 abbrev pub IsUnbuilt : UnitSpec → Attached → Type 0
@@ -93,10 +106,10 @@ pub record WorldCause (before now : Seen) (status : Status) : Type 0 where
 -- ---- the parts of the call
 
 abbrev pub status_of : Finish → Status
-status_of AtEnd = Done
-status_of AtTurns = Turns
-status_of AtRefusal = NotBuilt
-status_of AtFault = World
+status_of finish.AtEnd = Done
+status_of finish.AtTurns = Turns
+status_of finish.NotBuilt = NotBuilt
+status_of finish.DeviceFault = World
 
 -- a point is as the world shows
 pub record IsAsSeen (p : Point) (now : Seen) : Type 0 where
@@ -105,7 +118,7 @@ pub record IsAsSeen (p : Point) (now : Seen) : Type 0 where
 
 -- the tree came to this end
 abbrev pub CameTo : Point → Seen → Act Finish → Finish → Type 0
-CameTo p now tree finish = (q : Point) × (IsAsSeen q now × Ran p q tree (acts.Done finish))
+CameTo p now tree end = (q : Point) × (IsAsSeen q now × Ran p q tree (acts.Done end))
 
 -- or was cut off
 abbrev pub WasCut : Point → Seen → Act Finish → Type 0
@@ -113,10 +126,10 @@ WasCut p now tree = (q : Point) × (IsAsSeen q now × Broke p q tree)
 
 -- how the run of a tree from a point ended, with the count of edges before
 abbrev pub EndedAs : Point → ℕ → Seen → Act Finish → Status → Type 0
-EndedAs p edges now tree Done = CameTo p now tree AtEnd
-EndedAs p edges now tree Turns = CameTo p now tree AtTurns
-EndedAs p edges now tree NotBuilt = CameTo p now tree AtRefusal
-EndedAs p edges now tree World = CameTo p now tree AtFault ⊎ (WasCut p now tree × Rose edges now.edges)
+EndedAs p edges now tree Done = CameTo p now tree finish.AtEnd
+EndedAs p edges now tree Turns = CameTo p now tree finish.AtTurns
+EndedAs p edges now tree NotBuilt = CameTo p now tree finish.NotBuilt
+EndedAs p edges now tree World = CameTo p now tree finish.DeviceFault ⊎ (WasCut p now tree × Rose edges now.edges)
 EndedAs p edges now tree Memory = WasCut p now tree
 EndedAs p edges now tree (Usage fault) = ⊥
 
@@ -131,9 +144,12 @@ pub record IsAlone (told : Told) (disk : LookedAt) (number : ℕ) (unit : Attach
 abbrev pub FoundAs : UnitSpec → Attached → ℕ → ℕ → Result (Option Disk) Status → Type 0
 FoundAs spec unit before now (Ok disk) =
     Holds (Some (fresh (unit ∷ []))) disk (settled (unit ∷ [])) × (IsUnbuilt spec unit → ⊥)
-    × Ran (start_point (start_on spec unit before)) (start_point (start_on spec unit now)) (start_tree (start_on spec unit before)) (session_tree disk 1000000 (settled (unit ∷ [])))
+    × Ran (start_point (start_on spec unit before)) (start_point (start_on spec unit now)) (start_tree (start_on spec unit before))
+    (lines_tree (device_of spec) disk (settled (unit ∷ [])))
 FoundAs spec unit before now (Err NotBuilt) = IsUnbuilt spec unit
-FoundAs spec unit before now (Err World) = Ran (start_point (start_on spec unit before)) (start_point (start_on spec unit now)) (start_tree (start_on spec unit before)) (acts.Done AtFault)
+FoundAs spec unit before now (Err World) =
+    Ran (start_point (start_on spec unit before)) (start_point (start_on spec unit now)) (start_tree (start_on spec unit before))
+    (acts.Done finish.DeviceFault)
 FoundAs spec unit before now (Err Memory) = ⊤
 FoundAs spec unit before now (Err Done) = ⊥
 FoundAs spec unit before now (Err Turns) = ⊥

@@ -2,20 +2,22 @@
 ghost use Rattle.std.specs.Prelude.{◌≡◌, ◌≤◌, ◌<◌, ℕ, pos, List, Some, None, IfOk, OnOk, length, true};
 ghost use Rattle.cms_journal.specs.Causes.{Rose};
 ghost use Rattle.cms_fields.specs.Stamps.{is_stamp};
+ghost use Rattle.cms_fields.specs.Moments.{is_moment, stamp_of};
 ghost use Rattle.cms_line.specs.declared.message.Message.TheVariants.{M037, M107};
 ghost use Rattle.cms_session.specs.Commands.{letter_a};
 ghost use Rattle.cms_text.specs.Numbers.{decimal_of};
-ghost use Rattle.cms_session.specs.Calls.{spot, kept_disk, IsStamped, Acts, Usable, EndCause, course_of, erase_tree};
-ghost use Rattle.cms_session.specs.declared.state.Session.{Session};
-ghost use Rattle.cms_session.specs.declared.state.Course.TheVariants.{Went, Stopped};
+ghost use Rattle.cms_search.specs.Calls.{spot, Acts, Usable, EndCause, course_of};
+ghost use Rattle.cms_search.specs.declared.state.State.{State};
+ghost use Rattle.cms_search.specs.declared.state.Course.TheVariants.{Went, DeviceFault};
+ghost use Rattle.cms_session.specs.Calls.{kept_disk, IsStamped, erase_tree};
 
 use crate::command::LETTER_A;
-use crate::reading::{NOT_ACCESSED, NOT_FOUND, no_disk, no_file, refuse, seen_place, spelled};
-use crate::state::{Course, Disk, End, Session};
+use crate::reading::{NOT_ACCESSED, NOT_FOUND, no_disk, no_file, seen_place, spelled};
 use cms_edf::SmallErase;
 use cms_fields::Stamp;
 use cms_line::{Message, Word};
 use cms_names::Name;
+use cms_search::{Course, Disk, End, State, refuse};
 use cms_text::decimal;
 use cms_world::World;
 use std::alloc::{AllocError, Global};
@@ -51,12 +53,16 @@ fn erase_on<W: World>(
 ) -> Result<Course, End>
     requires usable { Usable (W.told world.old) (Some disk.old) }
     requires stamp { is_stamp stamp.now ≡ true }
-    ensures acts { (old new : Session) → old.disk_a ≡ Some disk.old → IfOk result (λ course. new.disk_a ≡ kept_disk course disk.new) → new.console ≡ old.console → Acts (spot (W.told world.old) (W.faults world.old) old) (spot (W.told world.new) (W.faults world.new) new) (erase_tree old.disk_a old.left name.now stamp.now) result (course_of new.disk_a old.left) }
+    ensures acts { (old new : State) → old.disk_a ≡ Some disk.old → IfOk result (λ course. new.disk_a ≡ kept_disk course disk.new)
+        → new ≡ record old { disk_a = new.disk_a } → stamp.now ≡ stamp_of old.moment
+        → Acts (spot (W.told world.old) (W.faults world.old) old) (spot (W.told world.new) (W.faults world.new) new)
+        (erase_tree old name.now) result (course_of new) }
     ensures usable { OnOk result (Usable (W.told world.new) (Some disk.new)) }
-    ensures stamped { IfOk result (λ course. course ≡ Went (pos 0) → IsStamped (W.told world.old) (W.told world.new) (Some disk.old) (Some disk.new) stamp.now) }
+    ensures stamped { IfOk result (λ course. course ≡ Went (pos 0)
+        → IsStamped (W.told world.old) (W.told world.new) (Some disk.old) (Some disk.new) stamp.now) }
     ensures cause { EndCause (W.edges world.old) (W.edges world.new) result }
     ensures faults { W.faults world.old ≤ W.faults world.new }
-    ensures fault { IfOk result (λ course. course ≡ Stopped → Rose (W.faults world.old) (W.faults world.new)) }
+    ensures fault { IfOk result (λ course. course ≡ DeviceFault → Rose (W.faults world.old) (W.faults world.new)) }
 {
     if disk.read_only {
         return refuse(alloc, world, no_writing(alloc)?, READ_ONLY);
@@ -69,36 +75,38 @@ fn erase_on<W: World>(
         Err(SmallErase::Full { need, free }) => {
             refuse(alloc, world, no_room(alloc, need, free)?, FULL)
         }
-        Err(SmallErase::Device) => Ok(Course::Stopped),
+        Err(SmallErase::Device) => Ok(Course::DeviceFault),
         Err(SmallErase::Memory) => Err(End::Memory),
     }
 }
 
-/// Erases a file of disk A, whose directory has this stamp then. Where the device fails no disk is accessed as A any more.
+/// Erases a file of disk A, whose directory has the stamp of the turn's moment then. Where the device fails no disk is accessed as A
+/// any more.
 pub fn erase_file<W: World>(
     alloc: Global,
     world: &mut W,
-    session: &mut Session,
+    state: &mut State,
     name: &Name,
-    stamp: &Stamp,
 ) -> Result<Course, End>
-    requires usable { Usable (W.told world.old) session.old.disk_a }
-    requires stamp { is_stamp stamp.now ≡ true }
-    ensures acts { Acts (spot (W.told world.old) (W.faults world.old) session.old) (spot (W.told world.new) (W.faults world.new) session.new) (erase_tree session.old.disk_a session.old.left name.now stamp.now) result (course_of session.new.disk_a session.new.left) }
-    ensures usable { OnOk result (Usable (W.told world.new) session.new.disk_a) }
-    ensures stamped { IfOk result (λ course. course ≡ Went (pos 0) → IsStamped (W.told world.old) (W.told world.new) session.old.disk_a session.new.disk_a stamp.now) }
-    ensures left { session.new.left ≡ session.old.left }
+    requires usable { Usable (W.told world.old) state.old.disk_a }
+    requires moment { is_moment state.old.moment ≡ true }
+    ensures acts { Acts (spot (W.told world.old) (W.faults world.old) state.old) (spot (W.told world.new) (W.faults world.new) state.new)
+        (erase_tree state.old name.now) result (course_of state.new) }
+    ensures usable { OnOk result (Usable (W.told world.new) state.new.disk_a) }
+    ensures stamped { IfOk result (λ course. course ≡ Went (pos 0)
+        → IsStamped (W.told world.old) (W.told world.new) state.old.disk_a state.new.disk_a (stamp_of state.old.moment)) }
+    ensures kept { state.new ≡ record state.old { disk_a = state.new.disk_a } }
     ensures cause { EndCause (W.edges world.old) (W.edges world.new) result }
     ensures faults { W.faults world.old ≤ W.faults world.new }
-    ensures fault { IfOk result (λ course. course ≡ Stopped → Rose (W.faults world.old) (W.faults world.new)) }
+    ensures fault { IfOk result (λ course. course ≡ DeviceFault → Rose (W.faults world.old) (W.faults world.new)) }
 {
-    let Some(mut disk) = session.disk_a.take() else {
+    let Some(mut disk) = state.disk_a.take() else {
         return refuse(alloc, world, no_disk(alloc)?, NOT_ACCESSED);
     };
-    let course = erase_on(alloc, world, &mut disk, name, stamp)?;
-    if let Course::Stopped = course {
+    let course = erase_on(alloc, world, &mut disk, name, &Stamp::of(&state.moment))?;
+    if let Course::DeviceFault = course {
         return Ok(course);
     }
-    session.disk_a = Some(disk);
+    state.disk_a = Some(disk);
     Ok(course)
 }

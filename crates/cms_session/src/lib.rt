@@ -6,16 +6,15 @@ mod erasing;
 mod laws;
 mod reading;
 mod round;
-mod saying;
 mod session;
-mod start;
 mod state;
 mod status;
+mod top;
 mod words;
 
 pub use laws::laws_of_sessions;
-pub use start::run;
 pub use status::{Status, WordFault};
+pub use top::run;
 
 #[cfg(test)]
 mod erase_tests;

@@ -10,17 +10,17 @@ ghost use Rattle.cms_machine.specs.Acts.{Done};
 ghost use Rattle.cms_line.specs.declared.message.Message.TheVariants.{M002, M069};
 ghost use Rattle.cms_edf.specs.Small.{spelled};
 ghost use Rattle.cms_session.specs.Commands.{letter_a};
-ghost use Rattle.cms_session.specs.Machine.{typing};
-ghost use Rattle.cms_session.specs.Calls.{spot, Does, Acts, Usable, EndCause, IsSeen, IsFile, itself, course_of, refusal_tree, records_tree, type_tree};
-ghost use Rattle.cms_session.specs.declared.state.Session.{Session};
-ghost use Rattle.cms_session.specs.declared.state.Course.TheVariants.{Went, Stopped};
+ghost use Rattle.cms_search.specs.Machine.{typing};
+ghost use Rattle.cms_search.specs.Calls.{spot, Does, Acts, Usable, EndCause, itself, course_of};
+ghost use Rattle.cms_search.specs.declared.state.State.{State};
+ghost use Rattle.cms_search.specs.declared.state.Course.TheVariants.{DeviceFault};
+ghost use Rattle.cms_session.specs.Calls.{IsSeen, IsFile, records_tree, type_tree};
 
 use crate::command::LETTER_A;
-use crate::saying::{say, say_message};
-use crate::state::{Course, Disk, End, Session};
 use cms_edf::SmallInfo;
 use cms_line::{Message, Word};
 use cms_names::Name;
+use cms_search::{Course, Disk, End, State, refuse, say};
 use cms_world::World;
 use std::alloc::{AllocError, Global};
 
@@ -52,7 +52,8 @@ fn is_hidden(read_only: bool, number: u8) -> bool
 
 /// The place of the file of a name that is spelled so, where it is seen.
 pub fn seen_place(disk: &Disk, name: &[u8; 16]) -> Option<u32>
-    ensures seen { (n : Name) (j : Journal) → is_part n.file ≡ true → is_part n.kind ≡ true → name.now ≡ spelled n → IsSeen j disk.now n result }
+    ensures seen { (n : Name) (j : Journal) → is_part n.file ≡ true → is_part n.kind ≡ true → name.now ≡ spelled n
+        → IsSeen j disk.now n result }
     ensures within { IfSome result (λ place. place < length disk.now.small.files) }
 {
     let place = disk.small.find(name)?;
@@ -64,7 +65,8 @@ pub fn seen_place(disk: &Disk, name: &[u8; 16]) -> Option<u32>
 
 // Types the records, one after another from the front.
 fn type_records<W: World>(world: &mut W, bytes: &[u8], info: &SmallInfo) -> Result<(), End>
-    ensures does { (session : Session) → Does (spot (W.told world.old) (W.faults world.old) session) (spot (W.told world.new) (W.faults world.new) session) (typing (cut info.now.count info.now.length bytes.now) (Done tt)) result itself }
+    ensures does { Does (W.told world.old) (W.faults world.old) (W.told world.new) (W.faults world.new)
+        (typing (cut info.now.count info.now.length bytes.now) (Done tt)) result itself }
     ensures cause { EndCause (W.edges world.old) (W.edges world.new) result }
     ensures faults { W.faults world.new ≡ W.faults world.old }
 {
@@ -82,10 +84,12 @@ fn type_records<W: World>(world: &mut W, bytes: &[u8], info: &SmallInfo) -> Resu
 fn type_at<W: World>(alloc: Global, world: &mut W, disk: &Disk, place: u32) -> Result<Course, End>
     requires within { place < length disk.now.small.files }
     requires usable { Usable (W.told world.old) (Some disk.now) }
-    ensures acts { (session : Session) (f : File) → session.disk_a ≡ Some disk.now → IsFile (W.told world.old) disk.now place f → Acts (spot (W.told world.old) (W.faults world.old) session) (spot (W.told world.new) (W.faults world.new) session) (records_tree session.disk_a session.left disk.now.small.unit f) result (course_of session.disk_a session.left) }
+    ensures acts { (state : State) (f : File) → state.disk_a ≡ Some disk.now → IsFile (W.told world.old) disk.now place f
+        → Acts (spot (W.told world.old) (W.faults world.old) state) (spot (W.told world.new) (W.faults world.new) state)
+        (records_tree state disk.now.small.unit f) result (course_of state) }
     ensures cause { EndCause (W.edges world.old) (W.edges world.new) result }
     ensures faults { W.faults world.old ≤ W.faults world.new }
-    ensures fault { IfOk result (λ course. course ≡ Stopped → Rose (W.faults world.old) (W.faults world.new)) }
+    ensures fault { IfOk result (λ course. course ≡ DeviceFault → Rose (W.faults world.old) (W.faults world.new)) }
 {
     let small = &disk.small;
     let mut block = vec![in alloc; 0; small.block_size() as usize]?;
@@ -94,7 +98,7 @@ fn type_at<W: World>(alloc: Global, world: &mut W, disk: &Disk, place: u32) -> R
             type_records(world, block.as_slice(), &info)?;
             Ok(Course::Went(0))
         }
-        Err(_) => Ok(Course::Stopped),
+        Err(_) => Ok(Course::DeviceFault),
     }
 }
 
@@ -116,36 +120,21 @@ pub fn no_file(alloc: Global, name: &Name) -> Result<Message, AllocError>
     ))
 }
 
-/// Types a message, and gives its code.
-pub fn refuse<W: World>(
-    alloc: Global,
-    world: &mut W,
-    message: Message,
-    code: i32,
-) -> Result<Course, End>
-    ensures acts { (session : Session) → Acts (spot (W.told world.old) (W.faults world.old) session) (spot (W.told world.new) (W.faults world.new) session) (refusal_tree session.disk_a session.left message code) result (course_of session.disk_a session.left) }
-    ensures cause { EndCause (W.edges world.old) (W.edges world.new) result }
-    ensures faults { W.faults world.new ≡ W.faults world.old }
-    ensures went { IfOk result (λ course. course ≡ Went code) }
-{
-    say_message(alloc, world, &message)?;
-    Ok(Course::Went(code))
-}
-
 /// Types the records of a file of disk A, each as a line.
 pub fn type_file<W: World>(
     alloc: Global,
     world: &mut W,
-    session: &Session,
+    state: &State,
     name: &Name,
 ) -> Result<Course, End>
-    requires usable { Usable (W.told world.old) session.now.disk_a }
-    ensures acts { Acts (spot (W.told world.old) (W.faults world.old) session.now) (spot (W.told world.new) (W.faults world.new) session.now) (type_tree session.now.disk_a session.now.left name.now) result (course_of session.now.disk_a session.now.left) }
+    requires usable { Usable (W.told world.old) state.now.disk_a }
+    ensures acts { Acts (spot (W.told world.old) (W.faults world.old) state.now) (spot (W.told world.new) (W.faults world.new) state.now)
+        (type_tree state.now name.now) result (course_of state.now) }
     ensures cause { EndCause (W.edges world.old) (W.edges world.new) result }
     ensures faults { W.faults world.old ≤ W.faults world.new }
-    ensures fault { IfOk result (λ course. course ≡ Stopped → Rose (W.faults world.old) (W.faults world.new)) }
+    ensures fault { IfOk result (λ course. course ≡ DeviceFault → Rose (W.faults world.old) (W.faults world.new)) }
 {
-    let Some(disk) = &session.disk_a else {
+    let Some(disk) = &state.disk_a else {
         return refuse(alloc, world, no_disk(alloc)?, NOT_ACCESSED);
     };
     match seen_place(disk, &spelled(name)) {

@@ -3,25 +3,25 @@ ghost use Rattle.std.specs.Prelude.{◌≡◌, ◌≤◌, ◌<◌, ℕ, suc, tru
 ghost use Rattle.cms_journal.specs.Causes.{Rose};
 ghost use Rattle.cms_journal.specs.Journal.{adds};
 ghost use Rattle.cms_journal.specs.declared.event.Event.TheVariants.{Now};
-ghost use Rattle.cms_fields.specs.Stamps.{is_stamp};
-ghost use Rattle.cms_machine.specs.Acts.{taking, turning};
+ghost use Rattle.jiff.specs.Words.{IsWithin};
+ghost use Rattle.cms_fields.specs.Moments.{is_moment, moment_of};
 ghost use Rattle.cms_names.specs.Names.{is_part};
 ghost use Rattle.cms_edf.specs.Small.{spelled};
 ghost use Rattle.cms_line.specs.Consoles.{item_of};
+ghost use Rattle.cms_search.specs.Calls.{spot, Does, Acts, Usable, EndCause, said};
+ghost use Rattle.cms_search.specs.declared.state.Course.TheVariants.{DeviceFault};
 ghost use Rattle.cms_session.specs.Commands.{command_of};
-ghost use Rattle.cms_session.specs.Machine.{stamp_at};
-ghost use Rattle.cms_session.specs.Calls.{spot, Does, Acts, Usable, EndCause, IsTaken, IsTest, procedure_name, itself, round_of, ready_tree, command_tree, round_tree};
-ghost use Rattle.cms_session.specs.declared.state.Session.{Session};
-ghost use Rattle.cms_session.specs.declared.state.Course.TheVariants.{Stopped};
-ghost use Rattle.cms_session.specs.declared.state.Round.TheVariants.{Failed, Ready};
+ghost use Rattle.cms_session.specs.Calls.{IsTaken, IsTest, procedure_name, an_item, machine_now, round_of, ready_text, round_after, taking_tree, turning_tree, command_tree, round_tree};
+ghost use Rattle.cms_session.specs.declared.state.Finish.TheVariants as finish;
+ghost use Rattle.cms_session.specs.declared.state.Round.TheVariants.{Ended, Ready};
 
 use crate::command::{Command, command_of_line};
 use crate::erasing::erase_file;
 use crate::reading::{seen_place, type_file};
-use crate::saying::say_ready;
-use crate::state::{Course, Disk, End, Round, Session};
-use cms_fields::{Moment, Stamp};
+use crate::state::{Finish, Round};
+use cms_fields::Moment;
 use cms_line::{ConsoleLine, LineFault};
+use cms_search::{Course, Disk, End, State, say_ready};
 use cms_world::World;
 use std::alloc::{AllocError, Global};
 
@@ -35,13 +35,14 @@ const ERASE_EXEC: [u8; 16] = [
 ];
 
 // The next line of the console.
-fn take<W: World>(world: &mut W, session: &mut Session) -> Result<ConsoleLine, End>
-    ensures does { Does (spot (W.told world.old) (W.faults world.old) session.old) (spot (W.told world.new) (W.faults world.new) session.new) taking result item_of }
-    ensures left { session.new.left ≡ session.old.left }
+fn take<W: World>(world: &mut W, state: &mut State) -> Result<ConsoleLine, End>
+    ensures acts { Acts (spot (W.told world.old) (W.faults world.old) state.old) (spot (W.told world.new) (W.faults world.new) state.new)
+        (taking_tree state.old) result (an_item state.new item_of) }
+    ensures kept { state.new ≡ record state.old { console = state.new.console } }
     ensures cause { EndCause (W.edges world.old) (W.edges world.new) result }
     ensures faults { W.faults world.new ≡ W.faults world.old }
 {
-    match session.console.next(world) {
+    match state.console.next(world) {
         Ok(line) => Ok(line),
         Err(LineFault::World) => Err(End::Edge),
         Err(LineFault::Memory) => Err(End::Memory),
@@ -61,24 +62,21 @@ fn clock<W: World>(world: &mut W) -> Result<i64, End>
     }
 }
 
-// Spends a turn, and asks the clock once.
-fn turn<W: World>(world: &mut W, session: &mut Session) -> Result<i64, End>
-    requires { 0 < session.old.left }
-    ensures does { Does (spot (W.told world.old) (W.faults world.old) session.old) (spot (W.told world.new) (W.faults world.new) session.new) turning result itself }
-    ensures left { session.old.left ≡ suc session.new.left }
+// Spends a turn, and asks the clock once for its moment.
+fn turn<W: World>(world: &mut W, state: &mut State) -> Result<(), End>
+    requires left { 0 < state.old.left }
+    requires offset { IsWithin 54_000 state.old.offset }
+    ensures acts { Acts (spot (W.told world.old) (W.faults world.old) state.old) (spot (W.told world.new) (W.faults world.new) state.new)
+        (turning_tree state.old state.new.left) result (machine_now state.new) }
+    ensures kept { state.new ≡ record state.old { moment = state.new.moment; left = state.new.left } }
+    ensures left { state.old.left ≡ suc state.new.left }
+    ensures moment { OnOk result (is_moment state.new.moment ≡ true) }
     ensures cause { EndCause (W.edges world.old) (W.edges world.new) result }
     ensures faults { W.faults world.new ≡ W.faults world.old }
 {
-    session.left -= 1;
-    clock(world)
-}
-
-// The stamp of a moment, in seconds after 1970-01-01 00:00:00 UTC.
-fn stamp_at(seconds: i64) -> Stamp
-    ensures value { result ≡ stamp_at seconds }
-    ensures valid { is_stamp result ≡ true }
-{
-    Stamp::of(&Moment::of_epoch(seconds, 0))
+    state.left -= 1;
+    state.moment = Moment::of_epoch(clock(world)?, state.offset);
+    Ok(())
 }
 
 // What a console line asks for; none at the script's end.
@@ -99,14 +97,16 @@ fn command_of(alloc: Global, line: ConsoleLine) -> Result<Option<Command>, Alloc
 fn take_command<W: World>(
     alloc: Global,
     world: &mut W,
-    session: &mut Session,
+    state: &mut State,
 ) -> Result<Option<Command>, End>
-    ensures taken { IsTaken (spot (W.told world.old) (W.faults world.old) session.old) (spot (W.told world.new) (W.faults world.new) session.new) result }
-    ensures left { session.new.left ≡ session.old.left }
+    ensures taken { IsTaken (spot (W.told world.old) (W.faults world.old) state.old) (spot (W.told world.new)
+        (W.faults world.new) state.new)
+        result }
+    ensures kept { state.new ≡ record state.old { console = state.new.console } }
     ensures cause { EndCause (W.edges world.old) (W.edges world.new) result }
     ensures faults { W.faults world.new ≡ W.faults world.old }
 {
-    let line = take(world, session)?;
+    let line = take(world, state)?;
     Ok(command_of(alloc, line)?)
 }
 
@@ -122,8 +122,8 @@ fn is_procedure(disk_a: &Option<Disk>, name: &[u8; 16]) -> bool
 
 // Ends a command: its ready line, unless a device failed.
 fn ready<W: World>(world: &mut W, course: Course) -> Result<Round, End>
-    ensures acts { (session : Session) → Acts (spot (W.told world.old) (W.faults world.old) session) (spot (W.told world.new) (W.faults world.new) session) (ready_tree session.disk_a session.left course) result (round_of session.disk_a session.left) }
-    ensures failed { IfOk result (λ round. round ≡ Failed → course ≡ Stopped) }
+    ensures does { Does (W.told world.old) (W.faults world.old) (W.told world.new) (W.faults world.new) (ready_text course) result said }
+    ensures after { IfOk result (λ round. round ≡ round_after course) }
     ensures cause { EndCause (W.edges world.old) (W.edges world.new) result }
     ensures faults { W.faults world.new ≡ W.faults world.old }
 {
@@ -132,59 +132,66 @@ fn ready<W: World>(world: &mut W, course: Course) -> Result<Round, End>
             say_ready(world, code)?;
             Ok(Round::Ready)
         }
-        Course::Stopped => Ok(Round::Failed),
+        Course::DeviceFault => Ok(Round::Ended(Finish::DeviceFault)),
     }
 }
 
-// Does what a line asks for, with the stamp of its turn.
+// Does what a line asks for.
 fn run_command<W: World>(
     alloc: Global,
     world: &mut W,
-    session: &mut Session,
+    state: &mut State,
     command: Command,
-    stamp: &Stamp,
 ) -> Result<Round, End>
-    requires usable { Usable (W.told world.old) session.old.disk_a }
-    requires stamp { is_stamp stamp.now ≡ true }
-    ensures acts { Acts (spot (W.told world.old) (W.faults world.old) session.old) (spot (W.told world.new) (W.faults world.new) session.new) (command_tree session.old.disk_a session.old.left command stamp.now) result (round_of session.new.disk_a session.new.left) }
-    ensures usable { OnOk result (Usable (W.told world.new) session.new.disk_a) }
-    ensures left { session.new.left ≡ session.old.left }
+    requires usable { Usable (W.told world.old) state.old.disk_a }
+    requires moment { is_moment state.old.moment ≡ true }
+    ensures acts { Acts (spot (W.told world.old) (W.faults world.old) state.old) (spot (W.told world.new) (W.faults world.new) state.new)
+        (command_tree state.old command) result (round_of state.new) }
+    ensures usable { OnOk result (Usable (W.told world.new) state.new.disk_a) }
+    ensures kept { state.new ≡ record state.old { disk_a = state.new.disk_a } }
     ensures cause { EndCause (W.edges world.old) (W.edges world.new) result }
     ensures faults { W.faults world.old ≤ W.faults world.new }
-    ensures fault { IfOk result (λ round. round ≡ Failed → Rose (W.faults world.old) (W.faults world.new)) }
+    ensures fault { IfOk result (λ round. round ≡ Ended finish.DeviceFault → Rose (W.faults world.old) (W.faults world.new)) }
 {
     match command {
         Command::Nothing => Ok(Round::Ready),
-        Command::NotBuilt => Ok(Round::Refused),
-        Command::TypeFile(_) if is_procedure(&session.disk_a, &TYPE_EXEC) => Ok(Round::Refused),
+        Command::NotBuilt => Ok(Round::Ended(Finish::NotBuilt)),
+        Command::TypeFile(_) if is_procedure(&state.disk_a, &TYPE_EXEC) => {
+            Ok(Round::Ended(Finish::NotBuilt))
+        }
         Command::TypeFile(name) => {
-            let course = type_file(alloc, world, session, &name)?;
+            let course = type_file(alloc, world, state, &name)?;
             ready(world, course)
         }
-        Command::EraseFile(_) if is_procedure(&session.disk_a, &ERASE_EXEC) => Ok(Round::Refused),
+        Command::EraseFile(_) if is_procedure(&state.disk_a, &ERASE_EXEC) => {
+            Ok(Round::Ended(Finish::NotBuilt))
+        }
         Command::EraseFile(name) => {
-            let course = erase_file(alloc, world, session, &name, stamp)?;
+            let course = erase_file(alloc, world, state, &name)?;
             ready(world, course)
         }
     }
 }
 
 /// Takes a line, spends a turn and does what the line asks for.
-pub fn round<W: World>(alloc: Global, world: &mut W, session: &mut Session) -> Result<Round, End>
-    requires { Usable (W.told world.old) session.old.disk_a }
-    ensures acts { Acts (spot (W.told world.old) (W.faults world.old) session.old) (spot (W.told world.new) (W.faults world.new) session.new) (round_tree session.old.disk_a session.old.left) result (round_of session.new.disk_a session.new.left) }
-    ensures usable { OnOk result (Usable (W.told world.new) session.new.disk_a) }
-    ensures falls { IfOk result (λ round. round ≡ Ready → session.new.left < session.old.left) }
+pub fn round<W: World>(alloc: Global, world: &mut W, state: &mut State) -> Result<Round, End>
+    requires usable { Usable (W.told world.old) state.old.disk_a }
+    requires offset { IsWithin 54_000 state.old.offset }
+    ensures acts { Acts (spot (W.told world.old) (W.faults world.old) state.old) (spot (W.told world.new) (W.faults world.new) state.new)
+        (round_tree state.old) result (round_of state.new) }
+    ensures usable { OnOk result (Usable (W.told world.new) state.new.disk_a) }
+    ensures offset { state.new.offset ≡ state.old.offset }
+    ensures falls { IfOk result (λ round. round ≡ Ready → state.new.left < state.old.left) }
     ensures cause { EndCause (W.edges world.old) (W.edges world.new) result }
     ensures faults { W.faults world.old ≤ W.faults world.new }
-    ensures fault { IfOk result (λ round. round ≡ Failed → Rose (W.faults world.old) (W.faults world.new)) }
+    ensures fault { IfOk result (λ round. round ≡ Ended finish.DeviceFault → Rose (W.faults world.old) (W.faults world.new)) }
 {
-    let Some(command) = take_command(alloc, world, session)? else {
-        return Ok(Round::Finished);
+    let Some(command) = take_command(alloc, world, state)? else {
+        return Ok(Round::Ended(Finish::AtEnd));
     };
-    if session.left == 0 {
-        return Ok(Round::NoTurns);
+    if state.left == 0 {
+        return Ok(Round::Ended(Finish::AtTurns));
     }
-    let seconds = turn(world, session)?;
-    run_command(alloc, world, session, command, &stamp_at(seconds))
+    turn(world, state)?;
+    run_command(alloc, world, state, command)
 }

@@ -7,7 +7,7 @@ use Rattle.cms_machine.specs.Feeds.{Fed, Over}
 use Rattle.cms_session.specs.Headline.{Start, EndsAs}
 use Rattle.cms_session.specs.Sessions.{status_of}
 use Rattle.cms_session.specs.declared.state.Finish.{Finish}
-use Rattle.cms_session.specs.declared.state.Finish.TheVariants.{AtEnd, AtTurns, AtRefusal, AtFault}
+use Rattle.cms_session.specs.declared.state.Finish.TheVariants as finish
 use Rattle.cms_session.specs.declared.status.Status.{Status}
 use Rattle.cms_session.specs.declared.status.Status.TheVariants.{Done, Usage, Memory, World, Turns, NotBuilt}
 use Rattle.cms_session.proofs.laws.laws_of_sessions.Goals as goal
@@ -15,14 +15,14 @@ use Rattle.cms_session.proofs.laws.laws_of_sessions.Goals as goal
 same_finish : (f : Fed Finish) (a b : Finish) → f.close ≡ Over a → f.close ≡ Over b → a ≡ b
 same_finish f a b x y = let e : Over a ≡ Over b = sym x ∙ y in cc
 
-as_machine : (s : Start) (events : List Event) (f : Fed Finish) (units : List Slot) (before now : ℕ) (status : Status) → EndsAs s events f units before now status → (Rose before now → ⊥) → (finish : Finish) → f.close ≡ Over finish → (status ≡ status_of finish) ⊎ (status ≡ Memory)
-as_machine s events f units before now Done e still finish close = inl (ap status_of (same_finish f AtEnd finish e.close close))
-as_machine s events f units before now Turns e still finish close = inl (ap status_of (same_finish f AtTurns finish e.close close))
-as_machine s events f units before now NotBuilt e still finish close = inl (ap status_of (same_finish f AtRefusal finish e.close close))
-as_machine s events f units before now World (inl e) still finish close = inl (ap status_of (same_finish f AtFault finish e.close close))
-as_machine s events f units before now World (inr e) still finish close = absurd (still e.1)
-as_machine s events f units before now Memory e still finish close = inr refl
-as_machine s events f units before now (Usage fault) e still finish close = absurd e
+as_machine : (s : Start) (events : List Event) (f : Fed Finish) (units : List Slot) (before now : ℕ) (status : Status) → EndsAs s events f units before now status → (Rose before now → ⊥) → (end : Finish) → f.close ≡ Over end → (status ≡ status_of end) ⊎ (status ≡ Memory)
+as_machine s events f units before now Done e still end close = inl (ap status_of (same_finish f finish.AtEnd end e.close close))
+as_machine s events f units before now Turns e still end close = inl (ap status_of (same_finish f finish.AtTurns end e.close close))
+as_machine s events f units before now NotBuilt e still end close = inl (ap status_of (same_finish f finish.NotBuilt end e.close close))
+as_machine s events f units before now World (inl e) still end close = inl (ap status_of (same_finish f finish.DeviceFault end e.close close))
+as_machine s events f units before now World (inr e) still end close = absurd (still e.1)
+as_machine s events f units before now Memory e still end close = inr refl
+as_machine s events f units before now (Usage fault) e still end close = absurd e
 
 none_counted : (before now n : ℕ) → Counted before n now → (Rose before now → ⊥) → n ≡ 0
 none_counted before now n c still =

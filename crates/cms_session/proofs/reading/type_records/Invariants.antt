@@ -1,12 +1,10 @@
 use Rattle.std.proofs.Common.{◌≡◌, ◌≤◌, ◌-◌}
-use Rattle.cms_session.specs.declared.state.Session.{Session}
-use Rattle.cms_session.specs.Calls.{spot}
 use Rattle.cms_session.proofs.Records.{Goes, cut_tree}
 use Rattle.cms_session.proofs.reading.type_records.Given as goal
 
 abbrev pub invariant-loop : goal.invariant-loop
 invariant-loop g l = record {
-  goes : (session : Session) → Goes (spot (g.W.World.told l.initial.world) (g.W.World.faults l.initial.world) session) (spot (g.W.World.told l.world) (g.W.World.faults l.world) session) (cut_tree l.info.count l.info.length l.bytes) (cut_tree (l.end - l.counter) l.info.length l.rest);
+  goes : Goes (g.W.World.told l.initial.world) (g.W.World.faults l.initial.world) (g.W.World.told l.world) (g.W.World.faults l.world) (cut_tree l.info.count l.info.length l.bytes) (cut_tree (l.end - l.counter) l.info.length l.rest);
   edges : g.W.World.edges l.initial.world ≤ g.W.World.edges l.world;
   faults : g.W.World.faults l.world ≡ g.W.World.faults l.initial.world;
 }

@@ -4,19 +4,19 @@ use Rattle.std.proofs.lemmas.Result.{err_from_is_err_and}
 use Rattle.cms_session.proofs.Rounds.{readied_so, ready_stops}
 use Rattle.cms_session.proofs.round.ready.Goals as goal
 
-pub returns-in_err-say_ready-in-Went-clause-acts : goal.returns-in_err-say_ready-in-Went-clause-acts
-returns-in_err-say_ready-in-Went-clause-acts g c session =
+pub returns-in_err-say_ready-in-Went-clause-does : goal.returns-in_err-say_ready-in-Went-clause-does
+returns-in_err-say_ready-in-Went-clause-does g c =
     let p = err_from_is_err_and c.from_residual.result c.from_residual.ensures.1 in
     let is = c.in-Went.is in
     let fits : FitsSigned w32 c.in-Went.code = search rules in
     let same = to_z-of_z w32 c.in-Went.code fits in
-    let does = rw same at (c.in_err-say_ready-in-Went.ensures.does session) in
-    rw (p.1, p.2, is) (ready_stops _ _ session.disk_a session.left c.in-Went.code _ does)
+    let does = rw same at c.in_err-say_ready-in-Went.ensures.does in
+    rw (p.1, p.2, is) (ready_stops _ _ _ _ c.in-Went.code _ does)
 
-pub returns-in_ok-say_ready-in-Went-clause-acts : goal.returns-in_ok-say_ready-in-Went-clause-acts
-returns-in_ok-say_ready-in-Went-clause-acts g c session =
+pub returns-in_ok-say_ready-in-Went-clause-does : goal.returns-in_ok-say_ready-in-Went-clause-does
+returns-in_ok-say_ready-in-Went-clause-does g c =
     let is = c.in-Went.is in
     let fits : FitsSigned w32 c.in-Went.code = search rules in
     let same = to_z-of_z w32 c.in-Went.code fits in
-    let does = rw same at (c.in_ok-say_ready-in-Went.ensures.does session) in
-    rw is (readied_so _ _ session.disk_a session.left c.in-Went.code _ does)
+    let does = rw same at c.in_ok-say_ready-in-Went.ensures.does in
+    rw is (readied_so _ _ _ _ c.in-Went.code _ _ does)

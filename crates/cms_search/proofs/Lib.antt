@@ -1,0 +1,4 @@
+pub mod Holding
+pub mod Acts
+pub mod Says
+pub mod Ready

@@ -1,0 +1,209 @@
+// The top call: a session as a whole.
+ghost use Rattle.std.specs.Prelude.{◌≡◌, ◌≢◌, ◌≤◌, ◌==◌, ℕ, List, [], length, min, not, IfOk, IfErr, IsTrue, Option, Some, None};
+ghost use Rattle.std.specs.Option.{ForSome};
+ghost use Rattle.cms_journal.specs.Causes.{Rose};
+ghost use Rattle.cms_journal.specs.Journal.{IsBlockSize, HasBlocks, IsWritable, may_write};
+ghost use Rattle.cms_journal.specs.declared.event.Attached.{Attached};
+ghost use Rattle.cms_machine.specs.Slots.{Slot};
+ghost use Rattle.cms_search.specs.Calls.{Holds, Usable};
+ghost use Rattle.cms_session.specs.Headline.{fresh, first_point, seen};
+ghost use Rattle.cms_session.specs.Sessions.{FitsWords, RunsNone, IsAlone, device_of, lines_tree, status_of, FoundAs, EndedAs, RanOn, SessionIn, WorldCause};
+ghost use Rattle.cms_session.specs.declared.status.WordFault.{WordFault};
+ghost use Rattle.cms_session.specs.Words.{UnitSpec, IsUnitWord, OneUnit, read_words};
+
+use crate::session::play;
+use crate::state::Finish;
+use crate::status::{Status, WordFault};
+use crate::words::{UnitWord, Words, read_words};
+use cms_edf::{SmallFault, small_volume};
+use cms_fields::Moment;
+use cms_journal::BlockSize;
+use cms_line::Console;
+use cms_search::{Device, Disk, End, State};
+use cms_world::{Access, Argv, Failed, Unit, World};
+use std::alloc::Global;
+
+/// The device whose volume is disk A at the start.
+const DEVICE_A: u16 = 0x191;
+
+/// How many turns a session has.
+const TURNS: u64 = 1_000_000;
+
+/// How many blocks of a unit are looked at.
+const MOST_BLOCKS: u32 = 1_048_576;
+
+// What a session looks at of a unit.
+fn looked_at(unit: Unit) -> Unit
+    ensures number { result.number ≡ unit.number }
+    ensures blocks { result.blocks ≡ min unit.blocks 1048576 }
+{
+    Unit {
+        number: unit.number,
+        blocks: unit.blocks.min(MOST_BLOCKS),
+    }
+}
+
+// A unit that is attached so may only be read.
+fn is_read_only(access: Access) -> bool
+    ensures { result ≡ not (may_write access) }
+{
+    match access {
+        Access::ReadOnly => true,
+        Access::ReadWrite | Access::New(_) => false,
+    }
+}
+
+// Disk A, where the unit is its device and has a volume.
+fn disk_a<W: World>(
+    alloc: Global,
+    world: &mut W,
+    word: &UnitWord<'_>,
+    unit: &Unit,
+) -> Result<Option<Disk>, Status>
+    requires size { IsBlockSize word.now.bsize }
+    requires blocks { ForSome (W.told world.old) (λ j. HasBlocks j.units unit.now.number unit.now.blocks word.now.bsize) }
+    requires writable { IsTrue (may_write word.now.access) → ForSome (W.told world.old) (λ j. IsWritable j.units unit.now.number) }
+    ensures found { (spec : UnitSpec) (alone : Attached) → IsUnitWord word.now spec
+        → IsAlone (W.told world.old) (record { bsize = word.now.bsize; count = unit.now.blocks }) unit.now.number alone
+        → FoundAs spec alone (W.faults world.old) (W.faults world.new) result }
+    ensures usable { IfOk result (λ disk. Usable (W.told world.new) disk) }
+    ensures no_usage { IfErr result (λ status. (fault : WordFault) → status ≢ Status.Usage fault) }
+    ensures cause { IfErr result (λ status. status ≡ Status.World → Rose (W.faults world.old) (W.faults world.new)) }
+    ensures told { W.told world.new ≡ W.told world.old }
+    ensures edges { W.edges world.new ≡ W.edges world.old }
+    ensures faults { W.faults world.old ≤ W.faults world.new }
+{
+    if word.vdev != DEVICE_A {
+        return Ok(None);
+    }
+    match small_volume(alloc, world, unit, BlockSize::new(word.bsize)) {
+        Ok(small) => Ok(Some(Disk {
+            small,
+            read_only: is_read_only(word.access),
+        })),
+        Err(SmallFault::NoVolume) => Ok(None),
+        Err(SmallFault::NotBuilt) => Err(Status::NotBuilt),
+        Err(SmallFault::Device) => Err(Status::World),
+        Err(SmallFault::Memory) => Err(Status::Memory),
+    }
+}
+
+// How a session ended that wasn't cut off.
+fn status_of(finish: Finish) -> Status
+    ensures { result ≡ status_of finish }
+{
+    match finish {
+        Finish::AtEnd => Status::Done,
+        Finish::AtTurns => Status::Turns,
+        Finish::NotBuilt => Status::NotBuilt,
+        Finish::DeviceFault => Status::World,
+    }
+}
+
+// The lines of the script, with this disk A.
+fn run_lines<W: World>(alloc: Global, world: &mut W, device: Device, disk_a: Option<Disk>) -> Status
+    requires usable { Usable (W.told world.old) disk_a }
+    ensures ended { (units : List Slot) → Holds (W.told world.old) disk_a units
+        → EndedAs (first_point (W.told world.old) (W.faults world.old) units None) (W.edges world.old)
+        (seen (W.told world.new) (W.edges world.new) (W.faults world.new)) (lines_tree device disk_a units) result }
+    ensures no_usage { (fault : WordFault) → result ≢ Status.Usage fault }
+    ensures cause { WorldCause (seen (W.told world.old) (W.edges world.old) (W.faults world.old))
+        (seen (W.told world.new) (W.edges world.new) (W.faults world.new)) result }
+{
+    let Ok(console) = Console::new(alloc, None) else {
+        return Status::Memory;
+    };
+    let mut state = State {
+        device,
+        disk_a,
+        console,
+        offset: 0,
+        moment: Moment::of_epoch(0, 0),
+        left: TURNS,
+    };
+    match play(alloc, world, &mut state) {
+        Ok(finish) => status_of(finish),
+        Err(End::Memory) => Status::Memory,
+        Err(End::Edge) => Status::World,
+    }
+}
+
+// The device of a unit word.
+fn device_of(word: &UnitWord<'_>) -> Device
+    ensures { (spec : UnitSpec) → IsUnitWord word.now spec → result ≡ device_of spec }
+{
+    Device {
+        vdev: word.vdev,
+        bsize: word.bsize,
+        writable: !is_read_only(word.access),
+    }
+}
+
+// A session on a unit that was attached.
+fn run_attached<W: World>(alloc: Global, world: &mut W, word: &UnitWord<'_>, unit: &Unit) -> Status
+    requires size { IsBlockSize word.now.bsize }
+    requires blocks { ForSome (W.told world.old) (λ j. HasBlocks j.units unit.now.number unit.now.blocks word.now.bsize) }
+    requires writable { IsTrue (may_write word.now.access) → ForSome (W.told world.old) (λ j. IsWritable j.units unit.now.number) }
+    ensures ran { (spec : UnitSpec) (alone : Attached) → IsUnitWord word.now spec
+        → IsAlone (W.told world.old) (record { bsize = word.now.bsize; count = unit.now.blocks }) unit.now.number alone
+        → RanOn spec alone (seen (W.told world.old) (W.edges world.old) (W.faults world.old))
+        (seen (W.told world.new) (W.edges world.new) (W.faults world.new)) result }
+    ensures no_usage { (fault : WordFault) → result ≢ Status.Usage fault }
+    ensures cause { WorldCause (seen (W.told world.old) (W.edges world.old) (W.faults world.old))
+        (seen (W.told world.new) (W.edges world.new) (W.faults world.new)) result }
+{
+    match disk_a(alloc, world, word, unit) {
+        Ok(disk) => run_lines(alloc, world, device_of(word), disk),
+        Err(status) => status,
+    }
+}
+
+// A session on the unit of a word.
+fn run_unit<W: World>(alloc: Global, world: &mut W, word: &UnitWord<'_>) -> Status
+    requires size { IsBlockSize word.now.bsize }
+    requires room { ForSome (W.told world.old) (λ j. length j.units ≤ 240) }
+    ensures headline { (spec : UnitSpec) → IsUnitWord word.now spec → W.told world.old ≡ Some (fresh [])
+        → SessionIn spec (seen (W.told world.old) (W.edges world.old) (W.faults world.old))
+        (seen (W.told world.new) (W.edges world.new) (W.faults world.new)) result }
+    ensures no_usage { (fault : WordFault) → result ≢ Status.Usage fault }
+    ensures cause { WorldCause (seen (W.told world.old) (W.edges world.old) (W.faults world.old))
+        (seen (W.told world.new) (W.edges world.new) (W.faults world.new)) result }
+{
+    match world.attach(word.name, word.bsize, word.access) {
+        Ok(unit) => run_attached(alloc, world, word, &looked_at(unit)),
+        Err(Failed) => Status::World,
+    }
+}
+
+/// Runs a session of CMS commands: the words say its unit, the world gives its script, and the status says how it ended.
+///
+/// The words are the program's name and a unit word. Where they are refused, or aren't built yet, the world isn't touched; else
+/// the unit is attached, and where it is device 191 and has a volume this is accessed as disk A, without a message. A volume
+/// behind a label that isn't built yet ends the session with `NotBuilt` before a line is read. Then the lines of the script are
+/// run, each for a turn, 1,000,000 at most: `TYPE` and `ERASE` of a file of disk A. `ERASE` writes to the unit where it is
+/// attached so that it may be written. A told journal must have at most 240 units.
+///
+/// - In a world that tells its journal, with no unit and no event yet, the session is a run of the machine of minidisks as lists
+///   of named record lists, and a crash at any moment leaves a state that the machine has there.
+/// - `Usage` comes exactly where the words are refused.
+/// - `World` comes only where one of the world's two counts rose in this call. Where a device failed in an `ERASE` the unit is as
+///   before, or a crash leaves it with the file or without it.
+pub fn run<W: World>(alloc: Global, words: &Argv, world: &mut W) -> Status
+    requires room { ForSome (W.told world.old) (λ j. length j.units ≤ 240) }
+    ensures words { FitsWords (read_words words.now) result }
+    ensures refused { RunsNone (read_words words.now)
+        → seen (W.told world.new) (W.edges world.new) (W.faults world.new) ≡ seen (W.told world.old) (W.edges world.old)
+        (W.faults world.old) }
+    ensures headline { (spec : UnitSpec) → read_words words.now ≡ OneUnit spec → W.told world.old ≡ Some (fresh [])
+        → SessionIn spec (seen (W.told world.old) (W.edges world.old) (W.faults world.old))
+        (seen (W.told world.new) (W.edges world.new) (W.faults world.new)) result }
+    ensures cause { WorldCause (seen (W.told world.old) (W.edges world.old) (W.faults world.old))
+        (seen (W.told world.new) (W.edges world.new) (W.faults world.new)) result }
+{
+    match read_words(words) {
+        Words::NoUnit => Status::Usage(WordFault::Syntax),
+        Words::BadUnit => Status::Usage(WordFault::Unit(1)),
+        Words::NotBuilt => Status::NotBuilt,
+        Words::OneUnit(word) => run_unit(alloc, world, &word),
+    }
+}
