@@ -259,7 +259,6 @@ fn long_scripts_have_room_in_memory(rt: HostRuntime) -> Result<(), Fail> {
             "HELLO\nWORLD\nR;\n",
             Status::Turns,
         ),
-        (lines, "", Status::Done),
     ];
     for (row, (script, typed, wanted)) in table.iter().enumerate() {
         let mut world = world(alloc, script, &hello(alloc, &[])?)?;
