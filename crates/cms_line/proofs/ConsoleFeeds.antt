@@ -1,5 +1,6 @@
 -- The first line feed of bytes, and whether a line goes on past its next bytes.
 use Rattle.std.proofs.Common.{◌≡◌, ◌⊎◌, inl, inr, ℕ, zero, suc, ◌+◌, ◌-◌, ◌<◌, ◌≤◌, ◌==◌, nat_lt, not, Bool, true, false, ◌&&◌, ◌||◌, List, [], ◌∷◌, ◌++◌, length, take, drop, get_or, Option, Some, None, refl, ap, sym, ◌∙◌, subst, arith, add-one, ⊎_elim, drop-cons, cond}
+use Rattle.std.proofs.lemmas.Bool.{and_parts}
 use Rattle.std.specs.List.{position, position_or_len}
 use Rattle.std.specs.Option.{option_map}
 use Rattle.std.proofs.lemmas.Bool.Decides.{nat_tests, eqb_tells}
@@ -103,25 +104,17 @@ cut_at xs n f =
 
 -- ---- going on past bytes
 
-and_left : (a b : Bool) → (a && b) ≡ true → a ≡ true
-and_left true b e = refl
-and_left false b e = cc
-
-and_right : (a b : Bool) → (a && b) ≡ true → b ≡ true
-and_right true b e = e
-and_right false b e = cc
-
 not_true : (b : Bool) → not b ≡ true → b ≡ false
 not_true true e = cc
 not_true false e = refl
 
 pub past_none : (count : ℕ) (bytes : List ℕ) (e : Bool) → goes_past count bytes e ≡ true → has_feed (take count bytes) ≡ false
 unfolding goes_past
-past_none count bytes e h = not_true (has_feed (take count bytes)) (and_left (not (has_feed (take count bytes))) (begins_in_line (drop count bytes) e) h)
+past_none count bytes e h = not_true (has_feed (take count bytes)) (and_parts (not (has_feed (take count bytes))) (begins_in_line (drop count bytes) e) h).0
 
 pub past_begins : (count : ℕ) (bytes : List ℕ) (e : Bool) → goes_past count bytes e ≡ true → begins_in_line (drop count bytes) e ≡ true
 unfolding goes_past
-past_begins count bytes e h = and_right (not (has_feed (take count bytes))) (begins_in_line (drop count bytes) e) h
+past_begins count bytes e h = (and_parts (not (has_feed (take count bytes))) (begins_in_line (drop count bytes) e) h).1
 
 pub past_is : (count : ℕ) (bytes : List ℕ) (e : Bool) → has_feed (take count bytes) ≡ false → begins_in_line (drop count bytes) e ≡ goes_past count bytes e
 unfolding goes_past

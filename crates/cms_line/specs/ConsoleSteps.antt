@@ -56,7 +56,8 @@ IsFront c front.More = (c.ended ≡ false) × (items c.unread false ≡ []) × (
 -- what was read has these items, and then those that are left
 pub record Gives (was now : ConsoleState) (taken : List Item) : Type 0 where
   pub ended : now.ended ≡ was.ended
-  pub told : (more : List ℕ) (e : Bool) → Goes now.ended more e → items (extended was.unread more) e ≡ taken ++ items (extended now.unread more) e
+  pub told : (more : List ℕ) (e : Bool) → Goes now.ended more e → items (extended was.unread more) e ≡ taken
+      ++ items (extended now.unread more) e
 
 abbrev pub GivesLine : ConsoleState → ConsoleState → ConsoleLine → Type 0
 GivesLine was now line = (item : Item) × (item_of line ≡ Some item) × Gives was now (item ∷ [])

@@ -67,7 +67,8 @@ options_from rules parameters place [] = record { chosen = []; refused = None }
 options_from rules (suc parameters) place (word ∷ words) = options_from rules parameters (place + 1) words
 options_from rules zero place (word ∷ words) =
     if is_right word.text then closed (place + 1) words
-    else option_named rules place words (λ parameters. options_from rules parameters (place + 1) words) (position (is_named word.text) rules)
+    else option_named rules place words (λ parameters. options_from rules parameters (place + 1) words)
+    (position (is_named word.text) rules)
 
 abbrev pub options_behind : List OptionRule → List Token → Option ℕ → Reading
 options_behind rules words None = record { chosen = []; refused = None }

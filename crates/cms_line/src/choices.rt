@@ -115,7 +115,8 @@ fn read_options(
 ) -> Result<Option<OptionFault>, AllocError>
     requires start { left < length words.now }
     requires none { chosen.old ≡ [] }
-    ensures { IfOk result (λ refused. options_from rules.now 0 (left + 1) (drop (left + 1) words.now) ≡ record { chosen = chosen.new; refused = refused }) }
+    ensures { IfOk result (λ refused. options_from rules.now 0 (left + 1) (drop (left + 1) words.now)
+        ≡ record { chosen = chosen.new; refused = refused }) }
 {
     let mut place = left + 1;
     while let Some(word) = words.get(place) {

@@ -60,9 +60,16 @@ impl Model for Console {
 
     ghost Value = { ConsoleState };
 
-    ghost view = { λ c. record { unread = record { within = c.within; bytes = take (c.end - c.start) (drop c.start c.buffer.items) }; ended = c.ended } };
+    ghost view = { λ c. record {
+      unread = record { within = c.within; bytes = take (c.end - c.start) (drop c.start c.buffer.items) };
+      ended = c.ended;
+    } };
 
-    ghost invariant = { λ c. record { ordered : c.start ≤ c.end; inside : c.end ≤ length c.buffer.items; room : c.ended ≡ false → 4096 ≤ length c.buffer.items } };
+    ghost invariant = { λ c. record {
+      ordered : c.start ≤ c.end;
+      inside : c.end ≤ length c.buffer.items;
+      room : c.ended ≡ false → 4096 ≤ length c.buffer.items;
+    } };
 }
 
 // What begins in the unread bytes.

@@ -117,7 +117,8 @@ fn add_three(
     last: &Word,
     tail: &str,
 ) -> Result<(), AllocError>
-    ensures ok { OnOk result (into.new.items ≡ into.old.items ++ three head.now word.now middle.now other.now further.now last.now tail.now) }
+    ensures ok { OnOk result (into.new.items ≡ into.old.items
+        ++ three head.now word.now middle.now other.now further.now last.now tail.now) }
     ensures front { take (length into.old.items) into.new.items ≡ into.old.items }
 {
     add_text(into, head)?;

@@ -6,8 +6,9 @@ use Rattle.exec2_funcs.specs.declared.function.Function.TheVariants as function
 
 -- all functions
 abbrev pub functions : List Function
-functions = function.Concat ∷ function.Datatype ∷ function.Div ∷ function.Mult ∷ function.Left ∷ function.Right ∷ function.Length ∷ function.Literal
-    ∷ function.Location ∷ function.Piece ∷ function.Substr ∷ function.Position ∷ function.String ∷ function.Trans ∷ function.Trim ∷ function.Word ∷ []
+functions = function.Concat ∷ function.Datatype ∷ function.Div ∷ function.Mult ∷ function.Left ∷ function.Right ∷ function.Length
+    ∷ function.Literal ∷ function.Location ∷ function.Piece ∷ function.Substr ∷ function.Position ∷ function.String ∷ function.Trans
+    ∷ function.Trim ∷ function.Word ∷ []
 
 -- the word of each, in ASCII
 abbrev pub name_of : Function → List ℕ

@@ -45,7 +45,8 @@ position_of word words = first_number (bytes_eq word) words
 abbrev pub from_place : ℕ → Text → Text
 from_place place text = drop (place - 1) text
 
--- what a byte becomes: the byte of `out` at its first place in `from`, a blank where `out` is too short, and itself where `from` doesn't have it
+-- what a byte becomes: the byte of `out` at its first place in `from`, a blank where `out` is too short, and itself where `from`
+-- doesn't have it
 abbrev pub translation : Text → Text → ℕ → ℕ
 translation out from byte = option_map_or (λ place. unwrap_or (slice_get out place) 0x40) (position (λ x. x == byte) from) byte
 

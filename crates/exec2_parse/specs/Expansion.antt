@@ -49,4 +49,5 @@ KeepsPlainWords = (vars : Values) (word text : Text) → ampersands word ≡ 0 �
 abbrev pub ReplacesFromTheRight : Type 0
 ReplacesFromTheRight =
     (vars : Values) (front name text : Text) → ampersands name ≡ 0 → expanded_with vars (front ++ (0x50 ∷ name)) text
-    ≡ (let value = value_of vars (name ++ text) in if nat_lt 255 (length (front ++ value)) then Err TooLong else expanded_with vars front value)
+    ≡ (let value = value_of vars (name ++ text) in
+    if nat_lt 255 (length (front ++ value)) then Err TooLong else expanded_with vars front value)

@@ -18,12 +18,14 @@ record_end V size bytes = 2 + big_number 2 bytes
 -- the records at the front of bytes, so many
 unfoldable pub records_left : Format → ℕ → ℕ → List ℕ → List (List ℕ)
 records_left format size zero bytes = []
-records_left format size (suc n) bytes = first_record format size bytes ∷ records_left format size n (drop (record_end format size bytes) bytes)
+records_left format size (suc n) bytes = first_record format size bytes
+    ∷ records_left format size n (drop (record_end format size bytes) bytes)
 
 -- the bytes have room for them
 unfoldable pub has_records : Format → ℕ → ℕ → List ℕ → Bool
 has_records format size zero bytes = true
-has_records format size (suc n) bytes = nat_le (record_end format size bytes) (length bytes) && has_records format size n (drop (record_end format size bytes) bytes)
+has_records format size (suc n) bytes = nat_le (record_end format size bytes) (length bytes)
+    && has_records format size n (drop (record_end format size bytes) bytes)
 
 -- all records of a file
 abbrev pub records_in : FileData → List (List ℕ)
