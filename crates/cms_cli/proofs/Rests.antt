@@ -28,3 +28,5 @@ front_gone bytes n more = record { gone = more; rest = sym (drop-drop more n byt
 
 pub none_left : (bytes : List ℕ) (n : ℕ) → length bytes ≤ n → drop n bytes ≡ []
 none_left bytes n h = drop_all n bytes h
+
+pub ruleset taken_lemmas = (all_gone, just_added, after_flush, written_at_once)

@@ -112,7 +112,7 @@ impl Gathered {
     ///
     /// They are gathered where there is room for them, once all that was gathered is written where there isn't. More than there
     /// is ever room for, or where nothing is gathered, they are written at once.
-    #[tactic(auto, using(crate::proofs::Rests::just_added, crate::proofs::Rests::after_flush, crate::proofs::Rests::written_at_once, crate::proofs::Rests::all_gone))]
+    #[tactic(auto, using(crate::proofs::Rests::taken_lemmas))]
     pub fn add<P: Print>(&mut self, output: &P, from: &[u8]) -> Option<usize>
         requires { 0 < length from.now }
         ensures within { IfSome result (λ n. (0 < n) × (n ≤ length from.now)) }

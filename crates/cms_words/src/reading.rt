@@ -129,7 +129,7 @@ fn without_repeat(units: &UnitWords) -> Result<(), WordFault>
 }
 
 // What the words that were taken say.
-#[tactic(auto, using(crate::proofs::ReadingLemmas::units_fail, crate::proofs::ReadingLemmas::turns_fail, crate::proofs::ReadingLemmas::zone_fails, crate::proofs::ReadingLemmas::repeat_fails, crate::proofs::ReadingLemmas::seed_fails, crate::proofs::ReadingLemmas::all_said))]
+#[tactic(auto, using(crate::proofs::ReadingLemmas::repeat_fails, crate::proofs::ReadingLemmas::all_said))]
 fn values(alloc: Global, matches: &ArgMatches<'_>) -> Result<Words, WordFault>
     ensures { IsAnswer result (values_of (rows_of (found_of matches.now))) }
 {

@@ -1,7 +1,8 @@
 // Units whose files fail.
 use super::{FileUnit, open_unit};
 use cms_world::Access;
-use std::fs::{File, Files, OpenFile, OpenOptions};
+use std::fs::{File, OpenFile, OpenOptions};
+use std::os::unix::fs::FileExt;
 use std::test::Fail;
 use std::{env, fs};
 
@@ -57,6 +58,7 @@ fn what_is_no_image_is_refused(rt: HostRuntime) -> Result<(), Fail> {
     fs::write(&rt, &name, &[7; 1024])?;
     let read_only = open_unit(&rt, &name, 512, Access::ReadOnly)?;
     assert!(rt; !read_only.write(1, &[1; 512]));
+    assert!(rt; read_only.file.write_all_at(&[1; 512], 0).is_err());
     let mut block = [0; 512];
     assert!(rt; read_only.read(1, &mut block));
     assert_eq!(rt; block[0], 7);
