@@ -66,8 +66,8 @@ const DIGIT_0: u8 = 0xF0;
 /// Where the date stands.
 const DATE: usize = 54;
 
-/// The entry that the first 64 bytes spell on a volume with blocks of this size. Bytes in which no field stands, the mode's letter, the flags and the length of V
-/// records in a file aren't tested.
+/// The entry that the first 64 bytes spell on a volume with blocks of this size. Bytes in which no field stands, the mode's
+/// letter, the flags and the length of V records in a file aren't tested.
 #[tactic(auto, unfolding(crate::specs::Entries::entry_of, crate::specs::Entries::entry_fields))]
 pub fn read_entry(bytes: &[u8], bsize: BlockSize) -> Result<Entry, EntryFault>
     requires long { 64 ≤ length bytes.now }

@@ -146,7 +146,11 @@ IsFresh (New n) units name = NoneIsNamed units name
 -- a journal has one more unit, to which nothing happened yet
 pub record IsAttached (old : Journal) (new : Option Journal) (name : List ℕ) (size : ℕ) (access : Access) (number blocks : ℕ) : Type 0 where
   pub start : List (List ℕ)
-  pub told : new ≡ Some (record { units = old.units ++ record { name = name; bsize = size; writable = may_write access; start = start } ∷ []; events = old.events })
+  pub told : new ≡ Some (record {
+    units = old.units ++ record { name = name; bsize = size; writable = may_write access; start = start }
+        ∷ [];
+    events = old.events;
+  })
   pub number_is : number ≡ length old.units
   pub blocks_is : blocks ≡ length start
   pub sizes : All (λ block. length block ≡ size) start

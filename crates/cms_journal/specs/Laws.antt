@@ -44,7 +44,8 @@ pub record IsBlockwise (events : List Event) (u : ℕ) (start image : List (List
       → (slice_index_or image k [] ≡ slice_index_or (base events u start) k []) ⊎ WroteSince events u (k + 1) (slice_index_or image k [])
 
 abbrev pub AreBlockwise : Type 0
-AreBlockwise = (events : List Event) (u : ℕ) (start image : List (List ℕ)) → IsCrashImage events u start image ↔ IsBlockwise events u start image
+AreBlockwise = (events : List Event) (u : ℕ) (start image : List (List ℕ)) → IsCrashImage events u start image
+    ↔ IsBlockwise events u start image
 
 -- a write puts its bytes in the place of its block; a crash after it leaves what it might have left before, there with these
 -- bytes or not
@@ -53,9 +54,11 @@ pub record PutsBlock (events : List Event) (u k : ℕ) (bytes : List ℕ) (start
   pub base_same : base (Wrote u k bytes ∷ events) u start ≡ base events u start
   pub crash_either :
       (image : List (List ℕ)) → IsCrashImage (Wrote u k bytes ∷ events) u start image
-      → IsCrashImage events u start image ⊎ ((old : List (List ℕ)) × IsCrashImage events u start old × (image ≡ slice_set old (k - 1) bytes))
+      → IsCrashImage events u start image ⊎ ((old : List (List ℕ)) × IsCrashImage events u start old
+      × (image ≡ slice_set old (k - 1) bytes))
   pub crash_old : (image : List (List ℕ)) → IsCrashImage events u start image → IsCrashImage (Wrote u k bytes ∷ events) u start image
-  pub crash_new : (image : List (List ℕ)) → IsCrashImage events u start image → IsCrashImage (Wrote u k bytes ∷ events) u start (slice_set image (k - 1) bytes)
+  pub crash_new : (image : List (List ℕ)) → IsCrashImage events u start image
+      → IsCrashImage (Wrote u k bytes ∷ events) u start (slice_set image (k - 1) bytes)
 
 abbrev pub ArePut : Type 0
 ArePut = (events : List Event) (u k : ℕ) (bytes : List ℕ) (start : List (List ℕ)) → 1 ≤ k → PutsBlock events u k bytes start

@@ -27,7 +27,8 @@ AllAllowed last first (n ∷ ns) = (is_allowed last first n ≡ true) × AllAllo
 abbrev pub Built : Form → Image → ℕ → List ℕ → ℕ → List ℕ → Type 0
 Built form image zero ps root nodes = (ps ≡ root ∷ []) × (nodes ≡ [])
 Built form image (suc k) ps root nodes =
-    (level : List ℕ) × (more : List ℕ) × (1 < length ps) × Points form image level ps × AllAllowed form.last None level × (nodes ≡ level ++ more)
+    (level : List ℕ) × (more : List ℕ) × (1 < length ps) × Points form image level ps × AllAllowed form.last None level
+    × (nodes ≡ level ++ more)
     × Built form image k level root more
 
 -- a tree that is read so has these data blocks, its blocks are these and the pointer blocks, and its levels are its shape

@@ -60,7 +60,8 @@ IsFree (Relabel volid) files = ⊤
 
 -- names stay distinct
 abbrev pub NamesStayDistinct : Type 0
-NamesStayDistinct = (files : List File) (change : Change) → AreDistinct files → IsFree change files → AreDistinct (changed_files files change)
+NamesStayDistinct = (files : List File) (change : Change) → AreDistinct files → IsFree change files
+    → AreDistinct (changed_files files change)
 
 -- the files of an open volume have distinct names
 abbrev pub OpenedAreDistinct : Type 0

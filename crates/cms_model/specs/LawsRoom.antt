@@ -49,6 +49,5 @@ FullWhereLacking = (m : Minidisk) (change : Change) (needed free : ℕ) → (ans
 
 -- a minidisk that has room for what it has in use and for its lost blocks has it after each change that isn't refused
 abbrev pub RoomIsKept : Type 0
-RoomIsKept =
-    (m new : Minidisk) (change : Change) → used_count m + m.lost ≤ m.total → answer_of m change ≡ Changed new
+RoomIsKept = (m new : Minidisk) (change : Change) → used_count m + m.lost ≤ m.total → answer_of m change ≡ Changed new
     → used_count new + new.lost ≤ new.total

@@ -15,7 +15,8 @@ ShapeIsLeast = (fan blocks k : ℕ) → 2 ≤ fan → blocks < 2 ^ 32 → (is_sh
 -- a tree that is read has as many data blocks as were asked for, and as many blocks as its size says
 abbrev pub TreeHasSize : Type 0
 TreeHasSize =
-    (form : Form) (image : Image) (k : ℕ) (first : Option ℕ) (holder root count : ℕ) (met : Met) → 2 ≤ form.fan → 1 ≤ count → count < 2 ^ 32 → is_shape form.fan count k ≡ true
+    (form : Form) (image : Image) (k : ℕ) (first : Option ℕ) (holder root count : ℕ) (met : Met) → 2 ≤ form.fan → 1 ≤ count
+    → count < 2 ^ 32 → is_shape form.fan count k ≡ true
     → tree form image k first holder root count ≡ Ok met → (length met.leaves ≡ count) × (length met.blocks ≡ tree_size form.fan count)
 
 -- each block of a tree lies from 6 to the last, but for a first data block with a fixed place

@@ -105,7 +105,8 @@ updated image ws label = put_block (put_blocks image ws) (record { block = 3; by
 pub record PutsBlocks (j : Journal) (u : ℕ) (ws : List Write) (label : List ℕ) : Type 0 where
   pub written : (n : ℕ) → 1 ≤ n → now (after j (writes u ws)) u n ≡ put_blocks (now j u) ws n
   pub whole : (n : ℕ) → 1 ≤ n → now (after j (update u ws label)) u n ≡ updated (now j u) ws label n
-  pub opens : (disk : Disk) (new : Opened) → open_of disk (updated (now j u) ws label) ≡ Ok new → open_of disk (now (after j (update u ws label)) u) ≡ Ok new
+  pub opens : (disk : Disk) (new : Opened) → open_of disk (updated (now j u) ws label) ≡ Ok new
+      → open_of disk (now (after j (update u ws label)) u) ≡ Ok new
 
 abbrev pub UpdateIsPut : Type 0
 UpdateIsPut =
@@ -200,7 +201,8 @@ WipeIsWhole = (disk : Disk) (j : Journal) (u size : ℕ) (old : State) → IsFir
 -- as long as its label isn't written, a unit is wiped
 abbrev pub KeepsWiped : Type 0
 KeepsWiped =
-    (j : Journal) (u : ℕ) (ws : List Write) (p : List Event) → IsWiped j u → Apart ws (3 ∷ []) → IsFront p (to_label u ws) → IsWiped (after j p) u
+    (j : Journal) (u : ℕ) (ws : List Write) (p : List Event) → IsWiped j u → Apart ws (3 ∷ []) → IsFront p (to_label u ws)
+    → IsWiped (after j p) u
 
 pub record IsMaking (disk : Disk) (j : Journal) (u : ℕ) (ws : List Write) (label : List ℕ) (new : Opened) : Type 0 where
   pub wiped : IsWiped j u
@@ -214,7 +216,8 @@ pub record Makes (disk : Disk) (j : Journal) (u : ℕ) (ws : List Write) (label 
   pub whole : IsSettled disk (after j (update u ws label)) u new
 
 abbrev pub MakeIsWhole : Type 0
-MakeIsWhole = (disk : Disk) (j : Journal) (u : ℕ) (ws : List Write) (label : List ℕ) (new : Opened) → IsMaking disk j u ws label new → Makes disk j u ws label new
+MakeIsWhole = (disk : Disk) (j : Journal) (u : ℕ) (ws : List Write) (label : List ℕ) (new : Opened) → IsMaking disk j u ws label new
+    → Makes disk j u ws label new
 
 -- ---- units of other numbers
 

@@ -14,11 +14,13 @@ OpensWhereHeld = (disk : Disk) (image : Image) (v : Opened) → (open_of disk im
 
 -- a volume rests on its label, its origin and the blocks of its trees
 abbrev pub RestsOnFrame : Type 0
-RestsOnFrame = (disk : Disk) (before later : Image) (v : Opened) → open_of disk before ≡ Ok v → Agree (frame v) before later → open_of disk later ≡ Ok v
+RestsOnFrame = (disk : Disk) (before later : Image) (v : Opened) → open_of disk before ≡ Ok v → Agree (frame v) before later
+    → open_of disk later ≡ Ok v
 
 -- an image has the state of a minidisk exactly where it opens as a volume that is this minidisk
 abbrev pub StateIsMinidisk : Type 0
-StateIsMinidisk = (disk : Disk) (image : Image) (m : Minidisk) → (state_of disk image ≡ Volume m) ↔ ((v : Opened) × (open_of disk image ≡ Ok v) × (minidisk_of disk v ≡ m))
+StateIsMinidisk = (disk : Disk) (image : Image) (m : Minidisk) → (state_of disk image ≡ Volume m)
+    ↔ ((v : Opened) × (open_of disk image ≡ Ok v) × (minidisk_of disk v ≡ m))
 
 -- an image without a label is none for the second reason
 abbrev pub NoLabelIsNone : Type 0

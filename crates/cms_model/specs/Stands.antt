@@ -22,11 +22,19 @@ pub record Kept : Type 0 where
 
 -- the file that it is
 abbrev pub file_of : Kept → File
-file_of f = record { name = f.entry.name; number = f.entry.number; format = f.entry.format; length = length_of f.entry.format f.entry.length f.records; stamp = f.entry.stamp; records = f.records }
+file_of f = record {
+  name = f.entry.name;
+  number = f.entry.number;
+  format = f.entry.format;
+  length = length_of f.entry.format f.entry.length f.records;
+  stamp = f.entry.stamp;
+  records = f.records;
+}
 
 -- a volume of so many blocks, on a disk, has the file's tree and records in this image, wherever its entry stands
 pub record HoldsFile (disk : Disk) (total : ℕ) (image : Image) (f : Kept) : Type 0 where
-  pub met : (holder : ℕ) → tree (form_of disk.bsize total f.entry.format) image f.entry.levels None holder f.entry.root f.entry.blocks ≡ Ok f.met
+  pub met : (holder : ℕ) → tree (form_of disk.bsize total f.entry.format) image f.entry.levels None holder f.entry.root f.entry.blocks
+      ≡ Ok f.met
   pub records : records_of disk.bsize f.entry.format f.entry.length f.entry.count (bytes_at image f.met.leaves) ≡ Ok f.records
 
 abbrev pub HoldsFiles : Disk → ℕ → Image → List Kept → Type 0
@@ -90,9 +98,11 @@ pub record HoldsSystem (disk : Disk) (image : Image) (v : Layout) : Type 0 where
   pub blocks : nat_le 6 disk.count ≡ true
   pub label : label_of disk.bsize disk.count (image 3) ≡ Ok v.label
   pub directory : directory_of disk.bsize v.label.origin (image v.label.origin) ≡ Ok v.directory
-  pub directory_met : tree (form_of disk.bsize v.label.blocks F) image v.directory.levels (Some v.label.origin) v.label.origin v.directory.root v.directory.blocks ≡ Ok v.directory_met
+  pub directory_met : tree (form_of disk.bsize v.label.blocks F) image v.directory.levels
+      (Some v.label.origin) v.label.origin v.directory.root v.directory.blocks ≡ Ok v.directory_met
   pub map : map_of disk.bsize v.label.blocks (drop 64 (image v.label.origin)) ≡ Ok v.map
-  pub entries : entries_of disk.bsize 2 (cut (v.directory.count - 2) 64 (drop 128 (bytes_at image v.directory_met.leaves))) ≡ Ok (entries_in v.files)
+  pub entries : entries_of disk.bsize 2 (cut (v.directory.count - 2) 64 (drop 128 (bytes_at image v.directory_met.leaves)))
+      ≡ Ok (entries_in v.files)
   pub map_met : tree (form_of disk.bsize v.label.blocks F) image v.map.levels None v.label.origin v.map.root v.map.blocks ≡ Ok v.map_met
 
 -- the volume stands in the image: its parts are there, its names are distinct, no block stands twice, each is marked, and so
@@ -115,7 +125,13 @@ OpenedStands = (disk : Disk) (image : Image) (o : Opened) → open_of disk image
 
 -- the minidisk that it is
 abbrev pub minidisk_in : Disk → Layout → Minidisk
-minidisk_in disk v = record { volid = v.label.volid; bsize = disk.bsize; total = v.label.blocks; lost = v.lost; files = map file_of v.files }
+minidisk_in disk v = record {
+  volid = v.label.volid;
+  bsize = disk.bsize;
+  total = v.label.blocks;
+  lost = v.lost;
+  files = map file_of v.files;
+}
 
 abbrev pub OpenedIsMinidisk : Type 0
 OpenedIsMinidisk = (disk : Disk) (v : Layout) → minidisk_of disk (opened v) ≡ minidisk_in disk v
@@ -145,7 +161,8 @@ pub record IsRenewed (disk : Disk) (before later : Image) (old new : Layout) (re
   pub names : HaveNames new.files
   pub files : Comes disk new.label.blocks before later new.files
   pub apart : (n : ℕ) → times n (layout_blocks new) ≤ 1
-  pub exchange : Exchange (bytes_at before old.map_met.leaves) (bytes_at later new.map_met.leaves) (layout_blocks old) (layout_blocks new) released fresh
+  pub exchange : Exchange (bytes_at before old.map_met.leaves) (bytes_at later new.map_met.leaves) (layout_blocks old)
+      (layout_blocks new) released fresh
 
 abbrev pub RenewedStands : Type 0
 RenewedStands =

@@ -102,7 +102,8 @@ open_of disk image = do
   want (nat_le 6 disk.count) (failed.Label Count)
   label ← blamed failed.Label (label_of disk.bsize disk.count (image 3))
   directory ← directory_of disk.bsize label.origin (image label.origin)
-  directory_met ← tree (form_of disk.bsize label.blocks F) image directory.levels (Some label.origin) label.origin directory.root directory.blocks
+  directory_met ← tree (form_of disk.bsize label.blocks F) image directory.levels
+      (Some label.origin) label.origin directory.root directory.blocks
   map ← map_of disk.bsize label.blocks (drop 64 (image label.origin))
   entries ← entries_of disk.bsize 2 (cut (directory.count - 2) 64 (drop 128 (bytes_at image directory_met.leaves)))
   absent (first_twice 2 [] entries) failed.Twice
@@ -128,7 +129,8 @@ pub record IsOpened (disk : Disk) (image : Image) (v : Opened) : Type 0 where
   pub blocks : nat_le 6 disk.count ≡ true
   pub label : label_of disk.bsize disk.count (image 3) ≡ Ok v.label
   pub directory : directory_of disk.bsize v.label.origin (image v.label.origin) ≡ Ok v.directory
-  pub directory_met : tree (form_of disk.bsize v.label.blocks F) image v.directory.levels (Some v.label.origin) v.label.origin v.directory.root v.directory.blocks ≡ Ok v.directory_met
+  pub directory_met : tree (form_of disk.bsize v.label.blocks F) image v.directory.levels
+      (Some v.label.origin) v.label.origin v.directory.root v.directory.blocks ≡ Ok v.directory_met
   pub map : map_of disk.bsize v.label.blocks (drop 64 (image v.label.origin)) ≡ Ok v.map
   pub entries : entries_of disk.bsize 2 (cut (v.directory.count - 2) 64 (drop 128 (bytes_at image v.directory_met.leaves))) ≡ Ok v.entries
   pub names : first_twice 2 [] v.entries ≡ None
@@ -144,12 +146,25 @@ unfoldable pub files_of : List Entry → List (List (List ℕ)) → List File
 files_of [] contents = []
 files_of (e ∷ es) [] = []
 files_of (e ∷ es) (records ∷ more) =
-    record { name = e.name; number = e.number; format = e.format; length = length_of e.format e.length records; stamp = e.stamp; records = records }
+    record {
+      name = e.name;
+      number = e.number;
+      format = e.format;
+      length = length_of e.format e.length records;
+      stamp = e.stamp;
+      records = records;
+    }
     ∷ files_of es more
 
 -- the minidisk that a volume is
 unfoldable pub minidisk_of : Disk → Opened → Minidisk
-minidisk_of disk v = record { volid = v.label.volid; bsize = disk.bsize; total = v.label.blocks; lost = v.lost; files = files_of v.entries v.contents }
+minidisk_of disk v = record {
+  volid = v.label.volid;
+  bsize = disk.bsize;
+  total = v.label.blocks;
+  lost = v.lost;
+  files = files_of v.entries v.contents;
+}
 
 -- the number of a reason
 unfoldable pub reason : OpenFault → ℕ

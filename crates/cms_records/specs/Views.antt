@@ -26,7 +26,8 @@ front (suc n) bytes = take (half bytes 0) (drop 2 bytes) ∷ front n (drop (2 + 
 -- bytes begin with so many whole records of varying lengths, none of them empty
 unfoldable pub BeginWith : ℕ → List ℕ → Type 0
 BeginWith zero bytes = Unit {0}
-BeginWith (suc n) bytes = (2 ≤ length bytes) × (1 ≤ half bytes 0) × (2 + half bytes 0 ≤ length bytes) × BeginWith n (drop (2 + half bytes 0) bytes)
+BeginWith (suc n) bytes = (2 ≤ length bytes) × (1 ≤ half bytes 0) × (2 + half bytes 0 ≤ length bytes)
+    × BeginWith n (drop (2 + half bytes 0) bytes)
 
 -- a text cut to a length, or filled to it with a byte
 abbrev pub fitted : List ℕ → ℕ → ℕ → List ℕ

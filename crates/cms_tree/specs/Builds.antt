@@ -40,7 +40,10 @@ level_over fan below = grouped (up (length below) fan) fan below
 abbrev pub parent : ℕ → List Child → Child
 parent n group = record {
   block = n;
-  mark = record { last = (slice_index_or group (length group - 1) no_child).mark.last; place = (slice_index_or group 0 no_child).mark.place };
+  mark = record {
+    last = (slice_index_or group (length group - 1) no_child).mark.last;
+    place = (slice_index_or group 0 no_child).mark.place;
+  };
 }
 
 -- the pointer blocks of a level, with these numbers
@@ -53,11 +56,16 @@ parents (n ∷ ns) (group ∷ groups) = parent n group ∷ parents ns groups
 -- the blocks have the numbers `fresh` in this order
 unfoldable pub all_over : ℕ → ℕ → List Child → List ℕ → List (List Child)
 all_over fan zero below fresh = []
-all_over fan (suc k) below fresh = level_over fan below ++ all_over fan k (parents fresh (level_over fan below)) (drop (length (level_over fan below)) fresh)
+all_over fan (suc k) below fresh = level_over fan below ++ all_over fan k (parents fresh (level_over fan below))
+    (drop (length (level_over fan below)) fresh)
 
 -- a child as it is stored: its number in four bytes, and where a pointer has 12, its mark in eight more
 abbrev pub cell_of : ℕ → Child → Cell
-cell_of psize child = record { block = child.block; beside = if psize == 12 then big_bytes 4 child.mark.last ++ big_bytes 4 child.mark.place else [] }
+cell_of psize child = record {
+  block = child.block;
+  beside = if psize == 12 then big_bytes 4 child.mark.last
+      ++ big_bytes 4 child.mark.place else [];
+}
 
 -- the bytes of a pointer block: its pointers, and then zeros
 unfoldable pub node_bytes : ℕ → ℕ → List Child → List ℕ
@@ -93,6 +101,8 @@ HasNodes image bsize psize leaves marks fresh =
 abbrev pub BuiltIsTree : Type 0
 BuiltIsTree =
     (bsize psize last : ℕ) (first : Option ℕ) (holder : ℕ) (leaves : List ℕ) (marks : List Mark) (fresh : List ℕ) (image : Image)
-    → IsBuildable bsize psize leaves marks fresh → last < 2 ^ 32 → All (λ n. n < 2 ^ 32) leaves → AllAllowed last first leaves → AllAllowed last None fresh
+    → IsBuildable bsize psize leaves marks fresh → last < 2 ^ 32 → All (λ n. n < 2 ^ 32) leaves → AllAllowed last first leaves
+    → AllAllowed last None fresh
     → HasNodes image bsize psize leaves marks fresh
-    → ReadsAs (record { fan = bsize / psize; stride = psize; last = last }) image (levels (bsize / psize) (length leaves)) first holder (root_of leaves fresh) leaves fresh
+    → ReadsAs (record { fan = bsize / psize; stride = psize; last = last }) image (levels (bsize / psize) (length leaves)) first holder
+    (root_of leaves fresh) leaves fresh

@@ -10,16 +10,21 @@ mark_at marks i = slice_index_or marks i no_mark
 
 -- the mark of block i of a level on which each block but the last has `size` data blocks below it, of `count` in all
 abbrev pub wide_mark : List Mark → ℕ → ℕ → ℕ → Mark
-wide_mark marks count size i = record { last = (mark_at marks (min ((i + 1) * size) count - 1)).last; place = (mark_at marks (i * size)).place }
+wide_mark marks count size i = record {
+  last = (mark_at marks (min ((i + 1) * size) count - 1)).last;
+  place = (mark_at marks (i * size)).place;
+}
 
 -- blocks of such a level, from its block i on
 unfoldable pub children_from : List Mark → ℕ → ℕ → ℕ → List ℕ → List Child
 children_from marks count size i [] = []
-children_from marks count size i (n ∷ ns) = record { block = n; mark = wide_mark marks count size i } ∷ children_from marks count size (i + 1) ns
+children_from marks count size i (n ∷ ns) = record { block = n; mark = wide_mark marks count size i }
+    ∷ children_from marks count size (i + 1) ns
 
 -- the children of a pointer block, by its place among all
 pub record IsGroup (fan : ℕ) (leaves fresh : List ℕ) (nth : ℕ) (group : Group) : Type 0 where
-  pub children : (marks : List Mark) → children_from marks (length leaves) group.size group.first group.blocks.now ≡ slice_index_or (nodes_over fan leaves marks fresh) nth []
+  pub children : (marks : List Mark) → children_from marks (length leaves) group.size group.first group.blocks.now
+      ≡ slice_index_or (nodes_over fan leaves marks fresh) nth []
   pub size : 1 ≤ group.size
   pub short : group.size ≤ 2 ^ 60
   pub within : group.first + length group.blocks.now ≤ up (length leaves) group.size

@@ -35,7 +35,8 @@ Joins old new (Err why) read nodes = IsFaultOf why read
 -- the same of a tree of so many levels, or of the part of one below a pointer
 abbrev pub JoinsPart : Image → Layout → ℕ → Subtree → Walked → Walked → Result ⊤ TreeFault → Type 0
 JoinsPart image layout levels part old new result =
-    Joins old new result (tree (form_of layout) image levels part.first part.holder part.root part.count) (nodes (form_of layout) image levels part.root part.count)
+    Joins old new result (tree (form_of layout) image levels part.first part.holder part.root part.count)
+    (nodes (form_of layout) image levels part.root part.count)
 
 -- the refusal of a pointer that isn't allowed, or want of memory
 abbrev pub IsRefusal : TreeFault → ℕ → ℕ → Bool → Type 0

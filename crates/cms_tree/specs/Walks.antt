@@ -32,7 +32,8 @@ nodes_below below size (p ∷ ps) (suc n) = below p (min (suc n) size) ++ nodes_
 -- the pointer blocks, in preorder, of a tree of so many levels over so many data blocks
 unfoldable pub nodes : Form → Image → ℕ → ℕ → ℕ → List ℕ
 nodes form image zero root count = []
-nodes form image (suc k) root count = root ∷ nodes_below (nodes form image k) (form.fan ^ k) (pointers form.fan form.stride (image root)) count
+nodes form image (suc k) root count = root ∷ nodes_below (nodes form image k) (form.fan ^ k)
+    (pointers form.fan form.stride (image root)) count
 
 abbrev pub nodes_at : Image → TreeAt → List ℕ
 nodes_at image at = nodes (form_at at) image (levels_at at) at.root at.count
@@ -40,7 +41,8 @@ nodes_at image at = nodes (form_at at) image (levels_at at) at.root at.count
 -- a walk that went well met the tree's blocks; one that was refused met the tree's first pointer that isn't allowed
 abbrev pub Reads : Image → TreeAt → Result Walked TreeFault → Type 0
 Reads image at (Ok walked) =
-    (tree_at image at ≡ Ok (record { blocks = walked.blocks.items; leaves = walked.leaves.items })) × (walked.pointers.items ≡ nodes_at image at)
+    (tree_at image at ≡ Ok (record { blocks = walked.blocks.items; leaves = walked.leaves.items }))
+    × (walked.pointers.items ≡ nodes_at image at)
 Reads image at (Err (Pointer holder value)) = tree_at image at ≡ Err (fault.Pointer holder value)
 Reads image at (Err Device) = ⊤
 Reads image at (Err Memory) = ⊤

@@ -14,9 +14,9 @@ use cms_journal::BlockSize;
 /// Fills a pointer block of a tree over these data blocks: the block at the place `nth` of all its pointer blocks, from 0,
 /// counted from the bottom level up and from left to right on each.
 ///
-/// `fresh` has a number for each pointer block in this order. Pointers have `psize` bytes, 4 or 12. Each block has as many pointers as it has room for, but the last of a level; zeros stand behind them. A
-/// pointer of 12 bytes also has the `last` of the last data block below it and the `place` of the first, of which `marks` has
-/// one for each data block.
+/// `fresh` has a number for each pointer block in this order. Pointers have `psize` bytes, 4 or 12. Each block has as many
+/// pointers as it has room for, but the last of a level; zeros stand behind them. A pointer of 12 bytes also has the `last` of
+/// the last data block below it and the `place` of the first, of which `marks` has one for each data block.
 pub fn build(
     leaves: &[u32],
     marks: &[Mark],
@@ -92,7 +92,8 @@ fn fill_node(group: &Group, count: usize, marks: &[Mark], psize: u8, into: &mut 
     requires short { group.now.size ≤ 2 ^ 60 }
     requires within { group.now.first + length group.now.blocks.now ≤ up count group.now.size }
     requires room { length group.now.blocks.now * psize ≤ length into.old }
-    ensures { into.new ≡ node_bytes (length into.old) psize (children_from marks.now count group.now.size group.now.first group.now.blocks.now) }
+    ensures { into.new ≡ node_bytes (length into.old) psize
+        (children_from marks.now count group.now.size group.now.first group.now.blocks.now) }
 {
     into.fill(0);
     for (place, block) in group.blocks.iter().enumerate() {

@@ -101,7 +101,8 @@ fn size_below(fan: u32, levels: u8) -> u64
 
 // Appends a data block.
 fn take_leaf(layout: &Layout, part: &Subtree, into: &mut Walked) -> Result<(), TreeFault>
-    ensures read { (image : Image) (count : ℕ) → Joins into.old into.new result (tree (form_of layout.now) image 0 part.now.first part.now.holder part.now.root count) [] }
+    ensures read { (image : Image) (count : ℕ) → Joins into.old into.new result
+        (tree (form_of layout.now) image 0 part.now.first part.now.holder part.now.root count) [] }
     ensures count { OnOk result (vec_len into.new.leaves ≡ vec_len into.old.leaves + 1) }
     ensures within { OnOk result (StaysWithin layout.now.last part.now.first into.old into.new) }
     ensures device { result ≡ Err Device → ⊥ }
@@ -119,7 +120,8 @@ fn take_leaf(layout: &Layout, part: &Subtree, into: &mut Walked) -> Result<(), T
 
 // Appends a pointer block.
 fn take_node(layout: &Layout, part: &Subtree, into: &mut Walked) -> Result<(), TreeFault>
-    ensures refused { IfErr result (λ fault. IsRefusal fault part.now.holder part.now.root (is_allowed layout.now.last None part.now.root)) }
+    ensures refused { IfErr result (λ fault. IsRefusal fault part.now.holder part.now.root
+        (is_allowed layout.now.last None part.now.root)) }
     ensures ok { OnOk result (IsTaken layout.now.last part.now.root into.old into.new) }
     ensures device { result ≡ Err Device → ⊥ }
 {
@@ -238,7 +240,8 @@ fn walk_from<W: World>(
     requires some { 1 ≤ part.now.count }
     requires room { part.now.count ≤ layout.now.fan ^ levels }
     requires blocks { ForSome (W.told world.old) (λ j. HasBlocks j.units layout.now.unit layout.now.last layout.now.bsize) }
-    ensures read { ForSome (W.told world.old) (λ j. JoinsPart (image_of (contents_of j layout.now.unit)) layout.now levels part.now into.old into.new result) }
+    ensures read { ForSome (W.told world.old) (λ j. JoinsPart (image_of
+        (contents_of j layout.now.unit)) layout.now levels part.now into.old into.new result) }
     ensures count { OnOk result (vec_len into.new.leaves ≡ vec_len into.old.leaves + part.now.count) }
     ensures within { OnOk result (StaysWithin layout.now.last part.now.first into.old into.new) }
     ensures told { W.told world.new ≡ W.told world.old }

@@ -14,7 +14,8 @@ MayHappen units event = ⊤
 
 -- each block of a unit has the unit's block size
 abbrev pub AreSized : List Attached → List Event → Type 0
-AreSized units events = (u k size : ℕ) → HasBlock units u k size → length (block_after events u k (slice_index_or (start_of units u) (k - 1) [])) ≡ size
+AreSized units events = (u k size : ℕ) → HasBlock units u k size → length
+    (block_after events u k (slice_index_or (start_of units u) (k - 1) [])) ≡ size
 
 -- the blocks that are kept of each unit are its contents
 abbrev pub AreCurrent : List Attached → List (List (List ℕ)) → List Event → Type 0

@@ -22,10 +22,13 @@ pub fn attach_image(
     requires size { 0 < bsize }
     requires room { length recorder.old.units < 256 }
     requires fresh { standing ≡ None → NoneIsNamed recorder.old.units name.now }
-    ensures start { IfOk result (λ attached. option_map (λ unit. start_of recorder.new.units unit.number) attached ≡ starting (option_map (λ bytes. bytes.items) standing) access bsize) }
-    ensures attached { IfOk result (λ attached. IfSome attached (λ unit. IsAttached recorder.old (Some recorder.new) name.now bsize access unit.number unit.blocks)) }
+    ensures start { IfOk result (λ attached. option_map (λ unit. start_of recorder.new.units unit.number) attached
+        ≡ starting (option_map (λ bytes. bytes.items) standing) access bsize) }
+    ensures attached { IfOk result (λ attached. IfSome attached (λ unit. IsAttached recorder.old
+        (Some recorder.new) name.now bsize access unit.number unit.blocks)) }
     ensures held { IfOk result (λ attached. IfSome attached (λ unit. HasBlocks recorder.new.units unit.number unit.blocks bsize)) }
-    ensures writable { IfOk result (λ attached. IfSome attached (λ unit. IsTrue (may_write access) → IsWritable recorder.new.units unit.number)) }
+    ensures writable { IfOk result (λ attached. IfSome attached (λ unit. IsTrue (may_write access)
+        → IsWritable recorder.new.units unit.number)) }
     ensures none { IfOk result (λ attached. IfNone attached (recorder.new ≡ recorder.old)) }
     ensures err { OnErr result (recorder.new ≡ recorder.old) }
 {

@@ -84,7 +84,8 @@ pub fn image_at(
     choice: u64,
 ) -> Result<Vec<u8>, AllocError>
     requires { at ≤ length events.now }
-    ensures chosen { IfOk result (λ image. image.items ≡ concat (chosen_image (first_events at (reverse events.now)) unit choice start.now)) }
+    ensures chosen { IfOk result (λ image. image.items ≡ concat (chosen_image
+        (first_events at (reverse events.now)) unit choice start.now)) }
     ensures crash { IfOk result (λ image. HoldsCrashImage (first_events at (reverse events.now)) unit start.now image.items) }
 {
     image_of(alloc, &events[..at], unit, start, choice)

@@ -153,8 +153,10 @@ impl MemWorld {
     ) -> Result<Vec<u8>, AllocError>
         requires unit { HasUnit (journal_of self.now).units unit }
         requires at { at ≤ length (journal_of self.now).events }
-        ensures chosen { IfOk result (λ image. let j = journal_of self.now in image.items ≡ concat (chosen_image (first_events at j.events) unit choice (start_of j.units unit))) }
-        ensures crash { IfOk result (λ image. let j = journal_of self.now in HoldsCrashImage (first_events at j.events) unit (start_of j.units unit) image.items) }
+        ensures chosen { IfOk result (λ image. let j = journal_of self.now in image.items
+            ≡ concat (chosen_image (first_events at j.events) unit choice (start_of j.units unit))) }
+        ensures crash { IfOk result (λ image. let j = journal_of self.now in HoldsCrashImage (first_events at j.events) unit
+            (start_of j.units unit) image.items) }
     {
         self.recorder.crash(alloc, unit, at, choice)
     }
@@ -206,15 +208,18 @@ impl World for MemWorld {
     fn attach(&mut self, name: &str, bsize: u32, access: Access) -> Result<Unit, Failed>
         requires size { IsBlockSize bsize }
         requires room { ForSome (told_of self.old) (λ j. length j.units < 256) }
-        ensures attached { IfOk result (λ unit. ForSome (told_of self.old) (λ j. IsAttached j (told_of self.new) name.now bsize access unit.number unit.blocks)) }
+        ensures attached { IfOk result (λ unit. ForSome (told_of self.old)
+            (λ j. IsAttached j (told_of self.new) name.now bsize access unit.number unit.blocks)) }
         ensures held { IfOk result (λ unit. ForSome (told_of self.new) (λ j. HasBlocks j.units unit.number unit.blocks bsize)) }
-        ensures writable { IfOk result (λ unit. IsTrue (may_write access) → ForSome (told_of self.new) (λ j. IsWritable j.units unit.number)) }
+        ensures writable { IfOk result (λ unit. IsTrue (may_write access)
+            → ForSome (told_of self.new) (λ j. IsWritable j.units unit.number)) }
         ensures silent { told_of self.old ≡ None → told_of self.new ≡ None }
         ensures failed { OnErr result (MayAdd (Missed name.now bsize access) (told_of self.old) (told_of self.new)) }
         ensures cause { HasCause (edges_of self.old) (edges_of self.new) result }
         ensures faults { faults_of self.new ≡ faults_of self.old }
 
-        ensures start { IfOk result (λ unit. starting (standing_of self.old name.now) access bsize ≡ Some (start_of (journal_of self.new).units unit.number)) }
+        ensures start { IfOk result (λ unit. starting (standing_of self.old name.now) access bsize
+            ≡ Some (start_of (journal_of self.new).units unit.number)) }
         ensures rest { rest_of self.new ≡ rest_of self.old }
         ensures called { IsCalled ATTACH self.old self.new result }
     {

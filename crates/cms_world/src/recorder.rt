@@ -245,8 +245,10 @@ impl Recorder {
     ) -> Result<Vec<u8>, AllocError>
         requires unit { HasUnit self.now.units unit }
         requires at { at ≤ length self.now.events }
-        ensures chosen { IfOk result (λ image. image.items ≡ concat (chosen_image (first_events at self.now.events) unit choice (start_of self.now.units unit))) }
-        ensures crash { IfOk result (λ image. HoldsCrashImage (first_events at self.now.events) unit (start_of self.now.units unit) image.items) }
+        ensures chosen { IfOk result (λ image. image.items ≡ concat (chosen_image (first_events at self.now.events) unit choice
+            (start_of self.now.units unit))) }
+        ensures crash { IfOk result (λ image. HoldsCrashImage (first_events at self.now.events) unit
+            (start_of self.now.units unit) image.items) }
     {
         image_at(alloc, &self.events, at, unit, self.start(unit), choice)
     }

@@ -30,7 +30,8 @@ pub trait World {
     fn attach(&mut self, name: &str, bsize: u32, access: Access) -> Result<Unit, Failed>
         requires size { IsBlockSize bsize }
         requires room { ForSome (told self.old) (λ j. length j.units < 256) }
-        ensures attached { IfOk result (λ unit. ForSome (told self.old) (λ j. IsAttached j (told self.new) name.now bsize access unit.number unit.blocks)) }
+        ensures attached { IfOk result (λ unit. ForSome (told self.old)
+            (λ j. IsAttached j (told self.new) name.now bsize access unit.number unit.blocks)) }
         ensures held { IfOk result (λ unit. ForSome (told self.new) (λ j. HasBlocks j.units unit.number unit.blocks bsize)) }
         ensures writable { IfOk result (λ unit. IsTrue (may_write access) → ForSome (told self.new) (λ j. IsWritable j.units unit.number)) }
         ensures silent { told self.old ≡ None → told self.new ≡ None }
