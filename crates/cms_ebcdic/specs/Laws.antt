@@ -16,4 +16,5 @@ TypesBack = (character code : ℕ) → character < 256 → code_of character ≡
 
 -- the folds change the 26 letters alone
 abbrev pub FoldsLetters : Type 0
-FoldsLetters = (code : ℕ) → code < 256 → (upper_of code ≡ (if is_small code then code + 0x40 else code)) × (lower_of code ≡ (if is_capital code then code - 0x40 else code))
+FoldsLetters = (code : ℕ) → code < 256 → (upper_of code ≡ (if is_small code then code + 0x40 else code))
+    × (lower_of code ≡ (if is_capital code then code - 0x40 else code))

@@ -40,7 +40,8 @@ ReadsBack e = (length (entry_bytes e) ≡ 64) × ((bsize : ℕ) → passes bsize
 unfoldable pub directory_bytes : SmallVolume → Stamp → List ℕ
 directory_bytes s stamp =
     system_bytes directory_name 64 s.label.origin (length s.files + 2) stamp
-    ++ (system_bytes map_name s.disk.bsize s.map_root 1 stamp ++ (file_entries s.files ++ replicate (s.disk.bsize - 64 * (length s.files + 2)) 0))
+    ++ (system_bytes map_name s.disk.bsize s.map_root 1 stamp ++ (file_entries s.files
+    ++ replicate (s.disk.bsize - 64 * (length s.files + 2)) 0))
 
 -- these bytes are those of its directory
 pub record IsDirectoryOf (s : SmallVolume) (bytes : List ℕ) : Type 0 where

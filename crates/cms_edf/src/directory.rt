@@ -74,7 +74,8 @@ fn is_small_file(entry: &Entry) -> bool
 // The entry of a small file that the first 64 bytes spell.
 fn small_entry(bsize: BlockSize, bytes: &[u8]) -> Option<Entry>
     requires long { 64 ≤ length bytes.now }
-    ensures { MatchOption result (small_entry (entry_of bsize (take 64 bytes.now)) ≡ Err NotSmall) (λ entry. small_entry (entry_of bsize (take 64 bytes.now)) ≡ Ok entry) }
+    ensures { MatchOption result (small_entry (entry_of bsize (take 64 bytes.now)) ≡ Err NotSmall)
+        (λ entry. small_entry (entry_of bsize (take 64 bytes.now)) ≡ Ok entry) }
 {
     let Ok(entry) = read_entry(&bytes[..64], bsize) else {
         return None;
@@ -181,7 +182,8 @@ pub fn small_files(
     requires long { length directory.now ≡ bsize }
     ensures files { IfOk result (λ files. small_files bsize label.now directory.now ≡ Ok files.items) }
     ensures few { IfOk result (λ files. length files.items < 2 ^ 32) }
-    ensures places { IfOk result (λ files. (6 ≤ map_root_in directory.now) × (map_root_in directory.now ≤ label.now.blocks) × (are_allowed label.now.blocks (roots files.items) ≡ true)) }
+    ensures places { IfOk result (λ files. (6 ≤ map_root_in directory.now) × (map_root_in directory.now ≤ label.now.blocks)
+        × (are_allowed label.now.blocks (roots files.items) ≡ true)) }
     ensures none { IfErr result (RefusesFiles (small_files bsize label.now directory.now)) }
 {
     if !has_small_systems(bsize.bytes(), label, directory) {

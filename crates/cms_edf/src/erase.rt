@@ -143,8 +143,10 @@ fn carry_out<W: World>(world: &mut W, small: &Small, directory: &[u8]) -> Result
     requires size { length directory.now ≡ small.now.disk.bsize }
     requires blocks { ForSome (W.told world.old) (λ j. HasBlocks j.units small.now.unit small.now.disk.count small.now.disk.bsize) }
     requires writable { ForSome (W.told world.old) (λ j. IsWritable j.units small.now.unit) }
-    ensures done { OnOk result (W.told world.new ≡ plus (W.told world.old) (update small.now.unit (writes_with small.now directory.now) small.now.label_bytes)) }
-    ensures halted { OnErr result (Halted (W.told world.old) (W.told world.new) small.now.unit (writes_with small.now directory.now) small.now.label_bytes) }
+    ensures done { OnOk result (W.told world.new ≡ plus (W.told world.old)
+        (update small.now.unit (writes_with small.now directory.now) small.now.label_bytes)) }
+    ensures halted { OnErr result (Halted (W.told world.old) (W.told world.new) small.now.unit
+        (writes_with small.now directory.now) small.now.label_bytes) }
     ensures cause { HasCause (W.faults world.old) (W.faults world.new) result }
     ensures edges { W.edges world.new ≡ W.edges world.old }
 {
@@ -173,7 +175,8 @@ impl Small {
         requires blocks { ForSome (W.told world.old) (λ j. HasBlocks j.units self.old.unit self.old.disk.count self.old.disk.bsize) }
         requires writable { ForSome (W.told world.old) (λ j. IsWritable j.units self.old.unit) }
         ensures updated { OnOk result (Updated (W.told world.old) (W.told world.new) self.old self.new nth stamp.now) }
-        ensures erases { (j : Journal) (m : Minidisk) (e : Entry) → W.told world.old ≡ Some j → IsMinidisk j self.old m → Erases (W.told world.old) (W.told world.new) self.old self.new m (slice_index_or self.old.files nth e).name stamp.now result }
+        ensures erases { (j : Journal) (m : Minidisk) (e : Entry) → W.told world.old ≡ Some j → IsMinidisk j self.old m
+            → Erases (W.told world.old) (W.told world.new) self.old self.new m (slice_index_or self.old.files nth e).name stamp.now result }
         ensures nothing { IfErr result (Keeps (W.told world.old) (W.told world.new) self.old) }
         ensures kept { OnErr result (self.new ≡ self.old) }
         ensures grown { Grown (W.told world.old) (W.told world.new) }

@@ -68,9 +68,20 @@ impl Model for Small {
 
     ghost Value = { SmallVolume };
 
-    ghost view = { λ s. record { unit = s.unit; disk = record { bsize = s.bsize; count = s.blocks }; label = s.label; label_bytes = s.label_bytes.items; map_root = s.map_root; map_bytes = s.map_bytes.items; files = s.files.items } };
+    ghost view = { λ s. record {
+      unit = s.unit;
+      disk = record { bsize = s.bsize; count = s.blocks };
+      label = s.label;
+      label_bytes = s.label_bytes.items;
+      map_root = s.map_root;
+      map_bytes = s.map_bytes.items;
+      files = s.files.items;
+    } };
 
-    ghost invariant = { λ s. (length s.files.items < 2 ^ 32) × (s.label.blocks ≤ s.blocks) × (6 ≤ s.map_root) × (s.map_root ≤ s.label.blocks) × (4 ≤ s.label.origin) × (s.label.origin ≤ 5) × (are_allowed s.label.blocks (roots s.files.items) ≡ true) × IsHeld (record { bsize = s.bsize; count = s.blocks }) s.label s.label_bytes.items s.map_root s.map_bytes.items s.files.items };
+    ghost invariant = { λ s. (length s.files.items < 2 ^ 32) × (s.label.blocks ≤ s.blocks) × (6 ≤ s.map_root)
+        × (s.map_root ≤ s.label.blocks) × (4 ≤ s.label.origin) × (s.label.origin ≤ 5)
+        × (are_allowed s.label.blocks (roots s.files.items) ≡ true) × IsHeld
+        (record { bsize = s.bsize; count = s.blocks }) s.label s.label_bytes.items s.map_root s.map_bytes.items s.files.items };
 }
 
 // The bytes of a block of the unit.
@@ -116,7 +127,8 @@ fn read_small<W: World>(
     bsize: BlockSize,
 ) -> Result<Small, SmallFault>
     requires blocks { ForSome (W.told world.old) (λ j. HasBlocks j.units unit.now.number unit.now.blocks bsize) }
-    ensures reads { ForSome (W.told world.old) (λ j. ReadsSmall unit.now.number (record { bsize = bsize; count = unit.now.blocks }) (image_of (contents_of j unit.now.number)) result) }
+    ensures reads { ForSome (W.told world.old) (λ j. ReadsSmall unit.now.number (record { bsize = bsize; count = unit.now.blocks })
+        (image_of (contents_of j unit.now.number)) result) }
     ensures cause { IfErr result (λ e. e ≡ Device → Rose (W.faults world.old) (W.faults world.new)) }
     ensures told { W.told world.new ≡ W.told world.old }
     ensures faults { W.faults world.old ≤ W.faults world.new }
@@ -160,7 +172,8 @@ pub fn small_volume<W: World>(
     bsize: BlockSize,
 ) -> Result<Small, SmallFault>
     requires blocks { ForSome (W.told world.old) (λ j. HasBlocks j.units unit.now.number unit.now.blocks bsize) }
-    ensures answers { ForSome (W.told world.old) (λ j. Answers unit.now.number (record { bsize = bsize; count = unit.now.blocks }) (image_of (contents_of j unit.now.number)) result) }
+    ensures answers { ForSome (W.told world.old) (λ j. Answers unit.now.number (record { bsize = bsize; count = unit.now.blocks })
+        (image_of (contents_of j unit.now.number)) result) }
     ensures cause { IfErr result (λ e. e ≡ Device → Rose (W.faults world.old) (W.faults world.new)) }
     ensures told { W.told world.new ≡ W.told world.old }
     ensures faults { W.faults world.old ≤ W.faults world.new }
@@ -242,8 +255,10 @@ impl Small {
         requires nth { nth < length self.now.files }
         requires size { length into.old ≡ self.now.disk.bsize }
         requires blocks { ForSome (W.told world.old) (λ j. HasBlocks j.units self.now.unit self.now.disk.count self.now.disk.bsize) }
-        ensures bytes { OnOk result (ForSome (W.told world.old) (λ j. (e : Entry) → into.new ≡ block_of j self.now.unit (slice_index_or self.now.files nth e).root)) }
-        ensures info { IfOk result (λ info. (e : Entry) → (info.length ≡ (slice_index_or self.now.files nth e).length) × (info.count ≡ (slice_index_or self.now.files nth e).count)) }
+        ensures bytes { OnOk result (ForSome (W.told world.old) (λ j. (e : Entry)
+            → into.new ≡ block_of j self.now.unit (slice_index_or self.now.files nth e).root)) }
+        ensures info { IfOk result (λ info. (e : Entry) → (info.length ≡ (slice_index_or self.now.files nth e).length)
+            × (info.count ≡ (slice_index_or self.now.files nth e).count)) }
         ensures told { W.told world.new ≡ W.told world.old }
         ensures cause { HasCause (W.faults world.old) (W.faults world.new) result }
         ensures edges { W.edges world.new ≡ W.edges world.old }

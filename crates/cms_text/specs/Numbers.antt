@@ -15,7 +15,8 @@ value_of digits = fold (λ n byte. n * 10 + (byte - 0xF0)) 0 digits
 
 -- the same of 1 to 19 digits
 unfoldable pub magnitude_of : Text → Option ℕ
-magnitude_of digits = if (nat_le 1 (length digits) && nat_le (length digits) 19) && list_all is_digit digits then Some (value_of digits) else None
+magnitude_of digits = if (nat_le 1 (length digits) && nat_le (length digits) 19)
+    && list_all is_digit digits then Some (value_of digits) else None
 
 -- whether a number is one of signed 64 bits
 abbrev pub fits : ℤ → Bool
@@ -35,7 +36,8 @@ positive_of digits = option_and_then (λ n. within (pos n)) (magnitude_of digits
 -- the number that a word stands for, if it does: an optional sign and 1 to 19 digits
 unfoldable pub number_of : Text → Option ℤ
 number_of [] = None
-number_of (first ∷ digits) = if first == 0x60 then negative_of digits else (if first == 0x4E then positive_of digits else positive_of (first ∷ digits))
+number_of (first ∷ digits) = if first == 0x60 then negative_of digits else
+    (if first == 0x4E then positive_of digits else positive_of (first ∷ digits))
 
 -- a number without leading zeros
 unfoldable pub written : ℤ → Text
