@@ -12,6 +12,7 @@ use Rattle.cms_fields.specs.Entries.{entry_of}
 use Rattle.cms_fields.specs.declared.entry.Entry.{Entry}
 use Rattle.cms_fields.specs.declared.label.Label.{Label}
 use Rattle.cms_model.specs.Lists.{cut, same}
+use Rattle.cms_model.proofs.Changing.{same_from, same_self}
 use Rattle.cms_model.proofs.TreeFrame.{between}
 use Rattle.cms_journal.specs.Journal.{Journal, IsBlockSize, HasBlock, block_of, contents_of, start_of}
 use Rattle.cms_journal.proofs.Sizes.{block_bounds}
@@ -126,27 +127,11 @@ take_front n xs ys e = rw (sym e) (take-append_seam xs ys)
 drop_front : (n : ℕ) (xs ys : List ℕ) → length xs ≡ n → drop n (xs ++ ys) ≡ ys
 drop_front n xs ys e = rw (sym e) (drop-append_seam xs ys)
 
-same_is : (xs ys : List ℕ) → same xs ys ≡ true → xs ≡ ys
-unfolding same
-same_is [] [] e = refl
-same_is [] (y ∷ ys) e = absurd (cc)
-same_is (x ∷ xs) [] e = absurd (cc)
-same_is (x ∷ xs) (y ∷ ys) e =
-    let a = and_parts (x == y) (same xs ys) e in
-    let first = eqb-true x y a.0 in
-    let rest = same_is xs ys a.1 in
-    rw (first, rest) refl
-
-same_self : (xs : List ℕ) → same xs xs ≡ true
-unfolding same
-same_self [] = refl
-same_self (x ∷ xs) = and_from (x == x) (same xs xs) (eq-eqb x x refl) (same_self xs)
-
 spelled_same : (name : List ℕ) (n : Name) → is_spelled name n ≡ true → spelled n ≡ name
 spelled_same name n is =
     let a = and_parts (same (filled n.file) (take 8 name)) (same (filled n.kind) (drop 8 name)) is in
-    let first = same_is (filled n.file) (take 8 name) a.0 in
-    let second = same_is (filled n.kind) (drop 8 name) a.1 in
+    let first = same_from (filled n.file) (take 8 name) a.0 in
+    let second = same_from (filled n.kind) (drop 8 name) a.1 in
     rw (first, second) (take-append-drop 8 name)
 
 spelled_other : (name : List ℕ) (n : Name) → length (filled n.file) ≡ 8 → is_spelled name n ≡ false → spelled n ≢ name
