@@ -14,8 +14,8 @@ abbrev pub behind_records : List ℕ
 behind_records =
     codes " DISKW F&I DATA A (STRING RECORD &I OF THE RUN"
     ++ (10 ∷ as_text (
-        writes (codes "COPYFILE F&I DATA A = COPY A (RECFM F LRECL 80")
-        ∷ writes (codes "ERASE F&I DATA A")
-        ∷ codes "EXEC GEN"
-        ∷ codes "QUERY DISK A"
-        ∷ []))
+    writes (codes "COPYFILE F&I DATA A = COPY A (RECFM F LRECL 80")
+    ∷ writes (codes "ERASE F&I DATA A")
+    ∷ codes "EXEC GEN"
+    ∷ codes "QUERY DISK A"
+    ∷ []))
