@@ -4,7 +4,7 @@ use std::alloc::{AllocError, Global};
 /// Bytes at a place of a block of 512 bytes: the block, of which the first is block 1, the place from 0, and the bytes.
 pub type Edit = (u16, u16, &'static [u8]);
 
-// Puts bytes at a place of an image, from 0; what isn't there is left out.
+/// Puts bytes at a place of an image, from 0; what isn't there is left out.
 pub fn put_at(image: &mut [u8], start: usize, bytes: &[u8]) {
     let mut place = start;
     for byte in bytes {
