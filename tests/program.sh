@@ -45,7 +45,13 @@ expect 'no words' 2 output 'cms: words refused, reason 1'
 expect 'no words, in words' 2 error 'VDEV,BSIZE,ACCESS,NAME'
 expect 'a bad unit word' 2 output 'cms: words refused, reason 2' 191,513,ro,disk.img
 same 'one line at a refusal' 'cms: words refused, reason 2'
-expect 'a bad unit word, in words' 2 error 'word 1' 191,513,ro,disk.img
+expect 'a bad unit word, in words' 2 error 'unit word 1' 191,513,ro,disk.img
+expect 'no turns' 2 output 'cms: words refused, reason 3' -t 0 191,512,ro,disk.img
+expect 'no zone' 2 output 'cms: words refused, reason 4' -z E1500 191,512,ro,disk.img
+expect 'a device twice' 2 error 'device 191' 191,512,ro,disk.img 191,512,ro,disk.img
+expect 'no seed' 2 output 'cms: words refused, reason 6' -g x 191,512,ro,disk.img
+expect 'two units' 6 error '' 191,512,ro,disk.img 192,512,ro,disk.img
+expect 'a generated script' 6 error '' -g 1 191,512,ro,disk.img
 expect 'a missing image' 4 error 'missing.img' 191,512,rw,missing.img
 same 'nothing is typed without an image' ''
 if [ -e missing.img ]; then echo 'FAILED: a missing image was made'; failed=$((failed + 1)); fi
@@ -57,9 +63,8 @@ same 'a file is typed whole' "$(printf 'HELLO\nWORLD\nR;')"
 printf 'FROB\nTYPE HELLO TEXT A\n' >script
 expect 'a line that is not built' 6 error '' 191,512,ro,disk.img
 same 'nothing runs behind an ended session' ''
-head -c 1000000 /dev/zero | tr '\0' '\n' >script
-printf 'TYPE HELLO TEXT A\n' >>script
-expect 'the turns are spent' 5 error 'turns' 191,512,ro,disk.img
+printf '\n\n\nTYPE HELLO TEXT A\n' >script
+expect 'the turns are spent' 5 error 'turns' -t 3 191,512,ro,disk.img
 same 'nothing runs behind the turns' ''
 
 # Standard output and input that fail.

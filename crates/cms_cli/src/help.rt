@@ -7,7 +7,7 @@ pub const VERSION: &str = "cms 0.1.0";
 pub const HELP: &str = "\
 cms: CMS minidisks in image files, with their commands.
 
-usage: cms VDEV,BSIZE,ACCESS,NAME
+usage: cms [-t TURNS] [-z ZONE] [-g NUMBER] VDEV,BSIZE,ACCESS,NAME
 
   VDEV    the device: three hexadecimal digits, not 000; 191 becomes disk A
   BSIZE   the bytes of a block of the image: 512, 1024, 2048 or 4096
@@ -15,8 +15,13 @@ usage: cms VDEV,BSIZE,ACCESS,NAME
           rw: it may be written
   NAME    the image file: all behind the third comma
 
-A new image (n and its blocks as ACCESS), more units, and the options -t TURNS, -z ZONE
-and -g NUMBER aren't built yet: status 6.
+  -t TURNS   the turns that the session has, 1 to 1,000,000,000; else 1,000,000
+  -z ZONE    what is added to the clock's UTC for stamps: E (added) or W (taken away) and hhmm,
+             hours to 14 and minutes to 59, as E0100; else E0000
+  -g NUMBER  the commands are a generated script, by this number to 2,147,483,647; standard
+             input isn't read
+
+A new image (n and its blocks as ACCESS) and more than one unit aren't built yet: status 6.
 
 The commands are read from standard input, a line each. What they type goes to standard
 output, and behind each command its ready line: R; or, with a return code, R(00028);
@@ -25,7 +30,7 @@ output, and behind each command its ready line: R; or, with a return code, R(000
   ERASE fn ft A  erases a file; when its ready line is typed the file is gone for good
   * text         is a comment
 
-A session has 1,000,000 turns, one for each line.
+Each line costs a turn.
 
 example: what is on the image disk.img, in a shell
 
@@ -34,8 +39,12 @@ example: what is on the image disk.img, in a shell
 status:
   0  the commands were read to their end
   2  the words are refused, with the reason on standard output:
-       1  there is no unit word
-       2  a word isn't VDEV,BSIZE,ACCESS,NAME
+       1  there is no unit word, or an option is unknown, given twice or without a value
+       2  a unit word isn't VDEV,BSIZE,ACCESS,NAME, or it is the 17th
+       3  TURNS isn't as above
+       4  ZONE isn't as above
+       5  two unit words have one device
+       6  NUMBER isn't as above
   3  there is no memory
   4  an image, the input, the output or the clock failed, or the device did
   5  the turns are spent

@@ -7,15 +7,26 @@ use std::io;
 use std::io::ErrorKind;
 
 /// The form of the words.
-const FORM: &str = "cms VDEV,BSIZE,ACCESS,NAME";
+const FORM: &str = "cms [-t TURNS] [-z ZONE] [-g NUMBER] VDEV,BSIZE,ACCESS,NAME";
 
 // Why words are refused, and which.
 fn tell_refusal(rt: &HostRuntime, fault: WordFault) -> io::Result<()> {
     match fault {
         WordFault::Syntax => eprintln!(rt; "cms: the words must be {FORM}; cms --help says more"),
         WordFault::Unit(place) => eprintln!(rt;
-            "cms: word {place} must be VDEV,BSIZE,ACCESS,NAME, as 191,1024,rw,disk.img; cms --help says more"
+            "cms: unit word {place} must be VDEV,BSIZE,ACCESS,NAME, as 191,1024,rw,disk.img, and at most the 16th; cms --help says more"
         ),
+        WordFault::Turns => eprintln!(rt;
+            "cms: the value of -t must be a number from 1 to 1,000,000,000, without commas"
+        ),
+        WordFault::Zone => eprintln!(rt;
+            "cms: the value of -z must be E or W and hhmm, hours to 14 and minutes to 59, as E0100"
+        ),
+        WordFault::Twice(vdev) => eprintln!(rt; "cms: two unit words have the device {vdev:03X}"),
+        WordFault::Seed => eprintln!(rt;
+            "cms: the value of -g must be a number to 2,147,483,647, without commas"
+        ),
+        WordFault::Memory => eprintln!(rt; "cms: there is no memory"),
     }
 }
 

@@ -35,8 +35,12 @@ use Rattle.cms_search.specs.declared.state.State as declared
 use Rattle.cms_search.specs.Calls.{Holds, Acts, spot, at}
 use Rattle.cms_session.specs.Calls.{session_tree, finished}
 use Rattle.cms_session.specs.Headline.{Seen, Start, Headline, Came, Begins, EndsAs, IsAs, fresh, settled, first_point, start_point, start_tree, run_on}
-use Rattle.cms_session.specs.Sessions.{IsAsSeen, CameTo, WasCut, EndedAs, RanOn, NotAttached, OnUnit, IsAlone, FoundAs, start_on, device_of, lines_tree}
-use Rattle.cms_session.specs.Words.{UnitSpec}
+use Rattle.cms_session.specs.Sessions.{IsAsSeen, CameTo, WasCut, EndedAs, RanOn, NotAttached, OnUnit, IsAlone, FoundAs, start_on, device_of, lines_tree, status_of}
+use Rattle.std.specs.Prelude.{Vec}
+use Rattle.std.specs.declared.alloc.Global.{Global}
+use Rattle.cms_words.specs.declared.unit.UnitWord.{UnitWord}
+use Rattle.cms_session.specs.declared.asked.Terms.{Terms}
+use Rattle.cms_session.specs.Words.{Asked, asked, given_in}
 use Rattle.cms_search.specs.declared.state.Disk.{Disk}
 use Rattle.cms_session.specs.declared.state.Finish.{Finish}
 use Rattle.cms_session.specs.declared.state.Finish.TheVariants as finish
@@ -51,15 +55,46 @@ cut_before p now t told later =
     let q : Point = record { journal = now.told; faults = now.faults; units = p.units; unread = p.unread; ended = p.ended } in
     (q, (record { told = refl; faults = refl }, broke_before p q t told later refl))
 
+-- where nothing was done yet a session stands at its first point, with the script that is given where there is one
+at_start : (told : Told) (count : ℕ) (units : List Slot) (state : declared.State) (given : Option (Vec ℕ Global)) → state.console ≡ consoles.fresh given
+    → at (spot told count state) units ≡ first_point told count units (given_in given)
+at_start told count units state None e = ap (λ (c : ConsoleState). record { journal = told; faults = count; units = units; unread = c.unread; ended = c.ended }) e
+at_start told count units state (Some script) e = ap (λ (c : ConsoleState). record { journal = told; faults = count; units = units; unread = c.unread; ended = c.ended }) e
+
+-- the state of a session at its start
+abbrev pub first_state_of : Device → Terms → Option Disk → ConsoleState → Moment → declared.State
+first_state_of device terms disk console moment = record { device = device; disk_a = disk; console = console; offset = terms.offset; moment = moment; left = terms.turns }
+
 -- the lines of a session were cut off
-pub lines_cut : (told : Told) (count : ℕ) (now : Seen) (device : Device) (disk : Option Disk) (console : ConsoleState) (moment : Moment) (new : declared.State) (e : End) (units : List Slot) → console ≡ consoles.fresh None → moment ≡ moment_of (pos 0) (pos 0)
-    → Acts {T = Finish} (spot told count (record { device = device; disk_a = disk; console = console; offset = pos 0; moment = moment; left = 1000000 })) (spot now.told now.faults new)
-    (session_tree (record { device = device; disk_a = disk; console = console; offset = pos 0; moment = moment; left = 1000000 })) (Err e) finished
-    → Holds told disk units → WasCut (first_point told count units None) now (lines_tree device disk units)
-lines_cut told count now device disk console moment new e units is_console is_moment acts h =
-    let there = rw (is_console, is_moment) at acts in
+pub lines_cut : (told : Told) (count : ℕ) (now : Seen) (device : Device) (word : UnitWord) (terms : Terms) (disk : Option Disk) (console : ConsoleState) (moment : Moment) (new : declared.State) (e : End) (units : List Slot) → device ≡ device_of word → console ≡ consoles.fresh terms.given → moment ≡ moment_of (pos 0) terms.offset
+    → Acts {T = Finish} (spot told count (first_state_of device terms disk console moment)) (spot now.told now.faults new) (session_tree (first_state_of device terms disk console moment)) (Err e) finished
+    → Holds told disk units → WasCut (first_point told count units (given_in terms.given)) now (lines_tree (asked word terms) disk units)
+lines_cut told count now device word terms disk console moment new e units is_device is_console is_moment did h =
+    let there = rw (is_device, is_moment) at did in
     let x = there.each units h in
-    (at (spot now.told now.faults new) x.0, (record { told = refl; faults = refl }, x.1))
+    let from = at_start told count units (first_state_of (device_of word) terms disk console (moment_of (pos 0) terms.offset)) terms.given is_console in
+    let broke : Broke (first_point told count units (given_in terms.given)) (at (spot now.told now.faults new) x.0) (lines_tree (asked word terms) disk units) =
+    subst (λ (p : Point). Broke p (at (spot now.told now.faults new) x.0) (lines_tree (asked word terms) disk units)) from x.1 in
+    (at (spot now.told now.faults new) x.0, (record { told = refl; faults = refl }, broke))
+
+-- a tree that came to an end ended as its status says
+ended_as : (p : Point) (edges : ℕ) (now : Seen) (t : Act Finish) (end : Finish) → CameTo p now t end → EndedAs p edges now t (status_of end)
+ended_as p edges now t finish.AtEnd came = came
+ended_as p edges now t finish.AtTurns came = came
+ended_as p edges now t finish.NotBuilt came = came
+ended_as p edges now t finish.DeviceFault came = inl came
+
+-- or came to an end
+pub lines_came : (told : Told) (count : ℕ) (now : Seen) (device : Device) (word : UnitWord) (terms : Terms) (disk : Option Disk) (console : ConsoleState) (moment : Moment) (new : declared.State) (end : Finish) (edges : ℕ) (units : List Slot) → device ≡ device_of word → console ≡ consoles.fresh terms.given → moment ≡ moment_of (pos 0) terms.offset
+    → Acts {T = Finish} (spot told count (first_state_of device terms disk console moment)) (spot now.told now.faults new) (session_tree (first_state_of device terms disk console moment)) (Ok end) finished
+    → Holds told disk units → EndedAs (first_point told count units (given_in terms.given)) edges now (lines_tree (asked word terms) disk units) (status_of end)
+lines_came told count now device word terms disk console moment new end edges units is_device is_console is_moment did h =
+    let there = rw (is_device, is_moment) at did in
+    let x = there.each units h in
+    let from = at_start told count units (first_state_of (device_of word) terms disk console (moment_of (pos 0) terms.offset)) terms.given is_console in
+    let ran : Ran (first_point told count units (given_in terms.given)) (at (spot now.told now.faults new) x.0) (lines_tree (asked word terms) disk units) (acts.Done end) =
+    subst (λ (p : Point). Ran p (at (spot now.told now.faults new) x.0) (lines_tree (asked word terms) disk units) (acts.Done end)) from x.1.1 in
+    ended_as (first_point told count units (given_in terms.given)) edges now (lines_tree (asked word terms) disk units) end (at (spot now.told now.faults new) x.0, (record { told = refl; faults = refl }, ran))
 
 came_then : (p m : Point) (now : Seen) (t u : Act Finish) (end : Finish) → Ran p m t u → CameTo m now u end → CameTo p now t end
 came_then p m now t u end ran came = (came.0, (came.1.0, ran_then ran came.1.1))
@@ -156,19 +191,19 @@ headline s before now (Usage fault) faults e = absurd e
 -- ---- on a unit
 
 -- the session went on from what was found
-pub ran_on : (spec : UnitSpec) (unit : Attached) (before now : Seen) (told : Told) (edges mid : ℕ) (disk : Option Disk) (status : Status) → told ≡ Some (fresh (unit ∷ [])) → edges ≡ before.edges → FoundAs spec unit before.faults mid (Ok disk)
-    → ((units : List Slot) → Holds told disk units → EndedAs (first_point told mid units None) edges now (lines_tree (device_of spec) disk units) status) → RanOn spec unit before now status
+pub ran_on : (spec : Asked) (unit : Attached) (before now : Seen) (told : Told) (edges mid : ℕ) (disk : Option Disk) (status : Status) → told ≡ Some (fresh (unit ∷ [])) → edges ≡ before.edges → FoundAs spec unit before.faults mid (Ok disk)
+    → ((units : List Slot) → Holds told disk units → EndedAs (first_point told mid units spec.given) edges now (lines_tree spec disk units) status) → RanOn spec unit before now status
 ran_on spec unit before now told edges mid disk status is same found ended =
     let s = start_on spec unit before.faults in
     let units = settled (unit ∷ []) in
     let held : Holds told disk units = subst (λ (t : Told). Holds t disk units) (sym is) found.0 in
-    let there : EndedAs (first_point (Some (fresh (unit ∷ []))) mid units None) before.edges now (lines_tree (device_of spec) disk units) status =
-    subst (λ (t : Told). EndedAs (first_point t mid units None) before.edges now (lines_tree (device_of spec) disk units) status) is
-    (subst (λ (n : ℕ). EndedAs (first_point told mid units None) n now (lines_tree (device_of spec) disk units) status) same (ended units held)) in
-    record { ran = inr (headline s before now status refl (ended_then (start_point s) (start_point (start_on spec unit mid)) before.edges now (start_tree s) (lines_tree (device_of spec) disk units) status found.2 there)); unbuilt = λ u. absurd (found.1 u) }
+    let there : EndedAs (first_point (Some (fresh (unit ∷ []))) mid units spec.given) before.edges now (lines_tree spec disk units) status =
+    subst (λ (t : Told). EndedAs (first_point t mid units spec.given) before.edges now (lines_tree spec disk units) status) is
+    (subst (λ (n : ℕ). EndedAs (first_point told mid units spec.given) n now (lines_tree spec disk units) status) same (ended units held)) in
+    record { ran = inr (headline s before now status refl (ended_then (start_point s) (start_point (start_on spec unit mid)) before.edges now (start_tree s) (lines_tree spec disk units) status found.2 there)); unbuilt = λ u. absurd (found.1 u) }
 
 -- or it ended there
-pub ended_on : (spec : UnitSpec) (unit : Attached) (before now : Seen) (status : Status) → now.told ≡ Some (fresh (unit ∷ [])) → before.faults ≤ now.faults → FoundAs spec unit before.faults now.faults (Err status) → RanOn spec unit before now status
+pub ended_on : (spec : Asked) (unit : Attached) (before now : Seen) (status : Status) → now.told ≡ Some (fresh (unit ∷ [])) → before.faults ≤ now.faults → FoundAs spec unit before.faults now.faults (Err status) → RanOn spec unit before now status
 ended_on spec unit before now NotBuilt told later found = record { ran = inl (record { status_is = refl; told = told; volume = found }); unbuilt = λ u. told }
 ended_on spec unit before now World told later found =
     let s = start_on spec unit before.faults in
@@ -210,13 +245,13 @@ headline_from s told edges mid now status earlier h = record {
 }
 
 -- what holds from an earlier count of edges
-ran_from : (spec : UnitSpec) (unit : Attached) (told : Told) (edges : ℕ) (mid now : Seen) (status : Status) → edges ≤ mid.edges → RanOn spec unit mid now status → RanOn spec unit (record { told = told; edges = edges; faults = mid.faults }) now status
+ran_from : (spec : Asked) (unit : Attached) (told : Told) (edges : ℕ) (mid now : Seen) (status : Status) → edges ≤ mid.edges → RanOn spec unit mid now status → RanOn spec unit (record { told = told; edges = edges; faults = mid.faults }) now status
 ran_from spec unit told edges mid now status earlier r = record {
   ran = ⊎_elim inl (λ h. inr (headline_from (start_on spec unit mid.faults) told edges mid now status earlier h)) r.ran;
   unbuilt = r.unbuilt;
 }
 
-pub on_unit : (spec : UnitSpec) (before mid now : Seen) (name : List ℕ) (size : ℕ) (access : Access) (number blocks seen_number seen_blocks : ℕ) (status : Status) → name ≡ spec.name → size ≡ spec.bsize → access ≡ spec.access
+pub on_unit : (spec : Asked) (before mid now : Seen) (name : List ℕ) (size : ℕ) (access : Access) (number blocks seen_number seen_blocks : ℕ) (status : Status) → name ≡ spec.unit.name → size ≡ spec.unit.bsize → access ≡ spec.unit.access
     → IsAttached (fresh []) mid.told name size access number blocks → seen_number ≡ number → seen_blocks ≡ min blocks 1048576 → before.faults ≡ mid.faults → before.edges ≤ mid.edges
     → ((alone : Attached) → IsAlone mid.told (record { bsize = size; count = seen_blocks }) seen_number alone → RanOn spec alone mid now status) → OnUnit spec before now status
 on_unit spec before mid now name size access number blocks seen_number seen_blocks status is_name is_size is_access attached is_number is_blocks same earlier ran =
@@ -242,19 +277,19 @@ on_unit spec before mid now name size access number blocks seen_number seen_bloc
       unit = unit;
       blocks = blocks;
       attached =
-          subst (λ (n : List ℕ). IsAttached (fresh []) (Some (fresh (unit ∷ []))) n spec.bsize spec.access 0 blocks) is_name
-          (subst (λ (n : ℕ). IsAttached (fresh []) (Some (fresh (unit ∷ []))) name n spec.access 0 blocks) is_size
+          subst (λ (n : List ℕ). IsAttached (fresh []) (Some (fresh (unit ∷ []))) n spec.unit.bsize spec.unit.access 0 blocks) is_name
+          (subst (λ (n : ℕ). IsAttached (fresh []) (Some (fresh (unit ∷ []))) name n spec.unit.access 0 blocks) is_size
           (subst (λ (a : Access). IsAttached (fresh []) (Some (fresh (unit ∷ []))) name size a 0 blocks) is_access there));
       ran = subst (λ (n : ℕ). RanOn spec unit (record { told = before.told; edges = before.edges; faults = n }) now status) (sym same) from;
     }
 
-pub not_attached : (spec : UnitSpec) (before now : Seen) (name : List ℕ) (size : ℕ) (access : Access) → before.told ≡ Some (fresh []) → name ≡ spec.name → size ≡ spec.bsize → access ≡ spec.access
+pub not_attached : (spec : Asked) (before now : Seen) (name : List ℕ) (size : ℕ) (access : Access) → before.told ≡ Some (fresh []) → name ≡ spec.unit.name → size ≡ spec.unit.bsize → access ≡ spec.unit.access
     → MayAdd (Missed name size access) before.told now.told → Rose before.edges now.edges → NotAttached spec before now World
 not_attached spec before now name size access told is_name is_size is_access added rose = record {
   status_is = refl;
   told =
-      subst (λ (n : List ℕ). MayAdd (Missed n spec.bsize spec.access) (Some (fresh [])) now.told) is_name
-      (subst (λ (n : ℕ). MayAdd (Missed name n spec.access) (Some (fresh [])) now.told) is_size
+      subst (λ (n : List ℕ). MayAdd (Missed n spec.unit.bsize spec.unit.access) (Some (fresh [])) now.told) is_name
+      (subst (λ (n : ℕ). MayAdd (Missed name n spec.unit.access) (Some (fresh [])) now.told) is_size
       (subst (λ (a : Access). MayAdd (Missed name size a) (Some (fresh [])) now.told) is_access
       (subst (λ (t : Told). MayAdd (Missed name size access) t now.told) told added)));
   cause = rose;

@@ -1,5 +1,5 @@
+pub mod ReadWords
 pub mod CommandWords
-pub mod WordLemmas
 pub mod Starts
 pub mod Ends
 pub mod Records

@@ -1,17 +1,15 @@
 -- Files of disk A by their names.
-use Rattle.std.proofs.Common.{◌≡◌, ◌≢◌, ⊎_elim, ℕ, zero, suc, ◌+◌, ◌<◌, ◌≤◌, Bool, true, false, List, [], ◌∷◌, ◌++◌, map, length, take, drop, slice_index_or, Some, None, Result, Ok, Err, refl, ap, sym, ◌∙◌, subst, arith}
-use Rattle.std.specs.Prelude.{◌&&◌, ◌==◌, take_while}
-use Rattle.std.specs.List.{list_all, prefix_len}
-use Rattle.std.proofs.lemmas.Bool.{and_parts, and_from, le-leb, cases_Bool}
+use Rattle.std.proofs.Common.{◌≡◌, ◌≢◌, ℕ, zero, suc, ◌+◌, ◌<◌, ◌≤◌, true, false, List, [], ◌∷◌, ◌++◌, map, length, take, drop, slice_index_or, Some, None, Result, Ok, Err, refl, ap, sym, ◌∙◌, subst, arith}
+use Rattle.std.specs.Prelude.{◌&&◌, ◌==◌}
+use Rattle.std.specs.List.{prefix_len}
+use Rattle.std.proofs.lemmas.Bool.{and_parts, and_from, le-leb}
 use Rattle.std.proofs.lemmas.List.Sums.{prefix_len-le-length}
 use Rattle.std.proofs.lemmas.List.Folds.{length-prefix_len}
 use Rattle.std.proofs.Math.Seq.{take-append_seam, drop-append_seam}
 use Rattle.cms_names.specs.Names.{is_part, is_text_of, is_name_character, filled}
 use Rattle.cms_names.specs.declared.name.Name.{Name}
-use Rattle.cms_fields.specs.Entries.{part_in, is_part_field, name_at, entry_fields, has_name, has_mode, has_format, length_fits, counts_fit, levels_fit, has_pointer_size, entry_of}
-use Rattle.cms_fields.specs.Stamps.{has_stamp}
+use Rattle.cms_fields.specs.Entries.{part_in, is_part_field, name_at, entry_fields, has_name, entry_of}
 use Rattle.cms_fields.specs.declared.entry.Entry.{Entry}
-use Rattle.cms_fields.specs.declared.entry.EntryFault.TheVariants as fault
 use Rattle.cms_fields.proofs.Parts.{length-filled, part_in-filled, front_passes}
 use Rattle.cms_fields.proofs.ReadEntry.{entry_is}
 use Rattle.cms_journal.specs.Journal.{Journal}
@@ -22,7 +20,7 @@ use Rattle.cms_model.specs.LawsChanges.{NoneNamed, AreDistinct}
 use Rattle.cms_model.specs.Volumes.{entries_of, blamed, files_of, minidisk_of}
 use Rattle.cms_model.specs.declared.fault.OpenFault.{OpenFault}
 use Rattle.cms_model.specs.declared.fault.OpenFault.TheVariants as failed
-use Rattle.cms_model.proofs.Results.{ok_same, want_ok, bind_then}
+use Rattle.cms_model.proofs.Results.{ok_same, bind_then}
 use Rattle.cms_model.proofs.Changing.{name_self, name_other}
 use Rattle.cms_model.proofs.Opening.{open_ok}
 use Rattle.cms_model.proofs.OpenedNames.{opened_distinct}

@@ -38,7 +38,8 @@ use Rattle.cms_search.specs.declared.state.Disk.{Disk}
 use Rattle.cms_session.specs.Machine.{run_lines, with_disk_a, found_on, accessed, device_191, started_on}
 use Rattle.cms_session.specs.Headline.{fresh, settled, start_machine, start_point, start_tree}
 use Rattle.cms_session.specs.Sessions.{device_of, start_on, lines_tree, IsAlone, FoundAs}
-use Rattle.cms_session.specs.Words.{UnitSpec}
+use Rattle.cms_words.specs.declared.unit.UnitWord.{UnitWord}
+use Rattle.cms_session.specs.Words.{Asked}
 use Rattle.cms_session.specs.declared.state.Finish.{Finish}
 use Rattle.cms_session.specs.declared.state.Finish.TheVariants.{DeviceFault}
 
@@ -149,24 +150,31 @@ state_unlabelled disk image none = go (nat_le 6 disk.count) refl none
 
 -- ---- the tree
 
-abbrev first_letter : UnitSpec → Option Letter
-first_letter spec = device_191 0 (device_of spec ∷ [])
+abbrev first_letter : Asked → Option Letter
+first_letter spec = device_191 0 (device_of spec.unit ∷ [])
 
-device_none : (spec : UnitSpec) → spec.vdev ≢ 0x191 → first_letter spec ≡ None
-device_none spec other = elim (eqb_tells spec.vdev 0x191) [ inl same ↦ absurd (other same.1) | inr e ↦ let f : (spec.vdev == 0x191) ≡ false = e.0 in rw f refl ]
+device_none : (spec : Asked) → spec.unit.vdev ≢ 0x191 → first_letter spec ≡ None
+device_none spec other = elim (eqb_tells spec.unit.vdev 0x191) [ inl same ↦ absurd (other same.1) | inr e ↦ let f : (spec.unit.vdev == 0x191) ≡ false = e.0 in rw f refl ]
 
-abbrev pub disk_a_of : UnitSpec → Letter
-disk_a_of spec = record { unit = 0; parent = None; read_only = not (may_write spec.access) }
+abbrev pub disk_a_of : Asked → Letter
+disk_a_of spec = record { unit = 0; parent = None; read_only = not (may_write spec.unit.access) }
 
-device_is : (spec : UnitSpec) → spec.vdev ≡ 0x191 → first_letter spec ≡ Some (disk_a_of spec)
+-- the fields of one unit word are those of the other
+pub vdev_of : (a b : UnitWord) → a ≡ b → a.vdev ≡ b.vdev
+vdev_of a b e = ap (λ (u : UnitWord). u.vdev) e
+
+pub access_of : (a b : UnitWord) → a ≡ b → a.access ≡ b.access
+access_of a b e = ap (λ (u : UnitWord). u.access) e
+
+device_is : (spec : Asked) → spec.unit.vdev ≡ 0x191 → first_letter spec ≡ Some (disk_a_of spec)
 device_is spec e = rw e refl
 
-abbrev machine_on : UnitSpec → Attached → Machine
+abbrev machine_on : Asked → Attached → Machine
 machine_on spec unit = start_machine (start_on spec unit 0)
 
 -- the lines of a session on the unit
-abbrev pub lines_on : UnitSpec → Attached → Option Disk → Act Finish
-lines_on spec unit disk = lines_tree (device_of spec) disk (settled (unit ∷ []))
+abbrev pub lines_on : Asked → Attached → Option Disk → Act Finish
+lines_on spec unit disk = lines_tree spec disk (settled (unit ∷ []))
 
 counted_none : (before now : ℕ) → before ≤ now → Counted before (faults_in (Good ∷ [])) now
 counted_none before now later = record { later = later; rose = inl (omega (arith, later)) }
@@ -178,21 +186,21 @@ counted_one before now later rose = record {
 }
 
 -- nothing was accessed
-pub ran_no_device : (spec : UnitSpec) (unit : Attached) (before : ℕ) → spec.vdev ≢ 0x191
+pub ran_no_device : (spec : Asked) (unit : Attached) (before : ℕ) → spec.unit.vdev ≢ 0x191
     → Ran (start_point (start_on spec unit before)) (start_point (start_on spec unit before)) (start_tree (start_on spec unit before)) (lines_on spec unit None)
 ran_no_device spec unit before other =
     subst (λ (letter : Option Letter). Ran (start_point (start_on spec unit before)) (start_point (start_on spec unit before)) (started_on (machine_on spec unit) letter) (lines_on spec unit None)) (sym (device_none spec other))
     (ran_none (start_point (start_on spec unit before)) (lines_on spec unit None))
 
 -- the unit was accessed, with this outcome
-ran_access : (spec : UnitSpec) (unit : Attached) (before now : ℕ) (o : Outcome) → spec.vdev ≡ 0x191 → (o ≡ Good) ⊎ (o ≡ ReadFault 0) → Counted before (faults_in (o ∷ [])) now
+ran_access : (spec : Asked) (unit : Attached) (before now : ℕ) (o : Outcome) → spec.unit.vdev ≡ 0x191 → (o ≡ Good) ⊎ (o ≡ ReadFault 0) → Counted before (faults_in (o ∷ [])) now
     → Ran (start_point (start_on spec unit before)) (start_point (start_on spec unit now)) (start_tree (start_on spec unit before)) (accessed (machine_on spec unit) (disk_a_of spec) (Settled (first_state unit)) o)
 ran_access spec unit before now o device may counted =
     subst (λ (d : Option Letter). Ran (start_point (start_on spec unit before)) (start_point (start_on spec unit now)) (started_on (machine_on spec unit) d) (accessed (machine_on spec unit) (disk_a_of spec) (Settled (first_state unit)) o)) (sym (device_is spec device))
     (ran_still (start_point (start_on spec unit before)) (start_point (start_on spec unit now)) (Access 0 (Settled (first_state unit))) o (accessed (machine_on spec unit) (disk_a_of spec) (Settled (first_state unit))) refl counted refl
     (⊎_elim (λ (e : o ≡ Good). rw e tt) (λ (e : o ≡ ReadFault 0). rw e refl) may) refl refl refl (record { unread = refl; ended = refl }))
 
-pub ran_found : (spec : UnitSpec) (unit : Attached) (before now : ℕ) (state : State) (disk : Option Disk) → spec.vdev ≡ 0x191 → before ≤ now → first_state unit ≡ state → found_on (disk_a_of spec) (Settled state) ≡ option_map letter_of disk
+pub ran_found : (spec : Asked) (unit : Attached) (before now : ℕ) (state : State) (disk : Option Disk) → spec.unit.vdev ≡ 0x191 → before ≤ now → first_state unit ≡ state → found_on (disk_a_of spec) (Settled state) ≡ option_map letter_of disk
     → Ran (start_point (start_on spec unit before)) (start_point (start_on spec unit now)) (start_tree (start_on spec unit before)) (lines_on spec unit disk)
 ran_found spec unit before now state disk device later is found =
     subst (λ (d : Option Letter). Ran (start_point (start_on spec unit before)) (start_point (start_on spec unit now)) (start_tree (start_on spec unit before)) (run_lines (with_disk_a (machine_on spec unit) d)))
@@ -200,7 +208,7 @@ ran_found spec unit before now state disk device later is found =
     (ran_access spec unit before now Good device (inl refl) (counted_none before now later))
 
 -- the device failed
-pub ran_fault : (spec : UnitSpec) (unit : Attached) (before now : ℕ) → spec.vdev ≡ 0x191 → before ≤ now → Rose before now
+pub ran_fault : (spec : Asked) (unit : Attached) (before now : ℕ) → spec.unit.vdev ≡ 0x191 → before ≤ now → Rose before now
     → Ran (start_point (start_on spec unit before)) (start_point (start_on spec unit now)) (start_tree (start_on spec unit before)) (Done DeviceFault)
 ran_fault spec unit before now device later rose = ran_access spec unit before now (ReadFault 0) device (inr refl) (counted_one before now later rose)
 
@@ -241,10 +249,10 @@ labelled : (disk : LookedAt) (image : Image) → HasNoLabel disk image → IsNot
 labelled disk image (inl few) other = let e : false ≡ true = sym few ∙ other.passes.0 in cc
 labelled disk image (inr h) other = let e : err_label h.0 ≡ ok_label other.label = sym h.1 ∙ other.passes.1 in cc
 
-pub found_none : (spec : UnitSpec) (unit : Attached) (faults : ℕ) → spec.vdev ≢ 0x191 → FoundAs spec unit faults faults (Ok None)
+pub found_none : (spec : Asked) (unit : Attached) (faults : ℕ) → spec.unit.vdev ≢ 0x191 → FoundAs spec unit faults faults (Ok None)
 found_none spec unit faults other = (holds_none unit, λ u. other u.0, ran_no_device spec unit faults other)
 
-pub found_small : (spec : UnitSpec) (unit : Attached) (told : Told) (looked : LookedAt) (number before now : ℕ) (small : SmallVolume) (read_only : Bool) → spec.vdev ≡ 0x191 → IsBlockSize looked.bsize → IsAlone told looked number unit → read_only ≡ not (may_write spec.access)
+pub found_small : (spec : Asked) (unit : Attached) (told : Told) (looked : LookedAt) (number before now : ℕ) (small : SmallVolume) (read_only : Bool) → spec.unit.vdev ≡ 0x191 → IsBlockSize looked.bsize → IsAlone told looked number unit → read_only ≡ not (may_write spec.unit.access)
     → before ≤ now → Answered told looked number (Ok small) → FoundAs spec unit before now (Ok (Some (record { small = small; read_only = read_only })))
 found_small spec unit told looked number before now small read_only device size alone access later h =
     let sized : IsBlockSize unit.bsize = subst (λ (d : LookedAt). IsBlockSize d.bsize) (sym alone.disk_is) size in
@@ -255,12 +263,12 @@ found_small spec unit told looked number before now small read_only device size 
     let same : found_on (disk_a_of spec) (Settled (Volume found.0)) ≡ option_map letter_of (Some disk) = ap (λ (d : Letter). Some d) letter in
     (holds_disk unit disk found.0 answer.0 found.1.0 found.1.1, λ u. built unit small (sym answer.1) answer.2 u.1, ran_found spec unit before now (Volume found.0) (Some disk) device later found.1.0 same)
 
-pub found_unlabelled : (spec : UnitSpec) (unit : Attached) (told : Told) (looked : LookedAt) (number before now : ℕ) → spec.vdev ≡ 0x191 → IsAlone told looked number unit → before ≤ now → Answered told looked number (Err NoVolume) → FoundAs spec unit before now (Ok None)
+pub found_unlabelled : (spec : Asked) (unit : Attached) (told : Told) (looked : LookedAt) (number before now : ℕ) → spec.unit.vdev ≡ 0x191 → IsAlone told looked number unit → before ≤ now → Answered told looked number (Err NoVolume) → FoundAs spec unit before now (Ok None)
 found_unlabelled spec unit told looked number before now device alone later h =
     let none : HasNoLabel (disk_of unit) (image_of unit.start) = subst (HasNoLabel (disk_of unit)) (first_image unit) (answered_at told looked number unit (Err NoVolume) alone h) in
     let state = state_unlabelled (disk_of unit) (image_of unit.start) none in
     (holds_none unit, λ u. labelled (disk_of unit) (image_of unit.start) none u.1, ran_found spec unit before now (Not state.0) None device later state.1 refl)
 
-pub found_not_built : (spec : UnitSpec) (unit : Attached) (told : Told) (looked : LookedAt) (number : ℕ) → spec.vdev ≡ 0x191 → IsAlone told looked number unit → Answered told looked number (Err NotBuilt)
-    → (spec.vdev ≡ 0x191) × IsNotBuilt (disk_of unit) (image_of unit.start)
+pub found_not_built : (spec : Asked) (unit : Attached) (told : Told) (looked : LookedAt) (number : ℕ) → spec.unit.vdev ≡ 0x191 → IsAlone told looked number unit → Answered told looked number (Err NotBuilt)
+    → (spec.unit.vdev ≡ 0x191) × IsNotBuilt (disk_of unit) (image_of unit.start)
 found_not_built spec unit told looked number device alone h = (device, subst (IsNotBuilt (disk_of unit)) (first_image unit) (answered_at told looked number unit (Err NotBuilt) alone h))

@@ -1,5 +1,5 @@
 -- What a call of the session's top does.
-use Rattle.std.specs.Prelude.{⊤, ◌≡◌, ◌≢◌, ◌⊎◌, ◌≤◌, ℕ, pos, List, [], ◌∷◌, length, All, Option, Some, None, Result, Ok, Err}
+use Rattle.std.specs.Prelude.{⊤, ◌≡◌, ◌≢◌, ◌⊎◌, ◌≤◌, ℕ, List, [], ◌∷◌, length, All, Option, Some, Result, Ok, Err}
 use Rattle.cms_journal.specs.declared.event.Event.TheVariants.{Missed}
 use Rattle.cms_journal.specs.declared.event.Attached.{Attached}
 use Rattle.cms_journal.specs.Causes.{Rose}
@@ -18,84 +18,98 @@ use Rattle.cms_search.specs.declared.state.Device.{Device}
 use Rattle.cms_search.specs.declared.state.Disk.{Disk}
 use Rattle.cms_machine.specs.Slots.{Slot}
 use Rattle.cms_session.specs.Machine.{run_lines}
-use Rattle.cms_session.specs.Words.{UnitSpec, Read}
+use Rattle.cms_words.specs.declared.fault.WordFault.{WordFault}
+use Rattle.cms_words.specs.declared.fault.WordFault.TheVariants as fault
+use Rattle.cms_words.specs.declared.unit.UnitWord.{UnitWord}
+use Rattle.cms_session.specs.Words.{Asked, Read}
 use Rattle.cms_session.specs.Words as words
 use Rattle.cms_session.specs.Headline.{Seen, Start, Headline, fresh, settled, first_machine, start_point, start_tree}
 use Rattle.cms_session.specs.declared.state.Finish.{Finish}
 use Rattle.cms_session.specs.declared.state.Finish.TheVariants as finish
 use Rattle.cms_session.specs.declared.status.Status.{Status}
 use Rattle.cms_session.specs.declared.status.Status.TheVariants.{Done, Usage, Memory, World, Turns, NotBuilt}
-use Rattle.cms_session.specs.declared.status.WordFault.{WordFault}
-use Rattle.cms_session.specs.declared.status.WordFault.TheVariants.{Syntax, Unit}
 
 -- ---- the words
 
--- what the words come to decides the status where no unit is run, and Usage comes nowhere else
+-- what the words ask for decides the status where no session runs, but for want of memory; Usage comes nowhere else
 abbrev pub FitsWords : Read → Status → Type 0
-FitsWords words.NoUnit status = status ≡ Usage Syntax
-FitsWords words.BadUnit status = status ≡ Usage (Unit 1)
-FitsWords words.NotBuilt status = status ≡ NotBuilt
-FitsWords (words.OneUnit spec) status = (fault : WordFault) → status ≢ Usage fault
+FitsWords (words.Refused why) status = (status ≡ Usage why) ⊎ (status ≡ Memory)
+FitsWords words.NotBuilt status = (status ≡ NotBuilt) ⊎ (status ≡ Memory)
+FitsWords (words.Runs spec) status = (why : WordFault) → status ≢ Usage why
 
--- no unit is run
+-- how it ends where the words are refused
+abbrev pub refusal_of : WordFault → Status
+refusal_of fault.Memory = Memory
+refusal_of fault.Syntax = Usage fault.Syntax
+refusal_of (fault.Unit k) = Usage (fault.Unit k)
+refusal_of fault.Turns = Usage fault.Turns
+refusal_of fault.Zone = Usage fault.Zone
+refusal_of (fault.Twice vdev) = Usage (fault.Twice vdev)
+refusal_of fault.Seed = Usage fault.Seed
+
+-- no session runs
 abbrev pub RunsNone : Read → Type 0
-RunsNone words.NoUnit = ⊤
-RunsNone words.BadUnit = ⊤
+RunsNone (words.Refused why) = ⊤
 RunsNone words.NotBuilt = ⊤
-RunsNone (words.OneUnit spec) = ⊥
+RunsNone (words.Runs spec) = ⊥
 
 -- ---- the unit
 
 -- the device of a unit word
-abbrev pub device_of : UnitSpec → Device
-device_of spec = record { vdev = spec.vdev; bsize = spec.bsize; writable = may_write spec.access }
+abbrev pub device_of : UnitWord → Device
+device_of unit = record { vdev = unit.vdev; bsize = unit.bsize; writable = may_write unit.access }
 
 -- how a session on a unit starts
-abbrev pub start_on : UnitSpec → Attached → ℕ → Start
+abbrev pub start_on : Asked → Attached → ℕ → Start
 start_on spec unit faults = record {
   units = unit ∷ [];
-  devices = device_of spec ∷ [];
-  turns = 1000000;
-  offset = pos 0;
-  given = None;
+  devices = device_of spec.unit ∷ [];
+  turns = spec.turns;
+  offset = spec.offset;
+  given = spec.given;
   faults = faults;
 }
 
 -- lines are run, with this disk A
-abbrev pub lines_tree : Device → Option Disk → List Slot → Act Finish
-lines_tree device disk units = run_lines (first_machine units (device ∷ []) (letters_of disk) (pos 0) 1000000)
+abbrev pub lines_tree : Asked → Option Disk → List Slot → Act Finish
+lines_tree spec disk units = run_lines (first_machine units (device_of spec.unit ∷ []) (letters_of disk) spec.offset spec.turns)
 
 -- the unit is device 191, and its volume isn't built yet
-abbrev pub IsUnbuilt : UnitSpec → Attached → Type 0
-IsUnbuilt spec unit = (spec.vdev ≡ 0x191) × IsNotBuilt (disk_of unit) (image_of unit.start)
+abbrev pub IsUnbuilt : Asked → Attached → Type 0
+IsUnbuilt spec unit = (spec.unit.vdev ≡ 0x191) × IsNotBuilt (disk_of unit) (image_of unit.start)
 
 -- nothing was attached: nothing happened, or the image was missed
-pub record NotAttached (spec : UnitSpec) (before now : Seen) (status : Status) : Type 0 where
+pub record NotAttached (spec : Asked) (before now : Seen) (status : Status) : Type 0 where
   pub status_is : status ≡ World
-  pub told : MayAdd (Missed spec.name spec.bsize spec.access) (Some (fresh [])) now.told
+  pub told : MayAdd (Missed spec.unit.name spec.unit.bsize spec.unit.access) (Some (fresh [])) now.told
   pub cause : Rose before.edges now.edges
 
 -- the volume isn't built yet, which ended the session: nothing happened
-pub record NotStarted (spec : UnitSpec) (unit : Attached) (now : Seen) (status : Status) : Type 0 where
+pub record NotStarted (spec : Asked) (unit : Attached) (now : Seen) (status : Status) : Type 0 where
   pub status_is : status ≡ NotBuilt
   pub told : now.told ≡ Some (fresh (unit ∷ []))
   pub volume : IsUnbuilt spec unit
 
 -- a session on a unit that was attached; where its volume isn't built yet nothing happened
-pub record RanOn (spec : UnitSpec) (unit : Attached) (before now : Seen) (status : Status) : Type 0 where
+pub record RanOn (spec : Asked) (unit : Attached) (before now : Seen) (status : Status) : Type 0 where
   pub ran : NotStarted spec unit now status ⊎ Headline (start_on spec unit before.faults) before now status
   pub unbuilt : IsUnbuilt spec unit → now.told ≡ Some (fresh (unit ∷ []))
 
 -- one unit was attached, as its word says
-pub record OnUnit (spec : UnitSpec) (before now : Seen) (status : Status) : Type 0 where
+pub record OnUnit (spec : Asked) (before now : Seen) (status : Status) : Type 0 where
   pub unit : Attached
   pub blocks : ℕ
-  pub attached : IsAttached (fresh []) (Some (fresh (unit ∷ []))) spec.name spec.bsize spec.access 0 blocks
+  pub attached : IsAttached (fresh []) (Some (fresh (unit ∷ []))) spec.unit.name spec.unit.bsize spec.unit.access 0 blocks
   pub ran : RanOn spec unit before now status
 
--- a session of a unit word, from a world with no unit and no event
-abbrev pub SessionIn : UnitSpec → Seen → Seen → Status → Type 0
-SessionIn spec before now status = NotAttached spec before now status ⊎ OnUnit spec before now status
+-- there was no memory before a unit was attached: nothing happened
+pub record Unbegun (before now : Seen) (status : Status) : Type 0 where
+  pub status_is : status ≡ Memory
+  pub same : now ≡ before
+
+-- a session that the words ask for, from a world with no unit and no event
+abbrev pub SessionIn : Asked → Seen → Seen → Status → Type 0
+SessionIn spec before now status = Unbegun before now status ⊎ (NotAttached spec before now status ⊎ OnUnit spec before now status)
 
 -- no count has fallen, and World comes only where one of them rose
 pub record WorldCause (before now : Seen) (status : Status) : Type 0 where
@@ -131,7 +145,7 @@ EndedAs p edges now tree Turns = CameTo p now tree finish.AtTurns
 EndedAs p edges now tree NotBuilt = CameTo p now tree finish.NotBuilt
 EndedAs p edges now tree World = CameTo p now tree finish.DeviceFault ⊎ (WasCut p now tree × Rose edges now.edges)
 EndedAs p edges now tree Memory = WasCut p now tree
-EndedAs p edges now tree (Usage fault) = ⊥
+EndedAs p edges now tree (Usage why) = ⊥
 
 -- a unit whose blocks have its size stands alone in a journal in which nothing happened, and is looked at so
 pub record IsAlone (told : Told) (disk : LookedAt) (number : ℕ) (unit : Attached) : Type 0 where
@@ -141,11 +155,11 @@ pub record IsAlone (told : Told) (disk : LookedAt) (number : ℕ) (unit : Attach
   pub sizes : All (λ block. length block ≡ unit.bsize) unit.start
 
 -- what was found on a unit: disk A or none, by which the session goes on; or why the session ends
-abbrev pub FoundAs : UnitSpec → Attached → ℕ → ℕ → Result (Option Disk) Status → Type 0
+abbrev pub FoundAs : Asked → Attached → ℕ → ℕ → Result (Option Disk) Status → Type 0
 FoundAs spec unit before now (Ok disk) =
     Holds (Some (fresh (unit ∷ []))) disk (settled (unit ∷ [])) × (IsUnbuilt spec unit → ⊥)
     × Ran (start_point (start_on spec unit before)) (start_point (start_on spec unit now)) (start_tree (start_on spec unit before))
-    (lines_tree (device_of spec) disk (settled (unit ∷ [])))
+    (lines_tree spec disk (settled (unit ∷ [])))
 FoundAs spec unit before now (Err NotBuilt) = IsUnbuilt spec unit
 FoundAs spec unit before now (Err World) =
     Ran (start_point (start_on spec unit before)) (start_point (start_on spec unit now)) (start_tree (start_on spec unit before))
@@ -153,4 +167,4 @@ FoundAs spec unit before now (Err World) =
 FoundAs spec unit before now (Err Memory) = ⊤
 FoundAs spec unit before now (Err Done) = ⊥
 FoundAs spec unit before now (Err Turns) = ⊥
-FoundAs spec unit before now (Err (Usage fault)) = ⊥
+FoundAs spec unit before now (Err (Usage why)) = ⊥

@@ -2,8 +2,6 @@
 use Rattle.std.specs.Prelude.{ℕ}
 use Rattle.cms_session.specs.declared.status.Status.{Status}
 use Rattle.cms_session.specs.declared.status.Status.TheVariants.{Done, Usage, Memory, World, Turns, NotBuilt}
-use Rattle.cms_session.specs.declared.status.WordFault.{WordFault}
-use Rattle.cms_session.specs.declared.status.WordFault.TheVariants.{Syntax, Unit}
 
 -- the exit status
 abbrev pub code_of : Status → ℕ
@@ -13,8 +11,3 @@ code_of Memory = 3
 code_of World = 4
 code_of Turns = 5
 code_of NotBuilt = 6
-
--- the number of a reason to refuse the words
-abbrev pub number_of : WordFault → ℕ
-number_of Syntax = 1
-number_of (Unit place) = 2

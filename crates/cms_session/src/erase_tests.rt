@@ -275,24 +275,31 @@ fn a_crash_leaves_the_old_or_the_new(rt: HostRuntime) -> Result<(), Fail> {
 }
 
 // The first erasure writes the directory to block 5, the second to block 4; each has the second of its turn in the entries of
-// the directory and of the map.
-const STAMPS: &[(usize, &[u8])] = &[
-    (4 * 512 + 54, &[0x26, 0x07, 0x01, 0x12, 0x34, 0x56]),
-    (4 * 512 + 118, &[0x26, 0x07, 0x01, 0x12, 0x34, 0x56]),
-    (3 * 512 + 54, &[0x26, 0x07, 0x01, 0x12, 0x34, 0x58]),
-    (3 * 512 + 118, &[0x26, 0x07, 0x01, 0x12, 0x34, 0x58]),
+// the directory and of the map, in the hour of the zone.
+const STAMPS: [(usize, [u8; 6]); 4] = [
+    (4 * 512 + 54, [0x26, 0x07, 0x01, 0x12, 0x34, 0x56]),
+    (4 * 512 + 118, [0x26, 0x07, 0x01, 0x12, 0x34, 0x56]),
+    (3 * 512 + 54, [0x26, 0x07, 0x01, 0x12, 0x34, 0x58]),
+    (3 * 512 + 118, [0x26, 0x07, 0x01, 0x12, 0x34, 0x58]),
 ];
 
 #[test]
 fn each_erasure_has_the_stamp_of_its_turn(rt: HostRuntime) -> Result<(), Fail> {
     let alloc = rt.alloc();
-    let mut world = MemWorld::new(alloc, SCRIPT.as_bytes(), NOON + 34 * 60 + 56)?;
-    world.add_image("disk.img", &three(alloc)?)?;
-    assert_eq!(rt; ended(alloc, WORD, &mut world)?, Status::Done);
-    let left = crashed(alloc, &world, world.events(), u64::MAX)?;
-    let bytes = left.as_deref().unwrap_or(&[]);
-    for (at, stamp) in STAMPS {
-        assert_eq!(rt; bytes.get(*at..*at + 6), Some(*stamp), "byte {at}");
+    for (words, hour) in [(WORD, 0x12), ("-z W0100 191,512,rw,disk.img", 0x11)] {
+        let mut world = MemWorld::new(alloc, SCRIPT.as_bytes(), NOON + 34 * 60 + 56)?;
+        world.add_image("disk.img", &three(alloc)?)?;
+        assert_eq!(rt; ended(alloc, words, &mut world)?, Status::Done);
+        let left = crashed(alloc, &world, world.events(), u64::MAX)?;
+        let bytes = left.as_deref().unwrap_or(&[]);
+        for (at, mut stamp) in STAMPS {
+            stamp[3] = hour;
+            assert_eq!(rt;
+                bytes.get(at..at + 6),
+                Some(stamp.as_slice()),
+                "{words}: byte {at}"
+            );
+        }
     }
     Ok(())
 }

@@ -1,6 +1,7 @@
 //! The top call of `cms`: a session of CMS commands on the units of a world.
 #![tactic(auto)]
 
+mod asked;
 mod command;
 mod erasing;
 mod laws;
@@ -10,10 +11,10 @@ mod session;
 mod state;
 mod status;
 mod top;
-mod words;
 
+pub use cms_words::WordFault;
 pub use laws::laws_of_sessions;
-pub use status::{Status, WordFault};
+pub use status::Status;
 pub use top::run;
 
 #[cfg(test)]
@@ -21,4 +22,4 @@ mod erase_tests;
 #[cfg(test)]
 mod session_tests;
 #[cfg(test)]
-mod word_tests;
+mod status_tests;

@@ -150,7 +150,76 @@ const ROWS: &[Row] = &[
         "",
         Status::Usage(WordFault::Unit(1)),
     ),
-    ("-t", &[], "* a comment\n", "", Status::NotBuilt),
+    (
+        "-t 191,512,ro,disk.img",
+        &[],
+        "* a comment\n",
+        "",
+        Status::Usage(WordFault::Syntax),
+    ),
+    (
+        "-t 0 191,512,ro,disk.img",
+        &[],
+        "* a comment\n",
+        "",
+        Status::Usage(WordFault::Turns),
+    ),
+    (
+        "-z W0060 191,512,ro,disk.img",
+        &[],
+        "* a comment\n",
+        "",
+        Status::Usage(WordFault::Zone),
+    ),
+    (
+        "191,512,ro,disk.img 191,512,ro,b.img",
+        &[],
+        "* a comment\n",
+        "",
+        Status::Usage(WordFault::Twice(0x191)),
+    ),
+    (
+        "-g 2147483648 191,512,ro,disk.img",
+        &[],
+        "* a comment\n",
+        "",
+        Status::Usage(WordFault::Seed),
+    ),
+    (
+        "191,512,ro,disk.img 192,512,ro,b.img",
+        &[],
+        "* a comment\n",
+        "",
+        Status::NotBuilt,
+    ),
+    (
+        "191,512,n9,new.img",
+        &[],
+        "* a comment\n",
+        "",
+        Status::NotBuilt,
+    ),
+    (
+        "-g 1 191,512,ro,disk.img",
+        &[],
+        "TYPE HELLO TEXT A\n",
+        "",
+        Status::NotBuilt,
+    ),
+    (
+        "191,512,ro,disk.img -t 2",
+        &[],
+        "TYPE HELLO TEXT A\n\n",
+        "HELLO\nWORLD\nR;\n",
+        Status::Done,
+    ),
+    (
+        "-t 2 191,512,ro,disk.img",
+        &[],
+        "TYPE HELLO TEXT A\n\n* one more\n",
+        "HELLO\nWORLD\nR;\n",
+        Status::Turns,
+    ),
 ];
 
 #[test]
@@ -246,23 +315,25 @@ fn long_scripts_have_room_in_memory(rt: HostRuntime) -> Result<(), Fail> {
     let (stars, blanks, lines) = (
         repeated(alloc, "*", 255)?,
         repeated(alloc, " ", 255)?,
-        repeated(alloc, "*\n", 1_000_000)?,
+        repeated(alloc, "*\n", 1_000)?,
     );
     let table = [
         (
+            WORD,
             format!(in alloc; "{stars}\n{blanks}\n{stars}\r\nTYPE HELLO TEXT A\n{blanks}")?,
             "HELLO\nWORLD\nR;\n",
             Status::Done,
         ),
         (
+            "-t 1000 191,512,ro,disk.img",
             format!(in alloc; "TYPE HELLO TEXT A\n{lines}")?,
             "HELLO\nWORLD\nR;\n",
             Status::Turns,
         ),
     ];
-    for (row, (script, typed, wanted)) in table.iter().enumerate() {
+    for (row, (words, script, typed, wanted)) in table.iter().enumerate() {
         let mut world = world(alloc, script, &hello(alloc, &[])?)?;
-        assert_eq!(rt; ended(alloc, WORD, &mut world)?, *wanted, "row {row}");
+        assert_eq!(rt; ended(alloc, words, &mut world)?, *wanted, "row {row}");
         assert_eq!(rt; world.typed(), typed.as_bytes(), "row {row}");
     }
     Ok(())

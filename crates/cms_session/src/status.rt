@@ -1,31 +1,8 @@
 // How a session ends.
 ghost use Rattle.std.specs.Prelude.{◌≡◌};
-ghost use Rattle.cms_session.specs.Statuses.{code_of, number_of};
+ghost use Rattle.cms_session.specs.Statuses.{code_of};
 
-use thiserror::Error;
-
-/// Why the program's words are refused.
-#[derive(Clone, Copy, Debug, PartialEq, Eq, Error)]
-pub enum WordFault {
-    /// There is no unit word.
-    #[error("there is no unit word")]
-    Syntax,
-    /// The word of this number behind the program's name, from 1, isn't a unit word.
-    #[error("word {0} is no unit word")]
-    Unit(u32),
-}
-
-impl WordFault {
-    /// The number of the reason, by which the program names it: 1 or 2.
-    pub fn number(&self) -> u32
-        ensures { result ≡ number_of self.now }
-    {
-        match self {
-            WordFault::Syntax => 1,
-            WordFault::Unit(_) => 2,
-        }
-    }
-}
+use cms_words::WordFault;
 
 /// How a session ended.
 #[derive(Clone, Copy, Debug, PartialEq, Eq)]

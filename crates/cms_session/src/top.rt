@@ -7,27 +7,27 @@ ghost use Rattle.cms_journal.specs.declared.event.Attached.{Attached};
 ghost use Rattle.cms_machine.specs.Slots.{Slot};
 ghost use Rattle.cms_search.specs.Calls.{Holds, Usable};
 ghost use Rattle.cms_session.specs.Headline.{fresh, first_point, seen};
-ghost use Rattle.cms_session.specs.Sessions.{FitsWords, RunsNone, IsAlone, device_of, lines_tree, status_of, FoundAs, EndedAs, RanOn, SessionIn, WorldCause};
-ghost use Rattle.cms_session.specs.declared.status.WordFault.{WordFault};
-ghost use Rattle.cms_session.specs.Words.{UnitSpec, IsUnitWord, OneUnit, read_words};
+ghost use Rattle.cms_session.specs.Sessions.{FitsWords, RunsNone, refusal_of, IsAlone, device_of, lines_tree, status_of, FoundAs, EndedAs, RanOn, SessionIn, WorldCause};
+ghost use Rattle.jiff.specs.Words.{IsWithin};
+ghost use Rattle.cms_words.specs.declared.fault.WordFault.{WordFault};
+ghost use Rattle.cms_words.specs.declared.fault.WordFault.TheVariants.{Memory};
+ghost use Rattle.cms_words.specs.declared.unit.UnitWord.{UnitWord};
+ghost use Rattle.cms_session.specs.Words.{Asked, Runs, asked, given_in, asked_of, read_words};
 
+use crate::asked::{Terms, given, only_unit};
 use crate::session::play;
 use crate::state::Finish;
-use crate::status::{Status, WordFault};
-use crate::words::{UnitWord, Words, read_words};
+use crate::status::Status;
 use cms_edf::{SmallFault, small_volume};
 use cms_fields::Moment;
-use cms_journal::BlockSize;
 use cms_line::Console;
 use cms_search::{Device, Disk, End, State};
+use cms_words::{UnitWord, WordFault, Words, read_words};
 use cms_world::{Access, Argv, Failed, Unit, World};
 use std::alloc::Global;
 
 /// The device whose volume is disk A at the start.
 const DEVICE_A: u16 = 0x191;
-
-/// How many turns a session has.
-const TURNS: u64 = 1_000_000;
 
 /// How many blocks of a unit are looked at.
 const MOST_BLOCKS: u32 = 1_048_576;
@@ -57,13 +57,13 @@ fn is_read_only(access: Access) -> bool
 fn disk_a<W: World>(
     alloc: Global,
     world: &mut W,
-    word: &UnitWord<'_>,
+    word: &UnitWord,
     unit: &Unit,
 ) -> Result<Option<Disk>, Status>
     requires size { IsBlockSize word.now.bsize }
     requires blocks { ForSome (W.told world.old) (λ j. HasBlocks j.units unit.now.number unit.now.blocks word.now.bsize) }
     requires writable { IsTrue (may_write word.now.access) → ForSome (W.told world.old) (λ j. IsWritable j.units unit.now.number) }
-    ensures found { (spec : UnitSpec) (alone : Attached) → IsUnitWord word.now spec
+    ensures found { (spec : Asked) (alone : Attached) → word.now ≡ spec.unit
         → IsAlone (W.told world.old) (record { bsize = word.now.bsize; count = unit.now.blocks }) unit.now.number alone
         → FoundAs spec alone (W.faults world.old) (W.faults world.new) result }
     ensures usable { IfOk result (λ disk. Usable (W.told world.new) disk) }
@@ -76,7 +76,7 @@ fn disk_a<W: World>(
     if word.vdev != DEVICE_A {
         return Ok(None);
     }
-    match small_volume(alloc, world, unit, BlockSize::new(word.bsize)) {
+    match small_volume(alloc, world, unit, word.bsize) {
         Ok(small) => Ok(Some(Disk {
             small,
             read_only: is_read_only(word.access),
@@ -100,26 +100,49 @@ fn status_of(finish: Finish) -> Status
     }
 }
 
+// How a session ends whose words are refused; want of memory is no refusal.
+fn refusal(fault: WordFault) -> Status
+    ensures { result ≡ refusal_of fault }
+{
+    match fault {
+        WordFault::Memory => Status::Memory,
+        WordFault::Syntax
+        | WordFault::Unit(_)
+        | WordFault::Turns
+        | WordFault::Zone
+        | WordFault::Twice(_)
+        | WordFault::Seed => Status::Usage(fault),
+    }
+}
+
 // The lines of the script, with this disk A.
-fn run_lines<W: World>(alloc: Global, world: &mut W, device: Device, disk_a: Option<Disk>) -> Status
+fn run_lines<W: World>(
+    alloc: Global,
+    world: &mut W,
+    device: Device,
+    terms: Terms,
+    disk_a: Option<Disk>,
+) -> Status
     requires usable { Usable (W.told world.old) disk_a }
-    ensures ended { (units : List Slot) → Holds (W.told world.old) disk_a units
-        → EndedAs (first_point (W.told world.old) (W.faults world.old) units None) (W.edges world.old)
-        (seen (W.told world.new) (W.edges world.new) (W.faults world.new)) (lines_tree device disk_a units) result }
+    requires offset { IsWithin 54_000 terms.offset }
+    ensures ended { (word : UnitWord) (units : List Slot) → device ≡ device_of word → Holds (W.told world.old) disk_a units
+        → EndedAs (first_point (W.told world.old) (W.faults world.old) units (given_in terms.given)) (W.edges world.old)
+        (seen (W.told world.new) (W.edges world.new) (W.faults world.new)) (lines_tree (asked word terms) disk_a units) result }
     ensures no_usage { (fault : WordFault) → result ≢ Status.Usage fault }
     ensures cause { WorldCause (seen (W.told world.old) (W.edges world.old) (W.faults world.old))
         (seen (W.told world.new) (W.edges world.new) (W.faults world.new)) result }
 {
-    let Ok(console) = Console::new(alloc, None) else {
+    let moment = Moment::of_epoch(0, terms.offset);
+    let Ok(console) = Console::new(alloc, terms.given) else {
         return Status::Memory;
     };
     let mut state = State {
         device,
         disk_a,
         console,
-        offset: 0,
-        moment: Moment::of_epoch(0, 0),
-        left: TURNS,
+        offset: terms.offset,
+        moment,
+        left: terms.turns,
     };
     match play(alloc, world, &mut state) {
         Ok(finish) => status_of(finish),
@@ -129,81 +152,120 @@ fn run_lines<W: World>(alloc: Global, world: &mut W, device: Device, disk_a: Opt
 }
 
 // The device of a unit word.
-fn device_of(word: &UnitWord<'_>) -> Device
-    ensures { (spec : UnitSpec) → IsUnitWord word.now spec → result ≡ device_of spec }
+fn device_of(word: &UnitWord) -> Device
+    ensures { result ≡ device_of word.now }
 {
     Device {
         vdev: word.vdev,
-        bsize: word.bsize,
+        bsize: word.bsize.bytes(),
         writable: !is_read_only(word.access),
     }
 }
 
 // A session on a unit that was attached.
-fn run_attached<W: World>(alloc: Global, world: &mut W, word: &UnitWord<'_>, unit: &Unit) -> Status
+fn run_attached<W: World>(
+    alloc: Global,
+    world: &mut W,
+    word: &UnitWord,
+    terms: Terms,
+    unit: &Unit,
+) -> Status
+    requires offset { IsWithin 54_000 terms.offset }
     requires size { IsBlockSize word.now.bsize }
     requires blocks { ForSome (W.told world.old) (λ j. HasBlocks j.units unit.now.number unit.now.blocks word.now.bsize) }
     requires writable { IsTrue (may_write word.now.access) → ForSome (W.told world.old) (λ j. IsWritable j.units unit.now.number) }
-    ensures ran { (spec : UnitSpec) (alone : Attached) → IsUnitWord word.now spec
+    ensures ran { (alone : Attached)
         → IsAlone (W.told world.old) (record { bsize = word.now.bsize; count = unit.now.blocks }) unit.now.number alone
-        → RanOn spec alone (seen (W.told world.old) (W.edges world.old) (W.faults world.old))
+        → RanOn (asked word.now terms) alone (seen (W.told world.old) (W.edges world.old) (W.faults world.old))
         (seen (W.told world.new) (W.edges world.new) (W.faults world.new)) result }
     ensures no_usage { (fault : WordFault) → result ≢ Status.Usage fault }
     ensures cause { WorldCause (seen (W.told world.old) (W.edges world.old) (W.faults world.old))
         (seen (W.told world.new) (W.edges world.new) (W.faults world.new)) result }
 {
     match disk_a(alloc, world, word, unit) {
-        Ok(disk) => run_lines(alloc, world, device_of(word), disk),
+        Ok(disk) => run_lines(alloc, world, device_of(word), terms, disk),
         Err(status) => status,
     }
 }
 
 // A session on the unit of a word.
-fn run_unit<W: World>(alloc: Global, world: &mut W, word: &UnitWord<'_>) -> Status
-    requires size { IsBlockSize word.now.bsize }
+fn run_unit<W: World>(alloc: Global, world: &mut W, word: &UnitWord, terms: Terms) -> Status
+    requires offset { IsWithin 54_000 terms.offset }
     requires room { ForSome (W.told world.old) (λ j. length j.units ≤ 240) }
-    ensures headline { (spec : UnitSpec) → IsUnitWord word.now spec → W.told world.old ≡ Some (fresh [])
+    ensures headline { W.told world.old ≡ Some (fresh [])
+        → SessionIn (asked word.now terms) (seen (W.told world.old) (W.edges world.old) (W.faults world.old))
+        (seen (W.told world.new) (W.edges world.new) (W.faults world.new)) result }
+    ensures no_usage { (fault : WordFault) → result ≢ Status.Usage fault }
+    ensures cause { WorldCause (seen (W.told world.old) (W.edges world.old) (W.faults world.old))
+        (seen (W.told world.new) (W.edges world.new) (W.faults world.new)) result }
+{
+    match world.attach(word.name.text(), word.bsize.bytes(), word.access) {
+        Ok(unit) => run_attached(alloc, world, word, terms, &looked_at(unit)),
+        Err(Failed) => Status::World,
+    }
+}
+
+// The session that the words ask for, where it is built.
+fn run_words<W: World>(alloc: Global, world: &mut W, words: &Words) -> Status
+    requires offset { IsWithin 54_000 words.now.offset }
+    requires room { ForSome (W.told world.old) (λ j. length j.units ≤ 240) }
+    ensures words { FitsWords (asked_of words.now words.now.units) result }
+    ensures refused { RunsNone (asked_of words.now words.now.units)
+        → seen (W.told world.new) (W.edges world.new) (W.faults world.new) ≡ seen (W.told world.old) (W.edges world.old)
+        (W.faults world.old) }
+    ensures headline { (spec : Asked) → asked_of words.now words.now.units ≡ Runs spec → W.told world.old ≡ Some (fresh [])
         → SessionIn spec (seen (W.told world.old) (W.edges world.old) (W.faults world.old))
         (seen (W.told world.new) (W.edges world.new) (W.faults world.new)) result }
     ensures no_usage { (fault : WordFault) → result ≢ Status.Usage fault }
     ensures cause { WorldCause (seen (W.told world.old) (W.edges world.old) (W.faults world.old))
         (seen (W.told world.new) (W.edges world.new) (W.faults world.new)) result }
 {
-    match world.attach(word.name, word.bsize, word.access) {
-        Ok(unit) => run_attached(alloc, world, word, &looked_at(unit)),
-        Err(Failed) => Status::World,
+    let Some(unit) = only_unit(words.units.as_slice()) else {
+        return Status::NotBuilt;
+    };
+    match given(alloc, words.seed) {
+        Ok(given) => {
+            let terms = Terms {
+                turns: words.turns,
+                offset: words.offset,
+                given,
+            };
+            run_unit(alloc, world, unit, terms)
+        }
+        Err(_) => Status::Memory,
     }
 }
 
-/// Runs a session of CMS commands: the words say its unit, the world gives its script, and the status says how it ended.
+/// Runs a session of CMS commands: the words say its unit and its terms, the world gives its script, and the status says how it ended.
 ///
-/// The words are the program's name and a unit word. Where they are refused, or aren't built yet, the world isn't touched; else
-/// the unit is attached, and where it is device 191 and has a volume this is accessed as disk A, without a message. A volume
-/// behind a label that isn't built yet ends the session with `NotBuilt` before a line is read. Then the lines of the script are
-/// run, each for a turn, 1,000,000 at most: `TYPE` and `ERASE` of a file of disk A. `ERASE` writes to the unit where it is
-/// attached so that it may be written. A told journal must have at most 240 units.
+/// The words are those of `cms [-t TURNS] [-z ZONE] [-g NUMBER] UNIT...`, the program's name first. Where they are refused, or ask for
+/// more than one unit or for a new image, which aren't built yet, the world isn't touched; else the unit is attached, and where it is
+/// device 191 and has a volume this is accessed as disk A, without a message. A volume behind a label that isn't built yet ends the
+/// session with `NotBuilt` before a line is read. Then the lines of the script are run, each for a turn, as many as `-t` says and else
+/// 1,000,000: `TYPE` and `ERASE` of a file of disk A. `ERASE` writes to the unit where it is attached so that it may be written, with
+/// the stamp of its turn in the zone of `-z`. With `-g` the script is the generated one of that number, and the world isn't read. A
+/// told journal must have at most 240 units.
 ///
 /// - In a world that tells its journal, with no unit and no event yet, the session is a run of the machine of minidisks as lists
 ///   of named record lists, and a crash at any moment leaves a state that the machine has there.
-/// - `Usage` comes exactly where the words are refused.
+/// - `Usage` comes exactly where the words are refused, but for want of memory.
 /// - `World` comes only where one of the world's two counts rose in this call. Where a device failed in an `ERASE` the unit is as
 ///   before, or a crash leaves it with the file or without it.
 pub fn run<W: World>(alloc: Global, words: &Argv, world: &mut W) -> Status
     requires room { ForSome (W.told world.old) (λ j. length j.units ≤ 240) }
     ensures words { FitsWords (read_words words.now) result }
+    ensures no_memory { result ≢ Status.Usage Memory }
     ensures refused { RunsNone (read_words words.now)
         → seen (W.told world.new) (W.edges world.new) (W.faults world.new) ≡ seen (W.told world.old) (W.edges world.old)
         (W.faults world.old) }
-    ensures headline { (spec : UnitSpec) → read_words words.now ≡ OneUnit spec → W.told world.old ≡ Some (fresh [])
+    ensures headline { (spec : Asked) → read_words words.now ≡ Runs spec → W.told world.old ≡ Some (fresh [])
         → SessionIn spec (seen (W.told world.old) (W.edges world.old) (W.faults world.old))
         (seen (W.told world.new) (W.edges world.new) (W.faults world.new)) result }
     ensures cause { WorldCause (seen (W.told world.old) (W.edges world.old) (W.faults world.old))
         (seen (W.told world.new) (W.edges world.new) (W.faults world.new)) result }
 {
-    match read_words(words) {
-        Words::NoUnit => Status::Usage(WordFault::Syntax),
-        Words::BadUnit => Status::Usage(WordFault::Unit(1)),
-        Words::NotBuilt => Status::NotBuilt,
-        Words::OneUnit(word) => run_unit(alloc, world, &word),
+    match read_words(alloc, words) {
+        Ok(words) => run_words(alloc, world, &words),
+        Err(fault) => refusal(fault),
     }
 }

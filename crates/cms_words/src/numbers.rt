@@ -1,4 +1,5 @@
 // Numbers among the words, in ASCII.
+ghost use Rattle.jiff.specs.Words.{IsWithin};
 ghost use Rattle.std.specs.Prelude.{◌≡◌, ◌≤◌, ◌<◌, IfSome, IsTrue, length};
 ghost use Rattle.cms_words.specs.Numbers.{is_digit, hex_digit, decimal_from, device_of, number_up_to, offset_of, up_to};
 
@@ -75,7 +76,8 @@ pub fn number(word: &[u8], most: u32) -> Option<u32>
 /// The seconds that a zone adds to the clock, at most 53,940 either way: E or W, and hhmm.
 #[tactic(auto, unfolding(crate::specs::Numbers::offset_of))]
 pub fn offset(word: &[u8]) -> Option<i32>
-    ensures { result ≡ offset_of word.now }
+    ensures value { result ≡ offset_of word.now }
+    ensures within { IfSome result (λ seconds. IsWithin 54_000 seconds) }
 {
     let [side, digits @ ..] = word else {
         return None;

@@ -188,7 +188,7 @@ fn values(alloc: Global, words: &Words) -> Result<String, Fail> {
         let unit = format!(in alloc;
             " {:03X},{},{},{name}",
             unit.vdev,
-            unit.bsize,
+            unit.bsize.bytes(),
             access.as_str()
         )?;
         text.push_str(unit.as_str())?;

@@ -4,6 +4,7 @@ ghost use Rattle.cms_words.specs.UnitWords.{bsize_of, count_of, new_image_of, ac
 ghost use Rattle.cms_words.specs.Readings.{AreFields, IsReading};
 
 use crate::numbers::{decimal, device};
+use cms_journal::BlockSize;
 use cms_world::{Access, ImageName};
 use std::alloc::{AllocError, Global};
 
@@ -18,8 +19,8 @@ const MOST_BLOCKS: u32 = 1_048_576;
 pub struct UnitWord {
     /// 1 to 0xFFF
     pub vdev: u16,
-    /// 512, 1024, 2048 or 4096
-    pub bsize: u32,
+    /// the size of the image's blocks
+    pub bsize: BlockSize,
     /// a new image has 8 to 1,048,576 blocks
     pub access: Access,
     /// not empty; it may hold commas and blanks
@@ -27,14 +28,14 @@ pub struct UnitWord {
 }
 
 #[tactic(auto, unfolding(crate::specs::UnitWords::bsize_of))]
-fn bsize(word: &str) -> Option<u32>
+fn bsize(word: &str) -> Option<BlockSize>
     ensures { result ≡ bsize_of word.now }
 {
     match word {
-        "512" => Some(512),
-        "1024" => Some(1024),
-        "2048" => Some(2048),
-        "4096" => Some(4096),
+        "512" => Some(BlockSize::new(512)),
+        "1024" => Some(BlockSize::new(1024)),
+        "2048" => Some(BlockSize::new(2048)),
+        "4096" => Some(BlockSize::new(4096)),
         _ => None,
     }
 }
@@ -104,7 +105,7 @@ fn split_fields(word: &str) -> Option<Fields<'_>>
 #[derive(Clone, Copy)]
 struct UnitText<'a> {
     vdev: u16,
-    bsize: u32,
+    bsize: BlockSize,
     access: Access,
     name: &'a str,
 }

@@ -61,8 +61,8 @@ impl UnitWords {
         self.words.get(place)
     }
 
-    /// The words as a slice.
-    fn as_slice(&self) -> &[UnitWord]
+    /// The words in order, as a slice.
+    pub fn as_slice(&self) -> &[UnitWord]
         ensures { result.now ≡ self.now }
     {
         &self.words
