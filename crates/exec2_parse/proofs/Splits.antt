@@ -6,7 +6,7 @@ use Rattle.std.proofs.lemmas.List.{append_assoc, drop_at, get_or-append-add, get
 use Rattle.std.proofs.lemmas.List.Sums.{count_by_more_yes, suffix_len_is, sum_by-append, sum_by-take-le}
 use Rattle.cms_text.specs.Texts.{Text}
 use Rattle.exec2_parse.specs.Variables.{Values, value_of}
-use Rattle.exec2_parse.specs.Expansion.{ReplacesFromTheRight, SplitsAtLast, ampersands, expanded, expanded_before, expanded_with, is_ampersand}
+use Rattle.exec2_parse.specs.Expansion.{ReplacesFromTheRight, SplitsAtLast, ampersands, expanded, expanded_before, expanded_with, is_ampersand, name_of}
 use Rattle.exec2_parse.specs.declared.expansion.ExpandFault.TheVariants.{TooLong}
 
 no_ampersand : ℕ → Bool
@@ -56,13 +56,13 @@ tested a b x y low = grind arith
 passed : {A : Type 0} (a b : ℕ) (x y : A) → b < a → cond (nat_lt b a) x y ≡ x
 passed a b x y high = grind arith
 
-pub expanded_step : (vars : Values) (word text front name value : Text) → SplitsAtLast word front name → value ≡ value_of vars (name ++ text) → length front + length value ≤ 255
+pub expanded_step : (vars : Values) (word text front name value : Text) → SplitsAtLast word front name → value ≡ value_of vars (name_of name text) → length front + length value ≤ 255
     → expanded_before (ampersands word) vars word text ≡ expanded_before (ampersands front) vars front value
 unfolding expanded_before
 expanded_step vars word text front name value splits is short =
     rw (splits.one_more, ← splits.name_is, ← is, ← splits.front_is) (tested (length (front ++ value)) 255 _ _ (omega (arith, length-append front value)))
 
-pub expanded_past : (vars : Values) (word text front name value : Text) → SplitsAtLast word front name → value ≡ value_of vars (name ++ text) → 255 < length front + length value
+pub expanded_past : (vars : Values) (word text front name value : Text) → SplitsAtLast word front name → value ≡ value_of vars (name_of name text) → 255 < length front + length value
     → expanded_before (ampersands word) vars word text ≡ Err TooLong
 unfolding expanded_before
 expanded_past vars word text front name value splits is long =

@@ -1,6 +1,7 @@
 -- The expansion of a word, from the right. A value isn't scanned again.
-use Rattle.std.specs.Prelude.{◌≡◌, ◌+◌, ℕ, zero, suc, ◌==◌, Bool, [], ◌∷◌, ◌++◌, length, nat_lt, if◌then◌else◌, Result, Ok, Err, count_by}
+use Rattle.std.specs.Prelude.{◌≡◌, ◌+◌, ℕ, zero, suc, ◌==◌, Bool, [], ◌∷◌, ◌++◌, length, nat_lt, if◌then◌else◌, map, Result, Ok, Err, count_by}
 use Rattle.std.specs.List.{before_last, after_last}
+use Rattle.cms_ebcdic.specs.CodePage.{upper_of}
 use Rattle.cms_text.specs.Texts.{Text}
 use Rattle.exec2_parse.specs.Variables.{Values, value_of}
 use Rattle.exec2_parse.specs.declared.expansion.ExpandFault.{ExpandFault}
@@ -21,12 +22,16 @@ pub record SplitsAtLast (word front name : Text) : Type 0 where
   pub one_more : ampersands word ≡ suc (ampersands front)
   pub lengths : length front + length name + 1 ≡ length word
 
+-- a variable's name is in capital letters: what follows an ampersand, and a text
+abbrev pub name_of : Text → Text → Text
+name_of name text = map upper_of (name ++ text)
+
 -- A word with so many ampersands, followed by a text in which none counts. The last ampersand of the word, what follows it and the text
--- are a variable's name, and give way to its value.
+-- are a variable's name, in small letters or capitals, and give way to its value.
 unfoldable pub expanded_before : ℕ → Values → Text → Text → Result Text ExpandFault
 expanded_before zero vars word text = Ok (word ++ text)
 expanded_before (suc n) vars word text =
-    let value = value_of vars (after_last is_ampersand word ++ text) in
+    let value = value_of vars (name_of (after_last is_ampersand word) text) in
     let front = before_last is_ampersand word in
     if nat_lt 255 (length (front ++ value)) then Err TooLong else expanded_before n vars front value
 
@@ -49,5 +54,5 @@ KeepsPlainWords = (vars : Values) (word text : Text) → ampersands word ≡ 0 �
 abbrev pub ReplacesFromTheRight : Type 0
 ReplacesFromTheRight =
     (vars : Values) (front name text : Text) → ampersands name ≡ 0 → expanded_with vars (front ++ (0x50 ∷ name)) text
-    ≡ (let value = value_of vars (name ++ text) in
+    ≡ (let value = value_of vars (name_of name text) in
     if nat_lt 255 (length (front ++ value)) then Err TooLong else expanded_with vars front value)

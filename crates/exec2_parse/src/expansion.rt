@@ -1,9 +1,11 @@
 // The expansion of a word.
 ghost use Rattle.std.specs.Prelude.{◌≡◌, ◌≤◌, ◌+◌, ◌++◌, length, Ok, Err, IfOk, MatchOption};
 ghost use Rattle.exec2_parse.specs.Expansion.{KeepsPlainWords, ReplacesFromTheRight, SplitsAtLast, ampersands, expanded};
+ghost use Rattle.exec2_parse.specs.Expansion as spec;
 ghost use Rattle.exec2_parse.specs.Variables as variables;
 
 use crate::Vars;
+use crate::fold::folded;
 use cms_text::Word;
 use std::alloc::{AllocError, Global};
 use thiserror::Error;
@@ -35,8 +37,8 @@ impl From<AllocError> for ExpandFault {
 }
 
 /// The word with the values of its variables, by the rule of VM/SP EXEC 2: from the right, the last ampersand and all that follows it
-/// are a name, which gives way to its value, and then the same for the ampersand to the left of that place. A value isn't
-/// scanned again, and a variable that was never set is empty.
+/// are a name, which gives way to its value, and then the same for the ampersand to the left of that place. A name counts in
+/// capital letters, a value isn't scanned again, and a variable that was never set is empty.
 pub fn expand(alloc: Global, word: &[u8], vars: &Vars) -> Result<Word, ExpandFault>
     requires { length word.now ≤ 255 }
     ensures value { IfOk result (λ text. expanded vars.now word.now ≡ Ok text) }
@@ -46,7 +48,7 @@ pub fn expand(alloc: Global, word: &[u8], vars: &Vars) -> Result<Word, ExpandFau
     let mut left = word;
     let mut value: &[u8] = &[];
     while let Some((front, name)) = split_at_last_ampersand(left) {
-        let name = joined(alloc, name, value)?;
+        let name = name_of(alloc, name, value)?;
         value = value_of(vars, name.bytes());
         left = front;
         if left.len() + value.len() > LONGEST {
@@ -78,6 +80,14 @@ fn split_at_last_ampersand(word: &[u8]) -> Option<(&[u8], &[u8])>
         left = front;
     }
     None
+}
+
+/// The name of a variable, in capital letters: what follows an ampersand, and a text.
+fn name_of(alloc: Global, first: &[u8], second: &[u8]) -> Result<Word, AllocError>
+    requires { length first.now + length second.now ≤ 255 }
+    ensures { IfOk result (λ name. name ≡ spec.name_of first.now second.now) }
+{
+    folded(alloc, joined(alloc, first, second)?.bytes())
 }
 
 fn joined(alloc: Global, first: &[u8], second: &[u8]) -> Result<Word, AllocError>

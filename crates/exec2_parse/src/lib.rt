@@ -2,12 +2,14 @@
 #![tactic(auto)]
 
 mod expansion;
+mod fold;
 mod procedure;
 mod records;
 mod vars;
 
 pub use expansion::{ExpandFault, expand, expansion_laws};
 pub use procedure::{ProcFault, Procedure, read_procedure};
+pub use fold::folded;
 pub use vars::Vars;
 
 #[cfg(test)]

@@ -98,7 +98,8 @@ fn words_expand_from_the_right(rt: HostRuntime) -> Result<(), Fail> {
         ("&I&I", ""),
         ("&", "E"),
         ("X&", "XE"),
-        ("&i", ""),
+        ("&i", "2"),
+        ("&a&i", "Q"),
     ] {
         let bytes = ebcdic(rt.alloc(), text)?;
         assert!(rt; bytes.len() <= 255);
