@@ -8,8 +8,8 @@ mod records;
 mod vars;
 
 pub use expansion::{ExpandFault, expand, expansion_laws};
-pub use procedure::{ProcFault, Procedure, read_procedure};
 pub use fold::folded;
+pub use procedure::{ProcFault, Procedure, read_procedure};
 pub use vars::Vars;
 
 #[cfg(test)]

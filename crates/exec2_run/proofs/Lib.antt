@@ -1,0 +1,8 @@
+mod Blocks
+mod ByCases
+mod ByRelation
+mod Cards
+mod Cuts
+mod Encoded
+mod Places
+mod Tails

@@ -1,0 +1,9 @@
+use Rattle.std.proofs.Common.{◌≡◌, length}
+use Rattle.exec2_run.specs.Steps.{guarded}
+use Rattle.exec2_run.proofs.exec.Exec.guarded.Given as goal
+
+abbrev pub invariant-loop-rest : goal.invariant-loop-rest
+invariant-loop-rest l = guarded l.self.vars l.rest ≡ guarded l.self.vars l.words
+
+abbrev pub decreases-loop-rest : goal.decreases-loop-rest
+decreases-loop-rest l = length l.rest

@@ -1,0 +1,5 @@
+use Rattle.exec2_run.proofs.ByCases.{searches}
+use Rattle.exec2_run.proofs.laws.label_laws.Goals as goal
+
+pub returns : goal.returns
+returns c = searches

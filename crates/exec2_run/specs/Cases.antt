@@ -1,0 +1,94 @@
+-- Statements as a relation, one case for each kind (VM/SP EXEC 2 Reference), and what the first line with a label is.
+use Rattle.std.specs.Prelude.{◌≡◌, ℕ, ◌<◌, ◌≤◌, true, List, drop, slice_get, Option, Some, None, Ok}
+use Rattle.std.specs.Option.{IsSomeAnd}
+use Rattle.cms_text.specs.Texts.{Text}
+use Rattle.exec2_run.specs.Assignments.{assigned}
+use Rattle.exec2_run.specs.Calls.{called, returned}
+use Rattle.exec2_run.specs.Jumps.{gone, label_from, skipped}
+use Rattle.exec2_run.specs.Kinds.{kind_of}
+use Rattle.exec2_run.specs.Loops.{looped}
+use Rattle.exec2_run.specs.Outputs.{issued, stacked, stacked_block, typed, typed_block}
+use Rattle.exec2_run.specs.Readings.{args_given, read}
+use Rattle.exec2_run.specs.State.{Step, still}
+use Rattle.exec2_run.specs.Steps.{exited, run_kind, with_error}
+use Rattle.exec2_run.specs.Words.{has_label}
+use Rattle.exec2_run.specs.declared.exec.Exec.{Exec}
+use Rattle.exec2_run.specs.declared.kind.Control.TheVariants as control
+use Rattle.exec2_run.specs.declared.kind.Kind.TheVariants as kind
+use Rattle.exec2_run.specs.declared.want.Want.TheVariants.{Next}
+
+-- ---- labels
+
+-- line k has the label
+abbrev pub Labels : Text → List Text → ℕ → Type 0
+Labels label lines k = IsSomeAnd (slice_get lines k) (λ line. has_label label line ≡ true)
+
+-- k is the first line with the label from a place on
+pub record IsFirst (label : Text) (lines : List Text) (from k : ℕ) : Type 0 where
+  pub after : from ≤ k
+  pub labels : Labels label lines k
+  pub least : (j : ℕ) → from ≤ j → j < k → Labels label lines j → ⊥
+
+-- no line has it from a place on
+abbrev pub HasNone : Text → List Text → ℕ → Type 0
+HasNone label lines from = (j : ℕ) → from ≤ j → Labels label lines j → ⊥
+
+abbrev pub Search : Text → List Text → ℕ → Option ℕ → Type 0
+Search label lines from None = HasNone label lines from
+Search label lines from (Some k) = IsFirst label lines from k
+
+-- a search finds the first line with the label, or none where there is none
+abbrev pub FindsFirst : Type 0
+FindsFirst = (label : Text) (lines : List Text) (from : ℕ) → Search label lines from (label_from label from lines)
+
+-- ---- statements
+
+-- the statement `words`, which no &IF guards, does the step m in the state s, whose next line is the one behind its own
+pub data Runs (s : Exec) (words : List Text) (m : Step) : Type 0 where
+  -- no words: nothing
+  nothing : kind_of words ≡ kind.Nothing → m ≡ Ok (s, Next) → Runs s words m
+  -- a name, an equal sign and a right side
+  assignment : kind_of words ≡ kind.Assignment → m ≡ assigned s words → Runs s words m
+  -- &TRACE: nothing, whatever follows
+  trace : kind_of words ≡ kind.Control control.Trace → m ≡ Ok (s, Next) → Runs s words m
+  -- &TYPE text: the text is typed
+  type_ : kind_of words ≡ kind.Control control.Type → m ≡ still s (typed s (drop 1 words)) → Runs s words m
+  -- &BEGTYPE: the lines up to the first that begins with &END are typed, and the next line is the one behind that
+  beg_type : kind_of words ≡ kind.Control control.BegType → m ≡ typed_block s (drop 1 words) → Runs s words m
+  -- &STACK [FIFO or LIFO] text: the text is stacked at the back or the front
+  stack : kind_of words ≡ kind.Control control.Stack → m ≡ still s (stacked s (drop 1 words)) → Runs s words m
+  -- &BEGSTACK [FIFO or LIFO]: the lines up to &END are stacked likewise
+  beg_stack : kind_of words ≡ kind.Control control.BegStack → m ≡ stacked_block s (drop 1 words) → Runs s words m
+  -- &END as a statement: nothing
+  end : kind_of words ≡ kind.Control control.End → m ≡ Ok (s, Next) → Runs s words m
+  -- &COMMAND text: the text is issued
+  command_word : kind_of words ≡ kind.Control control.Command → m ≡ still s (issued s (drop 1 words)) → Runs s words m
+  -- &READ ARGS, VARS names, STRING name: a line is asked for
+  read_line : kind_of words ≡ kind.Control control.Read → m ≡ read s (drop 1 words) → Runs s words m
+  -- &ARGS words: they become the arguments
+  args : kind_of words ≡ kind.Control control.Args → m ≡ args_given s (drop 1 words) → Runs s words m
+  -- an &IF is taken off before the kind is asked
+  if_ : kind_of words ≡ kind.Control control.If → m ≡ Ok (s, Next) → Runs s words m
+  -- &GOTO -label
+  goto : kind_of words ≡ kind.Control control.Goto → m ≡ gone s (drop 1 words) → Runs s words m
+  -- &SKIP [n]
+  skip : kind_of words ≡ kind.Control control.Skip → m ≡ skipped s (drop 1 words) → Runs s words m
+  -- &LOOP n m, &LOOP -label m
+  loop : kind_of words ≡ kind.Control control.Loop → m ≡ looped s (drop 1 words) → Runs s words m
+  -- &CALL -label words
+  call : kind_of words ≡ kind.Control control.Call → m ≡ called s (drop 1 words) → Runs s words m
+  -- &RETURN
+  return_ : kind_of words ≡ kind.Control control.Return → m ≡ returned s (drop 1 words) → Runs s words m
+  -- &ERROR statement: it is kept unexpanded as the error action; alone, the action is dropped
+  error : kind_of words ≡ kind.Control control.Error → m ≡ Ok (with_error s (drop 1 words), Next) → Runs s words m
+  -- &EXIT [n]
+  exit : kind_of words ≡ kind.Control control.Exit → m ≡ still s (exited s (drop 1 words)) → Runs s words m
+  -- any other statement is a command
+  command : kind_of words ≡ kind.Command → m ≡ still s (issued s words) → Runs s words m
+
+-- the relation says no more than the function that computes it, and no less
+abbrev pub RunsAreSteps : Type 0
+RunsAreSteps = (s : Exec) (words : List Text) (m : Step) → Runs s words m → m ≡ run_kind s words
+
+abbrev pub StepsAreRuns : Type 0
+StepsAreRuns = (s : Exec) (words : List Text) → Runs s words (run_kind s words)

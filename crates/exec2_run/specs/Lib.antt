@@ -1,0 +1,17 @@
+pub mod Faults
+pub mod State
+pub mod Words
+pub mod Values
+pub mod Given
+pub mod Variables
+pub mod Comparisons
+pub mod Assignments
+pub mod Jumps
+pub mod Loops
+pub mod Calls
+pub mod Outputs
+pub mod Readings
+pub mod Relation
+pub mod Kinds
+pub mod Steps
+pub mod Cases

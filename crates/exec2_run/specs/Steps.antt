@@ -1,0 +1,238 @@
+-- A statement, the next line, and the calls of `Exec`.
+use Rattle.std.specs.Prelude.{◌≡◌, ℕ, ◌+◌, nat_le, nat_lt, Bool, true, false, not, ◌&&◌, if◌then◌else◌, List, [], ◌∷◌, drop, length, slice_get, Option, Some, None, is_some, ok_or, Result, Ok, Err, ℤ, pos, negsuc}
+use Rattle.std.specs.Option.{option_map_or}
+use Rattle.std.specs.Ordering.{int_eq}
+use Rattle.std.specs.FinMap as finite
+use Rattle.std.specs.Global.{Global}
+use Rattle.cms_fields.specs.Steps.{◌>>=◌, ◌>>◌}
+use Rattle.cms_fields.specs.declared.time.Moment.{Moment}
+use Rattle.cms_text.specs.Texts.{Text}
+use Rattle.exec2_parse.specs.Variables.{Values}
+use Rattle.cms_text.specs.Numbers.{number_of}
+use Rattle.exec2_run.specs.Faults.{number_of_fault}
+use Rattle.exec2_run.specs.Assignments.{assigned}
+use Rattle.exec2_run.specs.Calls.{called, returned}
+use Rattle.exec2_run.specs.Comparisons.{comparison_of, holds}
+use Rattle.exec2_run.specs.Given.{behind_name, given_now, given_at_start}
+use Rattle.exec2_run.specs.Jumps.{gone, skipped}
+use Rattle.exec2_run.specs.Kinds.{is_if, kind_of}
+use Rattle.exec2_run.specs.Loops.{looped, settled_loops}
+use Rattle.exec2_run.specs.Outputs.{issued, stacked, stacked_block, typed, typed_block}
+use Rattle.exec2_run.specs.Readings.{args_given, read, taken_for}
+use Rattle.exec2_run.specs.State.{Step, still}
+use Rattle.exec2_run.specs.Values.{ended, operands, value, whole}
+use Rattle.exec2_run.specs.Variables.{with_arguments}
+use Rattle.exec2_run.specs.Words.{statement_on, words_of}
+use Rattle.exec2_run.specs.declared.exec.ErrorAction.{ErrorAction}
+use Rattle.exec2_run.specs.declared.exec.ErrorAction.TheVariants.{Idle, Due, Running}
+use Rattle.exec2_run.specs.declared.exec.Exec.{Exec}
+use Rattle.exec2_run.specs.declared.exec.FileName.{FileName}
+use Rattle.exec2_run.specs.declared.kind.Control.{Control}
+use Rattle.exec2_run.specs.declared.kind.Control.TheVariants as control
+use Rattle.exec2_run.specs.declared.kind.Kind.{Kind}
+use Rattle.exec2_run.specs.declared.kind.Kind.TheVariants as kind
+use Rattle.exec2_run.specs.declared.reading.Reading.TheVariants as reading
+use Rattle.exec2_run.specs.declared.want.Want.{Want}
+use Rattle.exec2_run.specs.declared.want.Want.TheVariants.{Next, Ended, Failed}
+use Rattle.exec2_run.specs.declared.fault.Fault.{Fault}
+use Rattle.exec2_run.specs.declared.fault.Fault.TheVariants.{NotNumber, BadStatement, StackFull}
+
+-- ---- &EXIT and &ERROR
+
+abbrev pub exit_code_by : Option ℤ → Result ℤ Fault
+exit_code_by (Some (pos n)) = if nat_le n 99999 then Ok (pos n) else Err NotNumber
+exit_code_by (Some (negsuc n)) = if nat_lt n 9999 then Ok (negsuc n) else Err NotNumber
+exit_code_by None = Err NotNumber
+
+-- a code from -9999 to 99999
+abbrev pub exit_code : Text → Result ℤ Fault
+exit_code word = exit_code_by (number_of word)
+
+abbrev pub exited_by : List Text → Bool → Result Want Fault
+exited_by [] is_cut = do
+  whole is_cut
+  Ok (Ended (pos 0))
+exited_by (word ∷ others) is_cut = do
+  code ← exit_code word
+  ended others is_cut
+  Ok (Ended code)
+
+-- &EXIT, with a code or without
+unfoldable pub exited : Exec → List Text → Result Want Fault
+exited s words = exited_by (operands s.vars words).words (operands s.vars words).is_cut
+
+-- &ERROR and a statement that is kept unexpanded, or alone
+abbrev pub action_of : List Text → Option (List Text)
+action_of [] = None
+action_of (word ∷ words) = Some (word ∷ words)
+
+abbrev pub with_error : Exec → List Text → Exec
+with_error s words = record s { error = action_of words }
+
+-- ---- &IF a op b statement
+
+abbrev pub compared : Values → Text → Text → Text → Result Bool Fault
+compared vars left sign right = do
+  a ← value vars left
+  comparison ← ok_or (comparison_of sign) BadStatement
+  b ← value vars right
+  Ok (holds comparison a b)
+
+abbrev pub fault_of_if : Values → List Text → Result Fault Fault
+fault_of_if vars (word ∷ left ∷ words) = do
+  a ← value vars left
+  Ok BadStatement
+fault_of_if vars words = Ok BadStatement
+
+abbrev pub if_holds : Bool → Result (List Text) Fault → Result (List Text) Fault
+if_holds holds statement = if holds then statement else Ok []
+
+abbrev pub incomplete : Values → List Text → Result (List Text) Fault
+incomplete vars words = do
+  fault ← fault_of_if vars words
+  Err fault
+
+-- the statement that runs: of an &IF what follows it, or nothing where the comparison doesn't hold
+unfoldable pub guarded : Values → List Text → Result (List Text) Fault
+guarded vars (word ∷ left ∷ sign ∷ right ∷ words) =
+    if is_if (word ∷ left ∷ sign ∷ right ∷ words)
+    then (do
+      holds ← compared vars left sign right
+      if_holds holds (guarded vars words))
+    else Ok (word ∷ left ∷ sign ∷ right ∷ words)
+guarded vars words = if is_if words then incomplete vars words else Ok words
+
+-- ---- statements
+
+unfoldable pub run_control : Control → Exec → List Text → Step
+run_control control.Trace s words = Ok (s, Next)
+run_control control.Type s words = still s (typed s words)
+run_control control.BegType s words = typed_block s words
+run_control control.Stack s words = still s (stacked s words)
+run_control control.BegStack s words = stacked_block s words
+run_control control.End s words = Ok (s, Next)
+run_control control.Command s words = still s (issued s words)
+run_control control.Read s words = read s words
+run_control control.Args s words = args_given s words
+run_control control.If s words = Ok (s, Next)
+run_control control.Goto s words = gone s words
+run_control control.Skip s words = skipped s words
+run_control control.Loop s words = looped s words
+run_control control.Call s words = called s words
+run_control control.Return s words = returned s words
+run_control control.Error s words = Ok (with_error s words, Next)
+run_control control.Exit s words = still s (exited s words)
+
+abbrev pub run_by : Kind → Exec → List Text → Step
+run_by kind.Nothing s words = Ok (s, Next)
+run_by kind.Assignment s words = assigned s words
+run_by (kind.Control c) s words = run_control c s (drop 1 words)
+run_by kind.Command s words = still s (issued s words)
+
+-- a statement that no &IF guards
+unfoldable pub run_kind : Exec → List Text → Step
+run_kind s words = run_by (kind_of words) s words
+
+unfoldable pub run : Exec → List Text → Step
+run s words = do
+  statement ← guarded s.vars words
+  run_kind s statement
+
+-- ---- one turn
+
+abbrev pub is_due : ErrorAction → Bool
+is_due Idle = false
+is_due Due = true
+is_due Running = false
+
+abbrev pub words_at : Exec → List Text
+words_at s = option_map_or statement_on (slice_get s.lines s.next) []
+
+-- the next line becomes the statement's, and the one behind it the next
+abbrev pub past_line : Exec → Exec
+past_line s = if nat_lt s.next (length s.lines) then record s { next = s.next + 1; line = s.next + 1 } else s
+
+-- the error action runs where it is due, as if on the command's line
+abbrev pub advanced : Exec → Exec
+advanced s = if is_due s.action then record s { action = Running } else past_line (record s { action = Idle })
+
+abbrev pub action_words : Option (List Text) → List Text
+action_words (Some words) = words
+action_words None = []
+
+abbrev pub due_words : Exec → List Text
+due_words s = if is_due s.action then action_words s.error else words_at s
+
+-- a fault is that of a line
+abbrev pub at_line : {A : Type 0} → ℕ → Result A Fault → Result A (Fault × ℕ)
+at_line line (Ok a) = Ok a
+at_line line (Err fault) = Err (fault, line)
+
+-- the statement that is due, with the variables that are given at its line and moment
+unfoldable pub turned : Moment → Exec → Result (Exec × Want) (Fault × ℕ)
+turned moment s = at_line (advanced s).line (run (given_now moment (advanced s)) (due_words s))
+
+-- ---- between two statements
+
+-- past the last line the procedure has ended
+abbrev pub at_next : Exec → Want
+at_next s = if nat_lt s.next (length s.lines) then Next else Ended (pos 0)
+
+unfoldable pub settled : Moment → Exec → Result (Exec × Want) (Fault × ℕ)
+settled moment s = if is_due s.action then Ok (s, Next) else (do
+  t ← settled_loops moment s
+  Ok (t, at_next t))
+
+-- ---- answers
+
+abbrev pub with_next : Exec → Result Exec Fault → Result (Exec × Want) (Fault × ℕ)
+with_next s (Ok t) = Ok (t, Next)
+with_next s (Err fault) = Err (fault, s.line)
+
+-- the line that was asked for
+unfoldable pub line_taken : Exec → Text → Result (Exec × Want) (Fault × ℕ)
+line_taken s line = with_next s (taken_for s.reading (record s { reading = reading.Nothing }) line)
+
+abbrev pub is_running : ErrorAction → Bool
+is_running Idle = false
+is_running Due = false
+is_running Running = true
+
+-- the code of a command is kept; with one other than 0 the error action is due, unless it issued the command
+abbrev pub action_after : Exec → ℤ → ErrorAction
+action_after s code = if not (int_eq code (pos 0)) && (is_some s.error && not (is_running s.action)) then Due else Idle
+
+unfoldable pub code_taken : Exec → ℤ → Exec
+code_taken s code = record s { code = code; action = action_after s code }
+
+-- the program stack has no room for the lines: fault 13, and the state stays
+abbrev pub refused : Exec → Result (Exec × Want) (Fault × ℕ)
+refused s = Ok (s, Failed (number_of_fault StackFull) s.line)
+
+-- ---- the start
+
+-- the procedure begins with its arguments, before its first line; a line has no more than 1,000 words
+unfoldable pub begun : Global → List Text → Text → FileName → Result Exec Fault
+begun alloc lines called f = with_arguments (record {
+  alloc = alloc;
+  lines = lines;
+  next = 0;
+  line = 0;
+  vars = given_at_start called f finite.empty;
+  set = 0;
+  numbered = [];
+  count = 0;
+  loops = [];
+  calls = [];
+  error = None;
+  action = Idle;
+  code = pos 0;
+  reading = reading.Nothing;
+}) (words_of (behind_name called))
+
+-- ---- what a call answers
+
+-- the defined state and want, or the fault and its line, after which nothing is said of the state
+abbrev pub Takes : Result (Exec × Want) (Fault × ℕ) → Exec → Want → Type 0
+Takes (Ok moved) new want = (new ≡ moved.0) × (want ≡ moved.1)
+Takes (Err failure) new want = want ≡ Failed (number_of_fault failure.0) failure.1

@@ -1,0 +1,255 @@
+// Assignments: the value of a right side.
+ghost use Rattle.std.specs.Prelude.{◌≡◌, IfOk, Ok, drop};
+ghost use Rattle.exec2_run.specs.Assignments as spec;
+ghost use Rattle.exec2_run.specs.Faults.{Answers, Does};
+
+use crate::values::{Operands, arguments, expanded_words, missing, whole};
+use crate::variables::target;
+use crate::words::copied;
+use crate::{Exec, Fault, Want};
+use cms_text::{Word, WordList, is_keyword, number, written};
+use exec2_funcs::{FuncFault, Function, call};
+use exec2_parse::Vars;
+use std::alloc::{AllocError, Global};
+
+const PLUS: u8 = 0x4E;
+
+const MINUS: u8 = 0x60;
+
+/// A sign between the numbers of a sum.
+#[derive(Clone, Copy, Debug, PartialEq, Eq)]
+pub enum Sign {
+    Plus,
+    Minus,
+}
+
+/// A sum from left to right so far.
+#[derive(Clone, Copy, Debug)]
+pub struct Sum {
+    pub total: i64,
+    /// The sign that the next number follows; none where a sign is due.
+    pub sign: Option<Sign>,
+}
+
+impl Exec {
+    /// Sets a variable to the value of a right side.
+    #[tactic(auto, unfolding(crate::specs::Assignments::assigned))]
+    pub fn assign(&mut self, words: &[Word]) -> Result<Want, Fault>
+        ensures { Does (spec.assigned self.old words.now) self.new result }
+    {
+        let [name, _, right @ ..] = words else {
+            return Err(Fault::BadStatement);
+        };
+        match self.assign_to(name, right) {
+            Ok(want) => Ok(want),
+            Err(fault) => Err(fault),
+        }
+    }
+
+    fn assign_to(&mut self, name: &Word, right: &[Word]) -> Result<Want, Fault>
+        ensures { Does (spec.assigned_to self.old name.now right.now) self.new result }
+    {
+        let name = target(self.alloc, &self.vars, name)?;
+        let value = right_side(self.alloc, &self.vars, right)?;
+        match self.set_to(name, value) {
+            Ok(want) => Ok(want),
+            Err(fault) => Err(fault),
+        }
+    }
+}
+
+/// The value of what stands behind the equal sign.
+#[tactic(auto, unfolding(crate::specs::Assignments::right_side))]
+fn right_side(alloc: Global, vars: &Vars, words: &[Word]) -> Result<Word, Fault>
+    ensures { Answers (spec.right_side vars.now words.now) result }
+{
+    if let Some(function) = function_of(words) {
+        return function_value(alloc, vars, function, behind_of(words));
+    }
+    plain_value(alloc, &expanded_words(alloc, vars, words)?)
+}
+
+/// The function that is called: a function word stands first, and OF behind it.
+fn function_of(words: &[Word]) -> Option<Function>
+    ensures { result ≡ spec.function_in words.now }
+{
+    match words {
+        [function, of, ..] => {
+            if is_keyword(of.bytes(), "OF") {
+                Function::read(function.bytes())
+            } else {
+                None
+            }
+        }
+        _ => None,
+    }
+}
+
+fn behind_of(words: &[Word]) -> &[Word]
+    ensures { result.now ≡ drop 2 words.now }
+{
+    match words {
+        [_, _, rest @ ..] => rest,
+        _ => &[],
+    }
+}
+
+/// The value of a function of these words, which &LITERAL alone takes unexpanded.
+#[tactic(auto, unfolding(crate::specs::Assignments::function_value))]
+fn function_value(
+    alloc: Global,
+    vars: &Vars,
+    function: Function,
+    words: &[Word],
+) -> Result<Word, Fault>
+    ensures { Answers (spec.function_value vars.now function words.now) result }
+{
+    if function == Function::Literal {
+        return Ok(call(alloc, function, &copied(alloc, words)?)?);
+    }
+    if !takes(function, words.len()) {
+        return Err(Fault::Arity);
+    }
+    let arguments = arguments(alloc, vars, words)?;
+    if arguments.is_cut {
+        return Err(fault_before(alloc, function, arguments.words)?);
+    }
+    Ok(call(alloc, function, &arguments.words)?)
+}
+
+/// Whether a function takes so many words.
+fn takes(function: Function, count: usize) -> bool
+    ensures { result ≡ spec.takes function count }
+{
+    match function {
+        Function::Concat | Function::Literal | Function::String => true,
+        Function::Datatype | Function::Length | Function::Trim => count == 1,
+        Function::Div | Function::Mult => 2 <= count,
+        Function::Left | Function::Right | Function::Location => count == 2,
+        Function::Piece | Function::Substr => count == 2 || count == 3,
+        Function::Position | Function::Word => 1 <= count,
+        Function::Trans => count == 3,
+    }
+}
+
+/// The fault of a function whose words are these and one that is too long: what is wrong with these alone comes first.
+fn fault_before(alloc: Global, function: Function, words: WordList) -> Result<Fault, Fault>
+    ensures { Answers (Ok (spec.fault_before function words)) result }
+{
+    let words = probe(alloc, function, words)?;
+    match call(alloc, function, &words) {
+        Err(FuncFault::Memory) => Err(Fault::Memory),
+        Err(FuncFault::Arity) => Ok(Fault::TooLong),
+        Err(fault) => Ok(Fault::from(fault)),
+        Ok(_) => Ok(Fault::TooLong),
+    }
+}
+
+/// The words, with a 1 behind them where they are divided or multiplied.
+fn probe(alloc: Global, function: Function, words: WordList) -> Result<WordList, AllocError>
+    ensures { IfOk result (λ probed. probed ≡ spec.probe function words) }
+{
+    let mut words = words;
+    if matches!(function, Function::Div | Function::Mult) {
+        words.push(Word::of(alloc, &[ONE])?)?;
+    }
+    Ok(words)
+}
+
+const ONE: u8 = 0xF1;
+
+/// The value of words that are no function: nothing, one word, or a sum.
+#[tactic(auto, unfolding(crate::specs::Assignments::plain_value))]
+fn plain_value(alloc: Global, operands: &Operands) -> Result<Word, Fault>
+    ensures { Answers (spec.plain_value operands.now) result }
+{
+    match operands.words.as_slice() {
+        [] => {
+            whole(operands.is_cut)?;
+            Ok(Word::of(alloc, &[])?)
+        }
+        [word] if !operands.is_cut => Ok(Word::of(alloc, word.bytes())?),
+        [first, others @ ..] => {
+            let sum = added(begun(first.bytes())?, others)?;
+            whole(operands.is_cut)?;
+            Ok(written(alloc, sum.whole()?)?)
+        }
+    }
+}
+
+/// A sum that begins with this word: a sign has 0 before it.
+fn begun(word: &[u8]) -> Result<Sum, Fault>
+    ensures { result ≡ spec.begun word.now }
+{
+    match sign_of(word) {
+        Some(sign) => Ok(Sum {
+            total: 0,
+            sign: Some(sign),
+        }),
+        None => Ok(Sum {
+            total: number(word).ok_or(Fault::BadStatement)?,
+            sign: None,
+        }),
+    }
+}
+
+fn sign_of(word: &[u8]) -> Option<Sign>
+    ensures { result ≡ spec.sign_of word.now }
+{
+    match word {
+        [PLUS] => Some(Sign::Plus),
+        [MINUS] => Some(Sign::Minus),
+        _ => None,
+    }
+}
+
+/// The sum with these words behind it.
+#[tactic(auto, unfolding(crate::specs::Assignments::added))]
+fn added(sum: Sum, words: &[Word]) -> Result<Sum, Fault>
+    ensures { result ≡ spec.added sum words.now }
+{
+    let mut total = sum;
+    for word in words {
+        total = total.plus(word.bytes())?;
+    }
+    Ok(total)
+}
+
+impl Sum {
+    /// The sum with a word behind it: the sign or the number that is due.
+    fn plus(self, word: &[u8]) -> Result<Sum, Fault>
+        ensures { result ≡ spec.plus self word.now }
+    {
+        match self.sign {
+            None => Ok(Sum {
+                total: self.total,
+                sign: Some(sign_of(word).ok_or(Fault::BadStatement)?),
+            }),
+            Some(sign) => Ok(Sum {
+                total: sign.apply(self.total, number(word).ok_or(Fault::BadStatement)?)?,
+                sign: None,
+            }),
+        }
+    }
+
+    /// The sum, which doesn't end with a sign.
+    fn whole(self) -> Result<i64, Fault>
+        ensures { result ≡ spec.total_of self }
+    {
+        match self.sign {
+            None => Ok(self.total),
+            Some(_) => Err(Fault::BadStatement),
+        }
+    }
+}
+
+impl Sign {
+    fn apply(self, total: i64, number: i64) -> Result<i64, Fault>
+        ensures { result ≡ spec.applied self total number }
+    {
+        match self {
+            Sign::Plus => total.checked_add(number).ok_or(Fault::Overflow),
+            Sign::Minus => total.checked_sub(number).ok_or(Fault::Overflow),
+        }
+    }
+}

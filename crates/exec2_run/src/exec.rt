@@ -1,0 +1,447 @@
+// A procedure that runs.
+ghost use Rattle.std.specs.Prelude.{◌≡◌, ◌≢◌, IfOk, IfErr, OnOk, Ok, Err, ◌⊎◌, MatchResult, drop, length, unwrap_or, slice_get};
+ghost use Rattle.exec2_run.specs.Faults.{Answers, Does, Leads, number_of_fault};
+ghost use Rattle.exec2_run.specs.Given.{given_now};
+ghost use Rattle.exec2_run.specs.Steps as spec;
+ghost use Rattle.exec2_run.specs.Kinds.{is_if};
+ghost use Rattle.exec2_run.specs.Steps.{Takes};
+
+use crate::calls::Calls;
+use crate::comparison::{Comparison, holds};
+use crate::given::{behind_name, give_all, give_at_start};
+use crate::kind::{Control, Kind, kind_of};
+use crate::loops::Loops;
+use crate::reading::Reading;
+use crate::values::{ended, expanded_words, value, whole};
+use crate::words::{copied, is_comment, statement_of, words_of};
+use crate::{Fault, Want};
+use cms_fields::Moment;
+use cms_names::Name;
+use cms_text::{Line, Word, WordList, number};
+use exec2_parse::{Procedure, Vars};
+use std::alloc::{AllocError, Global};
+
+/// The file of a procedure as it was found.
+#[derive(Clone, Copy, Debug)]
+pub struct FileName {
+    pub name: Name,
+    /// 0 for A to 25 for Z
+    pub letter: u8,
+    /// 0 to 6
+    pub number: u8,
+}
+
+/// Whether the error action runs.
+#[derive(Clone, Copy, Debug, PartialEq, Eq)]
+pub enum ErrorAction {
+    Idle,
+    /// It runs next.
+    Due,
+    /// The statement that ran last is it.
+    Running,
+}
+
+/// A procedure that runs, a statement at a time.
+#[derive(Drop)]
+pub struct Exec {
+    pub(crate) alloc: Global,
+    pub(crate) lines: Procedure,
+    /// The place of the next line, from 0.
+    pub(crate) next: u32,
+    /// The line of the statement or test that ran last, from 1.
+    pub(crate) line: u32,
+    /// All variables, with those that are given.
+    pub(crate) vars: Vars,
+    /// How many variables are set, without those that are given.
+    pub(crate) set: usize,
+    /// The names of the arguments that are set.
+    pub(crate) numbered: WordList,
+    /// How many arguments there are, which is &N.
+    pub(crate) count: usize,
+    pub(crate) loops: Loops,
+    pub(crate) calls: Calls,
+    /// The words of the error action, unexpanded.
+    pub(crate) error: Option<WordList>,
+    pub(crate) action: ErrorAction,
+    /// The last command's code.
+    pub(crate) code: i32,
+    pub(crate) reading: Reading,
+}
+
+impl Exec {
+    /// A procedure that begins, called by a line, which goes from the procedure's name on, and found in a file.
+    #[tactic(auto, unfolding(crate::specs::Steps::begun))]
+    pub fn start(
+        alloc: Global,
+        procedure: Procedure,
+        called: &Line,
+        found: &FileName,
+    ) -> Result<Exec, AllocError>
+        ensures { IfOk result (λ exec. spec.begun alloc procedure called.now found.now ≡ Ok exec) }
+    {
+        let mut vars = Vars::new(alloc);
+        give_at_start(alloc, &mut vars, called, found)?;
+        let mut exec = Exec {
+            alloc,
+            lines: procedure,
+            next: 0,
+            line: 0,
+            vars,
+            set: 0,
+            numbered: WordList::new(alloc),
+            count: 0,
+            loops: Loops::new(alloc),
+            calls: Calls::new(alloc),
+            error: None,
+            action: ErrorAction::Idle,
+            code: 0,
+            reading: Reading::Nothing,
+        };
+        let words = words_of(alloc, behind_name(called.bytes()))?;
+        match exec.set_arguments(words.as_slice()) {
+            Ok(()) => Ok(exec),
+            Err(_) => Err(AllocError),
+        }
+    }
+
+    /// Finds the next line, and makes the loops' tests that are due at the moment of the last statement. It spends no turn. It answers
+    /// `Next` where a statement is due, `Ended(0)` past the last line, and `Failed` where a test has a fault.
+    #[tactic(auto, unfolding(crate::specs::Steps::settled))]
+    pub fn settle(&mut self, moment: &Moment) -> Result<Want, AllocError>
+        ensures { IfOk result (λ want. Takes (spec.settled moment.now self.old) self.new want) }
+    {
+        if self.is_due() {
+            return Ok(Want::Next);
+        }
+        match self.settle_loops(moment) {
+            Ok(()) => Ok(self.at_next()),
+            Err(fault) => failed(fault, self.line),
+        }
+    }
+
+    /// Whether a statement is due.
+    fn at_next(&self) -> Want
+        ensures { result ≡ spec.at_next self.now }
+    {
+        if (self.next as usize) < self.lines.len() {
+            Want::Next
+        } else {
+            Want::Ended(0)
+        }
+    }
+
+    /// Runs one statement at a turn's moment: the error action where it is due, else that of the next line.
+    #[tactic(auto, unfolding(crate::specs::Steps::turned))]
+    pub fn turn(&mut self, moment: &Moment) -> Result<Want, AllocError>
+        ensures { IfOk result (λ want. Takes (spec.turned moment.now self.old) self.new want) }
+    {
+        let words = self.next_statement()?;
+        let line = self.line;
+        match self.run_at(words.as_slice(), moment) {
+            Ok(want) => Ok(want),
+            Err(fault) => failed(fault, line),
+        }
+    }
+
+    fn run_at(&mut self, words: &[Word], moment: &Moment) -> Result<Want, Fault>
+        ensures { Does (spec.run (given_now moment.now self.old) words.now) self.new result }
+    {
+        give_all(self, moment)?;
+        match self.run(words) {
+            Ok(want) => Ok(want),
+            Err(fault) => Err(fault),
+        }
+    }
+
+    /// Takes the line that `Read` asked for.
+    #[tactic(auto, unfolding(crate::specs::Steps::line_taken))]
+    pub fn take_line(&mut self, line: &Line) -> Result<Want, AllocError>
+        ensures { IfOk result (λ want. Takes (spec.line_taken self.old line.now) self.new want) }
+    {
+        let reading = std::mem::replace(&mut self.reading, Reading::Nothing);
+        let at = self.line;
+        match self.take(reading, line) {
+            Ok(()) => Ok(Want::Next),
+            Err(fault) => failed(fault, at),
+        }
+    }
+
+    /// Takes the code of the command that was issued. With one other than 0 the error action is due, unless it issued the command.
+    #[tactic(auto, unfolding(crate::specs::Steps::code_taken))]
+    pub fn take_code(&mut self, code: i32)
+        ensures { self.new ≡ spec.code_taken self.old code }
+    {
+        self.code = code;
+        self.action = self.action_after(code);
+    }
+
+    fn action_after(&self, code: i32) -> ErrorAction
+        ensures { result ≡ spec.action_after self.now code }
+    {
+        if code != 0 && self.error.is_some() && !self.is_running() {
+            ErrorAction::Due
+        } else {
+            ErrorAction::Idle
+        }
+    }
+
+    /// What follows where the program stack has no room for the lines: fault 13 at this line, and the procedure stays as it was.
+    pub fn refuse_stack(&mut self) -> Want
+        ensures { Takes (spec.refused self.old) self.new result }
+    {
+        Want::Failed {
+            number: Fault::StackFull.number(),
+            line: self.line,
+        }
+    }
+
+    /// Goes to the statement that runs next, and gives its words.
+    fn next_statement(&mut self) -> Result<WordList, AllocError>
+        ensures words { IfOk result (λ words. words ≡ spec.due_words self.old) }
+        ensures state { OnOk result (self.new ≡ spec.advanced self.old) }
+    {
+        let words = self.statement_due()?;
+        self.advance();
+        Ok(words)
+    }
+
+    /// Whether the error action runs next.
+    fn is_due(&self) -> bool
+        ensures { result ≡ spec.is_due self.now.action }
+    {
+        match self.action {
+            ErrorAction::Due => true,
+            ErrorAction::Idle | ErrorAction::Running => false,
+        }
+    }
+
+    fn is_running(&self) -> bool
+        ensures { result ≡ spec.is_running self.now.action }
+    {
+        match self.action {
+            ErrorAction::Running => true,
+            ErrorAction::Idle | ErrorAction::Due => false,
+        }
+    }
+
+    fn statement_due(&self) -> Result<WordList, AllocError>
+        ensures { IfOk result (λ words. words ≡ spec.due_words self.now) }
+    {
+        if self.is_due() {
+            self.error_words()
+        } else {
+            self.words_at_next()
+        }
+    }
+
+    /// Goes to the statement that is due.
+    fn advance(&mut self)
+        ensures { self.new ≡ spec.advanced self.old }
+    {
+        if self.is_due() {
+            self.action = ErrorAction::Running;
+        } else {
+            self.action = ErrorAction::Idle;
+            self.pass_line();
+        }
+    }
+
+    /// The next line becomes this one.
+    fn pass_line(&mut self)
+        ensures { self.new ≡ spec.past_line self.old }
+    {
+        if (self.next as usize) < self.lines.len() {
+            self.next += 1;
+            self.line = self.next;
+        }
+    }
+
+    fn error_words(&self) -> Result<WordList, AllocError>
+        ensures { IfOk result (λ words. words ≡ spec.action_words self.now.error) }
+    {
+        match &self.error {
+            Some(words) => copied(self.alloc, words.as_slice()),
+            None => Ok(WordList::new(self.alloc)),
+        }
+    }
+
+    /// The words of the statement on the next line.
+    #[tactic(auto, unfolding(crate::specs::Words::statement_on))]
+    fn words_at_next(&self) -> Result<WordList, AllocError>
+        ensures { IfOk result (λ words. words ≡ spec.words_at self.now) }
+    {
+        let Some(line) = self.lines.get(self.next as usize) else {
+            return Ok(WordList::new(self.alloc));
+        };
+        if is_comment(line.bytes()) {
+            return Ok(WordList::new(self.alloc));
+        }
+        let words = words_of(self.alloc, line.bytes())?;
+        copied(self.alloc, statement_of(words.as_slice()))
+    }
+
+    #[tactic(auto, unfolding(crate::specs::Steps::run))]
+    fn run(&mut self, words: &[Word]) -> Result<Want, Fault>
+        ensures { Does (spec.run self.old words.now) self.new result }
+    {
+        let statement = self.guarded(words)?;
+        match self.run_kind(statement) {
+            Ok(want) => Ok(want),
+            Err(fault) => Err(fault),
+        }
+    }
+
+    /// The statement that runs: of &IF and a comparison what follows it, or nothing where that doesn't hold.
+    #[tactic(auto, unfolding(crate::specs::Steps::guarded))]
+    fn guarded<'w>(&self, words: &'w [Word]) -> Result<&'w [Word], Fault>
+        ensures { MatchResult result (λ statement. spec.guarded self.now.vars words.now ≡ Ok statement.now)
+            (λ fault. (fault ≡ Fault.Memory) ⊎ (spec.guarded self.now.vars words.now ≡ Err fault)) }
+    {
+        let mut rest = words;
+        while is_if(rest) {
+            let [_, left, sign, right, statement @ ..] = rest else {
+                return Err(self.fault_of_if(rest)?);
+            };
+            if !self.compare(left, sign, right)? {
+                return Ok(&[]);
+            }
+            rest = statement;
+        }
+        Ok(rest)
+    }
+
+    /// The fault of an &IF without three words behind it.
+    fn fault_of_if(&self, words: &[Word]) -> Result<Fault, Fault>
+        ensures { Answers (spec.fault_of_if self.now.vars words.now) result }
+    {
+        if let [_, left, ..] = words {
+            value(self.alloc, &self.vars, left)?;
+        }
+        Ok(Fault::BadStatement)
+    }
+
+    fn compare(&self, left: &Word, sign: &Word, right: &Word) -> Result<bool, Fault>
+        ensures { Answers (spec.compared self.now.vars left.now sign.now right.now) result }
+    {
+        let left = value(self.alloc, &self.vars, left)?;
+        let comparison = Comparison::read(sign.bytes()).ok_or(Fault::BadStatement)?;
+        let right = value(self.alloc, &self.vars, right)?;
+        Ok(holds(self.alloc, comparison, &left, &right)?)
+    }
+
+    /// Runs a statement that no &IF guards.
+    #[tactic(auto, unfolding(crate::specs::Steps::run_kind))]
+    fn run_kind(&mut self, words: &[Word]) -> Result<Want, Fault>
+        ensures { Does (spec.run_kind self.old words.now) self.new result }
+    {
+        match kind_of(words) {
+            Kind::Nothing => Ok(Want::Next),
+            Kind::Assignment => self.assign(words),
+            Kind::Control(control) => self.run_control(control, behind(words)),
+            Kind::Command => self.command(words),
+        }
+    }
+
+    #[tactic(auto, unfolding(crate::specs::Steps::run_control))]
+    fn run_control(&mut self, control: Control, words: &[Word]) -> Result<Want, Fault>
+        ensures { Does (spec.run_control control self.old words.now) self.new result }
+    {
+        match control {
+            Control::Trace | Control::End | Control::If => Ok(Want::Next),
+            Control::Type => self.type_text(words),
+            Control::BegType => self.type_block(words),
+            Control::Stack => self.stack_text(words),
+            Control::BegStack => self.stack_block(words),
+            Control::Command => self.command(words),
+            Control::Read => self.read(words),
+            Control::Args => self.args(words),
+            Control::Goto => self.go_to(words),
+            Control::Skip => self.skip(words),
+            Control::Loop => self.repeat(words),
+            Control::Call => self.call(words),
+            Control::Return => self.give_back(words),
+            Control::Error => self.set_error(words),
+            Control::Exit => self.exit(words),
+        }
+    }
+
+    /// &ERROR and a statement, which is kept, or alone.
+    fn set_error(&mut self, words: &[Word]) -> Result<Want, Fault>
+        ensures { Does (Ok (spec.with_error self.old words.now, Want.Next)) self.new result }
+    {
+        self.error = self.error_of(words)?;
+        Ok(Want::Next)
+    }
+
+    fn error_of(&self, words: &[Word]) -> Result<Option<WordList>, AllocError>
+        ensures { IfOk result (λ action. action ≡ spec.action_of words.now) }
+    {
+        if words.is_empty() {
+            return Ok(None);
+        }
+        Ok(Some(copied(self.alloc, words)?))
+    }
+
+    /// &EXIT, with a code or without.
+    #[tactic(auto, unfolding(crate::specs::Steps::exited))]
+    fn exit(&self, words: &[Word]) -> Result<Want, Fault>
+        ensures { Answers (spec.exited self.now words.now) result }
+    {
+        let operands = expanded_words(self.alloc, &self.vars, words)?;
+        match operands.words.as_slice() {
+            [] => {
+                whole(operands.is_cut)?;
+                Ok(Want::Ended(0))
+            }
+            [code, others @ ..] => {
+                let code = exit_code(code.bytes())?;
+                ended(others, operands.is_cut)?;
+                Ok(Want::Ended(code))
+            }
+        }
+    }
+}
+
+/// A procedure's code, -9999 to 99999.
+fn exit_code(word: &[u8]) -> Result<i32, Fault>
+    ensures { result ≡ spec.exit_code word.now }
+{
+    match number(word) {
+        Some(code) if -9999 <= code && code <= 99999 => Ok(code as i32),
+        _ => Err(Fault::NotNumber),
+    }
+}
+
+/// Whether a statement is an &IF.
+fn is_if(words: &[Word]) -> bool
+    ensures { result ≡ is_if words.now }
+{
+    match kind_of(words) {
+        Kind::Control(Control::If) => true,
+        _ => false,
+    }
+}
+
+fn behind(words: &[Word]) -> &[Word]
+    ensures { result.now ≡ drop 1 words.now }
+{
+    match words {
+        [_, others @ ..] => others,
+        [] => words,
+    }
+}
+
+/// What a fault of a line is for the session.
+fn failed(fault: Fault, line: u32) -> Result<Want, AllocError>
+    ensures want { IfOk result (λ want. want ≡ Want.Failed (number_of_fault fault) line) }
+    ensures memory { IfErr result (λ _. fault ≡ Fault.Memory) }
+    ensures fault { OnOk result (fault ≢ Fault.Memory) }
+{
+    match fault {
+        Fault::Memory => Err(AllocError),
+        _ => Ok(Want::Failed {
+            number: fault.number(),
+            line,
+        }),
+    }
+}

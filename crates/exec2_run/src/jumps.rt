@@ -1,0 +1,129 @@
+// Labels, &GOTO and &SKIP.
+ghost use Rattle.std.specs.Prelude.{◌≡◌, ◌≤◌, ◌<◌, ◌^◌, length, drop, IfSome};
+ghost use Rattle.std.specs.List.{position_from};
+ghost use Rattle.exec2_run.specs.Faults.{Does};
+ghost use Rattle.exec2_run.specs.Jumps as spec;
+ghost use Rattle.exec2_run.specs.Words.{has_label};
+
+use crate::values::{ended, expanded_words, missing, whole};
+use crate::words::is_label;
+use crate::{Exec, Fault, Want};
+use cms_text::{Word, first_word, number};
+use exec2_parse::Procedure;
+
+/// Whether a line has a label.
+fn has_label(line: &[u8], label: &[u8]) -> bool
+    ensures { result ≡ has_label label.now line.now }
+{
+    first_word(line) == label
+}
+
+/// The place of the first line with a label, from a place on.
+#[tactic(auto, unfolding(crate::specs::Jumps::label_from))]
+pub fn label_from(lines: &Procedure, label: &[u8], from: u32) -> Option<u32>
+    ensures place { result ≡ spec.label_from label.now from lines.now }
+    ensures within { IfSome result (λ place. (place < length lines.now) × (place < 4096)) }
+{
+    let end = lines.len() as u32;
+    for place in from..end {
+        let Some(line) = lines.get(place as usize) else {
+            return None;
+        };
+        if has_label(line.bytes(), label) {
+            return Some(place);
+        }
+    }
+    None
+}
+
+impl Exec {
+    /// The place of the first line with a label, from the next line to the end and then from the top.
+    fn label_place(&self, label: &[u8]) -> Option<u32>
+        ensures { result ≡ spec.label_place label.now self.now.next self.now.lines }
+    {
+        match label_from(&self.lines, label, self.next) {
+            Some(place) => Some(place),
+            None => label_from(&self.lines, label, 0),
+        }
+    }
+
+    /// The place that a word of &GOTO or &CALL names.
+    pub fn place_named(&self, label: &[u8]) -> Result<u32, Fault>
+        ensures { result ≡ spec.place_named self.now label.now }
+    {
+        if !is_label(label) {
+            return Err(Fault::BadStatement);
+        }
+        self.label_place(label).ok_or(Fault::NoLabel)
+    }
+
+    /// &GOTO -label.
+    #[tactic(auto, unfolding(crate::specs::Jumps::gone))]
+    pub fn go_to(&mut self, words: &[Word]) -> Result<Want, Fault>
+        ensures { Does (spec.gone self.old words.now) self.new result }
+    {
+        let operands = expanded_words(self.alloc, &self.vars, words)?;
+        let [label, others @ ..] = operands.words.as_slice() else {
+            return Err(missing(operands.is_cut));
+        };
+        let place = self.place_named(label.bytes())?;
+        ended(others, operands.is_cut)?;
+        self.next = place;
+        Ok(Want::Next)
+    }
+
+    /// &SKIP, with a number or without.
+    #[tactic(auto, unfolding(crate::specs::Jumps::skipped))]
+    pub fn skip(&mut self, words: &[Word]) -> Result<Want, Fault>
+        ensures { Does (spec.skipped self.old words.now) self.new result }
+    {
+        let operands = expanded_words(self.alloc, &self.vars, words)?;
+        let place = match operands.words.as_slice() {
+            [] => {
+                whole(operands.is_cut)?;
+                self.place_after(1)?
+            }
+            [count, others @ ..] => {
+                let place = self.place_after(number(count.bytes()).ok_or(Fault::NotNumber)?)?;
+                ended(others, operands.is_cut)?;
+                place
+            }
+        };
+        self.next = place;
+        Ok(Want::Next)
+    }
+
+    /// The place that so many lines lie before, or with a negative number the one so many lines above this line.
+    fn place_after(&self, count: i64) -> Result<u32, Fault>
+        ensures { result ≡ spec.place_after self.now count }
+    {
+        if count < 0 {
+            self.place_above(count.unsigned_abs())
+        } else {
+            self.place_below(count.unsigned_abs())
+        }
+    }
+
+    fn place_above(&self, count: u64) -> Result<u32, Fault>
+        ensures { result ≡ spec.place_above self.now count }
+    {
+        if count < u64::from(self.next) {
+            Ok(self.next - 1 - count as u32)
+        } else {
+            Err(Fault::OutsideLines)
+        }
+    }
+
+    /// The place behind so many lines from the next one on.
+    pub fn place_below(&self, count: u64) -> Result<u32, Fault>
+        ensures { result ≡ spec.place_below self.now count }
+    {
+        let lines = self.lines.len() as u64;
+        let next = u64::from(self.next);
+        if next <= lines && count <= lines - next {
+            Ok(self.next + count as u32)
+        } else {
+            Err(Fault::OutsideLines)
+        }
+    }
+}

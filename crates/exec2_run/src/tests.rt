@@ -1,0 +1,480 @@
+// Procedures and what they want, by the rules of VM/SP EXEC 2.
+ghost use Rattle.std.specs.Prelude.{◌≤◌, length, IfOk};
+ghost use Rattle.cms_model.specs.Records.{IsValid};
+
+use crate::{Exec, FileName, Side, Want};
+use cms_ebcdic::{from_host, to_host};
+use cms_fields::{Moment, Stamp};
+use cms_model::{FileData, Stored};
+use cms_names::{Format, Name, Part};
+use cms_text::{Line, Lines};
+use exec2_parse::{Procedure, read_procedure};
+use std::alloc::{AllocError, Global};
+use std::process::Abort;
+use std::test::Fail;
+
+fn ebcdic(alloc: Global, text: &str) -> Result<Vec<u8>, AllocError> {
+    text.bytes().filter_map(from_host).collect(alloc)
+}
+
+fn line(rt: &impl Abort, alloc: Global, text: &str) -> Result<Line, AllocError> {
+    let bytes = ebcdic(alloc, text)?;
+    assert!(rt; bytes.len() <= 255);
+    Ok(Line::take(bytes))
+}
+
+fn host(alloc: Global, bytes: &[u8]) -> Result<String, AllocError> {
+    bytes
+        .iter()
+        .map(|byte| char::from(to_host(*byte)))
+        .collect(alloc)
+}
+
+const STAMP: Stamp = Stamp {
+    year: 0,
+    month: 1,
+    day: 1,
+    hour: 0,
+    minute: 0,
+    second: 0,
+};
+
+/// A procedure and what it wants. The lines stand between semicolons, behind a first line `&TRACE OFF`, where `@N text` is N lines of
+/// that text; the answers are `r text` to a read, `c code` to a command, and `f` where the stack is full.
+#[derive(Clone, Copy)]
+struct Row<'a> {
+    called: &'a str,
+    lines: &'a str,
+    answers: &'a str,
+    wanted: &'a str,
+}
+
+fn row_of(text: &str) -> Option<Row<'_>> {
+    let (called, rest) = text.split_once('#')?;
+    let (lines, rest) = rest.split_once('#')?;
+    let (answers, wanted) = rest.split_once('#')?;
+    Some(Row {
+        called: field(called),
+        lines: field(lines),
+        answers: field(answers),
+        wanted: field(wanted),
+    })
+}
+
+fn field(text: &str) -> &str {
+    let text = text.strip_prefix(' ').unwrap_or(text);
+    text.strip_suffix(' ').unwrap_or(text)
+}
+
+/// The lines of a procedure.
+fn lines_of<'a>(alloc: Global, lines: &'a str) -> Result<Vec<&'a str>, AllocError> {
+    let mut all = vec![in alloc; "&TRACE OFF"]?;
+    for line in lines.split(';') {
+        let (count, text) = copies(line);
+        for _ in 0..count {
+            all.push(text)?;
+        }
+    }
+    Ok(all)
+}
+
+fn copies(line: &str) -> (u32, &str) {
+    if let Some(rest) = line.strip_prefix('@') {
+        if let Some((count, text)) = rest.split_once(' ') {
+            return (count.parse().unwrap_or(0), text);
+        }
+    }
+    (1, line)
+}
+
+/// A file of these lines, as records of 255 bytes.
+fn cards(rt: &impl Abort, alloc: Global, lines: &[&str]) -> Result<FileData, AllocError>
+    ensures valid { IfOk result (λ file. IsValid file) }
+    ensures stored { IfOk result (λ file. length file.bytes ≤ 67108864) }
+{
+    let mut bytes = Vec::new(alloc);
+    for line in lines {
+        let mut card = ebcdic(alloc, line)?;
+        card.resize(255, 0x40)?;
+        bytes.extend_from_slice(&card)?;
+    }
+    let count = lines.len();
+    assert!(rt; 1 <= count && count <= 5000);
+    assert!(rt; bytes.len() == count * 255);
+    Ok(FileData {
+        format: Format::F,
+        length: 255,
+        number: 1,
+        stamp: STAMP,
+        count: count as u32,
+        bytes: Stored::take(bytes),
+    })
+}
+
+fn started(rt: &impl Abort, alloc: Global, row: &Row<'_>) -> Result<Exec, Fail> {
+    let file = cards(rt, alloc, lines_of(alloc, row.lines)?.as_slice())?;
+    let procedure = read_procedure(alloc, &file)?;
+    let found = FileName {
+        name: Name {
+            file: part(alloc, "T")?,
+            kind: part(alloc, "EXEC")?,
+        },
+        letter: 0,
+        number: 1,
+    };
+    let called = if row.called.is_empty() {
+        "T"
+    } else {
+        row.called
+    };
+    Ok(Exec::start(alloc, procedure, &line(rt, alloc, called)?, &found)?)
+}
+
+fn part(alloc: Global, text: &str) -> Result<Part, Fail> {
+    let bytes = ebcdic(alloc, text)?;
+    match Part::read(bytes.as_slice()) {
+        Ok(part) => Ok(part),
+        Err(_) => Err(Fail::from("no name")),
+    }
+}
+
+/// The moment of a turn, from 0: 2000-01-01 00:00:00, and a second more for each.
+fn moment(turn: u32) -> Moment {
+    Moment::of_epoch(946_684_800 + i64::from(turn), 0)
+}
+
+/// Shows lines, each between brackets.
+fn show_lines(alloc: Global, shown: &mut String, lines: &Lines) -> Result<(), AllocError> {
+    for place in 0..lines.len() {
+        if let Some(line) = lines.get(place) {
+            if place == 0 {
+                shown.push(' ')?;
+            }
+            let text = host(alloc, line.bytes())?;
+            write!(shown, "[{text}]")?;
+        }
+    }
+    shown.push(';')
+}
+
+/// The next answer, behind the letters that it begins with.
+fn answer<'a>(answers: &mut Vec<&'a str>, letters: &str) -> Option<&'a str> {
+    answers.pop()?.strip_prefix(letters)
+}
+
+/// Shows a want, and gives what the procedure goes on with; nothing where it has ended.
+fn answered(
+    rt: &impl Abort,
+    alloc: Global,
+    exec: &mut Exec,
+    want: Want,
+    answers: &mut Vec<&str>,
+    shown: &mut String,
+) -> Result<Option<Want>, Fail> {
+    match want {
+        Want::Next => Ok(Some(Want::Next)),
+        Want::Say(lines) => {
+            shown.push_str("say")?;
+            show_lines(alloc, shown, &lines)?;
+            Ok(Some(Want::Next))
+        }
+        Want::Stack(lines, side) => {
+            shown.push_str(match side {
+                Side::Front => "stack front",
+                Side::Back => "stack back",
+            })?;
+            show_lines(alloc, shown, &lines)?;
+            match answer(answers, "f") {
+                Some(_) => Ok(Some(exec.refuse_stack())),
+                None => Ok(Some(Want::Next)),
+            }
+        }
+        Want::Read => {
+            shown.push_str("read;")?;
+            let text = answer(answers, "r ").unwrap_or("");
+            Ok(Some(exec.take_line(&line(rt, alloc, text)?)?))
+        }
+        Want::Command(command) => {
+            let text = host(alloc, command.bytes())?;
+            write!(shown, "cmd [{text}];")?;
+            let code = answer(answers, "c ").unwrap_or("0");
+            exec.take_code(code.parse().unwrap_or(0));
+            Ok(Some(Want::Next))
+        }
+        Want::Ended(code) => {
+            write!(shown, "end {code}")?;
+            Ok(None)
+        }
+        Want::Failed { number, line } => {
+            write!(shown, "fail {number} {line}")?;
+            Ok(None)
+        }
+    }
+}
+
+/// What a procedure wants, and how many turns it takes, of which there are at most so many.
+fn run(rt: &impl Abort, alloc: Global, row: &Row<'_>, turns: u32) -> Result<String, Fail> {
+    let mut exec = started(rt, alloc, row)?;
+    let mut answers = Vec::new(alloc);
+    for answer in row.answers.split(';') {
+        answers.push(answer)?;
+    }
+    answers.reverse();
+    let mut shown = String::new(alloc);
+    let mut turn: u32 = 0;
+    let mut want = Want::Next;
+    for _ in 0..turns {
+        if matches!(&want, Want::Next) {
+            want = exec.settle(&moment(turn.saturating_sub(1)))?;
+            if matches!(&want, Want::Next) {
+                want = exec.turn(&moment(turn))?;
+                turn = turn.saturating_add(1);
+            }
+        }
+        match answered(rt, alloc, &mut exec, want, &mut answers, &mut shown)? {
+            Some(next) => want = next,
+            None => break,
+        }
+    }
+    write!(shown, ";turns {turn}")?;
+    Ok(shown)
+}
+
+/// Procedures with what they want. Where no turns are written, any number will do.
+const ROWS: &str = "# ---- typing and expansion
+ # &TYPE HELLO # # say [HELLO];end 0;turns 2
+ # &type hello World # # say [hello World];end 0
+ # &TYPE # # say [];end 0
+ # &TYPE A    B # # say [A B];end 0
+ # &TYPE &NOPE A &NOPE B # # say [A B];end 0
+ # &X = 5;&TYPE &X # # say [5];end 0;turns 3
+ # &I = 2;&A2 = Q;&TYPE &A&I # # say [Q];end 0
+ # &I = 2;&A&I = Q;&TYPE &A2 # # say [Q];end 0
+ # & = 5;&TYPE & # # say [5];end 0
+ # &X = Y;&XY = Z;&TYPE A&X &X&X # # say [AY Z];end 0
+ # &X = &LITERAL OF &Y;&Y = 3;&TYPE &X # # say [&Y];end 0
+ # &TYPE A&BLANK # # say [A ];end 0
+ # &x = 1;&TYPE &X &x # # say [1 1];end 0
+ # &X = &LEFT OF A 200;&TYPE &X &X # # fail 5 3
+# ---- nothing
+ # ;* a comment;-L;&TYPE A # # say [A];end 0;turns 5
+ # &TRACE ON X &Y # # end 0;turns 2
+ # &END X # # end 0
+ # &TRACE = 5;&TYPE &TRACE # # say [5];end 0
+ # &TYPE = 5;&TYPE &TYPE # # say [5];end 0
+# ---- assignment
+ # &X = &A &B c;&TYPE &X # # say [c];end 0
+ # &X = &A + &B;&TYPE &X # # say [+];end 0
+ # &X = Z;&X =;&TYPE A &X B # # say [A B];end 0
+ # &X = 1 + 2;&Y = 7 - 10;&Z = - 5;&TYPE &X &Y &Z # # say [3 -3 -5];end 0
+ # &X = &NOPE + 5;&Y = 007;&Z = 007 + 0;&TYPE &X &Y &Z # # say [5 007 7];end 0
+ # &S = -;&X = 5 &S 3;&TYPE &X # # say [2];end 0
+ # &X = 5 + &NOPE # # fail 6 2
+ # &X = 1 2 # # fail 6 2
+ # &X = A + 1 # # fail 6 2
+ # &X = 5 + + 3 # # fail 6 2
+ # &X = 5 -3 # # fail 6 2
+ # &X = 9223372036854775808 + 0 # # fail 6 2
+ # &X = 9223372036854775807 + 1 # # fail 3 2
+ # &X = 9223372036854775807 + 1 - 1 # # fail 3 2
+ # &RC = 1 2 # # fail 11 2
+ # &N = 1 # # fail 11 2
+ # &0 = 1 # # fail 11 2
+ # &01 = X;&TYPE &01 # # say [X];end 0
+T A B # &1 = X;&3 = C;&TYPE &1 &2 &3 &N # # say [X B C 2];end 0
+ # &A= 5 # # cmd [5];end 0
+# ---- functions
+ # &X = &CONCAT OF A B C;&Y = &datatype of 12;&Z = &DATATYPE OF &NOPE;&TYPE &X &Y &Z # # say [ABC NUM CHAR];end 0
+ # &X = &DIV OF -7 2;&Y = &DIV OF 100 5 2;&Z = &MULT OF 3 4 5;&TYPE &X &Y &Z # # say [-3 10 60];end 0
+ # &X = &LEFT OF ABC 2;&Y = &RIGHT OF ABC 5;&TYPE &X &Y # # say [AB   ABC];end 0
+ # &X = &LENGTH OF &NOPE;&Y = &LOCATION OF &NOPE ABC;&Z = &LOCATION OF Z ABC;&TYPE &X &Y &Z # # say [0 1 0];end 0
+ # &X = &PIECE OF ABCDE 2 3;&Y = &SUBSTR OF ABC 2;&Z = &POSITION OF B A B;&TYPE &X &Y &Z # # say [BCD BC 2];end 0
+ # &X = &STRING OF A &NOPE B;&Y = &TRANS OF CAB XY AB;&Z = &WORD OF 2 A B;&TYPE &X &Y &Z # # say [A B CXY B];end 0
+ # &X = &LEFT OF A 3;&Y = &TRIM OF &X;&TYPE &Y # # say [A];end 0
+ # &X = &LEFT OF AB # # fail 1 2
+ # &X = &LEFT OF A 1 2 # # fail 1 2
+ # &X = &LEFT OF AB X # # fail 2 2
+ # &X = &LEFT OF AB 256 # # fail 2 2
+ # &X = &DIV OF 1 0 A # # fail 4 2
+ # &X = &DIV OF A 0 # # fail 2 2
+ # &X = &MULT OF 9223372036854775807 2 # # fail 3 2
+ # &X = &LEFT AB 1 # # fail 6 2
+# ---- commands and their codes
+ # LISTFILE * * A # # cmd [LISTFILE * * A];end 0;turns 2
+T ab # erase &1 file # # cmd [erase ab file];end 0
+ # &COMMAND STATE X # # cmd [STATE X];end 0
+ # &COMMAND # # cmd [];end 0
+ # &NOPE # # cmd [];end 0
+ # &FOO A # # cmd [A];end 0
+ # -L * x # # cmd [* x];end 0
+ # CMD;&TYPE &RC &RETCODE # c 28 # cmd [CMD];say [28 28];end 0
+ # &TYPE &RC # # say [0];end 0
+# ---- comparison
+ # &IF 7 = 07 &TYPE Y # # say [Y];end 0
+ # &IF A eq A &TYPE Y # # say [Y];end 0
+ # &IF AB < B &TYPE Y;&IF a < A &TYPE Z;&IF 1 > A &TYPE W # # say [Y];say [Z];say [W];end 0
+ # &IF &NOPE = &NOPE &TYPE Y;&IF A = &NOPE &TYPE N;&IF A ^= &NOPE &TYPE Z # # say [Y];say [Z];end 0
+ # &IF 10 GE 9 &TYPE Y;&IF 10 LE 9 &TYPE N;&IF -1 LT 0 &TYPE Z;&IF 3 NE 3 &TYPE N # # say [Y];say [Z];end 0
+ # &IF 1 = 1 &IF 2 > 1 &TYPE Y # # say [Y];end 0;turns 2
+ # &IF 1 = 1 # # end 0
+ # &IF 1 = 2 &GOTO # # end 0
+ # &IF 1 ? 1 &TYPE Y # # fail 6 2
+ # &IF 1 = # # fail 6 2
+ # &OP = <;&IF 1 &OP 2 &TYPE Y # # fail 6 3
+ # &IF 1 = 1 -L &TYPE X # # cmd [-L X];end 0
+ # &X = &STRING OF A B;&IF &X = &X &TYPE Y # # say [Y];end 0
+# ---- jumps
+ # &GOTO -L;&TYPE A;-L &TYPE B # # say [B];end 0;turns 3
+ # -A &TYPE 1;&I = &I + 1;&IF &I = 2 &EXIT;&GOTO -A;-A &TYPE 2 # # say [1];say [2];end 0
+ # -L &IF &X = 1 &EXIT 3;&X = 1;&GOTO -L # # end 3
+ # &X = -L;&GOTO &X;&TYPE A;-L # # end 0
+ # &GOTO -l;-L # # fail 7 2
+ # &GOTO L # # fail 6 2
+ # &GOTO # # fail 6 2
+ # &GOTO -A B;-A # # fail 6 2
+ # &GOTO -L;&BEGTYPE;-L &TYPE Q;&END # # say [Q];end 0
+ # &SKIP;&TYPE A;&TYPE B # # say [B];end 0
+ # &SKIP 2;&TYPE A;&TYPE B;&TYPE C # # say [C];end 0
+ # &SKIP 0 # # end 0
+ # &SKIP &NOPE;&TYPE A;&TYPE B # # say [B];end 0
+ # &I = &I + 1;&TYPE &I;&IF &I < 3 &SKIP -2 # # say [1];say [2];say [3];end 0;turns 10
+ # &SKIP 1 # # fail 12 2
+ # &SKIP -2 # # fail 12 2
+ # &SKIP A # # fail 2 2
+ # &SKIP 1 2;&TYPE A # # fail 6 2
+# ---- loops
+ # &LOOP 1 3;&TYPE A # # say [A];say [A];say [A];end 0;turns 5
+ # &LOOP 2 2;&TYPE A;&TYPE B # # say [A];say [B];say [A];say [B];end 0
+ # &LOOP 1 0;&TYPE A;&TYPE B # # say [B];end 0
+ # &LOOP -E 2;&TYPE A;-E &TYPE B;&TYPE C # # say [A];say [B];say [A];say [B];say [C];end 0
+ # -E &LOOP -E 2;&TYPE A;-E &TYPE B # # say [A];say [B];say [A];say [B];end 0
+ # -E &LOOP -E 2;&TYPE A # # fail 7 2
+ # -E &TYPE A;&LOOP -E 2 # # say [A];fail 7 3
+ # &LOOP 2 *;&I = &I + 1;&IF &I = 3 &EXIT &I # # end 3
+ # &LOOP 2 WHILE &I < 3;&I = &I + 1;&TYPE &I # # say [1];say [2];say [3];end 0;turns 8
+ # &LOOP 1 WHILE 1 = 2;&TYPE A;&TYPE B # # say [B];end 0
+ # &loop 1 while 1 = 2;&TYPE A # # end 0
+ # &LOOP 1 UNTIL 1 = 1;&TYPE A;&TYPE B # # say [A];say [B];end 0
+ # &LOOP 0 1;&TYPE A # # fail 2 2
+ # &LOOP 1 -1;&TYPE A # # fail 2 2
+ # &LOOP 1 A;&TYPE A # # fail 2 2
+ # &LOOP -1 2;&TYPE A # # fail 7 2
+ # &LOOP 1;&TYPE A # # fail 6 2
+ # &LOOP # # fail 6 2
+ # &LOOP 1 2 3;&TYPE A # # fail 6 2
+ # &LOOP 1 &NOPE;&TYPE A # # fail 6 2
+ # &LOOP 2 1;&TYPE A # # fail 12 2
+ # &LOOP 1 UNTIL;&TYPE A # # fail 6 2
+ # &LOOP 1 UNTIL 1 ? 2;&TYPE A # # fail 6 2
+ # &LOOP 1 WHILE 1 =;&TYPE A # # fail 6 2
+ # &LOOP 3 2;&TYPE A;&LOOP 1 2;&TYPE B # # say [A];say [B];say [B];say [A];say [B];say [B];end 0
+ # &LOOP 2 3;&TYPE A;&GOTO -X;-X &TYPE B # # say [A];say [A];say [A];say [B];end 0
+ # &LOOP 2 5;&TYPE A;&GOTO -X;&TYPE N;-X &TYPE B # # say [A];say [B];end 0
+ # &LOOP 1 3;&GOTO -O;-P &TYPE X;&EXIT 9;-O &TYPE B;&GOTO -P # # say [B];say [X];end 9
+ # &LOOP 3 2;&I = &I + 1;&TYPE &I;&IF &I = 1 &SKIP -2 # # say [1];say [2];say [3];end 0
+ # &X = A;&LOOP 1 UNTIL PPPPPPPPPPPPPPPPPPPPPPPPPPPPPPPPPPPPPPPPPPPPPPPPPPPPPPPPPPPP&X = B;&X = &LEFT OF A 200 # # fail 5 3
+ # @100 &LOOP -E 1;-E &TYPE A # # say [A];end 0;turns 102
+ # @101 &LOOP -E 1;-E &TYPE A # # fail 9 102
+ # @100 &LOOP -E 1;&LOOP 1 0;-E &TYPE A # # end 0
+# ---- calls
+ # &CALL -S A B;&TYPE C;&EXIT;-S &TYPE &1 &2 &N;&RETURN # # say [A B 2];say [C];end 0
+T X # &CALL -S A B;&TYPE &1 &2 &N;&EXIT;-S &RETURN # # say [X 1];end 0
+T A B C # &CALL -S X;&EXIT;-S &TYPE &1 &2 &3 &N;&RETURN # # say [X 1];end 0
+ # &A = Q;&CALL -S &A;&EXIT;-S &TYPE &1;&RETURN # # say [Q];end 0
+ # &TYPE &DEPTH &FROM;&CALL -S;&EXIT;-S &TYPE &DEPTH &FROM;&RETURN # # say [0 0];say [1 3];end 0
+ # &LOOP 1 2;&CALL -S;&TYPE E;&EXIT;-S &TYPE A;&RETURN # # say [A];say [A];say [E];end 0
+ # &CALL -S;&TYPE E;&EXIT;-S &LOOP 1 5;&RETURN # # say [E];end 0
+ # -S &CALL -S # # fail 9 2;turns 102
+ # &RETURN # # fail 8 2
+ # &RETURN X # # fail 8 2
+ # &CALL -S;&EXIT;-S &RETURN X # # fail 6 4
+ # &CALL S # # fail 6 2
+ # &CALL # # fail 6 2
+ # &CALL -Z # # fail 7 2
+# ---- the error action
+ # &ERROR &TYPE BAD;CMD X;&TYPE NEXT # c 5 # cmd [CMD X];say [BAD];say [NEXT];end 0;turns 5
+ # &ERROR &TYPE BAD;CMD X;&TYPE NEXT # c 0 # cmd [CMD X];say [NEXT];end 0;turns 4
+ # &ERROR &TYPE BAD;&ERROR;CMD # c 5 # cmd [CMD];end 0
+ # &ERROR &SKIP;CMD;&TYPE A;&TYPE B # c 4 # cmd [CMD];say [B];end 0
+ # &ERROR &EXIT &RC;CMD # c 28 # cmd [CMD];end 28
+ # &ERROR &CALL -S;CMD;&TYPE N;&EXIT;-S &TYPE &RC;&RETURN # c 7 # cmd [CMD];say [7];say [N];end 0
+ # &ERROR CMD2;CMD1;&TYPE &RC # c 1;c 2 # cmd [CMD1];cmd [CMD2];say [2];end 0
+ # &ERROR &GOTO -Z;CMD # c 1 # cmd [CMD];fail 7 3
+ # &ERROR &X = 5;CMD;&TYPE &X # c 1 # cmd [CMD];say [5];end 0
+ # &ERROR &TYPE E;&LOOP 1 2;CMD;&TYPE N # c 1;c 1 # cmd [CMD];say [E];cmd [CMD];say [E];say [N];end 0
+ # &ERROR &TYPE E;CMD # c 1 # cmd [CMD];say [E];end 0
+ # &ERROR &BEGTYPE;CMD;A B;&END;&TYPE N # c 1 # cmd [CMD];say [A B];say [N];end 0
+ # &ERROR &TYPE &LINE;CMD # c 1 # cmd [CMD];say [3];end 0
+ # &IF 1 = 1 &ERROR &TYPE E;CMD # c -3 # cmd [CMD];say [E];end 0
+# ---- reading, arguments
+ # &READ ARGS;&TYPE &1 &2 &N # r x y # read;say [x y 2];end 0
+ # &read vars &A &B;&TYPE &B &A # r 1 2 3 # read;say [2 1];end 0
+ # &B = Z;&READ VARS &A &B;&TYPE &A &B # r 1 # read;say [1];end 0
+ # &READ STRING &S;&TYPE &S # r a  b # read;say [a  b];end 0
+ # &I = 2;&READ VARS &A&I;&TYPE &A2 # r q # read;say [q];end 0
+ # &READ VARS # r x # read;end 0
+ # &READ # # fail 6 2
+ # &READ STRING # # fail 6 2
+ # &READ FOO # # fail 6 2
+ # &READ VARS X # # fail 6 2
+ # &READ VARS &RC # # fail 11 2
+ # &B = 1;&READ STRING &A &B # # fail 6 3
+ # &READ STRING &A &B;&TYPE &A # r x y # read;say [x y];end 0
+ # &READ ARGS X # # fail 6 2
+T A B # &ARGS;&TYPE &1 &N # # say [0];end 0
+ # &X = &STRING OF A B;&ARGS &X C;&TYPE &N &1 # # say [2 A B];end 0
+# ---- stacking and blocks
+ # &STACK A B # # stack back [A B];end 0
+ # &STACK LIFO A # # stack front [A];end 0
+ # &STACK fifo A # # stack back [A];end 0
+ # &STACK FIFO # # stack back [];end 0
+ # &X = LIFO;&STACK &X A # # stack back [LIFO A];end 0
+ # &STACK A # f # stack back [A];fail 13 2
+ # &BEGSTACK;A  B;* c;&END;&TYPE N # # stack back [A  B][* c];say [N];end 0
+ # &BEGSTACK LIFO;A;B;&end x # # stack front [A][B];end 0
+ # &BEGSTACK;A;&END # f # stack back [A];fail 13 2
+ # &BEGTYPE;&X y;  Z;&END # # say [&X y][  Z];end 0
+ # &BEGTYPE;&END;&TYPE A # # say;say [A];end 0
+ # &BEGTYPE;-L &END;&END # # say [-L &END];end 0
+ # &BEGTYPE;A # # fail 10 2
+ # &BEGTYPE X;&END # # fail 6 2
+# ---- the end
+ # &EXIT # # end 0
+ # &EXIT -9999 # # end -9999
+ # &EXIT 99999 # # end 99999
+ # &EXIT 007 # # end 7
+ # &EXIT &NOPE # # end 0
+ # &EXIT 100000 # # fail 2 2
+ # &EXIT -10000 # # fail 2 2
+ # &EXIT A # # fail 2 2
+ # &EXIT 5 6 # # fail 6 2
+# ---- given variables
+t x # &TYPE &0 &CMDSTRING;&TYPE &ARGSTRING &FILENAME &FILETYPE &FILEMODE # # say [T t x];say [x T EXEC A1];end 0
+T a b c # &TYPE &INDEX &N &LINE &LINENUM # # say [3 3 2 2];end 0
+T(A B # &TYPE &1 &2 &N &ARGSTRING # # say [(A B 2 (A B];end 0
+T  a  b # &TYPE &ARGSTRING # # say [ a  b];end 0
+ # &TYPE &DATE &TIME # # say [00/01/01 00:00:01];end 0
+# ---- limits
+ # &LOOP 2 999;&I = &I + 1;&V&I = X;&TYPE OK # # say [OK];end 0
+ # &LOOP 2 1000;&I = &I + 1;&V&I = X;&TYPE OK # # fail 14 4";
+
+#[test]
+fn procedures(rt: HostRuntime) -> Result<(), Fail> {
+    for text in ROWS.lines() {
+        if text.starts_with('#') {
+            continue;
+        }
+        let row = row_of(text).ok_or("no row")?;
+        let shown = run(&rt, rt.alloc(), &row, 10_000)?;
+        if row.wanted.contains("turns") {
+            assert_eq!(rt; shown.as_str(), row.wanted, "{text}");
+        } else {
+            assert_eq!(rt;
+                shown.split_once(";turns").map_or("", |parts| parts.0),
+                row.wanted,
+                "{text}"
+            );
+        }
+    }
+    Ok(())
+}

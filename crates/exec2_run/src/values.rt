@@ -1,0 +1,119 @@
+// What the words of a statement become.
+ghost use Rattle.std.specs.Prelude.{◌≡◌, ◌∷◌, IfOk, Ok, Err};
+ghost use Rattle.exec2_run.specs.Faults.{Answers};
+ghost use Rattle.exec2_run.specs.Values as spec;
+
+use crate::Fault;
+use cms_text::{Line, Word, WordList};
+use exec2_funcs::{Function, call};
+use exec2_parse::{ExpandFault, Vars, expand};
+use std::alloc::{AllocError, Global};
+
+/// What words become from left to right, up to the first that becomes too long.
+#[derive(Debug, Drop)]
+pub struct Operands {
+    pub words: WordList,
+    /// A word becomes too long behind these.
+    pub is_cut: bool,
+}
+
+/// What a word becomes.
+pub fn value(alloc: Global, vars: &Vars, word: &Word) -> Result<Word, Fault>
+    ensures { Answers (spec.value vars.now word.now) result }
+{
+    Ok(expand(alloc, word.bytes(), vars)?)
+}
+
+/// What the words of a statement become, without those that become nothing.
+#[tactic(auto, unfolding(crate::specs::Values::operands))]
+pub fn expanded_words(alloc: Global, vars: &Vars, words: &[Word]) -> Result<Operands, AllocError>
+    ensures { IfOk result (λ operands. operands ≡ spec.operands vars.now words.now) }
+{
+    let mut values = WordList::new(alloc);
+    for word in words {
+        match expand(alloc, word.bytes(), vars) {
+            Ok(value) => {
+                if !value.bytes().is_empty() {
+                    values.push(value)?;
+                }
+            }
+            Err(ExpandFault::TooLong) => {
+                return Ok(Operands {
+                    words: values,
+                    is_cut: true,
+                });
+            }
+            Err(ExpandFault::Memory) => return Err(AllocError),
+        }
+    }
+    Ok(Operands {
+        words: values,
+        is_cut: false,
+    })
+}
+
+/// What the words of a function become; a word that becomes nothing is an empty one.
+#[tactic(auto, unfolding(crate::specs::Values::arguments))]
+pub fn arguments(alloc: Global, vars: &Vars, words: &[Word]) -> Result<Operands, AllocError>
+    ensures { IfOk result (λ operands. operands ≡ spec.arguments vars.now words.now) }
+{
+    let mut values = WordList::new(alloc);
+    for word in words {
+        match expand(alloc, word.bytes(), vars) {
+            Ok(value) => values.push(value)?,
+            Err(ExpandFault::TooLong) => {
+                return Ok(Operands {
+                    words: values,
+                    is_cut: true,
+                });
+            }
+            Err(ExpandFault::Memory) => return Err(AllocError),
+        }
+    }
+    Ok(Operands {
+        words: values,
+        is_cut: false,
+    })
+}
+
+/// Why a word is missing: it became too long, or it isn't there.
+pub fn missing(is_cut: bool) -> Fault
+    ensures { result ≡ spec.missing is_cut }
+{
+    if is_cut {
+        Fault::TooLong
+    } else {
+        Fault::BadStatement
+    }
+}
+
+/// No further word may stand here.
+pub fn ended(words: &[Word], is_cut: bool) -> Result<(), Fault>
+    ensures { result ≡ spec.ended words.now is_cut }
+{
+    if !words.is_empty() {
+        return Err(Fault::BadStatement);
+    }
+    whole(is_cut)
+}
+
+/// No further word may become too long.
+pub fn whole(is_cut: bool) -> Result<(), Fault>
+    ensures { result ≡ spec.whole is_cut }
+{
+    if is_cut {
+        return Err(Fault::TooLong);
+    }
+    Ok(())
+}
+
+/// The text that the words make: joined by a blank, those that become nothing left out.
+#[tactic(auto, unfolding(crate::specs::Values::text))]
+pub fn text(alloc: Global, vars: &Vars, words: &[Word]) -> Result<Line, Fault>
+    ensures { Answers (spec.text vars.now words.now) result }
+{
+    let operands = expanded_words(alloc, vars, words)?;
+    whole(operands.is_cut)?;
+    let text = call(alloc, Function::String, &operands.words)?;
+    Ok(Line::take(text.into_bytes()))
+}
