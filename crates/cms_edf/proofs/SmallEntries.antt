@@ -6,11 +6,9 @@ use Rattle.cms_names.specs.Names.{is_between}
 use Rattle.cms_names.specs.declared.name.Format.{Format}
 use Rattle.cms_names.specs.declared.name.Format.TheVariants.{F, V}
 use Rattle.cms_fields.specs.Numbers.{is_shape}
-use Rattle.cms_fields.specs.Entries.{entry_of, entry_fields, is_fixed, levels_fit, has_name, has_mode, has_format, length_fits, counts_fit, has_pointer_size}
-use Rattle.cms_fields.specs.Stamps.{has_stamp}
+use Rattle.cms_fields.specs.Entries.{entry_of, is_fixed, levels_fit}
 use Rattle.cms_fields.specs.declared.entry.Entry.{Entry}
 use Rattle.cms_fields.specs.declared.entry.EntryFault.{EntryFault}
-use Rattle.cms_fields.specs.declared.entry.EntryFault.TheVariants as entry
 use Rattle.cms_fields.proofs.ReadEntry.{entry_is}
 use Rattle.cms_model.specs.Lists.{times, holds}
 use Rattle.cms_model.specs.Trees.{Image, Met, form_of, tree, bytes_at, is_allowed}

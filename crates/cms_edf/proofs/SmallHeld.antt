@@ -7,11 +7,10 @@ use Rattle.cms_journal.specs.Journal.{IsBlockSize}
 use Rattle.cms_fields.specs.Numbers.{word, byte}
 use Rattle.cms_fields.specs.Stamps.{has_stamp, are_packed, is_stamp, stamp_at}
 use Rattle.cms_fields.specs.Labels.{label_of}
-use Rattle.cms_fields.specs.Entries.{entry_of, entry_fields, passes, has_name, has_mode, has_format, length_fits, counts_fit, levels_fit, has_pointer_size}
+use Rattle.cms_fields.specs.Entries.{entry_of, entry_fields, passes, has_mode, length_fits, counts_fit, levels_fit}
 use Rattle.cms_fields.specs.declared.label.Label.{Label}
 use Rattle.cms_fields.specs.declared.entry.Entry.{Entry}
 use Rattle.cms_fields.specs.declared.entry.EntryFault.{EntryFault}
-use Rattle.cms_fields.specs.declared.entry.EntryFault.TheVariants as entry
 use Rattle.cms_fields.proofs.ReadEntry.{entry_is}
 use Rattle.cms_model.specs.Volumes.{Disk, first_twice}
 use Rattle.cms_model.proofs.Results.{ok_same, want_ok, bind_then}

@@ -1,8 +1,7 @@
 -- Steps of reading a small directory.
 use Rattle.std.proofs.Common.{◌≡◌, ◌≢◌, ◌<◌, Option, Some, None, slice_index_or, ◌⊎◌, inl, inr, length, ℕ, zero, suc, ◌+◌, ◌-◌, ◌/◌, ◌≤◌, List, [], ◌∷◌, ◌++◌, take, take_all, drop, get_or, subst, Result, Ok, Err, refl, sym, ◌∙◌, ap, arith, append-nil, append_assoc}
 use Rattle.std.specs.Prelude.{IfOk, Bool, true, false, option_map, nat_le, ◌==◌, ◌&&◌, ◌*◌}
-use Rattle.std.proofs.lemmas.Bool.{and_parts, and_from, eqb-true, eq-eqb}
-use Rattle.std.proofs.lemmas.Option.{slice_get_cases}
+use Rattle.std.proofs.lemmas.Bool.{and_parts, and_from}
 use Rattle.std.proofs.lemmas.List.{take-append-drop}
 use Rattle.std.proofs.Math.Seq.{take-append_seam, drop-append_seam}
 use Rattle.cms_names.specs.Names.{is_between}
@@ -14,10 +13,9 @@ use Rattle.cms_fields.specs.declared.label.Label.{Label}
 use Rattle.cms_model.specs.Lists.{cut, same}
 use Rattle.cms_model.proofs.Changing.{same_from, same_self}
 use Rattle.cms_model.proofs.TreeFrame.{between}
-use Rattle.cms_journal.specs.Journal.{Journal, IsBlockSize, HasBlock, block_of, contents_of, start_of}
+use Rattle.cms_journal.specs.Journal.{IsBlockSize}
 use Rattle.cms_journal.proofs.Sizes.{block_bounds}
 use Rattle.cms_fields.specs.Labels.{label_of}
-use Rattle.cms_model.specs.Trees.{image_of}
 pub use Rattle.cms_model.proofs.Images.{block_in_image}
 use Rattle.cms_model.proofs.Opening.{label_reads}
 use Rattle.cms_edf.specs.declared.small.SmallFault.{SmallFault}

@@ -3,3 +3,7 @@ pub mod Reading
 pub mod Held
 pub mod Written
 pub mod Erase
+pub mod Opening
+pub mod OpeningSteps
+pub mod EntryShapes
+pub mod OpeningFiles

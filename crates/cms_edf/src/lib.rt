@@ -2,17 +2,31 @@
 #![tactic(auto)]
 
 mod blocks;
+mod contents;
 mod directory;
+mod entries;
 mod erase;
+mod files;
+mod held;
 mod map;
+mod met;
+mod open;
+mod opening;
 mod small;
+mod system;
+mod trees;
+mod volume;
 mod written;
 
 pub use cms_model::{FileData, OpenFault, Stored, VarFault};
 pub use erase::SmallErase;
+pub use held::Held;
+pub use opening::open_volume;
 pub use small::{Small, SmallFault, SmallInfo, small_volume};
 
 #[cfg(test)]
 mod erase_tests;
+#[cfg(test)]
+mod opening_tests;
 #[cfg(test)]
 mod tests;

@@ -1,5 +1,5 @@
 -- Records of varying lengths, one after another.
-use Rattle.std.proofs.Common.{◌≡◌, ℕ, zero, suc, ◌+◌, ◌-◌, ◌*◌, ◌≤◌, ◌<◌, Bool, true, false, List, [], ◌∷◌, length, take, drop, Result, Ok, Err, refl, sym, ◌∙◌, ap, subst, arith}
+use Rattle.std.proofs.Common.{◌≡◌, ℕ, zero, suc, ◌+◌, ◌-◌, ◌≤◌, ◌<◌, Bool, true, false, List, [], ◌∷◌, length, take, drop, Result, Ok, Err, refl, sym, ◌∙◌, ap, subst, arith}
 use Rattle.std.specs.Prelude.{max, nat_le, nat_lt}
 use Rattle.std.proofs.lemmas.List.{drop-drop, length-drop, length-take-le}
 use Rattle.std.proofs.lemmas.Bool.{leb-true}
@@ -114,7 +114,7 @@ comes_to_left bsize count bytes left place size comes none over =
 
 -- ---- the records themselves
 
-bind_ok : {A B C : Type 0} (r : Result A VarFault) (f : A → Result B VarFault) (y : B) → (r >>= f) ≡ Ok y → ((x : A) → r ≡ Ok x → f x ≡ Ok y → C) → C
+pub bind_ok : {A B C : Type 0} (r : Result A VarFault) (f : A → Result B VarFault) (y : B) → (r >>= f) ≡ Ok y → ((x : A) → r ≡ Ok x → f x ≡ Ok y → C) → C
 bind_ok (Ok x) f y is go = go x refl is
 bind_ok (Err e) f y is go = absurd (cc)
 

@@ -1,2 +1,5 @@
 pub mod Pieces
 pub mod Lengths
+pub mod Scanning
+pub mod Feeding
+pub mod FirstTold

@@ -1,1 +1,4 @@
 pub mod Views
+pub mod Scans
+pub mod Pieces
+pub mod LawsPieces

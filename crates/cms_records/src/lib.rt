@@ -2,10 +2,20 @@
 #![tactic(auto)]
 
 mod fixed;
+mod laws;
+#[cfg(test)]
+mod pieces_tests;
+mod scan;
+mod sizes;
+mod state;
 #[cfg(test)]
 mod tests;
 mod varying;
 
 pub use cms_model::VarFault;
 pub use fixed::{FixedView, fit};
+pub use laws::piece_laws;
+pub use scan::VarScan;
+pub use sizes::VarSizes;
+pub use state::{Fed, RecordState};
 pub use varying::{VarView, put_var, var_check};

@@ -104,9 +104,9 @@ fn split_first<'a>(bytes: &'a [u8]) -> (&'a [u8], &'a [u8])
     bytes[2..].split_at(size)
 }
 
-// The number in the first two bytes.
+/// The number in the first two bytes.
 #[tactic(auto, unfolding(cms_fields::specs::Numbers::half))]
-fn half_of(bytes: &[u8]) -> u32
+pub fn half_of(bytes: &[u8]) -> u32
     requires { 2 ≤ length bytes.now }
     ensures is { result ≡ half bytes.now 0 }
     ensures fits { result < 65536 }

@@ -1,10 +1,10 @@
-use Rattle.std.proofs.Common.{◌≡◌, ℕ, ◌+◌, ◌-◌, ◌≤◌, ◌<◌, List, length, drop, Result, Ok, Err, true, false, sym, ◌∙◌, ap, arith, length-drop}
-use Rattle.std.specs.Prelude.{nat_lt, max}
+use Rattle.std.proofs.Common.{◌≡◌, ◌+◌, ◌-◌, length, drop, Ok, true, false, sym, ◌∙◌, ap, arith, length-drop}
+use Rattle.std.specs.Prelude.{nat_lt}
 use Rattle.std.proofs.lemmas.List.{take_rest}
 use Rattle.std.proofs.lemmas.Bool.{lt-ltb, le-ltb}
 use Rattle.std.proofs.lemmas.Result.{err_from_is_err_and}
 use Rattle.cms_records.specs.Views.{first_size}
-use Rattle.cms_records.proofs.Lengths.{Comes, first_within, comes_next, comes_to_fault, comes_to_end, comes_to_left}
+use Rattle.cms_records.proofs.Lengths.{first_within, comes_next, comes_to_fault, comes_to_end, comes_to_left}
 use Rattle.cms_records.proofs.varying.var_check.Goals as goal
 
 pub returns-in_err-size : goal.returns-in_err-size

@@ -1,6 +1,5 @@
-use Rattle.std.proofs.Common.{◌≡◌, ℕ, ◌+◌, ◌-◌, ◌*◌, ◌≤◌, ◌<◌, suc, List, [], length, take, get_or, sym, ◌∙◌, ap, arith}
+use Rattle.std.proofs.Common.{◌≡◌, ℕ, ◌+◌, ◌-◌, ◌*◌, ◌≤◌, suc, List, [], length, get_or, sym, ◌∙◌, ap, arith}
 use native.Mathlib.Nat.{mul-le-mul_right}
-use Rattle.cms_model.specs.Lists.{cut}
 use Rattle.cms_records.proofs.Pieces.{length-cut, get_or-cut}
 use Rattle.cms_records.proofs.fixed.FixedView.get.Goals as goal
 

@@ -1,4 +1,4 @@
-use Rattle.std.proofs.Common.{sym, ◌∙◌}
+use Rattle.std.proofs.Common.{sym}
 use Rattle.cms_records.proofs.Lengths.{longest_reads, longest_fails}
 use Rattle.cms_records.proofs.varying.VarView.new.Goals as goal
 

@@ -1,0 +1,196 @@
+-- The trees of files, read one after another.
+use Rattle.std.proofs.Common.{◌≡◌, ◌⊎◌, inl, inr, ℕ, zero, suc, ◌+◌, ◌*◌, ◌/◌, ◌<◌, ◌≤◌, List, [], ◌∷◌, ◌++◌, length, take, drop, map, get_or, None, Result, Ok, Err, refl, sym, ◌∙◌, ap, subst, arith, append-nil, append_assoc}
+use Rattle.std.specs.List.{All}
+use Rattle.std.proofs.lemmas.List.{map-append}
+use Rattle.std.proofs.lemmas.List.Elements.{All-append}
+use Rattle.cms_journal.specs.Journal.{Journal, IsBlockSize, contents_of}
+use Rattle.cms_names.specs.declared.name.Format.{Format}
+use Rattle.cms_names.specs.declared.name.Format.TheVariants.{F, V}
+use Rattle.cms_fields.specs.Steps.{◌>>=◌}
+use Rattle.cms_fields.specs.Entries.{fan_of, pointer_size}
+use Rattle.cms_fields.specs.declared.entry.Entry.{Entry}
+use Rattle.cms_model.specs.Sizes.{levels}
+use Rattle.cms_model.specs.Trees.{Image, Form, Met, image_of, form_of, tree}
+use Rattle.cms_model.specs.Volumes.{holder_of, file_trees, blocks_of}
+use Rattle.cms_model.specs.declared.fault.OpenFault.{OpenFault}
+use Rattle.cms_tree.specs.Walks.{tree_at, nodes, nodes_at, image_at}
+use Rattle.cms_tree.specs.declared.types.TreeAt.{TreeAt}
+use Rattle.cms_tree.specs.declared.types.Walked.{Walked}
+use Rattle.cms_edf.specs.declared.open.Place.{Place}
+use Rattle.cms_edf.specs.Opening.{IsFaultOf}
+use Rattle.cms_edf.specs.OpeningSteps.{met_in, behind, ReadsTree}
+use Rattle.cms_edf.specs.EntryShapes.{HasShape}
+use Rattle.cms_edf.specs.OpeningFiles.{file_at, file_tree, file_nodes, pointers_in, ReadsFile, HasFiles, HaveCounts}
+use Rattle.cms_edf.proofs.Faults.{fault_passes}
+
+-- ---- where an entry stands
+
+pub some_entries : (bsize : ℕ) → IsBlockSize bsize → 0 < bsize / 64
+some_entries bsize (inl is) = omega (arith, is)
+some_entries bsize (inr (inl is)) = omega (arith, is)
+some_entries bsize (inr (inr (inl is))) = omega (arith, is)
+some_entries bsize (inr (inr (inr is))) = omega (arith, is)
+
+in_place : (bsize n number : ℕ) → number * 64 < n * bsize → (k : ℕ) → bsize ≡ k → number * 64 < n * k
+in_place bsize n number less k is = subst (λ (b : ℕ). number * 64 < n * b) is less
+
+pub place_in : (bsize n number : ℕ) → IsBlockSize bsize → number * 64 < n * bsize → number / (bsize / 64) < n
+place_in bsize n number (inl is) less = let l = in_place bsize n number less 512 is in rw is (omega arith)
+place_in bsize n number (inr (inl is)) less = let l = in_place bsize n number less 1024 is in rw is (omega arith)
+place_in bsize n number (inr (inr (inl is))) less = let l = in_place bsize n number less 2048 is in rw is (omega arith)
+place_in bsize n number (inr (inr (inr is))) less = let l = in_place bsize n number less 4096 is in rw is (omega arith)
+
+-- ---- a file
+
+pub pointer_is : (f : Format) → (pointer_size f ≡ 4) ⊎ (pointer_size f ≡ 12)
+pointer_is F = inl refl
+pointer_is V = inr refl
+
+fan_is : (bsize : ℕ) (f : Format) → bsize / pointer_size f ≡ fan_of bsize f
+fan_is bsize F = refl
+fan_is bsize V = refl
+
+form_is : (bsize total fan : ℕ) (f : Format) → fan ≡ fan_of bsize f → ◌≡◌ {A = Form} (record { fan = fan; stride = pointer_size f; last = total }) (form_of bsize total f)
+form_is bsize total fan f is = rw is refl
+
+levels_are : (place : Place) (e : Entry) → HasShape place.bsize e → levels (place.bsize / pointer_size e.format) e.blocks ≡ e.levels
+levels_are place e shape = ap (λ (fan : ℕ). levels fan e.blocks) (fan_is place.bsize e.format) ∙ sym shape.1
+
+file_tree_is : (place : Place) (image : Image) (holder : ℕ) (e : Entry) → HasShape place.bsize e → tree_at image (file_at place holder e) ≡ file_tree place image holder e
+file_tree_is place image holder e shape =
+    ap (λ (k : ℕ). tree (record { fan = place.bsize / pointer_size e.format; stride = pointer_size e.format; last = place.total }) image k None holder e.root e.blocks) (levels_are place e shape)
+    ∙ ap (λ (form : Form). tree form image e.levels None holder e.root e.blocks) (form_is place.bsize place.total (place.bsize / pointer_size e.format) e.format (fan_is place.bsize e.format))
+
+file_nodes_is : (place : Place) (image : Image) (holder : ℕ) (e : Entry) → HasShape place.bsize e → nodes_at image (file_at place holder e) ≡ file_nodes place image e
+file_nodes_is place image holder e shape =
+    ap (λ (k : ℕ). nodes (record { fan = place.bsize / pointer_size e.format; stride = pointer_size e.format; last = place.total }) image k e.root e.blocks) (levels_are place e shape)
+    ∙ ap (λ (form : Form). nodes form image e.levels e.root e.blocks) (form_is place.bsize place.total (place.bsize / pointer_size e.format) e.format (fan_is place.bsize e.format))
+
+pub file_read : (place : Place) (j : Journal) (holder : ℕ) (e : Entry) (at : TreeAt) (result : Result Walked OpenFault) → HasShape place.bsize e → at ≡ file_at place holder e
+    → ReadsTree (image_at j at) at result → ReadsFile place (image_of (contents_of j place.unit)) holder e result
+file_read place j holder e at result shape same read =
+    let image = image_of (contents_of j place.unit) in
+    go image result (subst (λ (x : TreeAt). ReadsTree (image_at j x) x result) same read)
+  where
+    go : (image : Image) (r : Result Walked OpenFault) → ReadsTree image (file_at place holder e) r → ReadsFile place image holder e r
+    go image (Ok walked) read = (sym (file_tree_is place image holder e shape) ∙ read.0, read.1 ∙ file_nodes_is place image holder e shape)
+    go image (Err why) read = subst (λ (t : Result Met OpenFault). IsFaultOf t why) (file_tree_is place image holder e shape) read
+
+-- ---- lists from a place on
+
+pub front_of : {A : Type 0} (all : List A) (k : ℕ) (e : A) → k < length all → e ≡ get_or all k e → drop k all ≡ e ∷ drop (k + 1) all
+front_of [] k e less is = absurd (omega arith)
+front_of {A = A} (x ∷ xs) zero e less is = ap (λ (y : A). y ∷ xs) (sym is)
+front_of (x ∷ xs) (suc k) e less is = let next : suc k + 1 ≡ suc (k + 1) = omega arith in rw next (front_of xs k e (omega arith) is)
+
+pub taken_next : {A : Type 0} (all : List A) (k : ℕ) (e : A) → k < length all → e ≡ get_or all k e → take (k + 1) all ≡ take k all ++ (e ∷ [])
+taken_next [] k e less is = absurd (omega arith)
+taken_next {A = A} (x ∷ xs) zero e less is = ap (λ (y : A). y ∷ []) (sym is)
+taken_next {A = A} (x ∷ xs) (suc k) e less is = let next : suc k + 1 ≡ suc (k + 1) = omega arith in rw next (ap (λ (l : List A). x ∷ l) (taken_next xs k e (omega arith) is))
+
+pub past_last : {A : Type 0} (all : List A) (k : ℕ) → length all ≤ k → drop k all ≡ []
+past_last [] zero le = refl
+past_last [] (suc k) le = refl
+past_last (x ∷ xs) zero le = absurd (omega arith)
+past_last (x ∷ xs) (suc k) le = past_last xs k (omega arith)
+
+pub all_taken : {A : Type 0} (all : List A) (k : ℕ) → length all ≤ k → take k all ≡ all
+all_taken [] zero le = refl
+all_taken [] (suc k) le = refl
+all_taken (x ∷ xs) zero le = absurd (omega arith)
+all_taken {A = A} (x ∷ xs) (suc k) le = ap (λ (l : List A). x ∷ l) (all_taken xs k (omega arith))
+
+pub behind_none : {A : Type 0} (r : Result (List A) OpenFault) → r ≡ behind [] r
+behind_none (Ok xs) = refl
+behind_none (Err e) = refl
+
+pub behind_more : {A : Type 0} (old : List A) (x : A) (r : Result (List A) OpenFault) → behind old (r >>= λ more. Ok (x ∷ more)) ≡ behind (old ++ (x ∷ [])) r
+behind_more old x (Ok more) = ap Ok (sym (append_assoc old (x ∷ []) more))
+behind_more old x (Err e) = refl
+
+-- ---- the files before a place
+
+pub record FilesTo (place : Place) (image : Image) (leaves : List ℕ) (entries : List Entry) (k : ℕ) (walks : List Walked) : Type 0 where
+  pub trees : file_trees place.bsize place.total image leaves 2 entries ≡ behind (map met_in walks) (file_trees place.bsize place.total image leaves (k + 2) (drop k entries))
+  pub nodes_are : map pointers_in walks ≡ map (file_nodes place image) (take k entries)
+
+pub files_first : (place : Place) (image : Image) (leaves : List ℕ) (entries : List Entry) → FilesTo place image leaves entries 0 []
+files_first place image leaves entries = record { trees = behind_none (file_trees place.bsize place.total image leaves 2 entries); nodes_are = refl }
+
+file_step : (place : Place) (image : Image) (leaves : List ℕ) (entries : List Entry) (k : ℕ) (e : Entry) → k < length entries → e ≡ get_or entries k e
+    → file_trees place.bsize place.total image leaves (k + 2) (drop k entries)
+    ≡ (file_tree place image (holder_of place.bsize leaves (k + 2)) e >>= λ met. file_trees place.bsize place.total image leaves (k + 1 + 2) (drop (k + 1) entries) >>= λ more. Ok (met ∷ more))
+unfolding file_trees
+file_step place image leaves entries k e less is =
+    let next : k + 2 + 1 ≡ k + 1 + 2 = omega arith in
+    ap (λ (l : List Entry). file_trees place.bsize place.total image leaves (k + 2) l) (front_of entries k e less is)
+    ∙ ap (λ (n : ℕ). file_tree place image (holder_of place.bsize leaves (k + 2)) e >>= λ met. file_trees place.bsize place.total image leaves n (drop (k + 1) entries) >>= λ more. Ok (met ∷ more)) next
+
+pub files_next : (place : Place) (image : Image) (leaves : List ℕ) (entries : List Entry) (k holder : ℕ) (e : Entry) (walks : List Walked) (walked : Walked) → k < length entries → e ≡ get_or entries k e
+    → holder ≡ holder_of place.bsize leaves (k + 2) → ReadsFile place image holder e (Ok walked) → FilesTo place image leaves entries k walks → FilesTo place image leaves entries (k + 1) (walks ++ (walked ∷ []))
+files_next place image leaves entries k holder e walks walked less is held read files =
+    let rest = file_trees place.bsize place.total image leaves (k + 1 + 2) (drop (k + 1) entries) in
+    let here : file_tree place image (holder_of place.bsize leaves (k + 2)) e ≡ Ok (met_in walked) = subst (λ (h : ℕ). file_tree place image h e ≡ Ok (met_in walked)) held read.0 in
+    let step = file_step place image leaves entries k e less is ∙ ap (λ (r : Result Met OpenFault). r >>= λ met. rest >>= λ more. Ok (met ∷ more)) here in
+    record {
+      trees = files.trees ∙ (ap (behind (map met_in walks)) step ∙ (behind_more (map met_in walks) (met_in walked) rest ∙ ap (λ (l : List Met). behind l rest) (sym (map-append met_in walks (walked ∷ [])))));
+      nodes_are =
+          map-append pointers_in walks (walked ∷ [])
+          ∙ (ap (λ (l : List (List ℕ)). l ++ (pointers_in walked ∷ [])) files.nodes_are
+          ∙ (ap (λ (n : List ℕ). map (file_nodes place image) (take k entries) ++ (n ∷ [])) read.1
+          ∙ (sym (map-append (file_nodes place image) (take k entries) (e ∷ [])) ∙ ap (map (file_nodes place image)) (sym (taken_next entries k e less is)))));
+    }
+
+pub files_bad : (place : Place) (image : Image) (leaves : List ℕ) (entries : List Entry) (k holder : ℕ) (e : Entry) (walks : List Walked) (why : OpenFault) → k < length entries → e ≡ get_or entries k e
+    → holder ≡ holder_of place.bsize leaves (k + 2) → IsFaultOf (file_tree place image holder e) why → FilesTo place image leaves entries k walks → IsFaultOf (file_trees place.bsize place.total image leaves 2 entries) why
+files_bad place image leaves entries k holder e walks why less is held bad files =
+    fault_passes (file_tree place image holder e) (file_trees place.bsize place.total image leaves 2 entries) why
+    (λ wrong fails.
+    let rest = file_trees place.bsize place.total image leaves (k + 1 + 2) (drop (k + 1) entries) in
+    let here : file_tree place image (holder_of place.bsize leaves (k + 2)) e ≡ Err wrong = subst (λ (h : ℕ). file_tree place image h e ≡ Err wrong) held fails in
+    let step = file_step place image leaves entries k e less is ∙ ap (λ (r : Result Met OpenFault). r >>= λ met. rest >>= λ more. Ok (met ∷ more)) here in
+    files.trees ∙ ap (behind (map met_in walks)) step)
+    bad
+
+pub files_last : (place : Place) (image : Image) (leaves : List ℕ) (entries : List Entry) (k : ℕ) (walks : List Walked) → length entries ≤ k → FilesTo place image leaves entries k walks → HasFiles place image leaves entries walks
+unfolding file_trees
+files_last place image leaves entries k walks past files = record {
+  trees = files.trees ∙ (ap (λ (l : List Entry). behind (map met_in walks) (file_trees place.bsize place.total image leaves (k + 2) l)) (past_last entries k past) ∙ ap Ok (append-nil (map met_in walks)));
+  nodes_are = files.nodes_are ∙ ap (map (file_nodes place image)) (all_taken entries k past);
+}
+
+-- ---- all blocks of some trees
+
+-- those of the trees before a place, behind others
+abbrev pub BlocksTo : List ℕ → List Walked → ℕ → List ℕ → Type 0
+BlocksTo first walks k blocks = first ++ blocks_of (map met_in walks) ≡ blocks ++ blocks_of (map met_in (drop k walks))
+
+pub blocks_next : (first : List ℕ) (walks : List Walked) (k : ℕ) (w : Walked) (blocks more : List ℕ) → k < length walks → w ≡ get_or walks k w → more ≡ w.blocks.items → BlocksTo first walks k blocks → BlocksTo first walks (k + 1) (blocks ++ more)
+unfolding blocks_of
+blocks_next first walks k w blocks more less is same to =
+    to
+    ∙ (ap (λ (l : List Walked). blocks ++ blocks_of (map met_in l)) (front_of walks k w less is)
+    ∙ (ap (λ (l : List ℕ). blocks ++ (l ++ blocks_of (map met_in (drop (k + 1) walks)))) (sym same) ∙ sym (append_assoc blocks more (blocks_of (map met_in (drop (k + 1) walks))))))
+
+pub blocks_last : (directory m : List ℕ) (walks : List Walked) (k : ℕ) (blocks : List ℕ) → length walks ≤ k → BlocksTo (directory ++ m) walks k blocks → blocks ≡ directory ++ (m ++ blocks_of (map met_in walks))
+unfolding blocks_of
+blocks_last directory m walks k blocks past to =
+    sym (append-nil blocks) ∙ (sym (ap (λ (l : List Walked). blocks ++ blocks_of (map met_in l)) (past_last walks k past)) ∙ (sym to ∙ append_assoc directory m (blocks_of (map met_in walks))))
+
+pub all_more : {X : Type 0} (P : X → Type 0) (xs : List X) (x : X) → All P xs → P x → All P (xs ++ (x ∷ []))
+all_more P xs x each is = All-append P xs (x ∷ []) each one
+  where
+    one : All P (x ∷ [])
+    one zero d less = is
+    one (suc k) d less = absurd (omega arith)
+
+pub counts_next : (entries : List Entry) (k : ℕ) (e : Entry) (walks : List Walked) (walked : Walked) → k < length entries → e ≡ get_or entries k e → length walked.leaves.items ≡ e.blocks
+    → HaveCounts (take k entries) walks → HaveCounts (take (k + 1) entries) (walks ++ (walked ∷ []))
+counts_next entries k e walks walked less is count counts =
+    map-append (λ (w : Walked). length w.leaves.items) walks (walked ∷ [])
+    ∙ (ap (λ (l : List ℕ). l ++ (length walked.leaves.items ∷ [])) counts
+    ∙ (ap (λ (n : ℕ). map (λ (x : Entry). x.blocks) (take k entries) ++ (n ∷ [])) count
+    ∙ (sym (map-append (λ (x : Entry). x.blocks) (take k entries) (e ∷ [])) ∙ ap (map (λ (x : Entry). x.blocks)) (sym (taken_next entries k e less is)))))
+
+pub counts_last : (entries : List Entry) (k : ℕ) (walks : List Walked) → length entries ≤ k → HaveCounts (take k entries) walks → HaveCounts entries walks
+counts_last entries k walks past counts = counts ∙ ap (map (λ (x : Entry). x.blocks)) (all_taken entries k past)

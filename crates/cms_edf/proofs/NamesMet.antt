@@ -1,0 +1,97 @@
+-- Names that were met, kept in a set.
+use Rattle.std.proofs.Common.{◌≡◌, ⊎_elim, ℕ, zero, suc, ◌+◌, ◌<◌, ◌≤◌, Bool, true, false, if◌then◌else◌, List, [], ◌∷◌, length, drop, get_or, Some, None, refl, sym, ◌∙◌, ap, arith}
+use Rattle.std.specs.Prelude.{◌==◌, ◌&&◌, ◌||◌}
+use Rattle.std.specs.Str.{bytes_eq}
+use Rattle.std.specs.List.{list_any}
+use Rattle.std.proofs.lemmas.Bool.{cases_Bool, eqb-true, eq-eqb}
+use Rattle.cms_names.specs.declared.name.Name.{Name}
+use Rattle.cms_fields.specs.declared.entry.Entry.{Entry}
+use Rattle.cms_model.specs.Lists.{same}
+use Rattle.cms_model.specs.Minidisks.{same_name, is_named}
+use Rattle.cms_model.specs.Volumes.{first_twice}
+
+-- the test of a set of names
+abbrev pub same_as : Name → Name → Bool
+same_as a b = bytes_eq a.file b.file && bytes_eq a.kind b.kind
+
+bytes_same : (xs ys : List ℕ) → bytes_eq xs ys ≡ same xs ys
+unfolding same
+bytes_same [] [] = refl
+bytes_same [] (y ∷ ys) = refl
+bytes_same (x ∷ xs) [] = refl
+bytes_same (x ∷ xs) (y ∷ ys) = ap (λ (b : Bool). (x == y) && b) (bytes_same xs ys)
+
+eq_back : (x y : ℕ) → (x == y) ≡ true → (y == x) ≡ true
+eq_back x y e = eq-eqb y x (sym (eqb-true x y e))
+
+eq_sym : (x y : ℕ) → (x == y) ≡ (y == x)
+eq_sym x y = ⊎_elim
+    (λ (e : (x == y) ≡ true). e ∙ sym (eq_back x y e))
+    (λ (e : (x == y) ≡ false). ⊎_elim (λ (f : (y == x) ≡ true). eq_back y x f ∙ sym f) (λ (f : (y == x) ≡ false). e ∙ sym f) (cases_Bool (y == x)))
+    (cases_Bool (x == y))
+
+same_sym : (xs ys : List ℕ) → same xs ys ≡ same ys xs
+unfolding same
+same_sym [] [] = refl
+same_sym [] (y ∷ ys) = refl
+same_sym (x ∷ xs) [] = refl
+same_sym (x ∷ xs) (y ∷ ys) = ap (λ (b : Bool). b && same xs ys) (eq_sym x y) ∙ ap (λ (b : Bool). (y == x) && b) (same_sym xs ys)
+
+-- a name against one that is put in
+same_back : (k q : Name) → same_as k q ≡ same_name q k
+unfolding same_name
+same_back k q =
+    ap (λ (b : Bool). b && bytes_eq k.kind q.kind) (bytes_same k.file q.file ∙ same_sym k.file q.file)
+    ∙ ap (λ (b : Bool). same q.file k.file && b) (bytes_same k.kind q.kind ∙ same_sym k.kind q.kind)
+
+-- the set has those that were met, and what is left is looked at behind them
+pub record Names (keys : List Name) (place : ℕ) (left all : List Entry) : Type 0 where
+  pub before : List Name
+  pub told : (q : Name) → list_any (same_as q) keys ≡ is_named q before
+  pub first : first_twice (place + 2) before left ≡ first_twice 2 [] all
+
+pub names_first : (keys : List Name) (all : List Entry) → keys ≡ [] → Names keys 0 (drop 0 all) all
+unfolding is_named
+names_first keys all none = record { before = []; told = λ q. ap (λ (l : List Name). list_any (same_as q) l) none; first = refl }
+
+front_at : (all : List Entry) (k : ℕ) (e : Entry) → k < length all → e ≡ get_or all k e → drop k all ≡ e ∷ drop (suc k) all
+front_at [] k e less is = absurd (omega arith)
+front_at (x ∷ xs) zero e less is = ap (λ (y : Entry). y ∷ xs) (sym is)
+front_at (x ∷ xs) (suc k) e less is = front_at xs k e (omega arith) is
+
+front_of : (all : List Entry) (k : ℕ) (e : Entry) → k < length all → e ≡ get_or all k e → drop k all ≡ e ∷ drop (k + 1) all
+front_of all k e less is = let next : k + 1 ≡ suc k = omega arith in rw next (front_at all k e less is)
+
+pub names_again : (keys : List Name) (all : List Entry) (k : ℕ) (e : Entry) → k < length all → e ≡ get_or all k e → list_any (same_as e.name) keys ≡ true → Names keys k (drop k all) all → Some (k + 2) ≡ first_twice 2 [] all
+unfolding first_twice
+names_again keys all k e less is met n =
+    let h : is_named e.name n.before ≡ true = sym (n.told e.name) ∙ met in
+    let here : first_twice (k + 2) n.before (e ∷ drop (k + 1) all) ≡ Some (k + 2) = rw h refl in
+    sym here ∙ (ap (λ (l : List Entry). first_twice (k + 2) n.before l) (sym (front_of all k e less is)) ∙ n.first)
+
+pub names_next : (keys keys' : List Name) (all : List Entry) (k : ℕ) (e : Entry) → k < length all → e ≡ get_or all k e → list_any (same_as e.name) keys ≡ false
+    → ((q : Name) → list_any (same_as q) keys' ≡ (if same_as e.name q then true else list_any (same_as q) keys)) → Names keys k (drop k all) all → Names keys' (k + 1) (drop (k + 1) all) all
+unfolding first_twice is_named
+names_next keys keys' all k e less is met put n =
+    let h : is_named e.name n.before ≡ false = sym (n.told e.name) ∙ met in
+    let next : k + 2 + 1 ≡ k + 1 + 2 = omega arith in
+    let here : first_twice (k + 2) n.before (e ∷ drop (k + 1) all) ≡ first_twice (k + 2 + 1) (e.name ∷ n.before) (drop (k + 1) all) = rw h refl in
+    record {
+      before = e.name ∷ n.before;
+      told = λ q. put q ∙ (either (same_as e.name q) (list_any (same_as q) keys) ∙ (ap (λ (b : Bool). b || list_any (same_as q) keys) (same_back e.name q) ∙ ap (λ (b : Bool). same_name q e.name || b) (n.told q)));
+      first = ap (λ (m : ℕ). first_twice m (e.name ∷ n.before) (drop (k + 1) all)) (sym next) ∙ (sym here ∙ (ap (λ (l : List Entry). first_twice (k + 2) n.before l) (sym (front_of all k e less is)) ∙ n.first));
+    }
+  where
+    either : (a b : Bool) → (if a then true else b) ≡ (a || b)
+    either true b = refl
+    either false b = refl
+
+past_last : (all : List Entry) (k : ℕ) → length all ≤ k → drop k all ≡ []
+past_last [] zero le = refl
+past_last [] (suc k) le = refl
+past_last (x ∷ xs) zero le = absurd (omega arith)
+past_last (x ∷ xs) (suc k) le = past_last xs k (omega arith)
+
+pub names_last : (keys : List Name) (all : List Entry) (k : ℕ) → length all ≤ k → Names keys k (drop k all) all → None ≡ first_twice 2 [] all
+unfolding first_twice
+names_last keys all k past n = ap (λ (l : List Entry). first_twice (k + 2) n.before l) (sym (past_last all k past)) ∙ n.first

@@ -1,0 +1,224 @@
+-- The records of files, read one file after another.
+use Rattle.std.proofs.Common.{◌≡◌, ℕ, zero, suc, ◌+◌, ◌*◌, ◌<◌, ◌≤◌, List, [], ◌∷◌, ◌++◌, length, take, drop, map, get_or, slice_index, Option, Some, Result, Ok, Err, refl, sym, ◌∙◌, ap, subst, arith, append-nil, length-append}
+use Rattle.std.specs.Prelude.{IfOk, IfErr}
+use Rattle.cms_journal.specs.Journal.{Journal}
+use Rattle.cms_names.specs.declared.name.Format.{Format}
+use Rattle.cms_names.specs.declared.name.Format.TheVariants.{F, V}
+use Rattle.cms_fields.specs.Steps.{◌>>=◌}
+use Rattle.cms_fields.specs.declared.entry.Entry.{Entry}
+use Rattle.cms_model.specs.Lists.{cut}
+use Rattle.cms_model.specs.Trees.{Image, bytes_at}
+use Rattle.cms_model.specs.Records.{varying, records_of}
+use Rattle.cms_model.specs.Volumes.{blamed, contents_in}
+use Rattle.cms_model.specs.declared.fault.VarFault.{VarFault}
+use Rattle.cms_model.specs.declared.fault.OpenFault.{OpenFault}
+use Rattle.cms_model.specs.declared.fault.OpenFault.TheVariants as failed
+use Rattle.cms_records.specs.declared.sizes.VarSizes.{VarSizes}
+use Rattle.cms_records.specs.Scans.{Scan, IsFed, sizes_in, sizes_of}
+use Rattle.cms_tree.specs.declared.types.Walked.{Walked}
+use Rattle.cms_edf.specs.Opening.{IsFaultOf, HeldFile}
+use Rattle.cms_edf.specs.OpeningSteps.{met_in, behind}
+use Rattle.cms_edf.specs.EntryShapes.{AreFew, HasSize}
+use Rattle.cms_edf.specs.OpeningFiles.{records_in, AreSized, HasRecords, told_file, told_files, HasContents, HaveCounts}
+use Rattle.cms_edf.proofs.Faults.{fault_is, fault_passes}
+use Rattle.cms_edf.proofs.Gathered.{Reads, reads_first, reads_next, reads_last}
+use Rattle.cms_edf.proofs.FileTrees.{front_of, taken_next, past_last, all_taken, behind_none, behind_more}
+
+-- ---- the blocks of a file
+
+-- the blocks before a place were taken
+pub record Takes (image : Image) (leaves : List ℕ) (k count : ℕ) (scan : Scan) : Type 0 where
+  pub before : List ℕ
+  pub reads : Reads image leaves k before
+  pub fed : IsFed count before scan
+
+pub takes_first : (image : Image) (leaves : List ℕ) (count : ℕ) (scan : Scan) → IsFed count [] scan → Takes image leaves 0 count scan
+takes_first image leaves count scan fed = record { before = []; reads = reads_first image leaves; fed = fed }
+
+pub takes_next : (image : Image) (leaves : List ℕ) (k count : ℕ) (scan scan' : Scan) (block : List ℕ) → k < length leaves → block ≡ image (slice_index leaves k)
+    → ((count : ℕ) (bytes : List ℕ) → IsFed count bytes scan → IsFed count (bytes ++ block) scan') → Takes image leaves k count scan → Takes image leaves (k + 1) count scan'
+takes_next image leaves k count scan scan' block less is grows t = record { before = t.before ++ block; reads = reads_next image leaves k t.before block less is t.reads; fed = grows count t.before t.fed }
+
+pub takes_bad : (image : Image) (leaves : List ℕ) (k count number bsize : ℕ) (scan : Scan) (block : List ℕ) (why : OpenFault) → k < length leaves → block ≡ image (slice_index leaves k) → scan.bsize ≡ bsize
+    → ((count : ℕ) (bytes rest : List ℕ) → IsFed count bytes scan → blamed (failed.Var number) (sizes_in scan.bsize count ((bytes ++ block) ++ rest)) ≡ Err why)
+    → Takes image leaves k count scan → IsFaultOf (blamed (failed.Var number) (sizes_in bsize count (bytes_at image leaves))) why
+takes_bad image leaves k count number bsize scan block why less is size bad t =
+    let all : bytes_at image leaves ≡ (t.before ++ block) ++ bytes_at image (drop (k + 1) leaves) = reads_next image leaves k t.before block less is t.reads in
+    fault_is (blamed (failed.Var number) (sizes_in bsize count (bytes_at image leaves))) why
+    (ap (λ (bytes : List ℕ). blamed (failed.Var number) (sizes_in bsize count bytes)) all
+    ∙ (ap (λ (b : ℕ). blamed (failed.Var number) (sizes_in b count ((t.before ++ block) ++ bytes_at image (drop (k + 1) leaves)))) (sym size) ∙ bad count t.before (bytes_at image (drop (k + 1) leaves)) t.fed))
+
+pub takes_last : (image : Image) (leaves : List ℕ) (k count number bsize : ℕ) (scan : Scan) (result : Result VarSizes OpenFault) → length leaves ≤ k → scan.bsize ≡ bsize
+    → ((count : ℕ) (bytes : List ℕ) → IsFed count bytes scan → result ≡ blamed (failed.Var number) (sizes_in scan.bsize count bytes))
+    → Takes image leaves k count scan → result ≡ blamed (failed.Var number) (sizes_in bsize count (bytes_at image leaves))
+takes_last image leaves k count number bsize scan result past size is t =
+    is count t.before t.fed
+    ∙ (ap (λ (b : ℕ). blamed (failed.Var number) (sizes_in b count t.before)) size ∙ ap (λ (bytes : List ℕ). blamed (failed.Var number) (sizes_in bsize count bytes)) (reads_last image leaves k t.before past t.reads))
+
+pub when_ok : {A : Type 0} (r : Result A OpenFault) (told : Option Journal) (whole : Journal → Result A OpenFault) → ((j : Journal) → told ≡ Some j → r ≡ whole j) → IfOk r (λ x. (j : Journal) → told ≡ Some j → whole j ≡ Ok x)
+when_ok (Ok x) told whole is = λ j is_told. sym (is j is_told)
+when_ok (Err e) told whole is = tt
+
+pub when_err : {A : Type 0} (r : Result A OpenFault) (told : Option Journal) (whole : Journal → Result A OpenFault) → ((j : Journal) → told ≡ Some j → r ≡ whole j) → IfErr r (λ why. (j : Journal) → told ≡ Some j → IsFaultOf (whole j) why)
+when_err (Ok x) told whole is = tt
+when_err (Err e) told whole is = λ j is_told. fault_is (whole j) e (sym (is j is_told))
+
+pub room_left : (k n b most : ℕ) → k < n → n * b ≤ most → b * k + b ≤ most
+room_left k n b most less fits = grind arith
+
+-- ---- one file
+
+pub fixed_few : (bsize : ℕ) (e : Entry) → HasSize bsize e → e.format ≡ F → e.count * e.length ≤ 67108864
+fixed_few bsize e size is = subst (λ (f : Format). AreFew f bsize e) is size
+
+pub varying_few : (bsize : ℕ) (e : Entry) (n : ℕ) → HasSize bsize e → e.format ≡ V → n ≡ e.blocks → n * bsize ≤ 67108864
+varying_few bsize e n size is count = let few : e.blocks * bsize ≤ 67108864 = subst (λ (f : Format). AreFew f bsize e) is size in rw count few
+
+pub fixed_has : (bsize : ℕ) (image : Image) (number : ℕ) (e : Entry) (leaves : List ℕ) (sizes : VarSizes) → e.format ≡ F → sizes.longest ≡ e.length → sizes.stored ≡ e.count * e.length → HasRecords bsize image number e leaves sizes
+unfolding records_of
+fixed_has bsize image number e leaves sizes is long stored =
+    record { records = cut e.count e.length (bytes_at image leaves); are = rw is refl; sized = rw is (long, stored) }
+
+told_varying : (number : ℕ) (read : Result (List (List ℕ)) VarFault) (sizes : VarSizes) → blamed (failed.Var number) (read >>= λ records. Ok (sizes_of records)) ≡ Ok sizes
+    → (records : List (List ℕ)) × (blamed (failed.Var number) read ≡ Ok records) × (sizes_of records ≡ sizes)
+told_varying number (Ok records) sizes is = (records, refl, cc is)
+told_varying number (Err e) sizes is = absurd (cc is)
+
+pub varying_has : (bsize : ℕ) (image : Image) (number : ℕ) (e : Entry) (leaves : List ℕ) (sizes : VarSizes) → e.format ≡ V → blamed (failed.Var number) (sizes_in bsize e.count (bytes_at image leaves)) ≡ Ok sizes → HasRecords bsize image number e leaves sizes
+unfolding records_of
+varying_has bsize image number e leaves sizes is read =
+    let t = told_varying number (varying bsize e.count 0 (bytes_at image leaves)) sizes read in
+    let same = t.2 in
+    record { records = t.0; are = rw is t.1; sized = rw is (sym (ap (λ (s : VarSizes). s.longest) same), sym (ap (λ (s : VarSizes). s.stored) same)) }
+
+told_fault : (number : ℕ) (read : Result (List (List ℕ)) VarFault) (e : OpenFault) → blamed (failed.Var number) (read >>= λ records. Ok (sizes_of records)) ≡ Err e → blamed (failed.Var number) read ≡ Err e
+told_fault number (Ok records) e is = absurd (cc is)
+told_fault number (Err k) e is = cc is
+
+pub varying_bad : (bsize : ℕ) (image : Image) (number : ℕ) (e : Entry) (leaves : List ℕ) (why : OpenFault) → e.format ≡ V → IsFaultOf (blamed (failed.Var number) (sizes_in bsize e.count (bytes_at image leaves))) why
+    → IsFaultOf (records_in bsize image number e leaves) why
+unfolding records_of
+varying_bad bsize image number e leaves why is bad =
+    fault_passes (blamed (failed.Var number) (sizes_in bsize e.count (bytes_at image leaves))) (records_in bsize image number e leaves) why
+    (λ k fails. rw is (told_fault number (varying bsize e.count 0 (bytes_at image leaves)) k fails)) bad
+
+-- ---- the files before a place
+
+pub record ContentsTo (bsize : ℕ) (image : Image) (entries : List Entry) (walks : List Walked) (k : ℕ) (files : List HeldFile) : Type 0 where
+  pub contents : List (List (List ℕ))
+  pub many : length contents ≡ k
+  pub are : contents_in bsize image 2 entries (map met_in walks) ≡ behind contents (contents_in bsize image (k + 2) (drop k entries) (map met_in (drop k walks)))
+  pub files_are : files ≡ told_files (take k entries) (take k walks) contents
+
+pub contents_first : (bsize : ℕ) (image : Image) (entries : List Entry) (walks : List Walked) → ContentsTo bsize image entries walks 0 []
+unfolding told_files
+contents_first bsize image entries walks = record { contents = []; many = refl; are = behind_none (contents_in bsize image 2 entries (map met_in walks)); files_are = refl }
+
+told_more : (es : List Entry) (ws : List Walked) (cs : List (List (List ℕ))) (e : Entry) (w : Walked) (c : List (List ℕ)) → length ws ≡ length es → length cs ≡ length es
+    → told_files (es ++ (e ∷ [])) (ws ++ (w ∷ [])) (cs ++ (c ∷ [])) ≡ told_files es ws cs ++ (told_file e w c ∷ [])
+unfolding told_files
+told_more [] [] [] e w c a b = refl
+told_more [] [] (x ∷ cs) e w c a b = absurd (omega arith)
+told_more [] (x ∷ ws) cs e w c a b = absurd (omega arith)
+told_more (x ∷ es) [] cs e w c a b = absurd (omega arith)
+told_more (x ∷ es) (y ∷ ws) [] e w c a b = absurd (omega arith)
+told_more (x ∷ es) (y ∷ ws) (z ∷ cs) e w c a b = ap (λ (l : List HeldFile). told_file x y z ∷ l) (told_more es ws cs e w c (omega arith) (omega arith))
+
+taken_long : {A : Type 0} (xs : List A) (k : ℕ) → k ≤ length xs → length (take k xs) ≡ k
+taken_long [] zero le = refl
+taken_long [] (suc k) le = absurd (omega arith)
+taken_long (x ∷ xs) zero le = refl
+taken_long (x ∷ xs) (suc k) le = ap suc (taken_long xs k (omega arith))
+
+contents_step : (bsize : ℕ) (image : Image) (entries : List Entry) (walks : List Walked) (k : ℕ) (e : Entry) (w : Walked) → k < length entries → e ≡ get_or entries k e → k < length walks → w ≡ get_or walks k w
+    → contents_in bsize image (k + 2) (drop k entries) (map met_in (drop k walks))
+    ≡ (records_in bsize image (k + 2) e w.leaves.items >>= λ records. contents_in bsize image (k + 1 + 2) (drop (k + 1) entries) (map met_in (drop (k + 1) walks)) >>= λ more. Ok (records ∷ more))
+unfolding contents_in
+contents_step bsize image entries walks k e w less is less' is' =
+    let next : k + 2 + 1 ≡ k + 1 + 2 = omega arith in
+    ap (λ (l : List Entry). contents_in bsize image (k + 2) l (map met_in (drop k walks))) (front_of entries k e less is)
+    ∙ (ap (λ (l : List Walked). contents_in bsize image (k + 2) (e ∷ drop (k + 1) entries) (map met_in l)) (front_of walks k w less' is')
+    ∙ ap (λ (n : ℕ). records_in bsize image (k + 2) e w.leaves.items >>= λ records. contents_in bsize image n (drop (k + 1) entries) (map met_in (drop (k + 1) walks)) >>= λ more. Ok (records ∷ more)) next)
+
+-- a file as it is made
+abbrev pub made : Entry → Walked → VarSizes → HeldFile
+made e w sizes = record { entry = e; tree = record { leaves = w.leaves.items; pointers = w.pointers.items }; length = sizes.longest; size = sizes.stored }
+
+held_as : (e : Entry) (w : Walked) (records : List (List ℕ)) (sizes : VarSizes) (file : HeldFile) → AreSized e records sizes → file ≡ made e w sizes → file ≡ told_file e w records
+held_as e w records sizes file sized is = is ∙ (ap (λ (n : ℕ). record { entry = e; tree = record { leaves = w.leaves.items; pointers = w.pointers.items }; length = n; size = sizes.stored }) sized.0
+    ∙ ap (λ (n : ℕ). record (told_file e w records) { size = n }) sized.1)
+
+pub contents_next : (bsize : ℕ) (image : Image) (entries : List Entry) (walks : List Walked) (k number : ℕ) (e : Entry) (w : Walked) (leaves : List ℕ) (sizes : VarSizes) (files : List HeldFile) (file : HeldFile)
+    → k < length entries → e ≡ get_or entries k e → k < length walks → w ≡ get_or walks k w → number ≡ k + 2 → leaves ≡ w.leaves.items → file ≡ made e w sizes
+    → HasRecords bsize image number e leaves sizes → ContentsTo bsize image entries walks k files → ContentsTo bsize image entries walks (k + 1) (files ++ (file ∷ []))
+contents_next bsize image entries walks k number e w leaves sizes files file less is less' is' numbered same made_so has to =
+    let rest = contents_in bsize image (k + 1 + 2) (drop (k + 1) entries) (map met_in (drop (k + 1) walks)) in
+    let here : records_in bsize image (k + 2) e w.leaves.items ≡ Ok has.records = subst (λ (l : List ℕ). records_in bsize image (k + 2) e l ≡ Ok has.records) same (subst (λ (n : ℕ). records_in bsize image n e leaves ≡ Ok has.records) numbered has.are) in
+    let step = contents_step bsize image entries walks k e w less is less' is' ∙ ap (λ (r : Result (List (List ℕ)) OpenFault). r >>= λ records. rest >>= λ more. Ok (records ∷ more)) here in
+    let es = taken_long entries k (omega arith) in
+    let ws = taken_long walks k (omega arith) in
+    let cs = to.many in
+    record {
+      contents = to.contents ++ (has.records ∷ []);
+      many = length-append to.contents (has.records ∷ []) ∙ omega (arith, cs);
+      are = to.are ∙ (ap (behind to.contents) step ∙ behind_more to.contents has.records rest);
+      files_are =
+          ap (λ (l : List HeldFile). l ++ (file ∷ [])) to.files_are
+          ∙ (ap (λ (f : HeldFile). told_files (take k entries) (take k walks) to.contents ++ (f ∷ [])) (held_as e w has.records sizes file has.sized made_so)
+          ∙ (sym (told_more (take k entries) (take k walks) to.contents e w has.records (omega (arith, es, ws)) (omega (arith, es, cs)))
+          ∙ (ap (λ (l : List Entry). told_files l (take k walks ++ (w ∷ [])) (to.contents ++ (has.records ∷ []))) (sym (taken_next entries k e less is))
+          ∙ ap (λ (l : List Walked). told_files (take (k + 1) entries) l (to.contents ++ (has.records ∷ []))) (sym (taken_next walks k w less' is')))));
+    }
+
+pub contents_bad : (bsize : ℕ) (image : Image) (entries : List Entry) (walks : List Walked) (k number : ℕ) (e : Entry) (w : Walked) (leaves : List ℕ) (files : List HeldFile) (why : OpenFault)
+    → k < length entries → e ≡ get_or entries k e → k < length walks → w ≡ get_or walks k w → number ≡ k + 2 → leaves ≡ w.leaves.items → IsFaultOf (records_in bsize image number e leaves) why
+    → ContentsTo bsize image entries walks k files → IsFaultOf (contents_in bsize image 2 entries (map met_in walks)) why
+contents_bad bsize image entries walks k number e w leaves files why less is less' is' numbered same bad to =
+    let rest = contents_in bsize image (k + 1 + 2) (drop (k + 1) entries) (map met_in (drop (k + 1) walks)) in
+    fault_passes (records_in bsize image number e leaves) (contents_in bsize image 2 entries (map met_in walks)) why
+    (λ wrong fails.
+    let here : records_in bsize image (k + 2) e w.leaves.items ≡ Err wrong = subst (λ (l : List ℕ). records_in bsize image (k + 2) e l ≡ Err wrong) same (subst (λ (n : ℕ). records_in bsize image n e leaves ≡ Err wrong) numbered fails) in
+    let step = contents_step bsize image entries walks k e w less is less' is' ∙ ap (λ (r : Result (List (List ℕ)) OpenFault). r >>= λ records. rest >>= λ more. Ok (records ∷ more)) here in
+    to.are ∙ ap (behind to.contents) step)
+    bad
+
+pub contents_last : (bsize : ℕ) (image : Image) (entries : List Entry) (walks : List Walked) (k : ℕ) (files : List HeldFile) → length entries ≤ k → length walks ≤ k
+    → ContentsTo bsize image entries walks k files → HasContents bsize image entries walks files
+unfolding contents_in
+contents_last bsize image entries walks k files past past' to = record {
+  contents = to.contents;
+  are = to.are ∙ (ap (λ (l : List Entry). behind to.contents (contents_in bsize image (k + 2) l (map met_in (drop k walks)))) (past_last entries k past) ∙ ap Ok (append-nil to.contents));
+  files_are = to.files_are ∙ (ap (λ (l : List Entry). told_files l (take k walks) to.contents) (all_taken entries k past) ∙ ap (λ (l : List Walked). told_files entries l to.contents) (all_taken walks k past'));
+}
+
+-- the data blocks of a tree by its entry
+pub count_at : (entries : List Entry) (walks : List Walked) (k : ℕ) (e : Entry) (w : Walked) → HaveCounts entries walks → k < length entries → k < length walks → e ≡ get_or entries k e → w ≡ get_or walks k w → length w.leaves.items ≡ e.blocks
+count_at [] walks k e w counts less less' is is' = absurd (omega arith)
+count_at (x ∷ es) [] k e w counts less less' is is' = absurd (omega arith)
+count_at (x ∷ es) (y ∷ ws) zero e w counts less less' is is' = rw (is, is') (heads counts)
+  where
+    heads : {a b : ℕ} {xs ys : List ℕ} → a ∷ xs ≡ b ∷ ys → a ≡ b
+    heads same = cc same
+count_at (x ∷ es) (y ∷ ws) (suc k) e w counts less less' is is' = count_at es ws k e w (tails counts) (omega arith) (omega arith) is is'
+  where
+    tails : {a b : ℕ} {xs ys : List ℕ} → a ∷ xs ≡ b ∷ ys → xs ≡ ys
+    tails same = cc same
+
+-- a tree that is taken from the front of what is left
+pub taken_is : {A : Type 0} (before : List A) (x : A) (rest all : List A) → before ++ (x ∷ rest) ≡ all → (length before < length all) × (x ≡ get_or all (length before) x)
+taken_is {A = A} before x rest all is = subst (λ (l : List A). (length before < length l) × (x ≡ get_or l (length before) x)) is (less before, at before)
+  where
+    less : (b : List A) → length b < length (b ++ (x ∷ rest))
+    less b = let long = length-append b (x ∷ rest) in omega arith
+
+    at : (b : List A) → x ≡ get_or (b ++ (x ∷ rest)) (length b) x
+    at [] = refl
+    at (y ∷ ys) = at ys
+
+pub ok_maps : {A : Type 0} (r : Result A OpenFault) (P Q : A → Type 0) → ((x : A) → P x → Q x) → IfOk r P → IfOk r Q
+ok_maps (Ok x) P Q maps p = maps x p
+ok_maps (Err e) P Q maps p = tt
+
+pub err_maps : {A : Type 0} (r : Result A OpenFault) (P Q : OpenFault → Type 0) → ((e : OpenFault) → P e → Q e) → IfErr r P → IfErr r Q
+err_maps (Ok x) P Q maps p = tt
+err_maps (Err e) P Q maps p = maps e p

@@ -1,0 +1,125 @@
+use Rattle.std.proofs.Common.{rules, ◌≡◌, ◌++◌, ◌∷◌, [], ◌+◌, ◌<◌, ℕ, List, None, length, get_or, refl, sym, ◌∙◌, ap, subst, arith, append_assoc, append-nil}
+use Rattle.std.specs.Vec.Iter.{into_iter_items}
+use Rattle.std.proofs.lemmas.List.{length_push}
+use Rattle.std.proofs.lemmas.Result.{err_from_is_err_and}
+use Rattle.cms_journal.specs.Journal.{contents_of}
+use Rattle.cms_fields.specs.declared.entry.Entry.{Entry}
+use Rattle.cms_model.specs.Trees.{image_of}
+use Rattle.cms_tree.specs.Walks.{IsWithin}
+use Rattle.cms_tree.specs.declared.types.Walked.{Walked}
+use Rattle.cms_edf.proofs.RecordsRead.{ContentsTo, contents_first, contents_next, contents_bad, contents_last, count_at, taken_is}
+use Rattle.cms_edf.proofs.TreesRead.{plain_block}
+use Rattle.cms_edf.proofs.contents.read_contents.Goals as goal
+
+nothing_left : {X : Type 0} (l : List X) → length l ≡ 0 → l ≡ []
+nothing_left [] h = refl
+nothing_left (x ∷ xs) h = absurd (omega arith)
+
+index_at : (entries : List Entry) (nth k : ℕ) (e : Entry) → nth ≡ k → e ≡ get_or entries nth e → e ≡ get_or entries k e
+index_at entries nth k e same is = subst (λ (n : ℕ). e ≡ get_or entries n e) same is
+
+less_at : (nth k n : ℕ) → k < n → (trees entries : ℕ) → n ≡ trees → trees ≡ entries → k < entries
+less_at nth k n less trees entries a b = omega arith
+
+pub loop-tree-init : goal.loop-tree-init
+loop-tree-init g c = record {
+  trees = refl;
+  len = search rules;
+  many = search rules;
+  contents = λ j told. rw c.new-files.ensures.items (contents_first c.args.place.now.bsize (image_of (contents_of j c.args.place.now.unit)) c.args.entries.now (into_iter_items c.into_iter-tree-iterator.result));
+  told = refl;
+  faults = omega arith;
+  edges = refl;
+}
+
+pub read_sizes-requires-clause-count : goal.read_sizes-requires-clause-count
+read_sizes-requires-clause-count g c =
+    let l = c.loop-tree in
+    let k = length l.yielded in
+    let gives = c.into_iter-tree-iterator.ensures.into_iter_gives.0 in
+    let steps : into_iter_items l.tree-iterator ≡ c.in-Some.tree ∷ into_iter_items c.next.new.self = c.in-Some.ensures.steps.0 in
+    let item = taken_is l.yielded c.in-Some.tree (into_iter_items c.next.new.self) c.args.trees.items (ap (λ (r : List Walked). l.yielded ++ r) (sym steps) ∙ (l.invariant.trees ∙ gives)) in
+    let many = l.invariant.many in
+    let nth : c.len-nth.result ≡ k = search rules in
+    let count = c.requires.count in
+    let leaves : c.deref.result.now ≡ c.in-Some.tree.leaves.items = search rules in
+    ap length leaves ∙ count_at c.args.entries.now c.args.trees.items k c.index-entries-nth.result c.in-Some.tree c.requires.counts (omega (arith, item.0, count)) item.0 (index_at c.args.entries.now c.len-nth.result k c.index-entries-nth.result nth c.index-entries-nth.is) item.1
+
+pub read_sizes-requires-clause-blocks : goal.read_sizes-requires-clause-blocks
+read_sizes-requires-clause-blocks g c = λ j told at less.
+    let l = c.loop-tree in
+    let k = length l.yielded in
+    let gives = c.into_iter-tree-iterator.ensures.into_iter_gives.0 in
+    let steps : into_iter_items l.tree-iterator ≡ c.in-Some.tree ∷ into_iter_items c.next.new.self = c.in-Some.ensures.steps.0 in
+    let item = taken_is l.yielded c.in-Some.tree (into_iter_items c.next.new.self) c.args.trees.items (ap (λ (r : List Walked). l.yielded ++ r) (sym steps) ∙ (l.invariant.trees ∙ gives)) in
+    let leaves : c.deref.result.now ≡ c.in-Some.tree.leaves.items = search rules in
+    let within : IsWithin c.args.place.now.total None c.in-Some.tree = subst (IsWithin c.args.place.now.total None) (sym item.1) (c.requires.within k c.in-Some.tree item.0) in
+    plain_block j c.args.place.now.unit c.args.place.now.total c.args.place.now.bsize c.in-Some.tree c.deref.result.now at leaves less within (c.requires.blocks j (sym l.invariant.told ∙ told))
+
+pub returns-in_err-sizes-clause-fault : goal.returns-in_err-sizes-clause-fault
+returns-in_err-sizes-clause-fault g c =
+    let l = c.loop-tree in
+    let a = c.args in
+    let k = length l.yielded in
+    let p = err_from_is_err_and c.from_residual.result c.from_residual.ensures.1 in
+    let gives = c.into_iter-tree-iterator.ensures.into_iter_gives.0 in
+    let steps : into_iter_items l.tree-iterator ≡ c.in-Some.tree ∷ into_iter_items c.next.new.self = c.in-Some.ensures.steps.0 in
+    let item = taken_is l.yielded c.in-Some.tree (into_iter_items c.next.new.self) a.trees.items (ap (λ (r : List Walked). l.yielded ++ r) (sym steps) ∙ (l.invariant.trees ∙ gives)) in
+    let nth : c.len-nth.result ≡ k = search rules in
+    let count = c.requires.count in
+    let leaves : c.deref.result.now ≡ c.in-Some.tree.leaves.items = search rules in
+    rw (p.1, p.2) (λ j told.
+    let image = image_of (contents_of j a.place.now.unit) in
+    contents_bad a.place.now.bsize image a.entries.now a.trees.items k (c.len-nth.result + 2) c.index-entries-nth.result c.in-Some.tree c.deref.result.now l.files.items c.in_err-sizes.field-0.0
+    (omega (arith, item.0, count)) (index_at a.entries.now c.len-nth.result k c.index-entries-nth.result nth c.index-entries-nth.is) item.0 item.1 (omega (arith, nth)) leaves
+    (c.in_err-sizes.ensures.fault j (l.invariant.told ∙ told))
+    (subst (λ (ws : List Walked). ContentsTo a.place.now.bsize image a.entries.now ws k l.files.items) gives (l.invariant.contents j told)))
+
+pub loop-tree-preserved : goal.loop-tree-preserved
+loop-tree-preserved g c =
+    let l = c.loop-tree in
+    let a = c.args in
+    let k = length l.yielded in
+    let gives = c.into_iter-tree-iterator.ensures.into_iter_gives.0 in
+    let steps : into_iter_items l.tree-iterator ≡ c.in-Some.tree ∷ into_iter_items c.next.new.self = c.in-Some.ensures.steps.0 in
+    let item = taken_is l.yielded c.in-Some.tree (into_iter_items c.next.new.self) a.trees.items (ap (λ (r : List Walked). l.yielded ++ r) (sym steps) ∙ (l.invariant.trees ∙ gives)) in
+    let nth : c.len-nth.result ≡ k = search rules in
+    let count = c.requires.count in
+    let many = l.invariant.many in
+    let leaves : c.deref.result.now ≡ c.in-Some.tree.leaves.items = search rules in
+    let one : length (l.yielded ++ (c.in-Some.tree ∷ [])) ≡ k + 1 = length_push l.yielded c.in-Some.tree in
+    let grown : c.push.new.files.items ≡ l.files.items ++ (c.file_of.result ∷ []) = search rules in
+    let was = l.invariant.len in
+    let gone = c.in-Some.ensures.steps.1 in
+    let short = ap length steps in
+    record {
+      trees = append_assoc l.yielded (c.in-Some.tree ∷ []) _ ∙ rw (← steps) l.invariant.trees;
+      len = omega arith;
+      many = rw (grown, one) (length_push l.files.items c.file_of.result ∙ ap (λ (n : ℕ). n + 1) many);
+      contents = λ j told.
+          let image = image_of (contents_of j a.place.now.unit) in
+          rw (grown, one)
+          (subst (λ (ws : List Walked). ContentsTo a.place.now.bsize image a.entries.now ws (k + 1) (l.files.items ++ (c.file_of.result ∷ []))) (sym gives)
+          (contents_next a.place.now.bsize image a.entries.now a.trees.items k (c.len-nth.result + 2) c.index-entries-nth.result c.in-Some.tree c.deref.result.now c.in_ok-sizes.sizes l.files.items c.file_of.result
+          (omega (arith, item.0, count)) (index_at a.entries.now c.len-nth.result k c.index-entries-nth.result nth c.index-entries-nth.is) item.0 item.1 (omega (arith, nth)) leaves c.file_of.ensures
+          (c.in_ok-sizes.ensures.read j (l.invariant.told ∙ told))
+          (subst (λ (ws : List Walked). ContentsTo a.place.now.bsize image a.entries.now ws k l.files.items) gives (l.invariant.contents j told))));
+      told = c.in_ok-sizes.ensures.told ∙ l.invariant.told;
+      faults = omega (arith, c.in_ok-sizes.ensures.faults, l.invariant.faults);
+      edges = c.in_ok-sizes.ensures.edges ∙ l.invariant.edges;
+    }
+
+pub returns-clause-read : goal.returns-clause-read
+returns-clause-read g c = λ j told.
+    let l = c.loop-tree in
+    let a = c.args in
+    let k = length l.yielded in
+    let image = image_of (contents_of j a.place.now.unit) in
+    let gives = c.into_iter-tree-iterator.ensures.into_iter_gives.0 in
+    let none = c.in-None.ensures.steps in
+    let empty : into_iter_items l.tree-iterator ≡ [] = nothing_left _ (sym l.invariant.len ∙ none.0) in
+    let all : l.yielded ≡ a.trees.items = sym (append-nil l.yielded) ∙ (ap (λ (r : List Walked). l.yielded ++ r) (sym empty) ∙ (l.invariant.trees ∙ gives)) in
+    let long = ap length all in
+    let count = c.requires.count in
+    contents_last a.place.now.bsize image a.entries.now a.trees.items k l.files.items (omega (arith, long, count)) (omega (arith, long))
+    (subst (λ (ws : List Walked). ContentsTo a.place.now.bsize image a.entries.now ws k l.files.items) gives (l.invariant.contents j told))

@@ -1,0 +1,91 @@
+// The label and the files' entries of any volume.
+ghost use Rattle.std.specs.Prelude.{◌≡◌, ◌⊎◌, ◌≤◌, ◌<◌, ◌+◌, ◌*◌, ◌++◌, ◌∷◌, ◌^◌, [], ℕ, true, length, take, IfOk, IfErr, OnOk};
+ghost use Rattle.cms_fields.specs.Labels.{label_of};
+ghost use Rattle.cms_fields.specs.Entries.{entry_of};
+ghost use Rattle.cms_model.specs.Lists.{cut};
+ghost use Rattle.cms_model.specs.Volumes.{blamed, entries_of, first_twice};
+ghost use Rattle.cms_model.specs.declared.fault.OpenFault.TheVariants as failed;
+ghost use Rattle.cms_edf.specs.Opening.{IsFaultOf};
+
+use crate::blocks::after;
+use cms_fields::{Entry, Label, read_entry, read_label};
+use cms_journal::BlockSize;
+use cms_model::OpenFault;
+use cms_names::Name;
+use std::alloc::{AllocError, Global};
+use std::collections::HashSet;
+
+/// The label that the bytes spell.
+pub fn label_of(bytes: &[u8], bsize: BlockSize, blocks: u32) -> Result<Label, OpenFault>
+    requires { 80 ≤ length bytes.now }
+    ensures is { result ≡ blamed failed.Label (label_of bsize blocks bytes.now) }
+    ensures origin { IfOk result (λ label. (label.origin ≡ 4) ⊎ (label.origin ≡ 5)) }
+    ensures within { IfOk result (λ label. (6 ≤ label.blocks) × (label.blocks ≤ blocks)) }
+    ensures device { IfErr result (λ e. e ≡ failed.Device → ⊥) }
+{
+    match read_label(bytes, bsize, blocks) {
+        Ok(label) => Ok(label),
+        Err(fault) => Err(OpenFault::Label(fault)),
+    }
+}
+
+// The entry of a number that the first 64 bytes spell.
+fn entry_at(bsize: BlockSize, number: u32, bytes: &[u8]) -> Result<Entry, OpenFault>
+    requires long { 64 ≤ length bytes.now }
+    ensures is { result ≡ blamed (failed.Entry number) (entry_of bsize (take 64 bytes.now)) }
+    ensures device { IfErr result (λ e. e ≡ failed.Device → ⊥) }
+{
+    match read_entry(&bytes[..64], bsize) {
+        Ok(entry) => Ok(entry),
+        Err(fault) => Err(OpenFault::Entry(number, fault)),
+    }
+}
+
+// Appends an entry.
+fn push(entries: &mut Vec<Entry>, entry: Entry) -> Result<(), OpenFault>
+    ensures ok { OnOk result (entries.new.items ≡ entries.old.items ++ (entry ∷ [])) }
+    ensures fault { IfErr result (λ e. e ≡ failed.Memory) }
+{
+    match entries.push(entry) {
+        Ok(()) => Ok(()),
+        Err(_) => Err(OpenFault::Memory),
+    }
+}
+
+/// So many entries, the first of them with number 2.
+pub fn entries_of(
+    alloc: Global,
+    bsize: BlockSize,
+    count: u32,
+    bytes: &[u8],
+) -> Result<Vec<Entry>, OpenFault>
+    requires long { count * 64 ≤ length bytes.now }
+    requires few { count ≤ 16384 }
+    ensures count { IfOk result (λ v. length v.items ≡ count) }
+    ensures entries { IfOk result (λ v. entries_of bsize 2 (cut count 64 bytes.now) ≡ Ok v.items) }
+    ensures fault { IfErr result (IsFaultOf (entries_of bsize 2 (cut count 64 bytes.now))) }
+    ensures device { IfErr result (λ e. e ≡ failed.Device → ⊥) }
+{
+    let mut entries = Vec::new(alloc);
+    for place in 0..count {
+        let entry = entry_at(bsize, place + 2, after(bytes, place as usize * 64))?;
+        push(&mut entries, entry)?;
+    }
+    Ok(entries)
+}
+
+/// The number of the first entry whose name stands before it, where the first has number 2.
+pub fn name_twice(alloc: Global, entries: &[Entry]) -> Result<Option<u32>, AllocError>
+    requires { length entries.now ≤ 16384 }
+    ensures { IfOk result (λ first. first ≡ first_twice 2 [] entries.now) }
+{
+    let mut names: HashSet<Name> = HashSet::new(alloc);
+    for place in 0..entries.len() {
+        match names.insert(entries[place].name) {
+            Ok(true) => {}
+            Ok(false) => return Ok(Some(place as u32 + 2)),
+            Err(_) => return Err(AllocError),
+        }
+    }
+    Ok(None)
+}

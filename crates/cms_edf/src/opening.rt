@@ -1,0 +1,113 @@
+// Any volume is opened.
+ghost use Rattle.std.specs.Prelude.{◌≡◌, ◌⊎◌, ◌≤◌, ◌<◌, IfOk, IfErr};
+ghost use Rattle.std.specs.Option.{ForSome};
+ghost use Rattle.cms_journal.specs.Causes.{Rose};
+ghost use Rattle.cms_journal.specs.Journal.{HasBlocks, contents_of};
+ghost use Rattle.cms_model.specs.Trees.{image_of};
+ghost use Rattle.cms_model.specs.declared.fault.OpenFault.TheVariants.{Device};
+ghost use Rattle.cms_edf.specs.Opening.{IsFaultOf, AnswersOpening};
+ghost use Rattle.cms_edf.specs.OpeningFiles.{HasVolume, behind_label};
+ghost use Rattle.cms_edf.specs.OpeningSteps.{OfImage};
+
+use crate::contents::read_contents;
+use crate::entries::label_of;
+use crate::held::{Held, TreeBlocks};
+use crate::open::{Place, read_listing};
+use crate::small::LABEL;
+use crate::trees::block_of;
+use crate::volume::{read_marks, read_trees};
+use cms_fields::{Label, LabelFault};
+use cms_journal::BlockSize;
+use cms_model::OpenFault;
+use cms_tree::Walked;
+use cms_world::{Unit, World};
+use std::alloc::Global;
+
+// The blocks of a tree that was read, but for their joint order.
+fn held(walked: Walked) -> TreeBlocks
+    ensures { result ≡ record { leaves = walked.leaves.items; pointers = walked.pointers.items } }
+{
+    TreeBlocks {
+        leaves: walked.leaves,
+        pointers: walked.pointers,
+    }
+}
+
+// Where the volume of a label stands.
+fn place_of(unit: &Unit, bsize: BlockSize, label: &Label) -> Place
+    ensures { result ≡ record { unit = unit.now.number; bsize = bsize; total = label.now.blocks; origin = label.now.origin } }
+{
+    Place {
+        unit: unit.number,
+        bsize,
+        total: label.blocks,
+        origin: label.origin,
+    }
+}
+
+// The volume behind its label.
+fn open_labelled<W: World>(
+    alloc: Global,
+    world: &mut W,
+    unit: &Unit,
+    bsize: BlockSize,
+    label: Label,
+    label_bytes: Vec<u8>,
+) -> Result<Held, OpenFault>
+    requires origin { (label.origin ≡ 4) ⊎ (label.origin ≡ 5) }
+    requires total { 6 ≤ label.blocks }
+    requires within { label.blocks ≤ unit.now.blocks }
+    requires bytes { OfImage (W.told world.old) unit.now.number (λ image. label_bytes.items ≡ image 3) }
+    requires blocks { ForSome (W.told world.old) (λ j. HasBlocks j.units unit.now.number unit.now.blocks bsize) }
+    ensures read { IfOk result (λ held. OfImage (W.told world.old) unit.now.number (λ image.
+        HasVolume unit.now.number (record { bsize = bsize; count = unit.now.blocks }) image label held)) }
+    ensures fault { IfErr result (λ why. OfImage (W.told world.old) unit.now.number (λ image.
+        IsFaultOf (behind_label (record { bsize = bsize; count = unit.now.blocks }) image label) why)) }
+    ensures cause { IfErr result (λ e. e ≡ Device → Rose (W.faults world.old) (W.faults world.new)) }
+    ensures told { W.told world.new ≡ W.told world.old }
+    ensures faults { W.faults world.old ≤ W.faults world.new }
+    ensures edges { W.edges world.new ≡ W.edges world.old }
+{
+    let place = place_of(unit, bsize, &label);
+    let listing = read_listing(alloc, world, &place)?;
+    let trees = read_trees(alloc, world, &place, &listing)?;
+    let marks = read_marks(alloc, world, &place, &listing.walked, &trees)?;
+    let files = read_contents(alloc, world, &place, &listing.entries, trees.files)?;
+    Ok(Held {
+        unit: unit.number,
+        bsize,
+        blocks: unit.blocks,
+        label,
+        label_bytes,
+        directory: held(listing.walked),
+        map_tree: held(trees.map),
+        map: marks.map,
+        files,
+        lost: marks.lost,
+    })
+}
+
+/// Opens the volume on an attached unit, or answers the first test that fails, with
+/// its number, block or place. It reads the label, the directory, the map, all pointer blocks and the records of varying lengths,
+/// each block once, and nothing of fixed records.
+pub fn open_volume<W: World>(
+    alloc: Global,
+    world: &mut W,
+    unit: &Unit,
+    bsize: BlockSize,
+) -> Result<Held, OpenFault>
+    requires blocks { ForSome (W.told world.old) (λ j. HasBlocks j.units unit.now.number unit.now.blocks bsize) }
+    ensures answers { OfImage (W.told world.old) unit.now.number (λ image.
+        AnswersOpening unit.now.number (record { bsize = bsize; count = unit.now.blocks }) image result) }
+    ensures cause { IfErr result (λ e. e ≡ Device → Rose (W.faults world.old) (W.faults world.new)) }
+    ensures told { W.told world.new ≡ W.told world.old }
+    ensures faults { W.faults world.old ≤ W.faults world.new }
+    ensures edges { W.edges world.new ≡ W.edges world.old }
+{
+    if unit.blocks < 6 {
+        return Err(OpenFault::Label(LabelFault::Count));
+    }
+    let label_bytes = block_of(alloc, world, unit.number, LABEL, bsize)?;
+    let label = label_of(&label_bytes, bsize, unit.blocks)?;
+    open_labelled(alloc, world, unit, bsize, label, label_bytes)
+}

@@ -1,0 +1,170 @@
+// One record after another, of bytes that come in pieces.
+ghost use Rattle.std.specs.Prelude.{◌≡◌, ℕ, ◌+◌, ◌-◌, ◌≤◌, ◌++◌, [], Some, true, false, max, length, vec_capacity, take, drop, IfOk, IfErr, IfSome, OnOk, Ok, Err};
+ghost use Rattle.cms_fields.specs.Numbers.{half};
+ghost use Rattle.cms_records.specs.Pieces.{Begun, Takes, head_of, record_size, bytes_so_far, next_place, text_in};
+
+use crate::VarFault;
+use crate::varying::half_of;
+use std::alloc::{AllocError, Global};
+use std::marker::Model;
+
+/// What a piece gave.
+#[derive(Clone, Copy, Debug, PartialEq, Eq)]
+pub struct Fed {
+    /// the place in the piece behind the bytes that were taken
+    pub next: usize,
+    /// the record is whole
+    pub whole: bool,
+}
+
+/// A record that is read from pieces of a file's bytes. It holds no more than that record, with its length.
+#[derive(Drop)]
+pub struct RecordState {
+    fixed: Option<u32>,
+    longest: u32,
+    place: u32,
+    bytes: Vec<u8>,
+    whole: bool,
+}
+
+impl Model for RecordState {
+    ghost use Rattle.std.specs.Prelude.{◌≤◌, ◌<◌, ◌+◌, IfSome, length, vec_len, vec_capacity};
+    ghost use Rattle.cms_records.specs.Pieces.{Begun, IsPart, record_size};
+
+    ghost Value = { Begun };
+
+    ghost view = { λ s. record { fixed = s.fixed; longest = s.longest; place = s.place; bytes = s.bytes.items; whole = s.whole } };
+
+    ghost invariant = { λ s. IfSome s.fixed (λ n. (1 ≤ n) × (n ≤ s.longest)) × (s.longest ≤ 65535) × (vec_len s.bytes ≤ s.longest + 2)
+        × (s.longest + 2 ≤ vec_capacity s.bytes) × (s.place + length s.bytes.items ≤ 67108864)
+        × IsPart (record_size s.fixed s.longest s.place s.bytes.items) s.whole s.bytes.items };
+}
+
+impl RecordState {
+    /// Before the first byte of records of at most `longest` bytes, 65,535 at most: all of `fixed` bytes, or each behind its own
+    /// length.
+    pub fn new(alloc: Global, fixed: Option<u32>, longest: u32) -> Result<RecordState, AllocError>
+        requires fixed { IfSome fixed (λ n. (1 ≤ n) × (n ≤ longest)) }
+        requires longest { longest ≤ 65535 }
+        ensures { IfOk result (λ s. s ≡ record { fixed = fixed; longest = longest; place = 0; bytes = []; whole = false }) }
+    {
+        let bytes = Vec::with_capacity(alloc, longest as usize + 2)?;
+        Ok(RecordState {
+            fixed,
+            longest,
+            place: 0,
+            bytes,
+            whole: false,
+        })
+    }
+
+    /// Takes bytes of a piece from the place `from` on, until a record is whole or the piece ends: at most 67,108,864 in all. A
+    /// record that is whole is followed by a new one. `Zero` where a length is 0, `PastEnd` where it is above the longest, with the
+    /// place of the length's first byte among all bytes; the state isn't used again then. It takes no memory.
+    pub fn feed(&mut self, piece: &[u8], from: usize) -> Result<Fed, VarFault>
+        requires from { from ≤ length piece.now }
+        requires few { self.old.place + length self.old.bytes + length piece.now ≤ 67108864 + from }
+        ensures taken { IfOk result (λ fed. Takes self.old self.new (drop from piece.now) (fed.next - from) fed.whole) }
+        ensures next { IfOk result (λ fed. (from ≤ fed.next) × (fed.next ≤ length piece.now)) }
+        ensures fault { IfErr result (λ why. record_size self.old.fixed self.old.longest (next_place self.old)
+            (bytes_so_far self.old ++ drop from piece.now) ≡ Err why) }
+    {
+        self.begin();
+        let next = take(&mut self.bytes, piece, from, head_of(self.fixed));
+        let Some(size) = size_of(self.fixed, self.longest, self.place, &self.bytes)? else {
+            return Ok(Fed { next, whole: false });
+        };
+        let next = take(&mut self.bytes, piece, next, size as usize);
+        self.whole = self.bytes.len() == size as usize;
+        Ok(Fed {
+            next,
+            whole: self.whole,
+        })
+    }
+
+    /// The record that the last `feed` made whole, without its length.
+    pub fn text(&self) -> &[u8]
+        requires { self.now.whole ≡ true }
+        ensures { result.now ≡ text_in self.now.fixed self.now.bytes }
+    {
+        match self.fixed {
+            Some(_) => &self.bytes,
+            None => after(&self.bytes, 2),
+        }
+    }
+
+    // Behind a whole record a new one begins.
+    fn begin(&mut self)
+        ensures { self.new ≡ record {
+          fixed = self.old.fixed;
+          longest = self.old.longest;
+          place = next_place self.old;
+          bytes = bytes_so_far self.old;
+          whole = false;
+        } }
+    {
+        if self.whole {
+            self.place += self.bytes.len() as u32;
+            self.bytes.clear();
+            self.whole = false;
+        }
+    }
+}
+
+// How many bytes tell the size of a record.
+fn head_of(fixed: Option<u32>) -> usize
+    ensures { result ≡ head_of fixed }
+{
+    match fixed {
+        Some(size) => size as usize,
+        None => 2,
+    }
+}
+
+// How many bytes a record has that begins these, with those of its length, where that is there.
+fn size_of(
+    fixed: Option<u32>,
+    longest: u32,
+    place: u32,
+    bytes: &[u8],
+) -> Result<Option<u32>, VarFault>
+    requires { longest ≤ 65535 }
+    ensures { result ≡ record_size fixed longest place bytes.now }
+{
+    if let Some(size) = fixed {
+        return Ok(Some(size));
+    }
+    if bytes.len() < 2 {
+        return Ok(None);
+    }
+    let size = half_of(bytes);
+    if size < 1 {
+        return Err(VarFault::Zero(place));
+    }
+    if size > longest {
+        return Err(VarFault::PastEnd(place));
+    }
+    Ok(Some(2 + size))
+}
+
+// Takes bytes of a piece until there are so many, or the piece ends; the place behind them. There is room for them.
+fn take(bytes: &mut Vec<u8>, piece: &[u8], from: usize, until: usize) -> usize
+    requires from { from ≤ length piece.now }
+    requires room { until ≤ vec_capacity bytes.old }
+    ensures bytes { bytes.new.items ≡ take (max until (length bytes.old.items)) (bytes.old.items ++ drop from piece.now) }
+    ensures next { length bytes.old.items + (result - from) ≡ length bytes.new.items }
+    ensures within { (from ≤ result) × (result ≤ length piece.now) }
+    ensures capacity { vec_capacity bytes.old ≤ vec_capacity bytes.new }
+{
+    let end = piece.len().min(from + until.saturating_sub(bytes.len()));
+    bytes.extend_from_slice(&piece[from..end]).unwrap();
+    end
+}
+
+// The bytes from a place on.
+fn after(bytes: &[u8], at: usize) -> &[u8]
+    requires { at ≤ length bytes.now }
+    ensures { result.now ≡ drop at bytes.now }
+{
+    &bytes[at..]
+}
