@@ -7,7 +7,7 @@ use Rattle.std.proofs.lemmas.List.Elements.{All-head, All-tail}
 use Rattle.std.proofs.Math.Seq.{drop-append_seam, take-append_seam}
 use Rattle.byteorder.specs.Numbers.{big_number-reads_back}
 use Rattle.cms_names.specs.Names.{is_between}
-use Rattle.cms_fields.specs.Numbers.{word, byte}
+use Rattle.cms_text.specs.Bytes.{word, byte}
 use Rattle.cms_fields.specs.Stamps.{is_stamp, stamp_bytes}
 use Rattle.cms_fields.specs.Entries.{entry_of, entry_bytes, passes, length_fits, counts_fit, levels_fit}
 use Rattle.cms_fields.specs.declared.time.Stamp.{Stamp}

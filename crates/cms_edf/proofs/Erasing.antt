@@ -4,7 +4,7 @@ use Rattle.std.specs.Prelude.{nat_le, ◌==◌}
 use Rattle.std.proofs.lemmas.Bool.{cases_Bool, and_parts, and_from, le-leb, eqb-true, eq-eqb, cases_lt}
 use Rattle.std.proofs.lemmas.List.{get_or_default}
 use Rattle.cms_names.specs.Names.{is_between}
-use Rattle.cms_fields.specs.Numbers.{word}
+use Rattle.cms_text.specs.Bytes.{word}
 use Rattle.cms_fields.specs.Labels.{label_of, label_fields, with_label, is_origin, SpellsSame}
 use Rattle.cms_fields.specs.declared.label.Label.{Label}
 use Rattle.cms_fields.specs.declared.entry.Entry.{Entry}

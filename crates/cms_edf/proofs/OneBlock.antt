@@ -4,7 +4,8 @@ use Rattle.std.specs.Prelude.{nat_le, ◌==◌, ◌&&◌, ◌||◌}
 use Rattle.std.proofs.lemmas.Bool.{eqb-true, eq-eqb, leb-true, le-leb, and_parts, and_from, or_cases}
 use Rattle.std.proofs.Math.Nat.{pow-zero}
 use Rattle.cms_names.specs.Names.{is_between}
-use Rattle.cms_fields.specs.Numbers.{up, is_shape, word, byte}
+use Rattle.cms_text.specs.Bytes.{word, byte}
+use Rattle.cms_fields.specs.Numbers.{up, is_shape}
 use Rattle.cms_model.specs.Systems.{system_fields, is_system, is_directory, is_map}
 use Rattle.cms_model.proofs.Quotients.{up_unique, up_some, up_spec}
 use Rattle.cms_model.proofs.Shapes.{shape_needs}

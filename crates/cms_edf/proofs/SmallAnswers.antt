@@ -4,7 +4,7 @@ use Rattle.std.specs.Prelude.{nat_le, ◌==◌, ◌&&◌}
 use Rattle.std.proofs.lemmas.Bool.{cases_Bool, and_parts, and_from, leb-true, le-leb, eqb-true, eq-eqb}
 use Rattle.cms_names.specs.declared.name.Format.TheVariants.{F}
 use Rattle.cms_fields.specs.Steps.{◌>>=◌, ◌>>◌, want}
-use Rattle.cms_fields.specs.Numbers.{word}
+use Rattle.cms_text.specs.Bytes.{word}
 use Rattle.cms_fields.specs.Labels.{label_of}
 use Rattle.cms_fields.specs.declared.label.Label.{Label}
 use Rattle.cms_fields.specs.declared.entry.Entry.{Entry}

@@ -4,7 +4,7 @@ use Rattle.std.specs.Prelude.{nat_le, ◌&&◌}
 use Rattle.std.proofs.lemmas.Bool.{and_parts, and_from, leb-true, le-leb}
 use Rattle.std.proofs.lemmas.List.Elements.{All-nil, All-cons}
 use Rattle.cms_journal.specs.Journal.{IsBlockSize}
-use Rattle.cms_fields.specs.Numbers.{word, byte}
+use Rattle.cms_text.specs.Bytes.{word, byte}
 use Rattle.cms_fields.specs.Stamps.{has_stamp, are_packed, is_stamp, stamp_at}
 use Rattle.cms_fields.specs.Labels.{label_of}
 use Rattle.cms_fields.specs.Entries.{entry_of, entry_fields, passes, has_mode, length_fits, counts_fit, levels_fit}

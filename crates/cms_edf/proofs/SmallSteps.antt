@@ -6,7 +6,7 @@ use Rattle.std.proofs.lemmas.List.{take-append-drop}
 use Rattle.std.proofs.Math.Seq.{take-append_seam, drop-append_seam}
 use Rattle.cms_names.specs.Names.{is_between}
 use Rattle.cms_fields.specs.Steps.{◌>>=◌}
-use Rattle.cms_fields.specs.Numbers.{word}
+use Rattle.cms_text.specs.Bytes.{word}
 use Rattle.cms_fields.specs.Entries.{entry_of}
 use Rattle.cms_fields.specs.declared.entry.Entry.{Entry}
 use Rattle.cms_fields.specs.declared.label.Label.{Label}

@@ -2,7 +2,7 @@
 use Rattle.std.specs.Prelude.{◌≡◌, ◌++◌, ℕ, ◌*◌, ◌/◌, Bool, true, not, ◌&&◌, ◌==◌, nat_le, List, [], ◌∷◌, map, take, drop, is_none, Result, Ok, Err}
 use Rattle.cms_fields.specs.Steps.{◌>>=◌, ◌>>◌, want}
 use Rattle.cms_names.specs.Names.{is_between}
-use Rattle.cms_fields.specs.Numbers.{word, byte}
+use Rattle.cms_text.specs.Bytes.{word, byte}
 use Rattle.cms_fields.specs.Labels.{label_of}
 use Rattle.cms_fields.specs.Entries.{entry_of}
 use Rattle.cms_fields.specs.declared.label.Label.{Label}

@@ -4,7 +4,7 @@ use Rattle.cms_journal.specs.declared.event.Attached.{Attached}
 use Rattle.cms_journal.specs.Journal.{Journal, contents_of}
 use Rattle.cms_names.specs.declared.name.Name.{Name}
 use Rattle.cms_names.specs.Names.{filled}
-use Rattle.cms_fields.specs.Numbers.{word}
+use Rattle.cms_text.specs.Bytes.{word}
 use Rattle.cms_fields.specs.Labels.{label_of}
 use Rattle.cms_fields.specs.Entries.{entry_of, is_fixed}
 use Rattle.cms_fields.specs.declared.label.Label.{Label}

@@ -1,6 +1,6 @@
 // The directory of a small volume.
 ghost use Rattle.std.specs.Prelude.{◌≡◌, ◌≤◌, ◌+◌, ◌*◌, ◌-◌, ◌^◌, ◌<◌, ℕ, true, Ok, Err, List, length, take, drop, IfOk, IfErr, OnOk, MatchOption};
-ghost use Rattle.cms_fields.specs.Numbers.{word};
+ghost use Rattle.cms_text.specs.Bytes.{word};
 ghost use Rattle.cms_fields.specs.Entries.{is_fixed, entry_of};
 ghost use Rattle.cms_model.specs.Lists.{cut, same};
 ghost use Rattle.cms_model.specs.Minidisks.{same_name, is_named};
@@ -8,12 +8,13 @@ ghost use Rattle.cms_model.specs.Volumes.{first_twice};
 ghost use Rattle.cms_edf.specs.Small.{is_small_file};
 ghost use Rattle.cms_edf.specs.Reading.{is_one_block, is_small_directory, is_small_map, has_small_systems, NotSmall, small_entry, small_entries, small_files, map_root_in, roots, are_allowed, ReadsEntries, RefusesFiles};
 
-use crate::blocks::{after, word};
+use crate::blocks::after;
 use crate::map::have_places;
 use crate::small::SmallFault;
 use cms_fields::{Entry, Label, read_entry};
 use cms_journal::BlockSize;
 use cms_names::{Format, Name};
+use cms_text::bytes::word_at;
 use std::alloc::{AllocError, Global};
 
 /// Bytes of an entry.
@@ -28,7 +29,7 @@ fn is_one_block(size: u32, entry: &[u8]) -> bool
     requires { 64 ≤ length entry.now }
     ensures { result ≡ is_one_block size entry.now }
 {
-    entry[30] == FIXED && word(entry, 32) == size && word(entry, 44) == 1 && entry[52] == 0
+    entry[30] == FIXED && word_at(entry, 32) == size && word_at(entry, 44) == 1 && entry[52] == 0
 }
 
 // The directory's own entry, for a directory of one block at this origin.
@@ -37,10 +38,10 @@ fn is_small_directory(bsize: u32, origin: u32, entry: &[u8]) -> bool
     requires { 64 ≤ length entry.now }
     ensures { result ≡ is_small_directory bsize origin entry.now }
 {
-    let count = word(entry, 48);
+    let count = word_at(entry, 48);
     is_one_block(ENTRY_SIZE, entry)
         && (count >= 2 && count <= bsize / ENTRY_SIZE)
-        && word(entry, 40) == origin
+        && word_at(entry, 40) == origin
 }
 
 // The map's entry, for a map of one block.
@@ -49,7 +50,7 @@ fn is_small_map(bsize: u32, entry: &[u8]) -> bool
     requires { 64 ≤ length entry.now }
     ensures { result ≡ is_small_map bsize entry.now }
 {
-    is_one_block(bsize, entry) && word(entry, 48) == 1
+    is_one_block(bsize, entry) && word_at(entry, 48) == 1
 }
 
 // Directory and map have one block each.
@@ -189,7 +190,7 @@ pub fn small_files(
     if !has_small_systems(bsize.bytes(), label, directory) {
         return Err(SmallFault::NotBuilt);
     }
-    let count = word(directory, 48) - 2;
+    let count = word_at(directory, 48) - 2;
     let mut files = Vec::new(alloc);
     read_entries(bsize, count, after(directory, 128), &mut files)?;
     match first_twice(2, &mut Vec::new(alloc), &files) {
@@ -209,5 +210,5 @@ pub fn map_root(directory: &[u8]) -> u32
     requires { 128 ≤ length directory.now }
     ensures { result ≡ map_root_in directory.now }
 {
-    word(after(directory, 64), 40)
+    word_at(after(directory, 64), 40)
 }

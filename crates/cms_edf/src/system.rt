@@ -6,10 +6,10 @@ ghost use Rattle.cms_model.specs.Sizes.{levels};
 ghost use Rattle.cms_model.specs.declared.fault.OpenFault.TheVariants.{Device};
 ghost use Rattle.cms_model.specs.Systems.{system_fields, is_system, is_directory, is_map, directory_of, map_of};
 
-use crate::blocks::word;
 use crate::directory::{ENTRY_SIZE, FIXED};
 use cms_journal::BlockSize;
 use cms_model::OpenFault;
+use cms_text::bytes::word_at;
 use cms_tree::shape;
 use std::marker::Model;
 
@@ -37,9 +37,9 @@ fn system_fields(bytes: &[u8]) -> System
     ensures { result ≡ system_fields bytes.now }
 {
     System {
-        root: word(bytes, 40),
-        blocks: word(bytes, 44),
-        count: word(bytes, 48),
+        root: word_at(bytes, 40),
+        blocks: word_at(bytes, 44),
+        count: word_at(bytes, 48),
         levels: bytes[52],
     }
 }
@@ -66,10 +66,10 @@ fn is_system(bsize: u32, size: u32, bytes: &[u8]) -> bool
     ensures { result ≡ is_system bsize size bytes.now }
 {
     bytes[30] == FIXED
-        && word(bytes, 32) == size
-        && u64::from(word(bytes, 44))
-            == (u64::from(word(bytes, 48)) * u64::from(size)).div_ceil(u64::from(bsize))
-        && is_shape(bsize / 4, word(bytes, 44), bytes[52])
+        && word_at(bytes, 32) == size
+        && u64::from(word_at(bytes, 44))
+            == (u64::from(word_at(bytes, 48)) * u64::from(size)).div_ceil(u64::from(bsize))
+        && is_shape(bsize / 4, word_at(bytes, 44), bytes[52])
 }
 
 // The directory's own entry.
@@ -79,10 +79,10 @@ fn is_directory(bsize: u32, origin: u32, bytes: &[u8]) -> bool
     requires bsize { IsBlockSize bsize }
     ensures { result ≡ is_directory bsize origin bytes.now }
 {
-    let count = word(bytes, 48);
+    let count = word_at(bytes, 48);
     is_system(bsize, ENTRY_SIZE, bytes)
         && (count >= 2 && count <= 16_386)
-        && (bytes[52] >= 1 || word(bytes, 40) == origin)
+        && (bytes[52] >= 1 || word_at(bytes, 40) == origin)
 }
 
 // The map's entry, on a volume of so many blocks.
@@ -92,7 +92,7 @@ fn is_map(bsize: u32, total: u32, bytes: &[u8]) -> bool
     requires bsize { IsBlockSize bsize }
     ensures { result ≡ is_map bsize total bytes.now }
 {
-    is_system(bsize, bsize, bytes) && word(bytes, 48) == total.div_ceil(8).div_ceil(bsize)
+    is_system(bsize, bsize, bytes) && word_at(bytes, 48) == total.div_ceil(8).div_ceil(bsize)
 }
 
 /// The directory, by its own entry, whose first block is at `origin`.

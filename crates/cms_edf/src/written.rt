@@ -1,14 +1,12 @@
 // The directory of a small volume as it is written.
-ghost use Rattle.std.specs.Prelude.{◌≡◌, ◌+◌, ◌≤◌, ◌++◌, true, All, length, IfOk, OnOk};
-ghost use Rattle.byteorder.specs.Endian.{big_bytes};
-ghost use Rattle.cms_fields.specs.Numbers.{overwritten};
+ghost use Rattle.std.specs.Prelude.{◌≡◌, ◌++◌, true, All, length, IfOk, OnOk};
 ghost use Rattle.cms_fields.specs.Stamps.{is_stamp};
 ghost use Rattle.cms_edf.specs.Written.{CanWrite, ReadsBack, system_bytes, file_entries, directory_bytes, IsDirectoryOf};
 
 use crate::directory::{ENTRY_SIZE, FIXED};
 use crate::small::Small;
-use byteorder::{BigEndian, ByteOrder};
 use cms_fields::{Entry, Stamp, put_stamp, write_entry};
+use cms_text::bytes::{put, put_word};
 use std::alloc::{AllocError, Global};
 
 /// The number 1 and DIRECTOR.
@@ -33,24 +31,6 @@ struct SystemFile {
     size: u32,
     root: u32,
     count: u32,
-}
-
-// Writes a field at a place.
-fn put(into: &mut [u8], at: usize, field: &[u8])
-    requires { at + length field.now ≤ length into.old }
-    ensures { into.new ≡ overwritten at field.now into.old }
-{
-    into[at..at + field.len()].copy_from_slice(field);
-}
-
-// Writes a number into the four bytes at a place.
-fn put_word(into: &mut [u8], at: usize, number: u32)
-    requires { at + 4 ≤ length into.old }
-    ensures { into.new ≡ overwritten at (big_bytes 4 number) into.old }
-{
-    let mut field = [0; 4];
-    BigEndian::write_u32(&mut field, number);
-    put(into, at, &field);
 }
 
 // The entry of a system file.

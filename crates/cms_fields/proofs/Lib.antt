@@ -1,6 +1,5 @@
 pub mod Rows
 pub mod Shapes
-pub mod Overwriting
 pub mod WrittenLabel
 pub mod WrittenEntry
 pub mod Dates

@@ -9,7 +9,7 @@ use Rattle.byteorder.specs.Numbers.{big_number-reads_back}
 use Rattle.cms_names.specs.Names.{filled, is_part}
 use Rattle.cms_names.specs.declared.name.Format.{Format}
 use Rattle.cms_names.specs.declared.name.Format.TheVariants.{F, V}
-use Rattle.cms_fields.specs.Numbers.{word, byte}
+use Rattle.cms_text.specs.Bytes.{word, byte}
 use Rattle.cms_fields.specs.Stamps.{packed, unpacked, is_packed, stamp_bytes, stamp_at, are_packed, has_stamp, is_stamp}
 use Rattle.cms_fields.specs.Entries.{entry_of, entry_bytes, entry_table, filled_in, entry_fields, passes, has_name, has_mode, has_format, has_pointer_size, name_at, format_at, format_byte, pointer_size, length_fits, counts_fit, levels_fit, part_in}
 use Rattle.cms_fields.specs.declared.entry.Entry.{Entry}

@@ -5,12 +5,12 @@ use Rattle.std.proofs.lemmas.Bool.{le-leb, leb-true, eqb-true, eq-eqb, and_parts
 use Rattle.byteorder.specs.Endian.{big_bytes}
 use Rattle.cms_names.specs.Names.{is_between}
 use Rattle.cms_fields.specs.Steps.{◌>>◌, want}
-use Rattle.cms_fields.specs.Numbers.{word, overwritten}
+use Rattle.cms_text.specs.Bytes.{word, overwritten}
 use Rattle.cms_fields.specs.Labels.{label_of, label_fields, with_label, has_identifier, is_origin, SpellsSame}
 use Rattle.cms_fields.specs.declared.label.Label.{Label}
 use Rattle.cms_fields.specs.declared.label.LabelFault.{LabelFault}
 use Rattle.cms_fields.specs.declared.label.LabelFault.TheVariants.{Id, BlockSize, Origin, Count, EntrySize}
-use Rattle.cms_fields.proofs.Overwriting.{word_at, word_before, word_behind, field_at, field_before, length_over}
+use Rattle.cms_text.proofs.Overwriting.{word_at, word_before, word_behind, field_at, field_before, length_over}
 
 -- what a label's type says of its fields
 pub record IsLabel (l : Label) : Type 0 where

@@ -7,7 +7,8 @@ use Rattle.cms_names.specs.declared.name.Name.{Name}
 use Rattle.cms_names.specs.declared.name.Format.{Format}
 use Rattle.cms_names.specs.declared.name.Format.TheVariants.{F, V}
 use Rattle.cms_fields.specs.Steps.{◌>>◌, want}
-use Rattle.cms_fields.specs.Numbers.{word, byte, up, is_shape, overwritten}
+use Rattle.cms_text.specs.Bytes.{word, byte, overwritten}
+use Rattle.cms_fields.specs.Numbers.{up, is_shape}
 use Rattle.cms_fields.specs.Stamps.{stamp_at, has_stamp, is_stamp, stamp_bytes}
 use Rattle.cms_fields.specs.declared.entry.Entry.{Entry}
 use Rattle.cms_fields.specs.declared.entry.EntryFault as fault

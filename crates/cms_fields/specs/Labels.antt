@@ -3,7 +3,7 @@ use Rattle.std.specs.Prelude.{◌≡◌, ℕ, Bool, ◌==◌, ◌||◌, List, ta
 use Rattle.byteorder.specs.Endian.{big_bytes}
 use Rattle.cms_names.specs.Names.{is_between}
 use Rattle.cms_fields.specs.Steps.{◌>>◌, want}
-use Rattle.cms_fields.specs.Numbers.{word, overwritten}
+use Rattle.cms_text.specs.Bytes.{word, overwritten}
 use Rattle.cms_fields.specs.declared.label.Label.{Label}
 use Rattle.cms_fields.specs.declared.label.LabelFault.{LabelFault}
 use Rattle.cms_fields.specs.declared.label.LabelFault.TheVariants.{Id, BlockSize, Origin, Count, EntrySize}

@@ -1,7 +1,7 @@
 -- Stamps, and the six bytes that spell one.
 use Rattle.std.specs.Prelude.{ℕ, ◌+◌, ◌*◌, ◌/◌, ◌%◌, Bool, ◌==◌, ◌&&◌, ◌||◌, nat_le, nat_lt, if◌then◌else◌, List, [], ◌∷◌}
 use Rattle.cms_names.specs.Names.{is_between}
-use Rattle.cms_fields.specs.Numbers.{byte}
+use Rattle.cms_text.specs.Bytes.{byte}
 use Rattle.cms_fields.specs.declared.time.Stamp.{Stamp}
 
 -- the days of a month, in a leap year or not

@@ -1,10 +1,9 @@
 // An entry of a directory.
 ghost use Rattle.std.specs.Prelude.{◌≡◌, ℕ, ◌-◌, ◌≤◌, length, true, Ok};
-ghost use Rattle.cms_fields.specs.Numbers.{byte};
+ghost use Rattle.cms_text.specs.Bytes.{byte};
 ghost use Rattle.cms_fields.specs.Stamps.{is_stamp};
 ghost use Rattle.cms_fields.specs.Entries.{name_at, format_at, entry_of, entry_fields, entry_bytes, passes};
 
-use crate::bytes::{put, put_word, word};
 use crate::grammar::{
     counts_fit, format_byte, format_in, has_pointer_size, length_fits, levels_fit, mode_number_in,
     name_in, pointer_size,
@@ -13,6 +12,7 @@ use crate::packed::{has_stamp, packed_stamp, stamp_at};
 use crate::time::Stamp;
 use cms_journal::BlockSize;
 use cms_names::{Format, Name};
+use cms_text::bytes::{put, put_word, word_at};
 
 /// What an entry says of its file, by VM/SP's published description of the file status table; its
 /// layout is this product's own.
@@ -112,10 +112,10 @@ fn fields_in(bytes: &[u8], name: Name, number: u8, format: Format) -> Entry
         name,
         number,
         format,
-        length: word(bytes, 32),
-        root: word(bytes, 40),
-        blocks: word(bytes, 44),
-        count: word(bytes, 48),
+        length: word_at(bytes, 32),
+        root: word_at(bytes, 40),
+        blocks: word_at(bytes, 44),
+        count: word_at(bytes, 48),
         levels: bytes[52],
         stamp: stamp_at(bytes, DATE),
     }

@@ -1,7 +1,7 @@
 // The single tests of an entry, and the fields that they read.
 ghost use Rattle.std.specs.Prelude.{◌≡◌, ◌≤◌, ◌==◌, true, length, is_some, IfSome, ◌-◌};
 ghost use Rattle.std.specs.List.{list_all};
-ghost use Rattle.cms_fields.specs.Numbers.{byte};
+ghost use Rattle.cms_text.specs.Bytes.{byte};
 ghost use Rattle.cms_fields.specs.Entries.{part_in, is_part_field, has_name, name_at, has_mode, has_format, format_at, format_byte, fan_of, pointer_size, length_fits, counts_fit, levels_fit, has_pointer_size};
 
 use crate::entry::Entry;

@@ -3,8 +3,8 @@ ghost use Rattle.std.specs.Prelude.{◌≡◌, ℕ, ◌≤◌, Ok, length, true}
 ghost use Rattle.cms_names.specs.Names.{is_between};
 ghost use Rattle.cms_fields.specs.Labels.{label_fields, label_of, with_label, has_identifier, is_origin, SpellsSame};
 
-use crate::bytes::{put, put_word, word};
 use cms_journal::BlockSize;
+use cms_text::bytes::{put, put_word, word_at};
 
 /// What a label says of its volume, by VM/SP's published description of the CMS disk label; its
 /// place and layout are this product's own.
@@ -48,7 +48,7 @@ fn has_identifier(bytes: &[u8]) -> bool
     requires { 80 ≤ length bytes.now }
     ensures { result ≡ has_identifier bytes.now }
 {
-    word(bytes, 0) == IDENTIFIER
+    word_at(bytes, 0) == IDENTIFIER
 }
 
 #[tactic(auto, unfolding(crate::specs::Labels::is_origin))]
@@ -67,10 +67,10 @@ fn label_fields(bytes: &[u8]) -> Label
     volid.copy_from_slice(&bytes[4..10]);
     Label {
         volid,
-        bsize: word(bytes, 12),
-        origin: word(bytes, 16),
-        blocks: word(bytes, 28),
-        in_use: word(bytes, 32),
+        bsize: word_at(bytes, 12),
+        origin: word_at(bytes, 16),
+        blocks: word_at(bytes, 28),
+        in_use: word_at(bytes, 32),
     }
 }
 
@@ -94,7 +94,7 @@ pub fn read_label(bytes: &[u8], bsize: BlockSize, blocks: u32) -> Result<Label, 
     if label.blocks < 6 || label.blocks > blocks {
         return Err(LabelFault::Count);
     }
-    if word(bytes, 36) != ENTRY_SIZE {
+    if word_at(bytes, 36) != ENTRY_SIZE {
         return Err(LabelFault::EntrySize);
     }
     Ok(label)

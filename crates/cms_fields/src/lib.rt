@@ -2,7 +2,6 @@
 //! Numbers are big-endian, and texts are in EBCDIC code page 037.
 #![tactic(auto)]
 
-mod bytes;
 mod entry;
 mod grammar;
 mod label;

@@ -2,8 +2,8 @@
 ghost use Rattle.std.specs.Prelude.{◌≡◌, true, ◌+◌, ◌≤◌, ◌++◌, length, drop};
 ghost use Rattle.cms_fields.specs.Stamps.{is_stamp, is_packed, unpacked, packed, stamp_at, are_packed, has_stamp, stamp_bytes};
 
-use crate::bytes::put;
 use crate::time::Stamp;
+use cms_text::bytes::put;
 
 fn is_packed(byte: u8) -> bool
     ensures { result ≡ is_packed byte }

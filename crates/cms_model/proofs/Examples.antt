@@ -2,7 +2,7 @@
 use Rattle.std.proofs.Common.{◌≡◌, ℕ, if◌then◌else◌, List, [], ◌∷◌, true, false, Some, None, Ok, Err, refl}
 use Rattle.std.specs.Prelude.{◌==◌}
 use Rattle.cms_names.specs.declared.name.Format.TheVariants.{F, V}
-use Rattle.cms_fields.specs.Numbers.{word, half}
+use Rattle.cms_text.specs.Bytes.{word, half}
 use Rattle.cms_model.specs.Lists.{cut, holds, first_repeat}
 use Rattle.cms_model.specs.Trees.{Image, Form, pointers, is_allowed, tree}
 use Rattle.cms_model.specs.Records.{varying, records_of}

@@ -9,7 +9,8 @@ use Rattle.cms_journal.proofs.Sizes.{block_bounds}
 use Rattle.cms_names.specs.Names.{is_between}
 use Rattle.cms_names.specs.declared.name.Format.{Format}
 use Rattle.cms_names.specs.declared.name.Format.TheVariants.{F, V}
-use Rattle.cms_fields.specs.Numbers.{half, up}
+use Rattle.cms_text.specs.Bytes.{half}
+use Rattle.cms_fields.specs.Numbers.{up}
 use Rattle.cms_fields.specs.Entries.{is_fixed, fan_of, length_fits, counts_fit, levels_fit, entry_of}
 use Rattle.cms_fields.specs.declared.entry.Entry.{Entry}
 use Rattle.cms_fields.proofs.ReadEntry.{entry_is}

@@ -4,7 +4,8 @@ use Rattle.std.specs.Prelude.{nat_le, ◌==◌, ◌&&◌, ◌||◌}
 use Rattle.std.proofs.lemmas.Bool.{and_parts, eqb-true}
 use Rattle.cms_names.specs.Names.{is_between}
 use Rattle.cms_names.specs.declared.name.Format.TheVariants.{F}
-use Rattle.cms_fields.specs.Numbers.{word, byte, up, is_shape}
+use Rattle.cms_text.specs.Bytes.{word, byte}
+use Rattle.cms_fields.specs.Numbers.{up, is_shape}
 use Rattle.cms_model.specs.Lists.{In, cut, times}
 use Rattle.cms_model.specs.Trees.{Image, form_of, bytes_at}
 use Rattle.cms_model.specs.Maps.{lost_count}

@@ -5,7 +5,8 @@ use Rattle.std.proofs.lemmas.Bool.{cases_lt}
 use Rattle.std.proofs.lemmas.List.Elements.{All-head, All-tail}
 use Rattle.byteorder.specs.Endian.{big_bytes}
 use Rattle.byteorder.specs.Numbers.{big_number-reads_back, length-bytes_high_first}
-use Rattle.cms_fields.specs.Numbers.{word, up}
+use Rattle.cms_text.specs.Bytes.{word}
+use Rattle.cms_fields.specs.Numbers.{up}
 use Rattle.cms_model.specs.Trees.{children, pointers}
 use Rattle.cms_model.specs.LawsTrees.{Cell, cell_bytes, FitsCell}
 use Rattle.cms_model.proofs.Quotients.{up_spec, up_unique, up_zero}

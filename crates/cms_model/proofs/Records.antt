@@ -9,7 +9,7 @@ use Rattle.byteorder.specs.Endian.{big_bytes}
 use Rattle.byteorder.specs.Numbers.{big_number-reads_back, length-bytes_high_first}
 use Rattle.cms_names.specs.declared.name.Format.{Format}
 use Rattle.cms_names.specs.declared.name.Format.TheVariants.{F, V}
-use Rattle.cms_fields.specs.Numbers.{half}
+use Rattle.cms_text.specs.Bytes.{half}
 use Rattle.cms_model.specs.Lists.{cut}
 use Rattle.cms_model.specs.Sizes.{stored_size}
 use Rattle.cms_model.specs.Records.{with_length, stored, Fits, HoldRecords, varying, records_of, StandsFor}

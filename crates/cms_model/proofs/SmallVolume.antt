@@ -3,7 +3,7 @@ use Rattle.std.proofs.Common.{◌≡◌, ℕ, if◌then◌else◌, List, [], ◌
 use Rattle.std.specs.Prelude.{◌==◌}
 use Rattle.cms_names.specs.declared.name.Format.TheVariants.{F}
 use Rattle.cms_names.specs.Names.{is_name_character}
-use Rattle.cms_fields.specs.Numbers.{word}
+use Rattle.cms_text.specs.Bytes.{word}
 use Rattle.cms_fields.specs.Stamps.{is_stamp, stamp_at, has_stamp, are_packed, days_of_month}
 use Rattle.cms_fields.specs.Labels.{label_of, label_fields, has_identifier, is_origin}
 use Rattle.cms_fields.specs.Entries.{entry_of, entry_fields, name_at, format_at, is_part_field, has_name, has_mode, has_format, length_fits, counts_fit, levels_fit, has_pointer_size}

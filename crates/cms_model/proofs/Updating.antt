@@ -5,7 +5,7 @@ use Rattle.cms_journal.specs.declared.event.Event.{Event}
 use Rattle.cms_journal.specs.declared.event.Event.TheVariants.{Wrote, Synced}
 use Rattle.cms_journal.specs.Journal.{Journal, contents, contents_of, start_of}
 use Rattle.cms_journal.proofs.Steps.{crash_wrote, contents_wrote}
-use Rattle.cms_fields.specs.Numbers.{word}
+use Rattle.cms_text.specs.Bytes.{word}
 use Rattle.cms_fields.specs.Labels.{label_of, has_identifier}
 use Rattle.cms_fields.specs.declared.label.Label.{Label}
 use Rattle.cms_model.specs.Lists.{In}

@@ -5,7 +5,7 @@ use Rattle.byteorder.specs.Endian.{big_bytes}
 use Rattle.cms_names.specs.declared.name.Format.{Format}
 use Rattle.cms_names.specs.declared.name.Format.TheVariants.{F, V}
 use Rattle.cms_fields.specs.Steps.{◌>>=◌, ◌>>◌, want}
-use Rattle.cms_fields.specs.Numbers.{half}
+use Rattle.cms_text.specs.Bytes.{half}
 use Rattle.cms_fields.specs.Stamps.{is_stamp}
 use Rattle.cms_model.specs.Lists.{cut}
 use Rattle.cms_model.specs.declared.fault.VarFault.{VarFault}

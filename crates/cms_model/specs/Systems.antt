@@ -2,7 +2,8 @@
 use Rattle.std.specs.Prelude.{ℕ, ◌*◌, ◌/◌, Bool, ◌==◌, ◌&&◌, ◌||◌, nat_le, List, Result, Ok}
 use Rattle.cms_names.specs.Names.{is_between}
 use Rattle.cms_fields.specs.Steps.{◌>>◌, want}
-use Rattle.cms_fields.specs.Numbers.{word, byte, up, is_shape}
+use Rattle.cms_text.specs.Bytes.{word, byte}
+use Rattle.cms_fields.specs.Numbers.{up, is_shape}
 use Rattle.cms_model.specs.declared.fault.OpenFault.{OpenFault}
 use Rattle.cms_model.specs.declared.fault.OpenFault.TheVariants.{System}
 

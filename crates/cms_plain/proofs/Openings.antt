@@ -6,7 +6,8 @@ use Rattle.cms_names.specs.Names.{is_between}
 use Rattle.cms_names.specs.declared.name.Format.TheVariants.{F}
 use Rattle.cms_journal.specs.Journal.{IsBlockSize}
 use Rattle.cms_journal.proofs.Sizes.{block_bounds}
-use Rattle.cms_fields.specs.Numbers.{word, byte, up, is_shape}
+use Rattle.cms_text.specs.Bytes.{word, byte}
+use Rattle.cms_fields.specs.Numbers.{up, is_shape}
 use Rattle.cms_fields.specs.Labels.{label_of, label_fields, has_identifier, is_origin}
 use Rattle.cms_fields.specs.declared.label.Label.{Label}
 use Rattle.cms_fields.specs.declared.label.LabelFault.TheVariants as label_failed

@@ -1,6 +1,7 @@
 // Numbers and blocks in bytes. Bytes that aren't there are zeros.
 ghost use Rattle.std.specs.Prelude.{◌≡◌, ℕ, ◌+◌, ◌*◌, ◌^◌, ◌<◌, ◌≤◌, min, List, drop, length, slice_index, IfOk};
-ghost use Rattle.cms_fields.specs.Numbers.{word, half, byte, up, is_shape};
+ghost use Rattle.cms_text.specs.Bytes.{word, half, byte};
+ghost use Rattle.cms_fields.specs.Numbers.{up, is_shape};
 ghost use Rattle.cms_model.specs.Trees.{image_of, bytes_at};
 ghost use Rattle.cms_model.specs.Lists.{cut};
 
@@ -16,7 +17,7 @@ pub fn byte_at(bytes: &[u8], at: usize) -> u8
 }
 
 /// The number in the two bytes at a place, the higher first.
-#[tactic(auto, unfolding(cms_fields::specs::Numbers::half))]
+#[tactic(auto, unfolding(cms_text::specs::Bytes::half))]
 pub fn half_at(bytes: &[u8], at: usize) -> u16
     requires { at + 2 < 2 ^ 64 }
     ensures { result ≡ half bytes.now at }
@@ -25,7 +26,7 @@ pub fn half_at(bytes: &[u8], at: usize) -> u16
 }
 
 /// The number in the four bytes at a place, the highest first.
-#[tactic(auto, unfolding(cms_fields::specs::Numbers::word))]
+#[tactic(auto, unfolding(cms_text::specs::Bytes::word))]
 pub fn word_at(bytes: &[u8], at: usize) -> u32
     requires { at + 4 < 2 ^ 64 }
     ensures { result ≡ word bytes.now at }

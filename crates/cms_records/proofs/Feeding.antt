@@ -4,7 +4,7 @@ use Rattle.std.specs.Prelude.{max, nat_le, nat_lt, ◌==◌, IfSome}
 use Rattle.std.proofs.lemmas.List.{drop-drop, length-take-le}
 use Rattle.std.proofs.lemmas.Bool.{le-leb, lt-leb, leb-true, le-ltb, cases_Bool, eqb-true, eq-eqb}
 use Rattle.cms_fields.specs.Steps.{◌>>◌, want}
-use Rattle.cms_fields.specs.Numbers.{half}
+use Rattle.cms_text.specs.Bytes.{half}
 use Rattle.cms_model.specs.declared.fault.VarFault.{VarFault}
 use Rattle.cms_model.specs.declared.fault.VarFault.TheVariants.{Zero, PastEnd}
 use Rattle.cms_records.specs.Pieces.{Begun, next_place, bytes_so_far, record_size, IsPart}

@@ -5,7 +5,7 @@ use Rattle.std.specs.List.{concat}
 use Rattle.std.proofs.lemmas.List.{drop-drop, length-drop, length-take-le, get_or_append_left, get_or-append-add}
 use Rattle.std.proofs.lemmas.Bool.{le-leb, lt-leb, lt-ltb, le-ltb}
 use Rattle.cms_fields.specs.Steps.{◌>>=◌}
-use Rattle.cms_fields.specs.Numbers.{half}
+use Rattle.cms_text.specs.Bytes.{half}
 use Rattle.cms_model.specs.Records.{varying, longest, with_length}
 use Rattle.cms_model.specs.declared.fault.VarFault.{VarFault}
 use Rattle.cms_model.specs.declared.fault.VarFault.TheVariants.{Zero, PastEnd, Left}

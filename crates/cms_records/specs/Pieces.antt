@@ -1,7 +1,7 @@
 -- One record after another, of bytes that come in pieces.
 use Rattle.std.specs.Prelude.{◌≡◌, ℕ, ◌+◌, ◌≤◌, Bool, true, false, if◌then◌else◌, nat_le, nat_lt, List, [], ◌++◌, length, take, drop, Option, None, Some, Result, Ok, Err}
 use Rattle.cms_fields.specs.Steps.{◌>>◌, want}
-use Rattle.cms_fields.specs.Numbers.{half}
+use Rattle.cms_text.specs.Bytes.{half}
 use Rattle.cms_model.specs.declared.fault.VarFault.{VarFault}
 use Rattle.cms_model.specs.declared.fault.VarFault.TheVariants.{Zero, PastEnd}
 

@@ -1,7 +1,7 @@
 -- Records of varying lengths, whose bytes come in pieces.
 use Rattle.std.specs.Prelude.{◌≡◌, ◌⊎◌, ℕ, ◌+◌, ◌≤◌, ◌<◌, max, List, ◌++◌, length, drop, map, slice_index, Option, None, Some, Result, Ok, ⊤}
 use Rattle.cms_fields.specs.Steps.{◌>>=◌}
-use Rattle.cms_fields.specs.Numbers.{half}
+use Rattle.cms_text.specs.Bytes.{half}
 use Rattle.std.specs.List.{concat}
 use Rattle.cms_model.specs.Records.{varying, longest, with_length}
 use Rattle.cms_model.specs.declared.fault.VarFault.{VarFault}

@@ -1,6 +1,6 @@
 // Records of varying lengths, checked as their bytes come.
 ghost use Rattle.std.specs.Prelude.{◌≡◌, ◌⊎◌, ℕ, List, Option, ◌+◌, ◌*◌, ◌≤◌, ◌<◌, ◌++◌, [], None, Some, true, false, length, drop, slice_index, IfOk, IfErr, IfNone, IfSome, OnOk, Ok, Err};
-ghost use Rattle.cms_fields.specs.Numbers.{half};
+ghost use Rattle.cms_text.specs.Bytes.{half};
 ghost use Rattle.cms_records.specs.Scans.{Scan, sizes_in, Holds, Passes, IsCut, IsFed};
 
 use crate::VarFault;

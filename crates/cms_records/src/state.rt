@@ -1,10 +1,10 @@
 // One record after another, of bytes that come in pieces.
 ghost use Rattle.std.specs.Prelude.{◌≡◌, ℕ, ◌+◌, ◌-◌, ◌≤◌, ◌++◌, [], Some, true, false, max, length, vec_capacity, take, drop, IfOk, IfErr, IfSome, OnOk, Ok, Err};
-ghost use Rattle.cms_fields.specs.Numbers.{half};
+ghost use Rattle.cms_text.specs.Bytes.{half};
 ghost use Rattle.cms_records.specs.Pieces.{Begun, Takes, head_of, record_size, bytes_so_far, next_place, text_in};
 
 use crate::VarFault;
-use crate::varying::half_of;
+use cms_text::bytes::half_at;
 use std::alloc::{AllocError, Global};
 use std::marker::Model;
 
@@ -137,7 +137,7 @@ fn size_of(
     if bytes.len() < 2 {
         return Ok(None);
     }
-    let size = half_of(bytes);
+    let size = u32::from(half_at(bytes, 0));
     if size < 1 {
         return Err(VarFault::Zero(place));
     }

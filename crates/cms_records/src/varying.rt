@@ -1,12 +1,13 @@
 // Records that each stand behind their length, in two bytes.
 ghost use Rattle.std.specs.Prelude.{◌≡◌, ℕ, ◌+◌, ◌*◌, ◌≤◌, ◌<◌, ◌++◌, [], ◌∷◌, length, drop, take, IfOk, OnOk, OnErr, MatchOption};
-ghost use Rattle.cms_fields.specs.Numbers.{half};
+ghost use Rattle.cms_text.specs.Bytes.{half};
 ghost use Rattle.cms_model.specs.Records.{varying, with_length};
 ghost use Rattle.cms_records.specs.Views.{longest_in, first_size};
 
 use byteorder::{BigEndian, ByteOrder};
 use cms_journal::BlockSize;
 use cms_model::VarFault;
+use cms_text::bytes::half_at;
 use std::alloc::AllocError;
 use std::marker::Model;
 
@@ -83,7 +84,7 @@ fn first_size(bytes: &[u8], place: u32) -> Result<u32, VarFault>
     if bytes.len() < 2 {
         return Err(VarFault::PastEnd(place));
     }
-    let size = half_of(bytes);
+    let size = u32::from(half_at(bytes, 0));
     if size < 1 {
         return Err(VarFault::Zero(place));
     }
@@ -100,18 +101,7 @@ fn split_first<'a>(bytes: &'a [u8]) -> (&'a [u8], &'a [u8])
     ensures first { result.0.now ≡ take (half bytes.now 0) (drop 2 bytes.now) }
     ensures rest { result.1.now ≡ drop (2 + half bytes.now 0) bytes.now }
 {
-    let size = half_of(bytes) as usize;
-    bytes[2..].split_at(size)
-}
-
-/// The number in the first two bytes.
-#[tactic(auto, unfolding(cms_fields::specs::Numbers::half))]
-pub fn half_of(bytes: &[u8]) -> u32
-    requires { 2 ≤ length bytes.now }
-    ensures is { result ≡ half bytes.now 0 }
-    ensures fits { result < 65536 }
-{
-    u32::from(BigEndian::read_u16(bytes))
+    bytes[2..].split_at(usize::from(half_at(bytes, 0)))
 }
 
 /// Appends a record behind its length: 1 to 65,535 bytes. Without memory nothing is appended.

@@ -1,6 +1,7 @@
-//! Small texts in EBCDIC code page 037, lists of them, their blanks and words, and decimal numbers.
+//! Small texts in EBCDIC code page 037, lists of them, their blanks and words, and decimal numbers. Also numbers in bytes.
 #![tactic(auto)]
 
+pub mod bytes;
 mod list;
 mod numbers;
 mod text;

@@ -4,7 +4,8 @@ use Rattle.std.specs.Prelude.{replicate}
 use Rattle.std.specs.List.{concat}
 use Rattle.std.proofs.lemmas.List.{append-nil, append_assoc, take_at, drop_at, drop-replicate, drop-drop}
 use Rattle.byteorder.specs.Endian.{big_bytes}
-use Rattle.cms_fields.specs.Numbers.{overwritten, up}
+use Rattle.cms_text.specs.Bytes.{overwritten}
+use Rattle.cms_fields.specs.Numbers.{up}
 use Rattle.cms_model.proofs.Quotients.{up_spec}
 use Rattle.cms_model.specs.LawsTrees.{cell_bytes}
 use Rattle.cms_tree.specs.declared.types.Mark.{Mark}

@@ -1,15 +1,16 @@
 // Pointer blocks built over data blocks.
 ghost use Rattle.std.specs.Prelude.{◌≡◌, ◌⊎◌, ℕ, ◌+◌, ◌-◌, ◌*◌, ◌/◌, ◌^◌, ◌<◌, ◌≤◌, ◌++◌, length};
 ghost use Rattle.byteorder.specs.Endian.{big_bytes};
-ghost use Rattle.cms_fields.specs.Numbers.{overwritten, up};
+ghost use Rattle.cms_text.specs.Bytes.{overwritten};
+ghost use Rattle.cms_fields.specs.Numbers.{up};
 ghost use Rattle.cms_model.specs.Sizes.{levels, pointer_count};
 ghost use Rattle.cms_model.specs.LawsTrees.{cell_bytes};
 ghost use Rattle.cms_tree.specs.Builds.{cell_of, node_at, node_bytes, BuiltIsTree};
 ghost use Rattle.cms_tree.specs.Levels.{wide_mark, children_from, IsGroup};
 
 use crate::Mark;
-use byteorder::{BigEndian, ByteOrder};
 use cms_journal::BlockSize;
+use cms_text::bytes::{put, put_word};
 
 /// Fills a pointer block of a tree over these data blocks: the block at the place `nth` of all its pointer blocks, from 0,
 /// counted from the bottom level up and from left to right on each.
@@ -137,18 +138,10 @@ fn cell_field(block: u32, mark: &Mark) -> [u8; 12]
     ensures { result ≡ big_bytes 4 block ++ (big_bytes 4 mark.now.last ++ big_bytes 4 mark.now.place) }
 {
     let mut field = [0; 12];
-    BigEndian::write_u32(&mut field, block);
-    BigEndian::write_u32(&mut field[4..], mark.last);
-    BigEndian::write_u32(&mut field[8..], mark.place);
+    put_word(&mut field, 0, block);
+    put_word(&mut field, 4, mark.last);
+    put_word(&mut field, 8, mark.place);
     field
-}
-
-// Writes a field at a place.
-fn put(into: &mut [u8], at: usize, field: &[u8])
-    requires { at + length field.now ≤ length into.old }
-    ensures { into.new ≡ overwritten at field.now into.old }
-{
-    into[at..at + field.len()].copy_from_slice(field);
 }
 
 /// An image that has the blocks of `build` at the numbers `fresh` has a tree of those data blocks.

@@ -3,14 +3,13 @@ ghost use Rattle.std.specs.Prelude.{◌≡◌, ◌⊎◌, ℕ, ◌+◌, ◌-◌,
 ghost use Rattle.std.specs.Option.{ForSome};
 ghost use Rattle.cms_journal.specs.Causes.{Rose};
 ghost use Rattle.cms_journal.specs.Journal.{HasBlock, HasBlocks, contents_of};
-ghost use Rattle.cms_fields.specs.Numbers.{word};
 ghost use Rattle.cms_model.specs.Trees.{Image, image_of, is_allowed, tree};
 ghost use Rattle.cms_tree.specs.Walks.{Reads, Appends, IsWithin, AppendsWithin, form_at, image_at};
 ghost use Rattle.cms_tree.specs.Parts.{form_of, Joins, JoinsPart, IsPlain, IsRefusal, IsTaken, StaysWithin};
 ghost use Rattle.cms_tree.specs.declared.types.TreeFault.TheVariants.{Device};
 
 use crate::{TreeAt, TreeFault, Walked, shape};
-use byteorder::{BigEndian, ByteOrder};
+use cms_text::bytes::word_at;
 use cms_world::{ReadFault, World};
 use std::alloc::Global;
 
@@ -43,15 +42,6 @@ fn is_allowed(last: u32, first: Option<u32>, block: u32) -> bool
         Some(fixed) => block == fixed,
         None => block >= 6 && block <= last,
     }
-}
-
-// The number in the four bytes at a place.
-#[tactic(auto, unfolding(cms_fields::specs::Numbers::word))]
-fn word_at(bytes: &[u8], at: usize) -> u32
-    requires { at + 4 ≤ length bytes.now }
-    ensures { result ≡ word bytes.now at }
-{
-    BigEndian::read_u32(&bytes[at..])
 }
 
 // The bytes of a block.

@@ -1,6 +1,6 @@
 use Rattle.std.proofs.Common.{◌≡◌, ◌∙◌, List, ℕ, ◌∷◌, [], refl, append-nil}
 use Rattle.byteorder.specs.Endian.{big_bytes}
-use Rattle.cms_fields.specs.Numbers.{overwritten}
+use Rattle.cms_text.specs.Bytes.{overwritten}
 use Rattle.cms_fields.specs.Stamps.{stamp_bytes}
 use Rattle.cms_edf.specs.Written.{system_bytes}
 use Rattle.cms_edf.proofs.written.system_entry.Goals as goal

@@ -1,6 +1,6 @@
 use Rattle.std.proofs.Common.{◌≡◌, ◌∙◌, ap, arith, replicate, List, ℕ, ◌+◌, ◌∷◌, [], refl}
 use Rattle.byteorder.specs.Endian.{big_bytes}
-use Rattle.cms_fields.specs.Numbers.{overwritten}
+use Rattle.cms_text.specs.Bytes.{overwritten}
 use Rattle.cms_fields.specs.Entries.{entry_table}
 use Rattle.cms_fields.proofs.WrittenEntry.{entry_written}
 use Rattle.cms_fields.proofs.entry.write_entry.Goals as goal

@@ -1,6 +1,6 @@
 use Rattle.std.proofs.Common.{◌∙◌, ap, arith}
 use Rattle.byteorder.specs.Endian.{big_bytes}
-use Rattle.cms_fields.specs.Numbers.{overwritten}
+use Rattle.cms_text.specs.Bytes.{overwritten}
 use Rattle.cms_fields.proofs.WrittenLabel.{label_written}
 use Rattle.cms_fields.specs.Labels.{with_label}
 use Rattle.cms_fields.proofs.label.write_label.Goals as goal

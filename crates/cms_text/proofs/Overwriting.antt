@@ -4,7 +4,7 @@ use Rattle.std.proofs.lemmas.List.{get_or_append_left, get_or-append_right, leng
 use Rattle.std.proofs.Math.Seq.{drop-append_seam, take-append_seam}
 use Rattle.byteorder.specs.Endian.{big_bytes, big_number}
 use Rattle.byteorder.specs.Numbers.{big_number-reads_back}
-use Rattle.cms_fields.specs.Numbers.{word, byte, overwritten}
+use Rattle.cms_text.specs.Bytes.{word, byte, overwritten}
 
 -- from the place on the field stands there, and then what stood behind
 pub drop_at : (at : ℕ) (field bytes : List ℕ) → at ≤ length bytes → drop at (overwritten at field bytes) ≡ field ++ drop (at + length field) bytes
