@@ -163,3 +163,8 @@ begin_next (suc n) bytes begin some = let down : suc n - 1 ≡ n = omega arith i
 pub begin_none : (n : ℕ) (bytes : List ℕ) → n ≡ 0 → front n bytes ≡ []
 unfolding front
 begin_none n bytes none = rw none refl
+
+pub length-front : (n : ℕ) (bytes : List ℕ) → length (front n bytes) ≡ n
+unfolding front
+length-front zero bytes = refl
+length-front (suc n) bytes = ap suc (length-front n (drop (2 + half bytes 0) bytes))

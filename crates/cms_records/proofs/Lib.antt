@@ -3,3 +3,4 @@ pub mod Lengths
 pub mod Scanning
 pub mod Feeding
 pub mod FirstTold
+pub mod Reading

@@ -2,3 +2,4 @@ pub mod Views
 pub mod Scans
 pub mod Pieces
 pub mod LawsPieces
+pub mod Stored

@@ -1,12 +1,13 @@
 // Records that all have one length.
 ghost use Rattle.std.specs.Prelude.{◌≡◌, ℕ, ◌+◌, ◌*◌, ◌≤◌, ◌<◌, ◌++◌, [], length, OnOk, OnErr, slice_index_or};
+ghost use Rattle.std.specs.Iterator.{YieldsFirstRef, item_count};
 ghost use Rattle.cms_model.specs.Lists.{cut};
 ghost use Rattle.cms_records.specs.Views.{fitted};
 
 use std::alloc::AllocError;
 use std::marker::Model;
 
-/// Records of one length that stand one after another, seen as the list of them.
+/// Records of one length that stand one after another, seen as the list of those that are left.
 #[derive(Drop)]
 pub struct FixedView<'a> {
     bytes: &'a [u8],
@@ -43,6 +44,24 @@ impl<'a> FixedView<'a> {
         let size = self.size as usize;
         let start = k as usize * size;
         &self.bytes[start..start + size]
+    }
+}
+
+impl<'a> Iterator for FixedView<'a> {
+    type Item = &'a [u8];
+
+    ghost next_gives = { YieldsFirstRef (λ records. records) };
+
+    ghost remaining = { item_count (λ records. records) };
+
+    fn next(&mut self) -> Option<&'a [u8]> {
+        if self.count == 0 {
+            return None;
+        }
+        let (record, rest) = self.bytes.split_at(self.size as usize);
+        self.bytes = rest;
+        self.count -= 1;
+        Some(record)
     }
 }
 

@@ -8,6 +8,7 @@ mod pieces_tests;
 mod scan;
 mod sizes;
 mod state;
+mod stored;
 #[cfg(test)]
 mod tests;
 mod varying;
@@ -18,4 +19,5 @@ pub use laws::piece_laws;
 pub use scan::VarScan;
 pub use sizes::VarSizes;
 pub use state::{Fed, RecordState};
+pub use stored::Records;
 pub use varying::{VarView, put_var, var_check};

@@ -1,8 +1,9 @@
 // Records that each stand behind their length, in two bytes.
-ghost use Rattle.std.specs.Prelude.{◌≡◌, ℕ, ◌+◌, ◌*◌, ◌≤◌, ◌<◌, ◌++◌, [], ◌∷◌, length, drop, take, IfOk, OnOk, OnErr, MatchOption};
+ghost use Rattle.std.specs.Prelude.{◌≡◌, ℕ, ◌+◌, ◌*◌, ◌≤◌, ◌<◌, ◌++◌, [], ◌∷◌, length, drop, take, IfOk, OnOk, OnErr};
+ghost use Rattle.std.specs.Iterator.{YieldsFirstRef, item_count};
 ghost use Rattle.cms_text.specs.Bytes.{half};
 ghost use Rattle.cms_model.specs.Records.{varying, with_length};
-ghost use Rattle.cms_records.specs.Views.{longest_in, first_size};
+ghost use Rattle.cms_records.specs.Views.{BeginWith, front, longest_in, first_size};
 
 use byteorder::{BigEndian, ByteOrder};
 use cms_journal::BlockSize;
@@ -42,10 +43,23 @@ impl<'a> VarView<'a> {
         }
     }
 
-    /// The next record; none after the last.
-    pub fn next(&mut self) -> Option<&'a [u8]>
-        ensures { MatchOption result ((self.old ≡ []) × (self.new ≡ [])) (λ text. self.old ≡ text.now ∷ self.new) }
+    /// The `count` records with which the bytes begin, as was checked before.
+    pub fn of_checked(bytes: &'a [u8], count: u32) -> VarView<'a>
+        requires { BeginWith count bytes.now }
+        ensures { result ≡ front count bytes.now }
     {
+        VarView { bytes, left: count }
+    }
+}
+
+impl<'a> Iterator for VarView<'a> {
+    type Item = &'a [u8];
+
+    ghost next_gives = { YieldsFirstRef (λ records. records) };
+
+    ghost remaining = { item_count (λ records. records) };
+
+    fn next(&mut self) -> Option<&'a [u8]> {
         if self.left == 0 {
             return None;
         }

@@ -1,5 +1,4 @@
 pub mod Cards
 pub mod Finite
 pub mod Procedures
-pub mod Reading
 pub mod Splits

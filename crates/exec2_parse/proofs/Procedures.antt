@@ -7,10 +7,10 @@ use Rattle.std.proofs.lemmas.List.{append-nil, length-map}
 use Rattle.cms_model.specs.Records.{StandsFor}
 use Rattle.cms_model.specs.declared.file.FileData.{FileData}
 use Rattle.cms_text.specs.Texts.{Text, without_trailing_blanks}
-use Rattle.exec2_parse.specs.Records.{records_in}
+use Rattle.cms_records.specs.Stored.{records_in}
 use Rattle.exec2_parse.specs.Procedures.{begins_with_trace, lines_of, number_of_long_line, procedure_of}
 use Rattle.exec2_parse.specs.declared.procedure.ProcFault.TheVariants.{LineTooLong, NotExec2, TooManyLines}
-use Rattle.exec2_parse.proofs.Reading.{length-records_left, records_are}
+use Rattle.cms_records.proofs.Reading.{length-records_at, records_are}
 
 no_trace : (records : List Text) → begins_with_trace (lines_of records) ≡ false → procedure_of records ≡ Err NotExec2
 unfolding procedure_of
@@ -36,7 +36,7 @@ all_lines records trace short few =
     rw (trace, short, few) refl
 
 length-records_in : (f : FileData) → length (records_in f) ≡ f.count
-length-records_in f = length-records_left f.format f.length f.count f.bytes
+length-records_in f = length-records_at f.format f.length f.count f.bytes
 
 -- ---- the same of a file
 

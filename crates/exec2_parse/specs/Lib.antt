@@ -1,4 +1,3 @@
 pub mod Expansion
 pub mod Procedures
-pub mod Records
 pub mod Variables

@@ -4,7 +4,6 @@
 mod expansion;
 mod fold;
 mod procedure;
-mod records;
 mod vars;
 
 pub use expansion::{ExpandFault, expand, expansion_laws};

@@ -3,10 +3,10 @@ ghost use Rattle.std.specs.Prelude.{◌≡◌, ◌==◌, ◌≤◌, ◌⊎◌, L
 ghost use Rattle.std.specs.Option.{option_copied};
 ghost use Rattle.cms_model.specs.Records.{IsValid, StandsFor};
 ghost use Rattle.exec2_parse.specs.Procedures as spec;
-ghost use Rattle.exec2_parse.specs.Records.{records_in};
+ghost use Rattle.cms_records.specs.Stored.{records_in};
 
-use crate::records::Records;
 use cms_model::FileData;
+use cms_records::Records;
 use cms_text::{Line, Lines, first_word, is_keyword, without_trailing_blanks};
 use std::alloc::{AllocError, Global};
 use std::marker::Model;
@@ -90,8 +90,7 @@ impl Procedure {
 
 /// The procedure in a file: its records as lines, without the blanks at their ends.
 pub fn read_procedure(alloc: Global, file: &FileData) -> Result<Procedure, ProcFault>
-    requires valid { IsValid file.now }
-    requires stored { length file.now.bytes ≤ 67108864 }
+    requires { IsValid file.now }
     ensures lines { IfOk result (λ procedure.
         (records : List (List ℕ)) → StandsFor file.now records → spec.procedure_of records ≡ Ok procedure) }
     ensures fault { IfErr result (λ fault. (fault ≡ ProcFault.Memory)
@@ -148,8 +147,7 @@ fn is_idle(line: &[u8]) -> bool
 
 /// The number of the first line that is too long, from 1.
 fn number_of_long_line(file: &FileData) -> Option<u32>
-    requires valid { IsValid file.now }
-    requires stored { length file.now.bytes ≤ 67108864 }
+    requires { IsValid file.now }
     ensures { result ≡ spec.number_of_long_line (spec.lines_of (records_in file.now)) }
 {
     let mut before = 0;

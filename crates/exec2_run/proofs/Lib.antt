@@ -1,7 +1,6 @@
 mod Blocks
 mod ByCases
 mod ByRelation
-mod Cards
 mod Cuts
 mod Encoded
 mod Places

@@ -1,6 +1,6 @@
 use Rattle.std.proofs.Common.{◌≡◌}
 use Rattle.exec2_parse.specs.Procedures.{first_statement, lines_of}
-use Rattle.exec2_parse.specs.Records.{records_in}
+use Rattle.cms_records.specs.Stored.{records_in}
 use Rattle.exec2_parse.proofs.procedure.first_statement.Given as goal
 
 abbrev pub invariant-loop-record : goal.invariant-loop-record

@@ -1,7 +1,7 @@
 use Rattle.std.proofs.Common.{◌≡◌, ◌++◌}
 use Rattle.std.specs.Prelude.{None}
 use Rattle.exec2_parse.specs.Procedures.{lines_of, number_of_long_line}
-use Rattle.exec2_parse.specs.Records.{records_in}
+use Rattle.cms_records.specs.Stored.{records_in}
 use Rattle.exec2_parse.proofs.procedure.read_procedure.Given as goal
 
 abbrev pub invariant-loop-record : goal.invariant-loop-record

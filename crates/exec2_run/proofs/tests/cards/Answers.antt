@@ -1,6 +1,6 @@
 use Rattle.std.proofs.Common.{◌≡◌, ◌∙◌, ◌*◌, ◌≤◌, length, refl, rules, arith, lit≤, true}
 use Rattle.cms_fields.specs.Stamps.{days_of_month, is_stamp}
-use Rattle.exec2_run.proofs.Cards.{cards_are_valid}
+use Rattle.exec2_parse.proofs.Cards.{cards_are_valid}
 use Rattle.exec2_run.proofs.tests.cards.Goals as goal
 
 pub returns-clause-valid : goal.returns-clause-valid

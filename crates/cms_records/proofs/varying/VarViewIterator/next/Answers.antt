@@ -1,9 +1,9 @@
-use Rattle.std.proofs.Common.{sym, ◌∙◌, arith}
+use Rattle.std.proofs.Common.{sym, ◌∙◌, ap, length, arith, rules}
 use Rattle.cms_records.proofs.Lengths.{begin_next, begin_none}
-use Rattle.cms_records.proofs.varying.VarView.next.Goals as goal
+use Rattle.cms_records.proofs.varying.VarViewIterator.next.Goals as goal
 
-pub returns-then-self-eq0 : goal.returns-then-self-eq0
-returns-then-self-eq0 c =
+pub returns-then-self-eq0-clause-steps : goal.returns-then-self-eq0-clause-steps
+returns-then-self-eq0-clause-steps c =
     let none = sym c.self.view_is ∙ begin_none c.self.inside.left c.self.inside.bytes.now c.if-self-eq0.true in
     (none, none)
 
@@ -19,8 +19,15 @@ invariant_of-self c =
     let next = begin_next v.left v.bytes.now c.self.invariant (omega arith) in
     rw c.split_first.ensures.rest next.2
 
-pub returns : goal.returns
-returns c =
+pub returns-clause-steps : goal.returns-clause-steps
+returns-clause-steps c =
     let v = c.self.inside in
     let next = begin_next v.left v.bytes.now c.self.invariant (omega arith) in
     rw (c.split_first.ensures.first, c.split_first.ensures.rest) (sym c.self.view_is ∙ next.3)
+
+pub returns-clause-goes : goal.returns-clause-goes
+returns-clause-goes c =
+    let v = c.self.inside in
+    let next = begin_next v.left v.bytes.now c.self.invariant (omega arith) in
+    let fewer = ap length (sym c.self.view_is ∙ next.3) in
+    search (rules, fewer)
