@@ -10,7 +10,7 @@ ghost use Rattle.cms_words.specs.Readings.{IsAnswer};
 use crate::WordFault;
 use crate::command::find_words;
 use crate::numbers::{number, offset};
-use crate::units::{UnitWords, read_units};
+use crate::units::{UnitWords, read_units, repeated_in};
 use clap::ArgMatches;
 use clap::error::ErrorKind;
 use cms_world::Argv;
@@ -124,7 +124,7 @@ fn seed(word: Option<&str>) -> Result<Option<u32>, WordFault>
 fn without_repeat(units: &UnitWords) -> Result<(), WordFault>
     ensures { result ≡ without_repeat units.now }
 {
-    match units.repeated_device() {
+    match repeated_in(units.as_slice()) {
         Some(vdev) => Err(WordFault::Twice(vdev)),
         None => Ok(()),
     }
