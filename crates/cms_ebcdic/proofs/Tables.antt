@@ -1,7 +1,7 @@
 -- The program's tables against the code page, code by code.
 use Rattle.std.proofs.Common.{◌≡◌, ℕ, suc, zero, ◌+◌, ◌-◌, ◌<◌, ◌≤◌, Bool, true, false, ◌&&◌, ◌==◌, List, length, get_or, Option, Some, None, refl, ap, sym, ◌∙◌, arith, nat_le, if◌then◌else◌, ⊎_elim, subst, is_some, IsSome, slice_get}
-use Rattle.std.proofs.lemmas.Bool.Decides.{nat_tests, eqb_tells}
-use Rattle.std.proofs.lemmas.Bool.{cases_lt}
+use Rattle.std.proofs.lemmas.Bool.Decides.{nat_tests}
+use Rattle.std.proofs.lemmas.Bool.{and_parts, cases_lt, eqb-true, leb-true}
 use Rattle.std.proofs.lemmas.Option.{slice_get_past, slice_get_read}
 use Rattle.std.specs.Borrow.{Bor}
 use Rattle.std.specs.Slice.{IsItemAt}
@@ -14,29 +14,19 @@ all_from : ℕ → ℕ → (ℕ → Bool) → Bool
 all_from k zero p = true
 all_from k (suc n) p = p k && all_from (k + 1) n p
 
-and_left : (a b : Bool) → (a && b) ≡ true → a ≡ true
-and_left true b e = refl
-and_left false b e = cc
-
-and_right : (a b : Bool) → (a && b) ≡ true → b ≡ true
-and_right true b e = e
-and_right false b e = cc
-
 all_at : (k n : ℕ) (p : ℕ → Bool) → all_from k n p ≡ true → (x : ℕ) → k ≤ x → x < k + n → p x ≡ true
 unfolding all_from
 all_at k zero p e x low high = absurd (omega arith)
 all_at k (suc n) p e x low high =
+    let both = and_parts (p k) (all_from (k + 1) n p) e in
     ⊎_elim
-    (λ (lt : k < x). all_at (k + 1) n p (and_right (p k) (all_from (k + 1) n p) e) x (omega arith) (omega arith))
-    (λ (le : x ≤ k). let same : k ≡ x = omega arith in subst (λ (y : ℕ). p y ≡ true) same (and_left (p k) (all_from (k + 1) n p) e))
+    (λ (lt : k < x). all_at (k + 1) n p both.1 x (omega arith) (omega arith))
+    (λ (le : x ≤ k). let same : k ≡ x = omega arith in subst (λ (y : ℕ). p y ≡ true) same both.0)
     (cases_lt k x)
-
-equal : (a b : ℕ) → (a == b) ≡ true → a ≡ b
-equal a b e = grind (arith, nat_tests, eqb_tells a b)
 
 -- two functions of a byte are the same where a test of all 256 says so
 same : (f g : ℕ → ℕ) → all_from 0 256 (λ x. f x == g x) ≡ true → (x : ℕ) → x < 256 → f x ≡ g x
-same f g e x fits = equal (f x) (g x) (all_at 0 256 (λ y. f y == g y) e x (omega arith) (omega arith))
+same f g e x fits = eqb-true (f x) (g x) (all_at 0 256 (λ y. f y == g y) e x (omega arith) (omega arith))
 
 pub typed_by_table : (x : ℕ) → x < 256 → get_or TO_HOST x 0 ≡ host_of x
 unfolding all_from host_of character_of code_page
@@ -93,7 +83,7 @@ has_value (Some y) x = y == x
 value_held : (o : Option ℕ) (x : ℕ) → has_value o x ≡ true → o ≡ Some x
 unfolding has_value
 value_held None x e = cc
-value_held (Some y) x e = ap Some (equal y x e)
+value_held (Some y) x e = ap Some (eqb-true y x e)
 
 held_at : (p : ℕ → Bool) (o : Option ℕ) (x : ℕ) → holds_if p o ≡ true → o ≡ Some x → p x ≡ true
 unfolding holds_if
@@ -138,7 +128,8 @@ is_then (Some x) e = refl
 pub printable_bounds : (x : ℕ) → x < 256 → IsSome (code_of x) → (32 ≤ x) × (x ≤ 126)
 printable_bounds x fits s =
     let both : (nat_le 32 x && nat_le x 126) ≡ true = sym (is_printable x fits) ∙ some_is (code_of x) s in
-    (grind (arith, nat_tests, and_left (nat_le 32 x) (nat_le x 126) both), grind (arith, nat_tests, and_right (nat_le 32 x) (nat_le x 126) both))
+    let parts = and_parts (nat_le 32 x) (nat_le x 126) both in
+    (leb-true 32 x parts.0, leb-true x 126 parts.1)
 
 pub bounds_printable : (x : ℕ) → x < 256 → 32 ≤ x → x ≤ 126 → IsSome (code_of x)
 bounds_printable x fits low high =

@@ -1,18 +1,18 @@
 -- An update, a relabelling, a wiping and a making are whole or absent.
-use Rattle.std.proofs.Common.{◌≡◌, ◌⊎◌, inl, inr, ⊎_elim, ℕ, ◌<◌, ◌≤◌, List, [], ◌∷◌, length, slice_set, Ok, true, sym, ◌∙◌, ap, subst, arith, append-nil}
+use Rattle.std.proofs.Common.{◌≡◌, ◌⊎◌, inl, inr, ⊎_elim, ℕ, ◌<◌, ◌≤◌, List, [], ◌∷◌, length, slice_set, Ok, true, refl, sym, ◌∙◌, ap, subst, arith, append-nil}
 use Rattle.std.proofs.lemmas.Bool.{cases_lt}
 use Rattle.cms_journal.specs.declared.event.Event.{Event}
 use Rattle.cms_journal.specs.declared.event.Event.TheVariants.{Wrote, Synced}
-use Rattle.cms_journal.specs.Journal.{Journal, contents, contents_of, start_of}
+use Rattle.cms_journal.specs.Journal.{Journal, contents_of, start_of}
 use Rattle.cms_journal.proofs.Steps.{crash_wrote, contents_wrote}
 use Rattle.cms_text.specs.Bytes.{word}
 use Rattle.cms_fields.specs.Labels.{label_of, has_identifier}
 use Rattle.cms_fields.specs.declared.label.Label.{Label}
 use Rattle.cms_model.specs.Lists.{In}
-use Rattle.cms_model.specs.Trees.{image_of}
+use Rattle.cms_model.specs.Trees.{Image, image_of}
 use Rattle.cms_model.specs.Volumes.{Disk, Opened, open_of, all_blocks}
-use Rattle.cms_model.specs.Settled.{MayLeave, IsSettled, Write, writes, update}
-use Rattle.cms_model.specs.LawsUpdates.{after, now, IsFront, to_label, with_label, OpensEither, IsUpdate, Updates, relabel, relabelled, IsRelabel, Relabels}
+use Rattle.cms_model.specs.Settled.{MayLeave, EachCrash, IsSettled, Write, writes, update}
+use Rattle.cms_model.specs.LawsUpdates.{after, now, IsFront, to_label, with_label, IsUpdate, Updates, relabel, relabelled, IsRelabel, Relabels}
 use Rattle.cms_model.proofs.Opening.{open_ok, open_again, label_reads}
 use Rattle.cms_model.proofs.InOrder.{in_order}
 use Rattle.cms_model.proofs.VolumeFrame.{opened_under}
@@ -42,56 +42,15 @@ pub opens_labelled : (disk : Disk) (j : Journal) (u : ℕ) (ws : List Write) (la
 opens_labelled disk j u ws label new opens =
     ap (open_of disk) (sym (synced_now (labelled j u ws label) u)) ∙ ap (λ (k : Journal). open_of disk (now k u)) (sym (update_is j u ws label)) ∙ opens
 
--- after the label's write a crash leaves what it might have left before, or the contents
-pub label_leaves : (j : Journal) (u : ℕ) (ws : List Write) (label : List ℕ) (image : List (List ℕ)) → MayLeave (labelled j u ws label) u image → MayLeave (synced j u ws) u image ⊎ (image ≡ contents_of (labelled j u ws label) u)
-label_leaves j u ws label image left =
-    let before = synced j u ws in
-    let start = start_of j.units u in
-    elim (crash_wrote before.events u 3 label start image left) [
-      | inl same ↦ inl same
-      | inr put ↦
-          let is : put.0 ≡ contents before.events u start = synced_leaves (after j (writes u ws)) u put.0 put.1 in
-          inr (put.2 ∙ ap (λ (blocks : List (List ℕ)). slice_set blocks 2 label) is ∙ sym (contents_wrote before.events u 3 label start (omega arith)))
-    ]
-
--- ---- an update of a settled unit
-
-pub update_is_whole : (disk : Disk) (j : Journal) (u : ℕ) (ws : List Write) (label : List ℕ) (old new : Opened) → IsUpdate disk j u ws label old new → Updates disk j u ws label old new
-update_is_whole disk j u ws label old new up = record {
-  labelled = ap (λ (k : Journal). open_of disk (now k u)) (with_label_is j u ws label) ∙ opens;
-  either = λ p front. at p (fronts_of_update u ws label p front).which;
-  whole = whole;
-}
-  where
-    opens : open_of disk (now (labelled j u ws label) u) ≡ Ok new
-    opens = opens_labelled disk j u ws label new up.opens
-
-    whole : IsSettled disk (after j (update u ws label)) u new
-    whole = subst (λ (k : Journal). IsSettled disk k u new) (sym (update_is j u ws label)) (synced_settles disk (labelled j u ws label) u new opens)
-
-    before : IsSettled disk (synced j u ws) u old
-    before = subst (λ (k : Journal). IsSettled disk k u old) (to_label_is j u ws) (keeps_old disk j u ws (to_label u ws) old up.settled up.apart (record { rest = []; is = append-nil (to_label u ws) }))
-
-    at_label : OpensEither disk (labelled j u ws label) u old new
-    at_label image left = ⊎_elim
-        (λ same. inl (settled_opens disk (synced j u ws) u old before image same))
-        (λ (is : image ≡ contents_of (labelled j u ws label) u). inr (ap (λ (blocks : List (List ℕ)). open_of disk (image_of blocks)) is ∙ opens))
-        (label_leaves j u ws label image left)
-
-    at : (p : List Event) → IsFront p (to_label u ws) ⊎ (p ≡ with_label u ws label) ⊎ (p ≡ update u ws label) → OpensEither disk (after j p) u old new
-    at p (inl front) = λ image left. inl (settled_opens disk (after j p) u old (keeps_old disk j u ws p old up.settled up.apart front) image left)
-    at p (inr (inl is)) = subst (λ (k : Journal). OpensEither disk k u old new) (sym (ap (after j) is ∙ with_label_is j u ws label)) at_label
-    at p (inr (inr is)) = subst (λ (l : List Event). OpensEither disk (after j l) u old new) (sym is) (λ image left. inr (settled_opens disk (after j (update u ws label)) u new whole image left))
-
 -- ---- a write of block 3 and a sync
 
 -- what such a piece's fronts are
-pub data Two (u : ℕ) (bytes : List ℕ) (p : List Event) : Type 0 where
+data Two (u : ℕ) (bytes : List ℕ) (p : List Event) : Type 0 where
   nothing : p ≡ [] → Two u bytes p
   written : p ≡ Wrote u 3 bytes ∷ [] → Two u bytes p
   all : p ≡ Wrote u 3 bytes ∷ Synced u ∷ [] → Two u bytes p
 
-pub two_fronts : (u : ℕ) (bytes : List ℕ) (p : List Event) → IsFront p (Wrote u 3 bytes ∷ Synced u ∷ []) → Two u bytes p
+two_fronts : (u : ℕ) (bytes : List ℕ) (p : List Event) → IsFront p (Wrote u 3 bytes ∷ Synced u ∷ []) → Two u bytes p
 two_fronts u bytes p f = ⊎_elim
     (λ (none : p ≡ []). nothing none)
     (λ (c : Cut p (Wrote u 3 bytes) (Synced u ∷ [])). ⊎_elim
@@ -99,6 +58,69 @@ two_fronts u bytes p f = ⊎_elim
     (λ (d : Cut c.piece (Synced u) []). all (c.is ∙ ap (λ (l : List Event). Wrote u 3 bytes ∷ l) (d.is ∙ ap (λ (l : List Event). Synced u ∷ l) (front_nil d.piece d.front))))
     (cut_front c.piece (Synced u) [] c.front))
     (cut_front p (Wrote u 3 bytes) (Synced u ∷ []) f)
+
+-- at each front a crash leaves an image of the one kind, where it did before, or of the other, where the write makes one
+pub either_of_two : (Old New : Image → Type 0) (j : Journal) (u : ℕ) (bytes : List ℕ) → EachCrash j u Old
+    → ((image : List (List ℕ)) → MayLeave j u image → New (image_of (slice_set image 2 bytes)))
+    → (p : List Event) → IsFront p (Wrote u 3 bytes ∷ Synced u ∷ []) → EachCrash (after j p) u (λ image. Old image ⊎ New image)
+either_of_two Old New j u bytes begun put p front = at (two_fronts u bytes p front)
+  where
+    wrote : EachCrash (after j (Wrote u 3 bytes ∷ [])) u (λ image. Old image ⊎ New image)
+    wrote image left = elim (crash_wrote j.events u 3 bytes (start_of j.units u) image left) [
+      | inl same ↦ inl (begun image same)
+      | inr one ↦ inr (subst (λ (blocks : List (List ℕ)). New (image_of blocks)) (sym one.2) (put one.0 one.1))
+    ]
+
+    synced' : EachCrash (after j (Wrote u 3 bytes ∷ Synced u ∷ [])) u (λ image. Old image ⊎ New image)
+    synced' image left =
+        let is : image ≡ slice_set (contents_of j u) 2 bytes =
+        synced_leaves (after j (Wrote u 3 bytes ∷ [])) u image left ∙ contents_wrote j.events u 3 bytes (start_of j.units u) (omega arith) in
+        inr (subst (λ (blocks : List (List ℕ)). New (image_of blocks)) (sym is) (put (contents_of j u) (crash_now j.events u (start_of j.units u))))
+
+    at : Two u bytes p → EachCrash (after j p) u (λ image. Old image ⊎ New image)
+    at (nothing is) = subst (λ (l : List Event). EachCrash (after j l) u (λ image. Old image ⊎ New image)) (sym is) (λ image left. inl (begun image left))
+    at (written is) = subst (λ (l : List Event). EachCrash (after j l) u (λ image. Old image ⊎ New image)) (sym is) wrote
+    at (all is) = subst (λ (l : List Event). EachCrash (after j l) u (λ image. Old image ⊎ New image)) (sym is) synced'
+
+-- ---- an update, whose last two events these are
+
+-- the same of an update, where the contents with the label are of the other kind
+pub either_of_update : (Old New : Image → Type 0) (j : Journal) (u : ℕ) (ws : List Write) (label : List ℕ)
+    → ((p : List Event) → IsFront p (to_label u ws) → EachCrash (after j p) u Old) → New (now (labelled j u ws label) u)
+    → (p : List Event) → IsFront p (update u ws label) → EachCrash (after j p) u (λ image. Old image ⊎ New image)
+either_of_update Old New j u ws label begun new p front = at (fronts_of_update u ws label p front).which
+  where
+    old : EachCrash (synced j u ws) u Old
+    old = subst (λ (k : Journal). EachCrash k u Old) (to_label_is j u ws) (begun (to_label u ws) (record { rest = []; is = append-nil (to_label u ws) }))
+
+    put : (image : List (List ℕ)) → MayLeave (synced j u ws) u image → New (image_of (slice_set image 2 label))
+    put image left =
+        let is : image ≡ contents_of (synced j u ws) u = synced_leaves (after j (writes u ws)) u image left in
+        let here = contents_wrote (synced j u ws).events u 3 label (start_of j.units u) (omega arith) in
+        subst (λ (blocks : List (List ℕ)). New (image_of blocks)) (here ∙ ap (λ (blocks : List (List ℕ)). slice_set blocks 2 label) (sym is)) new
+
+    last : (q : List Event) → IsFront q (Wrote u 3 label ∷ Synced u ∷ []) → EachCrash (after (synced j u ws) q) u (λ image. Old image ⊎ New image)
+    last = either_of_two Old New (synced j u ws) u label old put
+
+    at : IsFront p (to_label u ws) ⊎ (p ≡ with_label u ws label) ⊎ (p ≡ update u ws label) → EachCrash (after j p) u (λ image. Old image ⊎ New image)
+    at (inl f) = λ image left. inl (begun p f image left)
+    at (inr (inl is)) = subst (λ (k : Journal). EachCrash k u (λ image. Old image ⊎ New image)) (sym (ap (after j) is ∙ with_label_is j u ws label))
+        (last (Wrote u 3 label ∷ []) (record { rest = Synced u ∷ []; is = refl }))
+    at (inr (inr is)) = subst (λ (k : Journal). EachCrash k u (λ image. Old image ⊎ New image)) (sym (ap (after j) is ∙ update_is j u ws label))
+        (last (Wrote u 3 label ∷ Synced u ∷ []) (record { rest = []; is = refl }))
+
+-- ---- an update of a settled unit
+
+pub update_is_whole : (disk : Disk) (j : Journal) (u : ℕ) (ws : List Write) (label : List ℕ) (old new : Opened) → IsUpdate disk j u ws label old new → Updates disk j u ws label old new
+update_is_whole disk j u ws label old new up = record {
+  labelled = ap (λ (k : Journal). open_of disk (now k u)) (with_label_is j u ws label) ∙ opens;
+  either = either_of_update (λ image. open_of disk image ≡ Ok old) (λ image. open_of disk image ≡ Ok new) j u ws label
+      (λ p front. settled_opens disk (after j p) u old (keeps_old disk j u ws p old up.settled up.apart front)) opens;
+  whole = subst (λ (k : Journal). IsSettled disk k u new) (sym (update_is j u ws label)) (synced_settles disk (labelled j u ws label) u new opens);
+}
+  where
+    opens : open_of disk (now (labelled j u ws label) u) ≡ Ok new
+    opens = opens_labelled disk j u ws label new up.opens
 
 -- ---- a relabelling
 
@@ -135,8 +157,8 @@ relabel_opens disk image bytes old label e reads same_origin same_blocks =
 pub relabel_is_whole : (disk : Disk) (j : Journal) (u : ℕ) (bytes : List ℕ) (old : Opened) (label : Label) → IsRelabel disk j u bytes old label → Relabels disk j u bytes old label
 relabel_is_whole disk j u bytes old label r = record {
   labelled = opens;
-  either = λ p front. at p (two_fronts u bytes p front);
-  whole = whole;
+  either = either_of_two (λ image. open_of disk image ≡ Ok old) (λ image. open_of disk image ≡ Ok (relabelled old label)) j u bytes (settled_opens disk j u old r.settled) put;
+  whole = synced_settles disk (after j (Wrote u 3 bytes ∷ [])) u (relabelled old label) opens;
 }
   where
     put : (image : List (List ℕ)) → MayLeave j u image → open_of disk (image_of (slice_set image 2 bytes)) ≡ Ok (relabelled old label)
@@ -144,15 +166,3 @@ relabel_is_whole disk j u bytes old label r = record {
 
     opens : open_of disk (now (after j (Wrote u 3 bytes ∷ [])) u) ≡ Ok (relabelled old label)
     opens = ap (λ (blocks : List (List ℕ)). open_of disk (image_of blocks)) (contents_wrote j.events u 3 bytes (start_of j.units u) (omega arith)) ∙ put (contents_of j u) (crash_now j.events u (start_of j.units u))
-
-    whole : IsSettled disk (after j (relabel u bytes)) u (relabelled old label)
-    whole = synced_settles disk (after j (Wrote u 3 bytes ∷ [])) u (relabelled old label) opens
-
-    at : (p : List Event) → Two u bytes p → OpensEither disk (after j p) u old (relabelled old label)
-    at p (nothing is) = subst (λ (l : List Event). OpensEither disk (after j l) u old (relabelled old label)) (sym is) (λ image left. inl (settled_opens disk j u old r.settled image left))
-    at p (written is) = subst (λ (l : List Event). OpensEither disk (after j l) u old (relabelled old label)) (sym is)
-        (λ image left. elim (crash_wrote j.events u 3 bytes (start_of j.units u) image left) [
-          | inl same ↦ inl (settled_opens disk j u old r.settled image same)
-          | inr p ↦ inr (ap (λ (blocks : List (List ℕ)). open_of disk (image_of blocks)) p.2 ∙ put p.0 p.1)
-        ])
-    at p (all is) = subst (λ (l : List Event). OpensEither disk (after j l) u old (relabelled old label)) (sym is) (λ image left. inr (settled_opens disk (after j (relabel u bytes)) u (relabelled old label) whole image left))

@@ -1,5 +1,5 @@
 -- A wiping and a making are whole or absent.
-use Rattle.std.proofs.Common.{◌≡◌, ◌≢◌, ◌⊎◌, inl, inr, ⊎_elim, ℕ, zero, suc, ◌<◌, ◌≤◌, List, [], ◌∷◌, length, replicate, slice_index, slice_set, Ok, false, refl, sym, ◌∙◌, ap, subst, arith, append-nil, length-set}
+use Rattle.std.proofs.Common.{◌≡◌, ◌≢◌, ◌⊎◌, inl, inr, ⊎_elim, ℕ, zero, suc, ◌<◌, ◌≤◌, List, [], ◌∷◌, length, replicate, slice_index, slice_set, Ok, false, refl, sym, ◌∙◌, ap, subst, arith, length-set}
 use Rattle.std.proofs.lemmas.Bool.{cases_lt}
 use Rattle.cms_journal.specs.declared.event.Event.{Event}
 use Rattle.cms_journal.specs.declared.event.Event.TheVariants.{Wrote, Synced}
@@ -10,13 +10,13 @@ use Rattle.cms_fields.specs.Labels.{has_identifier}
 use Rattle.cms_model.specs.Trees.{image_of}
 use Rattle.cms_model.specs.Minidisks.{State, Volume, Not}
 use Rattle.cms_model.specs.Volumes.{Disk, Opened, open_of, minidisk_of, state_of}
-use Rattle.cms_model.specs.Settled.{IsSettled, IsFirm, Write, Apart, writes, update}
-use Rattle.cms_model.specs.LawsUpdates.{after, now, IsFront, to_label, with_label, wipe, IsWiped, HasEither, Wipes, IsMaking, Makes}
+use Rattle.cms_model.specs.Settled.{IsSettled, IsFirm, Write, Apart, writes}
+use Rattle.cms_model.specs.LawsUpdates.{after, now, IsFront, to_label, IsWiped, Wipes, IsMaking, Makes}
 use Rattle.cms_model.proofs.Opening.{state_opens, no_label}
-use Rattle.cms_model.proofs.Fronts.{fronts_of_update, Throughout, at_front}
+use Rattle.cms_model.proofs.Fronts.{Throughout, at_front}
 use Rattle.cms_model.proofs.Images.{contents_have, put_other, put_same, image_past}
-use Rattle.cms_model.proofs.Settling.{settled_is_firm, synced_leaves, synced_settles}
-use Rattle.cms_model.proofs.Updating.{synced, labelled, to_label_is, with_label_is, update_is, opens_labelled, label_leaves, Two, nothing, written, all, two_fronts}
+use Rattle.cms_model.proofs.Settling.{synced_leaves, synced_settles}
+use Rattle.cms_model.proofs.Updating.{labelled, with_label_is, update_is, opens_labelled, either_of_two, either_of_update}
 
 pub wiped_is_none : (disk : Disk) (j : Journal) (u : ℕ) → IsWiped j u → IsFirm disk j u (Not 2)
 wiped_is_none disk j u wiped image left = no_label disk (image_of image) (wiped image left)
@@ -50,21 +50,11 @@ contents_zeroed j u size =
 pub wipe_is_whole : (disk : Disk) (j : Journal) (u size : ℕ) (old : State) → IsFirm disk j u old → Wipes disk j u size old
 wipe_is_whole disk j u size old firm = record {
   zeroed = no_label disk (now (after j (Wrote u 3 (replicate size 0) ∷ [])) u) (contents_zeroed j u size);
-  either = λ p front. at p (two_fronts u (replicate size 0) p front);
-  whole = whole;
+  either = either_of_two (λ image. state_of disk image ≡ old) (λ image. state_of disk image ≡ Not 2) j u (replicate size 0) firm
+      (λ image left. no_label disk (image_of (slice_set image 2 (replicate size 0))) (zeroed image size));
+  whole = λ image left.
+      ap (λ (blocks : List (List ℕ)). has_identifier (image_of blocks 3)) (synced_leaves (after j (Wrote u 3 (replicate size 0) ∷ [])) u image left) ∙ contents_zeroed j u size;
 }
-  where
-    whole : IsWiped (after j (wipe u size)) u
-    whole image left = ap (λ (blocks : List (List ℕ)). has_identifier (image_of blocks 3)) (synced_leaves (after j (Wrote u 3 (replicate size 0) ∷ [])) u image left) ∙ contents_zeroed j u size
-
-    at : (p : List Event) → Two u (replicate size 0) p → HasEither disk (after j p) u old (Not 2)
-    at p (nothing is) = subst (λ (l : List Event). HasEither disk (after j l) u old (Not 2)) (sym is) (λ image left. inl (firm image left))
-    at p (written is) = subst (λ (l : List Event). HasEither disk (after j l) u old (Not 2)) (sym is)
-        (λ image left. elim (crash_wrote j.events u 3 (replicate size 0) (start_of j.units u) image left) [
-          | inl same ↦ inl (firm image same)
-          | inr p ↦ inr (no_label disk (image_of image) (ap (λ (blocks : List (List ℕ)). has_identifier (image_of blocks 3)) p.2 ∙ zeroed p.0 size))
-        ])
-    at p (all is) = subst (λ (l : List Event). HasEither disk (after j l) u old (Not 2)) (sym is) (λ image left. inr (wiped_is_none disk (after j (wipe u size)) u whole image left))
 
 -- ---- a making
 
@@ -91,26 +81,10 @@ keeps_wiped j u ws p wiped apart front = at_front (λ k. IsWiped k u) j (to_labe
 pub make_is_whole : (disk : Disk) (j : Journal) (u : ℕ) (ws : List Write) (label : List ℕ) (new : Opened) → IsMaking disk j u ws label new → Makes disk j u ws label new
 make_is_whole disk j u ws label new m = record {
   labelled = ap (λ (k : Journal). open_of disk (now k u)) (with_label_is j u ws label) ∙ opens;
-  either = λ p front. at p (fronts_of_update u ws label p front).which;
-  whole = whole;
+  either = either_of_update (λ image. state_of disk image ≡ Not 2) (λ image. state_of disk image ≡ Volume (minidisk_of disk new)) j u ws label
+      (λ p front. wiped_is_none disk (after j p) u (keeps_wiped j u ws p m.wiped m.apart front)) (state_opens disk (now (labelled j u ws label) u) new opens);
+  whole = subst (λ (k : Journal). IsSettled disk k u new) (sym (update_is j u ws label)) (synced_settles disk (labelled j u ws label) u new opens);
 }
   where
     opens : open_of disk (now (labelled j u ws label) u) ≡ Ok new
     opens = opens_labelled disk j u ws label new m.opens
-
-    whole : IsSettled disk (after j (update u ws label)) u new
-    whole = subst (λ (k : Journal). IsSettled disk k u new) (sym (update_is j u ws label)) (synced_settles disk (labelled j u ws label) u new opens)
-
-    before : IsWiped (synced j u ws) u
-    before = subst (λ (k : Journal). IsWiped k u) (to_label_is j u ws) (keeps_wiped j u ws (to_label u ws) m.wiped m.apart (record { rest = []; is = append-nil (to_label u ws) }))
-
-    at_label : HasEither disk (labelled j u ws label) u (Not 2) (Volume (minidisk_of disk new))
-    at_label image left = ⊎_elim
-        (λ same. inl (wiped_is_none disk (synced j u ws) u before image same))
-        (λ (is : image ≡ contents_of (labelled j u ws label) u). inr (ap (λ (blocks : List (List ℕ)). state_of disk (image_of blocks)) is ∙ state_opens disk (now (labelled j u ws label) u) new opens))
-        (label_leaves j u ws label image left)
-
-    at : (p : List Event) → IsFront p (to_label u ws) ⊎ (p ≡ with_label u ws label) ⊎ (p ≡ update u ws label) → HasEither disk (after j p) u (Not 2) (Volume (minidisk_of disk new))
-    at p (inl front) = λ image left. inl (wiped_is_none disk (after j p) u (keeps_wiped j u ws p m.wiped m.apart front) image left)
-    at p (inr (inl is)) = subst (λ (k : Journal). HasEither disk k u (Not 2) (Volume (minidisk_of disk new))) (sym (ap (after j) is ∙ with_label_is j u ws label)) at_label
-    at p (inr (inr is)) = subst (λ (l : List Event). HasEither disk (after j l) u (Not 2) (Volume (minidisk_of disk new))) (sym is) (λ image left. inr ((settled_is_firm disk (after j (update u ws label)) u new whole).1 image left))
