@@ -1,7 +1,7 @@
 -- Changes of a list of files, by the place of a name.
 use Rattle.std.proofs.Common.{◌≡◌, ◌≢◌, ◌⊎◌, ◌↔◌, inl, inr, ⊎_elim, ℕ, zero, suc, ◌-◌, ◌<◌, Bool, true, false, List, [], ◌∷◌, length, swap_remove, if◌then◌else◌, refl, sym, ◌∙◌, ap, subst, arith}
-use Rattle.std.specs.Prelude.{◌==◌}
-use Rattle.std.proofs.lemmas.Bool.{and_parts, eqb-true, eq-eqb, cases_Bool}
+use Rattle.std.specs.Cmp.Lexicographic.{bytes_decides}
+use Rattle.std.proofs.lemmas.Bool.{and_parts, cases_Bool}
 use Rattle.cms_names.specs.declared.name.Name.{Name}
 use Rattle.cms_model.specs.Lists.{same}
 use Rattle.cms_model.specs.Minidisks.{File, same_name}
@@ -11,19 +11,10 @@ use Rattle.cms_model.specs.LawsChanges.{NoneNamed, AreDistinct, IsPlace, Changes
 -- ---- the test of names
 
 pub same_from : (xs ys : List ℕ) → same xs ys ≡ true → xs ≡ ys
-unfolding same
-same_from [] [] h = refl
-same_from [] (y ∷ ys) h = absurd (cc)
-same_from (x ∷ xs) [] h = absurd (cc)
-same_from (x ∷ xs) (y ∷ ys) h =
-    let both = and_parts (x == y) (same xs ys) h in
-    let heads : x ≡ y = eqb-true x y both.0 in
-    let tails = same_from xs ys both.1 in cc
+same_from xs ys h = (bytes_decides xs ys).0 h
 
 pub same_self : (xs : List ℕ) → same xs xs ≡ true
-unfolding same
-same_self [] = refl
-same_self (x ∷ xs) = rw (eq-eqb x x refl, same_self xs) refl
+same_self xs = (bytes_decides xs xs).1 refl
 
 pub name_from : (a b : Name) → same_name a b ≡ true → a ≡ b
 unfolding same_name

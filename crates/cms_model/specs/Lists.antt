@@ -1,5 +1,6 @@
 -- Words on lists of numbers.
-use Rattle.std.specs.Prelude.{◌≡◌, ◌⊎◌, ℕ, zero, suc, ◌+◌, Bool, true, false, if◌then◌else◌, ◌==◌, ◌&&◌, ◌||◌, List, [], ◌∷◌, take, drop, Option, Some, None}
+use Rattle.std.specs.Prelude.{◌≡◌, ◌⊎◌, ℕ, zero, suc, ◌+◌, Bool, false, if◌then◌else◌, ◌==◌, ◌||◌, List, [], ◌∷◌, take, drop, Option, Some, None}
+use Rattle.std.specs.Str.{bytes_eq}
 
 -- a number is one of them
 abbrev pub In : ℕ → List ℕ → Type 0
@@ -21,12 +22,9 @@ unfoldable pub first_repeat : List ℕ → List ℕ → Option ℕ
 first_repeat others [] = None
 first_repeat others (n ∷ ns) = if holds others n then Some n else first_repeat (n ∷ others) ns
 
--- the lists are the same
-unfoldable pub same : List ℕ → List ℕ → Bool
-same [] [] = true
-same [] (y ∷ ys) = false
-same (x ∷ xs) [] = false
-same (x ∷ xs) (y ∷ ys) = (x == y) && same xs ys
+-- the test of whether lists are the same
+abbrev pub same : List ℕ → List ℕ → Bool
+same = bytes_eq
 
 -- so many pieces of a length, from the front
 unfoldable pub cut : ℕ → ℕ → List ℕ → List (List ℕ)

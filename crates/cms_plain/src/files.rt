@@ -2,7 +2,6 @@
 ghost use Rattle.std.specs.Prelude.{◌≡◌, true, ◌+◌, ◌*◌, ◌^◌, ◌<◌, ◌≤◌, List, length, IfOk};
 ghost use Rattle.cms_journal.specs.Journal.{IsBlockSize};
 ghost use Rattle.cms_model.specs.Trees.{image_of, bytes_at};
-ghost use Rattle.cms_model.specs.Lists.{same};
 ghost use Rattle.cms_model.specs.Minidisks.{same_name, is_named};
 ghost use Rattle.cms_model.specs.Volumes.{entries_of, first_twice, holder_of, file_trees, blocks_of, tree_blocks, contents_in};
 ghost use Rattle.cms_plain.specs.Places.{HaveLength, HavePlaces};
@@ -34,25 +33,7 @@ fn is_named(name: &Name, names: &[Name]) -> bool
 pub fn is_same(name: &Name, other: &Name) -> bool
     ensures { result ≡ same_name name.now other.now }
 {
-    same(name.file.as_bytes(), other.file.as_bytes())
-        && same(name.kind.as_bytes(), other.kind.as_bytes())
-}
-
-/// The bytes are the same.
-#[tactic(auto, unfolding(cms_model::specs::Lists::same))]
-fn same(some: &[u8], others: &[u8]) -> bool
-    ensures { result ≡ same some.now others.now }
-{
-    match some {
-        [] => match others {
-            [] => true,
-            [_, ..] => false,
-        },
-        [x, xs @ ..] => match others {
-            [] => false,
-            [y, ys @ ..] => *x == *y && same(xs, ys),
-        },
-    }
+    name == other
 }
 
 /// The entries that pieces of 64 bytes spell, the first with this number.
