@@ -7,4 +7,4 @@ mod map;
 mod tests;
 
 pub use laws::map_laws;
-pub use map::Map;
+pub use map::{Map, is_marked};

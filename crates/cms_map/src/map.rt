@@ -103,25 +103,23 @@ impl Map {
     }
 }
 
-// Whether the block's bit is 1.
+/// Whether the block's bit is 1 in the map of these bytes: one bit a block, block 1 first, the high bit of a byte first. A bit that
+/// isn't there counts as 0.
 #[tactic(auto, unfolding(cms_model::specs::Maps::is_marked))]
-fn bit_of(bytes: &[u8], block: u32) -> bool
-    requires first { 1 ≤ block }
-    requires last { block ≤ 8 * length bytes.now }
+pub fn is_marked(bytes: &[u8], block: u32) -> bool
     ensures { result ≡ is_marked bytes.now block }
 {
-    let place = block - 1;
-    (bytes[place as usize / 8] >> (7 - place % 8)) % 2 == 1
+    let place = block.saturating_sub(1);
+    let byte = bytes.get((place / 8) as usize).copied().unwrap_or(0);
+    (byte >> (7 - place % 8)) % 2 == 1
 }
 
 // Whether the block's bit is 1, or it is one of the first five.
 #[tactic(auto, unfolding(cms_model::specs::Maps::is_used))]
 fn is_in_use(bytes: &[u8], block: u32) -> bool
-    requires first { 1 ≤ block }
-    requires last { block ≤ 8 * length bytes.now }
     ensures { result ≡ is_used bytes.now block }
 {
-    block <= 5 || bit_of(bytes, block)
+    block <= 5 || is_marked(bytes, block)
 }
 
 // Marks the lowest free blocks, and appends them.
