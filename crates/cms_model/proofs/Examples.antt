@@ -1,14 +1,16 @@
 -- The definitions on small examples.
-use Rattle.std.proofs.Common.{◌≡◌, ℕ, if◌then◌else◌, List, [], ◌∷◌, true, false, Some, None, Ok, Err, refl}
+use Rattle.std.proofs.Common.{◌≡◌, ℕ, if◌then◌else◌, List, [], ◌∷◌, replicate, true, false, Some, None, Ok, Err, refl}
 use Rattle.std.specs.Prelude.{◌==◌}
+use Rattle.cms_names.specs.declared.name.Format.{Format}
 use Rattle.cms_names.specs.declared.name.Format.TheVariants.{F, V}
 use Rattle.cms_text.specs.Bytes.{word, half}
-use Rattle.cms_model.specs.Lists.{cut, holds, first_repeat}
+use Rattle.cms_model.specs.Lists.{cut, holds, first_repeat, same}
 use Rattle.cms_model.specs.Trees.{Image, Form, pointers, is_allowed, tree}
 use Rattle.cms_model.specs.Records.{varying, records_of}
 use Rattle.cms_model.specs.Maps.{is_marked, is_used, lowest_unmarked, lost_count}
-use Rattle.cms_model.specs.Sizes.{levels_from, levels, pointers_to, pointer_count, tree_size, file_size, directory_more, map_size, used_count, free_count}
-use Rattle.cms_model.specs.Changes.{empty_minidisk}
+use Rattle.cms_model.specs.Sizes.{levels_from, levels, pointers_to, pointer_count, tree_size, stored_size, file_size, directory_more, map_size, used_count, free_count}
+use Rattle.cms_model.specs.Minidisks.{File, Minidisk, same_name}
+use Rattle.cms_model.specs.Changes.{Put, Drop, empty_minidisk, changed_files, written_file, put_file, drop_file, last_first, need, is_full}
 use Rattle.cms_model.specs.declared.fault.VarFault.TheVariants.{Zero, PastEnd, Left}
 use Rattle.cms_model.specs.declared.fault.OpenFault.TheVariants as failed
 
@@ -113,3 +115,29 @@ small_map = (refl, refl)
 empty_disk : (used_count (empty_minidisk [] 512 8) ≡ 6) × (free_count (empty_minidisk [] 512 8) ≡ 2)
 unfolding used_count free_count directory_more map_size tree_size levels levels_from pointer_count pointers_to file_size
 empty_disk = (refl, refl)
+
+-- ---- room, in blocks of 512 bytes
+
+-- a file of one record of so many bytes
+file_of : Format → ℕ → ℕ → File
+file_of format name size = record {
+  name = record { file = name ∷ []; kind = 0xC6 ∷ [] };
+  number = 1;
+  format = format;
+  length = size;
+  stamp = record { year = 0; month = 1; day = 1; hour = 0; minute = 0; second = 0 };
+  records = replicate size 0 ∷ [];
+}
+
+-- four data blocks, the pointer block over them and a new map; the new directory has one block, which is 4 or 5
+new_file : (need (empty_minidisk [] 512 9) (Put (file_of F 0xC1 2048)) ≡ 6) × (free_count (empty_minidisk [] 512 9) ≡ 3)
+unfolding need written_file changed_files put_file file_size stored_size used_count free_count directory_more map_size tree_size levels levels_from pointer_count pointers_to file_of
+new_file = (refl, refl)
+
+-- one file, and two blocks that are lost
+full_disk : Minidisk
+full_disk = record (empty_minidisk [] 512 9) { lost = 2; files = file_of V 0xC1 5 ∷ [] }
+
+no_room_to_erase : (need full_disk (Drop (record { file = 0xC1 ∷ []; kind = 0xC6 ∷ [] })) ≡ 1) × (free_count full_disk ≡ 0)
+unfolding need changed_files drop_file last_first same_name same file_size stored_size used_count free_count directory_more map_size tree_size levels levels_from pointer_count pointers_to file_of full_disk
+no_room_to_erase = (refl, refl)
