@@ -9,7 +9,8 @@ use Rattle.cms_journal.specs.declared.event.Event.{Event}
 use Rattle.cms_journal.specs.declared.event.Event.TheVariants.{Read, Now, Typed, Wrote, Synced, Missed}
 use Rattle.cms_journal.specs.declared.event.Attached.{Attached}
 use Rattle.cms_journal.specs.Journal.{Journal, start_of}
-use Rattle.cms_journal.specs.Told.{Told, plus, syncs}
+use Rattle.cms_journal.specs.Told.{Told, plus, syncs, IsOfUnit, OnlyOf}
+use Rattle.cms_journal.proofs.Events.{all_front}
 use Rattle.cms_fields.specs.declared.time.Stamp.{Stamp}
 use Rattle.cms_fields.specs.declared.entry.Entry.{Entry}
 use Rattle.cms_model.specs.Lists.{In, times}
@@ -34,13 +35,14 @@ use Rattle.cms_map.specs.Bits.{free_blocks, bytes_from}
 use Rattle.cms_machine.specs.Slots.{Before, After, Settled, set_of}
 use Rattle.cms_machine.specs.Points.{LeavesIn, Leaves}
 use Rattle.cms_machine.specs.Steps.{Put, Outcome, Good, OldFault, EitherFault, MayPut, after_put, put_syncs, slot_after}
-use Rattle.cms_machine.specs.Beats.{OnlyDisk, HasStamp, AreStamped, Covers}
+use Rattle.cms_machine.specs.Beats.{HasStamp, IsStamped, AreStamped, Covers}
+use Rattle.cms_machine.proofs.Aside.{of_disk}
 use Rattle.cms_edf.specs.Small.{SmallVolume, small_blocks, records_in, volume_of, StandsIn, IsMinidisk}
 use Rattle.cms_edf.specs.Reading.{roots, small_in}
 use Rattle.cms_edf.specs.Held.{Holds}
 use Rattle.cms_fields.specs.Stamps.{stamp_bytes}
 use Rattle.cms_edf.specs.Written.{IsDirectoryOf, system_bytes, directory_bytes, writes_with, system_writes}
-use Rattle.cms_edf.specs.Erase.{bits_of, bits_without, IsLowest, without, HasNone, Halted, AllOf, Changes, HasState, Erased, CutOff, Erases}
+use Rattle.cms_edf.specs.Erase.{bits_of, bits_without, IsLowest, without, HasNone, Halted, Changes, HasState, Erased, CutOff, Erases}
 use Rattle.cms_edf.specs.declared.erase.SmallErase.{SmallErase}
 use Rattle.cms_edf.specs.declared.erase.SmallErase.TheVariants as failed
 use Rattle.cms_edf.proofs.SmallSteps.{size_least, size_most}
@@ -380,36 +382,9 @@ either_leaves j s t m nth e stamp x front is y leaves =
 
 -- ---- pieces and outcomes
 
-of_front : (u : ℕ) (p q : List Event) → AllOf u (p ++ q) → AllOf u p
-of_front u [] q o = tt
-of_front u (Wrote v k b ∷ p) q o = (o.0, of_front u p q o.1)
-of_front u (Synced v ∷ p) q o = (o.0, of_front u p q o.1)
-of_front u (Read b ∷ p) q o = absurd o
-of_front u (Typed b ∷ p) q o = absurd o
-of_front u (Now t ∷ p) q o = absurd o
-of_front u (Missed name size access ∷ p) q o = absurd o
-
-of_disk : (u : ℕ) (p : List Event) → AllOf u p → OnlyDisk u p
-of_disk u [] o = tt
-of_disk u (Wrote v k b ∷ p) o = of_disk u p o.1
-of_disk u (Synced v ∷ p) o = (o.0, of_disk u p o.1)
-of_disk u (Read b ∷ p) o = absurd o
-of_disk u (Typed b ∷ p) o = absurd o
-of_disk u (Now t ∷ p) o = absurd o
-of_disk u (Missed name size access ∷ p) o = absurd o
-
-of_update : (u : ℕ) (t : SmallVolume) (stamp : Stamp) (p : List Event) → IsFront p (update u (system_writes t stamp) t.label_bytes) → AllOf u p
+of_update : (u : ℕ) (t : SmallVolume) (stamp : Stamp) (p : List Event) → IsFront p (update u (system_writes t stamp) t.label_bytes) → OnlyOf u p
 unfolding update writes
-of_update u t stamp p front = of_front u p front.rest (subst (AllOf u) (sym front.is) (refl, (refl, (refl, (refl, (refl, tt))))))
-
-stamped_front : (u : ℕ) (stamp : Option Stamp) (p q : List Event) → AreStamped u stamp (p ++ q) → AreStamped u stamp p
-stamped_front u stamp [] q o = tt
-stamped_front u stamp (Wrote v k b ∷ p) q o = (o.0, stamped_front u stamp p q o.1)
-stamped_front u stamp (Synced v ∷ p) q o = stamped_front u stamp p q o
-stamped_front u stamp (Read b ∷ p) q o = stamped_front u stamp p q o
-stamped_front u stamp (Typed b ∷ p) q o = stamped_front u stamp p q o
-stamped_front u stamp (Now t ∷ p) q o = stamped_front u stamp p q o
-stamped_front u stamp (Missed name size access ∷ p) q o = stamped_front u stamp p q o
+of_update u t stamp p front = all_front (IsOfUnit u) p front.rest (subst (OnlyOf u) (sym front.is) (refl, (refl, (refl, (refl, (refl, tt))))))
 
 -- the directory is written with the stamp
 has_stamp : (t : SmallVolume) (stamp : Stamp) → HasStamp (directory_bytes t stamp) stamp
@@ -428,8 +403,8 @@ label_apart (inr is) = omega (arith, is)
 stamped_update : (u : ℕ) (t : SmallVolume) (stamp : Stamp) (p : List Event) → 6 ≤ t.map_root → IsFront p (update u (system_writes t stamp) t.label_bytes) → AreStamped u (Some stamp) p
 unfolding update writes
 stamped_update u t stamp p low front =
-    stamped_front u (Some stamp) p front.rest
-    (subst (AreStamped u (Some stamp)) (sym front.is) (λ same at. absurd (no_directory t.map_root low at), (λ same at. has_stamp t stamp, (λ same at. absurd (label_apart at), tt))))
+    all_front (IsStamped u (Some stamp)) p front.rest
+    (subst (AreStamped u (Some stamp)) (sym front.is) (λ same at. absurd (no_directory t.map_root low at), (λ same at. has_stamp t stamp, (tt, (λ same at. absurd (label_apart at), (tt, tt))))))
 
 -- the events of a change with an outcome
 changes_from : (j : Journal) (s t : SmallVolume) (m : Minidisk) (nth : ℕ) (e : Entry) (stamp : Stamp) → Setting j s t m nth e stamp → (old new : Told) → old ≡ Some j → (events : List Event) (o : Outcome) → new ≡ plus old events
@@ -455,8 +430,8 @@ changes_from j s t m nth e stamp x old new is events o told front synced may cov
           (subst (λ (a : Answer). Covers (Some j) events s.unit (Volume m ∷ []) (set_of (unwrap_or (after_put m a o) (Settled (Volume m))))) answer covers);
     }
 
-all_front : (u : ℕ) (t : SmallVolume) (stamp : Stamp) → IsFront (update u (system_writes t stamp) t.label_bytes) (update u (system_writes t stamp) t.label_bytes)
-all_front u t stamp = record { rest = []; is = append-nil (update u (system_writes t stamp) t.label_bytes) }
+itself_front : (u : ℕ) (t : SmallVolume) (stamp : Stamp) → IsFront (update u (system_writes t stamp) t.label_bytes) (update u (system_writes t stamp) t.label_bytes)
+itself_front u t stamp = record { rest = []; is = append-nil (update u (system_writes t stamp) t.label_bytes) }
 
 -- a piece before the label's write
 writes_front : (u : ℕ) (t : SmallVolume) (stamp : Stamp) (p : List Event) → IsFront p (writes u (system_writes t stamp)) → IsFront p (to_label u (system_writes t stamp))
@@ -532,7 +507,7 @@ erased_well j s t m nth e stamp x old new is told =
         minidisk = subst (λ (u : ℕ). without_file s m nth e ≡ minidisk_of t.disk (volume_of t (now later u))) (sym f.unit) (new_minidisk j s t m nth e stamp x);
       };
       changes = subst (λ (u : ℕ). Changes old new u m name stamp Good) (sym f.unit)
-          (changes_from j s t m nth e stamp x old new is (update s.unit (system_writes t stamp) t.label_bytes) Good told (all_front s.unit t stamp) (two s.unit) tt covers);
+          (changes_from j s t m nth e stamp x old new is (update s.unit (system_writes t stamp) t.label_bytes) Good told (itself_front s.unit t stamp) (two s.unit) tt covers);
     }
   where
     two : (u : ℕ) → syncs (update u (system_writes t stamp) t.label_bytes) ≡ 2

@@ -3,7 +3,7 @@ use Rattle.std.specs.Prelude.{◌≡◌, ◌⊎◌, ℕ, ◌-◌, Bool, false, L
 use Rattle.cms_journal.specs.declared.event.Event.{Event}
 use Rattle.cms_journal.specs.declared.event.Event.TheVariants.{Wrote, Synced}
 use Rattle.cms_journal.specs.Journal.{Journal}
-use Rattle.cms_journal.specs.Told.{Told, plus}
+use Rattle.cms_journal.specs.Told.{Told, plus, OnlyOf}
 use Rattle.cms_names.specs.declared.name.Name.{Name}
 use Rattle.cms_fields.specs.Labels.{with_label}
 use Rattle.cms_fields.specs.declared.time.Stamp.{Stamp}
@@ -90,19 +90,12 @@ Keeps old new s failed.Memory = new ≡ old
 
 -- ---- what that is for the minidisk
 
--- each is a write to this unit or a sync of it
-abbrev pub AllOf : ℕ → List Event → Type 0
-AllOf u [] = ⊤
-AllOf u (Wrote v k bytes ∷ es) = (v ≡ u) × AllOf u es
-AllOf u (Synced v ∷ es) = (v ≡ u) × AllOf u es
-AllOf u (e ∷ es) = ⊥
-
 -- the piece of the journal that a drop of a unit's minidisk made, with its stamp and its outcome: it has the events of its unit and
 -- the syncs that the outcome has, a crash within it leaves the minidisk before or after, and a crash behind it what the unit then is
 pub record Changes (old new : Told) (u : ℕ) (m : Minidisk) (name : Name) (stamp : Stamp) (o : Outcome) : Type 0 where
   pub events : List Event
   pub told : new ≡ plus old events
-  pub of_unit : AllOf u events
+  pub of_unit : OnlyOf u events
   pub fits : FitsStep (Put u m (Drop name) stamp) o events
   pub covers : Covers old events u (Volume m ∷ []) (set_of (slot_after (Settled (Volume m)) (Put u m (Drop name) stamp) o))
 

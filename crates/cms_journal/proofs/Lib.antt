@@ -1,6 +1,7 @@
 pub mod Crashes
 pub mod Steps
 pub mod Cuts
+pub mod Events
 pub mod Pieces
 pub mod Counts
 pub mod Examples

@@ -4,7 +4,8 @@ use Rattle.cms_journal.specs.declared.event.Event.{Event}
 use Rattle.cms_journal.specs.declared.event.Event.TheVariants.{Read, Now, Typed, Wrote, Synced, Missed}
 use Rattle.cms_journal.specs.Journal.{Journal, adds, typed_of, contents, IsCrashImage}
 use Rattle.cms_journal.proofs.Crashes.{changes_nothing}
-use Rattle.cms_journal.specs.Told.{Told, plus, back, typed, script, is_over, moments, syncs, NoDisk, Idle, Grown}
+use Rattle.cms_journal.specs.Told.{Told, plus, back, typed, script, is_over, moments, syncs, TouchesNone, NoDisk, Idle, Grown}
+use Rattle.cms_journal.proofs.Events.{all_join, none_is_aside}
 
 -- one piece after another
 pub plus_plus : (t : Told) (p q : List Event) → plus (plus t p) q ≡ plus t (p ++ q)
@@ -71,15 +72,6 @@ syncs-append (Typed b ∷ p) q = syncs-append p q
 syncs-append (Wrote u k v ∷ p) q = syncs-append p q
 syncs-append (Missed name size access ∷ p) q = syncs-append p q
 
-pub NoDisk-append : (p q : List Event) → NoDisk p → NoDisk q → NoDisk (p ++ q)
-NoDisk-append [] q none more = more
-NoDisk-append (Wrote u k v ∷ p) q none more = absurd none
-NoDisk-append (Synced u ∷ p) q none more = absurd none
-NoDisk-append (Read b ∷ p) q none more = NoDisk-append p q none more
-NoDisk-append (Now m ∷ p) q none more = NoDisk-append p q none more
-NoDisk-append (Typed b ∷ p) q none more = NoDisk-append p q none more
-NoDisk-append (Missed name size access ∷ p) q none more = NoDisk-append p q none more
-
 pub idle_same : (old new : Told) → new ≡ old → Idle old new
 idle_same old new same = record { events = []; told = same; none = tt }
 
@@ -87,7 +79,7 @@ pub idle_then : (old mid new : Told) → Idle old mid → Idle mid new → Idle 
 idle_then old mid new a b = record {
   events = a.events ++ b.events;
   told = b.told ∙ ap (λ (t : Told). plus t b.events) a.told ∙ plus_plus old a.events b.events;
-  none = NoDisk-append a.events b.events a.none b.none;
+  none = all_join TouchesNone a.events b.events a.none b.none;
 }
 
 pub grown_same : (old new : Told) → new ≡ old → Grown old new
@@ -105,29 +97,14 @@ grown_then old mid new a b = record {
 -- where nothing happened to any unit, its contents are the same, and so is what a crash may leave of it
 pub idle_contents : (p older : List Event) (u : ℕ) (start : List (List ℕ)) → NoDisk p → contents (back p older) u start ≡ contents older u start
 idle_contents [] older u start none = refl
-idle_contents (Wrote v k bytes ∷ p) older u start none = absurd none
-idle_contents (Synced v ∷ p) older u start none = absurd none
-idle_contents (Read b ∷ p) older u start none = idle_contents p (Read b ∷ older) u start none ∙ (changes_nothing (Read b) older u start tt).contents_same
-idle_contents (Now m ∷ p) older u start none = idle_contents p (Now m ∷ older) u start none ∙ (changes_nothing (Now m) older u start tt).contents_same
-idle_contents (Typed b ∷ p) older u start none = idle_contents p (Typed b ∷ older) u start none ∙ (changes_nothing (Typed b) older u start tt).contents_same
-idle_contents (Missed name size access ∷ p) older u start none = idle_contents p (Missed name size access ∷ older) u start none ∙ (changes_nothing (Missed name size access) older u start tt).contents_same
+idle_contents (e ∷ p) older u start none = idle_contents p (e ∷ older) u start none.1 ∙ (changes_nothing e older u start (none_is_aside u e none.0)).contents_same
 
 pub idle_crash : (p older : List Event) (u : ℕ) (start image : List (List ℕ)) → NoDisk p → IsCrashImage (back p older) u start image ↔ IsCrashImage older u start image
 idle_crash [] older u start image none = ((λ crash. crash), (λ crash. crash))
-idle_crash (Wrote v k bytes ∷ p) older u start image none = absurd none
-idle_crash (Synced v ∷ p) older u start image none = absurd none
-idle_crash (Read b ∷ p) older u start image none =
-    let more = idle_crash p (Read b ∷ older) u start image none in
-    let same = (changes_nothing (Read b) older u start tt).crash_same image in ((λ crash. same.0 (more.0 crash)), (λ crash. more.1 (same.1 crash)))
-idle_crash (Now m ∷ p) older u start image none =
-    let more = idle_crash p (Now m ∷ older) u start image none in
-    let same = (changes_nothing (Now m) older u start tt).crash_same image in ((λ crash. same.0 (more.0 crash)), (λ crash. more.1 (same.1 crash)))
-idle_crash (Typed b ∷ p) older u start image none =
-    let more = idle_crash p (Typed b ∷ older) u start image none in
-    let same = (changes_nothing (Typed b) older u start tt).crash_same image in ((λ crash. same.0 (more.0 crash)), (λ crash. more.1 (same.1 crash)))
-idle_crash (Missed name size access ∷ p) older u start image none =
-    let more = idle_crash p (Missed name size access ∷ older) u start image none in
-    let same = (changes_nothing (Missed name size access) older u start tt).crash_same image in ((λ crash. same.0 (more.0 crash)), (λ crash. more.1 (same.1 crash)))
+idle_crash (e ∷ p) older u start image none =
+    let more = idle_crash p (e ∷ older) u start image none.1 in
+    let same = (changes_nothing e older u start (none_is_aside u e none.0)).crash_same image in
+    ((λ crash. same.0 (more.0 crash)), (λ crash. more.1 (same.1 crash)))
 
 -- all that a journal typed, by what it typed before
 pub typed_of-back : (p older : List Event) → typed_of (back p older) ≡ typed_of older ++ typed p

@@ -1,5 +1,6 @@
 -- A world's journal: the attached units and what happened, and what they make of a unit.
 use Rattle.std.specs.Prelude.{◌≡◌, ◌≢◌, ◌⊎◌, ◌&&◌, ℕ, ◌+◌, ◌-◌, ◌<◌, ◌≤◌, Bool, true, false, List, [], ◌∷◌, ◌++◌, length, drop, slice_get, slice_index_or, if◌then◌else◌, ◌==◌, Option, Some, option_map, IsSomeAnd, IsSome, IsTrue, All, replicate, ⊤}
+use Rattle.std.specs.List.{AllByRecursion}
 use Rattle.std.specs.Option.{option_map_or}
 use Rattle.cms_journal.specs.declared.event.Event.{Event}
 use Rattle.cms_journal.specs.declared.event.Event.TheVariants.{Typed, Wrote, Synced}
@@ -117,8 +118,7 @@ IsAside event u = ⊤
 
 -- nothing happened to unit u
 abbrev pub IsUntouched : List Event → ℕ → Type 0
-IsUntouched [] u = ⊤
-IsUntouched (event ∷ older) u = IsAside event u × IsUntouched older u
+IsUntouched events u = AllByRecursion (λ event. IsAside event u) events
 
 -- a unit that is attached so may be written
 abbrev pub may_write : Access → Bool

@@ -1,5 +1,6 @@
 -- A journal that may not be told, and the pieces that calls add to it.
 use Rattle.std.specs.Prelude.{◌≡◌, ℕ, suc, ℤ, Bool, true, false, List, [], ◌∷◌, ◌++◌, Option, ⊤}
+use Rattle.std.specs.List.{AllByRecursion}
 use Rattle.cms_journal.specs.declared.event.Event.{Event}
 use Rattle.cms_journal.specs.declared.event.Event.TheVariants.{Read, Now, Typed, Wrote, Synced}
 use Rattle.cms_journal.specs.Journal.{Journal, adds}
@@ -50,12 +51,25 @@ syncs [] = 0
 syncs (Synced w ∷ es) = suc (syncs es)
 syncs (e ∷ es) = syncs es
 
+-- the event is neither a write nor a sync
+abbrev pub TouchesNone : Event → Type 0
+TouchesNone (Wrote u k bytes) = ⊥
+TouchesNone (Synced u) = ⊥
+TouchesNone e = ⊤
+
 -- a piece has no write and no sync of any unit
 abbrev pub NoDisk : List Event → Type 0
-NoDisk [] = ⊤
-NoDisk (Wrote u k v ∷ es) = ⊥
-NoDisk (Synced u ∷ es) = ⊥
-NoDisk (e ∷ es) = NoDisk es
+NoDisk es = AllByRecursion TouchesNone es
+
+-- the event is a write to this unit or a sync of it
+abbrev pub IsOfUnit : ℕ → Event → Type 0
+IsOfUnit u (Wrote v k bytes) = v ≡ u
+IsOfUnit u (Synced v) = v ≡ u
+IsOfUnit u e = ⊥
+
+-- a piece has writes to this unit and syncs of it alone
+abbrev pub OnlyOf : ℕ → List Event → Type 0
+OnlyOf u es = AllByRecursion (IsOfUnit u) es
 
 -- nothing happened to any unit
 pub record Idle (old new : Told) : Type 0 where

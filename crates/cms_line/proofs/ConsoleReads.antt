@@ -11,7 +11,8 @@ use Rattle.cms_line.specs.declared.console.ConsoleLine.{ConsoleLine}
 use Rattle.cms_line.specs.declared.console.ConsoleLine.TheVariants.{End}
 use Rattle.cms_journal.proofs.Pieces.{plus_plus, script-append, is_over-append}
 use Rattle.cms_machine.proofs.Lists.{split_at}
-use Rattle.cms_machine.proofs.Pieces.{read_join}
+use Rattle.cms_journal.proofs.Events.{all_join}
+use Rattle.cms_machine.specs.Beats.{IsRead}
 
 more_none : (u : Unread) → extended u [] ≡ u
 more_none u = ap (λ (z : List ℕ). record { within = u.within; bytes = z }) (append-nil u.bytes)
@@ -90,7 +91,7 @@ stayed_filled j k l was now later s yet none f =
     record {
       events = after;
       told = f.told ∙ ap (λ (z : Told). plus z (Read f.bytes ∷ [])) s.told ∙ plus_plus j es (Read f.bytes ∷ []);
-      only = read_join es (Read f.bytes ∷ []) s.only tt;
+      only = all_join IsRead es (Read f.bytes ∷ []) s.only (tt, tt);
       keeps = record {
         told = λ more e goes.
             let read : script after ≡ script es ++ f.bytes = script-append es (Read f.bytes ∷ []) ∙ ap (λ (z : List ℕ). script es ++ z) (append-nil f.bytes) in

@@ -8,7 +8,8 @@ use Rattle.cms_journal.specs.Told.{Told, plus, typed}
 use Rattle.cms_line.specs.Typing.{TypedTo, TypedPart}
 use Rattle.cms_machine.specs.Acts.{typed_line}
 use Rattle.cms_journal.proofs.Pieces.{plus_plus, typed-append}
-use Rattle.cms_machine.proofs.Pieces.{typed_join}
+use Rattle.cms_journal.proofs.Events.{all_join}
+use Rattle.cms_machine.specs.Beats.{IsTyped}
 
 pub typed_none : (old : Told) (bytes : List ℕ) → TypedTo old old bytes bytes
 typed_none old bytes = record { events = []; told = refl; only = tt; is = refl }
@@ -18,7 +19,7 @@ pub typed_then : (old mid new : Told) (bytes b left rest : List ℕ) → TypedTo
 typed_then old mid new bytes b left rest p q = record {
   events = p.events ++ q.events;
   told = q.told ∙ ap (λ (j : Told). plus j q.events) p.told ∙ plus_plus old p.events q.events;
-  only = typed_join p.events q.events p.only q.only;
+  only = all_join IsTyped p.events q.events p.only q.only;
   is =
       ap (λ (z : List ℕ). z ++ (rest ++ left)) (typed-append p.events q.events)
       ∙ append_assoc (typed p.events) (typed q.events) (rest ++ left)
@@ -27,7 +28,7 @@ typed_then old mid new bytes b left rest p q = record {
 }
 
 pub typed_one : (old new : Told) (b : List ℕ) → new ≡ plus old (Typed b ∷ []) → TypedTo old new b []
-typed_one old new b told = record { events = Typed b ∷ []; told = told; only = tt; is = append-nil (b ++ []) ∙ append-nil b }
+typed_one old new b told = record { events = Typed b ∷ []; told = told; only = (tt, tt); is = append-nil (b ++ []) ∙ append-nil b }
 
 pub typed_more : (old mid new : Told) (bytes rest b left : List ℕ) → TypedTo old mid bytes rest → new ≡ plus mid (Typed b ∷ []) → b ++ left ≡ rest → TypedTo old new bytes left
 typed_more old mid new bytes rest b left p told cut = typed_then old mid new bytes b left [] (subst (λ (z : List ℕ). TypedTo old mid bytes z) (sym cut) p) (typed_one mid new b told)

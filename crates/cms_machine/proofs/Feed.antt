@@ -79,11 +79,11 @@ ended_beat (Turned x) es p m fits console e = (ap script fits, console.ended ∙
 ended_beat (Did s o) es p m fits console e = ((disk_silent (unit_of s) es fits.disk).script_none, console.ended ∙ e)
 ended_beat (Took i) [] p m fits console e = (refl, console.over ∙ ap (λ (b : Bool). b || false) e)
 ended_beat (Took i) (Read b ∷ es) p m fits console e = let f : (p.ended || false) ≡ false = (console.lazy [] es b refl).0 in let g : (p.ended || false) ≡ true = ap (λ (b : Bool). b || false) e in cc
-ended_beat (Took i) (Typed b ∷ es) p m fits console e = absurd fits
-ended_beat (Took i) (Now b ∷ es) p m fits console e = absurd fits
-ended_beat (Took i) (Missed name size access ∷ es) p m fits console e = absurd fits
-ended_beat (Took i) (Wrote u k b ∷ es) p m fits console e = absurd fits
-ended_beat (Took i) (Synced u ∷ es) p m fits console e = absurd fits
+ended_beat (Took i) (Typed b ∷ es) p m fits console e = absurd fits.0
+ended_beat (Took i) (Now b ∷ es) p m fits console e = absurd fits.0
+ended_beat (Took i) (Missed name size access ∷ es) p m fits console e = absurd fits.0
+ended_beat (Took i) (Wrote u k b ∷ es) p m fits console e = absurd fits.0
+ended_beat (Took i) (Synced u ∷ es) p m fits console e = absurd fits.0
 
 pub ended_chain : (p q : Point) (bs : List Beat) → Chain p bs q → p.ended ≡ true → (script (pieces bs) ≡ []) × (q.ended ≡ true)
 ended_chain p q [] chain e = (refl, ap (λ (z : Point). z.ended) (sym chain) ∙ e)

@@ -8,9 +8,10 @@ use Rattle.cms_machine.specs.Slots.{Slot, unit_set, IsAmong}
 use Rattle.cms_machine.specs.Steps.{unit_of, new_slot}
 use Rattle.cms_machine.specs.Traces.{TraceItem, Shown, Spent, States, states_in, last_set, At, Within}
 use Rattle.cms_machine.specs.Points.{Leaves, Point, Sound}
-use Rattle.cms_machine.specs.Beats.{Deed, Said, Turned, Took, Did, Beat, pieces, shown_by, trace, Fits, OnlyTyped, OnlyRead, OnlyDisk, Beats, Chain}
+use Rattle.cms_machine.specs.Beats.{Deed, Said, Turned, Took, Did, Beat, pieces, shown_by, trace, Fits, IsTyped, IsRead, IsDiskOf, OnlyTyped, OnlyRead, OnlyDisk, Beats, Chain}
 use Rattle.cms_machine.proofs.Lists.{lt_or_le, split, empty_front, typed-append, moments-append}
-use Rattle.cms_machine.proofs.Pieces.{plus_plus, plus-nil, typed_front, read_front, disk_front, typed_silent, read_silent, disk_silent}
+use Rattle.cms_journal.proofs.Events.{all_front}
+use Rattle.cms_machine.proofs.Pieces.{plus_plus, plus-nil, typed_silent, read_silent, disk_silent}
 use Rattle.cms_machine.proofs.Units.{beat_sets}
 
 -- at the start of a trace
@@ -31,7 +32,7 @@ here_states v (Some new) tr u set x (inr a) = inr (here tr u _ x a)
 pub inside_beat : (d : Deed) (es p q : List Event) → Fits d es → p ++ q ≡ es → (tr : List TraceItem) (u : ℕ) (set : List State) (x : State) → IsAmong x set ⊎ IsAmong x (last_set u set (shown_by d))
     → Within (shown_by d ++ tr) (length (typed p)) (length (moments p)) u set x
 inside_beat (Said b) es p q fits e tr u set x a =
-    let only : OnlyTyped p = typed_front p q (subst OnlyTyped (sym e) fits.0) in
+    let only : OnlyTyped p = all_front IsTyped p q (subst OnlyTyped (sym e) fits.0) in
     let none : length (moments p) ≡ 0 = ap length (typed_silent p only).moments_none in
     let total : typed p ++ typed q ≡ b = sym (typed-append p q) ∙ ap typed e ∙ fits.1 in
     let sum : length (typed p) + length (typed q) ≡ length b = sym (length-append (typed p) (typed q)) ∙ ap length total in
@@ -49,12 +50,12 @@ inside_beat (Turned m) es (y ∷ p) q fits e tr u set x a =
     let among : IsAmong x set = ⊎_elim (λ h. h) (λ h. h) a in
     rw (first, none) (inr (0, refl, here tr u set x among))
 inside_beat (Took i) es p q fits e tr u set x a =
-    let silent = read_silent p (read_front p q (subst OnlyRead (sym e) fits)) in
+    let silent = read_silent p (all_front IsRead p q (subst OnlyRead (sym e) fits)) in
     let t : typed p ≡ [] = silent.typed_none in
     let n : moments p ≡ [] = silent.moments_none in
     rw (t, n) (here tr u set x (⊎_elim (λ h. h) (λ h. h) a))
 inside_beat (Did s o) es p q fits e tr u set x a =
-    let silent = disk_silent (unit_of s) p (disk_front (unit_of s) p q (subst (OnlyDisk (unit_of s)) (sym e) fits.disk)) in
+    let silent = disk_silent (unit_of s) p (all_front (IsDiskOf (unit_of s)) p q (subst (OnlyDisk (unit_of s)) (sym e) fits.disk)) in
     let t : typed p ≡ [] = silent.typed_none in
     let n : moments p ≡ [] = silent.moments_none in
     rw (t, n) (here_states (unit_of s) (new_slot s o) tr u set x a)

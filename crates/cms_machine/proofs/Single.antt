@@ -6,7 +6,7 @@ use Rattle.cms_journal.specs.declared.event.Event.{Event}
 use Rattle.cms_journal.specs.declared.event.Event.TheVariants.{Now}
 use Rattle.cms_journal.specs.Journal.{IsUntouched}
 use Rattle.cms_journal.specs.Causes.{Counted}
-use Rattle.cms_journal.specs.Told.{Told, plus, typed, syncs}
+use Rattle.cms_journal.specs.Told.{Told, plus, typed, syncs, IsOfUnit, OnlyOf}
 use Rattle.cms_model.specs.Minidisks.{State}
 use Rattle.cms_machine.specs.Slots.{Slot, state_in, unit_set, unit_state, IsAmong}
 use Rattle.cms_machine.specs.Steps.{Step, Outcome, Good, unit_of, new_slot, put_slot, units_after, IsOutcome, IsOf, sync_count, faults_in}
@@ -16,7 +16,8 @@ use Rattle.cms_machine.specs.Points.{Leaves, HasNow, Point, with_events, Sound}
 use Rattle.cms_machine.specs.Beats.{Said, Turned, Took, Did, OnlyTyped, OnlyRead, FitsStep, KeepsConsole, Covers, Beats}
 use Rattle.cms_machine.specs.Runs.{Ran, Begun, Broke}
 use Rattle.cms_machine.proofs.Units.{get_other}
-use Rattle.cms_machine.proofs.Aside.{typed_aside, read_aside, OnlyOf, of_disk, of_front, of_aside, leaves_aside, now_aside, covers_aside}
+use Rattle.cms_journal.proofs.Events.{all_front, of_aside}
+use Rattle.cms_machine.proofs.Aside.{typed_aside, read_aside, of_disk, leaves_aside, now_aside, covers_aside}
 use Rattle.cms_machine.proofs.Join.{ran_one, broke_now, part_none}
 
 -- ---- deeds that know of no unit
@@ -167,7 +168,7 @@ begun_by p s es only synced own own_now = record {
   disk = of_disk (unit_of s) es only;
   synced = synced;
   kept = λ sound front rest e.
-      let own_front : OnlyOf (unit_of s) front = of_front (unit_of s) front rest (subst (OnlyOf (unit_of s)) (sym e) only) in
+      let own_front : OnlyOf (unit_of s) front = all_front (IsOfUnit (unit_of s)) front rest (subst (OnlyOf (unit_of s)) (sym e) only) in
       record {
         each = λ u x leaves. elim (eqb_tells (unit_of s) u) [
           | inl same ↦ subst (λ (v : ℕ). IsAmong x (unit_set p.units v)) same.1 (own sound front rest e x (subst (λ (v : ℕ). Leaves (plus p.journal front) v x) (sym same.1) leaves))

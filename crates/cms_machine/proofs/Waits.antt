@@ -10,9 +10,10 @@ use Rattle.cms_machine.specs.Acts.{Act, Done, Out, Take, Turn, Does}
 use Rattle.cms_machine.specs.Traces.{TraceItem, Shown, Spent, States, bytes_of, states_in, added}
 use Rattle.cms_machine.specs.Feeds.{Fed, Close, Over, WaitsForScript, WaitsForMoment, feed, prepend, Waits, WaitsBehind}
 use Rattle.cms_machine.specs.Points.{Point}
-use Rattle.cms_machine.specs.Beats.{Deed, Said, Turned, Took, Did, Beat, Chain, Next, Leads, Fits, OnConsole, OnlyTyped, OnlyRead, OnlyDisk, pieces, trace, shown_by, outcome_of, outcomes}
+use Rattle.cms_machine.specs.Beats.{Deed, Said, Turned, Took, Did, Beat, Chain, Next, Leads, Fits, OnConsole, IsRead, OnlyTyped, OnlyRead, OnlyDisk, pieces, trace, shown_by, outcome_of, outcomes}
 use Rattle.cms_machine.proofs.Lists.{split_at, no_element, script-append, moments-append, typed-append}
-use Rattle.cms_machine.proofs.Pieces.{read_silent, disk_silent, read_front, read_not_typed, read_not_disk, read_not_now}
+use Rattle.cms_journal.proofs.Events.{all_front}
+use Rattle.cms_machine.proofs.Pieces.{read_silent, disk_silent, read_not_typed, read_not_disk, read_not_now}
 use Rattle.cms_machine.proofs.ItemsTold.{told_front}
 use Rattle.cms_machine.proofs.Feed.{feed_one, extended-append}
 
@@ -48,7 +49,7 @@ now_waits : {R : Type 0} (t v : Act R) (d : Deed) (es : List Event) (p m : Point
     → Waits (feed t (items (extended p.unread (script e)) false) false (moments e) os) (typed e)
 now_waits (Take k) v (Took i) es p m next fits console e c b eq os =
     let lazy = console.lazy e c b eq in
-    let silent = read_silent e (read_front e (Read b ∷ c) (subst OnlyRead (sym eq) fits)) in
+    let silent = read_silent e (all_front IsRead e (Read b ∷ c) (subst OnlyRead (sym eq) fits)) in
     let l : items (extended p.unread (script e)) false ≡ [] = lazy.1 in
     let t : typed e ≡ [] = silent.typed_none in
     rw (l, t) (record { close = refl; bytes_are = refl })

@@ -14,11 +14,12 @@ use Rattle.cms_machine.specs.Acts.{Act, Done, Out, Take, Turn, Does}
 use Rattle.cms_machine.specs.Traces.{TraceItem, Shown, Spent, States, bytes_of, turns_of, states_in, last_set, Within}
 use Rattle.cms_machine.specs.Feeds.{Fed, Over, WaitsForScript, feed, prepend, Waits}
 use Rattle.cms_machine.specs.Points.{Leaves, HasNow, Point, with_events, Sound}
-use Rattle.cms_machine.specs.Beats.{Deed, Said, Turned, Took, Did, Beat, pieces, shown_by, trace, outcome_of, outcomes, Fits, OnConsole, OnlyTyped, OnlyRead, OnlyDisk, units_by, Chain}
+use Rattle.cms_machine.specs.Beats.{Deed, Said, Turned, Took, Did, Beat, pieces, shown_by, trace, outcome_of, outcomes, Fits, OnConsole, IsTyped, IsRead, IsDiskOf, OnlyTyped, OnlyRead, OnlyDisk, units_by, Chain}
 use Rattle.cms_machine.specs.Runs.{Ran, Part, Broke, events_of, fed}
 use Rattle.cms_machine.specs.Laws.{AddsUp, FollowsTree, ComesTo}
 use Rattle.cms_machine.proofs.Lists.{lt_or_le, split, split_at, empty_front, no_element, typed-append, script-append, moments-append, over-append}
-use Rattle.cms_machine.proofs.Pieces.{plus_plus, plus-nil, typed_front, read_front, disk_front, syncs_front, typed_silent, read_silent, disk_silent, read_not_typed, read_not_disk}
+use Rattle.cms_journal.proofs.Events.{all_front}
+use Rattle.cms_machine.proofs.Pieces.{plus_plus, plus-nil, syncs_front, typed_silent, read_silent, disk_silent, read_not_typed, read_not_disk}
 use Rattle.cms_machine.proofs.Units.{beat_sets}
 use Rattle.cms_machine.proofs.Aside.{leaves_aside, sound_aside, typed_aside, read_aside}
 use Rattle.cms_machine.proofs.Law.{here, here_states, past_beat, chain_sound, law}
@@ -173,11 +174,11 @@ part_no_script p (Turn k) es h e = ap script h
 part_no_script p (Does s k) es h e = (disk_silent (unit_of s) es h.disk).script_none
 part_no_script p (Take k) [] h e = refl
 part_no_script p (Take k) (Read b ∷ es) h e = absurd (read_past_end p es es b (h.1 [] es b refl).0 e)
-part_no_script p (Take k) (Typed b ∷ es) h e = absurd h.0
-part_no_script p (Take k) (Now b ∷ es) h e = absurd h.0
-part_no_script p (Take k) (Missed name size access ∷ es) h e = absurd h.0
-part_no_script p (Take k) (Wrote u k' b ∷ es) h e = absurd h.0
-part_no_script p (Take k) (Synced u ∷ es) h e = absurd h.0
+part_no_script p (Take k) (Typed b ∷ es) h e = absurd h.0.0
+part_no_script p (Take k) (Now b ∷ es) h e = absurd h.0.0
+part_no_script p (Take k) (Missed name size access ∷ es) h e = absurd h.0.0
+part_no_script p (Take k) (Wrote u k' b ∷ es) h e = absurd h.0.0
+part_no_script p (Take k) (Synced u ∷ es) h e = absurd h.0.0
 
 -- their bytes are the first of those of the rest of the tree
 pub part_bytes : {R : Type 0} (p : Point) (t : Act R) (es : List Event) → Part p t es → (is : List Item) (e : Bool) (ms : List ℤ) (os : List Outcome) → (more : List ℕ) × (typed es ++ more ≡ bytes_of (feed t is e ms os).trace)
@@ -190,11 +191,11 @@ part_bytes p (Does s k) es h is e ms os = (bytes_of (feed (Does s k) is e ms os)
 -- a front of them is such too
 pub part_front : {R : Type 0} (p : Point) (t : Act R) (a b : List Event) → Part p t (a ++ b) → Part p t a
 part_front p (Done c) a b h = empty_front a b h
-part_front p (Out c t) a b h = (typed_front a b h.0, (typed b ++ h.1.0, sym (append_assoc (typed a) (typed b) h.1.0) ∙ ap (λ (z : List ℕ). z ++ h.1.0) (sym (typed-append a b)) ∙ h.1.1))
-part_front p (Take k) a b h = (read_front a b h.0, λ x y c e. h.1 x (y ++ b) c (let z : (x ++ Read c ∷ y) ++ b ≡ a ++ b = ap (λ (w : List Event). w ++ b) e in sym (append_assoc x (Read c ∷ y) b) ∙ z))
+part_front p (Out c t) a b h = (all_front IsTyped a b h.0, (typed b ++ h.1.0, sym (append_assoc (typed a) (typed b) h.1.0) ∙ ap (λ (z : List ℕ). z ++ h.1.0) (sym (typed-append a b)) ∙ h.1.1))
+part_front p (Take k) a b h = (all_front IsRead a b h.0, λ x y c e. h.1 x (y ++ b) c (let z : (x ++ Read c ∷ y) ++ b ≡ a ++ b = ap (λ (w : List Event). w ++ b) e in sym (append_assoc x (Read c ∷ y) b) ∙ z))
 part_front p (Turn k) a b h = empty_front a b h
 part_front p (Does s k) a b h = record {
-  disk = disk_front (unit_of s) a b h.disk;
+  disk = all_front (IsDiskOf (unit_of s)) a b h.disk;
   synced = omega (arith, syncs_front a b, h.synced);
   kept = λ sound front rest e. h.kept sound front (rest ++ b) (sym (append_assoc front rest b) ∙ ap (λ (w : List Event). w ++ b) e);
 }
@@ -249,7 +250,7 @@ pub part_waits : {R : Type 0} (p : Point) (t : Act R) (es a c : List Event) (b :
     → (p.ended ≡ false) × (typed a ≡ []) × (moments a ≡ []) × (feed t (items (extended p.unread (script a)) false) false ms os ≡ record { trace = []; close = WaitsForScript })
 part_waits p (Take k) es a c b h e ms os =
     let lazy = h.1 a c b e in
-    let silent = read_silent a (read_front a (Read b ∷ c) (subst OnlyRead (sym e) h.0)) in
+    let silent = read_silent a (all_front IsRead a (Read b ∷ c) (subst OnlyRead (sym e) h.0)) in
     let l : items (extended p.unread (script a)) false ≡ [] = lazy.1 in
     (or_first p.ended (is_over a) lazy.0, silent.typed_none, silent.moments_none, rw l refl)
 part_waits p (Done x) es a c b h e ms os = absurd (no_element a c (Read b) (e ∙ h))

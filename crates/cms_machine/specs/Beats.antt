@@ -1,5 +1,6 @@
 -- Beats: each a single thing that was done, with its piece of the journal, the oldest event first.
 use Rattle.std.specs.Prelude.{◌≡◌, ◌⊎◌, ℕ, ℤ, List, [], ◌∷◌, ◌++◌, take, drop, Option, Some, None, slice_get, ⊤}
+use Rattle.std.specs.List.{AllByRecursion}
 use Rattle.cms_journal.specs.declared.event.Event.{Event}
 use Rattle.cms_journal.specs.declared.event.Event.TheVariants.{Read, Now, Typed, Wrote, Synced}
 use Rattle.cms_journal.specs.Causes.{Counted}
@@ -55,22 +56,30 @@ outcomes (b ∷ bs) = outcome_of b.deed ++ outcomes bs
 
 -- ---- the events that a piece may have
 
+-- the event is bytes typed, or bytes of the script read
+abbrev pub IsTyped : Event → Type 0
+IsTyped (Typed b) = ⊤
+IsTyped e = ⊥
+
+abbrev pub IsRead : Event → Type 0
+IsRead (Read b) = ⊤
+IsRead e = ⊥
+
+-- the event is a write, or a sync of this unit
+abbrev pub IsDiskOf : ℕ → Event → Type 0
+IsDiskOf u (Wrote v k bytes) = ⊤
+IsDiskOf u (Synced v) = v ≡ u
+IsDiskOf u e = ⊥
+
+-- the events are all such
 abbrev pub OnlyTyped : List Event → Type 0
-OnlyTyped [] = ⊤
-OnlyTyped (Typed b ∷ es) = OnlyTyped es
-OnlyTyped (e ∷ es) = ⊥
+OnlyTyped es = AllByRecursion IsTyped es
 
 abbrev pub OnlyRead : List Event → Type 0
-OnlyRead [] = ⊤
-OnlyRead (Read b ∷ es) = OnlyRead es
-OnlyRead (e ∷ es) = ⊥
+OnlyRead es = AllByRecursion IsRead es
 
--- only writes, and syncs of this unit
 abbrev pub OnlyDisk : ℕ → List Event → Type 0
-OnlyDisk u [] = ⊤
-OnlyDisk u (Wrote v k bytes ∷ es) = OnlyDisk u es
-OnlyDisk u (Synced v ∷ es) = (v ≡ u) × OnlyDisk u es
-OnlyDisk u (e ∷ es) = ⊥
+OnlyDisk u es = AllByRecursion (IsDiskOf u) es
 
 -- a directory's first block has this stamp in its own entry and in the allocation map's, each of 64 bytes
 pub record HasStamp (bytes : List ℕ) (stamp : Stamp) : Type 0 where
@@ -83,10 +92,12 @@ MayWrite None block bytes = (block ≡ 4) ⊎ (block ≡ 5) → ⊥
 MayWrite (Some stamp) block bytes = (block ≡ 4) ⊎ (block ≡ 5) → HasStamp bytes stamp
 
 -- so is each that is written of this unit
+abbrev pub IsStamped : ℕ → Option Stamp → Event → Type 0
+IsStamped u stamp (Wrote v block bytes) = v ≡ u → MayWrite stamp block bytes
+IsStamped u stamp e = ⊤
+
 abbrev pub AreStamped : ℕ → Option Stamp → List Event → Type 0
-AreStamped u stamp [] = ⊤
-AreStamped u stamp (Wrote v block bytes ∷ es) = (v ≡ u → MayWrite stamp block bytes) × AreStamped u stamp es
-AreStamped u stamp (e ∷ es) = AreStamped u stamp es
+AreStamped u stamp es = AllByRecursion (IsStamped u stamp) es
 
 -- a step makes writes, with its stamp, and as many syncs of its unit as its outcome says; the outcome is one that it may have
 pub record FitsStep (s : Step) (o : Outcome) (es : List Event) : Type 0 where

@@ -13,7 +13,8 @@ use Rattle.cms_model.specs.LawsUpdates.{after}
 use Rattle.cms_model.proofs.Settling.{aside_is_as_before}
 use Rattle.cms_machine.specs.Slots.{Slot}
 use Rattle.cms_machine.specs.Points.{LeavesIn, Leaves, HasNowIn, HasNow}
-use Rattle.cms_machine.proofs.Aside.{no_disk_aside, leaves_aside, now_aside}
+use Rattle.cms_journal.proofs.Events.{no_disk_aside}
+use Rattle.cms_machine.proofs.Aside.{leaves_aside, now_aside}
 use Rattle.cms_edf.specs.Small.{SmallVolume, StandsIn, IsMinidisk, contents_image, volume_of}
 use Rattle.cms_search.specs.declared.state.Disk.{Disk}
 use Rattle.cms_search.specs.Calls.{HoldsIn, Holds, Usable}

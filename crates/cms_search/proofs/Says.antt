@@ -2,9 +2,10 @@
 use Rattle.std.proofs.Common.{◌≡◌, ℕ, List, [], ◌∷◌, Result, Ok, Err, OnOk, OnErr, append-nil, refl, sym, ap, ◌∙◌, arith}
 use Rattle.cms_journal.specs.declared.event.Event.{Event}
 use Rattle.cms_journal.specs.declared.event.Event.TheVariants.{Read, Now, Typed, Wrote, Synced, Missed}
-use Rattle.cms_journal.specs.Told.{Told, plus, NoDisk, typed}
+use Rattle.cms_journal.specs.Told.{Told, plus, TouchesNone, NoDisk, typed}
+use Rattle.cms_journal.proofs.Events.{all_weaker}
 use Rattle.cms_machine.specs.Acts.{Act, Done, saying, typed_line}
-use Rattle.cms_machine.specs.Beats.{OnlyTyped}
+use Rattle.cms_machine.specs.Beats.{IsTyped, OnlyTyped}
 use Rattle.cms_machine.proofs.Single.{ran_out, broke_out, broke_before}
 use Rattle.cms_journal.proofs.Pieces.{idle_same}
 use Rattle.cms_line.specs.Typing.{TypedTo, TypedPart}
@@ -12,14 +13,16 @@ use Rattle.cms_search.specs.declared.state.End.{End}
 use Rattle.cms_search.specs.declared.state.Course.{Course}
 use Rattle.cms_search.specs.Calls.{Does, after_world, itself, said}
 
+typed_touches_none : (e : Event) → IsTyped e → TouchesNone e
+typed_touches_none (Typed b) is = tt
+typed_touches_none (Read b) is = absurd is
+typed_touches_none (Now m) is = absurd is
+typed_touches_none (Missed name size access) is = absurd is
+typed_touches_none (Wrote u k v) is = absurd is
+typed_touches_none (Synced u) is = absurd is
+
 pub typed_no_disk : (es : List Event) → OnlyTyped es → NoDisk es
-typed_no_disk [] o = tt
-typed_no_disk (Typed b ∷ es) o = typed_no_disk es o
-typed_no_disk (Read b ∷ es) o = absurd o
-typed_no_disk (Now m ∷ es) o = absurd o
-typed_no_disk (Missed name size access ∷ es) o = absurd o
-typed_no_disk (Wrote u k v ∷ es) o = absurd o
-typed_no_disk (Synced u ∷ es) o = absurd o
+typed_no_disk es only = all_weaker IsTyped TouchesNone typed_touches_none es only
 
 -- all of a line was typed, or a front of it
 pub said_line : (before : Told) (count : ℕ) (now : Told) (later : ℕ) (text : List ℕ) (r : Result (Unit {0}) End) → OnOk r (TypedTo before now (typed_line text) []) → OnErr r (TypedPart before now (typed_line text))

@@ -8,7 +8,7 @@ use Rattle.cms_journal.specs.declared.event.Event.{Event}
 use Rattle.cms_journal.specs.declared.event.Event.TheVariants.{Read, Now, Typed, Wrote, Synced, Missed}
 use Rattle.cms_journal.specs.Causes.{Counted}
 use Rattle.cms_journal.specs.Journal.{Journal}
-use Rattle.cms_journal.specs.Told.{Told, plus}
+use Rattle.cms_journal.specs.Told.{Told, plus, OnlyOf}
 use Rattle.cms_journal.proofs.Pieces.{plus-some}
 use Rattle.cms_names.specs.declared.name.Name.{Name}
 use Rattle.cms_fields.specs.declared.time.Stamp.{Stamp}
@@ -22,24 +22,15 @@ use Rattle.cms_machine.specs.Acts.{Act, Does}
 use Rattle.cms_machine.specs.Beats.{Covers}
 use Rattle.cms_machine.specs.Runs.{Ran}
 use Rattle.cms_machine.proofs.Units.{get_same, get_other}
-use Rattle.cms_machine.proofs.Aside.{OnlyOf, of_aside}
+use Rattle.cms_journal.proofs.Events.{of_aside}
 use Rattle.cms_machine.proofs.Single.{ran_step}
 use Rattle.cms_edf.specs.Small.{IsMinidisk}
-use Rattle.cms_edf.specs.Erase.{AllOf, Changes}
+use Rattle.cms_edf.specs.Erase.{Changes}
 use Rattle.cms_line.specs.ConsoleState.{ConsoleState}
 use Rattle.cms_search.specs.declared.state.Disk.{Disk}
 use Rattle.cms_search.specs.Calls.{Spot, at, IsCovered, IsSeated, HoldsIn}
 use Rattle.cms_search.proofs.Holding.{left_before, now_before, some_same}
 use Rattle.cms_session.specs.Machine.{drop_step}
-
-only_of : (u : ℕ) (es : List Event) → AllOf u es → OnlyOf u es
-only_of u [] o = tt
-only_of u (Wrote v k b ∷ es) o = (o.0, only_of u es o.1)
-only_of u (Synced v ∷ es) o = (o.0, only_of u es o.1)
-only_of u (Read b ∷ es) o = absurd o
-only_of u (Typed b ∷ es) o = absurd o
-only_of u (Now m ∷ es) o = absurd o
-only_of u (Missed name size access ∷ es) o = absurd o
 
 -- ---- slots
 
@@ -69,13 +60,13 @@ there_after units u m name stamp o there = slot_there units u (Settled (Volume m
 
 -- the piece of a drop, after a journal that is told
 pub record DropsIn (j : Journal) (u : ℕ) (m : Minidisk) (name : Name) (stamp : Stamp) (o : Outcome) (es : List Event) : Type 0 where
-  pub of_unit : AllOf u es
+  pub of_unit : OnlyOf u es
   pub crash : (x : State) → Leaves (plus (Some j) es) u x → IsAmong x (set_of (dropped_slot u m name stamp o))
   pub now : (x : State) → HasNow (plus (Some j) es) u x → state_in (dropped_slot u m name stamp o) ≡ x
 
-other_covered : (j : Journal) (es : List Event) (units : List Slot) (u v : ℕ) (m : Minidisk) (name : Name) (stamp : Stamp) (o : Outcome) → AllOf u es → u ≢ v → IsCovered j units v → IsCovered (after j es) (dropped_units units u m name stamp o) v
+other_covered : (j : Journal) (es : List Event) (units : List Slot) (u v : ℕ) (m : Minidisk) (name : Name) (stamp : Stamp) (o : Outcome) → OnlyOf u es → u ≢ v → IsCovered j units v → IsCovered (after j es) (dropped_units units u m name stamp o) v
 other_covered j es units u v m name stamp o all other c =
-    let aside = of_aside u es v other (only_of u es all) in
+    let aside = of_aside u es v other all in
     record {
       slot = c.slot;
       there = slot_elsewhere units u v (new_slot (drop_step u m name stamp) o) other ∙ c.there;
@@ -130,5 +121,5 @@ drop_ran old new units u m name stamp o k there changes now counted console =
     let before : unit_set units u ≡ Volume m ∷ [] = rw there refl in
     let behind : unit_set (dropped_units units u m name stamp o) u ≡ set_of (dropped_slot u m name stamp o) = rw slot refl in
     let covers : Covers old.told changes.events u (unit_set units u) (unit_set (dropped_units units u m name stamp o) u) = rw (before, behind) changes.covers in
-    ran_step (at old units) (at new (dropped_units units u m name stamp o)) (drop_step u m name stamp) o k changes.events changes.told counted (only_of u changes.events changes.of_unit) changes.fits there refl
+    ran_step (at old units) (at new (dropped_units units u m name stamp o)) (drop_step u m name stamp) o k changes.events changes.told counted changes.of_unit changes.fits there refl
     (record { unread = ap (λ (c : ConsoleState). c.unread) console; ended = ap (λ (c : ConsoleState). c.ended) console }) (λ sound. covers) (λ sound x has. ap (λ (z : Option Slot). option_map state_in z) slot ∙ ap (λ (y : State). Some y) (now x has))

@@ -5,7 +5,8 @@ use Rattle.std.specs.Option.{is_some, IfSome}
 use Rattle.cms_journal.specs.declared.event.Event.{Event}
 use Rattle.cms_journal.specs.declared.event.Event.TheVariants.{Read, Now, Typed, Wrote, Synced, Missed}
 use Rattle.cms_journal.specs.Journal.{Journal, adds}
-use Rattle.cms_journal.specs.Told.{Told, NoDisk, Idle}
+use Rattle.cms_journal.specs.Told.{Told, TouchesNone, NoDisk, Idle}
+use Rattle.cms_journal.proofs.Events.{all_weaker}
 use Rattle.cms_journal.proofs.Pieces.{idle_same, grown_idle}
 use Rattle.cms_names.specs.declared.name.Name.{Name}
 use Rattle.cms_names.specs.Names.{is_part, is_text_of, is_name_character, filled}
@@ -16,7 +17,7 @@ use Rattle.cms_edf.specs.Small.{IsMinidisk, spelled}
 use Rattle.cms_machine.specs.Slots.{Slot}
 use Rattle.cms_machine.specs.Items.{Item}
 use Rattle.cms_machine.specs.Acts.{Act, Done, bind}
-use Rattle.cms_machine.specs.Beats.{OnlyRead}
+use Rattle.cms_machine.specs.Beats.{IsRead, OnlyRead}
 use Rattle.cms_machine.proofs.Join.{ran_bind, broke_here}
 use Rattle.cms_machine.proofs.Single.{ran_take, ran_turn, broke_take, broke_before}
 use Rattle.cms_line.specs.Consoles.{Took, Stayed, item_of}
@@ -41,14 +42,16 @@ use Rattle.cms_session.proofs.Seen.{some_entry}
 
 -- ---- the console and the clock
 
+read_touches_none : (e : Event) → IsRead e → TouchesNone e
+read_touches_none (Read b) is = tt
+read_touches_none (Typed b) is = absurd is
+read_touches_none (Now m) is = absurd is
+read_touches_none (Missed name size access) is = absurd is
+read_touches_none (Wrote u k v) is = absurd is
+read_touches_none (Synced u) is = absurd is
+
 read_no_disk : (es : List Event) → OnlyRead es → NoDisk es
-read_no_disk [] o = tt
-read_no_disk (Read b ∷ es) o = read_no_disk es o
-read_no_disk (Typed b ∷ es) o = absurd o
-read_no_disk (Now m ∷ es) o = absurd o
-read_no_disk (Missed name size access ∷ es) o = absurd o
-read_no_disk (Wrote u k v ∷ es) o = absurd o
-read_no_disk (Synced u ∷ es) o = absurd o
+read_no_disk es only = all_weaker IsRead TouchesNone read_touches_none es only
 
 -- the console alone was changed
 abbrev pub NewConsole : State → State → Type 0
@@ -83,7 +86,7 @@ stayed old new e st faults =
 pub turned_so : (old new : Spot) (seconds : ℤ) (moment : Moment) (left : ℕ) (x : Unit {0}) → new.told ≡ adds (Now seconds) old.told → new.faults ≡ old.faults → moment ≡ moment_of seconds old.state.offset
     → new.state ≡ record old.state { moment = moment; left = left } → Acts old new (turning_tree old.state left) (Ok x) (machine_now new.state)
 turned_so old new seconds moment left x told faults is kept =
-    let idle : Idle old.told new.told = record { events = Now seconds ∷ []; told = told; none = tt } in
+    let idle : Idle old.told new.told = record { events = Now seconds ∷ []; told = told; none = (tt, tt) } in
     let disk : new.state.disk_a ≡ old.state.disk_a = ap (λ (s : State). s.disk_a) kept in
     record {
       each = λ units h.

@@ -66,11 +66,13 @@ impl Recorder {
         let event = Event::Typed(Bytes::of(alloc, bytes)?);
         let before = self.typed.len();
         self.typed.extend_from_slice(bytes)?;
-        if self.events.push(event).is_err() {
-            self.typed.truncate(before);
-            return Err(AllocError);
+        match self.events.push(event) {
+            Ok(()) => Ok(()),
+            Err(_) => {
+                self.typed.truncate(before);
+                Err(AllocError)
+            }
         }
-        Ok(())
     }
 
     /// Adds a write of a block, which then has these bytes.
