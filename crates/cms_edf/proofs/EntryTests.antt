@@ -1,21 +1,26 @@
 -- What the tests of entries say of their trees and of their bytes.
-use Rattle.std.proofs.Common.{◌≡◌, ℕ, zero, suc, ◌+◌, ◌-◌, ◌*◌, ◌/◌, ◌≤◌, true, List, [], ◌∷◌, Ok, if◌then◌else◌, arith}
-use Rattle.std.specs.Prelude.{nat_le, ◌==◌, ◌&&◌}
+use Rattle.std.proofs.Common.{◌≡◌, inl, inr, ℕ, zero, suc, ◌+◌, ◌-◌, ◌*◌, ◌/◌, ◌≤◌, true, not, List, [], ◌∷◌, Ok, if◌then◌else◌, subst, arith}
+use Rattle.std.specs.Prelude.{nat_le, ◌==◌, ◌&&◌, ◌||◌}
 use Rattle.std.specs.List.{All}
-use Rattle.std.proofs.lemmas.Bool.{and_parts, leb-true}
+use Rattle.std.proofs.lemmas.Bool.{and_parts, leb-true, eqb-true}
+use Rattle.std.proofs.lemmas.List.Elements.{All-nil, All-cons}
 use Rattle.cms_journal.specs.Journal.{IsBlockSize}
 use Rattle.cms_journal.proofs.Sizes.{block_bounds}
 use Rattle.cms_names.specs.Names.{is_between}
 use Rattle.cms_names.specs.declared.name.Format.{Format}
 use Rattle.cms_names.specs.declared.name.Format.TheVariants.{F, V}
 use Rattle.cms_fields.specs.Numbers.{up}
-use Rattle.cms_fields.specs.Entries.{fan_of, is_fixed, counts_fit, levels_fit}
+use Rattle.cms_fields.specs.Entries.{entry_of, passes, fan_of, is_fixed, length_fits, counts_fit, levels_fit}
 use Rattle.cms_fields.specs.declared.entry.Entry.{Entry}
-use Rattle.cms_model.specs.Volumes.{entries_of}
+use Rattle.cms_model.specs.Volumes.{blamed, entries_of}
+use Rattle.cms_model.specs.declared.fault.OpenFault.TheVariants as failed
+use Rattle.cms_model.proofs.Results.{ok_same, bind_then}
+use Rattle.cms_model.proofs.Opening.{blamed_ok}
 use Rattle.cms_model.proofs.Shapes.{shape_least}
 use Rattle.cms_model.proofs.TreeFrame.{between}
 use Rattle.cms_model.proofs.FileSizes.{EntryFits, AllFit, entries_fit, entry_counted, fan_wide}
-use Rattle.cms_edf.specs.EntryShapes.{HasShape, AreFew, HasSize}
+use Rattle.cms_edf.specs.EntryShapes.{HasShape, HasSize}
+use Rattle.cms_edf.proofs.SmallHeld.{entry_passes}
 
 shaped : (bsize : ℕ) (e : Entry) → IsBlockSize bsize → EntryFits bsize e → HasShape bsize e
 unfolding levels_fit
@@ -24,16 +29,26 @@ shaped bsize e size fits =
     let c = entry_counted bsize e (omega arith) fits in
     (c.some, (shape_least (fan_of bsize e.format) e.blocks e.levels (fan_wide bsize e.format size) c.small).0 fits.levels)
 
-few : (format : Format) (bsize : ℕ) (e : Entry) → 1 ≤ bsize
-    → (is_between 1 1048576 e.count && (if is_fixed format then nat_le (e.count * e.length) 67108864 && (e.blocks == up (e.count * e.length) bsize) else is_between 1 (67108864 / bsize) e.blocks)) ≡ true → AreFew format bsize e
-few F bsize e some fits =
-    let a = and_parts (is_between 1 1048576 e.count) (nat_le (e.count * e.length) 67108864 && (e.blocks == up (e.count * e.length) bsize)) fits in
-    let b = and_parts (nat_le (e.count * e.length) 67108864) (e.blocks == up (e.count * e.length) bsize) a.1 in
-    leb-true (e.count * e.length) 67108864 b.0
-few V bsize e some fits =
-    let a = and_parts (is_between 1 1048576 e.count) (is_between 1 (67108864 / bsize) e.blocks) fits in
-    let high = (between 1 (67108864 / bsize) e.blocks a.1).1 in
-    product e.blocks (67108864 / bsize) bsize 67108864 high (below 67108864 bsize)
+-- as many whole blocks as hold so many bytes have no more than 67,108,864, which is a multiple of each size
+filled : (bsize n : ℕ) → IsBlockSize bsize → n ≤ 67108864 → up n bsize * bsize ≤ 67108864
+filled bsize n (inl e) le = rw e (omega arith)
+filled bsize n (inr (inl e)) le = rw e (omega arith)
+filled bsize n (inr (inr (inl e))) le = rw e (omega arith)
+filled bsize n (inr (inr (inr e))) le = rw e (omega arith)
+
+few : (format : Format) (bsize count len blocks : ℕ) → IsBlockSize bsize → (not (is_fixed format) || is_between 1 65535 len) ≡ true
+    → (is_between 1 1048576 count && (if is_fixed format then nat_le (count * len) 67108864 && (blocks == up (count * len) bsize) else is_between 1 (67108864 / bsize) blocks)) ≡ true
+    → (blocks * bsize ≤ 67108864) × (format ≡ F → (count * len ≤ 67108864) × (len ≤ 65535))
+few F bsize count len blocks size long fits =
+    let a = and_parts (is_between 1 1048576 count) (nat_le (count * len) 67108864 && (blocks == up (count * len) bsize)) fits in
+    let b = and_parts (nat_le (count * len) 67108864) (blocks == up (count * len) bsize) a.1 in
+    let fit = leb-true (count * len) 67108864 b.0 in
+    let is : blocks ≡ up (count * len) bsize = eqb-true blocks (up (count * len) bsize) b.1 in
+    (rw is (filled bsize (count * len) size fit), λ f. (fit, (between 1 65535 len long).1))
+few V bsize count len blocks size long fits =
+    let a = and_parts (is_between 1 1048576 count) (is_between 1 (67108864 / bsize) blocks) fits in
+    let high = (between 1 (67108864 / bsize) blocks a.1).1 in
+    (product blocks (67108864 / bsize) bsize 67108864 high (below 67108864 bsize), λ f. absurd (cc f))
   where
     product : (a q b n : ℕ) → a ≤ q → q * b ≤ n → a * b ≤ n
     product a q b n le fits = grind arith
@@ -42,8 +57,8 @@ few V bsize e some fits =
     below n b = grind arith
 
 small : (bsize : ℕ) (e : Entry) → IsBlockSize bsize → EntryFits bsize e → HasSize bsize e
-unfolding counts_fit
-small bsize e size fits = let low = (block_bounds bsize size).0 in few e.format bsize e (omega arith) fits.counts
+unfolding length_fits counts_fit
+small bsize e size fits = few e.format bsize e.count e.length e.blocks size fits.long fits.counts
 
 each : (P : Entry → Type 0) (bsize : ℕ) (es : List Entry) → ((e : Entry) → EntryFits bsize e → P e) → AllFit bsize es → All P es
 each P bsize [] go fits k d less = absurd (omega arith)
@@ -55,6 +70,15 @@ entries_shaped bsize pieces es size is = each (HasShape bsize) bsize es (λ e fi
 
 pub entries_small : (bsize : ℕ) (pieces : List (List ℕ)) (es : List Entry) → IsBlockSize bsize → entries_of bsize 2 pieces ≡ Ok es → All (HasSize bsize) es
 entries_small bsize pieces es size is = each (HasSize bsize) bsize es (λ e fits. small bsize e size fits) (entries_fit bsize 2 pieces es is).0
+
+pub entries_pass : (bsize number : ℕ) (pieces : List (List ℕ)) (es : List Entry) → entries_of bsize number pieces ≡ Ok es → All (λ e. passes bsize e ≡ true) es
+unfolding entries_of
+entries_pass bsize number [] es is = subst (All (λ e. passes bsize e ≡ true)) (ok_same [] es is) (All-nil (λ e. passes bsize e ≡ true))
+entries_pass bsize number (bytes ∷ rest) es is =
+    bind_then (blamed (failed.Entry number) (entry_of bsize bytes)) _ es is (λ one is_one e1.
+    bind_then (entries_of bsize (number + 1) rest) _ es e1 (λ more is_more e2.
+    subst (All (λ e. passes bsize e ≡ true)) (ok_same (one ∷ more) es e2)
+    (All-cons (λ e. passes bsize e ≡ true) one more (entry_passes bsize bytes one (blamed_ok (failed.Entry number) (entry_of bsize bytes) one is_one)) (entries_pass bsize (number + 1) rest more is_more))))
 
 pub entries_stand : (n count blocks leaves bsize : ℕ) → n ≡ count - 2 → 2 ≤ count → count * 64 ≤ blocks * bsize → leaves ≡ blocks → (n + 2) * 64 ≤ leaves * bsize
 entries_stand n count blocks leaves bsize is some fits same = let e : n + 2 ≡ count = omega arith in rw (e, same) fits

@@ -26,3 +26,5 @@ pub mod EntryTests
 pub mod TreesRead
 pub mod RecordsRead
 pub mod VolumeOpened
+pub mod FilesNamed
+pub mod HeldFiles

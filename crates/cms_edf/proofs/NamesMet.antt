@@ -1,9 +1,10 @@
 -- Names that were met, kept in a set.
-use Rattle.std.proofs.Common.{◌≡◌, ⊎_elim, ℕ, zero, suc, ◌+◌, ◌<◌, ◌≤◌, Bool, true, false, if◌then◌else◌, List, [], ◌∷◌, length, drop, get_or, Some, None, refl, sym, ◌∙◌, ap, arith}
+use Rattle.std.proofs.Common.{◌≡◌, ⊎_elim, ℕ, zero, suc, ◌+◌, ◌<◌, ◌≤◌, Bool, true, false, if◌then◌else◌, List, [], ◌∷◌, length, map, take, drop, get_or, position, Some, None, refl, sym, ◌∙◌, ap, arith}
 use Rattle.std.specs.Prelude.{◌==◌, ◌&&◌, ◌||◌}
 use Rattle.std.specs.Str.{bytes_eq}
 use Rattle.std.specs.List.{list_any}
-use Rattle.std.proofs.lemmas.Bool.{cases_Bool, eqb-true, eq-eqb}
+use Rattle.std.specs.Map.{keys_of, lookup}
+use Rattle.std.proofs.lemmas.Bool.{or_parts, cases_Bool, eqb-true, eq-eqb}
 use Rattle.cms_names.specs.declared.name.Name.{Name}
 use Rattle.cms_fields.specs.declared.entry.Entry.{Entry}
 use Rattle.cms_model.specs.Lists.{same}
@@ -43,6 +44,47 @@ unfolding same_name
 same_back k q =
     ap (λ (b : Bool). b && bytes_eq k.kind q.kind) (bytes_same k.file q.file ∙ same_sym k.file q.file)
     ∙ ap (λ (b : Bool). same q.file k.file && b) (bytes_same k.kind q.kind ∙ same_sym k.kind q.kind)
+
+-- a name that is looked for among those that were put in
+pub same_there : (k q : Name) → same_as k q ≡ same_name k q
+unfolding same_name
+same_there k q =
+    ap (λ (b : Bool). b && bytes_eq k.kind q.kind) (bytes_same k.file q.file)
+    ∙ ap (λ (b : Bool). same k.file q.file && b) (bytes_same k.kind q.kind)
+
+pub place_there : (name : Name) (names : List Name) → position (same_as name) names ≡ position (same_name name) names
+place_there name names = ap (λ (test : Name → Bool). position test names) (λ i q. same_there name q i)
+
+-- one that is none of the keys is not found
+pub none_there : {X : Type 0} (name : Name) (es : List (Name × X)) → is_named name (keys_of es) ≡ false → lookup (same_as name) es ≡ None
+unfolding is_named
+none_there name [] none = refl
+none_there name (e ∷ es) none =
+    let parts = or_parts (same_name name e.0) (is_named name (keys_of es)) none in
+    let here : same_as name e.0 ≡ false = same_there name e.0 ∙ parts.0 in
+    rw here (none_there name es parts.1)
+
+-- where no name stands twice, that of an entry is none of those before it
+names_before : (number : ℕ) (before : List Name) (es : List Entry) (k : ℕ) (e : Entry) → first_twice number before es ≡ None → k < length es → e ≡ get_or es k e
+    → (is_named e.name before ≡ false) × (is_named e.name (map (λ x. x.name) (take k es)) ≡ false)
+unfolding first_twice is_named
+names_before number before [] k e once less is = absurd (omega arith)
+names_before number before (x ∷ es) zero e once less is = (rw is (none_first (is_named x.name before) once), refl)
+  where
+    none_first : (met : Bool) → (if met then Some number else first_twice (number + 1) (x.name ∷ before) es) ≡ None → met ≡ false
+    none_first true once = absurd (cc once)
+    none_first false once = refl
+names_before number before (x ∷ es) (suc k) e once less is =
+    let rest = names_before (number + 1) (x.name ∷ before) es k e (none_later (is_named x.name before) once) (omega arith) is in
+    let parts = or_parts (same_name e.name x.name) (is_named e.name before) rest.0 in
+    (parts.1, rw (parts.0) rest.1)
+  where
+    none_later : (met : Bool) → (if met then Some number else first_twice (number + 1) (x.name ∷ before) es) ≡ None → first_twice (number + 1) (x.name ∷ before) es ≡ None
+    none_later true once = absurd (cc once)
+    none_later false once = once
+
+pub name_is_new : (es : List Entry) (k : ℕ) (e : Entry) → first_twice 2 [] es ≡ None → k < length es → e ≡ get_or es k e → is_named e.name (map (λ x. x.name) (take k es)) ≡ false
+name_is_new es k e once less is = (names_before 2 [] es k e once less is).1
 
 -- the set has those that were met, and what is left is looked at behind them
 pub record Names (keys : List Name) (place : ℕ) (left all : List Entry) : Type 0 where

@@ -2,7 +2,6 @@
 use Rattle.std.proofs.Common.{◌≡◌, ℕ, zero, suc, ◌+◌, ◌*◌, ◌<◌, ◌≤◌, List, [], ◌∷◌, ◌++◌, length, take, drop, map, get_or, slice_index, Option, Some, Result, Ok, Err, refl, sym, ◌∙◌, ap, subst, arith, append-nil, length-append}
 use Rattle.std.specs.Prelude.{IfOk, IfErr}
 use Rattle.cms_journal.specs.Journal.{Journal}
-use Rattle.cms_names.specs.declared.name.Format.{Format}
 use Rattle.cms_names.specs.declared.name.Format.TheVariants.{F, V}
 use Rattle.cms_fields.specs.Steps.{◌>>=◌}
 use Rattle.cms_fields.specs.declared.entry.Entry.{Entry}
@@ -18,7 +17,7 @@ use Rattle.cms_records.specs.Scans.{Scan, IsFed, sizes_in, sizes_of}
 use Rattle.cms_tree.specs.declared.types.Walked.{Walked}
 use Rattle.cms_edf.specs.Opening.{IsFaultOf, HeldFile}
 use Rattle.cms_edf.specs.OpeningSteps.{met_in, behind}
-use Rattle.cms_edf.specs.EntryShapes.{AreFew, HasSize}
+use Rattle.cms_edf.specs.EntryShapes.{HasSize}
 use Rattle.cms_edf.specs.OpeningFiles.{records_in, AreSized, HasRecords, told_file, told_files, HasContents, HaveCounts}
 use Rattle.cms_edf.proofs.Faults.{fault_is, fault_passes}
 use Rattle.cms_edf.proofs.Gathered.{Reads, reads_first, reads_next, reads_last}
@@ -69,10 +68,13 @@ room_left k n b most less fits = grind arith
 -- ---- one file
 
 pub fixed_few : (bsize : ℕ) (e : Entry) → HasSize bsize e → e.format ≡ F → e.count * e.length ≤ 67108864
-fixed_few bsize e size is = subst (λ (f : Format). AreFew f bsize e) is size
+fixed_few bsize e size is = (size.1 is).0
+
+pub fixed_short : (bsize : ℕ) (e : Entry) → HasSize bsize e → e.format ≡ F → e.length ≤ 65535
+fixed_short bsize e size is = (size.1 is).1
 
 pub varying_few : (bsize : ℕ) (e : Entry) (n : ℕ) → HasSize bsize e → e.format ≡ V → n ≡ e.blocks → n * bsize ≤ 67108864
-varying_few bsize e n size is count = let few : e.blocks * bsize ≤ 67108864 = subst (λ (f : Format). AreFew f bsize e) is size in rw count few
+varying_few bsize e n size is count = rw count size.0
 
 pub fixed_has : (bsize : ℕ) (image : Image) (number : ℕ) (e : Entry) (leaves : List ℕ) (sizes : VarSizes) → e.format ≡ F → sizes.longest ≡ e.length → sizes.stored ≡ e.count * e.length → HasRecords bsize image number e leaves sizes
 unfolding records_of

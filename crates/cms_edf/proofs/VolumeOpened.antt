@@ -20,7 +20,7 @@ use Rattle.cms_tree.specs.declared.types.Walked.{Walked}
 use Rattle.cms_edf.specs.declared.open.Place.{Place}
 use Rattle.cms_edf.specs.declared.open.Listing.{Listing}
 use Rattle.cms_edf.specs.declared.volume.Trees.{Trees}
-use Rattle.cms_edf.specs.Opening.{HeldFile, HeldVolume, IsFaultOf, AnswersOpening, held_file, held_files, held_of}
+use Rattle.cms_edf.specs.Opening.{HeldFile, HeldVolume, Holding, IsFaultOf, AnswersOpening, held_file, held_files, held_of}
 use Rattle.cms_edf.specs.OpeningSteps.{Listed, Treed, listed, met_in, system_at, listed_in, trees_in, lost_in}
 use Rattle.cms_edf.specs.OpeningFiles.{file_nodes, pointers_in, HasTrees, read_trees, told_file, told_files, opened, behind_label, HasVolume}
 use Rattle.cms_edf.proofs.Faults.{fault_is, fault_passes}
@@ -131,9 +131,9 @@ behind_is : (disk : Disk) (image : Image) (bytes : List ℕ) (label : Label) →
 behind_is disk image bytes label some is good =
     from_label disk image some ∙ ap (λ (r : Result Label OpenFault). r >>= behind_label disk image) (ap (λ (b : List ℕ). blamed failed.Label (label_of disk.bsize disk.count b)) (sym is) ∙ good)
 
-pub answered : (unit : ℕ) (disk : Disk) (told : Option Journal) (image : Journal → Image) (label : Label) (bytes : List ℕ) (r : Result HeldVolume OpenFault) → 6 ≤ disk.count
+pub answered : (unit : ℕ) (disk : Disk) (told : Option Journal) (image : Journal → Image) (label : Label) (bytes : List ℕ) (r : Result Holding OpenFault) → 6 ≤ disk.count
     → ((j : Journal) → told ≡ Some j → bytes ≡ image j 3) → blamed failed.Label (label_of disk.bsize disk.count bytes) ≡ Ok label
-    → IfOk r (λ held. (j : Journal) → told ≡ Some j → HasVolume unit disk (image j) label held)
+    → IfOk r (λ held. (j : Journal) → told ≡ Some j → HasVolume unit disk (image j) label held.volume)
     → IfErr r (λ why. (j : Journal) → told ≡ Some j → IsFaultOf (behind_label disk (image j) label) why)
     → (j : Journal) → told ≡ Some j → AnswersOpening unit disk (image j) r
 answered unit disk told image label bytes (Ok held) some is good ok err j at =

@@ -7,3 +7,6 @@ pub mod Opening
 pub mod OpeningSteps
 pub mod EntryShapes
 pub mod OpeningFiles
+pub mod Kept
+pub mod Asking
+pub mod LawsHeld

@@ -1,5 +1,6 @@
 -- A volume as it is held in memory, and what opening answers.
-use Rattle.std.specs.Prelude.{◌≡◌, ℕ, ◌*◌, Bool, List, [], ◌∷◌, length, Result, Ok, Err, ⊤}
+use Rattle.std.specs.Prelude.{◌≡◌, ℕ, ◌*◌, Bool, List, [], ◌∷◌, length, map, Result, Ok, Err, ⊤}
+use Rattle.cms_names.specs.declared.name.Name.{Name}
 use Rattle.cms_names.specs.declared.name.Format.{Format}
 use Rattle.cms_names.specs.declared.name.Format.TheVariants.{F, V}
 use Rattle.cms_fields.specs.declared.label.Label.{Label}
@@ -37,6 +38,19 @@ pub record HeldVolume : Type 0 where
   pub bits : List Bool
   pub files : List HeldFile
   pub lost : ℕ
+
+-- a volume, and for how many more files its holder has room with no more memory
+pub record Holding : Type 0 where
+  pub volume : HeldVolume
+  pub spare : ℕ
+
+-- the names of files
+abbrev pub names_in : List HeldFile → List Name
+names_in files = map (λ f. f.entry.name) files
+
+-- files, each under its name
+abbrev pub by_name : List HeldFile → List (Name × HeldFile)
+by_name files = map (λ f. (f.entry.name, f)) files
 
 -- ---- how an open volume is held
 
@@ -98,6 +112,6 @@ IsFaultOf found (failed.Twice n) = found ≡ Err (failed.Twice n)
 IsFaultOf found (failed.System n) = found ≡ Err (failed.System n)
 
 -- what is answered for this image of a unit: the volume that opens, as it is held, or the first test that fails
-abbrev pub AnswersOpening : ℕ → Disk → Image → Result HeldVolume OpenFault → Type 0
-AnswersOpening unit disk image (Ok held) = (v : Opened) × (open_of disk image ≡ Ok v) × (held ≡ held_of unit disk image v)
+abbrev pub AnswersOpening : ℕ → Disk → Image → Result Holding OpenFault → Type 0
+AnswersOpening unit disk image (Ok held) = (v : Opened) × (open_of disk image ≡ Ok v) × (held.volume ≡ held_of unit disk image v)
 AnswersOpening unit disk image (Err why) = IsFaultOf (open_of disk image) why

@@ -1,27 +1,33 @@
 // The records of the files of any volume, as opening reads them: none but those of varying lengths, a block at a time.
-ghost use Rattle.std.specs.Prelude.{◌≡◌, ◌⊎◌, ◌≤◌, ◌<◌, ◌+◌, ◌*◌, ◌++◌, ◌∷◌, [], ℕ, List, All, length, map, slice_index, Ok, Err, IfOk, IfErr, OnOk, None};
+ghost use Rattle.std.specs.Prelude.{◌≡◌, ◌⊎◌, ◌≤◌, ◌<◌, ◌+◌, ◌*◌, ◌++◌, ◌∷◌, [], ℕ, List, All, length, map, slice_index, true, false, Ok, Err, IfOk, IfErr, OnOk, None};
 ghost use Rattle.std.specs.Option.{ForSome};
 ghost use Rattle.cms_journal.specs.Causes.{Rose};
 ghost use Rattle.cms_journal.specs.Journal.{HasBlock, HasBlocks, contents_of};
 ghost use Rattle.cms_model.specs.Trees.{image_of, bytes_at};
-ghost use Rattle.cms_model.specs.Volumes.{blamed, contents_in};
+ghost use Rattle.indexmap.specs.IndexMap.{keys, values};
+ghost use Rattle.cms_fields.specs.Entries.{passes};
+ghost use Rattle.cms_names.specs.declared.name.Format.TheVariants.{F};
+ghost use Rattle.cms_model.specs.Minidisks.{is_named};
+ghost use Rattle.cms_model.specs.Volumes.{blamed, contents_in, first_twice};
 ghost use Rattle.cms_model.specs.declared.fault.OpenFault.TheVariants as failed;
 ghost use Rattle.cms_records.specs.Scans.{IsFed, sizes_in};
 ghost use Rattle.cms_tree.specs.Walks.{IsWithin};
-ghost use Rattle.cms_edf.specs.Opening.{IsFaultOf, HeldFile};
+ghost use Rattle.cms_edf.specs.Opening.{IsFaultOf, by_name};
+ghost use Rattle.cms_edf.specs.Kept.{IsKeptFile};
 ghost use Rattle.cms_edf.specs.OpeningSteps.{OfImage, met_in};
 ghost use Rattle.cms_edf.specs.EntryShapes.{HasSize};
 ghost use Rattle.cms_edf.specs.OpeningFiles.{records_in, HasRecords, HasContents, HaveCounts};
 
-use crate::held::{OpenFile, TreeBlocks};
+use crate::held::{FileHeld, TreeBlocks};
 use crate::open::Place;
 use crate::trees::block_of;
 use cms_fields::Entry;
 use cms_model::OpenFault;
-use cms_names::Format;
+use cms_names::{Format, Name};
 use cms_records::{VarScan, VarSizes};
 use cms_tree::Walked;
 use cms_world::World;
+use indexmap::IndexMap;
 use std::alloc::Global;
 
 // Takes the next block of the file of a number.
@@ -44,6 +50,8 @@ fn feed(scan: &mut VarScan, number: u32, block: &[u8]) -> Result<(), OpenFault>
 fn end(scan: &VarScan, number: u32) -> Result<VarSizes, OpenFault>
     ensures told { (count : ℕ) (bytes : List ℕ) → IsFed count bytes scan.now → result ≡ blamed (failed.Var number)
         (sizes_in scan.now.bsize count bytes) }
+    ensures longest { IfOk result (λ sizes. sizes.longest ≤ 65535) }
+    ensures stored { IfOk result (λ sizes. sizes.stored ≤ 67108864) }
     ensures device { IfErr result (λ e. e ≡ failed.Device → ⊥) }
 {
     match scan.end() {
@@ -69,6 +77,8 @@ fn read_varying<W: World>(
         (sizes_in place.now.bsize count (bytes_at image leaves.now)) ≡ Ok sizes)) }
     ensures fault { IfErr result (λ why. OfImage (W.told world.old) place.now.unit (λ image. IsFaultOf (blamed (failed.Var number)
         (sizes_in place.now.bsize count (bytes_at image leaves.now))) why)) }
+    ensures longest { IfOk result (λ sizes. sizes.longest ≤ 65535) }
+    ensures stored { IfOk result (λ sizes. sizes.stored ≤ 67108864) }
     ensures cause { IfErr result (λ e. e ≡ failed.Device → Rose (W.faults world.old) (W.faults world.new)) }
     ensures told { W.told world.new ≡ W.told world.old }
     ensures faults { W.faults world.old ≤ W.faults world.new }
@@ -100,6 +110,9 @@ fn read_sizes<W: World>(
         HasRecords place.now.bsize image number entry.now leaves.now sizes)) }
     ensures fault { IfErr result (λ why. OfImage (W.told world.old) place.now.unit (λ image.
         IsFaultOf (records_in place.now.bsize image number entry.now leaves.now) why)) }
+    ensures longest { IfOk result (λ sizes. sizes.longest ≤ 65535) }
+    ensures fixed { IfOk result (λ sizes. entry.now.format ≡ F → sizes.longest ≡ entry.now.length) }
+    ensures stored { IfOk result (λ sizes. sizes.stored ≤ 67108864) }
     ensures cause { IfErr result (λ e. e ≡ failed.Device → Rose (W.faults world.old) (W.faults world.new)) }
     ensures told { W.told world.new ≡ W.told world.old }
     ensures faults { W.faults world.old ≤ W.faults world.new }
@@ -115,7 +128,7 @@ fn read_sizes<W: World>(
 }
 
 // A file with its tree, and with what is told of its records.
-fn file_of(entry: Entry, tree: Walked, sizes: &VarSizes) -> OpenFile
+fn file_of(entry: Entry, tree: Walked, sizes: &VarSizes) -> FileHeld
     ensures { result ≡ record {
       entry = entry;
       tree = record { leaves = tree.leaves.items; pointers = tree.pointers.items };
@@ -123,7 +136,7 @@ fn file_of(entry: Entry, tree: Walked, sizes: &VarSizes) -> OpenFile
       size = sizes.now.stored;
     } }
 {
-    OpenFile {
+    FileHeld {
         entry,
         tree: TreeBlocks {
             leaves: tree.leaves,
@@ -134,33 +147,40 @@ fn file_of(entry: Entry, tree: Walked, sizes: &VarSizes) -> OpenFile
     }
 }
 
-// Appends a file.
-fn push(files: &mut Vec<OpenFile>, file: OpenFile) -> Result<(), OpenFault>
-    ensures ok { OnOk result (files.new.items ≡ files.old.items ++ (file ∷ [])) }
+// Adds a file behind the others, none of which has its name.
+fn insert(files: &mut IndexMap<Name, FileHeld>, file: FileHeld) -> Result<(), OpenFault>
+    requires new { is_named file.entry.name (keys files.old) ≡ false }
+    ensures ok { OnOk result (files.new.entries ≡ files.old.entries ++ ((file.entry.name, file) ∷ [])) }
     ensures fault { IfErr result (λ e. e ≡ failed.Memory) }
 {
-    match files.push(file) {
-        Ok(()) => Ok(()),
+    let name = file.entry().name;
+    match files.insert(name, file) {
+        Ok(_) => Ok(()),
         Err(_) => Err(OpenFault::Memory),
     }
 }
 
-/// The files of these entries with their trees, once their records were read.
+/// The files of these entries, whose names are distinct, with their trees, once their records were read.
 pub fn read_contents<W: World>(
     alloc: Global,
     world: &mut W,
     place: &Place,
     entries: &[Entry],
     trees: Vec<Walked>,
-) -> Result<Vec<OpenFile>, OpenFault>
+) -> Result<IndexMap<Name, FileHeld>, OpenFault>
     requires few { length entries.now ≤ 16384 }
     requires count { length trees.items ≡ length entries.now }
+    requires entries { All (λ e. passes place.now.bsize e ≡ true) entries.now }
+    requires names { first_twice 2 [] entries.now ≡ None }
     requires sizes { All (HasSize place.now.bsize) entries.now }
     requires counts { HaveCounts entries.now trees.items }
     requires within { All (IsWithin place.now.total None) trees.items }
     requires blocks { ForSome (W.told world.old) (λ j. HasBlocks j.units place.now.unit place.now.total place.now.bsize) }
-    ensures read { IfOk result (λ v. OfImage (W.told world.old) place.now.unit (λ image.
-        HasContents place.now.bsize image entries.now trees.items v.items)) }
+    ensures read { IfOk result (λ files. OfImage (W.told world.old) place.now.unit (λ image.
+        HasContents place.now.bsize image entries.now trees.items (values files))) }
+    ensures names { IfOk result (λ files. files.entries ≡ by_name (values files)) }
+    ensures few { IfOk result (λ files. length (values files) ≤ 16384) }
+    ensures each { IfOk result (λ files. All (IsKeptFile place.now.bsize place.now.total) (values files)) }
     ensures fault { IfErr result (λ why. OfImage (W.told world.old) place.now.unit (λ image. IsFaultOf
         (contents_in place.now.bsize image 2 entries.now (map met_in trees.items)) why)) }
     ensures cause { IfErr result (λ e. e ≡ failed.Device → Rose (W.faults world.old) (W.faults world.new)) }
@@ -168,12 +188,12 @@ pub fn read_contents<W: World>(
     ensures faults { W.faults world.old ≤ W.faults world.new }
     ensures edges { W.edges world.new ≡ W.edges world.old }
 {
-    let mut files = Vec::new(alloc);
+    let mut files = IndexMap::new(alloc);
     for tree in trees {
         let nth = files.len();
         let entry = entries[nth];
         let sizes = read_sizes(alloc, world, place, nth as u32 + 2, &entry, &tree.leaves)?;
-        push(&mut files, file_of(entry, tree, &sizes))?;
+        insert(&mut files, file_of(entry, tree, &sizes))?;
     }
     Ok(files)
 }

@@ -1,7 +1,16 @@
-// A volume as it is held in memory.
-use cms_fields::{Entry, Label};
+// A volume as it is held in memory, and what is asked of it.
+ghost use Rattle.std.specs.Prelude.{◌≡◌, ◌<◌, ◌≤◌, Some, length, map, position, slice_get};
+ghost use Rattle.indexmap.specs.IndexMap.{keys, values};
+ghost use Rattle.cms_model.specs.Minidisks.{same_name};
+ghost use Rattle.cms_edf.specs.Opening.{names_in};
+ghost use Rattle.cms_edf.specs.Kept.{Keeps};
+ghost use Rattle.cms_edf.specs.Asking.{info_of, infos_in, leaves_in, space_of};
+
+use cms_fields::{Entry, Label, Stamp};
 use cms_journal::BlockSize;
 use cms_map::Map;
+use cms_names::{Format, Name};
+use indexmap::IndexMap;
 use std::marker::Model;
 
 /// The blocks of a tree: its data blocks in order, and its pointer blocks in preorder.
@@ -19,23 +28,96 @@ impl Model for TreeBlocks {
     ghost view = { λ t. record { leaves = t.leaves.items; pointers = t.pointers.items } };
 }
 
-/// A file of an open volume.
+/// A file of an open volume: all of it but its data.
 #[derive(Drop)]
-pub struct OpenFile {
-    pub entry: Entry,
-    pub tree: TreeBlocks,
-    /// the length of each record at F, of the longest at V, 1 to 65,535
-    pub length: u32,
-    /// the number of its stored bytes
-    pub size: u32,
+pub struct FileHeld {
+    pub(crate) entry: Entry,
+    pub(crate) tree: TreeBlocks,
+    pub(crate) length: u32,
+    pub(crate) size: u32,
 }
 
-impl Model for OpenFile {
+impl Model for FileHeld {
     ghost use Rattle.cms_edf.specs.Opening.{HeldFile};
 
     ghost Value = { HeldFile };
 
     ghost view = { λ f. record { entry = f.entry; tree = f.tree; length = f.length; size = f.size } };
+}
+
+impl FileHeld {
+    /// What the directory says of the file.
+    pub fn entry(&self) -> &Entry
+        ensures { result.now ≡ self.now.entry }
+    {
+        &self.entry
+    }
+
+    /// Its data blocks, in order.
+    pub fn leaves(&self) -> &[u32]
+        ensures { result.now ≡ self.now.tree.leaves }
+    {
+        &self.tree.leaves
+    }
+
+    /// The length of each of its records at F, of the longest at V, 1 to 65,535.
+    pub fn length(&self) -> u32
+        ensures { result ≡ self.now.length }
+    {
+        self.length
+    }
+
+    /// The number of its stored bytes, at most 67,108,864: at V with the two bytes of each record's length.
+    pub fn size(&self) -> u32
+        ensures { result ≡ self.now.size }
+    {
+        self.size
+    }
+
+    // What is told of it.
+    fn info(&self) -> FileInfo
+        ensures { result ≡ info_of self.now }
+    {
+        let entry = &self.entry;
+        FileInfo {
+            name: entry.name,
+            number: entry.number,
+            format: entry.format,
+            length: self.length,
+            count: entry.count,
+            blocks: entry.blocks,
+            stamp: entry.stamp,
+        }
+    }
+}
+
+/// What is told of a file.
+#[derive(Clone, Copy, Debug, PartialEq, Eq)]
+pub struct FileInfo {
+    pub name: Name,
+    /// the mode number, 0 to 6
+    pub number: u8,
+    pub format: Format,
+    /// the length of each record at F, of the longest at V, 1 to 65,535
+    pub length: u32,
+    /// records, 1 to 1,048,576
+    pub count: u32,
+    /// data blocks, without the pointer blocks over them
+    pub blocks: u32,
+    pub stamp: Stamp,
+}
+
+/// The room of a volume.
+#[derive(Clone, Copy, Debug, PartialEq, Eq)]
+pub struct Space {
+    /// the volume id, in EBCDIC
+    pub volid: [u8; 6],
+    /// the bytes of a block: 512, 1,024, 2,048 or 4,096
+    pub bsize: u32,
+    /// the volume's blocks
+    pub total: u32,
+    /// those of them that are free: neither in use nor lost
+    pub free: u32,
 }
 
 /// A volume as it is held in memory: all of it but the files' data.
@@ -49,24 +131,93 @@ pub struct Held {
     pub(crate) directory: TreeBlocks,
     pub(crate) map_tree: TreeBlocks,
     pub(crate) map: Map,
-    pub(crate) files: Vec<OpenFile>,
+    pub(crate) files: IndexMap<Name, FileHeld>,
     pub(crate) lost: u32,
 }
 
 impl Model for Held {
-    ghost use Rattle.cms_edf.specs.Opening.{HeldVolume};
+    ghost use Rattle.std.specs.Prelude.{◌≡◌};
+    ghost use Rattle.indexmap.specs.IndexMap.{values, spare};
+    ghost use Rattle.cms_edf.specs.Opening.{Holding, by_name};
+    ghost use Rattle.cms_edf.specs.Kept.{IsKept};
 
-    ghost Value = { HeldVolume };
+    ghost Value = { Holding };
 
     ghost view = { λ h. record {
-      unit = h.unit;
-      disk = record { bsize = h.bsize; count = h.blocks };
-      label = h.label;
-      label_bytes = h.label_bytes.items;
-      directory = h.directory;
-      map = h.map_tree;
-      bits = h.map;
-      files = h.files.items;
-      lost = h.lost;
+      volume = record {
+        unit = h.unit;
+        disk = record { bsize = h.bsize; count = h.blocks };
+        label = h.label;
+        label_bytes = h.label_bytes.items;
+        directory = h.directory;
+        map = h.map_tree;
+        bits = h.map;
+        files = values h.files;
+        lost = h.lost;
+      };
+      spare = spare h.files;
     } };
+
+    ghost invariant = { λ h. (h.files.entries ≡ by_name (values h.files))
+        × IsKept h.bsize h.blocks h.label.blocks h.map (values h.files) };
+}
+
+impl Held {
+    /// The number of files, at most 16,384.
+    pub fn count(&self) -> u32
+        ensures count { result ≡ length self.now.volume.files }
+        ensures kept { Keeps self.now.volume }
+    {
+        self.files.len() as u32
+    }
+
+    /// What is told of the file at a place, from 0 below their number.
+    pub fn info(&self, nth: u32) -> FileInfo
+        requires { nth < length self.now.volume.files }
+        ensures info { slice_get (infos_in self.now.volume) nth ≡ Some result }
+        ensures kept { Keeps self.now.volume }
+    {
+        self.files[nth as usize].info()
+    }
+
+    /// The place of the file of a name, from 0; none exactly where no file has that name.
+    pub fn find(&self, name: &Name) -> Option<u32>
+        ensures place { result ≡ position (same_name name.now) (names_in self.now.volume.files) }
+        ensures kept { Keeps self.now.volume }
+    {
+        match self.files.get_index_of(name) {
+            Some(place) => Some(place as u32),
+            None => None,
+        }
+    }
+
+    /// The volume id, the size of blocks, and how many there are and are free.
+    pub fn space(&self) -> Space
+        ensures { result ≡ space_of self.now.volume }
+    {
+        Space {
+            volid: self.label.volid,
+            bsize: self.bsize.bytes(),
+            total: self.label.blocks,
+            free: self.map.free_count(),
+        }
+    }
+
+    /// The data blocks, in order, of the file at a place, from 0 below their number.
+    pub fn leaves(&self, nth: u32) -> &[u32]
+        requires { nth < length self.now.volume.files }
+        ensures leaves { slice_get (leaves_in self.now.volume) nth ≡ Some result.now }
+        ensures kept { Keeps self.now.volume }
+    {
+        self.files[nth as usize].leaves()
+    }
+
+    /// The files by their names, in the order of the directory.
+    pub fn by_name(&self) -> &IndexMap<Name, FileHeld>
+        ensures names { keys result.now ≡ names_in self.now.volume.files }
+        ensures files { values result.now ≡ self.now.volume.files }
+        ensures kept { Keeps self.now.volume }
+    {
+        &self.files
+    }
 }

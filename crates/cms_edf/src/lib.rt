@@ -8,6 +8,7 @@ mod entries;
 mod erase;
 mod files;
 mod held;
+mod laws;
 mod map;
 mod met;
 mod open;
@@ -20,12 +21,15 @@ mod written;
 
 pub use cms_model::{FileData, OpenFault, Stored, VarFault};
 pub use erase::SmallErase;
-pub use held::Held;
+pub use held::{FileHeld, FileInfo, Held, Space};
+pub use laws::held_laws;
 pub use opening::open_volume;
 pub use small::{Small, SmallFault, SmallInfo, small_volume};
 
 #[cfg(test)]
 mod erase_tests;
+#[cfg(test)]
+mod held_tests;
 #[cfg(test)]
 mod opening_tests;
 #[cfg(test)]

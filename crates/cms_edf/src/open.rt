@@ -1,8 +1,9 @@
 // Any volume is opened, test by test.
-ghost use Rattle.std.specs.Prelude.{◌≡◌, ◌⊎◌, ◌≤◌, ◌<◌, ◌+◌, ◌^◌, ◌*◌, ◌/◌, [], All, Some, None, IfOk, IfErr, OnOk, length};
+ghost use Rattle.std.specs.Prelude.{◌≡◌, ◌⊎◌, ◌≤◌, ◌<◌, ◌+◌, ◌^◌, ◌*◌, ◌/◌, [], All, true, Some, None, IfOk, IfErr, OnOk, length};
 ghost use Rattle.std.specs.Option.{ForSome};
 ghost use Rattle.cms_journal.specs.Causes.{Rose};
 ghost use Rattle.cms_journal.specs.Journal.{HasBlocks, contents_of};
+ghost use Rattle.cms_fields.specs.Entries.{passes};
 ghost use Rattle.cms_model.specs.Trees.{image_of};
 ghost use Rattle.cms_model.specs.Sizes.{levels};
 ghost use Rattle.cms_model.specs.Volumes.{absent, first_twice};
@@ -91,6 +92,8 @@ pub fn read_listing<W: World>(
     ensures entries { IfOk result (λ l. (length l.entries.items + 2) * 64 ≤ length l.walked.leaves.items * place.now.bsize) }
     ensures shapes { IfOk result (λ l. All (HasShape place.now.bsize) l.entries.items) }
     ensures sizes { IfOk result (λ l. All (HasSize place.now.bsize) l.entries.items) }
+    ensures passing { IfOk result (λ l. All (λ e. passes place.now.bsize e ≡ true) l.entries.items) }
+    ensures names { IfOk result (λ l. first_twice 2 [] l.entries.items ≡ None) }
     ensures few { IfOk result (λ l. length l.entries.items ≤ 16384) }
     ensures within { IfOk result (λ l. IsWithin place.now.total (Some place.now.origin) l.walked) }
     ensures cause { IfErr result (λ e. e ≡ failed.Device → Rose (W.faults world.old) (W.faults world.new)) }

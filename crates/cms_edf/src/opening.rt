@@ -6,6 +6,7 @@ ghost use Rattle.cms_journal.specs.Journal.{HasBlocks, contents_of};
 ghost use Rattle.cms_model.specs.Trees.{image_of};
 ghost use Rattle.cms_model.specs.declared.fault.OpenFault.TheVariants.{Device};
 ghost use Rattle.cms_edf.specs.Opening.{IsFaultOf, AnswersOpening};
+ghost use Rattle.cms_edf.specs.Kept.{Keeps};
 ghost use Rattle.cms_edf.specs.OpeningFiles.{HasVolume, behind_label};
 ghost use Rattle.cms_edf.specs.OpeningSteps.{OfImage};
 
@@ -60,7 +61,10 @@ fn open_labelled<W: World>(
     requires bytes { OfImage (W.told world.old) unit.now.number (λ image. label_bytes.items ≡ image 3) }
     requires blocks { ForSome (W.told world.old) (λ j. HasBlocks j.units unit.now.number unit.now.blocks bsize) }
     ensures read { IfOk result (λ held. OfImage (W.told world.old) unit.now.number (λ image.
-        HasVolume unit.now.number (record { bsize = bsize; count = unit.now.blocks }) image label held)) }
+        HasVolume unit.now.number (record { bsize = bsize; count = unit.now.blocks }) image label held.volume)) }
+    ensures disk { IfOk result (λ held. held.volume.disk ≡ record { bsize = bsize; count = unit.now.blocks }) }
+    ensures unit { IfOk result (λ held. held.volume.unit ≡ unit.now.number) }
+    ensures kept { IfOk result (λ held. Keeps held.volume) }
     ensures fault { IfErr result (λ why. OfImage (W.told world.old) unit.now.number (λ image.
         IsFaultOf (behind_label (record { bsize = bsize; count = unit.now.blocks }) image label) why)) }
     ensures cause { IfErr result (λ e. e ≡ Device → Rose (W.faults world.old) (W.faults world.new)) }
@@ -99,6 +103,9 @@ pub fn open_volume<W: World>(
     requires blocks { ForSome (W.told world.old) (λ j. HasBlocks j.units unit.now.number unit.now.blocks bsize) }
     ensures answers { OfImage (W.told world.old) unit.now.number (λ image.
         AnswersOpening unit.now.number (record { bsize = bsize; count = unit.now.blocks }) image result) }
+    ensures disk { IfOk result (λ held. held.volume.disk ≡ record { bsize = bsize; count = unit.now.blocks }) }
+    ensures unit { IfOk result (λ held. held.volume.unit ≡ unit.now.number) }
+    ensures kept { IfOk result (λ held. Keeps held.volume) }
     ensures cause { IfErr result (λ e. e ≡ Device → Rose (W.faults world.old) (W.faults world.new)) }
     ensures told { W.told world.new ≡ W.told world.old }
     ensures faults { W.faults world.old ≤ W.faults world.new }

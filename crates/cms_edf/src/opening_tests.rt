@@ -11,16 +11,16 @@ use std::test::Fail;
 // Some places of an image are changed, and the first test that fails then.
 type Damage = (&'static [Edit], OpenFault);
 
-// A world with the image, whose call of a number fails.
-fn world_of(alloc: Global, image: &[u8], failing: u32) -> Result<MemWorld, AllocError> {
+/// A world with the image, whose call of a number fails.
+pub fn world_of(alloc: Global, image: &[u8], failing: u32) -> Result<MemWorld, AllocError> {
     let mut world = MemWorld::new(alloc, b"", 0)?;
     world.add_image("disk", image)?;
     world.fail_at(failing, false)?;
     Ok(world)
 }
 
-// Opens the volume on the world's first unit.
-fn open(alloc: Global, world: &mut MemWorld) -> Option<Result<Held, OpenFault>> {
+/// Opens the volume on the world's first unit.
+pub fn open(alloc: Global, world: &mut MemWorld) -> Option<Result<Held, OpenFault>> {
     if world.units() > 0 {
         return None;
     }
@@ -199,10 +199,10 @@ fn the_first_test_that_fails_is_told(rt: HostRuntime) -> Result<(), Fail> {
 }
 
 // The blocks, files and lost blocks of the volume that opens.
-fn sizes_of(alloc: Global, image: &[u8]) -> Result<Option<(u32, usize, u32)>, AllocError> {
+fn sizes_of(alloc: Global, image: &[u8]) -> Result<Option<(u32, u32, u32)>, AllocError> {
     let mut world = world_of(alloc, image, 1000)?;
     match open(alloc, &mut world) {
-        Some(Ok(held)) => Ok(Some((held.label.blocks, held.files.len(), held.lost))),
+        Some(Ok(held)) => Ok(Some((held.label.blocks, held.count(), held.lost))),
         _ => Ok(None),
     }
 }
@@ -225,11 +225,13 @@ fn each_block_is_read_once(rt: HostRuntime) -> Result<(), Fail> {
     let Some(Ok(held)) = open(alloc, &mut world) else {
         panic!(rt; "the volume isn't opened");
     };
-    assert_eq!(rt; held.files.len(), 1);
-    assert_eq!(rt; held.files[0].length, 509);
-    assert_eq!(rt; held.files[0].size, 516);
-    assert_eq!(rt; held.files[0].tree.leaves.as_slice(), [7, 8].as_slice());
-    assert_eq!(rt; held.files[0].tree.pointers.as_slice(), [9].as_slice());
+    let Some((_, file)) = held.by_name().first() else {
+        panic!(rt; "there is no file");
+    };
+    assert_eq!(rt; file.length(), 509);
+    assert_eq!(rt; file.size(), 516);
+    assert_eq!(rt; file.leaves(), [7, 8].as_slice());
+    assert_eq!(rt; file.tree.pointers.as_slice(), [9].as_slice());
     assert_eq!(rt; world.calls(), b"arrrrrr".as_slice());
     Ok(())
 }

@@ -102,6 +102,7 @@ pub fn read_marks<W: World>(
     requires map { IsWithin place.now.total None trees.now.map }
     requires files { All (IsWithin place.now.total None) trees.now.files.items }
     requires blocks { ForSome (W.told world.old) (λ j. HasBlocks j.units place.now.unit place.now.total place.now.bsize) }
+    ensures count { IfOk result (λ m. length m.map ≡ place.now.total) }
     ensures bits { IfOk result (λ m. OfImage (W.told world.old) place.now.unit (λ image. m.map ≡ bits_in place.now.total
         (bytes_at image trees.now.map.leaves.items))) }
     ensures lost { IfOk result (λ m. OfImage (W.told world.old) place.now.unit (λ image. lost_in

@@ -37,7 +37,7 @@ impl Model for VarScan {
       longest = s.longest;
     } };
 
-    ghost invariant = { λ s. (s.place ≤ s.fed) × (s.fed ≤ 67108864) × IfSome s.size (λ n. n < 65536) };
+    ghost invariant = { λ s. (s.place ≤ s.fed) × (s.fed ≤ 67108864) × (s.longest ≤ 65535) × IfSome s.size (λ n. n < 65536) };
 }
 
 impl VarScan {
@@ -82,7 +82,9 @@ impl VarScan {
     /// What is told of the records, once all bytes came. `PastEnd` with the place of a record that passes the end, and `Left`
     /// with that behind the last record where a whole block or more remains.
     pub fn end(&self) -> Result<VarSizes, VarFault>
-        ensures { (count : ℕ) (bytes : List ℕ) → IsFed count bytes self.now → result ≡ sizes_in self.now.bsize count bytes }
+        ensures told { (count : ℕ) (bytes : List ℕ) → IsFed count bytes self.now → result ≡ sizes_in self.now.bsize count bytes }
+        ensures longest { IfOk result (λ sizes. sizes.longest ≤ 65535) }
+        ensures stored { IfOk result (λ sizes. sizes.stored ≤ 67108864) }
     {
         if self.left > 0 {
             return Err(VarFault::PastEnd(self.place));

@@ -1,12 +1,23 @@
-use Rattle.std.proofs.Common.{rules, ◌≡◌, ◌++◌, ◌∷◌, [], ◌+◌, ◌<◌, ℕ, List, None, length, get_or, refl, sym, ◌∙◌, ap, subst, arith, append_assoc, append-nil}
+use Rattle.std.proofs.Common.{rules, ◌≡◌, ◌++◌, ◌∷◌, [], ◌+◌, ◌<◌, ℕ, true, List, None, length, map, take, get_or, refl, sym, ◌∙◌, ap, subst, arith, append_assoc, append-nil}
+use Rattle.std.specs.Map.{keys_of}
 use Rattle.std.specs.Vec.Iter.{into_iter_items}
-use Rattle.std.proofs.lemmas.List.{length_push}
+use Rattle.std.proofs.lemmas.List.{length_push, map_push}
+use Rattle.std.proofs.lemmas.List.Elements.{All-nil, All-push}
 use Rattle.std.proofs.lemmas.Result.{err_from_is_err_and}
+use Rattle.indexmap.specs.IndexMap.{values}
 use Rattle.cms_journal.specs.Journal.{contents_of}
+use Rattle.cms_names.specs.declared.name.Name.{Name}
+use Rattle.cms_fields.specs.Entries.{passes}
 use Rattle.cms_fields.specs.declared.entry.Entry.{Entry}
 use Rattle.cms_model.specs.Trees.{image_of}
 use Rattle.cms_tree.specs.Walks.{IsWithin}
 use Rattle.cms_tree.specs.declared.types.Walked.{Walked}
+use Rattle.cms_edf.specs.Opening.{HeldFile}
+use Rattle.cms_edf.specs.EntryShapes.{HasSize}
+use Rattle.cms_edf.specs.Kept.{IsKeptFile}
+use Rattle.cms_edf.proofs.FilesNamed.{keys_named, values_next, named_next, file_kept}
+use Rattle.cms_edf.proofs.FileTrees.{taken_next}
+use Rattle.cms_edf.proofs.NamesMet.{name_is_new}
 use Rattle.cms_edf.proofs.RecordsRead.{ContentsTo, contents_first, contents_next, contents_bad, contents_last, count_at, taken_is}
 use Rattle.cms_edf.proofs.TreesRead.{plain_block}
 use Rattle.cms_edf.proofs.contents.read_contents.Goals as goal
@@ -22,11 +33,14 @@ less_at : (nth k n : ℕ) → k < n → (trees entries : ℕ) → n ≡ trees �
 less_at nth k n less trees entries a b = omega arith
 
 pub loop-tree-init : goal.loop-tree-init
-loop-tree-init g c = record {
+loop-tree-init g c = let empty : c.new-files.result.entries ≡ [] = search rules in record {
   trees = refl;
   len = search rules;
   many = search rules;
-  contents = λ j told. rw c.new-files.ensures.items (contents_first c.args.place.now.bsize (image_of (contents_of j c.args.place.now.unit)) c.args.entries.now (into_iter_items c.into_iter-tree-iterator.result));
+  named = rw empty refl;
+  names = rw empty refl;
+  each = rw empty (All-nil (IsKeptFile c.args.place.now.bsize c.args.place.now.total));
+  contents = λ j told. rw empty (contents_first c.args.place.now.bsize (image_of (contents_of j c.args.place.now.unit)) c.args.entries.now (into_iter_items c.into_iter-tree-iterator.result));
   told = refl;
   faults = omega arith;
   edges = refl;
@@ -56,6 +70,22 @@ read_sizes-requires-clause-blocks g c = λ j told at less.
     let within : IsWithin c.args.place.now.total None c.in-Some.tree = subst (IsWithin c.args.place.now.total None) (sym item.1) (c.requires.within k c.in-Some.tree item.0) in
     plain_block j c.args.place.now.unit c.args.place.now.total c.args.place.now.bsize c.in-Some.tree c.deref.result.now at leaves less within (c.requires.blocks j (sym l.invariant.told ∙ told))
 
+pub insert-requires : goal.insert-requires
+insert-requires g c =
+    let l = c.loop-tree in
+    let a = c.args in
+    let k = length l.yielded in
+    let gives = c.into_iter-tree-iterator.ensures.into_iter_gives.0 in
+    let steps : into_iter_items l.tree-iterator ≡ c.in-Some.tree ∷ into_iter_items c.next.new.self = c.in-Some.ensures.steps.0 in
+    let item = taken_is l.yielded c.in-Some.tree (into_iter_items c.next.new.self) a.trees.items (ap (λ (r : List Walked). l.yielded ++ r) (sym steps) ∙ (l.invariant.trees ∙ gives)) in
+    let many = l.invariant.many in
+    let nth : c.len-nth.result ≡ k = search rules in
+    let count = c.requires.count in
+    let at = index_at a.entries.now c.len-nth.result k c.index-entries-nth.result nth c.index-entries-nth.is in
+    let entry_is : c.file_of.result.entry ≡ c.index-entries-nth.result = ap (λ (f : HeldFile). f.entry) c.file_of.ensures in
+    let keys_are = ap keys_of l.invariant.named ∙ (keys_named (values l.files) ∙ l.invariant.names) in
+    record { new = rw (entry_is, keys_are) (name_is_new a.entries.now k c.index-entries-nth.result c.requires.names (omega (arith, item.0, count)) at) }
+
 pub returns-in_err-sizes-clause-fault : goal.returns-in_err-sizes-clause-fault
 returns-in_err-sizes-clause-fault g c =
     let l = c.loop-tree in
@@ -70,10 +100,10 @@ returns-in_err-sizes-clause-fault g c =
     let leaves : c.deref.result.now ≡ c.in-Some.tree.leaves.items = search rules in
     rw (p.1, p.2) (λ j told.
     let image = image_of (contents_of j a.place.now.unit) in
-    contents_bad a.place.now.bsize image a.entries.now a.trees.items k (c.len-nth.result + 2) c.index-entries-nth.result c.in-Some.tree c.deref.result.now l.files.items c.in_err-sizes.field-0.0
+    contents_bad a.place.now.bsize image a.entries.now a.trees.items k (c.len-nth.result + 2) c.index-entries-nth.result c.in-Some.tree c.deref.result.now (values l.files) c.in_err-sizes.field-0.0
     (omega (arith, item.0, count)) (index_at a.entries.now c.len-nth.result k c.index-entries-nth.result nth c.index-entries-nth.is) item.0 item.1 (omega (arith, nth)) leaves
     (c.in_err-sizes.ensures.fault j (l.invariant.told ∙ told))
-    (subst (λ (ws : List Walked). ContentsTo a.place.now.bsize image a.entries.now ws k l.files.items) gives (l.invariant.contents j told)))
+    (subst (λ (ws : List Walked). ContentsTo a.place.now.bsize image a.entries.now ws k (values l.files)) gives (l.invariant.contents j told)))
 
 pub loop-tree-preserved : goal.loop-tree-preserved
 loop-tree-preserved g c =
@@ -88,25 +118,43 @@ loop-tree-preserved g c =
     let many = l.invariant.many in
     let leaves : c.deref.result.now ≡ c.in-Some.tree.leaves.items = search rules in
     let one : length (l.yielded ++ (c.in-Some.tree ∷ [])) ≡ k + 1 = length_push l.yielded c.in-Some.tree in
-    let grown : c.push.new.files.items ≡ l.files.items ++ (c.file_of.result ∷ []) = search rules in
+    let grown : c.insert.new.files.entries ≡ l.files.entries ++ ((c.file_of.result.entry.name, c.file_of.result) ∷ []) = search rules in
+    let values_are = values_next l.files.entries c.insert.new.files.entries c.file_of.result grown in
     let was = l.invariant.len in
     let gone = c.in-Some.ensures.steps.1 in
     let short = ap length steps in
+    let at = index_at a.entries.now c.len-nth.result k c.index-entries-nth.result nth c.index-entries-nth.is in
+    let less : k < length a.entries.now = omega (arith, item.0, count) in
+    let entry_is : c.file_of.result.entry ≡ c.index-entries-nth.result = ap (λ (f : HeldFile). f.entry) c.file_of.ensures in
+    let sizes = c.in_ok-sizes.ensures in
     record {
       trees = append_assoc l.yielded (c.in-Some.tree ∷ []) _ ∙ rw (← steps) l.invariant.trees;
       len = omega arith;
-      many = rw (grown, one) (length_push l.files.items c.file_of.result ∙ ap (λ (n : ℕ). n + 1) many);
+      many = rw (grown, one) (length_push l.files.entries _ ∙ ap (λ (n : ℕ). n + 1) many);
       contents = λ j told.
           let image = image_of (contents_of j a.place.now.unit) in
-          rw (grown, one)
-          (subst (λ (ws : List Walked). ContentsTo a.place.now.bsize image a.entries.now ws (k + 1) (l.files.items ++ (c.file_of.result ∷ []))) (sym gives)
-          (contents_next a.place.now.bsize image a.entries.now a.trees.items k (c.len-nth.result + 2) c.index-entries-nth.result c.in-Some.tree c.deref.result.now c.in_ok-sizes.sizes l.files.items c.file_of.result
-          (omega (arith, item.0, count)) (index_at a.entries.now c.len-nth.result k c.index-entries-nth.result nth c.index-entries-nth.is) item.0 item.1 (omega (arith, nth)) leaves c.file_of.ensures
-          (c.in_ok-sizes.ensures.read j (l.invariant.told ∙ told))
-          (subst (λ (ws : List Walked). ContentsTo a.place.now.bsize image a.entries.now ws k l.files.items) gives (l.invariant.contents j told))));
-      told = c.in_ok-sizes.ensures.told ∙ l.invariant.told;
-      faults = omega (arith, c.in_ok-sizes.ensures.faults, l.invariant.faults);
-      edges = c.in_ok-sizes.ensures.edges ∙ l.invariant.edges;
+          rw (values_are, one)
+          (subst (λ (ws : List Walked). ContentsTo a.place.now.bsize image a.entries.now ws (k + 1) (values l.files ++ (c.file_of.result ∷ []))) (sym gives)
+          (contents_next a.place.now.bsize image a.entries.now a.trees.items k (c.len-nth.result + 2) c.index-entries-nth.result c.in-Some.tree c.deref.result.now c.in_ok-sizes.sizes (values l.files) c.file_of.result
+          less at item.0 item.1 (omega (arith, nth)) leaves c.file_of.ensures
+          (sizes.read j (l.invariant.told ∙ told))
+          (subst (λ (ws : List Walked). ContentsTo a.place.now.bsize image a.entries.now ws k (values l.files)) gives (l.invariant.contents j told))));
+      named = named_next l.files.entries c.insert.new.files.entries c.file_of.result grown l.invariant.named;
+      names = rw (values_are, one)
+          (map_push (λ (f : HeldFile). f.entry.name) (values l.files) c.file_of.result
+          ∙ (ap (λ (ns : List Name). ns ++ (c.file_of.result.entry.name ∷ [])) l.invariant.names
+          ∙ (ap (λ (e : Entry). map (λ (x : Entry). x.name) (take k a.entries.now) ++ (e.name ∷ [])) entry_is
+          ∙ (sym (map_push (λ (x : Entry). x.name) (take k a.entries.now) c.index-entries-nth.result)
+          ∙ ap (map (λ (x : Entry). x.name)) (sym (taken_next a.entries.now k c.index-entries-nth.result less at))))));
+      each = rw values_are (All-push (IsKeptFile a.place.now.bsize a.place.now.total) (values l.files) c.file_of.result l.invariant.each
+          (file_kept a.place.now.bsize a.place.now.total c.index-entries-nth.result c.in-Some.tree c.in_ok-sizes.sizes c.file_of.result c.file_of.ensures
+          (subst (λ (x : Entry). passes a.place.now.bsize x ≡ true) (sym at) (c.requires.entries k c.index-entries-nth.result less))
+          (subst (HasSize a.place.now.bsize) (sym at) (c.requires.sizes k c.index-entries-nth.result less))
+          (count_at a.entries.now a.trees.items k c.index-entries-nth.result c.in-Some.tree c.requires.counts less item.0 at item.1) (subst (IsWithin a.place.now.total None) (sym item.1) (c.requires.within k c.in-Some.tree item.0)).leaves
+          sizes.longest sizes.fixed sizes.stored));
+      told = sizes.told ∙ l.invariant.told;
+      faults = omega (arith, sizes.faults, l.invariant.faults);
+      edges = sizes.edges ∙ l.invariant.edges;
     }
 
 pub returns-clause-read : goal.returns-clause-read
@@ -121,5 +169,5 @@ returns-clause-read g c = λ j told.
     let all : l.yielded ≡ a.trees.items = sym (append-nil l.yielded) ∙ (ap (λ (r : List Walked). l.yielded ++ r) (sym empty) ∙ (l.invariant.trees ∙ gives)) in
     let long = ap length all in
     let count = c.requires.count in
-    contents_last a.place.now.bsize image a.entries.now a.trees.items k l.files.items (omega (arith, long, count)) (omega (arith, long))
-    (subst (λ (ws : List Walked). ContentsTo a.place.now.bsize image a.entries.now ws k l.files.items) gives (l.invariant.contents j told))
+    contents_last a.place.now.bsize image a.entries.now a.trees.items k (values l.files) (omega (arith, long, count)) (omega (arith, long))
+    (subst (λ (ws : List Walked). ContentsTo a.place.now.bsize image a.entries.now ws k (values l.files)) gives (l.invariant.contents j told))

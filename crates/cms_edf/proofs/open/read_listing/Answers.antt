@@ -11,7 +11,7 @@ use Rattle.cms_tree.specs.declared.types.TreeAt.{TreeAt}
 use Rattle.cms_edf.specs.Opening.{IsFaultOf}
 use Rattle.cms_edf.specs.OpeningSteps.{met_in, system_at}
 use Rattle.cms_edf.proofs.Listings.{directory_fault, tree_fault, map_fault, entries_fault, names_fault, listed_so, tree_has, leaf_block, few_files}
-use Rattle.cms_edf.proofs.EntryTests.{entries_shaped, entries_small, entries_stand}
+use Rattle.cms_edf.proofs.EntryTests.{entries_shaped, entries_small, entries_pass, entries_stand}
 use Rattle.cms_edf.proofs.open.read_listing.Goals as goal
 
 pub returns-in_err-directory-clause-read : goal.returns-in_err-directory-clause-read
@@ -130,6 +130,9 @@ returns-clause-within g c =
 
 pub returns-clause-shapes : goal.returns-clause-shapes
 returns-clause-shapes g c = entries_shaped c.args.place.now.bsize _ c.in_ok-entries.entries.items c.in_ok-directory.ensures.size c.in_ok-entries.ensures.entries
+
+pub returns-clause-passing : goal.returns-clause-passing
+returns-clause-passing g c = entries_pass c.args.place.now.bsize 2 _ c.in_ok-entries.entries.items c.in_ok-entries.ensures.entries
 
 pub returns-clause-sizes : goal.returns-clause-sizes
 returns-clause-sizes g c = entries_small c.args.place.now.bsize _ c.in_ok-entries.entries.items c.in_ok-directory.ensures.size c.in_ok-entries.ensures.entries

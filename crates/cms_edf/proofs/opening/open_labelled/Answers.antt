@@ -1,5 +1,6 @@
 use Rattle.std.proofs.Common.{rules, ◌≡◌, ◌/◌, List, Ok, Some, map, refl, ◌∙◌, subst}
 use Rattle.std.proofs.lemmas.Result.{err_from_is_err_and}
+use Rattle.indexmap.specs.IndexMap.{values}
 use Rattle.cms_journal.specs.Journal.{contents_of}
 use Rattle.cms_fields.specs.declared.entry.Entry.{Entry}
 use Rattle.cms_model.specs.Trees.{image_of, bytes_at}
@@ -87,7 +88,7 @@ returns-clause-read g c = λ j told.
     let trees = c.in_ok-trees.ensures.read j to_trees in
     let bits = c.in_ok-marks.ensures.bits j to_marks in
     let lost = c.in_ok-marks.ensures.lost j to_marks in
-    let has = subst (λ (es : List Entry). HasContents place.bsize (image_of (contents_of j place.unit)) es t.files.items c.in_ok-files.files.items) entries (c.in_ok-files.ensures.read j to_files) in
+    let has = subst (λ (es : List Entry). HasContents place.bsize (image_of (contents_of j place.unit)) es t.files.items (values c.in_ok-files.files)) entries (c.in_ok-files.ensures.read j to_files) in
     record {
       volume = opened a.label (listed l) (read_trees t) m.lost has.contents;
       opens = opens _ image a.label (listed l) (read_trees t) m.lost has.contents
@@ -95,7 +96,7 @@ returns-clause-read g c = λ j told.
           (subst (λ (q : Place). trees_in q.bsize q.total q.origin (image_of (contents_of j q.unit)) (listed l) ≡ Ok (read_trees t)) at trees.trees)
           (subst (λ (q : Place). lost_in (bytes_at (image_of (contents_of j q.unit)) t.map.leaves.items) q.total (tree_blocks (met_in l.walked) (met_in t.map) (map met_in t.files.items)) ≡ Ok m.lost) at lost)
           (subst (λ (q : Place). contents_in q.bsize (image_of (contents_of j q.unit)) 2 l.entries.items (map met_in t.files.items) ≡ Ok has.contents) at has.are);
-      held_is = rw (c.held.ensures, c.held-2.ensures) (held_so there (record { bsize = a.bsize; count = a.unit.now.blocks }) image a.label a.label_bytes.items l t m.map c.in_ok-files.files.items m.lost has.contents refl (c.requires.bytes j told)
+      held_is = rw (c.held.ensures, c.held-2.ensures) (held_so there (record { bsize = a.bsize; count = a.unit.now.blocks }) image a.label a.label_bytes.items l t m.map (values c.in_ok-files.files) m.lost has.contents refl (c.requires.bytes j told)
           (subst (λ (q : Place). l.walked.pointers.items ≡ nodes_at (image_of (contents_of j q.unit)) (system_at q l.directory (Some q.origin))) at listing.1)
           (subst (λ (q : Place). l.directory.levels ≡ levels (q.bsize / 4) l.directory.blocks) at c.in_ok-listing.ensures.directory)
           (subst (λ (q : Place). HasTrees q (image_of (contents_of j q.unit)) l t) at trees)

@@ -9,14 +9,14 @@ use Rattle.cms_records.proofs.scan.VarScan.end.Goals as goal
 abbrev Told : Scan → Result VarSizes VarFault → Type 0
 Told s r = (count : ℕ) (bytes : List ℕ) → IsFed count bytes s → r ≡ sizes_in s.bsize count bytes
 
-pub returns-then-self-gt0 : goal.returns-then-self-gt0
-returns-then-self-gt0 c =
+pub returns-then-self-gt0-clause-told : goal.returns-then-self-gt0-clause-told
+returns-then-self-gt0-clause-told c =
     subst (λ (s : Scan). Told s (Err (PastEnd c.self.inside.place))) c.self.view_is (λ count bytes fed. sym (ends_past count bytes _ fed (search rules)))
 
-pub returns-then-self-bytes : goal.returns-then-self-bytes
-returns-then-self-bytes c =
+pub returns-then-self-bytes-clause-told : goal.returns-then-self-bytes-clause-told
+returns-then-self-bytes-clause-told c =
     subst (λ (s : Scan). Told s (Err (Left c.self.inside.place))) c.self.view_is (λ count bytes fed. sym (ends_left count bytes _ fed (search rules) (search rules)))
 
-pub returns : goal.returns
-returns c =
+pub returns-clause-told : goal.returns-clause-told
+returns-clause-told c =
     subst (λ (s : Scan). Told s (Ok (record { longest = c.self.inside.longest; stored = c.self.inside.place }))) c.self.view_is (λ count bytes fed. sym (ends_well count bytes _ fed (search rules) (search rules)))

@@ -1,0 +1,27 @@
+-- What a volume that is held always is, also in a world that tells nothing.
+use Rattle.std.specs.Prelude.{◌≡◌, ◌≤◌, ℕ, ◌*◌, Bool, true, List, length, All}
+use Rattle.cms_names.specs.declared.name.Format.TheVariants.{F}
+use Rattle.cms_fields.specs.Entries.{passes}
+use Rattle.cms_model.specs.Lists.{In}
+use Rattle.cms_edf.specs.Opening.{HeldFile, HeldVolume}
+
+-- a file: its entry passes the tests of an entry, it has as many data blocks as that says, from 6 to the last block of the volume, which
+-- hold at most 67,108,864 bytes; its records have at most 65,535 bytes each, at F as many as the entry says
+pub record IsKeptFile (bsize total : ℕ) (f : HeldFile) : Type 0 where
+  pub entry : passes bsize f.entry ≡ true
+  pub count : length f.tree.leaves ≡ f.entry.blocks
+  pub within : (n : ℕ) → In n f.tree.leaves → (6 ≤ n) × (n ≤ total)
+  pub room : length f.tree.leaves * bsize ≤ 67108864
+  pub short : f.length ≤ 65535
+  pub fixed : f.entry.format ≡ F → f.length ≡ f.entry.length
+  pub size : f.size ≤ 67108864
+
+-- a volume of so many blocks on a unit of so many: its map has a bit for each of its blocks, and it has at most 16,384 files
+pub record IsKept (bsize count total : ℕ) (bits : List Bool) (files : List HeldFile) : Type 0 where
+  pub within : total ≤ count
+  pub bits_are : length bits ≡ total
+  pub few : length files ≤ 16384
+  pub each : All (IsKeptFile bsize total) files
+
+abbrev pub Keeps : HeldVolume → Type 0
+Keeps v = IsKept v.disk.bsize v.disk.count v.label.blocks v.bits v.files
