@@ -36,19 +36,36 @@ filled bsize n (inr (inl e)) le = rw e (omega arith)
 filled bsize n (inr (inr (inl e))) le = rw e (omega arith)
 filled bsize n (inr (inr (inr e))) le = rw e (omega arith)
 
-few : (format : Format) (bsize count len blocks : ℕ) → IsBlockSize bsize → (not (is_fixed format) || is_between 1 65535 len) ≡ true
+-- what the tests say of the counts of an entry of a format
+record Few (format : Format) (bsize count len blocks : ℕ) : Type 0 where
+  some : 1 ≤ count
+  room : blocks * bsize ≤ 67108864
+  few : format ≡ F → count * len ≤ 67108864
+  fits : format ≡ F → (1 ≤ len) × (len ≤ 65535)
+
+are_few : (format : Format) (bsize count len blocks : ℕ) → IsBlockSize bsize → (not (is_fixed format) || is_between 1 65535 len) ≡ true
     → (is_between 1 1048576 count && (if is_fixed format then nat_le (count * len) 67108864 && (blocks == up (count * len) bsize) else is_between 1 (67108864 / bsize) blocks)) ≡ true
-    → (blocks * bsize ≤ 67108864) × (format ≡ F → (count * len ≤ 67108864) × (len ≤ 65535))
-few F bsize count len blocks size long fits =
+    → Few format bsize count len blocks
+are_few F bsize count len blocks size long fits =
     let a = and_parts (is_between 1 1048576 count) (nat_le (count * len) 67108864 && (blocks == up (count * len) bsize)) fits in
     let b = and_parts (nat_le (count * len) 67108864) (blocks == up (count * len) bsize) a.1 in
     let fit = leb-true (count * len) 67108864 b.0 in
     let is : blocks ≡ up (count * len) bsize = eqb-true blocks (up (count * len) bsize) b.1 in
-    (rw is (filled bsize (count * len) size fit), λ f. (fit, (between 1 65535 len long).1))
-few V bsize count len blocks size long fits =
+    record {
+      some = (between 1 1048576 count a.0).0;
+      room = rw is (filled bsize (count * len) size fit);
+      few = λ f. fit;
+      fits = λ f. between 1 65535 len long;
+    }
+are_few V bsize count len blocks size long fits =
     let a = and_parts (is_between 1 1048576 count) (is_between 1 (67108864 / bsize) blocks) fits in
     let high = (between 1 (67108864 / bsize) blocks a.1).1 in
-    (product blocks (67108864 / bsize) bsize 67108864 high (below 67108864 bsize), λ f. absurd (cc f))
+    record {
+      some = (between 1 1048576 count a.0).0;
+      room = product blocks (67108864 / bsize) bsize 67108864 high (below 67108864 bsize);
+      few = λ f. absurd (cc f);
+      fits = λ f. absurd (cc f);
+    }
   where
     product : (a q b n : ℕ) → a ≤ q → q * b ≤ n → a * b ≤ n
     product a q b n le fits = grind arith
@@ -58,7 +75,9 @@ few V bsize count len blocks size long fits =
 
 small : (bsize : ℕ) (e : Entry) → IsBlockSize bsize → EntryFits bsize e → HasSize bsize e
 unfolding length_fits counts_fit
-small bsize e size fits = few e.format bsize e.count e.length e.blocks size fits.long fits.counts
+small bsize e size fits =
+    let f = are_few e.format bsize e.count e.length e.blocks size fits.long fits.counts in
+    record { some = f.some; room = f.room; few = f.few; fits = f.fits }
 
 each : (P : Entry → Type 0) (bsize : ℕ) (es : List Entry) → ((e : Entry) → EntryFits bsize e → P e) → AllFit bsize es → All P es
 each P bsize [] go fits k d less = absurd (omega arith)

@@ -41,13 +41,14 @@ named_next es es' f is named =
 
 -- a file that was read is one that is kept
 pub file_kept : (bsize total : ℕ) (e : Entry) (w : Walked) (sizes : VarSizes) (f : HeldFile) → f ≡ made e w sizes → passes bsize e ≡ true → HasSize bsize e → length w.leaves.items ≡ e.blocks
-    → AreWithin total None w.leaves.items → sizes.longest ≤ 65535 → (e.format ≡ F → sizes.longest ≡ e.length) → sizes.stored ≤ 67108864 → IsKeptFile bsize total f
-file_kept bsize total e w sizes f is passing size count within short fixed stored =
+    → AreWithin total None w.leaves.items → 1 ≤ sizes.longest → sizes.longest ≤ 65535 → (e.format ≡ F → sizes.longest ≡ e.length) → sizes.stored ≤ 67108864 → IsKeptFile bsize total f
+file_kept bsize total e w sizes f is passing size count within some short fixed stored =
     subst (IsKeptFile bsize total) (sym is) (record {
       entry = passing;
       count = count;
       within = λ n in'. ⊎_elim (λ (b : (6 ≤ n) × (n ≤ total)). b) (λ (no : None ≡ Some n). absurd (cc no)) (within n in');
-      room = rw count size.0;
+      room = rw count size.room;
+      some = some;
       short = short;
       fixed = fixed;
       size = stored;

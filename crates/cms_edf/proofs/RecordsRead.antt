@@ -1,15 +1,18 @@
 -- The records of files, read one file after another.
-use Rattle.std.proofs.Common.{◌≡◌, ℕ, zero, suc, ◌+◌, ◌*◌, ◌<◌, ◌≤◌, List, [], ◌∷◌, ◌++◌, length, take, drop, map, get_or, slice_index, Option, Some, Result, Ok, Err, refl, sym, ◌∙◌, ap, subst, arith, append-nil, length-append}
-use Rattle.std.specs.Prelude.{IfOk, IfErr}
+use Rattle.std.proofs.Common.{◌≡◌, ℕ, zero, suc, ◌+◌, ◌*◌, ◌<◌, ◌≤◌, List, [], ◌∷◌, ◌++◌, length, take, drop, map, get_or, slice_index, Option, Some, Result, Ok, Err, refl, sym, ◌∙◌, ap, subst, arith, append-nil, length-append, length-drop, length-take-le}
+use Rattle.std.specs.Prelude.{IfOk, IfErr, nat_le}
+use Rattle.std.proofs.lemmas.Bool.{leb-true}
 use Rattle.cms_journal.specs.Journal.{Journal}
 use Rattle.cms_names.specs.declared.name.Format.TheVariants.{F, V}
+use Rattle.cms_fields.specs.Numbers.{half}
 use Rattle.cms_fields.specs.Steps.{◌>>=◌}
 use Rattle.cms_fields.specs.declared.entry.Entry.{Entry}
 use Rattle.cms_model.specs.Lists.{cut}
 use Rattle.cms_model.specs.Trees.{Image, bytes_at}
-use Rattle.cms_model.specs.Records.{varying, records_of}
+use Rattle.cms_model.specs.Records.{varying, records_of, longest}
 use Rattle.cms_model.specs.Volumes.{blamed, contents_in}
 use Rattle.cms_model.specs.declared.fault.VarFault.{VarFault}
+use Rattle.cms_model.specs.declared.fault.VarFault.TheVariants.{Zero, PastEnd}
 use Rattle.cms_model.specs.declared.fault.OpenFault.{OpenFault}
 use Rattle.cms_model.specs.declared.fault.OpenFault.TheVariants as failed
 use Rattle.cms_records.specs.declared.sizes.VarSizes.{VarSizes}
@@ -19,6 +22,8 @@ use Rattle.cms_edf.specs.Opening.{IsFaultOf, HeldFile}
 use Rattle.cms_edf.specs.OpeningSteps.{met_in, behind}
 use Rattle.cms_edf.specs.EntryShapes.{HasSize}
 use Rattle.cms_edf.specs.OpeningFiles.{records_in, AreSized, HasRecords, told_file, told_files, HasContents, HaveCounts}
+use Rattle.cms_model.proofs.Results.{ok_same, want_ok, bind_then}
+use Rattle.cms_model.proofs.Opening.{blamed_ok}
 use Rattle.cms_edf.proofs.Faults.{fault_is, fault_passes}
 use Rattle.cms_edf.proofs.Gathered.{Reads, reads_first, reads_next, reads_last}
 use Rattle.cms_edf.proofs.FileTrees.{front_of, taken_next, past_last, all_taken, behind_none, behind_more}
@@ -68,23 +73,43 @@ room_left k n b most less fits = grind arith
 -- ---- one file
 
 pub fixed_few : (bsize : ℕ) (e : Entry) → HasSize bsize e → e.format ≡ F → e.count * e.length ≤ 67108864
-fixed_few bsize e size is = (size.1 is).0
-
-pub fixed_short : (bsize : ℕ) (e : Entry) → HasSize bsize e → e.format ≡ F → e.length ≤ 65535
-fixed_short bsize e size is = (size.1 is).1
+fixed_few bsize e size is = size.few is
 
 pub varying_few : (bsize : ℕ) (e : Entry) (n : ℕ) → HasSize bsize e → e.format ≡ V → n ≡ e.blocks → n * bsize ≤ 67108864
-varying_few bsize e n size is count = rw count size.0
-
-pub fixed_has : (bsize : ℕ) (image : Image) (number : ℕ) (e : Entry) (leaves : List ℕ) (sizes : VarSizes) → e.format ≡ F → sizes.longest ≡ e.length → sizes.stored ≡ e.count * e.length → HasRecords bsize image number e leaves sizes
-unfolding records_of
-fixed_has bsize image number e leaves sizes is long stored =
-    record { records = cut e.count e.length (bytes_at image leaves); are = rw is refl; sized = rw is (long, stored) }
+varying_few bsize e n size is count = rw count size.room
 
 told_varying : (number : ℕ) (read : Result (List (List ℕ)) VarFault) (sizes : VarSizes) → blamed (failed.Var number) (read >>= λ records. Ok (sizes_of records)) ≡ Ok sizes
     → (records : List (List ℕ)) × (blamed (failed.Var number) read ≡ Ok records) × (sizes_of records ≡ sizes)
 told_varying number (Ok records) sizes is = (records, refl, cc is)
 told_varying number (Err e) sizes is = absurd (cc is)
+
+-- the longest of some records has a byte
+longest_some : (bsize n place : ℕ) (bytes : List ℕ) (rs : List (List ℕ)) → varying bsize (suc n) place bytes ≡ Ok rs → 1 ≤ longest rs
+unfolding varying longest
+longest_some bsize n place bytes rs e =
+    let len = half bytes 0 in
+    let p1 = want_ok (nat_le 2 (length bytes)) (PastEnd place) _ rs e in
+    let p2 = want_ok (nat_le 1 len) (Zero place) _ rs p1.1 in
+    let p3 = want_ok (nat_le (2 + len) (length bytes)) (PastEnd place) _ rs p2.1 in
+    let least = leb-true 1 len p2.0 in
+    let fit = leb-true (2 + len) (length bytes) p3.0 in
+    bind_then (varying bsize n (place + (2 + len)) (drop (2 + len) bytes)) _ rs p3.1 (λ more is_more done.
+    let two = length-drop 2 bytes in
+    let long : length (take len (drop 2 bytes)) ≡ len = length-take-le len (drop 2 bytes) (omega arith) in
+    subst (λ (l : List (List ℕ)). 1 ≤ longest l) (ok_same (take len (drop 2 bytes) ∷ more) rs done) (omega arith))
+
+pub sizes_some : (r : Result VarSizes OpenFault) (number bsize count : ℕ) (bytes : List ℕ) → 1 ≤ count → r ≡ blamed (failed.Var number) (sizes_in bsize count bytes) → IfOk r (λ sizes. 1 ≤ sizes.longest)
+sizes_some (Err e) number bsize count bytes some is = tt
+sizes_some (Ok sizes) number bsize zero bytes some is = absurd (omega arith)
+sizes_some (Ok sizes) number bsize (suc n) bytes some is =
+    let t = told_varying number (varying bsize (suc n) 0 bytes) sizes (sym is) in
+    let least = longest_some bsize n 0 bytes t.0 (blamed_ok (failed.Var number) (varying bsize (suc n) 0 bytes) t.0 t.1) in
+    subst (λ (s : VarSizes). 1 ≤ s.longest) t.2 least
+
+pub fixed_has : (bsize : ℕ) (image : Image) (number : ℕ) (e : Entry) (leaves : List ℕ) (sizes : VarSizes) → e.format ≡ F → sizes.longest ≡ e.length → sizes.stored ≡ e.count * e.length → HasRecords bsize image number e leaves sizes
+unfolding records_of
+fixed_has bsize image number e leaves sizes is long stored =
+    record { records = cut e.count e.length (bytes_at image leaves); are = rw is refl; sized = rw is (long, stored) }
 
 pub varying_has : (bsize : ℕ) (image : Image) (number : ℕ) (e : Entry) (leaves : List ℕ) (sizes : VarSizes) → e.format ≡ V → blamed (failed.Var number) (sizes_in bsize e.count (bytes_at image leaves)) ≡ Ok sizes → HasRecords bsize image number e leaves sizes
 unfolding records_of

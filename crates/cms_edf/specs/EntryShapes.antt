@@ -9,6 +9,9 @@ use Rattle.cms_model.specs.Sizes.{levels}
 abbrev pub HasShape : ℕ → Entry → Type 0
 HasShape bsize e = (1 ≤ e.blocks) × (e.levels ≡ levels (fan_of bsize e.format) e.blocks)
 
--- its data blocks have no more than 67,108,864 bytes; at F its records have no more either, and each has at most 65,535
-abbrev pub HasSize : ℕ → Entry → Type 0
-HasSize bsize e = (e.blocks * bsize ≤ 67108864) × (e.format ≡ F → (e.count * e.length ≤ 67108864) × (e.length ≤ 65535))
+-- it has a record, and its data blocks have no more than 67,108,864 bytes; at F its records have no more either, and each has 1 to 65,535
+pub record HasSize (bsize : ℕ) (e : Entry) : Type 0 where
+  pub some : 1 ≤ e.count
+  pub room : e.blocks * bsize ≤ 67108864
+  pub few : e.format ≡ F → e.count * e.length ≤ 67108864
+  pub fits : e.format ≡ F → (1 ≤ e.length) × (e.length ≤ 65535)

@@ -6,12 +6,13 @@ use Rattle.cms_model.specs.Lists.{In}
 use Rattle.cms_edf.specs.Opening.{HeldFile, HeldVolume}
 
 -- a file: its entry passes the tests of an entry, it has as many data blocks as that says, from 6 to the last block of the volume, which
--- hold at most 67,108,864 bytes; its records have at most 65,535 bytes each, at F as many as the entry says
+-- hold at most 67,108,864 bytes; the longest of its records has 1 to 65,535 bytes, at F as many as the entry says
 pub record IsKeptFile (bsize total : ℕ) (f : HeldFile) : Type 0 where
   pub entry : passes bsize f.entry ≡ true
   pub count : length f.tree.leaves ≡ f.entry.blocks
   pub within : (n : ℕ) → In n f.tree.leaves → (6 ≤ n) × (n ≤ total)
   pub room : length f.tree.leaves * bsize ≤ 67108864
+  pub some : 1 ≤ f.length
   pub short : f.length ≤ 65535
   pub fixed : f.entry.format ≡ F → f.length ≡ f.entry.length
   pub size : f.size ≤ 67108864

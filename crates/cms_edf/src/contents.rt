@@ -70,6 +70,7 @@ fn read_varying<W: World>(
     count: u32,
     leaves: &[u32],
 ) -> Result<VarSizes, OpenFault>
+    requires some { 1 ≤ count }
     requires small { length leaves.now * place.now.bsize ≤ 67108864 }
     requires blocks { ForSome (W.told world.old) (λ j. (k : ℕ) → k < length leaves.now
         → HasBlock j.units place.now.unit (slice_index leaves.now k) place.now.bsize) }
@@ -77,6 +78,7 @@ fn read_varying<W: World>(
         (sizes_in place.now.bsize count (bytes_at image leaves.now)) ≡ Ok sizes)) }
     ensures fault { IfErr result (λ why. OfImage (W.told world.old) place.now.unit (λ image. IsFaultOf (blamed (failed.Var number)
         (sizes_in place.now.bsize count (bytes_at image leaves.now))) why)) }
+    ensures some { IfOk result (λ sizes. 1 ≤ sizes.longest) }
     ensures longest { IfOk result (λ sizes. sizes.longest ≤ 65535) }
     ensures stored { IfOk result (λ sizes. sizes.stored ≤ 67108864) }
     ensures cause { IfErr result (λ e. e ≡ failed.Device → Rose (W.faults world.old) (W.faults world.new)) }
@@ -110,6 +112,7 @@ fn read_sizes<W: World>(
         HasRecords place.now.bsize image number entry.now leaves.now sizes)) }
     ensures fault { IfErr result (λ why. OfImage (W.told world.old) place.now.unit (λ image.
         IsFaultOf (records_in place.now.bsize image number entry.now leaves.now) why)) }
+    ensures some { IfOk result (λ sizes. 1 ≤ sizes.longest) }
     ensures longest { IfOk result (λ sizes. sizes.longest ≤ 65535) }
     ensures fixed { IfOk result (λ sizes. entry.now.format ≡ F → sizes.longest ≡ entry.now.length) }
     ensures stored { IfOk result (λ sizes. sizes.stored ≤ 67108864) }

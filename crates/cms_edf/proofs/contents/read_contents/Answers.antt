@@ -151,7 +151,7 @@ loop-tree-preserved g c =
           (subst (λ (x : Entry). passes a.place.now.bsize x ≡ true) (sym at) (c.requires.entries k c.index-entries-nth.result less))
           (subst (HasSize a.place.now.bsize) (sym at) (c.requires.sizes k c.index-entries-nth.result less))
           (count_at a.entries.now a.trees.items k c.index-entries-nth.result c.in-Some.tree c.requires.counts less item.0 at item.1) (subst (IsWithin a.place.now.total None) (sym item.1) (c.requires.within k c.in-Some.tree item.0)).leaves
-          sizes.longest sizes.fixed sizes.stored));
+          sizes.some sizes.longest sizes.fixed sizes.stored));
       told = sizes.told ∙ l.invariant.told;
       faults = omega (arith, sizes.faults, l.invariant.faults);
       edges = sizes.edges ∙ l.invariant.edges;
