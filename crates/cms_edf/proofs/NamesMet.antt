@@ -7,20 +7,12 @@ use Rattle.std.specs.Map.{keys_of, lookup}
 use Rattle.std.proofs.lemmas.Bool.{or_parts, cases_Bool, eqb-true, eq-eqb}
 use Rattle.cms_names.specs.declared.name.Name.{Name}
 use Rattle.cms_fields.specs.declared.entry.Entry.{Entry}
-use Rattle.cms_model.specs.Lists.{same}
 use Rattle.cms_model.specs.Minidisks.{same_name, is_named}
 use Rattle.cms_model.specs.Volumes.{first_twice}
 
 -- the test of a set of names
 abbrev pub same_as : Name → Name → Bool
 same_as a b = bytes_eq a.file b.file && bytes_eq a.kind b.kind
-
-bytes_same : (xs ys : List ℕ) → bytes_eq xs ys ≡ same xs ys
-unfolding same
-bytes_same [] [] = refl
-bytes_same [] (y ∷ ys) = refl
-bytes_same (x ∷ xs) [] = refl
-bytes_same (x ∷ xs) (y ∷ ys) = ap (λ (b : Bool). (x == y) && b) (bytes_same xs ys)
 
 eq_back : (x y : ℕ) → (x == y) ≡ true → (y == x) ≡ true
 eq_back x y e = eq-eqb y x (sym (eqb-true x y e))
@@ -31,26 +23,23 @@ eq_sym x y = ⊎_elim
     (λ (e : (x == y) ≡ false). ⊎_elim (λ (f : (y == x) ≡ true). eq_back y x f ∙ sym f) (λ (f : (y == x) ≡ false). e ∙ sym f) (cases_Bool (y == x)))
     (cases_Bool (x == y))
 
-same_sym : (xs ys : List ℕ) → same xs ys ≡ same ys xs
-unfolding same
+same_sym : (xs ys : List ℕ) → bytes_eq xs ys ≡ bytes_eq ys xs
 same_sym [] [] = refl
 same_sym [] (y ∷ ys) = refl
 same_sym (x ∷ xs) [] = refl
-same_sym (x ∷ xs) (y ∷ ys) = ap (λ (b : Bool). b && same xs ys) (eq_sym x y) ∙ ap (λ (b : Bool). (y == x) && b) (same_sym xs ys)
+same_sym (x ∷ xs) (y ∷ ys) = ap (λ (b : Bool). b && bytes_eq xs ys) (eq_sym x y) ∙ ap (λ (b : Bool). (y == x) && b) (same_sym xs ys)
 
 -- a name against one that is put in
 same_back : (k q : Name) → same_as k q ≡ same_name q k
 unfolding same_name
 same_back k q =
-    ap (λ (b : Bool). b && bytes_eq k.kind q.kind) (bytes_same k.file q.file ∙ same_sym k.file q.file)
-    ∙ ap (λ (b : Bool). same q.file k.file && b) (bytes_same k.kind q.kind ∙ same_sym k.kind q.kind)
+    ap (λ (b : Bool). b && bytes_eq k.kind q.kind) (same_sym k.file q.file)
+    ∙ ap (λ (b : Bool). bytes_eq q.file k.file && b) (same_sym k.kind q.kind)
 
 -- a name that is looked for among those that were put in
 pub same_there : (k q : Name) → same_as k q ≡ same_name k q
 unfolding same_name
-same_there k q =
-    ap (λ (b : Bool). b && bytes_eq k.kind q.kind) (bytes_same k.file q.file)
-    ∙ ap (λ (b : Bool). same k.file q.file && b) (bytes_same k.kind q.kind)
+same_there k q = refl
 
 pub place_there : (name : Name) (names : List Name) → position (same_as name) names ≡ position (same_name name) names
 place_there name names = ap (λ (test : Name → Bool). position test names) (λ i q. same_there name q i)

@@ -4,7 +4,7 @@ use Rattle.std.specs.Prelude.{IfOk, IfErr, nat_le}
 use Rattle.std.proofs.lemmas.Bool.{leb-true}
 use Rattle.cms_journal.specs.Journal.{Journal}
 use Rattle.cms_names.specs.declared.name.Format.TheVariants.{F, V}
-use Rattle.cms_fields.specs.Numbers.{half}
+use Rattle.cms_text.specs.Bytes.{half}
 use Rattle.cms_fields.specs.Steps.{◌>>=◌}
 use Rattle.cms_fields.specs.declared.entry.Entry.{Entry}
 use Rattle.cms_model.specs.Lists.{cut}
