@@ -80,14 +80,16 @@ passes_open unit disk image label files wide size p =
     let bytes = bytes_of_one image root in
     let all : tree_blocks (one_block label.origin) (one_block root) (map file_block files) ≡ label.origin ∷ found_blocks image label files = order in
     record {
-      blocks = p.enough;
-      label = p.label_is;
-      directory = directory_is disk.bsize label.origin (image label.origin) label.origin (length files + 2) s.own.is s.own.alone s.own.root count;
-      directory_met = leaf_from (form_of disk.bsize label.blocks F) image (Some label.origin) label.origin label.origin 1 (own label.origin);
-      map = map_is disk.bsize label.blocks (drop 64 (image label.origin)) root s.map.is s.map.alone refl s.map.count;
-      entries = rw (back, bytes_of_one image label.origin) e.entries;
+      system = record {
+        blocks = p.enough;
+        label = p.label_is;
+        directory = directory_is disk.bsize label.origin (image label.origin) label.origin (length files + 2) s.own.is s.own.alone s.own.root count;
+        directory_met = leaf_from (form_of disk.bsize label.blocks F) image (Some label.origin) label.origin label.origin 1 (own label.origin);
+        map = map_is disk.bsize label.blocks (drop 64 (image label.origin)) root s.map.is s.map.alone refl s.map.count;
+        entries = rw (back, bytes_of_one image label.origin) e.entries;
+        map_met = leaf_from (form_of disk.bsize label.blocks F) image None label.origin root 1 allowed.0;
+      };
       names = p.names;
-      map_met = leaf_from (form_of disk.bsize label.blocks F) image None label.origin root 1 allowed.0;
       mets = trees_from disk.bsize label.blocks image (label.origin ∷ []) 2 files e.each allowed.1;
       apart = rw all (no_repeat [] (label.origin ∷ found_blocks image label files) (origin_once label.origin label.blocks (found_blocks image label files) origin p.allowed p.apart));
       marked = rw (all, bytes) (marked_met image label files origin p.marked);
@@ -160,16 +162,16 @@ opened_passes disk image v wide size small o =
     let bsize = disk.bsize in
     let directory = image v.label.origin in
     let root = map_root_in directory in
-    let l = label_reads bsize disk.count (image 3) v.label o.label in
+    let l = label_reads bsize disk.count (image 3) v.label o.system.label in
     let some = l.low in
     let a = and_parts (nat_le v.label.blocks (8 * bsize) && nat_le (word directory 48) (bsize / 64)) (are_small_files bsize (file_pieces directory)) small in
     let b = and_parts (nat_le v.label.blocks (8 * bsize)) (nat_le (word directory 48) (bsize / 64)) a.0 in
     let few = leb-true v.label.blocks (8 * bsize) b.0 in
-    let own = own_entry bsize v.label.origin directory v.directory (omega arith) size b.1 o.directory in
-    let map' = map_entry bsize v.label.blocks (drop 64 directory) v.map (omega arith) (omega arith) few o.map in
-    let own_tree = one_tree disk image v.label.blocks (Some v.label.origin) v.label.origin v.label.origin (word directory 48) v.directory v.directory_met own.1 o.directory_met in
-    let map_tree = one_tree disk image v.label.blocks None v.label.origin root 1 v.map v.map_met map'.1 o.map_met in
-    let counted = subst (λ (x : SystemFile). entries_of bsize 2 (cut (x.count - 2) 64 (drop 128 (bytes_at image v.directory_met.leaves))) ≡ Ok v.entries) own.1 o.entries in
+    let own = own_entry bsize v.label.origin directory v.directory (omega arith) size b.1 o.system.directory in
+    let map' = map_entry bsize v.label.blocks (drop 64 directory) v.map (omega arith) (omega arith) few o.system.map in
+    let own_tree = one_tree disk image v.label.blocks (Some v.label.origin) v.label.origin v.label.origin (word directory 48) v.directory v.directory_met own.1 o.system.directory_met in
+    let map_tree = one_tree disk image v.label.blocks None v.label.origin root 1 v.map v.map_met map'.1 o.system.map_met in
+    let counted = subst (λ (x : SystemFile). entries_of bsize 2 (cut (x.count - 2) 64 (drop 128 (bytes_at image v.directory_met.leaves))) ≡ Ok v.entries) own.1 o.system.entries in
     let placed = subst (λ (x : Met). entries_of bsize 2 (cut (word directory 48 - 2) 64 (drop 128 (bytes_at image x.leaves))) ≡ Ok v.entries) (sym own_tree.1) counted in
     let spelled = subst (λ (x : List ℕ). entries_of bsize 2 (cut (word directory 48 - 2) 64 (drop 128 x)) ≡ Ok v.entries) (bytes_of_one image v.label.origin) placed in
     let entries = small_again bsize 2 (file_pieces directory) v.entries a.1 spelled in
@@ -187,8 +189,8 @@ opened_passes disk image v wide size small o =
     let unmarked' = subst (λ (x : Met). lowest_unmarked (bytes_at image x.leaves) (v.label.origin ∷ found_blocks image v.label v.entries) 6 (v.label.blocks - 5) ≡ None) (sym map_tree.1) unmarked in
     let lowest = subst (λ (x : List ℕ). lowest_unmarked x (v.label.origin ∷ found_blocks image v.label v.entries) 6 (v.label.blocks - 5) ≡ None) (bytes_of_one image root) unmarked' in
     record {
-      enough = o.blocks;
-      label_is = o.label;
+      enough = o.system.blocks;
+      label_is = o.system.label;
       systems = and_from (nat_le v.label.blocks (8 * bsize) && is_small_directory bsize v.label.origin directory) (is_small_map bsize (drop 64 directory))
           (and_from (nat_le v.label.blocks (8 * bsize)) (is_small_directory bsize v.label.origin directory) b.0 own.0) map'.0;
       entries = entries;
@@ -225,7 +227,7 @@ small_refused unit disk image wide size e =
     opens : (label : Label) → label_of disk.bsize disk.count (image 3) ≡ Ok label → is_small disk.bsize label image ≡ true → (v : Opened) → open_of disk image ≡ Ok v → ⊥
     opens label is_label small v is =
         let o = open_ok disk image v is in
-        let same : label ≡ v.label = ok_same label v.label (sym is_label ∙ o.label) in
+        let same : label ≡ v.label = ok_same label v.label (sym is_label ∙ o.system.label) in
         let p = opened_passes disk image v wide size (subst (λ (x : Label). is_small disk.bsize x image ≡ true) same small) o in
         not_both (held_so unit disk image v.label v.entries) (small_in unit disk image) (passes_found unit disk image v.label v.entries p) e
 

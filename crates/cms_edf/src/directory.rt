@@ -2,8 +2,8 @@
 ghost use Rattle.std.specs.Prelude.{◌≡◌, ◌≤◌, ◌+◌, ◌*◌, ◌-◌, ◌^◌, ◌<◌, ℕ, true, Ok, Err, List, length, take, drop, IfOk, IfErr, OnOk, MatchOption};
 ghost use Rattle.cms_text.specs.Bytes.{word};
 ghost use Rattle.cms_fields.specs.Entries.{is_fixed, entry_of};
-ghost use Rattle.cms_model.specs.Lists.{cut, same};
-ghost use Rattle.cms_model.specs.Minidisks.{same_name, is_named};
+ghost use Rattle.cms_model.specs.Lists.{cut};
+ghost use Rattle.cms_model.specs.Minidisks.{is_named};
 ghost use Rattle.cms_model.specs.Volumes.{first_twice};
 ghost use Rattle.cms_edf.specs.Small.{is_small_file};
 ghost use Rattle.cms_edf.specs.Reading.{is_one_block, is_small_directory, is_small_map, has_small_systems, NotSmall, small_entry, small_entries, small_files, map_root_in, roots, are_allowed, ReadsEntries, RefusesFiles};
@@ -112,40 +112,14 @@ fn read_entries(
     }
 }
 
-/// The bytes are the same.
-#[tactic(auto, unfolding(cms_model::specs::Lists::same))]
-pub fn same(some: &[u8], others: &[u8]) -> bool
-    ensures { result ≡ same some.now others.now }
-{
-    match some {
-        [] => match others {
-            [] => true,
-            [_, ..] => false,
-        },
-        [x, xs @ ..] => match others {
-            [] => false,
-            [y, ys @ ..] => *x == *y && same(xs, ys),
-        },
-    }
-}
-
-// Both parts are the same.
-#[tactic(auto, unfolding(cms_model::specs::Minidisks::same_name))]
-fn is_same(name: &Name, other: &Name) -> bool
-    ensures { result ≡ same_name name.now other.now }
-{
-    same(name.file.as_bytes(), other.file.as_bytes())
-        && same(name.kind.as_bytes(), other.kind.as_bytes())
-}
-
 // The name is one of theirs.
-#[tactic(auto, unfolding(cms_model::specs::Minidisks::is_named))]
+#[tactic(auto, unfolding(cms_model::specs::Lists::same, cms_model::specs::Minidisks::same_name, cms_model::specs::Minidisks::is_named))]
 fn is_named(name: &Name, names: &[Name]) -> bool
     ensures { result ≡ is_named name.now names.now }
 {
     match names {
         [] => false,
-        [first, rest @ ..] => is_same(name, first) || is_named(name, rest),
+        [first, rest @ ..] => name == first || is_named(name, rest),
     }
 }
 

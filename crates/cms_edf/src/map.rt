@@ -1,20 +1,10 @@
 // The map of a small volume, and the blocks that its files have.
 ghost use Rattle.std.specs.Prelude.{◌≡◌, ◌∷◌};
 ghost use Rattle.cms_model.specs.Lists.{holds};
-ghost use Rattle.cms_model.specs.Maps.{is_marked};
 ghost use Rattle.cms_edf.specs.Reading.{roots, are_allowed, are_apart, are_marked, have_places};
 
 use cms_fields::Entry;
-
-// The block's bit is 1: a bit for each block, block 1 first, the high bit of a byte first.
-#[tactic(auto, unfolding(cms_model::specs::Maps::is_marked))]
-fn is_marked(map: &[u8], block: u32) -> bool
-    ensures { result ≡ is_marked map.now block }
-{
-    let place = block.saturating_sub(1);
-    let byte = map.get((place / 8) as usize).copied().unwrap_or(0);
-    byte / 2u8.pow(7 - place % 8) % 2 == 1
-}
+use cms_map::is_marked;
 
 // All files have their blocks between block 6 and the last.
 #[tactic(auto, unfolding(crate::specs::Reading::are_allowed))]

@@ -12,7 +12,7 @@ ghost use Rattle.cms_edf.specs.Reading.{ReadsSmall, small_in, is_spelled};
 ghost use Rattle.cms_edf.specs.declared.small.SmallFault.TheVariants.{Device, Memory};
 
 use crate::blocks::{ReadFault, after, read_block};
-use crate::directory::{map_root, same, small_files};
+use crate::directory::{map_root, small_files};
 use crate::map::marks;
 use cms_fields::{Entry, Label, LabelFault, read_label};
 use cms_journal::BlockSize;
@@ -183,11 +183,12 @@ pub fn small_volume<W: World>(
 }
 
 // The name is spelled so, each part filled with blanks.
+#[tactic(auto, unfolding(cms_model::specs::Lists::same))]
 fn is_spelled(bytes: &[u8; 16], name: &Name) -> bool
     ensures is { result ≡ is_spelled bytes.now name.now }
     ensures long { length (filled name.now.file) ≡ 8 }
 {
-    same(name.file.padded(), &bytes[..8]) && same(name.kind.padded(), after(bytes, 8))
+    name.file.padded()[..] == bytes[..8] && &name.kind.padded()[..] == after(bytes, 8)
 }
 
 // The place of the file of a name.

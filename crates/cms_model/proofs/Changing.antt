@@ -11,9 +11,11 @@ use Rattle.cms_model.specs.LawsChanges.{NoneNamed, AreDistinct, IsPlace, Changes
 -- ---- the test of names
 
 pub same_from : (xs ys : List ℕ) → same xs ys ≡ true → xs ≡ ys
+unfolding same
 same_from xs ys h = (bytes_decides xs ys).0 h
 
 pub same_self : (xs : List ℕ) → same xs xs ≡ true
+unfolding same
 same_self xs = (bytes_decides xs xs).1 refl
 
 pub name_from : (a b : Name) → same_name a b ≡ true → a ≡ b

@@ -25,7 +25,8 @@ use Rattle.cms_model.specs.declared.fault.VarFault.TheVariants.{Zero, PastEnd, L
 use Rattle.cms_model.specs.declared.fault.OpenFault.TheVariants as failed
 use Rattle.cms_model.proofs.Results.{ok_same, want_ok, bind_then}
 use Rattle.cms_model.proofs.Quotients.{up_spec, up_unique, up_some, up_below}
-use Rattle.cms_model.proofs.Records.{length_stored, length_stored_fixed, length_cut, fits_cut}
+use Rattle.cms_model.proofs.Cuts.{length_cut}
+use Rattle.cms_model.proofs.Records.{length_stored, length_stored_fixed, fits_cut}
 use Rattle.cms_model.proofs.TreeFrame.{between, tree_inside, tree_places}
 use Rattle.cms_model.proofs.TreeSizes.{tree_has_size}
 use Rattle.cms_model.proofs.Opening.{blamed_ok}

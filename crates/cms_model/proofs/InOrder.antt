@@ -35,9 +35,9 @@ blocks_within disk image v o n in' =
     let form = form_of disk.bsize v.label.blocks F in
     let origin = v.label.origin in
     ⊎_elim
-    (λ dir. placed (tree_places form image v.directory.levels (Some origin) origin v.directory.root v.directory.blocks v.directory_met o.directory_met n dir))
+    (λ dir. placed (tree_places form image v.directory.levels (Some origin) origin v.directory.root v.directory.blocks v.directory_met o.system.directory_met n dir))
     (λ rest. ⊎_elim
-    (λ map. inl (place_none v.label.blocks n (tree_places form image v.map.levels None origin v.map.root v.map.blocks v.map_met o.map_met n map)))
+    (λ map. inl (place_none v.label.blocks n (tree_places form image v.map.levels None origin v.map.root v.map.blocks v.map_met o.system.map_met n map)))
     (λ files. inl (trees_within disk.bsize v.label.blocks image v.directory_met.leaves 2 v.entries v.mets o.mets n files))
     (In-either n v.map_met.blocks (blocks_of v.mets) rest))
     (In-either n v.directory_met.blocks (v.map_met.blocks ++ blocks_of v.mets) in')
@@ -49,7 +49,7 @@ blocks_within disk image v o n in' =
 pub in_order : (disk : Disk) (image : Image) (v : Opened) → open_of disk image ≡ Ok v → IsInOrder disk image v
 in_order disk image v e =
     let o = open_ok disk image v e in
-    let label = label_reads disk.bsize disk.count (image 3) v.label o.label in
+    let label = label_reads disk.bsize disk.count (image 3) v.label o.system.label in
     let low = label.low in
     record {
       size = (label.low, label.high);

@@ -1,4 +1,5 @@
 pub mod Results
+pub mod Cuts
 pub mod Records
 pub mod Shapes
 pub mod Members

@@ -24,7 +24,7 @@ use Rattle.cms_model.proofs.InOrder.{in_order}
 use Rattle.cms_model.proofs.Members.{In-left}
 use Rattle.cms_model.proofs.Repeats.{in_held, held, in_from}
 use Rattle.cms_model.proofs.Shares.{range_times, range_all, shares}
-use Rattle.cms_model.proofs.Records.{length_cut}
+use Rattle.cms_model.proofs.Cuts.{length_cut}
 use Rattle.cms_journal.proofs.Sizes.{block_bounds}
 use Rattle.cms_model.proofs.FileSizes.{fan_wide, entries_fit, files_blocks}
 
@@ -76,13 +76,13 @@ pub directory_blocks : (disk : Disk) (image : Image) (v : Opened) → IsWhole di
 unfolding directory_more
 directory_blocks disk image v whole o =
     let low = (block_bounds disk.bsize whole.size).0 in
-    let d = directory_fits disk.bsize v.label.origin (image v.label.origin) v.directory o.directory in
+    let d = directory_fits disk.bsize v.label.origin (image v.label.origin) v.directory o.system.directory in
     let two = d.low in
     let most = d.high in
     let is : v.directory.blocks ≡ up (v.directory.count * 64) disk.bsize = d.fits.blocks in
     let some = up_some (v.directory.count * 64) disk.bsize (omega arith) (omega arith) in
     let small = up_below (v.directory.count * 64) disk.bsize (omega arith) in
-    let size = (tree_has_size (form_of disk.bsize v.label.blocks F) image v.directory.levels (Some v.label.origin) v.label.origin v.directory.root v.directory.blocks v.directory_met (fan_wide disk.bsize F whole.size) (omega arith) (omega arith) d.fits.shape o.directory_met).1 in
+    let size = (tree_has_size (form_of disk.bsize v.label.blocks F) image v.directory.levels (Some v.label.origin) v.label.origin v.directory.root v.directory.blocks v.directory_met (fan_wide disk.bsize F whole.size) (omega arith) (omega arith) d.fits.shape o.system.directory_met).1 in
     let count : v.directory.count * 64 ≡ 64 * (v.directory.count - 2 + 2) = omega arith in
     let same : length v.directory_met.blocks ≡ tree_size (disk.bsize / 4) (up (64 * (v.directory.count - 2 + 2)) disk.bsize) = size ∙ ap (tree_size (disk.bsize / 4)) (is ∙ ap (λ (n : ℕ). up n disk.bsize) count) in
     let more : 1 ≤ tree_size (disk.bsize / 4) v.directory.blocks = tree_some (disk.bsize / 4) v.directory.blocks (omega arith) in
@@ -93,7 +93,7 @@ unfolding map_size
 map_blocks disk image v whole o big top =
     let low = (block_bounds disk.bsize whole.size).0 in
     let small = whole.small in
-    let m = map_fits disk.bsize v.label.blocks (drop 64 (image v.label.origin)) v.map o.map in
+    let m = map_fits disk.bsize v.label.blocks (drop 64 (image v.label.origin)) v.map o.system.map in
     let is : v.map.blocks ≡ up (v.map.count * disk.bsize) disk.bsize = m.fits.blocks in
     let exact : v.map.count ≡ up (v.map.count * disk.bsize) disk.bsize = up_unique (v.map.count * disk.bsize) disk.bsize v.map.count (omega arith) (omega arith) (omega arith) in
     let count : v.map.blocks ≡ up (up v.label.blocks 8) disk.bsize = is ∙ sym exact ∙ m.count in
@@ -101,7 +101,7 @@ map_blocks disk image v whole o big top =
     let s2 = up_some (up v.label.blocks 8) disk.bsize (omega arith) s1 in
     let b1 = up_below v.label.blocks 8 (omega arith) in
     let b2 = up_below (up v.label.blocks 8) disk.bsize (omega arith) in
-    let size = (tree_has_size (form_of disk.bsize v.label.blocks F) image v.map.levels None v.label.origin v.map.root v.map.blocks v.map_met (fan_wide disk.bsize F whole.size) (omega arith) (omega arith) m.fits.shape o.map_met).1 in
+    let size = (tree_has_size (form_of disk.bsize v.label.blocks F) image v.map.levels None v.label.origin v.map.root v.map.blocks v.map_met (fan_wide disk.bsize F whole.size) (omega arith) (omega arith) m.fits.shape o.system.map_met).1 in
     size ∙ ap (tree_size (disk.bsize / 4)) count
 
 -- ---- the whole
@@ -112,14 +112,14 @@ origin_once disk image v whole o order =
     let low = (block_bounds disk.bsize whole.size).0 in
     let form = form_of disk.bsize v.label.blocks F in
     let at = v.label.origin in
-    let d = directory_fits disk.bsize at (image at) v.directory o.directory in
+    let d = directory_fits disk.bsize at (image at) v.directory o.system.directory in
     let two = d.low in
     let is : v.directory.blocks ≡ up (v.directory.count * 64) disk.bsize = d.fits.blocks in
     let some = up_some (v.directory.count * 64) disk.bsize (omega arith) (omega arith) in
     let wide = fan_wide disk.bsize F whole.size in
-    let begins = tree_first form image v.directory.levels at at v.directory.root v.directory.blocks v.directory_met (omega arith) (omega arith) o.directory_met in
+    let begins = tree_first form image v.directory.levels at at v.directory.root v.directory.blocks v.directory_met (omega arith) (omega arith) o.system.directory_met in
     let leaf : In at v.directory_met.leaves = subst (In at) (sym begins.1) (inl refl) in
-    let inside : In at v.directory_met.blocks = tree_inside form image v.directory.levels (Some at) at v.directory.root v.directory.blocks v.directory_met o.directory_met at leaf in
+    let inside : In at v.directory_met.blocks = tree_inside form image v.directory.levels (Some at) at v.directory.root v.directory.blocks v.directory_met o.system.directory_met at leaf in
     let all : In at (all_blocks v) = In-left at v.directory_met.blocks (v.map_met.blocks ++ blocks_of v.mets) inside in
     let one = held at (all_blocks v) (in_held at (all_blocks v) all) in
     let most = order.once at in
@@ -135,7 +135,7 @@ blocks_are_shared disk image v whole e =
     let total = v.label.blocks in
     let bytes = bytes_at image v.map_met.leaves in
     let low : v.label.origin < 6 = ⊎_elim (λ (four : v.label.origin ≡ 4). omega arith) (λ (five : v.label.origin ≡ 5). omega arith) order.origin in
-    let es = entries_fit disk.bsize 2 (cut (v.directory.count - 2) 64 (drop 128 (bytes_at image v.directory_met.leaves))) v.entries o.entries in
+    let es = entries_fit disk.bsize 2 (cut (v.directory.count - 2) 64 (drop 128 (bytes_at image v.directory_met.leaves))) v.entries o.system.entries in
     let entries : length v.entries ≡ v.directory.count - 2 = es.1 ∙ length_cut (v.directory.count - 2) 64 (drop 128 (bytes_at image v.directory_met.leaves)) in
     let files = files_blocks disk image total v.directory_met.leaves 2 v.entries v.mets v.contents whole top es.0 o.mets o.contents in
     let directory = directory_blocks disk image v whole o in

@@ -25,7 +25,8 @@ use Rattle.cms_model.proofs.VolumeFrame.{opened_keeps}
 pub open_again : (disk : Disk) (image : Image) (v : Opened) → IsOpened disk image v → open_of disk image ≡ Ok v
 unfolding open_of
 open_again disk image v o =
-    rw (o.blocks, o.label, o.directory, o.directory_met, o.map, o.entries, o.names, o.map_met, o.mets, o.apart, o.marked, o.contents, o.lost) refl
+    let y = o.system in
+    rw (y.blocks, y.label, y.directory, y.directory_met, y.map, y.entries, o.names, y.map_met, o.mets, o.apart, o.marked, o.contents, o.lost) refl
 
 pub absent_then : {X B C : Type 0} (x : Option X) (why : X → OpenFault) (r : Result B OpenFault) (y : B) → (absent x why >> r) ≡ Ok y → (x ≡ None → r ≡ Ok y → C) → C
 absent_then None why r y e go = go refl e
@@ -51,14 +52,16 @@ open_ok disk image v e =
     absent_then (lowest_unmarked (bytes_at image map_met.leaves) (tree_blocks directory_met map_met mets) 6 (label.blocks - 5)) failed.MapMissing _ v e9 (λ marked e10.
     bind_then (contents_in disk.bsize image 2 entries mets) _ v e10 (λ contents is_contents e11.
     subst (IsOpened disk image) (ok_same _ v e11) (record {
-      blocks = start.0;
-      label = blamed_ok failed.Label (label_of disk.bsize disk.count (image 3)) label is_label;
-      directory = is_directory;
-      directory_met = is_directory_met;
-      map = is_map;
-      entries = is_entries;
+      system = record {
+        blocks = start.0;
+        label = blamed_ok failed.Label (label_of disk.bsize disk.count (image 3)) label is_label;
+        directory = is_directory;
+        directory_met = is_directory_met;
+        map = is_map;
+        entries = is_entries;
+        map_met = is_map_met;
+      };
       names = names;
-      map_met = is_map_met;
       mets = is_mets;
       apart = apart;
       marked = marked;

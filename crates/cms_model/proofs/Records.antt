@@ -36,11 +36,6 @@ length_stored_fixed size (r ∷ rs) all =
     let deeper = length_stored_fixed size rs (All-tail (Fits F size) r rs all) in
     length-append r (concat rs) ∙ (omega arith)
 
-pub length_cut : (count size : ℕ) (bytes : List ℕ) → length (cut count size bytes) ≡ count
-unfolding cut
-length_cut zero size bytes = refl
-length_cut (suc n) size bytes = ap suc (length_cut n size (drop size bytes))
-
 pub fits_cut : (count size : ℕ) (bytes : List ℕ) → count * size ≤ length bytes → All (Fits F size) (cut count size bytes)
 unfolding cut
 fits_cut zero size bytes room = All-nil (Fits F size)

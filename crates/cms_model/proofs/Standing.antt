@@ -8,7 +8,7 @@ use Rattle.cms_model.specs.Trees.{Image, Met, form_of, tree, bytes_at}
 use Rattle.cms_model.specs.Records.{records_of}
 use Rattle.cms_model.specs.Maps.{lowest_unmarked, lost_count}
 use Rattle.cms_model.specs.Minidisks.{same_name, is_named}
-use Rattle.cms_model.specs.Volumes.{Disk, Opened, IsOpened, blamed, open_of, first_twice, holder_of, file_trees, blocks_of, contents_in, all_blocks}
+use Rattle.cms_model.specs.Volumes.{Disk, Opened, HoldsSystem, IsOpened, blamed, open_of, first_twice, holder_of, file_trees, blocks_of, contents_in, all_blocks}
 use Rattle.cms_model.specs.Stands.{Kept, HoldsFiles, entries_in, mets_in, records_in, file_blocks, NoEntryNamed, HaveNames, Layout, layout_blocks, opened, Stands}
 use Rattle.cms_model.specs.declared.fault.OpenFault.TheVariants as failed
 use Rattle.cms_model.proofs.Results.{ok_same, bind_then}
@@ -65,16 +65,9 @@ none_first n ns most = omega arith
 pub stands_opened : (disk : Disk) (image : Image) (v : Layout) → Stands disk image v → IsOpened disk image (opened v)
 stands_opened disk image v s =
     let same : all_blocks (opened v) ≡ layout_blocks v = ap (λ (l : List ℕ). v.directory_met.blocks ++ (v.map_met.blocks ++ l)) (blocks_all v.files) in
-    let y = s.system in
     record {
-      blocks = y.blocks;
-      label = y.label;
-      directory = y.directory;
-      directory_met = y.directory_met;
-      map = y.map;
-      entries = y.entries;
+      system = s.system;
       names = none_twice 2 [] v.files s.names tt;
-      map_met = y.map_met;
       mets = trees_all disk v.label.blocks image v.directory_met.leaves 2 v.files s.files;
       apart = ap (first_repeat []) same ∙ no_repeat [] (layout_blocks v) (λ n. none_first n (layout_blocks v) (s.apart n));
       marked = ap (λ (l : List ℕ). lowest_unmarked (bytes_at image v.map_met.leaves) l 6 (v.label.blocks - 5)) same ∙ none_unmarked (bytes_at image v.map_met.leaves) (layout_blocks v) 6 (v.label.blocks - 5) s.marked;
@@ -153,23 +146,16 @@ opened_stands disk image o e = go (files_from disk o.label.blocks image o.direct
     go f =
         let v = layout f.files in
         let order = in_order disk image o e in
+        let is : opened v ≡ o = λ k. record { label = o.label; directory = o.directory; directory_met = o.directory_met; map = o.map; map_met = o.map_met; entries = f.are_entries k; mets = f.are_mets k; contents = f.are_records k; lost = o.lost } in
         let same : all_blocks o ≡ layout_blocks v = ap (λ (l : List ℕ). o.directory_met.blocks ++ (o.map_met.blocks ++ l)) (ap blocks_of (sym f.are_mets) ∙ blocks_all f.files) in (
           v,
           record {
-            system = record {
-              blocks = i.blocks;
-              label = i.label;
-              directory = i.directory;
-              directory_met = i.directory_met;
-              map = i.map;
-              entries = i.entries ∙ ap Ok (sym f.are_entries);
-              map_met = i.map_met;
-            };
+            system = subst (HoldsSystem disk image) (sym is) i.system;
             names = (names_from 2 [] f.files (ap (first_twice 2 []) f.are_entries ∙ i.names)).0;
             files = f.all;
             apart = λ n. subst (λ (l : List ℕ). times n l ≤ 1) same (order.once n);
             marked = λ n le some. order.marked n le (subst (In n) (sym same) (in_from n (layout_blocks v) (held_from n (layout_blocks v) some)));
             lost = ap (λ (l : List ℕ). lost_count (bytes_at image o.map_met.leaves) l 6 (o.label.blocks - 5)) (sym same) ∙ i.lost;
           },
-          λ k. record { label = o.label; directory = o.directory; directory_met = o.directory_met; map = o.map; map_met = o.map_met; entries = f.are_entries k; mets = f.are_mets k; contents = f.are_records k; lost = o.lost },
+          is,
         )

@@ -12,7 +12,7 @@ use Rattle.cms_model.specs.Lists.{In}
 use Rattle.cms_model.specs.Trees.{Image, image_of}
 use Rattle.cms_model.specs.Volumes.{Disk, Opened, open_of, all_blocks}
 use Rattle.cms_model.specs.Settled.{MayLeave, EachCrash, IsSettled, Write, writes, update}
-use Rattle.cms_model.specs.LawsUpdates.{after, now, IsFront, to_label, with_label, IsUpdate, Updates, relabel, relabelled, IsRelabel, Relabels}
+use Rattle.cms_model.specs.LawsUpdates.{after, now, IsFront, to_label, with_label, IsUpdate, Updates, relabelled, IsRelabel, Relabels}
 use Rattle.cms_model.proofs.Opening.{open_ok, open_again, label_reads}
 use Rattle.cms_model.proofs.InOrder.{in_order}
 use Rattle.cms_model.proofs.VolumeFrame.{opened_under}
@@ -128,7 +128,7 @@ update_is_whole disk j u ws label old new up = record {
 has_label : (disk : Disk) (image : List (List ℕ)) (v : Opened) → open_of disk (image_of image) ≡ Ok v → 3 ≤ length image
 unfolding has_identifier word
 has_label disk image v e =
-    let reads = label_reads disk.bsize disk.count (image_of image 3) v.label (open_ok disk (image_of image) v e).label in
+    let reads = label_reads disk.bsize disk.count (image_of image 3) v.label (open_ok disk (image_of image) v e).system.label in
     let identifier = reads.identifier in
     ⊎_elim
     (λ (less : length image < 3). let none : has_identifier [] ≡ true = subst (λ (b : List ℕ). has_identifier b ≡ true) (image_past image 3 less) identifier in absurd (cc none))

@@ -72,19 +72,21 @@ opened_under disk before later v label o reads same_origin same_blocks agree =
     let maps = λ (n : ℕ) (in' : In n v.map_met.blocks). agree n (inr (In-right n v.directory_met.blocks (v.map_met.blocks ++ blocks_of v.mets) (In-left n v.map_met.blocks (blocks_of v.mets) in'))) in
     let files = λ (n : ℕ) (in' : In n (blocks_of v.mets)). agree n (inr (In-right n v.directory_met.blocks (v.map_met.blocks ++ blocks_of v.mets) (In-right n v.map_met.blocks (blocks_of v.mets) in'))) in
     let dir_bytes : bytes_at later v.directory_met.leaves ≡ bytes_at before v.directory_met.leaves =
-    sym (bytes_keep before later v.directory_met.leaves (λ n in'. dirs n (tree_inside form before v.directory.levels (Some at) at v.directory.root v.directory.blocks v.directory_met o.directory_met n in'))) in
+    sym (bytes_keep before later v.directory_met.leaves (λ n in'. dirs n (tree_inside form before v.directory.levels (Some at) at v.directory.root v.directory.blocks v.directory_met o.system.directory_met n in'))) in
     let map_bytes : bytes_at later v.map_met.leaves ≡ bytes_at before v.map_met.leaves =
-    sym (bytes_keep before later v.map_met.leaves (λ n in'. maps n (tree_inside form before v.map.levels None at v.map.root v.map.blocks v.map_met o.map_met n in'))) in
+    sym (bytes_keep before later v.map_met.leaves (λ n in'. maps n (tree_inside form before v.map.levels None at v.map.root v.map.blocks v.map_met o.system.map_met n in'))) in
     let origin : before at ≡ later at = agree at (inl refl) in
     record {
-      blocks = o.blocks;
-      label = reads;
-      directory = rw same_origin (subst (λ (b : List ℕ). directory_of disk.bsize at b ≡ Ok v.directory) origin o.directory);
-      directory_met = rw (same_origin, same_blocks) (tree_keeps form before later v.directory.levels (Some at) at at v.directory.root v.directory.blocks v.directory_met o.directory_met dirs);
-      map = rw (same_origin, same_blocks) (subst (λ (b : List ℕ). map_of disk.bsize total (drop 64 b) ≡ Ok v.map) origin o.map);
-      entries = rw dir_bytes o.entries;
+      system = record {
+        blocks = o.system.blocks;
+        label = reads;
+        directory = rw same_origin (subst (λ (b : List ℕ). directory_of disk.bsize at b ≡ Ok v.directory) origin o.system.directory);
+        directory_met = rw (same_origin, same_blocks) (tree_keeps form before later v.directory.levels (Some at) at at v.directory.root v.directory.blocks v.directory_met o.system.directory_met dirs);
+        map = rw (same_origin, same_blocks) (subst (λ (b : List ℕ). map_of disk.bsize total (drop 64 b) ≡ Ok v.map) origin o.system.map);
+        entries = rw dir_bytes o.system.entries;
+        map_met = rw (same_origin, same_blocks) (tree_keeps form before later v.map.levels None at at v.map.root v.map.blocks v.map_met o.system.map_met maps);
+      };
       names = o.names;
-      map_met = rw (same_origin, same_blocks) (tree_keeps form before later v.map.levels None at at v.map.root v.map.blocks v.map_met o.map_met maps);
       mets = rw same_blocks (trees_keep disk.bsize total before later v.directory_met.leaves 2 v.entries v.mets o.mets files);
       apart = o.apart;
       marked = rw (same_blocks, map_bytes) o.marked;
@@ -94,5 +96,5 @@ opened_under disk before later v label o reads same_origin same_blocks agree =
 
 pub opened_keeps : (disk : Disk) (before later : Image) (v : Opened) → IsOpened disk before v → Agree (frame v) before later → IsOpened disk later v
 opened_keeps disk before later v o agree =
-    let reads : label_of disk.bsize disk.count (later 3) ≡ Ok v.label = subst (λ (b : List ℕ). label_of disk.bsize disk.count b ≡ Ok v.label) (agree 3 (inl refl)) o.label in
+    let reads : label_of disk.bsize disk.count (later 3) ≡ Ok v.label = subst (λ (b : List ℕ). label_of disk.bsize disk.count b ≡ Ok v.label) (agree 3 (inl refl)) o.system.label in
     opened_under disk before later v v.label o reads refl refl (λ n in'. agree n (inr in'))

@@ -23,10 +23,10 @@ first_repeat others [] = None
 first_repeat others (n ∷ ns) = if holds others n then Some n else first_repeat (n ∷ others) ns
 
 -- the test of whether lists are the same
-abbrev pub same : List ℕ → List ℕ → Bool
+unfoldable pub same : List ℕ → List ℕ → Bool
 same = bytes_eq
 
--- so many pieces of a length, from the front
-unfoldable pub cut : ℕ → ℕ → List ℕ → List (List ℕ)
-cut zero size bytes = []
-cut (suc n) size bytes = take size bytes ∷ cut n size (drop size bytes)
+-- so many pieces of a length, from the front; the last that has items may be shorter
+unfoldable pub cut : {A : Type 0} → ℕ → ℕ → List A → List (List A)
+cut zero size items = []
+cut (suc n) size items = take size items ∷ cut n size (drop size items)

@@ -1,17 +1,15 @@
 -- An open volume file by file, and how an update exchanges its blocks.
-use Rattle.std.specs.Prelude.{◌≡◌, ◌≢◌, ◌⊎◌, ℕ, ◌-◌, ◌≤◌, Bool, true, false, not, ◌&&◌, ◌||◌, nat_le, List, [], ◌∷◌, ◌++◌, map, drop, Some, None, Ok, ⊤}
+use Rattle.std.specs.Prelude.{◌≡◌, ◌≢◌, ◌⊎◌, ℕ, ◌-◌, ◌≤◌, Bool, true, false, not, ◌&&◌, ◌||◌, List, [], ◌∷◌, ◌++◌, map, None, Ok, ⊤}
 use Rattle.cms_names.specs.declared.name.Name.{Name}
-use Rattle.cms_names.specs.declared.name.Format.TheVariants.{F}
-use Rattle.cms_fields.specs.Labels.{label_of}
 use Rattle.cms_fields.specs.declared.entry.Entry.{Entry}
 use Rattle.cms_fields.specs.declared.label.Label.{Label}
-use Rattle.cms_model.specs.Lists.{cut, holds, times}
+use Rattle.cms_model.specs.Lists.{holds, times}
 use Rattle.cms_model.specs.Trees.{Image, Met, form_of, tree, bytes_at}
 use Rattle.cms_model.specs.Records.{records_of, length_of}
 use Rattle.cms_model.specs.Maps.{is_marked, lost_count}
 use Rattle.cms_model.specs.Minidisks.{File, Minidisk}
-use Rattle.cms_model.specs.Systems.{SystemFile, directory_of, map_of}
-use Rattle.cms_model.specs.Volumes.{Disk, Opened, open_of, entries_of, minidisk_of}
+use Rattle.cms_model.specs.Systems.{SystemFile}
+use Rattle.cms_model.specs.Volumes.{Disk, Opened, HoldsSystem, open_of, minidisk_of}
 use Rattle.cms_model.specs.Settled.{Agree}
 
 -- a file with its entry, its tree and its records
@@ -93,22 +91,10 @@ opened v = record {
   lost = v.lost;
 }
 
--- the image has its label, directory and map
-pub record HoldsSystem (disk : Disk) (image : Image) (v : Layout) : Type 0 where
-  pub blocks : nat_le 6 disk.count ≡ true
-  pub label : label_of disk.bsize disk.count (image 3) ≡ Ok v.label
-  pub directory : directory_of disk.bsize v.label.origin (image v.label.origin) ≡ Ok v.directory
-  pub directory_met : tree (form_of disk.bsize v.label.blocks F) image v.directory.levels
-      (Some v.label.origin) v.label.origin v.directory.root v.directory.blocks ≡ Ok v.directory_met
-  pub map : map_of disk.bsize v.label.blocks (drop 64 (image v.label.origin)) ≡ Ok v.map
-  pub entries : entries_of disk.bsize 2 (cut (v.directory.count - 2) 64 (drop 128 (bytes_at image v.directory_met.leaves)))
-      ≡ Ok (entries_in v.files)
-  pub map_met : tree (form_of disk.bsize v.label.blocks F) image v.map.levels None v.label.origin v.map.root v.map.blocks ≡ Ok v.map_met
-
 -- the volume stands in the image: its parts are there, its names are distinct, no block stands twice, each is marked, and so
 -- many are marked besides
 pub record Stands (disk : Disk) (image : Image) (v : Layout) : Type 0 where
-  pub system : HoldsSystem disk image v
+  pub system : HoldsSystem disk image (opened v)
   pub names : HaveNames v.files
   pub files : HoldsFiles disk v.label.blocks image v.files
   pub apart : (n : ℕ) → times n (layout_blocks v) ≤ 1
@@ -155,7 +141,7 @@ pub record Exchange (old_map new_map old_blocks new_blocks : List ℕ) (released
 -- after an update with such an exchange the new volume stands
 pub record IsRenewed (disk : Disk) (before later : Image) (old new : Layout) (released fresh : ℕ → Bool) : Type 0 where
   pub old_stands : Stands disk before old
-  pub system : HoldsSystem disk later new
+  pub system : HoldsSystem disk later (opened new)
   pub total : new.label.blocks ≡ old.label.blocks
   pub lost : new.lost ≡ old.lost
   pub names : HaveNames new.files

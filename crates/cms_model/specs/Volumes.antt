@@ -124,8 +124,8 @@ open_of disk image = do
     lost = lost_count (bytes_at image map_met.leaves) (tree_blocks directory_met map_met mets) 6 (label.blocks - 5);
   })
 
--- the image holds this volume: the same, test by test
-pub record IsOpened (disk : Disk) (image : Image) (v : Opened) : Type 0 where
+-- the image has the label, directory and map of this volume
+pub record HoldsSystem (disk : Disk) (image : Image) (v : Opened) : Type 0 where
   pub blocks : nat_le 6 disk.count ≡ true
   pub label : label_of disk.bsize disk.count (image 3) ≡ Ok v.label
   pub directory : directory_of disk.bsize v.label.origin (image v.label.origin) ≡ Ok v.directory
@@ -133,8 +133,12 @@ pub record IsOpened (disk : Disk) (image : Image) (v : Opened) : Type 0 where
       (Some v.label.origin) v.label.origin v.directory.root v.directory.blocks ≡ Ok v.directory_met
   pub map : map_of disk.bsize v.label.blocks (drop 64 (image v.label.origin)) ≡ Ok v.map
   pub entries : entries_of disk.bsize 2 (cut (v.directory.count - 2) 64 (drop 128 (bytes_at image v.directory_met.leaves))) ≡ Ok v.entries
-  pub names : first_twice 2 [] v.entries ≡ None
   pub map_met : tree (form_of disk.bsize v.label.blocks F) image v.map.levels None v.label.origin v.map.root v.map.blocks ≡ Ok v.map_met
+
+-- the image holds this volume: the same as the tests on opening, one by one
+pub record IsOpened (disk : Disk) (image : Image) (v : Opened) : Type 0 where
+  pub system : HoldsSystem disk image v
+  pub names : first_twice 2 [] v.entries ≡ None
   pub mets : file_trees disk.bsize v.label.blocks image v.directory_met.leaves 2 v.entries ≡ Ok v.mets
   pub apart : first_repeat [] (all_blocks v) ≡ None
   pub marked : lowest_unmarked (bytes_at image v.map_met.leaves) (all_blocks v) 6 (v.label.blocks - 5) ≡ None

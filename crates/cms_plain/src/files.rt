@@ -29,7 +29,7 @@ fn is_named(name: &Name, names: &[Name]) -> bool
 }
 
 /// Both parts are the same.
-#[tactic(auto, unfolding(cms_model::specs::Minidisks::same_name))]
+#[tactic(auto, unfolding(cms_model::specs::Minidisks::same_name, cms_model::specs::Lists::same))]
 pub fn is_same(name: &Name, other: &Name) -> bool
     ensures { result ≡ same_name name.now other.now }
 {

@@ -1,4 +1,3 @@
-pub mod Pieces
 pub mod Lengths
 pub mod Scanning
 pub mod Feeding

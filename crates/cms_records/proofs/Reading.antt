@@ -8,7 +8,8 @@ use Rattle.cms_names.specs.declared.name.Format.TheVariants.{F, V}
 use Rattle.cms_model.specs.Lists.{cut}
 use Rattle.cms_model.specs.Records.{Fits, IsValid, StandsFor, stored}
 use Rattle.cms_model.specs.declared.file.FileData.{FileData}
-use Rattle.cms_model.proofs.Records.{cut_stored, length_cut, length_stored_fixed, read_stored}
+use Rattle.cms_model.proofs.Cuts.{length_cut}
+use Rattle.cms_model.proofs.Records.{cut_stored, length_stored_fixed, read_stored}
 use Rattle.cms_records.specs.Views.{BeginWith}
 use Rattle.cms_records.specs.Stored.{records_at, records_in}
 use Rattle.cms_records.proofs.Lengths.{Reads, length-front, varying_reads}

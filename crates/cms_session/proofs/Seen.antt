@@ -150,7 +150,7 @@ unfolding volume_of minidisk_of
 opened j s m is =
     let image = contents_image j s in
     let o = open_ok s.disk image (volume_of s image) is.stands.opens in
-    (entries_parts s.disk.bsize 2 _ s.files o.entries, opened_distinct s.disk image (volume_of s image) is.stands.opens)
+    (entries_parts s.disk.bsize 2 _ s.files o.system.entries, opened_distinct s.disk image (volume_of s image) is.stands.opens)
 
 pub not_found : (j : Journal) (d : Disk) (name : Name) (m : Minidisk) → IsMinidisk j d.small m → IsPlaceOf (spelled name) d.small.files None → seen_file (letter_of d) name m ≡ None
 not_found j d name m is none =

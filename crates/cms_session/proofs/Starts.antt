@@ -235,7 +235,7 @@ built_in : (s : SmallVolume) (image : Image) → StandsIn s image → IsNotBuilt
 unfolding volume_of
 built_in s image stands other =
     let opened = open_ok s.disk image (volume_of s image) stands.opens in
-    let label : ok_label s.label ≡ ok_label other.label = sym opened.label ∙ other.passes.1 in
+    let label : ok_label s.label ≡ ok_label other.label = sym opened.system.label ∙ other.passes.1 in
     let same : s.label ≡ other.label = cc in
     ⊎_elim
     (λ (large : is_small s.disk.bsize other.label image ≡ false). let e : true ≡ false = sym stands.small ∙ ap (λ (l : Label). is_small s.disk.bsize l image) same ∙ large in absurd (cc))

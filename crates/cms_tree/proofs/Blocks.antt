@@ -1,13 +1,11 @@
 -- Blocks of a unit as they are read.
-use Rattle.std.proofs.Common.{◌≡◌, ℕ, ◌+◌, ◌-◌, ◌<◌, ◌≤◌, List, [], ◌∷◌, ◌++◌, length, take, drop, Option, Some, None, refl, sym, ◌∙◌, ap, arith}
-use Rattle.std.specs.Prelude.{IsSomeAnd, slice_get, slice_index_or}
-use Rattle.std.specs.Option.{option_map_or}
-use Rattle.std.proofs.lemmas.List.{append-nil, drop_all, take_all}
-use Rattle.cms_journal.specs.Journal.{Journal, HasBlock, HasBlocks, block_of, contents_of, start_of, block_after}
+use Rattle.std.proofs.Common.{◌≡◌, ℕ, ◌≤◌, length, Option, Some, None, arith}
+use Rattle.std.specs.Prelude.{IsSomeAnd, slice_get}
+use Rattle.cms_journal.specs.Journal.{Journal, HasBlock, HasBlocks}
 use Rattle.cms_journal.specs.declared.event.Attached.{Attached}
 use Rattle.std.specs.Prelude.{nat_le, true}
 use Rattle.std.proofs.lemmas.Bool.{and_parts, leb-true}
-use Rattle.cms_model.specs.Trees.{image_of, is_allowed}
+use Rattle.cms_model.specs.Trees.{is_allowed}
 
 -- a unit with so many blocks has each of them
 pub has_block : (j : Journal) (u last n size : ℕ) → HasBlocks j.units u last size → 6 ≤ n → n ≤ last → HasBlock j.units u n size

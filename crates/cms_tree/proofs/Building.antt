@@ -1,26 +1,28 @@
 -- An image that has the pointer blocks of a tree has the tree.
-use Rattle.std.proofs.Common.{◌≡◌, ◌⊎◌, inl, inr, ⊎_elim, ℕ, zero, suc, ◌+◌, ◌-◌, ◌*◌, ◌/◌, ◌^◌, ◌<◌, ◌≤◌, min, List, [], ◌∷◌, ◌++◌, length, take, drop, get_or, map, All, Option, None, true, refl, sym, ◌∙◌, ap, subst, arith, mul-le-mul_right, length-append, pow-suc, mul_comm}
+use Rattle.std.proofs.Common.{◌≡◌, ◌⊎◌, inl, inr, ⊎_elim, ℕ, zero, suc, ◌+◌, ◌-◌, ◌*◌, ◌/◌, ◌^◌, ◌<◌, ◌≤◌, List, [], ◌∷◌, ◌++◌, length, take, drop, get_or, map, All, None, refl, sym, ◌∙◌, ap, subst, arith, mul-le-mul_right, length-append, pow-suc}
 use Rattle.std.proofs.Math.Nat.{pow-zero, one-le-pow}
-use Rattle.std.specs.Prelude.{replicate, slice_index}
+use Rattle.std.specs.Prelude.{replicate}
 use Rattle.std.specs.List.{concat}
 use Rattle.std.proofs.lemmas.Bool.{cases_lt}
-use Rattle.std.proofs.lemmas.List.{append_assoc, append-nil, take-append-drop, get_or-drop, get_or_append_left, get_or-append_right, length-take, length-drop, get_or-take, drop-drop, drop_all}
+use Rattle.std.proofs.lemmas.List.{take-append-drop, get_or-drop, get_or_append_left, get_or-append_right, length-take, length-drop, drop_all}
 use Rattle.std.proofs.lemmas.List.Elements.{All-nil, All-cons, All-head, All-tail, All-take, All-drop}
 use Rattle.cms_journal.specs.Journal.{IsBlockSize}
 use Rattle.cms_fields.specs.Numbers.{up}
-use Rattle.cms_model.specs.Trees.{Image, Form, pointers, is_allowed}
-use Rattle.cms_model.specs.Sizes.{levels, pointers_to, pointer_count}
-use Rattle.cms_model.specs.Built.{Node, Points, AllAllowed, Built, ReadsAs}
-use Rattle.cms_model.specs.LawsTrees.{Cell, cell_bytes, FitsCell}
+use Rattle.cms_model.specs.Lists.{cut}
+use Rattle.cms_model.specs.Trees.{Image, Form, pointers}
+use Rattle.cms_model.specs.Sizes.{levels, pointer_count}
+use Rattle.cms_model.specs.Built.{Node, Points, AllAllowed, Built}
+use Rattle.cms_model.specs.LawsTrees.{cell_bytes, FitsCell}
 use Rattle.cms_model.proofs.Building.{built_reads}
+use Rattle.cms_model.proofs.Cuts.{length_cut}
 use Rattle.cms_model.proofs.Pointers.{pointers_read}
-use Rattle.cms_model.proofs.Quotients.{up_spec, up_some, up_below, up_zero}
-use Rattle.cms_model.proofs.Shapes.{Needs, levels_needs}
+use Rattle.cms_model.proofs.Quotients.{up_spec, up_some, up_zero}
+use Rattle.cms_model.proofs.Shapes.{levels_needs}
 use Rattle.cms_tree.specs.declared.types.Mark.{Mark}
-use Rattle.cms_tree.specs.Builds.{Child, no_child, marked, grouped, level_over, parent, parents, all_over, nodes_over, cell_of, node_bytes, node_at, root_of, IsBuildable, HasNodes, BuiltIsTree}
+use Rattle.cms_tree.specs.Builds.{Child, marked, level_over, parents, all_over, cell_of, node_bytes, root_of, BuiltIsTree}
 use Rattle.cms_tree.proofs.Blocks.{allowed_lies}
 use Rattle.cms_tree.proofs.Filling.{length-cell}
-use Rattle.cms_tree.proofs.Rising.{over_count, all_count, up_less, length-grouped, get-grouped}
+use Rattle.cms_tree.proofs.Rising.{over_count, all_count, up_less}
 
 abbrev pub blocks_of : List Child → List ℕ
 blocks_of cs = map (λ c. c.block) cs
@@ -96,8 +98,8 @@ full_or_last fan below some = ⊎_elim
     (cases_lt (length below) fan)
 
 points_level : (form : Form) (image : Image) (bsize : ℕ) → (form.stride ≡ 4) ⊎ (form.stride ≡ 12) → 1 ≤ form.fan → (m : ℕ) (below : List Child) (numbers : List ℕ) → m ≡ up (length below) form.fan → m ≤ length numbers → Words (blocks_of below)
-    → ((k : ℕ) → k < m → image (get_or numbers k 0) ≡ node_bytes bsize form.stride (get_or (grouped m form.fan below) k [])) → Points form image (take m numbers) (blocks_of below)
-unfolding grouped
+    → ((k : ℕ) → k < m → image (get_or numbers k 0) ≡ node_bytes bsize form.stride (get_or (cut m form.fan below) k [])) → Points form image (take m numbers) (blocks_of below)
+unfolding cut
 points_level form image bsize kind some zero below numbers is enough words has = nothing_over form.fan below some is
 points_level form image bsize kind some (suc m) below [] is enough words has = absurd (omega arith)
 points_level form image bsize kind some (suc m) below (x ∷ xs) is enough words has =
@@ -180,7 +182,7 @@ built form image bsize kind some small (suc k) below numbers fits count words al
     let fan = form.fan in
     let m = up (length below) fan in
     let level = level_over fan below in
-    let long : length level ≡ m = length-grouped m fan below in
+    let long : length level ≡ m = length_cut m fan below in
     let above = fits_above fan k (length below) some fits in
     let any = above.some in
     let parents' = parents numbers level in

@@ -1,9 +1,8 @@
 -- A pointer block while it is filled.
-use Rattle.std.proofs.Common.{◌≡◌, ◌⊎◌, ⊎_elim, ℕ, zero, suc, ◌+◌, ◌-◌, ◌*◌, ◌/◌, ◌^◌, ◌<◌, ◌≤◌, min, List, [], ◌∷◌, ◌++◌, length, take, drop, map, refl, sym, ◌∙◌, ap, subst, arith, length-append, mul-le-mul_right}
+use Rattle.std.proofs.Common.{◌≡◌, ◌⊎◌, ⊎_elim, ℕ, suc, ◌+◌, ◌-◌, ◌*◌, ◌<◌, ◌≤◌, List, [], ◌∷◌, ◌++◌, length, take, drop, map, refl, sym, ◌∙◌, ap, subst, arith, length-append, mul-le-mul_right}
 use Rattle.std.specs.Prelude.{replicate}
 use Rattle.std.specs.List.{concat}
 use Rattle.std.proofs.lemmas.List.{append-nil, append_assoc, take_at, drop_at, drop-replicate, drop-drop}
-use Rattle.byteorder.specs.Endian.{big_bytes}
 use Rattle.cms_text.specs.Bytes.{overwritten}
 use Rattle.cms_fields.specs.Numbers.{up}
 use Rattle.cms_model.proofs.Quotients.{up_spec}

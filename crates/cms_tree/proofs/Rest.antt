@@ -1,7 +1,7 @@
 -- What a walk over the children of a block has met, and what is left.
-use Rattle.std.proofs.Common.{◌≡◌, ◌⊎◌, ⊎_elim, ℕ, zero, suc, ◌+◌, ◌-◌, ◌*◌, ◌^◌, ◌<◌, ◌≤◌, min, List, [], ◌∷◌, ◌++◌, drop, Option, Some, None, Result, Ok, Err, Bool, true, false, refl, sym, ◌∙◌, ap, subst, arith}
+use Rattle.std.proofs.Common.{◌≡◌, ℕ, zero, suc, ◌+◌, ◌-◌, ◌*◌, ◌^◌, ◌<◌, min, List, [], ◌∷◌, ◌++◌, drop, Option, None, Result, Ok, Err, true, false, refl, sym, ◌∙◌, ap, subst, arith}
 use Rattle.std.proofs.lemmas.List.{append-nil, append_assoc, drop-drop}
-use Rattle.cms_fields.specs.Steps.{◌>>=◌, ◌>>◌, want}
+use Rattle.cms_fields.specs.Steps.{◌>>=◌}
 use Rattle.cms_text.specs.Bytes.{word}
 use Rattle.cms_model.specs.Trees.{Image, Form, Met, none_met, joined, tree, children, pointers, is_allowed}
 use Rattle.cms_model.specs.declared.fault.OpenFault.{OpenFault}

@@ -1,14 +1,15 @@
 -- The levels of a tree, one after another from the bottom.
-use Rattle.std.proofs.Common.{◌≡◌, ⊎_elim, ℕ, zero, suc, ◌+◌, ◌-◌, ◌*◌, ◌^◌, ◌<◌, ◌≤◌, min, List, [], ◌∷◌, ◌++◌, length, take, drop, get_or, refl, sym, ◌∙◌, ap, subst, arith, mul-le-mul_right, mul-le-mul_left, length-append, pow-suc, mul_comm}
+use Rattle.std.proofs.Common.{◌≡◌, ⊎_elim, ℕ, zero, suc, ◌+◌, ◌-◌, ◌*◌, ◌^◌, ◌<◌, ◌≤◌, min, List, [], ◌∷◌, length, take, drop, get_or, refl, sym, ◌∙◌, ap, subst, arith, mul-le-mul_right, mul-le-mul_left, pow-suc}
 use Rattle.std.proofs.Math.Nat.{pow-zero, one-le-pow}
 use Rattle.std.proofs.lemmas.List.{get_or-drop, drop-drop, length-take, length-drop, get_or_append_left, get_or-append_right, take_min}
 use Rattle.std.proofs.lemmas.Bool.{cases_lt}
-use Rattle.std.specs.Prelude.{slice_index_or}
 use Rattle.cms_fields.specs.Numbers.{up}
+use Rattle.cms_model.specs.Lists.{cut}
 use Rattle.cms_model.specs.Sizes.{levels, pointers_to, pointer_count}
+use Rattle.cms_model.proofs.Cuts.{get_or_cut, length_cut}
 use Rattle.cms_model.proofs.Quotients.{up_spec, up_unique, up_up, up_zero, up_some, up_below}
 use Rattle.cms_tree.specs.declared.types.Mark.{Mark}
-use Rattle.cms_tree.specs.Builds.{Child, no_mark, no_child, marked, grouped, level_over, parent, parents, all_over, nodes_over}
+use Rattle.cms_tree.specs.Builds.{Child, no_mark, no_child, marked, level_over, parent, parents, all_over, nodes_over}
 use Rattle.cms_tree.specs.Levels.{mark_at, wide_mark, children_from}
 use Rattle.cms_tree.proofs.Filling.{length-children, below_some}
 use Rattle.cms_tree.proofs.Sums.{levels_room}
@@ -68,11 +69,14 @@ drop-children marks n size i zero bs = let e : i + 0 ≡ i = omega arith in rw e
 drop-children marks n size i (suc k) [] = refl
 drop-children marks n size i (suc k) (b ∷ bs) = let e : i + 1 + k ≡ i + suc k = omega arith in drop-children marks n size (i + 1) k bs ∙ ap (λ (j : ℕ). children_from marks n size j (drop k bs)) e
 
-pub get-children : (marks : List Mark) (n size i k : ℕ) (bs : List ℕ) → k < length bs → get_or (children_from marks n size i bs) k no_child ≡ record { block = get_or bs k 0; mark = wide_mark marks n size (i + k) }
+pub get-children : (marks : List Mark) (n size i k : ℕ) (bs : List ℕ) → k < length bs
+    → get_or (children_from marks n size i bs) k no_child ≡ record { block = get_or bs k 0; mark = wide_mark marks n size (i + k) }
 unfolding children_from
 get-children marks n size i k [] less = absurd (omega arith)
 get-children marks n size i zero (b ∷ bs) less = let e : i + 0 ≡ i = omega arith in rw e refl
-get-children marks n size i (suc k) (b ∷ bs) less = let e : i + 1 + k ≡ i + suc k = omega arith in get-children marks n size (i + 1) k bs (omega arith) ∙ ap (λ (j : ℕ). record { block = get_or bs k 0; mark = wide_mark marks n size j }) e
+get-children marks n size i (suc k) (b ∷ bs) less =
+    let e : i + 1 + k ≡ i + suc k = omega arith in
+    get-children marks n size (i + 1) k bs (omega arith) ∙ ap (λ (j : ℕ). record { block = get_or bs k 0; mark = wide_mark marks n size j }) e
 
 -- the data blocks
 marked-children : (marks : List Mark) (n i : ℕ) (bs : List ℕ) → i + length bs ≡ n → marked bs (drop i marks) ≡ children_from marks n 1 i bs
@@ -90,19 +94,6 @@ pub marked-is : (marks : List Mark) (leaves : List ℕ) → marked leaves marks 
 marked-is marks leaves = marked-children marks (length leaves) 0 leaves (omega arith)
 
 -- ---- groups
-
-pub length-grouped : (m fan : ℕ) (below : List Child) → length (grouped m fan below) ≡ m
-unfolding grouped
-length-grouped zero fan below = refl
-length-grouped (suc m) fan below = ap suc (length-grouped m fan (drop fan below))
-
-pub get-grouped : (m fan k : ℕ) (below : List Child) → k < m → get_or (grouped m fan below) k [] ≡ take fan (drop (k * fan) below)
-unfolding grouped
-get-grouped zero fan k below less = absurd (omega arith)
-get-grouped (suc m) fan zero below less = let e : 0 * fan ≡ 0 = omega arith in rw e refl
-get-grouped (suc m) fan (suc k) below less =
-    let e : fan + k * fan ≡ suc k * fan = omega arith in
-    get-grouped m fan k (drop fan below) (omega arith) ∙ ap (take fan) (drop-drop (k * fan) fan below ∙ ap (λ (j : ℕ). drop j below) e)
 
 -- the data blocks below a group end where those below its parent do
 group_end : (j fan size n len own : ℕ) → 1 ≤ size → 1 ≤ own → own ≡ min fan len → j * fan + len ≡ up n size → min ((j * fan + (own - 1) + 1) * size) n ≡ min ((j + 1) * (size * fan)) n
@@ -136,22 +127,26 @@ parent_rises marks n size fan j number bs wide room some sum =
     rw (split, long, last, first, end, start) refl
 
 pub parents_rise : (marks : List Mark) (n size fan m j : ℕ) (bs numbers : List ℕ) → 1 ≤ fan → 1 ≤ size → m ≡ up (length bs) fan → m ≤ length numbers → (1 ≤ length bs → j * fan + length bs ≡ up n size)
-    → parents numbers (grouped m fan (children_from marks n size (j * fan) bs)) ≡ children_from marks n (size * fan) j (take m numbers)
-unfolding grouped parents children_from
+    → parents numbers (cut m fan (children_from marks n size (j * fan) bs)) ≡ children_from marks n (size * fan) j (take m numbers)
+unfolding cut parents children_from
 parents_rise marks n size fan zero j bs numbers wide room is enough sum = refl
 parents_rise marks n size fan (suc m) j bs [] wide room is enough sum = absurd (omega arith)
 parents_rise marks n size fan (suc m) j bs (x ∷ xs) wide room is enough sum =
-    let some : 1 ≤ length bs = ⊎_elim (λ (none : length bs < 1). let zero' : length bs ≡ 0 = omega arith in let z : up (length bs) fan ≡ 0 = ap (λ (c : ℕ). up c fan) zero' ∙ up_zero fan wide in absurd (omega arith)) (λ (le : 1 ≤ length bs). le) (cases_lt (length bs) 1) in
+    let some : 1 ≤ length bs = ⊎_elim
+    (λ (none : length bs < 1). let zero' : length bs ≡ 0 = omega arith in let z : up (length bs) fan ≡ 0 = ap (λ (c : ℕ). up c fan) zero' ∙ up_zero fan wide in absurd (omega arith))
+    (λ (le : 1 ≤ length bs). le)
+    (cases_lt (length bs) 1) in
     let less = up_less (length bs) fan wide some in
     let long = length-drop fan bs in
     let m_is : m ≡ up (length (drop fan bs)) fan = (let e : m ≡ up (length bs - fan) fan = omega arith in e ∙ ap (λ (c : ℕ). up c fan) (sym long)) in
     let next : j * fan + fan ≡ (j + 1) * fan = omega arith in
     let whole = sum some in
-    let tail : parents xs (grouped m fan (drop fan (children_from marks n size (j * fan) bs))) ≡ children_from marks n (size * fan) (j + 1) (take m xs) =
-    ap (λ (l : List Child). parents xs (grouped m fan l)) (drop-children marks n size (j * fan) fan bs ∙ ap (λ (i : ℕ). children_from marks n size i (drop fan bs)) next)
+    let tail : parents xs (cut m fan (drop fan (children_from marks n size (j * fan) bs))) ≡ children_from marks n (size * fan) (j + 1) (take m xs) =
+    ap (λ (l : List Child). parents xs (cut m fan l)) (drop-children marks n size (j * fan) fan bs ∙ ap (λ (i : ℕ). children_from marks n size i (drop fan bs)) next)
     ∙ parents_rise marks n size fan m (j + 1) (drop fan bs) xs wide room m_is (omega arith) (λ more. omega arith) in
     let head = parent_rises marks n size fan j x bs wide room some whole in
-    ap (λ (c : Child). c ∷ parents xs (grouped m fan (drop fan (children_from marks n size (j * fan) bs)))) head ∙ ap (λ (l : List Child). (record { block = x; mark = wide_mark marks n (size * fan) j }) ∷ l) tail
+    ap (λ (c : Child). c ∷ parents xs (cut m fan (drop fan (children_from marks n size (j * fan) bs)))) head
+    ∙ ap (λ (l : List Child). (record { block = x; mark = wide_mark marks n (size * fan) j }) ∷ l) tail
 
 -- ---- the search for a pointer block
 
@@ -166,7 +161,8 @@ pub record Rises (fan : ℕ) (leaves fresh : List ℕ) (nth : ℕ) (blocks numbe
   pub room : 1 ≤ size
   pub lower : place ≤ nth
 
-pub rises_first : (fan : ℕ) (leaves fresh : List ℕ) (nth : ℕ) → 1 ≤ fan → pointer_count fan (length leaves) ≤ length fresh → nth < pointer_count fan (length leaves) → Rises fan leaves fresh nth leaves fresh 1 nth
+pub rises_first : (fan : ℕ) (leaves fresh : List ℕ) (nth : ℕ) → 1 ≤ fan → pointer_count fan (length leaves) ≤ length fresh
+    → nth < pointer_count fan (length leaves) → Rises fan leaves fresh nth leaves fresh 1 nth
 unfolding pointer_count
 rises_first fan leaves fresh nth some enough within =
     let count = all_count fan (length leaves) (levels fan (length leaves)) some in
@@ -183,7 +179,8 @@ rises_first fan leaves fresh nth some enough within =
 
 -- the level over these
 level_long : (marks : List Mark) (n size fan : ℕ) (blocks : List ℕ) → length (level_over fan (children_from marks n size 0 blocks)) ≡ up (length blocks) fan
-level_long marks n size fan blocks = length-grouped (up (length (children_from marks n size 0 blocks)) fan) fan (children_from marks n size 0 blocks) ∙ ap (λ (c : ℕ). up c fan) (length-children marks n size 0 blocks)
+level_long marks n size fan blocks =
+    length_cut (up (length (children_from marks n size 0 blocks)) fan) fan (children_from marks n size 0 blocks) ∙ ap (λ (c : ℕ). up c fan) (length-children marks n size 0 blocks)
 
 -- it is no block of the lowest level: it is one of the levels above
 record Higher (fan k : ℕ) (blocks numbers : List ℕ) (size place : ℕ) (n : ℕ) : Type 0 where
@@ -194,7 +191,8 @@ record Higher (fan k : ℕ) (blocks numbers : List ℕ) (size place : ℕ) (n : 
   same : (marks : List Mark) → get_or (all_over fan k (children_from marks n size 0 blocks) numbers) place []
       ≡ get_or (all_over fan l (children_from marks n (size * fan) 0 (take (up (length blocks) fan) numbers)) (drop (up (length blocks) fan) numbers)) (place - up (length blocks) fan) []
 
-higher : (fan k : ℕ) (blocks numbers : List ℕ) (size place n : ℕ) → 1 ≤ fan → 1 ≤ size → length blocks ≡ up n size → place < over_count fan k (length blocks) → over_count fan k (length blocks) ≤ length numbers → up (length blocks) fan ≤ place
+higher : (fan k : ℕ) (blocks numbers : List ℕ) (size place n : ℕ) → 1 ≤ fan → 1 ≤ size → length blocks ≡ up n size
+    → place < over_count fan k (length blocks) → over_count fan k (length blocks) ≤ length numbers → up (length blocks) fan ≤ place
     → Higher fan k blocks numbers size place n
 unfolding all_over
 higher fan zero blocks numbers size place n some room wide within enough past = absurd (omega arith)
@@ -209,17 +207,19 @@ higher fan (suc l) blocks numbers size place n some room wide within enough past
           let below = children_from marks n size 0 blocks in
           let level = level_over fan below in
           let long = level_long marks n size fan blocks in
-          let groups : level ≡ grouped m fan below = ap (λ (c : ℕ). grouped (up c fan) fan below) (length-children marks n size 0 blocks) in
+          let groups : level ≡ cut m fan below = ap (λ (c : ℕ). cut (up c fan) fan below) (length-children marks n size 0 blocks) in
           let zero' : 0 * fan ≡ 0 = omega arith in
-          let rise : parents numbers (grouped m fan below) ≡ children_from marks n (size * fan) 0 (take m numbers) =
-          ap (λ (i : ℕ). parents numbers (grouped m fan (children_from marks n size i blocks))) (sym zero') ∙ parents_rise marks n size fan m 0 blocks numbers some room refl (omega arith) (λ more. omega arith) in
+          let rise : parents numbers (cut m fan below) ≡ children_from marks n (size * fan) 0 (take m numbers) =
+          ap (λ (i : ℕ). parents numbers (cut m fan (children_from marks n size i blocks))) (sym zero')
+          ∙ parents_rise marks n size fan m 0 blocks numbers some room refl (omega arith) (λ more. omega arith) in
           let rise' : parents numbers level ≡ children_from marks n (size * fan) 0 (take m numbers) = ap (parents numbers) groups ∙ rise in
           let past' : length level ≤ place = omega arith in
           get_or-append_right level (all_over fan l (parents numbers level) (drop (length level) numbers)) (length level) place [] refl past'
           ∙ (rw (long, rise') refl);
     }
 
-pub rises_next : (fan : ℕ) (leaves fresh : List ℕ) (nth : ℕ) (blocks numbers : List ℕ) (size place count : ℕ) → 1 ≤ fan → Rises fan leaves fresh nth blocks numbers size place → count ≡ up (length blocks) fan → count ≤ place
+pub rises_next : (fan : ℕ) (leaves fresh : List ℕ) (nth : ℕ) (blocks numbers : List ℕ) (size place count : ℕ) → 1 ≤ fan
+    → Rises fan leaves fresh nth blocks numbers size place → count ≡ up (length blocks) fan → count ≤ place
     → Rises fan leaves fresh nth (take count numbers) (drop count numbers) (size * fan) (place - count)
 rises_next fan leaves fresh nth blocks numbers size place count some r is past =
     let n = length leaves in
@@ -234,7 +234,9 @@ rises_next fan leaves fresh nth blocks numbers size place count some r is past =
     (let p : fan ^ r.k ≡ fan ^ h.l * fan = ap (λ (e : ℕ). fan ^ e) h.k_is ∙ pow-suc fan h.l in let q : size * fan ^ r.k ≡ size * (fan ^ h.l * fan) = ap (λ (x : ℕ). size * x) p in omega arith) in
     record {
       k = h.l;
-      same = λ marks. subst (λ (c : ℕ). get_or (all_over fan h.l (children_from marks n (size * fan) 0 (take c numbers)) (drop c numbers)) (place - c) [] ≡ get_or (nodes_over fan leaves marks fresh) nth []) (sym is) (sym (h.same marks) ∙ r.same marks);
+      same = λ marks. subst
+          (λ (c : ℕ). get_or (all_over fan h.l (children_from marks n (size * fan) 0 (take c numbers)) (drop c numbers)) (place - c) []
+          ≡ get_or (nodes_over fan leaves marks fresh) nth []) (sym is) (sym (h.same marks) ∙ r.same marks);
       within = omega arith;
       enough = omega arith;
       wide = long ∙ wide;
@@ -255,7 +257,7 @@ found marks fan (suc l) blocks numbers size place n within low =
     let less : place < up (length below) fan = subst (λ (c : ℕ). place < up c fan) (sym (length-children marks n size 0 blocks)) low in
     let from : 0 + place * fan ≡ place * fan = omega arith in
     get_or_append_left level (all_over fan l (parents numbers level) (drop (length level) numbers)) [] place (omega arith)
-    ∙ get-grouped (up (length below) fan) fan place below less
+    ∙ get_or_cut (up (length below) fan) fan place below less
     ∙ ap (take fan) (drop-children marks n size 0 (place * fan) blocks ∙ ap (λ (i : ℕ). children_from marks n size i (drop (place * fan) blocks)) from)
     ∙ take-children marks n size (place * fan) fan (drop (place * fan) blocks)
 
@@ -266,7 +268,8 @@ pub record Found (fan : ℕ) (leaves fresh : List ℕ) (nth : ℕ) (blocks : Lis
   pub some : place * fan < length blocks
   pub few : length blocks < 2 ^ 32
 
-pub rises_found : (fan : ℕ) (leaves fresh : List ℕ) (nth : ℕ) (blocks numbers : List ℕ) (size place : ℕ) → 2 ≤ fan → fan ≤ 1024 → length leaves < 2 ^ 32 → Rises fan leaves fresh nth blocks numbers size place → place < up (length blocks) fan → Found fan leaves fresh nth blocks size place
+pub rises_found : (fan : ℕ) (leaves fresh : List ℕ) (nth : ℕ) (blocks numbers : List ℕ) (size place : ℕ) → 2 ≤ fan → fan ≤ 1024
+    → length leaves < 2 ^ 32 → Rises fan leaves fresh nth blocks numbers size place → place < up (length blocks) fan → Found fan leaves fresh nth blocks size place
 rises_found fan leaves fresh nth blocks numbers size place wide narrow small r low =
     let n = length leaves in
     let power : 1 ≤ fan ^ r.k = one-le-pow r.k fan (omega arith) in
@@ -288,7 +291,8 @@ pub record Bounds (fan : ℕ) (blocks numbers : List ℕ) (size count : ℕ) : T
   pub enough : count ≤ length numbers
   pub short : size * fan ≤ 2 ^ 42
 
-pub rises_bounds : (fan : ℕ) (leaves fresh : List ℕ) (nth : ℕ) (blocks numbers : List ℕ) (size place count : ℕ) → 2 ≤ fan → fan ≤ 1024 → 1 ≤ length leaves → length leaves < 2 ^ 32 → Rises fan leaves fresh nth blocks numbers size place → count ≡ up (length blocks) fan → count ≤ place → Bounds fan blocks numbers size count
+pub rises_bounds : (fan : ℕ) (leaves fresh : List ℕ) (nth : ℕ) (blocks numbers : List ℕ) (size place count : ℕ) → 2 ≤ fan → fan ≤ 1024
+    → 1 ≤ length leaves → length leaves < 2 ^ 32 → Rises fan leaves fresh nth blocks numbers size place → count ≡ up (length blocks) fan → count ≤ place → Bounds fan blocks numbers size count
 rises_bounds fan leaves fresh nth blocks numbers size place count wide narrow some small r is past =
     let n = length leaves in
     let next = rises_next fan leaves fresh nth blocks numbers size place count (omega arith) r is past in

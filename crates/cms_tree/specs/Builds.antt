@@ -1,10 +1,11 @@
 -- Trees as they are built over data blocks.
-use Rattle.std.specs.Prelude.{◌≡◌, ◌⊎◌, ℕ, zero, suc, ◌+◌, ◌-◌, ◌*◌, ◌/◌, ◌^◌, ◌<◌, List, [], ◌∷◌, ◌++◌, length, take, drop, map, replicate, slice_index, slice_index_or, All, Option, None, if◌then◌else◌, ◌==◌}
+use Rattle.std.specs.Prelude.{◌≡◌, ◌⊎◌, ℕ, zero, suc, ◌-◌, ◌*◌, ◌/◌, ◌^◌, ◌<◌, List, [], ◌∷◌, ◌++◌, length, drop, map, replicate, slice_index, slice_index_or, All, Option, None, if◌then◌else◌, ◌==◌}
 use Rattle.std.specs.List.{concat}
 use Rattle.byteorder.specs.Endian.{big_bytes}
 use Rattle.cms_journal.specs.Journal.{IsBlockSize}
 use Rattle.cms_fields.specs.Numbers.{up}
-use Rattle.cms_model.specs.Trees.{Image, Form}
+use Rattle.cms_model.specs.Lists.{cut}
+use Rattle.cms_model.specs.Trees.{Image}
 use Rattle.cms_model.specs.Sizes.{levels, pointer_count}
 use Rattle.cms_model.specs.Built.{AllAllowed, ReadsAs}
 use Rattle.cms_model.specs.LawsTrees.{Cell, cell_bytes}
@@ -27,14 +28,9 @@ unfoldable pub marked : List ℕ → List Mark → List Child
 marked [] marks = []
 marked (n ∷ ns) marks = record { block = n; mark = slice_index_or marks 0 no_mark } ∷ marked ns (drop 1 marks)
 
--- so many groups, each of `fan` children but the last, which has those that are left
-unfoldable pub grouped : ℕ → ℕ → List Child → List (List Child)
-grouped zero fan below = []
-grouped (suc n) fan below = take fan below ∷ grouped n fan (drop fan below)
-
--- the children of each pointer block over these
+-- the children of each pointer block over these: `fan` of them, of the last those that are left
 abbrev pub level_over : ℕ → List Child → List (List Child)
-level_over fan below = grouped (up (length below) fan) fan below
+level_over fan below = cut (up (length below) fan) fan below
 
 -- a pointer block over its children
 abbrev pub parent : ℕ → List Child → Child

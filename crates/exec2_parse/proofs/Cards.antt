@@ -8,7 +8,8 @@ use Rattle.cms_fields.specs.Stamps.{is_stamp}
 use Rattle.cms_model.specs.Lists.{cut}
 use Rattle.cms_model.specs.Records.{Fits, IsValid, longest}
 use Rattle.cms_model.specs.declared.file.FileData.{FileData}
-use Rattle.cms_model.proofs.Records.{fits_cut, length_cut, stored_cut}
+use Rattle.cms_model.proofs.Cuts.{length_cut}
+use Rattle.cms_model.proofs.Records.{fits_cut, stored_cut}
 
 -- bytes that are cut and nothing behind
 whole_cut : (n size : ℕ) (bytes : List ℕ) → length bytes ≡ n * size → concat (cut n size bytes) ≡ bytes

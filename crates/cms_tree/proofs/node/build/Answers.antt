@@ -1,6 +1,5 @@
-use Rattle.std.proofs.Common.{◌≡◌, ℕ, ◌/◌, ◌∙◌, ap, List, get_or, length, []}
+use Rattle.std.proofs.Common.{ℕ, ◌/◌, ◌∙◌, ap, List, get_or, length, []}
 use Rattle.cms_tree.specs.Builds.{Child, node_bytes, nodes_over}
-use Rattle.cms_tree.specs.Levels.{children_from}
 use Rattle.cms_tree.proofs.node.build.Goals as goal
 
 pub returns : goal.returns

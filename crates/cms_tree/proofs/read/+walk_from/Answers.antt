@@ -1,9 +1,9 @@
-use Rattle.std.proofs.Common.{◌≡◌, ◌⊎◌, inl, inr, ℕ, ◌+◌, ◌-◌, ◌*◌, ◌^◌, ◌<◌, ◌≤◌, min, List, ◌++◌, Ok, None, refl, sym, ◌∙◌, ap, subst, arith, Vec, Global, vec_len}
+use Rattle.std.proofs.Common.{◌≡◌, inl, inr, ℕ, ◌+◌, ◌-◌, ◌*◌, ◌^◌, ◌≤◌, min, List, ◌++◌, Ok, refl, sym, ◌∙◌, ap, subst, arith, Vec, Global, vec_len}
 use Rattle.std.proofs.Math.Nat.{one-le-pow}
 use Rattle.std.proofs.lemmas.Result.{err_from_is_err_and}
-use Rattle.cms_journal.specs.Journal.{Journal, contents_of}
+use Rattle.cms_journal.specs.Journal.{contents_of}
 use Rattle.cms_text.specs.Bytes.{word}
-use Rattle.cms_model.specs.Trees.{Image, image_of, tree}
+use Rattle.cms_model.specs.Trees.{image_of, tree}
 use Rattle.cms_tree.specs.Parts.{form_of, met_of, onto, IsFaultOf}
 use Rattle.cms_tree.specs.Walks.{nodes}
 use Rattle.cms_tree.proofs.Sums.{power_below, room_first, room_left, no_room}

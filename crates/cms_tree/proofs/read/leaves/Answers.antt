@@ -1,4 +1,4 @@
-use Rattle.std.proofs.Common.{◌≡◌, refl}
+use Rattle.std.proofs.Common.{refl}
 use Rattle.cms_tree.proofs.read.leaves.Goals as goal
 
 pub returns-clause-pointers_within : goal.returns-clause-pointers_within

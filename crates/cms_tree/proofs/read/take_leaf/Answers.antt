@@ -1,4 +1,4 @@
-use Rattle.std.proofs.Common.{◌≡◌, ◌∙◌, sym, ap, true, false, refl}
+use Rattle.std.proofs.Common.{◌∙◌, sym, ap, refl}
 use Rattle.std.proofs.lemmas.List.{append-nil}
 use Rattle.cms_tree.specs.Parts.{form_of, met_of, onto}
 use Rattle.cms_tree.proofs.Rest.{leaf_refused, leaf_read, leaf_joined}

@@ -1,5 +1,4 @@
-use Rattle.std.proofs.Common.{◌≡◌, ℕ, ◌+◌, ◌^◌, ◌<◌, ◌≤◌, inr, refl, subst, sym, ap, ◌∙◌, arith}
-use Rattle.cms_model.specs.Sizes.{levels}
+use Rattle.std.proofs.Common.{◌≡◌, ℕ, inr, refl, subst, ap, arith}
 use Rattle.cms_model.proofs.Shapes.{levels_needs}
 use Rattle.cms_tree.proofs.Sums.{levels_room}
 use Rattle.cms_tree.proofs.Within.{none_within}

@@ -1,7 +1,7 @@
-use Rattle.std.proofs.Common.{◌≡◌, ℕ, ◌+◌, ◌*◌, ◌^◌, ◌<◌, ◌≤◌, sym, subst, ap, ◌∙◌, arith, mul-pos, ◌-◌}
+use Rattle.std.proofs.Common.{◌≡◌, ◌+◌, ◌^◌, ◌≤◌, arith, mul-pos, ◌-◌}
 use Rattle.std.proofs.Math.Nat.{one-le-pow}
 use Rattle.cms_model.specs.Sizes.{pointers_to}
-use Rattle.cms_tree.proofs.Sums.{Counted, none_counted, one_counted, all_counted, few, pointers_small}
+use Rattle.cms_tree.proofs.Sums.{none_counted, one_counted, all_counted, few, pointers_small}
 use Rattle.cms_tree.proofs.sizes.shape.Goals as goal
 
 pub loop-room-init : goal.loop-room-init

@@ -1,4 +1,4 @@
-use Rattle.cms_model.proofs.Records.{length_cut}
+use Rattle.cms_model.proofs.Cuts.{length_cut}
 use Rattle.cms_records.proofs.fixed.FixedView.new.Goals as goal
 
 pub returns-clause-count : goal.returns-clause-count

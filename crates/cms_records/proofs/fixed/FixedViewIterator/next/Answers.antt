@@ -1,5 +1,5 @@
 use Rattle.std.proofs.Common.{sym, ◌∙◌, ap, length, arith, rules}
-use Rattle.cms_records.proofs.Pieces.{cut_none, cut_next}
+use Rattle.cms_model.proofs.Cuts.{cut_none, cut_next}
 use Rattle.cms_records.proofs.fixed.FixedViewIterator.next.Goals as goal
 
 pub returns-then-self-eq0-clause-steps : goal.returns-then-self-eq0-clause-steps
