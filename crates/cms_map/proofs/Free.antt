@@ -87,20 +87,30 @@ pub record Marking (old : List Bool) (n : ℕ) (had : List ℕ) (bits : List Boo
 pub starts : (old : List Bool) (n : ℕ) (had : List ℕ) → n ≤ length (free_from 1 old) → Marking old n had old had n 0
 starts old n had enough = record { same = refl; marks = refl; blocks = refl; enough = enough }
 
+-- both maps have this bit at the place, and the same behind it
+record MetAt (old bits : List Bool) (place : ℕ) (bit : Bool) : Type 0 where
+  first : drop place old ≡ bit ∷ drop (place + 1) old
+  behind : drop (place + 1) bits ≡ drop (place + 1) old
+
+met_at : (old bits : List Bool) (place : ℕ) (bit : Bool) → drop place bits ≡ drop place old → place < length bits → length bits ≡ length old → get_or bits place false ≡ bit → MetAt old bits place bit
+met_at old bits place bit same within long is =
+    let here : drop place bits ≡ get_or bits place false ∷ drop (place + 1) bits = drop_more bits place false within in
+    let here' : drop place old ≡ get_or old place false ∷ drop (place + 1) old = drop_more old place false (omega arith) in
+    let both : ◌≡◌ {A = List Bool} (get_or bits place false ∷ drop (place + 1) bits) (get_or old place false ∷ drop (place + 1) old) = sym here ∙ same ∙ here' in
+    let told : get_or old place false ≡ bit = sym (cc both) ∙ is in
+    record { first = rw told at here'; behind = cc both }
+
 -- a bit that is set is passed
 pub passes : (old : List Bool) (n : ℕ) (had : List ℕ) (bits : List Bool) (has : List ℕ) (left place : ℕ) → Marking old n had bits has left place → 0 < left → place < length bits → length bits ≡ length old → get_or bits place false ≡ true
     → Marking old n had bits has left (place + 1)
 unfolding free_from marked_lowest
 passes old n had bits has zero place m some within long is = absurd (omega arith)
 passes old n had bits has (suc left) place m some within long is =
-    let here : drop place bits ≡ get_or bits place false ∷ drop (place + 1) bits = drop_more bits place false within in
-    let here' : drop place old ≡ get_or old place false ∷ drop (place + 1) old = drop_more old place false (omega arith) in
-    let both : ◌≡◌ {A = List Bool} (get_or bits place false ∷ drop (place + 1) bits) (get_or old place false ∷ drop (place + 1) old) = sym here ∙ m.same ∙ here' in
-    let bit : get_or old place false ≡ true = sym (cc both) ∙ is in
-    let rest : drop place old ≡ true ∷ drop (place + 1) old = rw bit at here' in
+    let met = met_at old bits place true m.same within long is in
+    let rest = met.first in
     let front : take (place + 1) bits ≡ take place bits ++ true ∷ [] = rw is at (take_more bits place false within) in
     record {
-      same = cc both;
+      same = met.behind;
       marks = rw front (append_assoc (take place bits) (true ∷ []) (marked_lowest (suc left) (drop (place + 1) old)) ∙ (rw rest at m.marks));
       blocks = rw rest at m.blocks;
       enough = rw rest at m.enough;
@@ -112,16 +122,13 @@ pub takes : (old : List Bool) (n : ℕ) (had : List ℕ) (bits : List Bool) (has
 unfolding free_from marked_lowest
 takes old n had bits has zero place m some within long is = absurd (omega arith)
 takes old n had bits has (suc left) place m some within long is =
-    let here : drop place bits ≡ get_or bits place false ∷ drop (place + 1) bits = drop_more bits place false within in
-    let here' : drop place old ≡ get_or old place false ∷ drop (place + 1) old = drop_more old place false (omega arith) in
-    let both : ◌≡◌ {A = List Bool} (get_or bits place false ∷ drop (place + 1) bits) (get_or old place false ∷ drop (place + 1) old) = sym here ∙ m.same ∙ here' in
-    let bit : get_or old place false ≡ false = sym (cc both) ∙ is in
-    let rest : drop place old ≡ false ∷ drop (place + 1) old = rw bit at here' in
+    let met = met_at old bits place false m.same within long is in
+    let rest = met.first in
     let front : take (place + 1) (set bits place true) ≡ take place bits ++ true ∷ [] = take_more_set bits place true within in
     let down : suc left - 1 ≡ left = omega arith in
     let next : drop (place + 1) (set bits place true) ≡ drop (place + 1) bits = drop-set-lt (place + 1) bits place true (omega arith) in
     record {
-      same = next ∙ cc both;
+      same = next ∙ met.behind;
       marks = rw (down, front) (append_assoc (take place bits) (true ∷ []) (marked_lowest left (drop (place + 1) old)) ∙ (rw rest at m.marks));
       blocks = rw down (append_assoc has ((place + 1) ∷ []) (take left (free_from (place + 1 + 1) (drop (place + 1) old))) ∙ (rw rest at m.blocks));
       enough = let e = (rw rest at m.enough) in omega arith;
