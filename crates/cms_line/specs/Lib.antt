@@ -5,3 +5,4 @@ pub mod ConsoleSteps
 pub mod Tokens
 pub mod Options
 pub mod Messages
+pub mod Stack

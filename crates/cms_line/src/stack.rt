@@ -1,5 +1,6 @@
 // The program stack.
 ghost use Rattle.std.specs.Prelude.{◌≡◌, ◌↔◌, [], ◌∷◌, ◌++◌, length, MatchOption, OnOk, OnErr, IsTrue};
+ghost use Rattle.cms_line.specs.Stack.{most_lines};
 
 use crate::Line;
 use std::alloc::Global;
@@ -26,12 +27,13 @@ pub struct ProgStack {
 
 impl Model for ProgStack {
     ghost use Rattle.std.specs.Prelude.{List, ℕ, length, ◌≤◌};
+    ghost use Rattle.cms_line.specs.Stack.{most_lines};
 
     ghost Value = { List (List ℕ) };
 
     ghost view = { λ s. s.lines.items };
 
-    ghost invariant = { λ s. length s.lines.items ≤ 10000 };
+    ghost invariant = { λ s. length s.lines.items ≤ most_lines };
 }
 
 impl ProgStack {
@@ -47,7 +49,7 @@ impl ProgStack {
     /// Stacks a line in front of all others.
     pub fn push_front(&mut self, line: Line) -> Result<(), PushFault>
         ensures ok { OnOk result (self.new ≡ line ∷ self.old) }
-        ensures full { (result ≡ Err PushFault.Full) ↔ (length self.old ≡ 10000) }
+        ensures full { (result ≡ Err PushFault.Full) ↔ (length self.old ≡ most_lines) }
         ensures err { OnErr result (self.new ≡ self.old) }
     {
         if self.lines.len() == STACK_LINES {
@@ -62,7 +64,7 @@ impl ProgStack {
     /// Stacks a line behind all others.
     pub fn push_back(&mut self, line: Line) -> Result<(), PushFault>
         ensures ok { OnOk result (self.new ≡ self.old ++ line ∷ []) }
-        ensures full { (result ≡ Err PushFault.Full) ↔ (length self.old ≡ 10000) }
+        ensures full { (result ≡ Err PushFault.Full) ↔ (length self.old ≡ most_lines) }
         ensures err { OnErr result (self.new ≡ self.old) }
     {
         if self.lines.len() == STACK_LINES {
