@@ -121,7 +121,8 @@ other_origin : (o n : ℕ) → (o ≡ 4) ⊎ (o ≡ 5) → n ≡ 9 - o → (4 �
 other_origin o n (inl four) is = (omega arith, omega arith, λ e. omega (arith, e))
 other_origin o n (inr five) is = (omega arith, omega arith, λ e. omega (arith, e))
 
-apart : (j : Journal) (s t : SmallVolume) (m : Minidisk) (nth : ℕ) (e : Entry) (stamp : Stamp) → Setting j s t m nth e stamp → (image : Image) → Apart (system_writes t stamp) (frame (volume_of s image))
+apart : (j : Journal) (s t : SmallVolume) (m : Minidisk) (nth : ℕ) (e : Entry) (stamp : Stamp) → Setting j s t m nth e stamp → (image : Image)
+    → Apart (system_writes t stamp) (frame (volume_of s image))
 apart j s t m nth e stamp x image =
     let w = places j s t m nth e stamp x in
     let f = fields s t nth e x.volume in
@@ -134,7 +135,8 @@ apart j s t m nth e stamp x image =
         not_in_frame s image t.label.origin (λ is. omega (arith, is, o.0)) o.2
             (⊎_elim
             (λ (none : times t.label.origin (s.map_root ∷ roots s.files) < 1). omega arith)
-            (λ (some : 1 ≤ times t.label.origin (s.map_root ∷ roots s.files)). let range = allowed_range s.label.blocks (s.map_root ∷ roots s.files) p.allowed t.label.origin some in absurd (omega (arith, range.0, o.1)))
+            (λ (some : 1 ≤ times t.label.origin (s.map_root ∷ roots s.files)).
+            let range = allowed_range s.label.blocks (s.map_root ∷ roots s.files) p.allowed t.label.origin some in absurd (omega (arith, range.0, o.1)))
             (cases_lt (times t.label.origin (s.map_root ∷ roots s.files)) 1)),
         tt,
       ),
@@ -158,7 +160,8 @@ differs a b ne = ⊎_elim (λ (same : (a == b) ≡ true). absurd (ne (eqb-true a
 abbrev u_of : Journal → SmallVolume → SmallVolume → Stamp → Journal
 u_of j s t stamp = after j (update s.unit (system_writes t stamp) t.label_bytes)
 
-new_image : (j : Journal) (s t : SmallVolume) (m : Minidisk) (nth : ℕ) (e : Entry) (stamp : Stamp) → Setting j s t m nth e stamp → NewImage (now j s.unit) (now (u_of j s t stamp) s.unit) t (directory_bytes t stamp)
+new_image : (j : Journal) (s t : SmallVolume) (m : Minidisk) (nth : ℕ) (e : Entry) (stamp : Stamp) → Setting j s t m nth e stamp
+    → NewImage (now j s.unit) (now (u_of j s t stamp) s.unit) t (directory_bytes t stamp)
 new_image j s t m nth e stamp x =
     let w = places j s t m nth e stamp x in
     let f = fields s t nth e x.volume in
@@ -186,7 +189,8 @@ new_image j s t m nth e stamp x =
     elsewhere image n a b c = rw (a, b, c) refl
 
 -- a volume that is held, with its directory, is read where it was written
-pub read_written : (t : SmallVolume) (image : Image) (directory : List ℕ) → Holds t → IsDirectoryOf t directory → image 3 ≡ t.label_bytes → image t.label.origin ≡ directory → image t.map_root ≡ t.map_bytes → small_in t.unit t.disk image ≡ Ok t
+pub read_written : (t : SmallVolume) (image : Image) (directory : List ℕ) → Holds t → IsDirectoryOf t directory → image 3 ≡ t.label_bytes
+    → image t.label.origin ≡ directory → image t.map_root ≡ t.map_bytes → small_in t.unit t.disk image ≡ Ok t
 unfolding small_in
 read_written t image directory h d label at_origin at_map =
     let l = label_reads t.disk.bsize t.disk.count t.label_bytes t.label h.spells in
@@ -339,7 +343,8 @@ old_answer j s t m nth e stamp x =
 -- ---- what a crash leaves
 
 -- a state that a crash may leave of the unit is that of such an image
-leaves_state : (j : Journal) (s : SmallVolume) (m : Minidisk) → IsMinidisk j s m → (front : List Event) (P : State → Type 0) → ((image : List (List ℕ)) → MayLeave (after j front) s.unit image → P (state_of s.disk (image_of image)))
+leaves_state : (j : Journal) (s : SmallVolume) (m : Minidisk) → IsMinidisk j s m → (front : List Event) (P : State → Type 0)
+    → ((image : List (List ℕ)) → MayLeave (after j front) s.unit image → P (state_of s.disk (image_of image)))
     → (x : State) → Leaves (plus (Some j) front) s.unit x → P x
 leaves_state j s m is front P each x leaves =
     let l : LeavesIn (after j front) s.unit x = subst (λ (t : Told). Leaves t s.unit x) (after_is_told j front) leaves in
@@ -353,7 +358,8 @@ leaves_state j s m is front P each x leaves =
     some_same a b e = cc
 
 -- a unit that is settled at the old volume has its state in every crash image
-settled_leaves : (j : Journal) (s : SmallVolume) (m : Minidisk) → IsMinidisk j s m → (front : List Event) → IsSettled s.disk (after j front) s.unit (volume_of s (now j s.unit)) → (x : State) → Leaves (plus (Some j) front) s.unit x → x ≡ Volume m
+settled_leaves : (j : Journal) (s : SmallVolume) (m : Minidisk) → IsMinidisk j s m → (front : List Event)
+    → IsSettled s.disk (after j front) s.unit (volume_of s (now j s.unit)) → (x : State) → Leaves (plus (Some j) front) s.unit x → x ≡ Volume m
 settled_leaves j s m is front settled x leaves =
     leaves_state j s m is front (λ (y : State). y ≡ Volume m)
     (λ image left. (settled_is_firm s.disk (after j front) s.unit (volume_of s (now j s.unit)) settled).1 image left ∙ ap Volume (sym is.minidisk)) x leaves
@@ -362,7 +368,8 @@ settled_leaves j s m is front settled x leaves =
 abbrev without_file : SmallVolume → Minidisk → ℕ → Entry → Minidisk
 without_file s m nth e = changed m (Drop (slice_index_or s.files nth e).name)
 
-new_state : (j : Journal) (s t : SmallVolume) (m : Minidisk) (nth : ℕ) (e : Entry) (stamp : Stamp) → Setting j s t m nth e stamp → (image : Image) → open_of s.disk image ≡ Ok (volume_of t (now (u_of j s t stamp) s.unit))
+new_state : (j : Journal) (s t : SmallVolume) (m : Minidisk) (nth : ℕ) (e : Entry) (stamp : Stamp) → Setting j s t m nth e stamp → (image : Image)
+    → open_of s.disk image ≡ Ok (volume_of t (now (u_of j s t stamp) s.unit))
     → state_of s.disk image ≡ Volume (without_file s m nth e)
 new_state j s t m nth e stamp x image opens =
     let f = fields s t nth e x.volume in
@@ -370,7 +377,8 @@ new_state j s t m nth e stamp x image opens =
     ∙ ap Volume (ap (λ (d : Disk). minidisk_of d (volume_of t (now (u_of j s t stamp) s.unit))) (sym f.disk) ∙ sym (new_minidisk j s t m nth e stamp x))
 
 -- at every front of the update a crash leaves the old or the new minidisk
-either_leaves : (j : Journal) (s t : SmallVolume) (m : Minidisk) (nth : ℕ) (e : Entry) (stamp : Stamp) → Setting j s t m nth e stamp → (front : List Event) → IsFront front (update s.unit (system_writes t stamp) t.label_bytes)
+either_leaves : (j : Journal) (s t : SmallVolume) (m : Minidisk) (nth : ℕ) (e : Entry) (stamp : Stamp) → Setting j s t m nth e stamp
+    → (front : List Event) → IsFront front (update s.unit (system_writes t stamp) t.label_bytes)
     → (x : State) → Leaves (plus (Some j) front) s.unit x → (x ≡ Volume m) ⊎ (x ≡ Volume (without_file s m nth e))
 either_leaves j s t m nth e stamp x front is y leaves =
     leaves_state j s m x.is front (λ (z : State). (z ≡ Volume m) ⊎ (z ≡ Volume (without_file s m nth e)))
@@ -407,7 +415,8 @@ stamped_update u t stamp p low front =
     (subst (AreStamped u (Some stamp)) (sym front.is) (λ same at. absurd (no_directory t.map_root low at), (λ same at. has_stamp t stamp, (tt, (λ same at. absurd (label_apart at), (tt, tt))))))
 
 -- the events of a change with an outcome
-changes_from : (j : Journal) (s t : SmallVolume) (m : Minidisk) (nth : ℕ) (e : Entry) (stamp : Stamp) → Setting j s t m nth e stamp → (old new : Told) → old ≡ Some j → (events : List Event) (o : Outcome) → new ≡ plus old events
+changes_from : (j : Journal) (s t : SmallVolume) (m : Minidisk) (nth : ℕ) (e : Entry) (stamp : Stamp) → Setting j s t m nth e stamp → (old new : Told)
+    → old ≡ Some j → (events : List Event) (o : Outcome) → new ≡ plus old events
     → IsFront events (update s.unit (system_writes t stamp) t.label_bytes) → syncs events ≡ put_syncs (Drop (slice_index_or s.files nth e).name) (Changed (without_file s m nth e)) o
     → MayPut (Drop (slice_index_or s.files nth e).name) (Changed (without_file s m nth e)) o
     → Covers (Some j) events s.unit (Volume m ∷ []) (set_of (unwrap_or (after_put m (Changed (without_file s m nth e)) o) (Settled (Volume m))))
@@ -439,7 +448,8 @@ writes_front u t stamp p f = record { rest = f.rest ++ Synced u ∷ []; is = sym
 
 label_front : (u : ℕ) (t : SmallVolume) (stamp : Stamp) (p : List Event) → IsFront p (to_label u (system_writes t stamp)) → IsFront p (update u (system_writes t stamp) t.label_bytes)
 unfolding update writes
-label_front u t stamp p f = front_of_front p (to_label u (system_writes t stamp)) (update u (system_writes t stamp) t.label_bytes) f (record { rest = Wrote u 3 t.label_bytes ∷ Synced u ∷ []; is = refl })
+label_front u t stamp p f =
+    front_of_front p (to_label u (system_writes t stamp)) (update u (system_writes t stamp) t.label_bytes) f (record { rest = Wrote u 3 t.label_bytes ∷ Synced u ∷ []; is = refl })
 
 labelled_front : (u : ℕ) (t : SmallVolume) (stamp : Stamp) → IsFront (with_label u (system_writes t stamp) t.label_bytes) (update u (system_writes t stamp) t.label_bytes)
 unfolding update writes
@@ -484,7 +494,8 @@ told_after j old new events is told = told ∙ ap (λ (k : Told). plus k events)
 -- ---- what an erasure comes to
 
 -- all was done
-pub erased_well : (j : Journal) (s t : SmallVolume) (m : Minidisk) (nth : ℕ) (e : Entry) (stamp : Stamp) → Setting j s t m nth e stamp → (old new : Told) → old ≡ Some j → new ≡ plus old (update s.unit (system_writes t stamp) t.label_bytes)
+pub erased_well : (j : Journal) (s t : SmallVolume) (m : Minidisk) (nth : ℕ) (e : Entry) (stamp : Stamp) → Setting j s t m nth e stamp
+    → (old new : Told) → old ≡ Some j → new ≡ plus old (update s.unit (system_writes t stamp) t.label_bytes)
     → Erased old new t m (slice_index_or s.files nth e).name stamp
 erased_well j s t m nth e stamp x old new is told =
     let f = fields s t nth e x.volume in
@@ -517,12 +528,14 @@ erased_well j s t m nth e stamp x old new is told =
     covers = record {
       inside = λ front rest e' y leaves. ⊎_elim (λ a. inl (inl a)) (λ b. inr (inl b)) (either_leaves j s t m nth e stamp x front (record { rest = rest; is = e' }) y leaves);
       whole = λ y leaves. inl (leaves_state j s m x.is (update s.unit (system_writes t stamp) t.label_bytes) (λ (z : State). z ≡ Volume (without_file s m nth e))
-          (λ image crash. new_state j s t m nth e stamp x (image_of image) (settled_opens s.disk (u_of j s t stamp) s.unit (volume_of t (now (u_of j s t stamp) s.unit)) (leads j s t m nth e stamp x).whole image crash))
+          (λ image crash. new_state j s t m nth e stamp x (image_of image)
+          (settled_opens s.disk (u_of j s t stamp) s.unit (volume_of t (now (u_of j s t stamp) s.unit)) (leads j s t m nth e stamp x).whole image crash))
           y leaves);
     }
 
 -- the update was cut off
-pub cut_off : (j : Journal) (s t : SmallVolume) (m : Minidisk) (nth : ℕ) (e : Entry) (stamp : Stamp) → Setting j s t m nth e stamp → (old new : Told) → old ≡ Some j → Halted old new s.unit (system_writes t stamp) t.label_bytes
+pub cut_off : (j : Journal) (s t : SmallVolume) (m : Minidisk) (nth : ℕ) (e : Entry) (stamp : Stamp) → Setting j s t m nth e stamp → (old new : Told)
+    → old ≡ Some j → Halted old new s.unit (system_writes t stamp) t.label_bytes
     → CutOff old new s m (slice_index_or s.files nth e).name stamp
 cut_off j s t m nth e stamp x old new is h = ⊎_elim
     (λ in_writes.
@@ -532,7 +545,8 @@ cut_off j s t m nth e stamp x old new is h = ⊎_elim
       answer = old_answer j s t m nth e stamp x;
       outcome = OldFault;
       left = has_state new (after j h.events) s.disk s.unit (Volume m) told (old_state h.events front);
-      changes = changes_from j s t m nth e stamp x old new is h.events OldFault h.told (label_front s.unit t stamp h.events front) (writes_syncs s.unit t stamp h.events in_writes) (refl, refl) (covers_old h.events front);
+      changes = changes_from j s t m nth e stamp x old new is h.events OldFault h.told (label_front s.unit t stamp h.events front)
+          (writes_syncs s.unit t stamp h.events in_writes) (refl, refl) (covers_old h.events front);
     })
     (λ later. ⊎_elim
     (λ at_sync.
@@ -570,7 +584,8 @@ cut_off j s t m nth e stamp x old new is h = ⊎_elim
 
     covers_old : (p : List Event) → IsFront p (to_label s.unit (system_writes t stamp)) → Covers (Some j) p s.unit (Volume m ∷ []) (Volume m ∷ [])
     covers_old p front = record {
-      inside = λ q rest e' y leaves. inl (inl (settled_leaves j s m x.is q (settled q (front_of_front q p (to_label s.unit (system_writes t stamp)) (record { rest = rest; is = e' }) front)) y leaves));
+      inside = λ q rest e' y leaves.
+          inl (inl (settled_leaves j s m x.is q (settled q (front_of_front q p (to_label s.unit (system_writes t stamp)) (record { rest = rest; is = e' }) front)) y leaves));
       whole = λ y leaves. inl (settled_leaves j s m x.is p (settled p front) y leaves);
     }
 
@@ -582,12 +597,14 @@ cut_off j s t m nth e stamp x old new is h = ⊎_elim
     }
 
 -- no block is free
-pub full_for : (j : Journal) (s : SmallVolume) (m : Minidisk) (nth : ℕ) (e : Entry) → IsMinidisk j s m → Holds s → nth < length s.files → free_blocks (bits_of s) ≡ [] → answer_of m (Drop (slice_index_or s.files nth e).name) ≡ Full 1 0
+pub full_for : (j : Journal) (s : SmallVolume) (m : Minidisk) (nth : ℕ) (e : Entry) → IsMinidisk j s m → Holds s → nth < length s.files
+    → free_blocks (bits_of s) ≡ [] → answer_of m (Drop (slice_index_or s.files nth e).name) ≡ Full 1 0
 full_for j s m nth e is h within none =
     full_answer m (slice_index_or s.files nth e).name (shrinks_from j s m nth e is h within) (free_blocks_of j s m is h ∙ ap (λ (l : List ℕ). length l) none)
 
 -- nothing was begun
-pub none_begun : (j : Journal) (s : SmallVolume) (m : Minidisk) (nth : ℕ) (e : Entry) (stamp : Stamp) (told : Told) (r : Result (Unit {0}) SmallErase) (err : SmallErase) → IsMinidisk j s m → Holds s → nth < length s.files → r ≡ Err err → HasNone (bits_of s) err
+pub none_begun : (j : Journal) (s : SmallVolume) (m : Minidisk) (nth : ℕ) (e : Entry) (stamp : Stamp) (told : Told) (r : Result (Unit {0}) SmallErase) (err : SmallErase)
+    → IsMinidisk j s m → Holds s → nth < length s.files → r ≡ Err err → HasNone (bits_of s) err
     → Erases told told s s m (slice_index_or s.files nth e).name stamp r
 none_begun j s m nth e stamp told r (failed.Full need free) is h within err none =
     let one = none.0 in let zero' = none.1 in
@@ -604,12 +621,14 @@ same_place s t nth within is = go s.files within
     go (e ∷ es) less = let f = fields s t nth e (is e) in (f.unit, f.disk)
 
 -- the update, by the directory's bytes
-pub with_directory : (s t : SmallVolume) (stamp : Stamp) (directory : List ℕ) (old new : Told) → t.unit ≡ s.unit → directory ≡ directory_bytes t stamp → new ≡ plus old (update t.unit (writes_with t directory) t.label_bytes)
+pub with_directory : (s t : SmallVolume) (stamp : Stamp) (directory : List ℕ) (old new : Told) → t.unit ≡ s.unit → directory ≡ directory_bytes t stamp
+    → new ≡ plus old (update t.unit (writes_with t directory) t.label_bytes)
     → new ≡ plus old (update s.unit (system_writes t stamp) t.label_bytes)
 with_directory s t stamp directory old new unit is told =
     subst (λ (u : ℕ). new ≡ plus old (update u (system_writes t stamp) t.label_bytes)) unit (subst (λ (d : List ℕ). new ≡ plus old (update t.unit (writes_with t d) t.label_bytes)) is told)
 
-pub halted_directory : (s t : SmallVolume) (stamp : Stamp) (directory : List ℕ) (old new : Told) → t.unit ≡ s.unit → directory ≡ directory_bytes t stamp → Halted old new t.unit (writes_with t directory) t.label_bytes
+pub halted_directory : (s t : SmallVolume) (stamp : Stamp) (directory : List ℕ) (old new : Told) → t.unit ≡ s.unit
+    → directory ≡ directory_bytes t stamp → Halted old new t.unit (writes_with t directory) t.label_bytes
     → Halted old new s.unit (system_writes t stamp) t.label_bytes
 halted_directory s t stamp directory old new unit is halted =
     subst (λ (u : ℕ). Halted old new u (system_writes t stamp) t.label_bytes) unit (subst (λ (d : List ℕ). Halted old new t.unit (writes_with t d) t.label_bytes) is halted)
