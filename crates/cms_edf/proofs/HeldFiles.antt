@@ -30,7 +30,8 @@ use Rattle.cms_model.proofs.InOrder.{in_order, place_none}
 use Rattle.cms_model.proofs.MinidiskSizes.{blocks_are_shared}
 use Rattle.cms_model.proofs.Opening.{blamed_ok, open_ok}
 use Rattle.cms_model.proofs.Quotients.{up_spec}
-use Rattle.cms_model.proofs.Records.{length_cut, fits_cut, length_stored_fixed, fixed_cut, varying_read}
+use Rattle.cms_model.proofs.Cuts.{length_cut}
+use Rattle.cms_model.proofs.Records.{fits_cut, length_stored_fixed, fixed_cut, varying_read}
 use Rattle.cms_model.proofs.Results.{ok_same, want_ok, bind_then}
 use Rattle.cms_model.proofs.TreeFrame.{tree_inside, tree_places}
 use Rattle.cms_model.proofs.TreeSizes.{tree_has_size}
@@ -220,7 +221,7 @@ free_are bytes total some =
 -- ---- the whole
 
 entries_of_all : (disk : Disk) (image : Image) (v : Opened) → IsOpened disk image v → AllFit disk.bsize v.entries
-entries_of_all disk image v o = (entries_fit disk.bsize 2 (cut (v.directory.count - 2) 64 (drop 128 (bytes_at image v.directory_met.leaves))) v.entries o.entries).0
+entries_of_all disk image v o = (entries_fit disk.bsize 2 (cut (v.directory.count - 2) 64 (drop 128 (bytes_at image v.directory_met.leaves))) v.entries o.system.entries).0
 
 pub opened_is_held : OpenedIsHeld
 unfolding held_of minidisk_of

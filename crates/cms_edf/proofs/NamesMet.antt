@@ -7,6 +7,7 @@ use Rattle.std.specs.Map.{keys_of, lookup}
 use Rattle.std.proofs.lemmas.Bool.{or_parts, cases_Bool, eqb-true, eq-eqb}
 use Rattle.cms_names.specs.declared.name.Name.{Name}
 use Rattle.cms_fields.specs.declared.entry.Entry.{Entry}
+use Rattle.cms_model.specs.Lists.{same}
 use Rattle.cms_model.specs.Minidisks.{same_name, is_named}
 use Rattle.cms_model.specs.Volumes.{first_twice}
 
@@ -31,14 +32,14 @@ same_sym (x ∷ xs) (y ∷ ys) = ap (λ (b : Bool). b && bytes_eq xs ys) (eq_sym
 
 -- a name against one that is put in
 same_back : (k q : Name) → same_as k q ≡ same_name q k
-unfolding same_name
+unfolding same_name same
 same_back k q =
     ap (λ (b : Bool). b && bytes_eq k.kind q.kind) (same_sym k.file q.file)
     ∙ ap (λ (b : Bool). bytes_eq q.file k.file && b) (same_sym k.kind q.kind)
 
 -- a name that is looked for among those that were put in
 pub same_there : (k q : Name) → same_as k q ≡ same_name k q
-unfolding same_name
+unfolding same_name same
 same_there k q = refl
 
 pub place_there : (name : Name) (names : List Name) → position (same_as name) names ≡ position (same_name name) names
