@@ -1,6 +1,6 @@
 // A world with one unit, an image that is only read.
-ghost use Rattle.std.specs.Prelude.{◌≡◌, ◌+◌, ◌-◌, ◌^◌, min, None, IfOk, IsOk, IsTrue, ◌↔◌};
-ghost use Rattle.cms_journal.specs.Causes.{HasCause, Rose};
+ghost use Rattle.std.specs.Prelude.{◌≡◌, ◌<◌, None, Err};
+ghost use Rattle.cms_journal.specs.Causes.{HasCause};
 
 use cms_world::{Access, Failed, Unit, World};
 use std::fs::{File, Files, OpenOptions};
@@ -18,7 +18,8 @@ pub struct ImageWorld {
 
 // A failure, counted.
 fn failed<T>(count: &mut u64) -> Result<T, Failed>
-    ensures { HasCause count.old count.new result }
+    ensures err { result ≡ Err (record {}) }
+    ensures cause { HasCause count.old count.new result }
 {
     *count = count.saturating_add(1);
     Err(Failed)

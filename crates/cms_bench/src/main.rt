@@ -19,10 +19,10 @@ fn opened(rt: &HostRuntime, name: &str, bsize: BlockSize) -> Option<Held> {
 
 /// Opens the volume that the words name, and says what it holds.
 fn measured(rt: &HostRuntime) -> Option<()> {
-    let words = env::args(rt).ok()?;
-    let name = words.get(1)?.as_str();
-    let bsize = BlockSize::of(words.get(2)?.parse().ok()?)?;
-    let held = opened(rt, name, bsize)?;
+    let mut words = env::args(rt).ok()?;
+    let (_, name, bytes) = (words.next()?, words.next()?, words.next()?);
+    let bsize = BlockSize::of(bytes.parse().ok()?)?;
+    let held = opened(rt, name.as_str(), bsize)?;
     let space = held.space();
     println!(rt; "{} files, {} of {} blocks free", held.count(), space.free, space.total).ok()
 }
