@@ -13,6 +13,7 @@ use Rattle.cms_fields.specs.Stamps.{stamp_at, has_stamp, is_stamp, stamp_bytes}
 use Rattle.cms_fields.specs.declared.entry.Entry.{Entry}
 use Rattle.cms_fields.specs.declared.entry.EntryFault as fault
 use Rattle.cms_fields.specs.declared.entry.EntryFault.TheVariants as failed
+use Rattle.cms_fields.specs.Limits.{longest_record, most_records, most_bytes}
 
 -- the name characters with which a field of 8 bytes begins
 abbrev pub part_in : List ℕ → List ℕ
@@ -73,14 +74,14 @@ has_format bytes = (byte bytes 30 == 0xC6) || (byte bytes 30 == 0xE5)
 
 -- at F the records have 1 to 65,535 bytes
 unfoldable pub length_fits : Entry → Bool
-length_fits e = not (is_fixed e.format) || is_between 1 65535 e.length
+length_fits e = not (is_fixed e.format) || is_between 1 longest_record e.length
 
 -- 1 to 1,048,576 records, and at F the data blocks that they fill, at V no more than 67,108,864 bytes of them
 unfoldable pub counts_fit : ℕ → Entry → Bool
 counts_fit bsize e =
-    is_between 1 1048576 e.count
-    && (if is_fixed e.format then nat_le (e.count * e.length) 67108864 && (e.blocks == up (e.count * e.length) bsize)
-    else is_between 1 (67108864 / bsize) e.blocks)
+    is_between 1 most_records e.count
+    && (if is_fixed e.format then nat_le (e.count * e.length) most_bytes && (e.blocks == up (e.count * e.length) bsize)
+    else is_between 1 (most_bytes / bsize) e.blocks)
 
 -- the levels are those of a tree over the data blocks
 unfoldable pub levels_fit : ℕ → Entry → Bool

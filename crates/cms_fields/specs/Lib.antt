@@ -3,4 +3,5 @@ pub mod Numbers
 pub mod Stamps
 pub mod Moments
 pub mod Labels
+pub mod Limits
 pub mod Entries

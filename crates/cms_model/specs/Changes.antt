@@ -2,6 +2,7 @@
 use Rattle.std.specs.Prelude.{ℕ, ◌+◌, Bool, if◌then◌else◌, nat_lt, List, [], ◌∷◌, ◌++◌, length, Option, Some, None}
 use Rattle.cms_names.specs.declared.name.Name.{Name}
 use Rattle.cms_fields.specs.declared.time.Stamp.{Stamp}
+use Rattle.cms_fields.specs.Limits.{most_records, most_bytes, most_files}
 use Rattle.cms_model.specs.Records.{length_of}
 use Rattle.cms_model.specs.Minidisks.{File, Minidisk, same_name}
 use Rattle.cms_model.specs.Sizes.{stored_size, file_size, directory_more, map_size, free_count}
@@ -98,14 +99,14 @@ is_full m change = nat_lt (free_count m) (need m change)
 abbrev pub file_limit : Option File → Option ℕ
 file_limit None = None
 file_limit (Some f) =
-    if nat_lt 1048576 (length f.records) then Some 2
-    else if nat_lt 67108864 (stored_size f.format f.records) then Some 3
+    if nat_lt most_records (length f.records) then Some 2
+    else if nat_lt most_bytes (stored_size f.format f.records) then Some 3
     else None
 
 -- the lowest limit that a change passes: 1, more than 16,384 files; 2, more than 1,048,576 records of the file; 3, more
 -- than 67,108,864 stored bytes of it
 unfoldable pub limit : Minidisk → Change → Option ℕ
-limit m change = if nat_lt 16384 (length (changed_files m.files change)) then Some 1 else file_limit (written_file m change)
+limit m change = if nat_lt most_files (length (changed_files m.files change)) then Some 1 else file_limit (written_file m change)
 
 -- what a change comes to
 pub data Answer : Type 0 where

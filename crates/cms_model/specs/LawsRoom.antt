@@ -1,5 +1,6 @@
 -- What follows for the room that a change needs, and for the answer to it.
 use Rattle.std.specs.Prelude.{◌≡◌, ◌↔◌, ℕ, ◌+◌, ◌<◌, ◌≤◌, length, Some}
+use Rattle.cms_fields.specs.Limits.{most_records, most_bytes, most_files}
 use Rattle.cms_model.specs.Minidisks.{File, Minidisk}
 use Rattle.cms_model.specs.Sizes.{stored_size, directory_more, map_size, used_count, free_count}
 use Rattle.cms_model.specs.Changes.{Change, Put, Add, Drop, Rename, Relabel, file_named, changed, written_file, file_need, need, Full, Changed, answer_of}
@@ -22,13 +23,13 @@ NeedIsTaken = (m : Minidisk) (change : Change) → used_count (changed m change)
 
 -- a file within the limits of a directory entry
 pub record IsWithin (f : File) : Type 0 where
-  pub records : length f.records ≤ 1048576
-  pub bytes : stored_size f.format f.records ≤ 67108864
+  pub records : length f.records ≤ most_records
+  pub bytes : stored_size f.format f.records ≤ most_bytes
 
 -- a change makes this minidisk: it passes no limit, and has room
 pub record Makes (m : Minidisk) (change : Change) (new : Minidisk) : Type 0 where
   pub is : new ≡ changed m change
-  pub few : length new.files ≤ 16384
+  pub few : length new.files ≤ most_files
   pub within : (f : File) → written_file m change ≡ Some f → IsWithin f
   pub room : need m change ≤ free_count m
 
@@ -38,7 +39,7 @@ ChangedWhereMade = (m new : Minidisk) (change : Change) → (answer_of m change 
 
 -- it is full exactly where it passes no limit and needs more than is free, and tells both
 pub record Lacks (m : Minidisk) (change : Change) (needed free : ℕ) : Type 0 where
-  pub few : length (changed m change).files ≤ 16384
+  pub few : length (changed m change).files ≤ most_files
   pub within : (f : File) → written_file m change ≡ Some f → IsWithin f
   pub needed_is : needed ≡ need m change
   pub free_is : free ≡ free_count m

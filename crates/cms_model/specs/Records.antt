@@ -7,6 +7,7 @@ use Rattle.cms_names.specs.declared.name.Format.TheVariants.{F, V}
 use Rattle.cms_fields.specs.Steps.{◌>>=◌, ◌>>◌, want}
 use Rattle.cms_text.specs.Bytes.{half}
 use Rattle.cms_fields.specs.Stamps.{is_stamp}
+use Rattle.cms_fields.specs.Limits.{longest_record}
 use Rattle.cms_model.specs.Lists.{cut}
 use Rattle.cms_model.specs.declared.fault.VarFault.{VarFault}
 use Rattle.cms_model.specs.declared.fault.VarFault.TheVariants.{Zero, PastEnd, Left}
@@ -24,7 +25,7 @@ stored V records = concat (map with_length records)
 -- a record that the format has room for; at F all have the length given
 abbrev pub Fits : Format → ℕ → List ℕ → Type 0
 Fits F size text = length text ≡ size
-Fits V size text = (1 ≤ length text) × (length text ≤ 65535)
+Fits V size text = (1 ≤ length text) × (length text ≤ longest_record)
 
 -- these bytes of whole blocks hold these records: they are stored at the front, with less than a block behind
 pub record HoldRecords (bsize : ℕ) (format : Format) (size : ℕ) (bytes : List ℕ) (records : List (List ℕ)) : Type 0 where
@@ -65,7 +66,7 @@ pub record StandsFor (f : FileData) (records : List (List ℕ)) : Type 0 where
   pub bytes_are : f.bytes ≡ stored f.format records
   pub each : All (Fits f.format f.length) records
   pub length_is : f.length ≡ length_of f.format f.length records
-  pub length_fits : (1 ≤ f.length) × (f.length ≤ 65535)
+  pub length_fits : (1 ≤ f.length) × (f.length ≤ longest_record)
   pub count_is : f.count ≡ length records
   pub some : 1 ≤ length records
   pub number_fits : f.number ≤ 6

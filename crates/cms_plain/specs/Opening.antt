@@ -3,6 +3,7 @@ use Rattle.std.specs.Prelude.{◌≡◌, ◌⊎◌, ℕ, ◌-◌, ◌≤◌, nat
 use Rattle.cms_names.specs.declared.name.Format.TheVariants.{F}
 use Rattle.cms_fields.specs.Labels.{label_of}
 use Rattle.cms_fields.specs.declared.entry.Entry.{Entry}
+use Rattle.cms_fields.specs.Limits.{most_files}
 use Rattle.cms_model.specs.Lists.{cut, first_repeat}
 use Rattle.cms_model.specs.Trees.{Image, form_of, tree, bytes_at}
 use Rattle.cms_model.specs.Maps.{lowest_unmarked, lost_count}
@@ -37,7 +38,7 @@ Heading disk image (Err why) = open_of disk image ≡ Err why
 pub record AreEntries (disk : Disk) (image : Image) (h : Heads) (entries : List Entry) : Type 0 where
   pub entries_are : entries_of disk.bsize 2 (cut (h.directory.count - 2) 64 (drop 128 (bytes_at image h.met.leaves))) ≡ Ok entries
   pub names : first_twice 2 [] entries ≡ None
-  pub few : length entries ≤ 16384
+  pub few : length entries ≤ most_files
 
 abbrev pub Entering : Disk → Image → Heads → Result (List Entry) OpenFault → Type 0
 Entering disk image h (Ok entries) = AreEntries disk image h entries

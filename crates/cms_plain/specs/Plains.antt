@@ -1,6 +1,7 @@
 -- The minidisk that a plain one stands for.
 use Rattle.std.specs.Prelude.{◌≡◌, ℕ, ◌^◌, ◌<◌, ◌≤◌, true, List, [], ◌∷◌, length, map}
 use Rattle.cms_journal.specs.Journal.{IsBlockSize}
+use Rattle.cms_fields.specs.Limits.{most_files}
 use Rattle.cms_model.specs.Minidisks.{File, Minidisk}
 use Rattle.cms_model.specs.Sizes.{stored_size}
 use Rattle.cms_plain.specs.declared.minidisk.PlainFile.{PlainFile}
@@ -20,5 +21,5 @@ AreModest (f ∷ fs) = (stored_size f.format f.records < 2 ^ 32) × AreModest fs
 -- so is all that a minidisk from an image has
 pub record IsModest (p : Plain) : Type 0 where
   pub size : IsBlockSize p.bsize
-  pub few : length p.files ≤ 16384
+  pub few : length p.files ≤ most_files
   pub files : AreModest (map file p.files)

@@ -1,6 +1,7 @@
 // The tests on opening, in their order.
 ghost use Rattle.std.specs.Prelude.{◌≡◌, true, ◌+◌, ◌*◌, ◌^◌, ◌<◌, ◌≤◌, List, length, IfOk};
 ghost use Rattle.cms_journal.specs.Journal.{IsBlockSize};
+ghost use Rattle.cms_fields.specs.Limits.{most_files};
 ghost use Rattle.cms_model.specs.Trees.{image_of, bytes_at};
 ghost use Rattle.cms_model.specs.Volumes.{files_of};
 ghost use Rattle.cms_plain.specs.Places.{HaveLength};
@@ -244,7 +245,7 @@ fn plain_of(
     contents: Contents,
 ) -> Result<Plain, AllocError>
     requires size { IsBlockSize bsize }
-    requires few { length entries.now ≤ 16384 }
+    requires few { length entries.now ≤ most_files }
     requires files { AreModest (files_of entries.now contents.records) }
     ensures is { IfOk result (λ p. minidisk p ≡ record { volid = heads.now.label.volid; bsize = bsize; total = heads.now.label.blocks; lost = contents.lost; files = files_of entries.now contents.records }) }
     ensures modest { IfOk result IsModest }

@@ -2,6 +2,7 @@
 ghost use Rattle.std.specs.Prelude.{◌≡◌, ℕ, ◌+◌, ◌*◌, ◌^◌, ◌<◌, ◌≤◌, length, map, sum_by};
 ghost use Rattle.cms_fields.specs.Numbers.{up};
 ghost use Rattle.cms_fields.specs.Entries.{fan_of};
+ghost use Rattle.cms_fields.specs.Limits.{most_files};
 ghost use Rattle.cms_model.specs.Minidisks.{File};
 ghost use Rattle.cms_model.specs.Records.{stored};
 ghost use Rattle.cms_model.specs.Sizes.{levels_from, levels, pointers_to, pointer_count, tree_size, stored_size, file_size, directory_more, map_size, used_count, free_count};
@@ -107,7 +108,7 @@ fn stored_size(format: Format, records: &[Bytes]) -> u32
 fn files_size(bsize: u32, files: &[PlainFile]) -> u64
     requires size { 512 ≤ bsize }
     requires files { AreModest (map file files.now) }
-    requires few { length files.now ≤ 16384 }
+    requires few { length files.now ≤ most_files }
     ensures is { result ≡ sum_by (file_size bsize) (map file files.now) }
     ensures most { result ≤ length files.now * 2 ^ 40 }
 {
@@ -167,7 +168,7 @@ pub fn free_count(plain: &Plain) -> u64
 /// The files after one of this name is put.
 #[tactic(auto, unfolding(cms_model::specs::Changes::put_file))]
 fn count_put(name: &Name, files: &[PlainFile]) -> u32
-    requires { length files.now ≤ 16384 }
+    requires { length files.now ≤ most_files }
     ensures is { (new : File) → new.name ≡ name.now → result ≡ length (put_file new (map file files.now)) }
     ensures most { result ≤ length files.now + 1 }
 {
@@ -186,7 +187,7 @@ fn count_put(name: &Name, files: &[PlainFile]) -> u32
 /// The files after the one of this name is dropped.
 #[tactic(auto, using(crate::proofs::Modest::length_dropped), unfolding(cms_model::specs::Changes::drop_file))]
 fn count_drop(name: &Name, files: &[PlainFile]) -> u32
-    requires { length files.now ≤ 16384 }
+    requires { length files.now ≤ most_files }
     ensures is { result ≡ length (drop_file name.now (map file files.now)) }
     ensures most { result ≤ length files.now }
 {

@@ -1,6 +1,7 @@
 // One record after another, of bytes that come in pieces.
 ghost use Rattle.std.specs.Prelude.{◌≡◌, ℕ, ◌+◌, ◌-◌, ◌≤◌, ◌++◌, [], Some, true, false, max, length, vec_capacity, take, drop, IfOk, IfErr, IfSome, OnOk, Ok, Err};
 ghost use Rattle.cms_text.specs.Bytes.{half};
+ghost use Rattle.cms_fields.specs.Limits.{longest_record, most_bytes};
 ghost use Rattle.cms_records.specs.Pieces.{Begun, Takes, head_of, record_size, bytes_so_far, next_place, text_in};
 
 use crate::VarFault;
@@ -29,14 +30,15 @@ pub struct RecordState {
 
 impl Model for RecordState {
     ghost use Rattle.std.specs.Prelude.{◌≤◌, ◌<◌, ◌+◌, IfSome, length, vec_len, vec_capacity};
+    ghost use Rattle.cms_fields.specs.Limits.{longest_record, most_bytes};
     ghost use Rattle.cms_records.specs.Pieces.{Begun, IsPart, record_size};
 
     ghost Value = { Begun };
 
     ghost view = { λ s. record { fixed = s.fixed; longest = s.longest; place = s.place; bytes = s.bytes.items; whole = s.whole } };
 
-    ghost invariant = { λ s. IfSome s.fixed (λ n. (1 ≤ n) × (n ≤ s.longest)) × (s.longest ≤ 65535) × (vec_len s.bytes ≤ s.longest + 2)
-        × (s.longest + 2 ≤ vec_capacity s.bytes) × (s.place + length s.bytes.items ≤ 67108864)
+    ghost invariant = { λ s. IfSome s.fixed (λ n. (1 ≤ n) × (n ≤ s.longest)) × (s.longest ≤ longest_record)
+        × (vec_len s.bytes ≤ s.longest + 2) × (s.longest + 2 ≤ vec_capacity s.bytes) × (s.place + length s.bytes.items ≤ most_bytes)
         × IsPart (record_size s.fixed s.longest s.place s.bytes.items) s.whole s.bytes.items };
 }
 
@@ -45,7 +47,7 @@ impl RecordState {
     /// length.
     pub fn new(alloc: Global, fixed: Option<u32>, longest: u32) -> Result<RecordState, AllocError>
         requires fixed { IfSome fixed (λ n. (1 ≤ n) × (n ≤ longest)) }
-        requires longest { longest ≤ 65535 }
+        requires longest { longest ≤ longest_record }
         ensures { IfOk result (λ s. s ≡ record { fixed = fixed; longest = longest; place = 0; bytes = []; whole = false }) }
     {
         let bytes = Vec::with_capacity(alloc, longest as usize + 2)?;
@@ -63,7 +65,7 @@ impl RecordState {
     /// place of the length's first byte among all bytes; the state isn't used again then. It takes no memory.
     pub fn feed(&mut self, piece: &[u8], from: usize) -> Result<Fed, VarFault>
         requires from { from ≤ length piece.now }
-        requires few { self.old.place + length self.old.bytes + length piece.now ≤ 67108864 + from }
+        requires few { self.old.place + length self.old.bytes + length piece.now ≤ most_bytes + from }
         ensures taken { IfOk result (λ fed. Takes self.old self.new (drop from piece.now) (fed.next - from) fed.whole) }
         ensures next { IfOk result (λ fed. (from ≤ fed.next) × (fed.next ≤ length piece.now)) }
         ensures fault { IfErr result (λ why. record_size self.old.fixed self.old.longest (next_place self.old)
@@ -128,7 +130,7 @@ fn size_of(
     place: u32,
     bytes: &[u8],
 ) -> Result<Option<u32>, VarFault>
-    requires { longest ≤ 65535 }
+    requires { longest ≤ longest_record }
     ensures { result ≡ record_size fixed longest place bytes.now }
 {
     if let Some(size) = fixed {

@@ -2,6 +2,7 @@
 ghost use Rattle.std.specs.Prelude.{◌≡◌, ℕ, ◌+◌, ◌*◌, ◌≤◌, ◌<◌, ◌++◌, [], ◌∷◌, length, drop, take, IfOk, OnOk, OnErr};
 ghost use Rattle.std.specs.Iterator.{YieldsFirstRef, item_count};
 ghost use Rattle.cms_text.specs.Bytes.{half};
+ghost use Rattle.cms_fields.specs.Limits.{most_bytes, longest_record};
 ghost use Rattle.cms_model.specs.Records.{varying, with_length};
 ghost use Rattle.cms_records.specs.Views.{BeginWith, front, longest_in, first_size};
 
@@ -34,7 +35,7 @@ impl<'a> VarView<'a> {
     /// The `count` records that the bytes of whole blocks of this size hold. The bytes that are left behind them, fewer
     /// than a block, are ignored. Faults as `var_check`.
     pub fn new(bytes: &'a [u8], count: u32, bsize: BlockSize) -> Result<VarView<'a>, VarFault>
-        requires { length bytes.now ≤ 67108864 }
+        requires { length bytes.now ≤ most_bytes }
         ensures { result ≡ varying bsize count 0 bytes.now }
     {
         match var_check(bytes, count, bsize) {
@@ -73,7 +74,7 @@ impl<'a> Iterator for VarView<'a> {
 /// The length of the longest of the `count` records that these bytes of whole blocks of this size hold. The places in
 /// the faults are counted in bytes from 0, and the fault is that at the first place.
 pub fn var_check(bytes: &[u8], count: u32, bsize: BlockSize) -> Result<u32, VarFault>
-    requires { length bytes.now ≤ 67108864 }
+    requires { length bytes.now ≤ most_bytes }
     ensures { result ≡ longest_in bsize count bytes.now }
 {
     let mut place = 0;
@@ -121,7 +122,7 @@ fn split_first<'a>(bytes: &'a [u8]) -> (&'a [u8], &'a [u8])
 /// Appends a record behind its length: 1 to 65,535 bytes. Without memory nothing is appended.
 pub fn put_var(into: &mut Vec<u8>, text: &[u8]) -> Result<(), AllocError>
     requires some { 1 ≤ length text.now }
-    requires short { length text.now ≤ 65535 }
+    requires short { length text.now ≤ longest_record }
     ensures ok { OnOk result (into.new.items ≡ into.old.items ++ with_length text.now) }
     ensures err { OnErr result (into.new.items ≡ into.old.items) }
 {

@@ -6,6 +6,13 @@ use Rattle.cms_text.specs.Texts.{Text, first_word, is_keyword, without_trailing_
 use Rattle.exec2_parse.specs.declared.procedure.ProcFault.{ProcFault}
 use Rattle.exec2_parse.specs.declared.procedure.ProcFault.TheVariants.{NotExec2, LineTooLong, TooManyLines}
 
+-- the most bytes of a line, and the most lines
+abbrev pub longest_line : ℕ
+longest_line = 255
+
+abbrev pub most_lines : ℕ
+most_lines = 4096
+
 -- a line that begins with an asterisk
 abbrev pub is_comment : Text → Bool
 is_comment line = slice_index line 0 == 0x5C
@@ -23,7 +30,7 @@ unfoldable pub begins_with_trace : List Text → Bool
 begins_with_trace lines = option_map_or (λ line. is_keyword (codes "&TRACE") (first_word line)) (first_statement lines) false
 
 abbrev pub is_long : Text → Bool
-is_long line = nat_lt 255 (length line)
+is_long line = nat_lt longest_line (length line)
 
 -- the number of the first line that is too long, from 1
 abbrev pub number_of_long_line : List Text → Option ℕ
@@ -43,5 +50,5 @@ procedure_of records = do
   let lines = lines_of records
   want (begins_with_trace lines) NotExec2
   want_none (number_of_long_line lines)
-  want (nat_le (length lines) 4096) TooManyLines
+  want (nat_le (length lines) most_lines) TooManyLines
   Ok lines

@@ -56,19 +56,20 @@ pub struct Procedure {
 
 impl Model for Procedure {
     ghost use Rattle.std.specs.Prelude.{List, ℕ, length, ◌≤◌};
+    ghost use Rattle.exec2_parse.specs.Procedures.{most_lines};
 
     ghost Value = { List (List ℕ) };
 
     ghost view = { λ p. p.lines };
 
-    ghost invariant = { λ p. length p.lines ≤ 4096 };
+    ghost invariant = { λ p. length p.lines ≤ most_lines };
 }
 
 impl Procedure {
     /// How many lines there are.
     pub fn len(&self) -> usize
         ensures count { result ≡ length self.now }
-        ensures most { length self.now ≤ 4096 }
+        ensures most { length self.now ≤ spec.most_lines }
     {
         self.lines.len()
     }
