@@ -1,5 +1,5 @@
 -- What a journal holds, after events that leave every unit alone.
-use Rattle.std.proofs.Common.{◌≡◌, ℕ, List, Option, Some, None, Result, Ok, Err, OnOk, refl, ap, sym, ◌∙◌, subst}
+use Rattle.std.proofs.Common.{◌≡◌, ℕ, List, Option, Some, None, refl, ap, sym, ◌∙◌, subst}
 use Rattle.cms_journal.specs.declared.event.Event.{Event}
 use Rattle.cms_journal.specs.Journal.{Journal, IsUntouched}
 use Rattle.cms_journal.specs.Told.{Told, NoDisk, Idle, Grown}
@@ -78,7 +78,3 @@ usable_grown None new disk grown usable = let e : new ≡ None = grown.told ∙ 
 usable_grown (Some i) new disk grown usable =
     let e : new ≡ Some (after i grown.events) = grown.told ∙ plus-some i grown.events in
     rw e (λ j f. let same : after i grown.events ≡ j = some_same _ _ f in rw (← same) (usable i refl))
-
-pub usable_ok : {T E : Type 0} (r : Result T E) (old new : Told) (disk : Option Disk) → Grown old new → Usable old disk → OnOk r (Usable new disk)
-usable_ok (Ok x) old new disk grown usable = usable_grown old new disk grown usable
-usable_ok (Err e) old new disk grown usable = tt

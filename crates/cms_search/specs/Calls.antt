@@ -1,21 +1,17 @@
 -- What a call does, as a part of the machine's run.
-use Rattle.std.specs.Prelude.{⊤, ◌≡◌, ◌≤◌, ℕ, ℤ, false, List, [], ◌∷◌, Option, Some, None, Result, Ok, Err, IsErrOf, length, replicate, slice_get}
+use Rattle.std.specs.Prelude.{⊤, ◌≡◌, ◌≤◌, ℕ, ℤ, false, List, [], ◌∷◌, Option, Some, None, Result, Ok, Err, IfOk, IfErr, OnOk, length, replicate, slice_get}
 use Rattle.std.specs.Option.{ForSome, option_map}
 use Rattle.std.specs.FinMap.{empty}
-use Rattle.std.specs.Ordering.{nat_cmp}
-use Rattle.std.specs.Cmp.Lexicographic.{slice_cmp}
 use Rattle.cms_journal.specs.declared.event.Attached.{Attached}
 use Rattle.cms_journal.specs.Causes.{Rose}
 use Rattle.cms_journal.specs.Journal.{Journal, HasBlocks, IsWritable}
 use Rattle.cms_journal.specs.Told.{Told, Idle, Grown}
-use Rattle.cms_fields.specs.Moments.{is_moment}
-use Rattle.cms_fields.specs.declared.time.Moment.{Moment}
 use Rattle.cms_model.specs.Minidisks.{Minidisk, State, Volume}
 use Rattle.cms_machine.specs.Slots.{Slot, Settled, state_in, set_of, IsAmong}
-use Rattle.cms_machine.specs.Items.{Unread}
 use Rattle.cms_machine.specs.Acts.{Act, Done, Out, typed_line}
 use Rattle.cms_machine.specs.Points.{Point, LeavesIn, HasNowIn}
 use Rattle.cms_machine.specs.Runs.{Ran, Broke}
+use Rattle.cms_world.specs.declared.world.World.{Ghosts}
 use Rattle.cms_line.specs.declared.message.Message.{Message}
 use Rattle.cms_line.specs.Messages.{message_text}
 use Rattle.cms_edf.specs.Small.{IsMinidisk}
@@ -47,11 +43,6 @@ machine_of s units = record {
   moment = s.moment;
   left = s.left;
 }
-
--- how a command ends, with the state that it leaves
-abbrev pub course_of : declared.State.State → List Slot → declared.Course.Course → Course
-course_of s units (course.Went code) = Went (machine_of s units) code
-course_of s units course.DeviceFault = DeviceFault
 
 -- ---- what is held of the units
 
@@ -92,53 +83,115 @@ IsUsableDisk j d = HasBlocks j.units d.small.unit d.small.disk.count d.small.dis
 abbrev pub Usable : Told → Option Disk → Type 0
 Usable told disk = ForSome told (λ j. ForSome disk (λ d. IsUsableDisk j d))
 
--- ---- calls
+-- ---- what a world shows
 
--- where a session stands: what its world tells, and its state
-pub record Spot : Type 0 where
+-- what a world shows of itself: its journal, how often a call on a unit failed, and how often another call did
+pub record Seen : Type 0 where
   pub told : Told
   pub faults : ℕ
+  pub edges : ℕ
+
+abbrev pub seen : {W : Type 0} → Ghosts W → W → Seen
+seen shows w = record { told = shows.told w; faults = shows.faults w; edges = shows.edges w }
+
+-- later on its journal has grown, and no count has fallen
+pub record IsLater (before now : Seen) : Type 0 where
+  pub grown : Grown before.told now.told
+  pub faults : before.faults ≤ now.faults
+  pub edges : before.edges ≤ now.edges
+
+-- where a session stands: what its world shows, and its state
+pub record Spot : Type 0 where
+  pub world : Seen
   pub state : declared.State.State
 
-abbrev pub spot : Told → ℕ → declared.State.State → Spot
-spot told faults s = record { told = told; faults = faults; state = s }
+abbrev pub spot : {W : Type 0} → Ghosts W → W → declared.State.State → Spot
+spot shows w s = record { world = seen shows w; state = s }
 
 -- and with the machine's units
 abbrev pub at : Spot → List Slot → Point
-at s units = record { journal = s.told; faults = s.faults; units = units; unread = s.state.console.unread; ended = s.state.console.ended }
+at s units = record {
+  journal = s.world.told;
+  faults = s.world.faults;
+  units = units;
+  unread = s.state.console.unread;
+  ended = s.state.console.ended;
+}
 
 abbrev pub holds : Spot → List Slot → Type 0
-holds s units = Holds s.told s.state.disk_a units
+holds s units = Holds s.world.told s.state.disk_a units
+
+abbrev pub IsUsable : Spot → Type 0
+IsUsable s = Usable s.world.told s.state.disk_a
+
+-- ---- what a value of a call means
+
+-- what it is in the call's tree, by the units that the machine has then; and whether it tells that a device failed
+pub record Meaning (T R : Type 0) : Type 1 where
+  pub value : List Slot → T → R
+  pub fault : T → Type 0
+
+-- of a value that tells no fault
+abbrev pub plain : {T R : Type 0} → (List Slot → T → R) → Meaning T R
+plain value = record { value = value; fault = λ x. ⊥ }
+
+-- the machine with this state, beside what the value is
+abbrev pub beside : {T R : Type 0} → declared.State.State → (T → R) → Meaning T (Machine × R)
+beside s part = plain (λ units x. (machine_of s units, part x))
+
+-- how a command ends, with the state that it leaves
+abbrev pub course_in : declared.State.State → List Slot → declared.Course.Course → Course
+course_in s units (course.Went code) = Went (machine_of s units) code
+course_in s units course.DeviceFault = DeviceFault
+
+abbrev pub course_of : declared.State.State → Meaning declared.Course.Course Course
+course_of s = record { value = course_in s; fault = λ c. c ≡ course.DeviceFault }
+
+-- ---- calls
 
 -- a call did all of its tree, or was cut off in it
 abbrev pub Plays : {R T : Type 0} → Point → Point → Act R → Result T End → (T → R) → Type 0
 Plays p q t (Ok x) done = Ran p q t (Done (done x))
 Plays p q t (Err e) done = Broke p q t
 
--- what a call that touches the world alone makes of a point: all else stays
-abbrev pub after_world : Point → Told → ℕ → Point
-after_world p told faults = record p { journal = told; faults = faults }
+-- what a call of the console or the clock makes of a point: all else stays
+abbrev pub after_world : Point → Seen → Point
+after_world p now = record p { journal = now.told; faults = now.faults }
 
--- a call that touches the world alone, and no unit in it
-pub record Does {R T : Type 0} (before : Told) (count : ℕ) (now : Told) (later : ℕ) (t : Act R) (result : Result T End) (done : T → R)
-    : Type 0 where
-  pub each : (p : Point) → p.journal ≡ before → p.faults ≡ count → Plays p (after_world p now later) t result done
-  pub idle : Idle before now
+-- what is said of every call of the console or the clock alone
+pub record Does {R T : Type 0} (before now : Seen) (t : Act R) (result : Result T End) (done : T → R) : Type 0 where
+  -- from whichever point the world has come to it did its tree, or was cut off in it
+  pub each : (p : Point) → p.journal ≡ before.told → p.faults ≡ before.faults → Plays p (after_world p now) t result done
+  -- nothing happened to any unit
+  pub idle : Idle before.told now.told
+  pub faults : now.faults ≡ before.faults
+  -- the other count hasn't fallen, and rose where the call was cut off at an edge
+  pub edges : before.edges ≤ now.edges
+  pub cause : IfErr result (λ e. e ≡ Edge → Rose before.edges now.edges)
 
-abbrev pub Ends : {R T : Type 0} → Point → Spot → Act R → Result T End → (List Slot → T → R) → Type 0
-Ends p new t (Ok x) done = (units : List Slot) × (holds new units × Ran p (at new units) t (Done (done units x)))
+abbrev pub Ends : {R T : Type 0} → Point → Spot → Act R → Result T End → Meaning T R → Type 0
+Ends p new t (Ok x) done = (units : List Slot) × (holds new units × Ran p (at new units) t (Done (done.value units x)))
 Ends p new t (Err e) done = (units : List Slot) × Broke p (at new units) t
 
--- a call did what its tree says on the machine's units, whatever they are
-pub record Acts {R T : Type 0} (old new : Spot) (t : List Slot → Act R) (result : Result T End) (done : List Slot → T → R) : Type 0 where
+-- what is said of every call on the session's state
+pub record Acts {R T : Type 0} (old new : Spot) (t : List Slot → Act R) (result : Result T End) (done : Meaning T R) : Type 0 where
+  -- on whichever units the machine holds it did its tree, or was cut off in it
   pub each : (units : List Slot) → holds old units → Ends (at old units) new (t units) result done
-  pub grown : Grown old.told new.told
+  -- the journal has grown, and no count has fallen
+  pub later : IsLater old.world new.world
+  -- the blocks of disk A may be read still, and written unless it is read-only
+  pub usable : IsUsable old → OnOk result (IsUsable new)
+  -- the count of edges rose where the call was cut off at one
+  pub cause : IfErr result (λ e. e ≡ Edge → Rose old.world.edges new.world.edges)
+  -- the count of faults rose where its value tells one
+  pub fault : IfOk result (λ x. done.fault x → Rose old.world.faults new.world.faults)
 
--- a part of a call: its tree has come so far
+-- a part of such a call: its tree has come so far
 pub record Comes {R : Type 0} (old mid : Spot) (t next : List Slot → Act R) : Type 0 where
   pub each : (units : List Slot) → holds old units → (now : List Slot) × (holds mid now
       × Ran (at old units) (at mid now) (t units) (next now))
-  pub grown : Grown old.told mid.told
+  pub later : IsLater old.world mid.world
+  pub usable : IsUsable old → IsUsable mid
 
 -- the result is the tree's
 abbrev pub itself : {R : Type 0} → R → R
@@ -147,11 +200,6 @@ itself x = x
 -- the tree only says something
 abbrev pub said : {T : Type 0} → T → ⊤
 said x = tt
-
--- the count hasn't fallen, and an end at an edge raised it
-pub record EndCause {T : Type 0} (before now : ℕ) (result : Result T End) : Type 0 where
-  pub later : before ≤ now
-  pub rose : IsErrOf result Edge → Rose before now
 
 -- ---- refusals
 

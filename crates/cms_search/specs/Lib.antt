@@ -1,3 +1,4 @@
 pub mod Machine
 pub mod Ready
+pub mod Texts
 pub mod Calls

@@ -3,6 +3,8 @@
 
 mod saying;
 mod state;
+mod text;
 
 pub use saying::{refuse, say, say_message, say_ready};
 pub use state::{Course, Device, Disk, End, State};
+pub use text::coded;

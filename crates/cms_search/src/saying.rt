@@ -3,7 +3,7 @@ ghost use Rattle.std.specs.Prelude.{◌≡◌, ◌<◌, ◌+◌, ◌/◌, ◌%�
 ghost use Rattle.cms_machine.specs.Acts.{saying, typed_line};
 ghost use Rattle.cms_line.specs.Messages.{message_text};
 ghost use Rattle.cms_search.specs.Ready.{ready_line, ready_with};
-ghost use Rattle.cms_search.specs.Calls.{Does, EndCause, itself, said};
+ghost use Rattle.cms_search.specs.Calls.{Does, seen, itself, said};
 ghost use Rattle.cms_search.specs.declared.state.Course.TheVariants.{Went};
 
 use crate::state::{Course, End};
@@ -26,10 +26,7 @@ const SEMICOLON: u8 = 0x5E;
 
 /// Types a line of EBCDIC.
 pub fn say<W: World>(world: &mut W, line: &[u8]) -> Result<(), End>
-    ensures does { Does (W.told world.old) (W.faults world.old) (W.told world.new) (W.faults world.new)
-        (saying (typed_line line.now)) result itself }
-    ensures cause { EndCause (W.edges world.old) (W.edges world.new) result }
-    ensures faults { W.faults world.new ≡ W.faults world.old }
+    ensures { Does (seen W.World world.old) (seen W.World world.new) (saying (typed_line line.now)) result itself }
 {
     match type_line(world, line) {
         Ok(()) => Ok(()),
@@ -39,10 +36,7 @@ pub fn say<W: World>(world: &mut W, line: &[u8]) -> Result<(), End>
 
 /// Types a message.
 pub fn say_message<W: World>(alloc: Global, world: &mut W, message: &Message) -> Result<(), End>
-    ensures does { Does (W.told world.old) (W.faults world.old) (W.told world.new) (W.faults world.new)
-        (saying (typed_line (message_text message.now))) result itself }
-    ensures cause { EndCause (W.edges world.old) (W.edges world.new) result }
-    ensures faults { W.faults world.new ≡ W.faults world.old }
+    ensures { Does (seen W.World world.old) (seen W.World world.new) (saying (typed_line (message_text message.now))) result itself }
 {
     let mut text = Vec::new(alloc);
     write_message(&mut text, message)?;
@@ -56,10 +50,7 @@ pub fn refuse<W: World>(
     message: Message,
     code: i32,
 ) -> Result<Course, End>
-    ensures does { Does (W.told world.old) (W.faults world.old) (W.told world.new) (W.faults world.new)
-        (saying (typed_line (message_text message))) result said }
-    ensures cause { EndCause (W.edges world.old) (W.edges world.new) result }
-    ensures faults { W.faults world.new ≡ W.faults world.old }
+    ensures does { Does (seen W.World world.old) (seen W.World world.new) (saying (typed_line (message_text message))) result said }
     ensures went { IfOk result (λ course. course ≡ Went code) }
 {
     say_message(alloc, world, &message)?;
@@ -98,10 +89,7 @@ fn ready_with(code: i32) -> [u8; 9]
 
 /// Types the ready line of a return code, -9999 to 99999.
 pub fn say_ready<W: World>(world: &mut W, code: i32) -> Result<(), End>
-    ensures does { Does (W.told world.old) (W.faults world.old) (W.told world.new) (W.faults world.new)
-        (saying (typed_line (ready_line code))) result itself }
-    ensures cause { EndCause (W.edges world.old) (W.edges world.new) result }
-    ensures faults { W.faults world.new ≡ W.faults world.old }
+    ensures { Does (seen W.World world.old) (seen W.World world.new) (saying (typed_line (ready_line code))) result itself }
 {
     if code == 0 {
         return say(world, &[R, SEMICOLON]);

@@ -1,5 +1,5 @@
 -- Words of a line.
-use Rattle.std.proofs.Common.{◌≡◌, ℕ, ◌≤◌, Bool, true, false, List, [], ◌∷◌, length, Result, Ok, Err, Some, None, refl, ap, arith}
+use Rattle.std.proofs.Common.{◌≡◌, ℕ, ◌≤◌, Bool, true, false, List, [], ◌∷◌, length, Result, Ok, Err, Some, None, codes, refl, ap, sym, ◌∙◌, arith}
 use Rattle.std.specs.Prelude.{not, cond, slice_index, nat_le, nat_lt, ◌==◌, ◌&&◌, if◌then◌else◌}
 use Rattle.std.specs.List.{list_all, prefix_len, slice_split}
 use Rattle.std.specs.Option.{option_map_or}
@@ -9,7 +9,10 @@ use Rattle.cms_names.specs.Names.{text_of, is_text_of, is_part, part_of, is_name
 use Rattle.cms_names.specs.declared.fault.NameFault.{NameFault}
 use Rattle.cms_names.specs.declared.fault.NameFault.TheVariants.{Empty, TooLong, BadChar}
 use Rattle.cms_model.specs.Lists.{same}
-use Rattle.cms_session.specs.Commands.{letter_a, file_command, command_of_words, command_of_line, is_comment}
+use Rattle.cms_ebcdic.specs.CodePage.{code_of, code_page}
+use Rattle.cms_text.specs.Texts.{ebcdic}
+use Rattle.cms_search.specs.Texts.{coded}
+use Rattle.cms_session.specs.Commands.{type_word, erase_word, letter_a, file_command, command_of_words, command_of_line, is_comment}
 use Rattle.cms_session.specs.declared.command.Command.TheVariants.{Nothing, NotBuilt}
 
 pub same_is : (xs ys : List ℕ) → bytes_eq xs ys ≡ same xs ys
@@ -18,6 +21,24 @@ same_is [] [] = refl
 same_is [] (y ∷ ys) = refl
 same_is (x ∷ xs) [] = refl
 same_is (x ∷ xs) (y ∷ ys) = ap (λ (b : Bool). (x == y) && b) (same_is xs ys)
+
+-- ---- the words of commands
+
+pub type_coded : coded (codes "TYPE") ≡ type_word
+unfolding ebcdic code_of code_page
+type_coded = refl
+
+pub erase_coded : coded (codes "ERASE") ≡ erase_word
+unfolding ebcdic code_of code_page
+erase_coded = refl
+
+pub letter_coded : coded (codes "A") ≡ letter_a
+unfolding ebcdic code_of code_page
+letter_coded = refl
+
+-- a test for a word by its bytes
+pub word_is : (word bytes wanted : List ℕ) (r b : Bool) → bytes ≡ wanted → r ≡ same word bytes → r ≡ b → same word wanted ≡ b
+word_is word bytes wanted r b spelled is test = ap (same word) (sym spelled) ∙ sym is ∙ test
 
 -- ---- parts of names
 

@@ -12,7 +12,6 @@ use Rattle.cms_model.specs.Minidisks.{File, Minidisk, same_name}
 use Rattle.cms_model.specs.Changes.{file_named}
 use Rattle.cms_model.proofs.Changing.{name_from}
 use Rattle.cms_machine.specs.Slots.{Slot}
-use Rattle.cms_machine.specs.Acts.{Act}
 use Rattle.cms_line.specs.declared.message.Message.TheVariants.{M002, M069}
 use Rattle.cms_edf.specs.Small.{contents_image, records_in}
 use Rattle.cms_search.specs.declared.state.Disk.{Disk}
@@ -20,44 +19,48 @@ use Rattle.cms_search.specs.declared.state.End.{End}
 use Rattle.cms_search.specs.declared.state.State.{State}
 use Rattle.cms_search.specs.declared.state.Course as declared
 use Rattle.cms_search.specs.Machine.{Letter, Course, is_seen, seen_file}
-use Rattle.cms_search.specs.Calls.{Spot, holds, HoldsIn, IsSeated, Acts, letter_of, refusal_tree}
+use Rattle.cms_search.specs.Calls.{Spot, Meaning, holds, HoldsIn, IsSeated, Acts, letter_of, refusal_tree}
 use Rattle.cms_search.proofs.Holding.{holds_some, some_same}
-use Rattle.cms_search.proofs.Acts.{comes_same, acts_after}
+use Rattle.cms_search.proofs.Acts.{acts_same}
 use Rattle.cms_session.specs.Commands.{letter_a}
-use Rattle.cms_session.specs.Calls.{IsSeen, IsFile, type_tree, records_tree, file_in}
-use Rattle.cms_session.proofs.Seen.{some_entry}
+use Rattle.cms_session.specs.Machine.{not_accessed, not_found}
+use Rattle.cms_session.specs.Calls.{type_tree, file_in}
+use Rattle.cms_session.proofs.Seen.{Shows, some_entry}
+use Rattle.cms_session.proofs.Files.{IsFile, records_tree}
 
 -- ---- TYPE
 
-pub type_no_disk : (old new : Spot) (s : State) (name : Name) (r : Result declared.Course End) (done : List Slot → declared.Course → Course) → s.disk_a ≡ None → Acts old new (refusal_tree s (M069 letter_a) (pos 36)) r done → Acts old new (type_tree s name) r done
+pub type_no_disk : (old new : Spot) (s : State) (name : Name) (r : Result declared.Course End) (done : Meaning declared.Course Course) → s.disk_a ≡ None
+    → Acts old new (refusal_tree s (M069 letter_a) (pos not_accessed)) r done → Acts old new (type_tree s name) r done
 type_no_disk old new s name r done none acts =
-    let same : (λ units. refusal_tree s (M069 letter_a) (pos 36) units) ≡ (λ units. type_tree s name units) = rw none refl in
-    subst (λ (t : List Slot → Act Course). Acts old new t r done) same acts
+    acts_same old new (type_tree s name) (refusal_tree s (M069 letter_a) (pos not_accessed)) r done (λ units h. rw none refl) acts
 
 -- the minidisk of disk A
 pub record MeetsDisk (old : Spot) (d : Disk) (units : List Slot) : Type 0 where
   pub journal : Journal
-  pub told : old.told ≡ Some journal
+  pub told : old.world.told ≡ Some journal
   pub holds : HoldsIn journal old.state.disk_a units
   pub seat : IsSeated journal units d
 
 pub meets : (old : Spot) (d : Disk) (units : List Slot) → old.state.disk_a ≡ Some d → holds old units → MeetsDisk old d units
 meets old d units disk_a h =
-    let held = holds_some old.told old.state.disk_a units h in
+    let held = holds_some old.world.told old.state.disk_a units h in
     record { journal = held.0; told = held.1; holds = held.2; seat = held.2.disk_a d disk_a }
 
-type_missing_is : (old : Spot) (d : Disk) (name : Name) (units : List Slot) → old.state.disk_a ≡ Some d → ((j : Journal) → IsSeen j d name None) → MeetsDisk old d units
-    → type_tree old.state name units ≡ refusal_tree old.state (M002 name.file name.kind letter_a) (pos 28) units
+type_missing_is : (old : Spot) (d : Disk) (name : Name) (units : List Slot) → old.state.disk_a ≡ Some d
+    → ((j : Journal) → Shows j d name None) → MeetsDisk old d units
+    → type_tree old.state name units ≡ refusal_tree old.state (M002 name.file name.kind letter_a) (pos not_found) units
 type_missing_is old d name units disk_a seen met =
     let slot = met.seat.slot in
     let none = seen met.journal met.seat.minidisk met.seat.is in
     rw (disk_a, slot, none) refl
 
-pub type_missing : (old new : Spot) (d : Disk) (name : Name) (r : Result declared.Course End) (done : List Slot → declared.Course → Course) → old.state.disk_a ≡ Some d → ((j : Journal) → IsSeen j d name None)
-    → Acts old new (refusal_tree old.state (M002 name.file name.kind letter_a) (pos 28)) r done → Acts old new (type_tree old.state name) r done
+pub type_missing : (old new : Spot) (d : Disk) (name : Name) (r : Result declared.Course End) (done : Meaning declared.Course Course)
+    → old.state.disk_a ≡ Some d → ((j : Journal) → Shows j d name None)
+    → Acts old new (refusal_tree old.state (M002 name.file name.kind letter_a) (pos not_found)) r done → Acts old new (type_tree old.state name) r done
 type_missing old new d name r done disk_a seen acts =
-    acts_after old old new (type_tree old.state name) (refusal_tree old.state (M002 name.file name.kind letter_a) (pos 28)) r done
-    (comes_same old (type_tree old.state name) (refusal_tree old.state (M002 name.file name.kind letter_a) (pos 28)) (λ units h. type_missing_is old d name units disk_a seen (meets old d units disk_a h))) acts
+    acts_same old new (type_tree old.state name) (refusal_tree old.state (M002 name.file name.kind letter_a) (pos not_found)) r done
+    (λ units h. type_missing_is old d name units disk_a seen (meets old d units disk_a h)) acts
 
 -- the file at a place
 index_same : (es : List Entry) (k : ℕ) (a b : Entry) → k < length es → slice_index_or es k a ≡ slice_index_or es k b
@@ -104,24 +107,27 @@ chosen_has (Some i) d k within j is =
 chosen_is : (told : Told) (d : Disk) (k : ℕ) (within : k < length d.small.files) (j : Journal) → told ≡ Some j → file_in (contents_image j d.small) (slice_index_or d.small.files k (some_entry d.small.files k within)) ≡ chosen told d k within
 chosen_is told d k within j is = rw is refl
 
-chosen_file : (told : Told) (d : Disk) (name : Name) (k : ℕ) (within : k < length d.small.files) → ((j : Journal) → IsSeen j d name (Some k)) → IsFile told d k (chosen told d k within)
+chosen_file : (told : Told) (d : Disk) (name : Name) (k : ℕ) (within : k < length d.small.files)
+    → ((j : Journal) → Shows j d name (Some k)) → IsFile told d k (chosen told d k within)
 chosen_file told d name k within seen j is = record {
   records = chosen_has told d k within j is;
   named = λ m there. seen_named (letter_of d) name m (chosen told d k within)
       (seen j m (some_entry d.small.files k within) there ∙ ap (λ (f : File). Some f) (chosen_is told d k within j is));
 }
 
-type_found_is : (old : Spot) (d : Disk) (name : Name) (k : ℕ) (within : k < length d.small.files) (units : List Slot) → old.state.disk_a ≡ Some d → ((j : Journal) → IsSeen j d name (Some k)) → MeetsDisk old d units
-    → type_tree old.state name units ≡ records_tree old.state d.small.unit (chosen old.told d k within) units
+type_found_is : (old : Spot) (d : Disk) (name : Name) (k : ℕ) (within : k < length d.small.files) (units : List Slot) → old.state.disk_a ≡ Some d
+    → ((j : Journal) → Shows j d name (Some k)) → MeetsDisk old d units
+    → type_tree old.state name units ≡ records_tree old.state d.small.unit (chosen old.world.told d k within) units
 type_found_is old d name k within units disk_a seen met =
     let slot = met.seat.slot in
-    let file : seen_file (letter_of d) name met.seat.minidisk ≡ Some (chosen old.told d k within) = seen met.journal met.seat.minidisk (some_entry d.small.files k within) met.seat.is ∙ ap (λ (f : File). Some f) (chosen_is old.told d k within met.journal met.told) in
+    let file : seen_file (letter_of d) name met.seat.minidisk ≡ Some (chosen old.world.told d k within) =
+    seen met.journal met.seat.minidisk (some_entry d.small.files k within) met.seat.is ∙ ap (λ (f : File). Some f) (chosen_is old.world.told d k within met.journal met.told) in
     rw (disk_a, slot, file) refl
 
-pub type_found : (old new : Spot) (d : Disk) (name : Name) (k : ℕ) (r : Result declared.Course End) (done : List Slot → declared.Course → Course) → old.state.disk_a ≡ Some d → k < length d.small.files → ((j : Journal) → IsSeen j d name (Some k))
-    → ((f : File) → IsFile old.told d k f → Acts old new (records_tree old.state d.small.unit f) r done) → Acts old new (type_tree old.state name) r done
+pub type_found : (old new : Spot) (d : Disk) (name : Name) (k : ℕ) (r : Result declared.Course End) (done : Meaning declared.Course Course)
+    → old.state.disk_a ≡ Some d → k < length d.small.files → ((j : Journal) → Shows j d name (Some k))
+    → ((f : File) → IsFile old.world.told d k f → Acts old new (records_tree old.state d.small.unit f) r done) → Acts old new (type_tree old.state name) r done
 type_found old new d name k r done disk_a within seen acts =
-    let f = chosen old.told d k within in
-    acts_after old old new (type_tree old.state name) (records_tree old.state d.small.unit f) r done
-    (comes_same old (type_tree old.state name) (records_tree old.state d.small.unit f) (λ units h. type_found_is old d name k within units disk_a seen (meets old d units disk_a h)))
-    (acts f (chosen_file old.told d name k within seen))
+    let f = chosen old.world.told d k within in
+    acts_same old new (type_tree old.state name) (records_tree old.state d.small.unit f) r done
+    (λ units h. type_found_is old d name k within units disk_a seen (meets old d units disk_a h)) (acts f (chosen_file old.world.told d name k within seen))

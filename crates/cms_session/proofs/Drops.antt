@@ -114,12 +114,12 @@ held_later j es units d new m later name stamp same answer is there drops h = re
 
 -- a file was dropped, with this outcome
 pub drop_ran : {R : Type 0} (old new : Spot) (units : List Slot) (u : ℕ) (m : Minidisk) (name : Name) (stamp : Stamp) (o : Outcome) (k : Outcome → Act R) → slice_get units u ≡ Some (Settled (Volume m))
-    → (changes : Changes old.told new.told u m name stamp o) → ((x : State) → HasNow new.told u x → state_in (dropped_slot u m name stamp o) ≡ x)
-    → Counted old.faults (faults_in (o ∷ [])) new.faults → new.state.console ≡ old.state.console → Ran (at old units) (at new (dropped_units units u m name stamp o)) (Does (drop_step u m name stamp) k) (k o)
+    → (changes : Changes old.world.told new.world.told u m name stamp o) → ((x : State) → HasNow new.world.told u x → state_in (dropped_slot u m name stamp o) ≡ x)
+    → Counted old.world.faults (faults_in (o ∷ [])) new.world.faults → new.state.console ≡ old.state.console → Ran (at old units) (at new (dropped_units units u m name stamp o)) (Does (drop_step u m name stamp) k) (k o)
 drop_ran old new units u m name stamp o k there changes now counted console =
     let slot = there_after units u m name stamp o there in
     let before : unit_set units u ≡ Volume m ∷ [] = rw there refl in
     let behind : unit_set (dropped_units units u m name stamp o) u ≡ set_of (dropped_slot u m name stamp o) = rw slot refl in
-    let covers : Covers old.told changes.events u (unit_set units u) (unit_set (dropped_units units u m name stamp o) u) = rw (before, behind) changes.covers in
+    let covers : Covers old.world.told changes.events u (unit_set units u) (unit_set (dropped_units units u m name stamp o) u) = rw (before, behind) changes.covers in
     ran_step (at old units) (at new (dropped_units units u m name stamp o)) (drop_step u m name stamp) o k changes.events changes.told counted changes.of_unit changes.fits there refl
     (record { unread = ap (λ (c : ConsoleState). c.unread) console; ended = ap (λ (c : ConsoleState). c.ended) console }) (λ sound. covers) (λ sound x has. ap (λ (z : Option Slot). option_map state_in z) slot ∙ ap (λ (y : State). Some y) (now x has))

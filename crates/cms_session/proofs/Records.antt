@@ -1,5 +1,5 @@
 -- Records that are typed one after another.
-use Rattle.std.proofs.Common.{◌≡◌, ℕ, zero, suc, List, [], ◌∷◌, length, take, drop, Ok, Err, refl, ap, subst, arith}
+use Rattle.std.proofs.Common.{◌≡◌, ◌≤◌, ℕ, zero, suc, List, [], ◌∷◌, length, take, drop, Ok, Err, refl, ap, ◌∙◌, subst, arith}
 use Rattle.std.specs.Prelude.{min}
 use Rattle.cms_journal.specs.Told.{Told, Idle}
 use Rattle.cms_journal.proofs.Pieces.{idle_same, idle_then}
@@ -10,20 +10,25 @@ use Rattle.cms_machine.proofs.Join.{ran_none, ran_then, ran_bind, broke_then, br
 use Rattle.cms_machine.specs.Points.{Point}
 use Rattle.cms_search.specs.declared.state.End.{End}
 use Rattle.cms_search.specs.Machine.{typing}
-use Rattle.cms_search.specs.Calls.{Does, after_world, itself}
+use Rattle.cms_search.proofs.Acts.{rose_from}
+use Rattle.cms_search.specs.Calls.{Seen, Does, after_world, itself}
 
--- a part of a call that touches the world alone
-pub record Goes {R : Type 0} (before : Told) (count : ℕ) (now : Told) (later : ℕ) (t u : Act R) : Type 0 where
-  pub each : (p : Point) → p.journal ≡ before → p.faults ≡ count → Ran p (after_world p now later) t u
-  pub idle : Idle before now
+-- a part of a call of the console alone
+pub record Goes {R : Type 0} (before now : Seen) (t u : Act R) : Type 0 where
+  pub each : (p : Point) → p.journal ≡ before.told → p.faults ≡ before.faults → Ran p (after_world p now) t u
+  pub idle : Idle before.told now.told
+  pub faults : now.faults ≡ before.faults
+  pub edges : before.edges ≤ now.edges
 
-pub goes_none : {R : Type 0} (told : Told) (count : ℕ) (t : Act R) → Goes told count told count t t
-goes_none told count t = record {
-  each = λ p journal faults. subst (λ (q : Point). Ran p q t t) (same_point p told count journal faults) (ran_none p t);
-  idle = idle_same told told refl;
+pub goes_none : {R : Type 0} (s : Seen) (t : Act R) → Goes s s t t
+goes_none s t = record {
+  each = λ p journal faults. subst (λ (q : Point). Ran p q t t) (same_point p s.told s.faults journal faults) (ran_none p t);
+  idle = idle_same s.told s.told refl;
+  faults = refl;
+  edges = omega arith;
 }
   where
-    same_point : (p : Point) (told : Told) (count : ℕ) → p.journal ≡ told → p.faults ≡ count → p ≡ after_world p told count
+    same_point : (p : Point) (told : Told) (count : ℕ) → p.journal ≡ told → p.faults ≡ count → p ≡ record p { journal = told; faults = count }
     same_point p told count journal faults = rw (← journal, ← faults) refl
 
 -- pieces from the front
@@ -34,29 +39,47 @@ first_piece : (n next size : ℕ) (bytes piece behind : List ℕ) → n ≡ suc 
 unfolding cut typing
 first_piece n next size bytes piece behind some is rest = rw (some, is, rest) refl
 
-pub piece_more : (before : Told) (count : ℕ) (mid : Told) (between : ℕ) (now : Told) (later : ℕ) (t : Act (Unit {0})) (n next size : ℕ) (bytes piece behind : List ℕ) (x : Unit {0}) → Goes before count mid between t (cut_tree n size bytes) → n ≡ suc next → piece ≡ take size bytes → behind ≡ drop size bytes
-    → Does mid between now later (saying (typed_line piece)) (Ok x) itself → Goes before count now later t (cut_tree next size behind)
-piece_more before count mid between now later t n next size bytes piece behind x g some is rest d =
+pub piece_more : (before mid now : Seen) (t : Act (Unit {0})) (n next size : ℕ) (bytes piece behind : List ℕ) (x : Unit {0})
+    → Goes before mid t (cut_tree n size bytes) → n ≡ suc next → piece ≡ take size bytes → behind ≡ drop size bytes
+    → Does mid now (saying (typed_line piece)) (Ok x) itself → Goes before now t (cut_tree next size behind)
+piece_more before mid now t n next size bytes piece behind x g some is rest d =
     let e = first_piece n next size bytes piece behind some is rest in
     record {
-      each = λ p journal faults. ran_then (subst (Ran p (after_world p mid between) t) e (g.each p journal faults)) (ran_bind (λ y. cut_tree next size behind) (d.each (after_world p mid between) refl refl));
-      idle = idle_then before mid now g.idle d.idle;
+      each = λ p journal faults.
+          ran_then (subst (Ran p (after_world p mid) t) e (g.each p journal faults))
+          (ran_bind (λ y. cut_tree next size behind) (d.each (after_world p mid) refl refl));
+      idle = idle_then before.told mid.told now.told g.idle d.idle;
+      faults = d.faults ∙ g.faults;
+      edges = omega (arith, g.edges, d.edges);
     }
 
-pub piece_stops : (before : Told) (count : ℕ) (mid : Told) (between : ℕ) (now : Told) (later : ℕ) (t : Act (Unit {0})) (n next size : ℕ) (bytes piece behind : List ℕ) (e : End) → Goes before count mid between t (cut_tree n size bytes) → n ≡ suc next → piece ≡ take size bytes → behind ≡ drop size bytes
-    → Does {T = Unit {0}} mid between now later (saying (typed_line piece)) (Err e) itself → Does {T = Unit {0}} before count now later t (Err e) itself
-piece_stops before count mid between now later t n next size bytes piece behind e g some is rest d =
+pub piece_stops : (before mid now : Seen) (t : Act (Unit {0})) (n next size : ℕ) (bytes piece behind : List ℕ) (e : End)
+    → Goes before mid t (cut_tree n size bytes) → n ≡ suc next → piece ≡ take size bytes → behind ≡ drop size bytes
+    → Does {T = Unit {0}} mid now (saying (typed_line piece)) (Err e) itself → Does {T = Unit {0}} before now t (Err e) itself
+piece_stops before mid now t n next size bytes piece behind e g some is rest d =
     let same = first_piece n next size bytes piece behind some is rest in
     record {
-      each = λ p journal faults. broke_then (subst (Ran p (after_world p mid between) t) same (g.each p journal faults)) (broke_bind (λ y. cut_tree next size behind) (d.each (after_world p mid between) refl refl));
-      idle = idle_then before mid now g.idle d.idle;
+      each = λ p journal faults.
+          broke_then (subst (Ran p (after_world p mid) t) same (g.each p journal faults))
+          (broke_bind (λ y. cut_tree next size behind) (d.each (after_world p mid) refl refl));
+      idle = idle_then before.told mid.told now.told g.idle d.idle;
+      faults = d.faults ∙ g.faults;
+      edges = omega (arith, g.edges, d.edges);
+      cause = λ edge. rose_from before.edges mid.edges now.edges g.edges (d.cause edge);
     }
 
-pub pieces_end : (before : Told) (count : ℕ) (now : Told) (later : ℕ) (t : Act (Unit {0})) (n size : ℕ) (bytes : List ℕ) → Goes before count now later t (cut_tree n size bytes) → n ≡ 0 → Does before count now later t (Ok (tt {0})) itself
+pub pieces_end : (before now : Seen) (t : Act (Unit {0})) (n size : ℕ) (bytes : List ℕ) → Goes before now t (cut_tree n size bytes) → n ≡ 0
+    → Does before now t (Ok (tt {0})) itself
 unfolding cut typing
-pieces_end before count now later t n size bytes g none =
+pieces_end before now t n size bytes g none =
     let e : cut_tree n size bytes ≡ Done tt = rw none refl in
-    record { each = λ p journal faults. subst (Ran p (after_world p now later) t) e (g.each p journal faults); idle = g.idle }
+    record {
+      each = λ p journal faults. subst (Ran p (after_world p now) t) e (g.each p journal faults);
+      idle = g.idle;
+      faults = g.faults;
+      edges = g.edges;
+      cause = tt;
+    }
 
 pub take_min : (size : ℕ) (bytes : List ℕ) → take (min size (length bytes)) bytes ≡ take size bytes
 take_min zero bytes = let e : min zero (length bytes) ≡ 0 = omega arith in rw e refl

@@ -1,13 +1,16 @@
 -- The parts of a round.
-use Rattle.std.proofs.Common.{◌≡◌, ℕ, ℤ, suc, ◌<◌, List, [], ◌∷◌, length, Option, Some, None, Result, Ok, Err, Bool, true, false, IfOk, refl, ap, sym, ◌∙◌, subst, arith}
+use Rattle.std.proofs.Common.{◌≡◌, ℕ, ℤ, ◌≤◌, suc, List, [], ◌∷◌, Option, Some, None, Result, Ok, Err, Bool, true, false, IfOk, codes, refl, ap, sym, ◌∙◌, subst, arith}
 use Rattle.std.specs.Prelude.{option_map}
-use Rattle.std.specs.Option.{is_some, IfSome}
+use Rattle.std.specs.Option.{is_some}
 use Rattle.cms_journal.specs.declared.event.Event.{Event}
 use Rattle.cms_journal.specs.declared.event.Event.TheVariants.{Read, Now, Typed, Wrote, Synced, Missed}
+use Rattle.cms_journal.specs.Causes.{Rose}
 use Rattle.cms_journal.specs.Journal.{Journal, adds}
 use Rattle.cms_journal.specs.Told.{Told, TouchesNone, NoDisk, Idle}
 use Rattle.cms_journal.proofs.Events.{all_weaker}
 use Rattle.cms_journal.proofs.Pieces.{idle_same, grown_idle}
+use Rattle.cms_ebcdic.specs.CodePage.{code_of, code_page}
+use Rattle.cms_text.specs.Texts.{ebcdic}
 use Rattle.cms_names.specs.declared.name.Name.{Name}
 use Rattle.cms_names.specs.Names.{is_part, is_text_of, is_name_character, filled}
 use Rattle.cms_fields.specs.declared.time.Moment.{Moment}
@@ -16,29 +19,33 @@ use Rattle.cms_model.specs.Minidisks.{Minidisk}
 use Rattle.cms_edf.specs.Small.{IsMinidisk, spelled}
 use Rattle.cms_machine.specs.Slots.{Slot}
 use Rattle.cms_machine.specs.Items.{Item}
-use Rattle.cms_machine.specs.Acts.{Act, Done, bind}
+use Rattle.cms_machine.specs.Acts.{Act, Done, bind, turning}
 use Rattle.cms_machine.specs.Beats.{IsRead, OnlyRead}
-use Rattle.cms_machine.proofs.Join.{ran_bind, broke_here}
+use Rattle.cms_machine.specs.Points.{Point}
+use Rattle.cms_machine.specs.Runs.{Ran, Broke}
+use Rattle.cms_machine.proofs.Join.{ran_bind, broke_bind}
 use Rattle.cms_machine.proofs.Single.{ran_take, ran_turn, broke_take, broke_before}
 use Rattle.cms_line.specs.Consoles.{Took, Stayed, item_of}
 use Rattle.cms_line.specs.declared.console.ConsoleLine.{ConsoleLine}
 use Rattle.cms_search.specs.declared.state.Disk.{Disk}
 use Rattle.cms_search.specs.declared.state.End.{End}
+use Rattle.cms_search.specs.declared.state.End.TheVariants.{Memory, Edge}
 use Rattle.cms_search.specs.declared.state.State.{State}
 use Rattle.cms_search.specs.declared.state.Course as declared
 use Rattle.cms_search.specs.declared.state.Course.TheVariants as course
 use Rattle.cms_search.specs.Machine.{Machine, Course, turned, seen_file}
-use Rattle.cms_search.specs.Calls.{Spot, at, holds, Holds, Does, Acts, Comes, Usable, said, letter_of, machine_of, course_of}
-use Rattle.cms_search.proofs.Holding.{holds_some, holds_idle, usable_grown}
-use Rattle.cms_search.proofs.Acts.{comes_then, comes_in, comes_does, comes_same, acts_done, acts_after, acts_stop, does_stop}
+use Rattle.cms_search.specs.Texts.{coded}
+use Rattle.cms_search.specs.Calls.{Seen, Spot, Meaning, IsLater, at, holds, Holds, Does, Acts, Comes, after_world, plain, beside, itself, said, letter_of, machine_of, course_of}
+use Rattle.cms_search.proofs.Holding.{holds_some, holds_idle}
+use Rattle.cms_search.proofs.Acts.{rose_until, later_does, usable_later, at_kept, holds_does, comes_then, comes_in, comes_does, comes_same, acts_done, acts_after, acts_caused, acts_stop, does_stop, no_memory}
 use Rattle.cms_session.specs.Commands.{command_of, type_word, erase_word, exec_word}
 use Rattle.cms_session.specs.declared.command.Command.{Command}
 use Rattle.cms_session.specs.declared.state.Round as rounds
 use Rattle.cms_session.specs.declared.state.Round.TheVariants as end
 use Rattle.cms_session.specs.declared.state.Finish.TheVariants as finish
-use Rattle.cms_session.specs.Machine.{Round, Ended, Ready, readied, is_procedure, is_procedure_on, unless_procedure, run_command, on_turn, on_item}
-use Rattle.cms_session.specs.Calls.{IsSeen, IsTest, IsTaken, procedure_name, an_item, machine_now, taking_tree, turning_tree, ready_text, round_after, round_of, ready_tree, command_tree, round_tree}
-use Rattle.cms_session.proofs.Seen.{some_entry}
+use Rattle.cms_session.specs.Machine.{Round, Ended, Ready, readied, is_procedure, is_procedure_on, unless_procedure, run_command, on_turn, on_command}
+use Rattle.cms_session.specs.Calls.{IsSeen, IsTest, procedure_name, machine_now, taking_tree, asking_tree, turning_tree, ready_text, round_after, round_in, round_of, ready_tree, command_tree, round_tree}
+use Rattle.cms_session.proofs.Seen.{HasParts, Shows, some_entry, seen_within, shows}
 
 -- ---- the console and the clock
 
@@ -60,70 +67,184 @@ NewConsole old new = new ≡ record old { console = new.console }
 machine_same : (old new : State) (units : List Slot) → NewConsole old new → machine_of new units ≡ machine_of old units
 machine_same old new units kept = ap (λ (s : State). machine_of s units) kept
 
-holds_console : (old new : Spot) (units : List Slot) → Idle old.told new.told → NewConsole old.state new.state → holds old units → holds new units
-holds_console old new units idle kept h =
-    subst (λ (disk : Option Disk). Holds new.told disk units) (sym (ap (λ (s : State). s.disk_a) kept)) (holds_idle old.told new.told old.state.disk_a units idle h)
-
-pub took : (old new : Spot) (l : ConsoleLine) → Took old.told new.told old.state.console new.state.console l → new.faults ≡ old.faults → NewConsole old.state new.state → Acts old new (taking_tree old.state) (Ok l) (an_item new.state item_of)
-took old new l t faults kept =
-    let idle : Idle old.told new.told = record { events = t.events; told = t.told; none = read_no_disk t.events t.only } in
+pub took : (old new : Spot) (l : ConsoleLine) → Took old.world.told new.world.told old.state.console new.state.console l
+    → new.world.faults ≡ old.world.faults → old.world.edges ≤ new.world.edges → NewConsole old.state new.state
+    → Acts old new (taking_tree old.state) (Ok l) (beside new.state item_of)
+took old new l t faults edges kept =
+    let idle : Idle old.world.told new.world.told = record { events = t.events; told = t.told; none = read_no_disk t.events t.only } in
+    let disk : new.state.disk_a ≡ old.state.disk_a = ap (λ (s : State). s.disk_a) kept in
+    let later : IsLater old.world new.world = record { grown = grown_idle old.world.told new.world.told idle; faults = omega (arith, faults); edges = edges } in
     record {
       each = λ units h.
           let same = machine_same old.state new.state units kept in
-          (units, (holds_console old new units idle kept h, rw same (ran_take (at old units) (at new units) (item_of l) (λ i. Done (machine_of old.state units, i)) t.events t.told t.only (omega (arith, faults)) refl t.takes)));
-      grown = grown_idle old.told new.told idle;
+          let held : Holds new.world.told old.state.disk_a units = holds_idle old.world.told new.world.told old.state.disk_a units idle h in
+          let ran = ran_take (at old units) (at new units) (item_of l) (λ i. Done (machine_of old.state units, i)) t.events t.told t.only
+          (omega (arith, faults)) refl t.takes in
+          (units, (subst (λ (d : Option Disk). Holds new.world.told d units) (sym disk) held, rw same ran));
+      later = later;
+      usable = usable_later old new later disk;
+      cause = tt;
+      fault = λ none. absurd none;
     }
 
-pub stayed : (old new : Spot) (e : End) → Stayed old.told new.told old.state.console new.state.console → new.faults ≡ old.faults → Acts {T = ConsoleLine} old new (taking_tree old.state) (Err e) (an_item new.state item_of)
-stayed old new e st faults =
-    let idle : Idle old.told new.told = record { events = st.events; told = st.told; none = read_no_disk st.events st.only } in
+pub stayed : (old new : Spot) (e : End) → Stayed old.world.told new.world.told old.state.console new.state.console
+    → new.world.faults ≡ old.world.faults → old.world.edges ≤ new.world.edges → (e ≡ Edge → Rose old.world.edges new.world.edges)
+    → Acts {T = ConsoleLine} old new (taking_tree old.state) (Err e) (beside new.state item_of)
+stayed old new e st faults edges cause =
+    let idle : Idle old.world.told new.world.told = record { events = st.events; told = st.told; none = read_no_disk st.events st.only } in
     record {
-      each = λ units h. (units, broke_take (at old units) (at new units) (λ i. Done (machine_of old.state units, i)) st.events st.told st.only st.keeps.lazy (omega (arith, faults)) refl);
-      grown = grown_idle old.told new.told idle;
+      each = λ units h. (
+        units,
+        broke_take (at old units) (at new units) (λ i. Done (machine_of old.state units, i)) st.events st.told st.only st.keeps.lazy (omega (arith, faults)) refl,
+      );
+      later = record { grown = grown_idle old.world.told new.world.told idle; faults = omega (arith, faults); edges = edges };
+      usable = λ u. tt;
+      cause = cause;
+      fault = tt;
     }
+
+-- the clock told its seconds
+pub clock_told : (before now : Seen) (seconds : ℤ) → now.told ≡ adds (Now seconds) before.told → now.faults ≡ before.faults → before.edges ≤ now.edges
+    → Does before now turning (Ok seconds) itself
+clock_told before now seconds told faults edges = record {
+  each = λ p journal same.
+      ran_turn p (after_world p now) seconds (λ m. Done m) (told ∙ ap (λ (t : Told). adds (Now seconds) t) (sym journal)) (omega (arith, faults, same)) refl
+      (record { unread = refl; ended = refl });
+  idle = record { events = Now seconds ∷ []; told = told; none = (tt, tt) };
+  faults = faults;
+  edges = edges;
+  cause = tt;
+}
+
+pub clock_failed : (before now : Seen) (e : End) → now.told ≡ before.told → now.faults ≡ before.faults → before.edges ≤ now.edges
+    → Rose before.edges now.edges → Does {T = ℤ} before now turning (Err e) itself
+clock_failed before now e told faults edges rose = record {
+  each = λ p journal same. broke_before p (after_world p now) turning (told ∙ sym journal) (omega (arith, faults, same)) refl;
+  idle = idle_same before.told now.told told;
+  faults = faults;
+  edges = edges;
+  cause = λ edge. rose;
+}
 
 -- a turn was spent at this moment
-pub turned_so : (old new : Spot) (seconds : ℤ) (moment : Moment) (left : ℕ) (x : Unit {0}) → new.told ≡ adds (Now seconds) old.told → new.faults ≡ old.faults → moment ≡ moment_of seconds old.state.offset
-    → new.state ≡ record old.state { moment = moment; left = left } → Acts old new (turning_tree old.state left) (Ok x) (machine_now new.state)
-turned_so old new seconds moment left x told faults is kept =
-    let idle : Idle old.told new.told = record { events = Now seconds ∷ []; told = told; none = (tt, tt) } in
+pub turned_so : (old new : Spot) (seconds : ℤ) (moment : Moment) (left : ℕ) (x : Unit {0}) → Does old.world new.world turning (Ok seconds) itself
+    → moment ≡ moment_of seconds old.state.offset → new.state ≡ record old.state { moment = moment; left = left }
+    → Acts old new (turning_tree old.state left) (Ok x) (machine_now new.state)
+turned_so old new seconds moment left x d is kept =
     let disk : new.state.disk_a ≡ old.state.disk_a = ap (λ (s : State). s.disk_a) kept in
+    let later = later_does old.world new.world turning (Ok seconds) itself d in
     record {
       each = λ units h.
           let machine : machine_of new.state units ≡ turned (machine_of old.state units) left seconds =
           ap (λ (s : State). machine_of s units) kept ∙ ap (λ (m : Moment). record (machine_of old.state units) { moment = m; left = left }) is in
-          let ran = ran_turn (at old units) (at new units) seconds (λ m. Done (turned (machine_of old.state units) left m)) told (omega (arith, faults)) refl
-          (record { unread = ap (λ (s : State). s.console.unread) kept; ended = ap (λ (s : State). s.console.ended) kept }) in
-          (units, (subst (λ (d : Option Disk). Holds new.told d units) (sym disk) (holds_idle old.told new.told old.state.disk_a units idle h), rw machine ran));
-      grown = grown_idle old.told new.told idle;
+          let ran : Ran (at old units) (after_world (at old units) new.world) (turning_tree old.state left units) (Done (turned (machine_of old.state units) left seconds)) =
+          ran_bind (λ m. Done (turned (machine_of old.state units) left m)) (d.each (at old units) refl refl) in
+          let point = at_kept old new units (ap (λ (s : State). s.console) kept) in
+          let there : Ran (at old units) (at new units) (turning_tree old.state left units) (Done (turned (machine_of old.state units) left seconds)) =
+          subst (λ (q : Point). Ran (at old units) q (turning_tree old.state left units) (Done (turned (machine_of old.state units) left seconds))) (sym point) ran in
+          (units, (holds_does old new turning (Ok seconds) itself units d disk h, rw machine there));
+      later = later;
+      usable = usable_later old new later disk;
+      cause = tt;
+      fault = λ none. absurd none;
     }
 
-pub not_turned : (old new : Spot) (left : ℕ) (e : End) → new.told ≡ old.told → new.faults ≡ old.faults → Acts {T = Unit {0}} old new (turning_tree old.state left) (Err e) (machine_now new.state)
-not_turned old new left e told faults = record {
-  each = λ units h. (units, broke_before (at old units) (at new units) (turning_tree old.state left units) told (omega (arith, faults)) refl);
-  grown = grown_idle old.told new.told (idle_same old.told new.told told);
+pub not_turned : (old new : Spot) (left : ℕ) (e : End) → Does {T = ℤ} old.world new.world turning (Err e) itself → new.state.console ≡ old.state.console
+    → Acts {T = Unit {0}} old new (turning_tree old.state left) (Err e) (machine_now new.state)
+not_turned old new left e d console = record {
+  each = λ units h.
+      let broke : Broke (at old units) (after_world (at old units) new.world) (turning_tree old.state left units) =
+      broke_bind (λ m. Done (turned (machine_of old.state units) left m)) (d.each (at old units) refl refl) in
+      (units, subst (λ (q : Point). Broke (at old units) q (turning_tree old.state left units)) (sym (at_kept old new units console)) broke);
+  later = later_does {T = ℤ} old.world new.world turning (Err e) itself d;
+  usable = λ u. tt;
+  cause = d.cause;
+  fault = tt;
 }
 
 -- ---- the ready line
 
-pub readied_so : (before : Told) (count : ℕ) (now : Told) (later : ℕ) (code : ℤ) (x : Unit {0}) (r : rounds.Round) → Does before count now later (ready_text (course.Went code)) (Ok x) (λ y. y) → Does before count now later (ready_text (course.Went code)) (Ok r) said
-readied_so before count now later code x r d = record { each = λ p journal same. d.each p journal same; idle = d.idle }
+pub readied_so : (before now : Seen) (code : ℤ) (x : Unit {0}) (r : rounds.Round) → Does before now (ready_text (course.Went code)) (Ok x) itself
+    → Does before now (ready_text (course.Went code)) (Ok r) said
+readied_so before now code x r d =
+    record { each = λ p journal same. d.each p journal same; idle = d.idle; faults = d.faults; edges = d.edges; cause = tt }
 
-pub ready_stops : (before : Told) (count : ℕ) (now : Told) (later : ℕ) (code : ℤ) (e : End) → Does {T = Unit {0}} before count now later (ready_text (course.Went code)) (Err e) (λ y. y)
-    → Does {T = rounds.Round} before count now later (ready_text (course.Went code)) (Err e) said
-ready_stops before count now later code e d = record { each = λ p journal same. d.each p journal same; idle = d.idle }
+pub ready_stops : (before now : Seen) (code : ℤ) (e : End) → Does {T = Unit {0}} before now (ready_text (course.Went code)) (Err e) itself
+    → Does {T = rounds.Round} before now (ready_text (course.Went code)) (Err e) said
+ready_stops before now code e d =
+    record { each = λ p journal same. d.each p journal same; idle = d.idle; faults = d.faults; edges = d.edges; cause = d.cause }
 
 -- as the end of a round
-pub readies : (old new : Spot) (c : declared.Course) (r : Result rounds.Round End) → Does old.told old.faults new.told new.faults (ready_text c) r said → IfOk r (λ x. x ≡ round_after c) → new.state ≡ old.state → Acts old new (ready_tree old.state c) r (round_of old.state)
+readies : (old new : Spot) (c : declared.Course) (r : Result rounds.Round End) → Does old.world new.world (ready_text c) r said
+    → IfOk r (λ x. x ≡ round_after c) → new.state ≡ old.state → Acts old new (ready_tree old.state c) r (plain (round_in old.state))
 readies old new (course.Went code) (Ok r) d after same =
     rw after
-    (acts_done old new (ready_tree old.state (course.Went code)) end.Ready (round_of old.state) (comes_does old new (ready_text (course.Went code)) (λ units y. Done (Ready (machine_of old.state units))) r said d same))
-readies old new (course.Went code) (Err e) d after same = does_stop {T = rounds.Round} old new (ready_text (course.Went code)) (λ units y. Done (Ready (machine_of old.state units))) e said (round_of old.state) d same
+    (acts_done old new (ready_tree old.state (course.Went code)) end.Ready (plain (round_in old.state))
+    (comes_does old new (ready_text (course.Went code)) (λ units y. Done (Ready (machine_of old.state units))) r said d same) (λ none. absurd none))
+readies old new (course.Went code) (Err e) d after same =
+    does_stop {T = rounds.Round} old new (ready_text (course.Went code)) (λ units y. Done (Ready (machine_of old.state units))) e said (plain (round_in old.state)) d same
 readies old new course.DeviceFault (Ok r) d after same =
     rw after
-    (acts_done old new (ready_tree old.state course.DeviceFault) (end.Ended finish.DeviceFault) (round_of old.state)
-    (comes_does old new (ready_text course.DeviceFault) (λ units y. Done (Ended finish.DeviceFault)) r said d same))
-readies old new course.DeviceFault (Err e) d after same = does_stop {T = rounds.Round} old new (ready_text course.DeviceFault) (λ units y. Done (Ended finish.DeviceFault)) e said (round_of old.state) d same
+    (acts_done old new (ready_tree old.state course.DeviceFault) (end.Ended finish.DeviceFault) (plain (round_in old.state))
+    (comes_does old new (ready_text course.DeviceFault) (λ units y. Done (Ended finish.DeviceFault)) r said d same) (λ none. absurd none))
+readies old new course.DeviceFault (Err e) d after same =
+    does_stop {T = rounds.Round} old new (ready_text course.DeviceFault) (λ units y. Done (Ended finish.DeviceFault)) e said (plain (round_in old.state)) d same
+
+-- a round ends by a fault where its command did
+ready_fault : (before mid now : ℕ) (c : declared.Course) (r : Result rounds.Round End) → (c ≡ course.DeviceFault → Rose before mid) → mid ≤ now
+    → IfOk r (λ x. x ≡ round_after c) → IfOk r (λ x. x ≡ end.Ended finish.DeviceFault → Rose before now)
+ready_fault before mid now (course.Went code) (Ok x) rose later after =
+    λ stopped. let e : end.Ready ≡ end.Ended finish.DeviceFault = sym after ∙ stopped in absurd (cc)
+ready_fault before mid now course.DeviceFault (Ok x) rose later after = λ stopped. rose_until before mid now later (rose refl)
+ready_fault before mid now (course.Went code) (Err e) rose later after = tt
+ready_fault before mid now course.DeviceFault (Err e) rose later after = tt
+
+-- ---- procedures
+
+pub type_part : is_part type_word ≡ true
+unfolding is_text_of is_name_character ebcdic code_of code_page
+type_part = refl
+
+pub erase_part : is_part erase_word ≡ true
+unfolding is_text_of is_name_character ebcdic code_of code_page
+erase_part = refl
+
+exec_part : is_part exec_word ≡ true
+unfolding is_text_of is_name_character ebcdic code_of code_page
+exec_part = refl
+
+pub type_exec_spelled : coded (codes "TYPE    EXEC    ") ≡ spelled (procedure_name type_word)
+unfolding filled ebcdic code_of code_page
+type_exec_spelled = refl
+
+pub erase_exec_spelled : coded (codes "ERASE   EXEC    ") ≡ spelled (procedure_name erase_word)
+unfolding filled ebcdic code_of code_page
+erase_exec_spelled = refl
+
+shown_test : (d : Disk) (name : Name) (place : Option ℕ) (j : Journal) (m : Minidisk) (bytes : List ℕ) → IsSeen d bytes place → Shows j d name place
+    → IsMinidisk j d.small m → is_some place ≡ is_some (seen_file (letter_of d) name m)
+shown_test d name None j m bytes seen shown is = ap (λ f. is_some f) (sym (shown m is))
+shown_test d name (Some k) j m bytes seen shown is =
+    ap (λ f. is_some f) (sym (shown m (some_entry d.small.files k (seen_within d bytes k seen)) is))
+
+-- the test says whether a procedure has the name of a word
+pub record Tells (old : Spot) (word : List ℕ) (test : Bool) : Type 0 where
+  pub each : (units : List Slot) → holds old units → test ≡ is_procedure_on units word (option_map letter_of old.state.disk_a)
+
+tells_on : (told : Told) (disk : Option Disk) (word bytes : List ℕ) (test : Bool) (units : List Slot) → HasParts (procedure_name word)
+    → bytes ≡ spelled (procedure_name word) → IsTest disk bytes test → Holds told disk units → test ≡ is_procedure_on units word (option_map letter_of disk)
+tells_on told None word bytes test units parts spelled_so is h = is
+tells_on told (Some d) word bytes test units parts spelled_so is h =
+    let held = holds_some told (Some d) units h in
+    let seat = held.2.disk_a d refl in
+    let slot = seat.slot in
+    let shown = shows d (procedure_name word) bytes is.0 parts spelled_so is.1.0 held.0 in
+    rw slot (is.1.1 ∙ shown_test d (procedure_name word) is.0 held.0 seat.minidisk bytes is.1.0 shown seat.is)
+
+pub tells : (old : Spot) (word bytes : List ℕ) (test : Bool) → is_part word ≡ true → bytes ≡ spelled (procedure_name word)
+    → IsTest old.state.disk_a bytes test → Tells old word test
+tells old word bytes test part spelled_so is =
+    record { each = λ units h. tells_on old.world.told old.state.disk_a word bytes test units (part, exec_part) spelled_so is h }
 
 -- ---- commands
 
@@ -131,148 +252,121 @@ readies old new course.DeviceFault (Err e) d after same = does_stop {T = rounds.
 abbrev pub guarded : State → List ℕ → (List Slot → Act Course) → List Slot → Act Round
 guarded s word tree units = unless_procedure (is_procedure (machine_of s units) word) (bind (tree units) readied)
 
-pub procedure_met : (old : Spot) (word : List ℕ) (tree : List Slot → Act Course) (test : Bool) → IsTest old.state.disk_a word test → test ≡ true → Acts old old (guarded old.state word tree) (Ok (end.Ended finish.NotBuilt)) (round_of old.state)
-procedure_met old word tree test is yes' = acts_done old old (guarded old.state word tree) (end.Ended finish.NotBuilt) (round_of old.state)
+pub procedure_met : (old : Spot) (word : List ℕ) (tree : List Slot → Act Course) (test : Bool) → Tells old word test → test ≡ true
+    → Acts old old (guarded old.state word tree) (Ok (end.Ended finish.NotBuilt)) (round_of old.state)
+procedure_met old word tree test is yes' =
+    acts_done old old (guarded old.state word tree) (end.Ended finish.NotBuilt) (round_of old.state)
     (comes_same old (guarded old.state word tree) (λ units. Done (Ended finish.NotBuilt))
-    (λ units h. ap (λ (b : Bool). unless_procedure b (bind (tree units) readied)) (sym (is old.told units h) ∙ yes')))
+    (λ units h. ap (λ (b : Bool). unless_procedure b (bind (tree units) readied)) (sym (is.each units h) ∙ yes')))
+    (λ stopped. absurd (cc))
 
-abbrev pub readied_tree : (List Slot → Act Course) → List Slot → Act Round
+abbrev readied_tree : (List Slot → Act Course) → List Slot → Act Round
 readied_tree tree units = bind (tree units) readied
 
-no_procedure : (old : Spot) (word : List ℕ) (tree : List Slot → Act Course) (test : Bool) → IsTest old.state.disk_a word test → test ≡ false → Comes old old (guarded old.state word tree) (readied_tree tree)
-no_procedure old word tree test is no' = comes_same old (guarded old.state word tree) (readied_tree tree)
-    (λ units h. ap (λ (b : Bool). unless_procedure b (bind (tree units) readied)) (sym (is old.told units h) ∙ no'))
+no_procedure : (old : Spot) (word : List ℕ) (tree : List Slot → Act Course) (test : Bool) → Tells old word test → test ≡ false
+    → Comes old old (guarded old.state word tree) (readied_tree tree)
+no_procedure old word tree test is no' =
+    comes_same old (guarded old.state word tree) (readied_tree tree)
+    (λ units h. ap (λ (b : Bool). unless_procedure b (bind (tree units) readied)) (sym (is.each units h) ∙ no'))
 
 -- a command was cut off
-pub guarded_stops : (old new : Spot) (word : List ℕ) (tree : List Slot → Act Course) (test : Bool) (e : End) (done : List Slot → declared.Course → Course) (ends : List Slot → rounds.Round → Round) → IsTest old.state.disk_a word test → test ≡ false
-    → Acts {T = declared.Course} old new tree (Err e) done → Acts old new (guarded old.state word tree) (Err e) ends
+pub guarded_stops : (old new : Spot) (word : List ℕ) (tree : List Slot → Act Course) (test : Bool) (e : End) (done : Meaning declared.Course Course)
+    (ends : Meaning rounds.Round Round) → Tells old word test → test ≡ false → Acts old new tree (Err e) done
+    → Acts old new (guarded old.state word tree) (Err e) ends
 guarded_stops old new word tree test e done ends is no' a =
-    acts_after old old new (guarded old.state word tree) (readied_tree tree) (Err e) ends (no_procedure old word tree test is no') (acts_stop old new tree readied e done ends a)
+    acts_after old old new (guarded old.state word tree) (readied_tree tree) (Err e) ends (no_procedure old word tree test is no')
+    (acts_stop old new tree readied e done ends a)
 
 -- a command was done, and its ready line
-pub guarded_done : (old mid new : Spot) (word : List ℕ) (tree : List Slot → Act Course) (test : Bool) (c : declared.Course) (r : Result rounds.Round End) → IsTest old.state.disk_a word test → test ≡ false
-    → Acts old mid tree (Ok c) (course_of mid.state) → Acts mid new (ready_tree mid.state c) r (round_of mid.state) → Acts old new (guarded old.state word tree) r (round_of mid.state)
-guarded_done old mid new word tree test c r is no' a b =
-    acts_after old mid new (guarded old.state word tree) (ready_tree mid.state c) r (round_of mid.state)
-    (comes_then old old mid (guarded old.state word tree) (readied_tree tree) (ready_tree mid.state c) (no_procedure old word tree test is no')
-    (comes_in old mid tree readied c (course_of mid.state) a)) b
+pub guarded_done : (old mid new : Spot) (word : List ℕ) (tree : List Slot → Act Course) (test : Bool) (c : declared.Course) (r : Result rounds.Round End)
+    → Tells old word test → test ≡ false → Acts old mid tree (Ok c) (course_of mid.state) → Does mid.world new.world (ready_text c) r said
+    → IfOk r (λ x. x ≡ round_after c) → new.state ≡ mid.state → Acts old new (guarded old.state word tree) r (round_of mid.state)
+guarded_done old mid new word tree test c r is no' a d after same =
+    let later = later_does mid.world new.world (ready_text c) r said d in
+    let comes = comes_then old old mid (guarded old.state word tree) (readied_tree tree) (ready_tree mid.state c) (no_procedure old word tree test is no')
+    (comes_in old mid tree readied c (course_of mid.state) a) in
+    acts_caused old new (guarded old.state word tree) r (round_of mid.state)
+    (acts_after old mid new (guarded old.state word tree) (ready_tree mid.state c) r (plain (round_in mid.state)) comes (readies mid new c r d after same))
+    (ready_fault old.world.faults mid.world.faults new.world.faults c r a.fault later.faults after)
 
 -- ---- what a line asks for
 
-pub command_lost : (old new : Spot) (l : ConsoleLine) (e : End) → Acts old new (taking_tree old.state) (Ok l) (an_item new.state item_of) → IsTaken old new (Err e)
-command_lost old new l e a = record { each = λ units h. let x = a.each units h in (x.0, broke_here x.1.1); grown = a.grown }
+abbrev then_asked : Machine × Option Item → Act (Machine × Option Command)
+then_asked x = Done (x.0, option_map command_of x.1)
 
-pub command_taken : (old new : Spot) (l : ConsoleLine) (command : Option Command) → command ≡ option_map command_of (item_of l) → Acts old new (taking_tree old.state) (Ok l) (an_item new.state item_of) → IsTaken old new (Ok command)
-command_taken old new l command is a = (item_of l, (is, record { each = a.each; grown = a.grown }))
+asked_of_line : (old new : Spot) (l : ConsoleLine) → Acts old new (taking_tree old.state) (Ok l) (beside new.state item_of)
+    → Comes old new (asking_tree old.state) (λ units. Done (machine_of new.state units, option_map command_of (item_of l)))
+asked_of_line old new l a = comes_in old new (taking_tree old.state) then_asked l (beside new.state item_of) a
 
-pub line_lost : (old new : Spot) (e : End) → Acts {T = ConsoleLine} old new (taking_tree old.state) (Err e) (an_item new.state item_of) → IsTaken old new (Err e)
-line_lost old new e a = record { each = a.each; grown = a.grown }
+pub command_taken : (old new : Spot) (l : ConsoleLine) (command : Option Command) → command ≡ option_map command_of (item_of l)
+    → Acts old new (taking_tree old.state) (Ok l) (beside new.state item_of) → Acts old new (asking_tree old.state) (Ok command) (beside new.state itself)
+command_taken old new l command is a =
+    rw is
+    (acts_done old new (asking_tree old.state) (option_map command_of (item_of l)) (beside new.state itself) (asked_of_line old new l a) (λ none. absurd none))
 
--- ---- procedures
+pub command_lost : (old new : Spot) (l : ConsoleLine) → Acts old new (taking_tree old.state) (Ok l) (beside new.state item_of)
+    → Acts old new (asking_tree old.state) (Err Memory) (beside {T = Option Command} new.state itself)
+command_lost old new l a =
+    no_memory old new (asking_tree old.state) (λ units. Done (machine_of new.state units, option_map command_of (item_of l))) (beside new.state itself)
+    (asked_of_line old new l a)
 
-pub type_part : is_part type_word ≡ true
-unfolding is_text_of is_name_character
-type_part = refl
-
-pub erase_part : is_part erase_word ≡ true
-unfolding is_text_of is_name_character
-erase_part = refl
-
-pub exec_part : is_part exec_word ≡ true
-unfolding is_text_of is_name_character
-exec_part = refl
-
-pub type_exec_spelled : 0xE3 ∷ 0xE8 ∷ 0xD7 ∷ 0xC5 ∷ 0x40 ∷ 0x40 ∷ 0x40 ∷ 0x40 ∷ 0xC5 ∷ 0xE7 ∷ 0xC5 ∷ 0xC3 ∷ 0x40 ∷ 0x40 ∷ 0x40 ∷ 0x40 ∷ [] ≡ spelled (procedure_name type_word)
-unfolding filled
-type_exec_spelled = refl
-
-pub erase_exec_spelled : 0xC5 ∷ 0xD9 ∷ 0xC1 ∷ 0xE2 ∷ 0xC5 ∷ 0x40 ∷ 0x40 ∷ 0x40 ∷ 0xC5 ∷ 0xE7 ∷ 0xC5 ∷ 0xC3 ∷ 0x40 ∷ 0x40 ∷ 0x40 ∷ 0x40 ∷ [] ≡ spelled (procedure_name erase_word)
-unfolding filled
-erase_exec_spelled = refl
-
-seen_test : (d : Disk) (name : Name) (place : Option ℕ) (j : Journal) (m : Minidisk) → IfSome place (λ k. k < length d.small.files) → IsSeen j d name place → IsMinidisk j d.small m → is_some place ≡ is_some (seen_file (letter_of d) name m)
-seen_test d name None j m within seen is = ap (λ f. is_some f) (sym (seen m is))
-seen_test d name (Some k) j m within seen is = ap (λ f. is_some f) (sym (seen m (some_entry d.small.files k within) is))
-
-pub procedure_is : (told : Told) (disk : Option Disk) (d : Disk) (word : List ℕ) (units : List Slot) (place : Option ℕ) (test : Bool) → disk ≡ Some d → test ≡ is_some place → IfSome place (λ k. k < length d.small.files)
-    → ((j : Journal) → IsSeen j d (procedure_name word) place) → Holds told disk units → test ≡ is_procedure_on units word (option_map letter_of disk)
-procedure_is told disk d word units place test is tests within seen h =
-    let held = holds_some told disk units h in
-    let seat = held.2.disk_a d is in
-    let slot = seat.slot in
-    rw (is, slot) (tests ∙ seen_test d (procedure_name word) place held.0 seat.minidisk within (seen held.0) seat.is)
+pub line_lost : (old new : Spot) (e : End) → Acts {T = ConsoleLine} old new (taking_tree old.state) (Err e) (beside new.state item_of)
+    → Acts old new (asking_tree old.state) (Err e) (beside {T = Option Command} new.state itself)
+line_lost old new e a = acts_stop old new (taking_tree old.state) then_asked e (beside new.state item_of) (beside new.state itself) a
 
 -- ---- rounds
 
-comes_bind : {A R : Type 0} (old mid : Spot) (t : List Slot → Act A) (f : A → Act R) (d : List Slot → A) → Comes old mid t (λ units. Done (d units)) → Comes old mid (λ units. bind (t units) f) (λ units. f (d units))
-comes_bind old mid t f d c = record { each = λ units h. let y = c.each units h in (y.0, (y.1.0, ran_bind f y.1.1)); grown = c.grown }
+-- a line was taken, or the script's end found, and asks for this
+abbrev pub HasAsked : Spot → Spot → Option Command → Type 0
+HasAsked old mid command = Acts old mid (asking_tree old.state) (Ok command) (beside mid.state itself)
 
-abbrev pub item_tree : State → Option Item → List Slot → Act Round
-item_tree s item units = on_item (machine_of s units) item
+abbrev asked_tree : State → Option Command → List Slot → Act Round
+asked_tree s command units = on_command (machine_of s units) command
 
-abbrev then_item : Machine × Option Item → Act Round
-then_item x = on_item x.0 x.1
+abbrev then_on : Machine × Option Command → Act Round
+then_on x = on_command x.0 x.1
 
-taken : (old mid : Spot) (item : Option Item) → Comes old mid (taking_tree old.state) (λ units. Done (machine_of mid.state units, item)) → Comes old mid (round_tree old.state) (item_tree mid.state item)
-taken old mid item c = comes_bind old mid (taking_tree old.state) then_item (λ units. (machine_of mid.state units, item)) c
+asked : (old mid : Spot) (command : Option Command) → HasAsked old mid command → Comes old mid (round_tree old.state) (asked_tree mid.state command)
+asked old mid command a = comes_in old mid (asking_tree old.state) then_on command (beside mid.state itself) a
 
-pub take_stops : (old new : Spot) (e : End) (ends : List Slot → rounds.Round → Round) → IsTaken old new (Err e) → Acts old new (round_tree old.state) (Err e) ends
-take_stops old new e ends a = acts_stop old new (taking_tree old.state) then_item e (an_item new.state (λ (item : Option Item). item)) ends a
-
-pub finished_so : (old new : Spot) → IsTaken old new (Ok None) → Acts old new (round_tree old.state) (Ok (end.Ended finish.AtEnd)) (round_of new.state)
-finished_so old new t = go t.0 t.1.0 t.1.1
-  where
-    go : (item : Option Item) → None ≡ option_map command_of item → Comes old new (taking_tree old.state) (λ units. Done (machine_of new.state units, item)) → Acts old new (round_tree old.state) (Ok (end.Ended finish.AtEnd)) (round_of new.state)
-    go None is c = acts_done old new (round_tree old.state) (end.Ended finish.AtEnd) (round_of new.state) (taken old new None c)
-    go (Some item) is c = absurd (cc)
-
-abbrev pub turn_tree : State → Item → ℕ → List Slot → Act Round
-turn_tree s item left units = on_turn (machine_of s units) item left
-
--- a line was taken, and asks for this
-abbrev pub IsLined : Spot → Spot → Command → Type 0
-IsLined old mid command = (item : Item) × ((command ≡ command_of item) × Comes old mid (round_tree old.state) (turn_tree mid.state item mid.state.left))
-
-pub lined : (old mid : Spot) (command : Command) → IsTaken old mid (Ok (Some command)) → IsLined old mid command
-lined old mid command t = go t.0 t.1.0 t.1.1
-  where
-    go : (item : Option Item) → Some command ≡ option_map command_of item → Comes old mid (taking_tree old.state) (λ units. Done (machine_of mid.state units, item)) → IsLined old mid command
-    go None is c = absurd (cc)
-    go (Some item) is c = let same : command ≡ command_of item = cc in (item, (same, taken old mid (Some item) c))
-
-pub no_turns : (old new : Spot) (command : Command) → IsLined old new command → new.state.left ≡ 0 → Acts old new (round_tree old.state) (Ok (end.Ended finish.AtTurns)) (round_of new.state)
-no_turns old new command l none =
-    acts_done old new (round_tree old.state) (end.Ended finish.AtTurns) (round_of new.state) (subst (λ (n : ℕ). Comes old new (round_tree old.state) (turn_tree new.state l.0 n)) none l.1.1)
-
-abbrev then_command : Item → Machine → Act Round
-then_command item m = run_command m (command_of item)
-
-pub turn_stops : (old mid new : Spot) (n : ℕ) (command : Command) (e : End) (ends : List Slot → rounds.Round → Round) → IsLined old mid command → mid.state.left ≡ suc n → Acts {T = Unit {0}} mid new (turning_tree mid.state n) (Err e) (machine_now new.state)
+pub take_stops : (old new : Spot) (e : End) (ends : Meaning rounds.Round Round) → Acts old new (asking_tree old.state) (Err e) (beside {T = Option Command} new.state itself)
     → Acts old new (round_tree old.state) (Err e) ends
-turn_stops old mid new n command e ends l some a =
-    acts_after old mid new (round_tree old.state) (turn_tree mid.state l.0 (suc n)) (Err e) ends (subst (λ (k : ℕ). Comes old mid (round_tree old.state) (turn_tree mid.state l.0 k)) some l.1.1)
-    (acts_stop mid new (turning_tree mid.state n) (then_command l.0) e (machine_now {T = Unit {0}} new.state) ends a)
+take_stops old new e ends a = acts_stop old new (asking_tree old.state) then_on e (beside {T = Option Command} new.state itself) ends a
 
-pub begun : (old mid new : Spot) (n : ℕ) (command : Command) (x : Unit {0}) → IsLined old mid command → mid.state.left ≡ suc n → Acts mid new (turning_tree mid.state n) (Ok x) (machine_now new.state)
-    → Comes old new (round_tree old.state) (command_tree new.state command)
-begun old mid new n command x l some a =
-    let same : command_of l.0 ≡ command = sym l.1.0 in
-    subst (λ (c : Command). Comes old new (round_tree old.state) (command_tree new.state c)) same
-    (comes_then old mid new (round_tree old.state) (turn_tree mid.state l.0 (suc n)) (command_tree new.state (command_of l.0)) (subst (λ (k : ℕ). Comes old mid (round_tree old.state) (turn_tree mid.state l.0 k)) some l.1.1)
-    (comes_in mid new (turning_tree mid.state n) (then_command l.0) x (machine_now new.state) a))
+pub finished_so : (old new : Spot) → HasAsked old new None → Acts old new (round_tree old.state) (Ok (end.Ended finish.AtEnd)) (round_of new.state)
+finished_so old new a =
+    acts_done old new (round_tree old.state) (end.Ended finish.AtEnd) (round_of new.state) (asked old new None a) (λ stopped. absurd (cc))
 
--- and what it asks for was done
-pub command_done : (old mid new : Spot) (command : Command) (r : Result rounds.Round End) (ends : List Slot → rounds.Round → Round) → Comes old mid (round_tree old.state) (command_tree mid.state command)
-    → Acts mid new (command_tree mid.state command) r ends → Acts old new (round_tree old.state) r ends
-command_done old mid new command r ends g a = acts_after old mid new (round_tree old.state) (command_tree mid.state command) r ends g a
+abbrev turn_tree : State → Command → ℕ → List Slot → Act Round
+turn_tree s command left units = on_turn (machine_of s units) command left
 
--- ---- the disk that may be read
+-- with so many turns left
+asked_with : (old mid : Spot) (command : Command) (n : ℕ) → HasAsked old mid (Some command) → mid.state.left ≡ n
+    → Comes old mid (round_tree old.state) (turn_tree mid.state command n)
+asked_with old mid command n a left =
+    subst (λ (k : ℕ). Comes old mid (round_tree old.state) (turn_tree mid.state command k)) left (asked old mid (Some command) a)
 
-pub usable_taken : (old new : Spot) (command : Option Command) → IsTaken old new (Ok command) → NewConsole old.state new.state → Usable old.told old.state.disk_a → Usable new.told new.state.disk_a
-usable_taken old new command t kept usable =
-    let disk : new.state.disk_a ≡ old.state.disk_a = ap (λ (s : State). s.disk_a) kept in
-    rw disk (usable_grown old.told new.told old.state.disk_a t.1.1.grown usable)
+pub no_turns : (old new : Spot) (command : Command) → HasAsked old new (Some command) → new.state.left ≡ 0
+    → Acts old new (round_tree old.state) (Ok (end.Ended finish.AtTurns)) (round_of new.state)
+no_turns old new command a none =
+    acts_done old new (round_tree old.state) (end.Ended finish.AtTurns) (round_of new.state) (asked_with old new command 0 a none) (λ stopped. absurd (cc))
 
-pub usable_turned : (old mid new : Spot) (command : Option Command) (n : ℕ) (x : Unit {0}) → IsTaken old mid (Ok command) → NewConsole old.state mid.state → Acts mid new (turning_tree mid.state n) (Ok x) (machine_now new.state) → new.state.disk_a ≡ mid.state.disk_a
-    → Usable old.told old.state.disk_a → Usable new.told new.state.disk_a
-usable_turned old mid new command n x t kept a disk usable = rw disk (usable_grown mid.told new.told mid.state.disk_a a.grown (usable_taken old mid command t kept usable))
+abbrev then_command : Command → Machine → Act Round
+then_command command m = run_command m command
+
+pub turn_stops : (old mid new : Spot) (n : ℕ) (command : Command) (e : End) (ends : Meaning rounds.Round Round) → HasAsked old mid (Some command)
+    → mid.state.left ≡ suc n → Acts {T = Unit {0}} mid new (turning_tree mid.state n) (Err e) (machine_now new.state)
+    → Acts old new (round_tree old.state) (Err e) ends
+turn_stops old mid new n command e ends asked some a =
+    acts_after old mid new (round_tree old.state) (turn_tree mid.state command (suc n)) (Err e) ends (asked_with old mid command (suc n) asked some)
+    (acts_stop mid new (turning_tree mid.state n) (then_command command) e (machine_now {T = Unit {0}} new.state) ends a)
+
+-- what it asks for was done
+pub command_done : (old mid begun new : Spot) (n : ℕ) (command : Command) (x : Unit {0}) (r : Result rounds.Round End) (ends : Meaning rounds.Round Round)
+    → HasAsked old mid (Some command) → mid.state.left ≡ suc n → Acts mid begun (turning_tree mid.state n) (Ok x) (machine_now begun.state)
+    → Acts begun new (command_tree begun.state command) r ends → Acts old new (round_tree old.state) r ends
+command_done old mid begun new n command x r ends asked some turn a =
+    acts_after old begun new (round_tree old.state) (command_tree begun.state command) r ends
+    (comes_then old mid begun (round_tree old.state) (turn_tree mid.state command (suc n)) (command_tree begun.state command)
+    (asked_with old mid command (suc n) asked some) (comes_in mid begun (turning_tree mid.state n) (then_command command) x (machine_now begun.state) turn))
+    a

@@ -1,8 +1,9 @@
 -- Files of disk A by their names.
-use Rattle.std.proofs.Common.{◌≡◌, ◌≢◌, ℕ, zero, suc, ◌+◌, ◌<◌, ◌≤◌, true, false, List, [], ◌∷◌, ◌++◌, map, length, take, drop, slice_index_or, Some, None, Result, Ok, Err, refl, ap, sym, ◌∙◌, subst, arith}
+use Rattle.std.proofs.Common.{◌≡◌, ◌≢◌, inl, inr, Option, ℕ, zero, suc, ◌+◌, ◌<◌, ◌≤◌, true, false, List, [], ◌∷◌, map, length, take, drop, slice_index_or, Some, None, Result, Ok, Err, refl, ap, sym, ◌∙◌, subst, arith}
 use Rattle.std.specs.Prelude.{◌&&◌, ◌==◌}
 use Rattle.std.specs.List.{prefix_len}
 use Rattle.std.proofs.lemmas.Bool.{and_parts, and_from, le-leb}
+use Rattle.std.proofs.lemmas.List.{length-take}
 use Rattle.std.proofs.lemmas.List.Sums.{prefix_len-le-length}
 use Rattle.std.proofs.lemmas.List.Folds.{length-prefix_len}
 use Rattle.std.proofs.Math.Seq.{take-append_seam, drop-append_seam}
@@ -28,31 +29,26 @@ use Rattle.cms_edf.specs.Small.{SmallVolume, IsMinidisk, IsPlaceOf, contents_ima
 use Rattle.cms_search.specs.Machine.{seen_file}
 use Rattle.cms_search.specs.Calls.{letter_of}
 use Rattle.cms_search.specs.declared.state.Disk.{Disk}
-use Rattle.cms_session.specs.Calls.{file_in}
+use Rattle.cms_session.specs.Calls.{IsSeen, file_in}
 
 -- ---- names that are spelled the same are the same
 
 abbrev pub HasParts : Name → Type 0
 HasParts n = (is_part n.file ≡ true) × (is_part n.kind ≡ true)
 
-pub take_front : (n : ℕ) (xs ys : List ℕ) → length xs ≡ n → take n (xs ++ ys) ≡ xs
-take_front n xs ys e = rw (sym e) (take-append_seam xs ys)
-
-drop_front : (n : ℕ) (xs ys : List ℕ) → length xs ≡ n → drop n (xs ++ ys) ≡ ys
-drop_front n xs ys e = rw (sym e) (drop-append_seam xs ys)
-
 filled_same : (a b : List ℕ) → is_part a ≡ true → is_part b ≡ true → filled a ≡ filled b → a ≡ b
 filled_same a b a_part b_part is = sym (part_in-filled a a_part) ∙ ap part_in is ∙ part_in-filled b b_part
 
 pub spelled_same : (a b : Name) → HasParts a → HasParts b → spelled a ≡ spelled b → a ≡ b
 spelled_same a b a_parts b_parts is =
-    let long_a = length-filled a.file a_parts.0 in
-    let long_b = length-filled b.file b_parts.0 in
-    let file : filled a.file ≡ filled b.file = sym (take_front 8 (filled a.file) (filled a.kind) long_a) ∙ ap (take 8) is ∙ take_front 8 (filled b.file) (filled b.kind) long_b in
-    let kind : filled a.kind ≡ filled b.kind = sym (drop_front 8 (filled a.file) (filled a.kind) long_a) ∙ ap (drop 8) is ∙ drop_front 8 (filled b.file) (filled b.kind) long_b in
-    let f = filled_same a.file b.file a_parts.0 b_parts.0 file in
-    let k = filled_same a.kind b.kind a_parts.1 b_parts.1 kind in
-    named a b f k
+    let x = filled a.file in
+    let y = filled b.file in
+    let long : length x ≡ length y = length-filled a.file a_parts.0 ∙ sym (length-filled b.file b_parts.0) in
+    let file : x ≡ y =
+    sym (take-append_seam x (filled a.kind)) ∙ ap (take (length x)) is ∙ ap (λ (n : ℕ). take n (spelled b)) long ∙ take-append_seam y (filled b.kind) in
+    let kind : filled a.kind ≡ filled b.kind =
+    sym (drop-append_seam x (filled a.kind)) ∙ ap (drop (length x)) is ∙ ap (λ (n : ℕ). drop n (spelled b)) long ∙ drop-append_seam y (filled b.kind) in
+    named a b (filled_same a.file b.file a_parts.0 b_parts.0 file) (filled_same a.kind b.kind a_parts.1 b_parts.1 kind)
   where
     named : (x y : Name) → x.file ≡ y.file → x.kind ≡ y.kind → x ≡ y
     named x y f k = ap (λ (file : List ℕ). record { file = file; kind = x.kind }) f ∙ ap (λ (kind : List ℕ). record { file = y.file; kind = kind }) k
@@ -60,9 +56,7 @@ spelled_same a b a_parts b_parts is =
 -- ---- the names of a volume's entries are of parts
 
 few_taken : (n : ℕ) (xs : List ℕ) → length (take n xs) ≤ n
-few_taken zero xs = omega arith
-few_taken (suc n) [] = omega arith
-few_taken (suc n) (x ∷ xs) = let ih = few_taken n xs in omega (arith, ih)
+few_taken n xs = omega (arith, length-take n xs)
 
 few_in : (a b c : ℕ) → a ≡ b → b ≤ c → c ≤ 8 → a ≤ 8
 few_in a b c same less few = omega (arith, same, less, few)
@@ -81,7 +75,10 @@ unfolding entry_fields name_at has_name
 entry_parts bsize bytes e is =
     let tests = entry_is bsize bytes e is in
     let both = and_parts (is_part_field (take 8 bytes)) (is_part_field (take 8 (drop 8 bytes))) tests.name in
-    subst (λ (x : Entry). HasParts x.name) tests.fields (field_part (take 8 bytes) (few_taken 8 bytes) both.0, field_part (take 8 (drop 8 bytes)) (few_taken 8 (drop 8 bytes)) both.1)
+    subst (λ (x : Entry). HasParts x.name) tests.fields (
+      field_part (take 8 bytes) (few_taken 8 bytes) both.0,
+      field_part (take 8 (drop 8 bytes)) (few_taken 8 (drop 8 bytes)) both.1,
+    )
 
 abbrev pub AllHaveParts : List Entry → Type 0
 AllHaveParts [] = Unit {0}
@@ -178,3 +175,23 @@ hidden j d name m k parts is place not_seen =
 pub shown : (j : Journal) (d : Disk) (name : Name) (m : Minidisk) (k : ℕ) (e : Entry) → HasParts name → IsMinidisk j d.small m → IsPlaceOf (spelled name) d.small.files (Some k)
     → (d.read_only && ((slice_index_or d.small.files k e).number == 0)) ≡ false → seen_file (letter_of d) name m ≡ Some (file_in (contents_image j d.small) (slice_index_or d.small.files k e))
 shown j d name m k e parts is place seen = rw (file_there j d name m k e parts is place, seen) refl
+
+-- what a disk that is a minidisk of a journal shows of a name: nothing, or the file of the entry at a place
+abbrev pub Shows : Journal → Disk → Name → Option ℕ → Type 0
+Shows j d name None = (m : Minidisk) → IsMinidisk j d.small m → seen_file (letter_of d) name m ≡ None
+Shows j d name (Some k) =
+    (m : Minidisk) (e : Entry) → IsMinidisk j d.small m
+    → seen_file (letter_of d) name m ≡ Some (file_in (contents_image j d.small) (slice_index_or d.small.files k e))
+
+place_of : (bytes : List ℕ) (name : Name) (d : Disk) (place : Option ℕ) → bytes ≡ spelled name → IsPlaceOf bytes d.small.files place
+    → IsPlaceOf (spelled name) d.small.files place
+place_of bytes name d place is h = subst (λ (b : List ℕ). IsPlaceOf b d.small.files place) is h
+
+pub shows : (d : Disk) (name : Name) (bytes : List ℕ) (place : Option ℕ) → HasParts name → bytes ≡ spelled name → IsSeen d bytes place
+    → (j : Journal) → Shows j d name place
+shows d name bytes None parts is (inl none) j = λ m there. not_found j d name m there (place_of bytes name d None is none)
+shows d name bytes None parts is (inr h) j = λ m there. hidden j d name m h.0 parts there (place_of bytes name d (Some h.0) is h.1.0) h.1.1
+shows d name bytes (Some k) parts is seen j = λ m e there. shown j d name m k e parts there (place_of bytes name d (Some k) is seen.0) (seen.1 e)
+
+pub seen_within : (d : Disk) (bytes : List ℕ) (k : ℕ) → IsSeen d bytes (Some k) → k < length d.small.files
+seen_within d bytes k seen = seen.0.0

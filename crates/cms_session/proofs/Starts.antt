@@ -250,7 +250,7 @@ labelled disk image (inl few) other = let e : false ≡ true = sym few ∙ other
 labelled disk image (inr h) other = let e : err_label h.0 ≡ ok_label other.label = sym h.1 ∙ other.passes.1 in cc
 
 pub found_none : (spec : Asked) (unit : Attached) (faults : ℕ) → spec.unit.vdev ≢ 0x191 → FoundAs spec unit faults faults (Ok None)
-found_none spec unit faults other = (holds_none unit, λ u. other u.0, ran_no_device spec unit faults other)
+found_none spec unit faults other = record { holds = holds_none unit; built = λ u. other u.0; ran = ran_no_device spec unit faults other }
 
 pub found_small : (spec : Asked) (unit : Attached) (told : Told) (looked : LookedAt) (number before now : ℕ) (small : SmallVolume) (read_only : Bool) → spec.unit.vdev ≡ 0x191 → IsBlockSize looked.bsize → IsAlone told looked number unit → read_only ≡ not (may_write spec.unit.access)
     → before ≤ now → Answered told looked number (Ok small) → FoundAs spec unit before now (Ok (Some (record { small = small; read_only = read_only })))
@@ -261,13 +261,21 @@ found_small spec unit told looked number before now small read_only device size 
     let disk : Disk = record { small = small; read_only = read_only } in
     let letter : disk_a_of spec ≡ letter_of disk = ap (λ (n : ℕ). record (disk_a_of spec) { unit = n }) (sym answer.0) ∙ ap (λ (b : Bool). record (letter_of disk) { read_only = b }) (sym access) in
     let same : found_on (disk_a_of spec) (Settled (Volume found.0)) ≡ option_map letter_of (Some disk) = ap (λ (d : Letter). Some d) letter in
-    (holds_disk unit disk found.0 answer.0 found.1.0 found.1.1, λ u. built unit small (sym answer.1) answer.2 u.1, ran_found spec unit before now (Volume found.0) (Some disk) device later found.1.0 same)
+    record {
+      holds = holds_disk unit disk found.0 answer.0 found.1.0 found.1.1;
+      built = λ u. built unit small (sym answer.1) answer.2 u.1;
+      ran = ran_found spec unit before now (Volume found.0) (Some disk) device later found.1.0 same;
+    }
 
 pub found_unlabelled : (spec : Asked) (unit : Attached) (told : Told) (looked : LookedAt) (number before now : ℕ) → spec.unit.vdev ≡ 0x191 → IsAlone told looked number unit → before ≤ now → Answered told looked number (Err NoVolume) → FoundAs spec unit before now (Ok None)
 found_unlabelled spec unit told looked number before now device alone later h =
     let none : HasNoLabel (disk_of unit) (image_of unit.start) = subst (HasNoLabel (disk_of unit)) (first_image unit) (answered_at told looked number unit (Err NoVolume) alone h) in
     let state = state_unlabelled (disk_of unit) (image_of unit.start) none in
-    (holds_none unit, λ u. labelled (disk_of unit) (image_of unit.start) none u.1, ran_found spec unit before now (Not state.0) None device later state.1 refl)
+    record {
+      holds = holds_none unit;
+      built = λ u. labelled (disk_of unit) (image_of unit.start) none u.1;
+      ran = ran_found spec unit before now (Not state.0) None device later state.1 refl;
+    }
 
 pub found_not_built : (spec : Asked) (unit : Attached) (told : Told) (looked : LookedAt) (number : ℕ) → spec.unit.vdev ≡ 0x191 → IsAlone told looked number unit → Answered told looked number (Err NotBuilt)
     → (spec.unit.vdev ≡ 0x191) × IsNotBuilt (disk_of unit) (image_of unit.start)

@@ -1,25 +1,26 @@
 -- What a line of the console asks for.
-use Rattle.std.specs.Prelude.{ℕ, Bool, true, if◌then◌else◌, ◌==◌, ◌&&◌, ◌||◌, List, [], ◌∷◌}
+use Rattle.std.specs.Prelude.{ℕ, Bool, true, if◌then◌else◌, ◌==◌, ◌&&◌, ◌||◌, List, [], ◌∷◌, codes}
 use Rattle.std.specs.List.{list_all, slice_split}
 use Rattle.cms_names.specs.Names.{is_part}
 use Rattle.cms_names.specs.declared.name.Name.{Name}
+use Rattle.cms_text.specs.Texts.{ebcdic}
 use Rattle.cms_model.specs.Lists.{same}
 use Rattle.cms_machine.specs.Items.{Item, Text, Bad, Long, Rest}
 use Rattle.cms_session.specs.declared.command.Command.{Command}
 use Rattle.cms_session.specs.declared.command.Command.TheVariants.{Nothing, TypeFile, EraseFile, NotBuilt}
 
--- TYPE, ERASE, EXEC and A in EBCDIC
+-- the words of commands, the file type of procedures, and the letter A
 abbrev pub type_word : List ℕ
-type_word = 0xE3 ∷ 0xE8 ∷ 0xD7 ∷ 0xC5 ∷ []
+type_word = ebcdic (codes "TYPE")
 
 abbrev pub erase_word : List ℕ
-erase_word = 0xC5 ∷ 0xD9 ∷ 0xC1 ∷ 0xE2 ∷ 0xC5 ∷ []
+erase_word = ebcdic (codes "ERASE")
 
 abbrev pub exec_word : List ℕ
-exec_word = 0xC5 ∷ 0xE7 ∷ 0xC5 ∷ 0xC3 ∷ []
+exec_word = ebcdic (codes "EXEC")
 
 abbrev pub letter_a : List ℕ
-letter_a = 0xC1 ∷ []
+letter_a = ebcdic (codes "A")
 
 -- a line of blanks, or one that begins with an asterisk
 unfoldable pub is_comment : List ℕ → Bool

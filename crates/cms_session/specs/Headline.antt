@@ -20,21 +20,13 @@ use Rattle.cms_machine.specs.Beats.{outcomes}
 use Rattle.cms_machine.specs.Runs.{Broke, events_of}
 use Rattle.cms_fields.specs.Moments.{moment_of}
 use Rattle.cms_search.specs.Machine.{Letter, Machine}
+use Rattle.cms_search.specs.Calls.{Seen}
 use Rattle.cms_search.specs.declared.state.Device.{Device}
 use Rattle.cms_session.specs.Machine.{machine, started}
 use Rattle.cms_session.specs.declared.state.Finish.{Finish}
 use Rattle.cms_session.specs.declared.state.Finish.TheVariants as finish
 use Rattle.cms_session.specs.declared.status.Status.{Status}
 use Rattle.cms_session.specs.declared.status.Status.TheVariants.{Done, Usage, Memory, World, Turns, NotBuilt}
-
--- what a world shows of itself: its journal and its two counts
-pub record Seen : Type 0 where
-  pub told : Told
-  pub edges : ℕ
-  pub faults : ℕ
-
-abbrev pub seen : Told → ℕ → ℕ → Seen
-seen told edges faults = record { told = told; edges = edges; faults = faults }
 
 -- ---- the start
 

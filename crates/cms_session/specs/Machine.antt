@@ -1,6 +1,6 @@
 -- The machine: minidisks as lists of named record lists, and what a session does with them. No block occurs here.
 use Rattle.std.specs.Prelude.{ℕ, zero, suc, ◌+◌, ℤ, pos, Bool, true, false, not, if◌then◌else◌, ◌==◌, List, [], ◌∷◌, take, length, replicate, Option, Some, None, slice_get, is_some}
-use Rattle.std.specs.Option.{option_and_then}
+use Rattle.std.specs.Option.{option_and_then, option_map}
 use Rattle.cms_names.specs.declared.name.Name.{Name}
 use Rattle.cms_fields.specs.Moments.{stamp_of}
 use Rattle.cms_fields.specs.declared.time.Stamp.{Stamp}
@@ -8,7 +8,7 @@ use Rattle.cms_model.specs.Minidisks.{File, Minidisk, Volume, Not}
 use Rattle.cms_model.specs.Changes.{Drop, Answer, Limited, Full, Changed, answer_of, file_named}
 use Rattle.cms_machine.specs.Slots.{Slot, Settled, Doubt}
 use Rattle.cms_machine.specs.Steps.{Step, Access, Get, Put, Outcome, Good, ReadFault, SyncFault, OldFault, EitherFault}
-use Rattle.cms_machine.specs.Items.{Item, items}
+use Rattle.cms_machine.specs.Items.{items}
 use Rattle.cms_machine.specs.Acts.{Act, Done, Out, Take, Turn, Does, bind, typed_line}
 use Rattle.cms_machine.specs.Feeds.{Fed, feed}
 use Rattle.cms_line.specs.declared.message.Message.TheVariants.{M002, M037, M069, M107}
@@ -17,18 +17,31 @@ use Rattle.cms_search.specs.Machine.{Letter, Machine, turned, after_step, letter
 use Rattle.cms_search.specs.Ready.{ready_line}
 use Rattle.cms_search.specs.declared.state.Device.{Device}
 use Rattle.cms_session.specs.Commands.{command_of, type_word, erase_word, exec_word, letter_a}
-use Rattle.cms_session.specs.declared.command.Command as asked
+use Rattle.cms_session.specs.declared.command.Command.{Command}
 use Rattle.cms_session.specs.declared.command.Command.TheVariants as command
 use Rattle.cms_session.specs.declared.state.Finish.{Finish}
 use Rattle.cms_session.specs.declared.state.Finish.TheVariants as finish
 
 -- ---- commands
 
+-- the return codes: no disk is accessed, the disk is read-only, the file isn't there, the disk is full
+abbrev pub not_accessed : ℕ
+not_accessed = 36
+
+abbrev pub read_only : ℕ
+read_only = 36
+
+abbrev pub not_found : ℕ
+not_found = 28
+
+abbrev pub full : ℕ
+full = 100
+
 abbrev pub no_disk : Machine → Act Course
-no_disk s = refusal s (M069 letter_a) 36
+no_disk s = refusal s (M069 letter_a) not_accessed
 
 abbrev pub no_file : Machine → Name → Act Course
-no_file s name = refusal s (M002 name.file name.kind letter_a) 28
+no_file s name = refusal s (M002 name.file name.kind letter_a) not_found
 
 -- the records of a file are typed as they are handed out
 abbrev pub type_outcome : Machine → File → Outcome → Act Course
@@ -57,7 +70,7 @@ type_file s name = type_on s name (letter_at s 0)
 -- what an erasure whose step was good comes to; it passes no limit
 abbrev pub erased : Machine → Step → Answer → Act Course
 erased s step (Changed m) = Done (Went (after_step s step Good) (pos 0))
-erased s step (Full need free) = refusal s (M107 letter_a (decimal_of need) (decimal_of free)) 100
+erased s step (Full need free) = refusal s (M107 letter_a (decimal_of need) (decimal_of free)) full
 erased s step (Limited k) = Done DeviceFault
 
 abbrev pub erase_outcome : Machine → Step → Answer → Outcome → Act Course
@@ -80,7 +93,7 @@ erase_found s disk m name None = no_file s name
 erase_found s disk m name (Some f) = dropping s disk.unit m name
 
 abbrev pub no_writing : Machine → Act Course
-no_writing s = refusal s (M037 letter_a) 36
+no_writing s = refusal s (M037 letter_a) read_only
 
 abbrev pub erase_in : Machine → Letter → Name → Option Minidisk → Act Course
 erase_in s disk name None = no_disk s
@@ -120,27 +133,27 @@ unless_procedure true next = Done (Ended finish.NotBuilt)
 unless_procedure false next = next
 
 -- what a line asks for
-abbrev pub run_command : Machine → asked.Command → Act Round
+abbrev pub run_command : Machine → Command → Act Round
 run_command s command.Nothing = Done (Ready s)
 run_command s (command.TypeFile name) = unless_procedure (is_procedure s type_word) (bind (type_file s name) readied)
 run_command s (command.EraseFile name) = unless_procedure (is_procedure s erase_word) (bind (erase_file s name) readied)
 run_command s command.NotBuilt = Done (Ended finish.NotBuilt)
 
 -- with the turn spent
-abbrev pub on_line : Machine → ℕ → Item → ℤ → Act Round
-on_line s left item seconds = run_command (turned s left seconds) (command_of item)
+abbrev pub on_line : Machine → ℕ → Command → ℤ → Act Round
+on_line s left command seconds = run_command (turned s left seconds) command
 
-abbrev pub on_turn : Machine → Item → ℕ → Act Round
-on_turn s item zero = Done (Ended finish.AtTurns)
-on_turn s item (suc left) = Turn (on_line s left item)
+abbrev pub on_turn : Machine → Command → ℕ → Act Round
+on_turn s command zero = Done (Ended finish.AtTurns)
+on_turn s command (suc left) = Turn (on_line s left command)
 
-abbrev pub on_item : Machine → Option Item → Act Round
-on_item s None = Done (Ended finish.AtEnd)
-on_item s (Some item) = on_turn s item s.left
+abbrev pub on_command : Machine → Option Command → Act Round
+on_command s None = Done (Ended finish.AtEnd)
+on_command s (Some command) = on_turn s command s.left
 
--- the next item is taken, a turn is spent, and what the line says is done
+-- the next item is taken, a turn is spent, and what the line asks for is done
 abbrev pub round : Machine → Act Round
-round s = Take (on_item s)
+round s = Take (λ item. on_command s (option_map command_of item))
 
 -- ---- the session
 

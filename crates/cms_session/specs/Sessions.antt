@@ -1,5 +1,6 @@
 -- What a call of the session's top does.
 use Rattle.std.specs.Prelude.{⊤, ◌≡◌, ◌≢◌, ◌⊎◌, ◌≤◌, ℕ, List, [], ◌∷◌, length, All, Option, Some, Result, Ok, Err}
+use Rattle.std.specs.Option.{ForSome}
 use Rattle.cms_journal.specs.declared.event.Event.TheVariants.{Missed}
 use Rattle.cms_journal.specs.declared.event.Attached.{Attached}
 use Rattle.cms_journal.specs.Causes.{Rose}
@@ -13,7 +14,7 @@ use Rattle.cms_machine.specs.Acts as acts
 use Rattle.cms_machine.specs.Points.{Point}
 use Rattle.cms_machine.specs.Runs.{Ran, Broke}
 use Rattle.cms_edf.specs.Small.{IsNotBuilt}
-use Rattle.cms_search.specs.Calls.{letters_of, Holds}
+use Rattle.cms_search.specs.Calls.{Seen, letters_of, Holds}
 use Rattle.cms_search.specs.declared.state.Device.{Device}
 use Rattle.cms_search.specs.declared.state.Disk.{Disk}
 use Rattle.cms_machine.specs.Slots.{Slot}
@@ -23,7 +24,7 @@ use Rattle.cms_words.specs.declared.fault.WordFault.TheVariants as fault
 use Rattle.cms_words.specs.declared.unit.UnitWord.{UnitWord}
 use Rattle.cms_session.specs.Words.{Asked, Read}
 use Rattle.cms_session.specs.Words as words
-use Rattle.cms_session.specs.Headline.{Seen, Start, Headline, fresh, settled, first_machine, start_point, start_tree}
+use Rattle.cms_session.specs.Headline.{Start, Headline, fresh, settled, first_machine, start_point, start_tree}
 use Rattle.cms_session.specs.declared.state.Finish.{Finish}
 use Rattle.cms_session.specs.declared.state.Finish.TheVariants as finish
 use Rattle.cms_session.specs.declared.status.Status.{Status}
@@ -52,6 +53,10 @@ abbrev pub RunsNone : Read → Type 0
 RunsNone (words.Refused why) = ⊤
 RunsNone words.NotBuilt = ⊤
 RunsNone (words.Runs spec) = ⊥
+
+-- a told journal leaves room for units
+abbrev pub HasRoom : Told → Type 0
+HasRoom told = ForSome told (λ j. length j.units ≤ 240)
 
 -- ---- the unit
 
@@ -131,12 +136,16 @@ pub record IsAsSeen (p : Point) (now : Seen) : Type 0 where
   pub faults : p.faults ≡ now.faults
 
 -- the tree came to this end
-abbrev pub CameTo : Point → Seen → Act Finish → Finish → Type 0
-CameTo p now tree end = (q : Point) × (IsAsSeen q now × Ran p q tree (acts.Done end))
+pub record CameTo (p : Point) (now : Seen) (tree : Act Finish) (end : Finish) : Type 0 where
+  pub point : Point
+  pub shown : IsAsSeen point now
+  pub ran : Ran p point tree (acts.Done end)
 
 -- or was cut off
-abbrev pub WasCut : Point → Seen → Act Finish → Type 0
-WasCut p now tree = (q : Point) × (IsAsSeen q now × Broke p q tree)
+pub record WasCut (p : Point) (now : Seen) (tree : Act Finish) : Type 0 where
+  pub point : Point
+  pub shown : IsAsSeen point now
+  pub broke : Broke p point tree
 
 -- how the run of a tree from a point ended, with the count of edges before
 abbrev pub EndedAs : Point → ℕ → Seen → Act Finish → Status → Type 0
@@ -154,12 +163,17 @@ pub record IsAlone (told : Told) (disk : LookedAt) (number : ℕ) (unit : Attach
   pub disk_is : disk_of unit ≡ disk
   pub sizes : All (λ block. length block ≡ unit.bsize) unit.start
 
--- what was found on a unit: disk A or none, by which the session goes on; or why the session ends
+-- disk A or none was found on a unit, and the session goes on by that
+pub record Found (spec : Asked) (unit : Attached) (before now : ℕ) (disk : Option Disk) : Type 0 where
+  pub holds : Holds (Some (fresh (unit ∷ []))) disk (settled (unit ∷ []))
+  pub built : IsUnbuilt spec unit → ⊥
+  pub ran :
+      Ran (start_point (start_on spec unit before)) (start_point (start_on spec unit now)) (start_tree (start_on spec unit before))
+      (lines_tree spec disk (settled (unit ∷ [])))
+
+-- what was found on a unit; or why the session ends
 abbrev pub FoundAs : Asked → Attached → ℕ → ℕ → Result (Option Disk) Status → Type 0
-FoundAs spec unit before now (Ok disk) =
-    Holds (Some (fresh (unit ∷ []))) disk (settled (unit ∷ [])) × (IsUnbuilt spec unit → ⊥)
-    × Ran (start_point (start_on spec unit before)) (start_point (start_on spec unit now)) (start_tree (start_on spec unit before))
-    (lines_tree spec disk (settled (unit ∷ [])))
+FoundAs spec unit before now (Ok disk) = Found spec unit before now disk
 FoundAs spec unit before now (Err NotBuilt) = IsUnbuilt spec unit
 FoundAs spec unit before now (Err World) =
     Ran (start_point (start_on spec unit before)) (start_point (start_on spec unit now)) (start_tree (start_on spec unit before))

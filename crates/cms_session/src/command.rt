@@ -4,9 +4,11 @@ ghost use Rattle.std.specs.List.{slice_split, list_all};
 ghost use Rattle.cms_names.specs.declared.name.Name.{Name};
 ghost use Rattle.cms_model.specs.Lists.{same};
 ghost use Rattle.cms_machine.specs.Items.{Item};
-ghost use Rattle.cms_session.specs.Commands.{is_comment, file_command, command_of_words, command_of_line};
+ghost use Rattle.cms_session.specs.Commands.{letter_a, is_comment, file_command, command_of_words, command_of_line};
 
 use cms_names::{Name, Part};
+use cms_search::coded;
+use cms_text::BLANK;
 use std::alloc::{AllocError, Global};
 
 /// What a line asks for.
@@ -22,15 +24,15 @@ pub enum Command {
     NotBuilt,
 }
 
-const BLANK: u8 = 0x40;
-
 const ASTERISK: u8 = 0x5C;
-// TYPE in EBCDIC.
-const TYPE: &[u8] = &[0xE3, 0xE8, 0xD7, 0xC5];
-// ERASE in EBCDIC.
-const ERASE: &[u8] = &[0xC5, 0xD9, 0xC1, 0xE2, 0xC5];
-/// The letter A in EBCDIC.
-pub const LETTER_A: &[u8] = &[0xC1];
+
+/// The letter A.
+#[tactic(auto, using(crate::proofs::CommandWords::letter_coded))]
+pub fn letter_a() -> [u8; 1]
+    ensures { result ≡ letter_a }
+{
+    coded(b"A")
+}
 
 // The line has blanks alone.
 fn is_blank(line: &[u8]) -> bool
@@ -70,10 +72,10 @@ fn same(bytes: &[u8], other: &[u8]) -> bool
 fn file_command(word: &[u8], name: Name) -> Command
     ensures { result ≡ file_command word.now name }
 {
-    if same(word, TYPE) {
+    if same(word, &coded(b"TYPE")) {
         return Command::TypeFile(name);
     }
-    if same(word, ERASE) {
+    if same(word, &coded(b"ERASE")) {
         return Command::EraseFile(name);
     }
     Command::NotBuilt
@@ -83,7 +85,7 @@ fn file_command(word: &[u8], name: Name) -> Command
 fn command_of_four(word: &[u8], file: &[u8], kind: &[u8], mode: &[u8]) -> Command
     ensures { result ≡ command_of_words (word.now ∷ file.now ∷ kind.now ∷ mode.now ∷ []) }
 {
-    if !same(mode, LETTER_A) {
+    if !same(mode, &letter_a()) {
         return Command::NotBuilt;
     }
     let Ok(file) = Part::read(file) else {

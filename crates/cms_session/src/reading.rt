@@ -1,22 +1,16 @@
 // TYPE: the records of a file, typed.
-ghost use Rattle.std.specs.Prelude.{◌≡◌, ◌≤◌, ◌<◌, ◌&&◌, ◌==◌, ℕ, List, Some, None, IfOk, IfSome, length, true};
-ghost use Rattle.cms_journal.specs.Causes.{Rose};
-ghost use Rattle.cms_journal.specs.Journal.{Journal};
+ghost use Rattle.std.specs.Prelude.{◌≡◌, ◌<◌, ◌&&◌, ◌==◌, IfOk, IfSome, length, true};
 ghost use Rattle.cms_names.specs.Names.{is_part};
-ghost use Rattle.cms_names.specs.declared.name.Name.{Name};
 ghost use Rattle.cms_model.specs.Lists.{cut};
-ghost use Rattle.cms_model.specs.Minidisks.{File};
 ghost use Rattle.cms_machine.specs.Acts.{Done};
 ghost use Rattle.cms_line.specs.declared.message.Message.TheVariants.{M002, M069};
 ghost use Rattle.cms_edf.specs.Small.{spelled};
 ghost use Rattle.cms_session.specs.Commands.{letter_a};
 ghost use Rattle.cms_search.specs.Machine.{typing};
-ghost use Rattle.cms_search.specs.Calls.{spot, Does, Acts, Usable, EndCause, itself, course_of};
-ghost use Rattle.cms_search.specs.declared.state.State.{State};
-ghost use Rattle.cms_search.specs.declared.state.Course.TheVariants.{DeviceFault};
-ghost use Rattle.cms_session.specs.Calls.{IsSeen, IsFile, records_tree, type_tree};
+ghost use Rattle.cms_search.specs.Calls.{seen, spot, Does, Acts, IsUsable, itself, course_of};
+ghost use Rattle.cms_session.specs.Calls.{IsSeen, type_tree};
 
-use crate::command::LETTER_A;
+use crate::command::letter_a;
 use cms_edf::SmallInfo;
 use cms_line::{Message, Word};
 use cms_names::Name;
@@ -52,8 +46,7 @@ fn is_hidden(read_only: bool, number: u8) -> bool
 
 /// The place of the file of a name that is spelled so, where it is seen.
 pub fn seen_place(disk: &Disk, name: &[u8; 16]) -> Option<u32>
-    ensures seen { (n : Name) (j : Journal) → is_part n.file ≡ true → is_part n.kind ≡ true → name.now ≡ spelled n
-        → IsSeen j disk.now n result }
+    ensures seen { IsSeen disk.now name.now result }
     ensures within { IfSome result (λ place. place < length disk.now.small.files) }
 {
     let place = disk.small.find(name)?;
@@ -65,10 +58,8 @@ pub fn seen_place(disk: &Disk, name: &[u8; 16]) -> Option<u32>
 
 // Types the records, one after another from the front.
 fn type_records<W: World>(world: &mut W, bytes: &[u8], info: &SmallInfo) -> Result<(), End>
-    ensures does { Does (W.told world.old) (W.faults world.old) (W.told world.new) (W.faults world.new)
+    ensures { Does (seen W.World world.old) (seen W.World world.new)
         (typing (cut info.now.count info.now.length bytes.now) (Done tt)) result itself }
-    ensures cause { EndCause (W.edges world.old) (W.edges world.new) result }
-    ensures faults { W.faults world.new ≡ W.faults world.old }
 {
     let size = info.length as usize;
     let mut rest = bytes;
@@ -80,33 +71,11 @@ fn type_records<W: World>(world: &mut W, bytes: &[u8], info: &SmallInfo) -> Resu
     Ok(())
 }
 
-// Types the file at a place of disk A, whose block is read once.
-fn type_at<W: World>(alloc: Global, world: &mut W, disk: &Disk, place: u32) -> Result<Course, End>
-    requires within { place < length disk.now.small.files }
-    requires usable { Usable (W.told world.old) (Some disk.now) }
-    ensures acts { (state : State) (f : File) → state.disk_a ≡ Some disk.now → IsFile (W.told world.old) disk.now place f
-        → Acts (spot (W.told world.old) (W.faults world.old) state) (spot (W.told world.new) (W.faults world.new) state)
-        (records_tree state disk.now.small.unit f) result (course_of state) }
-    ensures cause { EndCause (W.edges world.old) (W.edges world.new) result }
-    ensures faults { W.faults world.old ≤ W.faults world.new }
-    ensures fault { IfOk result (λ course. course ≡ DeviceFault → Rose (W.faults world.old) (W.faults world.new)) }
-{
-    let small = &disk.small;
-    let mut block = vec![in alloc; 0; small.block_size() as usize]?;
-    match small.get(world, place, block.as_mut_slice()) {
-        Ok(info) => {
-            type_records(world, block.as_slice(), &info)?;
-            Ok(Course::Went(0))
-        }
-        Err(_) => Ok(Course::DeviceFault),
-    }
-}
-
 /// No disk is accessed as A.
 pub fn no_disk(alloc: Global) -> Result<Message, AllocError>
     ensures { IfOk result (λ message. message ≡ M069 letter_a) }
 {
-    Ok(Message::M069(Word::of(alloc, LETTER_A)?))
+    Ok(Message::M069(Word::of(alloc, &letter_a())?))
 }
 
 /// Disk A has no file of this name.
@@ -116,29 +85,34 @@ pub fn no_file(alloc: Global, name: &Name) -> Result<Message, AllocError>
     Ok(Message::M002(
         Word::of(alloc, name.file.as_bytes())?,
         Word::of(alloc, name.kind.as_bytes())?,
-        Word::of(alloc, LETTER_A)?,
+        Word::of(alloc, &letter_a())?,
     ))
 }
 
-/// Types the records of a file of disk A, each as a line.
+/// Types the records of a file of disk A, each as a line. The file's block is read once.
 pub fn type_file<W: World>(
     alloc: Global,
     world: &mut W,
     state: &State,
     name: &Name,
 ) -> Result<Course, End>
-    requires usable { Usable (W.told world.old) state.now.disk_a }
-    ensures acts { Acts (spot (W.told world.old) (W.faults world.old) state.now) (spot (W.told world.new) (W.faults world.new) state.now)
+    requires usable { IsUsable (spot W.World world.old state.now) }
+    ensures { Acts (spot W.World world.old state.now) (spot W.World world.new state.now)
         (type_tree state.now name.now) result (course_of state.now) }
-    ensures cause { EndCause (W.edges world.old) (W.edges world.new) result }
-    ensures faults { W.faults world.old ≤ W.faults world.new }
-    ensures fault { IfOk result (λ course. course ≡ DeviceFault → Rose (W.faults world.old) (W.faults world.new)) }
 {
     let Some(disk) = &state.disk_a else {
         return refuse(alloc, world, no_disk(alloc)?, NOT_ACCESSED);
     };
-    match seen_place(disk, &spelled(name)) {
-        None => refuse(alloc, world, no_file(alloc, name)?, NOT_FOUND),
-        Some(place) => type_at(alloc, world, disk, place),
+    let Some(place) = seen_place(disk, &spelled(name)) else {
+        return refuse(alloc, world, no_file(alloc, name)?, NOT_FOUND);
+    };
+    let small = &disk.small;
+    let mut block = vec![in alloc; 0; small.block_size() as usize]?;
+    match small.get(world, place, block.as_mut_slice()) {
+        Ok(info) => {
+            type_records(world, block.as_slice(), &info)?;
+            Ok(Course::Went(0))
+        }
+        Err(_) => Ok(Course::DeviceFault),
     }
 }

@@ -5,10 +5,10 @@ ghost use Rattle.cms_journal.specs.Causes.{Rose};
 ghost use Rattle.cms_journal.specs.Journal.{IsBlockSize, HasBlocks, IsWritable, may_write};
 ghost use Rattle.cms_journal.specs.declared.event.Attached.{Attached};
 ghost use Rattle.cms_machine.specs.Slots.{Slot};
-ghost use Rattle.cms_search.specs.Calls.{Holds, Usable};
-ghost use Rattle.cms_session.specs.Headline.{fresh, first_point, seen};
-ghost use Rattle.cms_session.specs.Sessions.{FitsWords, RunsNone, refusal_of, IsAlone, device_of, lines_tree, status_of, FoundAs, EndedAs, RanOn, SessionIn, WorldCause};
-ghost use Rattle.jiff.specs.Words.{IsWithin};
+ghost use Rattle.cms_search.specs.Calls.{Holds, Usable, seen};
+ghost use Rattle.cms_session.specs.Calls.{IsOffset};
+ghost use Rattle.cms_session.specs.Headline.{fresh, first_point};
+ghost use Rattle.cms_session.specs.Sessions.{HasRoom, FitsWords, RunsNone, refusal_of, IsAlone, device_of, lines_tree, status_of, FoundAs, EndedAs, RanOn, SessionIn, WorldCause};
 ghost use Rattle.cms_words.specs.declared.fault.WordFault.{WordFault};
 ghost use Rattle.cms_words.specs.declared.fault.WordFault.TheVariants.{Memory};
 ghost use Rattle.cms_words.specs.declared.unit.UnitWord.{UnitWord};
@@ -35,7 +35,7 @@ const MOST_BLOCKS: u32 = 1_048_576;
 // What a session looks at of a unit.
 fn looked_at(unit: Unit) -> Unit
     ensures number { result.number ≡ unit.number }
-    ensures blocks { result.blocks ≡ min unit.blocks 1048576 }
+    ensures blocks { result.blocks ≡ min unit.blocks MOST_BLOCKS }
 {
     Unit {
         number: unit.number,
@@ -124,13 +124,12 @@ fn run_lines<W: World>(
     disk_a: Option<Disk>,
 ) -> Status
     requires usable { Usable (W.told world.old) disk_a }
-    requires offset { IsWithin 54_000 terms.offset }
+    requires offset { IsOffset terms.offset }
     ensures ended { (word : UnitWord) (units : List Slot) → device ≡ device_of word → Holds (W.told world.old) disk_a units
         → EndedAs (first_point (W.told world.old) (W.faults world.old) units (given_in terms.given)) (W.edges world.old)
-        (seen (W.told world.new) (W.edges world.new) (W.faults world.new)) (lines_tree (asked word terms) disk_a units) result }
+        (seen W.World world.new) (lines_tree (asked word terms) disk_a units) result }
     ensures no_usage { (fault : WordFault) → result ≢ Status.Usage fault }
-    ensures cause { WorldCause (seen (W.told world.old) (W.edges world.old) (W.faults world.old))
-        (seen (W.told world.new) (W.edges world.new) (W.faults world.new)) result }
+    ensures cause { WorldCause (seen W.World world.old) (seen W.World world.new) result }
 {
     let moment = Moment::of_epoch(0, terms.offset);
     let Ok(console) = Console::new(alloc, terms.given) else {
@@ -170,17 +169,15 @@ fn run_attached<W: World>(
     terms: Terms,
     unit: &Unit,
 ) -> Status
-    requires offset { IsWithin 54_000 terms.offset }
+    requires offset { IsOffset terms.offset }
     requires size { IsBlockSize word.now.bsize }
     requires blocks { ForSome (W.told world.old) (λ j. HasBlocks j.units unit.now.number unit.now.blocks word.now.bsize) }
     requires writable { IsTrue (may_write word.now.access) → ForSome (W.told world.old) (λ j. IsWritable j.units unit.now.number) }
     ensures ran { (alone : Attached)
         → IsAlone (W.told world.old) (record { bsize = word.now.bsize; count = unit.now.blocks }) unit.now.number alone
-        → RanOn (asked word.now terms) alone (seen (W.told world.old) (W.edges world.old) (W.faults world.old))
-        (seen (W.told world.new) (W.edges world.new) (W.faults world.new)) result }
+        → RanOn (asked word.now terms) alone (seen W.World world.old) (seen W.World world.new) result }
     ensures no_usage { (fault : WordFault) → result ≢ Status.Usage fault }
-    ensures cause { WorldCause (seen (W.told world.old) (W.edges world.old) (W.faults world.old))
-        (seen (W.told world.new) (W.edges world.new) (W.faults world.new)) result }
+    ensures cause { WorldCause (seen W.World world.old) (seen W.World world.new) result }
 {
     match disk_a(alloc, world, word, unit) {
         Ok(disk) => run_lines(alloc, world, device_of(word), terms, disk),
@@ -190,14 +187,12 @@ fn run_attached<W: World>(
 
 // A session on the unit of a word.
 fn run_unit<W: World>(alloc: Global, world: &mut W, word: &UnitWord, terms: Terms) -> Status
-    requires offset { IsWithin 54_000 terms.offset }
-    requires room { ForSome (W.told world.old) (λ j. length j.units ≤ 240) }
+    requires offset { IsOffset terms.offset }
+    requires room { HasRoom (W.told world.old) }
     ensures headline { W.told world.old ≡ Some (fresh [])
-        → SessionIn (asked word.now terms) (seen (W.told world.old) (W.edges world.old) (W.faults world.old))
-        (seen (W.told world.new) (W.edges world.new) (W.faults world.new)) result }
+        → SessionIn (asked word.now terms) (seen W.World world.old) (seen W.World world.new) result }
     ensures no_usage { (fault : WordFault) → result ≢ Status.Usage fault }
-    ensures cause { WorldCause (seen (W.told world.old) (W.edges world.old) (W.faults world.old))
-        (seen (W.told world.new) (W.edges world.new) (W.faults world.new)) result }
+    ensures cause { WorldCause (seen W.World world.old) (seen W.World world.new) result }
 {
     match world.attach(word.name.text(), word.bsize.bytes(), word.access) {
         Ok(unit) => run_attached(alloc, world, word, terms, &looked_at(unit)),
@@ -207,18 +202,15 @@ fn run_unit<W: World>(alloc: Global, world: &mut W, word: &UnitWord, terms: Term
 
 // The session that the words ask for, where it is built.
 fn run_words<W: World>(alloc: Global, world: &mut W, words: &Words) -> Status
-    requires offset { IsWithin 54_000 words.now.offset }
-    requires room { ForSome (W.told world.old) (λ j. length j.units ≤ 240) }
+    requires offset { IsOffset words.now.offset }
+    requires room { HasRoom (W.told world.old) }
     ensures words { FitsWords (asked_of words.now words.now.units) result }
     ensures refused { RunsNone (asked_of words.now words.now.units)
-        → seen (W.told world.new) (W.edges world.new) (W.faults world.new) ≡ seen (W.told world.old) (W.edges world.old)
-        (W.faults world.old) }
+        → seen W.World world.new ≡ seen W.World world.old }
     ensures headline { (spec : Asked) → asked_of words.now words.now.units ≡ Runs spec → W.told world.old ≡ Some (fresh [])
-        → SessionIn spec (seen (W.told world.old) (W.edges world.old) (W.faults world.old))
-        (seen (W.told world.new) (W.edges world.new) (W.faults world.new)) result }
+        → SessionIn spec (seen W.World world.old) (seen W.World world.new) result }
     ensures no_usage { (fault : WordFault) → result ≢ Status.Usage fault }
-    ensures cause { WorldCause (seen (W.told world.old) (W.edges world.old) (W.faults world.old))
-        (seen (W.told world.new) (W.edges world.new) (W.faults world.new)) result }
+    ensures cause { WorldCause (seen W.World world.old) (seen W.World world.new) result }
 {
     let Some(unit) = only_unit(words.units.as_slice()) else {
         return Status::NotBuilt;
@@ -252,17 +244,14 @@ fn run_words<W: World>(alloc: Global, world: &mut W, words: &Words) -> Status
 /// - `World` comes only where one of the world's two counts rose in this call. Where a device failed in an `ERASE` the unit is as
 ///   before, or a crash leaves it with the file or without it.
 pub fn run<W: World>(alloc: Global, words: &Argv, world: &mut W) -> Status
-    requires room { ForSome (W.told world.old) (λ j. length j.units ≤ 240) }
+    requires room { HasRoom (W.told world.old) }
     ensures words { FitsWords (read_words words.now) result }
     ensures no_memory { result ≢ Status.Usage Memory }
     ensures refused { RunsNone (read_words words.now)
-        → seen (W.told world.new) (W.edges world.new) (W.faults world.new) ≡ seen (W.told world.old) (W.edges world.old)
-        (W.faults world.old) }
+        → seen W.World world.new ≡ seen W.World world.old }
     ensures headline { (spec : Asked) → read_words words.now ≡ Runs spec → W.told world.old ≡ Some (fresh [])
-        → SessionIn spec (seen (W.told world.old) (W.edges world.old) (W.faults world.old))
-        (seen (W.told world.new) (W.edges world.new) (W.faults world.new)) result }
-    ensures cause { WorldCause (seen (W.told world.old) (W.edges world.old) (W.faults world.old))
-        (seen (W.told world.new) (W.edges world.new) (W.faults world.new)) result }
+        → SessionIn spec (seen W.World world.old) (seen W.World world.new) result }
+    ensures cause { WorldCause (seen W.World world.old) (seen W.World world.new) result }
 {
     match read_words(alloc, words) {
         Ok(words) => run_words(alloc, world, &words),

@@ -4,12 +4,12 @@ use Rattle.cms_line.specs.Messages.{message_text}
 use Rattle.cms_search.proofs.Says.{not_done}
 use Rattle.cms_search.proofs.saying.say_message.Goals as goal
 
-pub returns-in_err-write_message-clause-does : goal.returns-in_err-write_message-clause-does
-returns-in_err-write_message-clause-does g c =
+pub returns-in_err-write_message : goal.returns-in_err-write_message
+returns-in_err-write_message g c =
     let p = err_from_is_err_and c.from_residual.result c.from_residual.ensures.1 in
-    rw (p.1, p.2) (not_done _ _ _ _ _)
+    rw (p.1, p.2) (not_done _ _ _)
 
-pub returns-clause-does : goal.returns-clause-does
-returns-clause-does g c =
+pub returns : goal.returns
+returns g c =
     let text : c.deref.result.now ≡ message_text c.args.message.now = c.deref.ensures.value ∙ c.in_ok-write_message.ensures.ok ∙ (let e = c.new-text.ensures.items in rw e refl) in
-    rw (← text) (c.say.ensures.does)
+    rw (← text) (c.say.ensures)

@@ -10,13 +10,13 @@ returns-in_err-say_ready-in-Went-clause-does g c =
     let is = c.in-Went.is in
     let fits : FitsSigned w32 c.in-Went.code = search rules in
     let same = to_z-of_z w32 c.in-Went.code fits in
-    let does = rw same at c.in_err-say_ready-in-Went.ensures.does in
-    rw (p.1, p.2, is) (ready_stops _ _ _ _ c.in-Went.code _ does)
+    let does = rw same at c.in_err-say_ready-in-Went.ensures in
+    rw (p.1, p.2, is) (ready_stops _ _ c.in-Went.code _ does)
 
 pub returns-in_ok-say_ready-in-Went-clause-does : goal.returns-in_ok-say_ready-in-Went-clause-does
 returns-in_ok-say_ready-in-Went-clause-does g c =
     let is = c.in-Went.is in
     let fits : FitsSigned w32 c.in-Went.code = search rules in
     let same = to_z-of_z w32 c.in-Went.code fits in
-    let does = rw same at c.in_ok-say_ready-in-Went.ensures.does in
-    rw is (readied_so _ _ _ _ c.in-Went.code _ _ does)
+    let does = rw same at c.in_ok-say_ready-in-Went.ensures in
+    rw is (readied_so _ _ c.in-Went.code _ _ does)

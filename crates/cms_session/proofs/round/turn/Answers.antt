@@ -7,7 +7,7 @@ use Rattle.cms_session.proofs.round.turn.Goals as goal
 pub returns-in_err-clock-clause-acts : goal.returns-in_err-clock-clause-acts
 returns-in_err-clock-clause-acts g c =
     let p = err_from_is_err_and c.from_residual.result c.from_residual.ensures.1 in
-    rw (p.1, p.2) (not_turned _ _ _ _ c.in_err-clock.ensures.err c.in_err-clock.ensures.faults)
+    rw (p.1, p.2) (not_turned _ _ _ _ c.in_err-clock.ensures refl)
 
 pub returns-clause-acts : goal.returns-clause-acts
 returns-clause-acts g c =
@@ -16,4 +16,4 @@ returns-clause-acts g c =
     let small : FitsSigned w32 c.args.state.now.offset = search rules in
     let offset = to_z-of_z w32 c.args.state.now.offset small in
     let value = rw (seconds, offset) at c.of_epoch-state.ensures.value in
-    turned_so _ _ c.in_ok-clock.field-0 c.of_epoch-state.result _ tt c.in_ok-clock.ensures.ok c.in_ok-clock.ensures.faults value refl
+    turned_so _ _ c.in_ok-clock.field-0 c.of_epoch-state.result _ tt c.in_ok-clock.ensures value refl

@@ -1,5 +1,5 @@
 use Rattle.std.proofs.Common.{◌∙◌, sym}
-use Rattle.cms_session.specs.Headline.{seen}
+use Rattle.cms_search.specs.Calls.{seen}
 use Rattle.cms_session.proofs.ReadWords.{read_taken, refused_fits, no_usage_of_memory, unbegun}
 use Rattle.cms_session.proofs.top.run.Goals as goal
 
@@ -23,4 +23,4 @@ returns-in-Err-clause-no_memory g c = rw c.refusal.ensures (no_usage_of_memory c
 
 pub returns-in-Err-clause-headline : goal.returns-in-Err-clause-headline
 returns-in-Err-clause-headline g c = λ spec runs told.
-    rw c.refusal.ensures (unbegun c.args.words.now c.in-Err.fault spec (seen (g.W.World.told c.args.world.now) (g.W.World.edges c.args.world.now) (g.W.World.faults c.args.world.now)) c.in-Err.ensures.answer runs)
+    rw c.refusal.ensures (unbegun c.args.words.now c.in-Err.fault spec (seen g.W.World c.args.world.now) c.in-Err.ensures.answer runs)
