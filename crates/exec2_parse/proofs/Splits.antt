@@ -5,8 +5,7 @@ use Rattle.std.specs.List.{suffix_len}
 use Rattle.std.proofs.lemmas.List.{append_assoc, drop_at, get_or-append-add, get_or-take, get_or_at, length-append, length-drop, length-take-le, take_all, take_at, take-take}
 use Rattle.std.proofs.lemmas.List.Sums.{count_by_more_yes, suffix_len_is, sum_by-append, sum_by-take-le}
 use Rattle.cms_text.specs.Texts.{Text}
-use Rattle.exec2_parse.specs.Variables.{Values, value_of}
-use Rattle.exec2_parse.specs.Expansion.{ReplacesFromTheRight, SplitsAtLast, ampersands, expanded, expanded_before, expanded_with, is_ampersand, name_of}
+use Rattle.exec2_parse.specs.Expansion.{Binding, ReplacesFromTheRight, SplitsAtLast, ampersands, expanded, expanded_before, expanded_with, is_ampersand, name_of}
 use Rattle.exec2_parse.specs.declared.expansion.ExpandFault.TheVariants.{TooLong}
 
 no_ampersand : ℕ → Bool
@@ -42,13 +41,13 @@ split_found word left within front same behind some here =
 
 -- ---- the steps of an expansion
 
-pub expanded_start : (vars : Values) (word : Text) → expanded_before (ampersands word) vars word [] ≡ expanded vars word
+pub expanded_start : (binding : Binding) (word : Text) → expanded_before (ampersands word) binding word [] ≡ expanded binding word
 unfolding expanded
-expanded_start vars word = refl
+expanded_start binding word = refl
 
-pub expanded_end : (vars : Values) (word text : Text) → ampersands word ≡ 0 → expanded_before (ampersands word) vars word text ≡ Ok (word ++ text)
+pub expanded_end : (binding : Binding) (word text : Text) → ampersands word ≡ 0 → expanded_before (ampersands word) binding word text ≡ Ok (word ++ text)
 unfolding expanded_before
-expanded_end vars word text none = rw none refl
+expanded_end binding word text none = rw none refl
 
 tested : {A : Type 0} (a b : ℕ) (x y : A) → a ≤ b → cond (nat_lt b a) x y ≡ y
 tested a b x y low = grind arith
@@ -56,16 +55,16 @@ tested a b x y low = grind arith
 passed : {A : Type 0} (a b : ℕ) (x y : A) → b < a → cond (nat_lt b a) x y ≡ x
 passed a b x y high = grind arith
 
-pub expanded_step : (vars : Values) (word text front name value : Text) → SplitsAtLast word front name → value ≡ value_of vars (name_of name text) → length front + length value ≤ 255
-    → expanded_before (ampersands word) vars word text ≡ expanded_before (ampersands front) vars front value
+pub expanded_step : (binding : Binding) (word text front name value : Text) → SplitsAtLast word front name → value ≡ binding (name_of name text) → length front + length value ≤ 255
+    → expanded_before (ampersands word) binding word text ≡ expanded_before (ampersands front) binding front value
 unfolding expanded_before
-expanded_step vars word text front name value splits is short =
+expanded_step binding word text front name value splits is short =
     rw (splits.one_more, ← splits.name_is, ← is, ← splits.front_is) (tested (length (front ++ value)) 255 _ _ (omega (arith, length-append front value)))
 
-pub expanded_past : (vars : Values) (word text front name value : Text) → SplitsAtLast word front name → value ≡ value_of vars (name_of name text) → 255 < length front + length value
-    → expanded_before (ampersands word) vars word text ≡ Err TooLong
+pub expanded_past : (binding : Binding) (word text front name value : Text) → SplitsAtLast word front name → value ≡ binding (name_of name text) → 255 < length front + length value
+    → expanded_before (ampersands word) binding word text ≡ Err TooLong
 unfolding expanded_before
-expanded_past vars word text front name value splits is long =
+expanded_past binding word text front name value splits is long =
     rw (splits.one_more, ← splits.name_is, ← is, ← splits.front_is) (passed (length (front ++ value)) 255 _ _ (omega (arith, length-append front value)))
 
 -- ---- laws
@@ -99,11 +98,11 @@ at_last front name none =
     let cut = splits_at word (length front) (omega (arith, long)) (ap is_ampersand (get_or_at front 0x50 name 0 (length front) refl)) (λ k low high. behind_front front name k none low high) same in
     subst (λ (f : Text). SplitsAtLast word f name) before (subst (λ (n : Text). SplitsAtLast word (take (length front) word) n) after cut)
 
-pub keeps_plain : (vars : Values) (word text : Text) → ampersands word ≡ 0 → expanded_with vars word text ≡ Ok (word ++ text)
-keeps_plain vars word text none = expanded_end vars word text none
+pub keeps_plain : (binding : Binding) (word text : Text) → ampersands word ≡ 0 → expanded_with binding word text ≡ Ok (word ++ text)
+keeps_plain binding word text none = expanded_end binding word text none
 
 pub replaces_from_the_right : ReplacesFromTheRight
 unfolding expanded_before
-replaces_from_the_right vars front name text none =
+replaces_from_the_right binding front name text none =
     let splits = at_last front name none in
     rw (splits.one_more, ← splits.name_is, ← splits.front_is) refl

@@ -3,9 +3,12 @@ use Rattle.std.specs.Prelude.{◌≡◌, ◌+◌, ℕ, zero, suc, ◌==◌, Bool
 use Rattle.std.specs.List.{before_last, after_last}
 use Rattle.cms_ebcdic.specs.CodePage.{upper_of}
 use Rattle.cms_text.specs.Texts.{Text}
-use Rattle.exec2_parse.specs.Variables.{Values, value_of}
 use Rattle.exec2_parse.specs.declared.expansion.ExpandFault.{ExpandFault}
 use Rattle.exec2_parse.specs.declared.expansion.ExpandFault.TheVariants.{TooLong}
+
+-- what each name stands for
+abbrev pub Binding : Type 0
+Binding = Text → Text
 
 -- the sign that a variable's name follows
 abbrev pub is_ampersand : ℕ → Bool
@@ -28,31 +31,31 @@ name_of name text = map upper_of (name ++ text)
 
 -- A word with so many ampersands, followed by a text in which none counts. The last ampersand of the word, what follows it and the text
 -- are a variable's name, in small letters or capitals, and give way to its value.
-unfoldable pub expanded_before : ℕ → Values → Text → Text → Result Text ExpandFault
-expanded_before zero vars word text = Ok (word ++ text)
-expanded_before (suc n) vars word text =
-    let value = value_of vars (name_of (after_last is_ampersand word) text) in
+unfoldable pub expanded_before : ℕ → Binding → Text → Text → Result Text ExpandFault
+expanded_before zero binding word text = Ok (word ++ text)
+expanded_before (suc n) binding word text =
+    let value = binding (name_of (after_last is_ampersand word) text) in
     let front = before_last is_ampersand word in
-    if nat_lt 255 (length (front ++ value)) then Err TooLong else expanded_before n vars front value
+    if nat_lt 255 (length (front ++ value)) then Err TooLong else expanded_before n binding front value
 
 -- a word, followed by such a text
-abbrev pub expanded_with : Values → Text → Text → Result Text ExpandFault
-expanded_with vars word text = expanded_before (ampersands word) vars word text
+abbrev pub expanded_with : Binding → Text → Text → Result Text ExpandFault
+expanded_with binding word text = expanded_before (ampersands word) binding word text
 
 -- what a word becomes
-unfoldable pub expanded : Values → Text → Result Text ExpandFault
-expanded vars word = expanded_with vars word []
+unfoldable pub expanded : Binding → Text → Result Text ExpandFault
+expanded binding word = expanded_with binding word []
 
 -- ---- laws
 
 -- a word without an ampersand stays, and the text follows it
 abbrev pub KeepsPlainWords : Type 0
-KeepsPlainWords = (vars : Values) (word text : Text) → ampersands word ≡ 0 → expanded_with vars word text ≡ Ok (word ++ text)
+KeepsPlainWords = (binding : Binding) (word text : Text) → ampersands word ≡ 0 → expanded_with binding word text ≡ Ok (word ++ text)
 
 -- any other is expanded at its last ampersand first: what stands before it is followed by the value of the variable that is named by
 -- what stands behind it and the text, if both together have no more than 255 bytes
 abbrev pub ReplacesFromTheRight : Type 0
 ReplacesFromTheRight =
-    (vars : Values) (front name text : Text) → ampersands name ≡ 0 → expanded_with vars (front ++ (0x50 ∷ name)) text
-    ≡ (let value = value_of vars (name_of name text) in
-    if nat_lt 255 (length (front ++ value)) then Err TooLong else expanded_with vars front value)
+    (binding : Binding) (front name text : Text) → ampersands name ≡ 0 → expanded_with binding (front ++ (0x50 ∷ name)) text
+    ≡ (let value = binding (name_of name text) in
+    if nat_lt 255 (length (front ++ value)) then Err TooLong else expanded_with binding front value)

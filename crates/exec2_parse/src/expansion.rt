@@ -2,10 +2,10 @@
 ghost use Rattle.std.specs.Prelude.{◌≡◌, ◌≤◌, ◌+◌, ◌++◌, length, Ok, Err, IfOk, MatchOption};
 ghost use Rattle.exec2_parse.specs.Expansion.{KeepsPlainWords, ReplacesFromTheRight, SplitsAtLast, ampersands, expanded};
 ghost use Rattle.exec2_parse.specs.Expansion as spec;
-ghost use Rattle.exec2_parse.specs.Variables as variables;
+ghost use Rattle.exec2_parse.specs.Variables.{value_of};
 
-use crate::Vars;
 use crate::fold::folded;
+use crate::{Scope, Vars};
 use cms_text::Word;
 use std::alloc::{AllocError, Global};
 use thiserror::Error;
@@ -41,21 +41,31 @@ impl From<AllocError> for ExpandFault {
 /// capital letters, a value isn't scanned again, and a variable that was never set is empty.
 pub fn expand(alloc: Global, word: &[u8], vars: &Vars) -> Result<Word, ExpandFault>
     requires { length word.now ≤ 255 }
-    ensures value { IfOk result (λ text. expanded vars.now word.now ≡ Ok text) }
+    ensures value { IfOk result (λ text. expanded (value_of vars.now) word.now ≡ Ok text) }
     ensures too_long { result ≡ Err ExpandFault.TooLong
-        → expanded vars.now word.now ≡ Err ExpandFault.TooLong }
+        → expanded (value_of vars.now) word.now ≡ Err ExpandFault.TooLong }
+{
+    expand_in(alloc, word, vars)
+}
+
+/// The word with the values that its names have in a scope, by the same rule.
+pub fn expand_in<S: Scope>(alloc: Global, word: &[u8], scope: &S) -> Result<Word, ExpandFault>
+    requires { length word.now ≤ 255 }
+    ensures value { IfOk result (λ text. expanded (S.binding scope.now) word.now ≡ Ok text) }
+    ensures too_long { result ≡ Err ExpandFault.TooLong
+        → expanded (S.binding scope.now) word.now ≡ Err ExpandFault.TooLong }
 {
     let mut left = word;
-    let mut value: &[u8] = &[];
+    let mut value = Word::take(Vec::new(alloc));
     while let Some((front, name)) = split_at_last_ampersand(left) {
-        let name = name_of(alloc, name, value)?;
-        value = value_of(vars, name.bytes());
+        let name = name_of(alloc, name, value.bytes())?;
+        value = scope.value(alloc, name.bytes())?;
         left = front;
-        if left.len() + value.len() > LONGEST {
+        if left.len() + value.bytes().len() > LONGEST {
             return Err(ExpandFault::TooLong);
         }
     }
-    Ok(joined(alloc, left, value)?)
+    Ok(joined(alloc, left, value.bytes())?)
 }
 
 /// What the expansion of a word is, at all variables and words.
@@ -97,14 +107,4 @@ fn joined(alloc: Global, first: &[u8], second: &[u8]) -> Result<Word, AllocError
     let mut bytes = first.to_vec(alloc)?;
     bytes.extend_from_slice(second)?;
     Ok(Word::take(bytes))
-}
-
-fn value_of<'v>(vars: &'v Vars, name: &[u8]) -> &'v [u8]
-    ensures value { result.now ≡ variables.value_of vars.now name.now }
-    ensures short { length result.now ≤ 255 }
-{
-    match vars.get(name) {
-        Some(value) => value.bytes(),
-        None => &[],
-    }
 }

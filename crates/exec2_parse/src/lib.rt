@@ -4,11 +4,13 @@
 mod expansion;
 mod fold;
 mod procedure;
+mod scope;
 mod vars;
 
-pub use expansion::{ExpandFault, expand, expansion_laws};
+pub use expansion::{ExpandFault, expand, expand_in, expansion_laws};
 pub use fold::folded;
 pub use procedure::{ProcFault, Procedure, read_procedure};
+pub use scope::Scope;
 pub use vars::Vars;
 
 #[cfg(test)]

@@ -1,5 +1,5 @@
 // The variables of a procedure.
-ghost use Rattle.std.specs.Prelude.{◌≡◌, ◌==◌, OnOk, OnErr};
+ghost use Rattle.std.specs.Prelude.{◌≡◌, ◌==◌, OnOk, OnErr, IfOk, None};
 ghost use Rattle.std.specs.Option.{option_copied};
 ghost use Rattle.std.specs.FinMap as finite;
 
@@ -36,13 +36,24 @@ impl Vars {
         }
     }
 
-    /// Sets the variable, in place of the value that it had.
+    /// Sets the variable, in place of the value that it had. A variable that is set takes no memory.
     pub fn set(&mut self, name: Word, value: Word) -> Result<(), AllocError>
         ensures ok { OnOk result (self.new ≡ finite.insert self.old name value) }
         ensures err { OnErr result (self.new ≡ self.old) }
+        ensures new { OnErr result (finite.get self.old name ≡ None) }
     {
-        self.values.insert(name.into_bytes(), value)?;
+        self.replace(name, value)?;
         Ok(())
+    }
+
+    /// Sets the variable, and gives the value that it had. A variable that is set takes no memory.
+    pub fn replace(&mut self, name: Word, value: Word) -> Result<Option<Word>, AllocError>
+        ensures before { IfOk result (λ before. before ≡ finite.get self.old name) }
+        ensures ok { OnOk result (self.new ≡ finite.insert self.old name value) }
+        ensures err { OnErr result (self.new ≡ self.old) }
+        ensures new { OnErr result (finite.get self.old name ≡ None) }
+    {
+        Ok(self.values.insert(name.into_bytes(), value)?)
     }
 
     /// Forgets the variable, if it is set.

@@ -1,128 +1,152 @@
 -- The calls of `Exec` as a relation, and the functions that compute it.
-use Rattle.std.proofs.Common.{◌≡◌, ◌∙◌, ◌∷◌, [], ℕ, List, refl, sym, ap, subst, arith, length}
-use Rattle.std.specs.Prelude.{Option, Some, None, Bool, true, false, Result, Ok, Err, ◌==◌, ◌<◌, nat_lt, ◌+◌, cond, ℤ, pos, is_some, not, ◌&&◌}
+use Rattle.std.proofs.Common.{◌≡◌, ◌∙◌, ◌∷◌, [], ℕ, zero, suc, List, refl, sym, ap, subst, arith, length}
+use Rattle.std.specs.Prelude.{Bool, true, false, Result, Ok, Err, ◌==◌, ◌<◌, nat_lt, ◌+◌, cond, ℤ, pos, is_some, not, ◌&&◌}
 use Rattle.std.specs.Ordering.{int_eq}
 use Rattle.cms_fields.specs.Steps.{◌>>=◌}
 use Rattle.cms_fields.specs.declared.time.Moment.{Moment}
 use Rattle.cms_text.specs.Texts.{Text}
-use Rattle.exec2_parse.specs.Variables.{Values}
-use Rattle.exec2_run.specs.Given.{given_now}
+use Rattle.exec2_parse.specs.Expansion.{Binding}
+use Rattle.exec2_run.specs.Comparisons.{test_holds}
+use Rattle.exec2_run.specs.Given.{seen, seen_at}
 use Rattle.exec2_run.specs.Kinds.{is_if}
-use Rattle.exec2_run.specs.Loops.{goes_on_by, has, next_pass, or_outer, settled_from}
+use Rattle.exec2_run.specs.Loops as looping
+use Rattle.exec2_run.specs.Loops.{begins, begins_by, has, settled_from}
 use Rattle.exec2_run.specs.Readings.{taken_for}
-use Rattle.exec2_run.specs.Relation.{Action, Settle, Turn, GiveLine, GiveCode, RefuseStack, Executes, Guards, Moved, MovedAreSteps, Moves, Settling, StepsAreMoved, moved, other, short, holds, fails, if_fault, runs, faults, none, again, over, faulty, inside, jumped_out, due, next_line, no_line, test_fault, error_action, next_statement, past_last, for_arguments, for_variables, for_text, for_nothing, good, starts, no_action, in_action, stack_full}
+use Rattle.exec2_run.specs.Relation.{Action, Begins, BeginsThen, some_left, none_left, forever, while, until, until_fault, Settle, Turn, GiveLine, GiveCode, RefuseStack, Executes, Guards, Moved, MovedAreSteps, Moves, Settling, StepsAreMoved, moved, other, short, holds, fails, if_fault, runs, faults, none, again, over, faulty, inside, jumped_out, due, next_line, no_line, test_fault, error_action, next_statement, past_last, for_arguments, for_variables, for_text, for_nothing, good, starts, no_action, in_action, stack_full}
 use Rattle.exec2_run.specs.Steps.{Takes, action_words, at_line, at_next, code_taken, compared, guarded, if_holds, incomplete, is_due, is_running, line_taken, run, run_kind, settled, turned, with_next, words_at}
 use Rattle.exec2_run.specs.declared.exec.ErrorAction.TheVariants.{Idle, Due, Running}
 use Rattle.exec2_run.specs.declared.exec.Exec.{Exec}
 use Rattle.exec2_run.specs.declared.fault.Fault.{Fault}
 use Rattle.exec2_run.specs.declared.loops.Loop.{Loop}
 use Rattle.exec2_run.specs.declared.loops.Passes.{Passes}
+use Rattle.exec2_run.specs.declared.loops.Passes.TheVariants.{Left, Forever, While, Until}
+use Rattle.exec2_run.specs.declared.loops.Test.{Test}
 use Rattle.exec2_run.specs.declared.reading.Reading.{Reading}
 use Rattle.exec2_run.specs.declared.reading.Reading.TheVariants as reading
 use Rattle.exec2_run.specs.declared.want.Want.TheVariants.{Next, Ended}
+use Rattle.exec2_run.proofs.Settled.{apart}
 use Rattle.exec2_run.proofs.ByCases.{runs_are_steps, steps_are_runs}
 
 -- ---- &IF
 
-unguarded : (vars : Values) (words : List Text) → is_if words ≡ false → Ok words ≡ guarded vars words
+unguarded : (names : Binding) (words : List Text) → is_if words ≡ false → Ok words ≡ guarded names words
 unfolding guarded
-unguarded vars [] not_if = rw not_if refl
-unguarded vars (a ∷ []) not_if = rw not_if refl
-unguarded vars (a ∷ b ∷ []) not_if = rw not_if refl
-unguarded vars (a ∷ b ∷ c ∷ []) not_if = rw not_if refl
-unguarded vars (a ∷ b ∷ c ∷ d ∷ words) not_if = rw not_if refl
+unguarded names [] not_if = rw not_if refl
+unguarded names (a ∷ []) not_if = rw not_if refl
+unguarded names (a ∷ b ∷ []) not_if = rw not_if refl
+unguarded names (a ∷ b ∷ c ∷ []) not_if = rw not_if refl
+unguarded names (a ∷ b ∷ c ∷ d ∷ words) not_if = rw not_if refl
 
-too_short : (vars : Values) (words : List Text) → is_if words ≡ true → length words < 4 → incomplete vars words ≡ guarded vars words
+too_short : (names : Binding) (words : List Text) → is_if words ≡ true → length words < 4 → incomplete names words ≡ guarded names words
 unfolding guarded
-too_short vars [] is few = rw is refl
-too_short vars (a ∷ []) is few = rw is refl
-too_short vars (a ∷ b ∷ []) is few = rw is refl
-too_short vars (a ∷ b ∷ c ∷ []) is few = rw is refl
-too_short vars (a ∷ b ∷ c ∷ d ∷ words) is few = absurd (omega (arith, few))
+too_short names [] is few = rw is refl
+too_short names (a ∷ []) is few = rw is refl
+too_short names (a ∷ b ∷ []) is few = rw is refl
+too_short names (a ∷ b ∷ c ∷ []) is few = rw is refl
+too_short names (a ∷ b ∷ c ∷ d ∷ words) is few = absurd (omega (arith, few))
 
-guards_are : {vars : Values} {words : List Text} {m : Result (List Text) Fault} → Guards vars words m → m ≡ guarded vars words
+guards_are : {names : Binding} {words : List Text} {m : Result (List Text) Fault} → Guards names words m → m ≡ guarded names words
 unfolding guarded
-guards_are {vars} {words} (other not_if e) = e ∙ unguarded vars words not_if
-guards_are {vars} {words} (short is few e) = e ∙ too_short vars words is few
+guards_are {names} {words} (other not_if e) = e ∙ unguarded names words not_if
+guards_are {names} {words} (short is few e) = e ∙ too_short names words is few
 guards_are (holds is h g) = rw (is, h) (guards_are g)
 guards_are (fails is h e) = rw (is, h) e
 guards_are (if_fault is h e) = rw (is, h) e
 
-few : (vars : Values) (words : List Text) → length words < 4 → (b : Bool) → is_if words ≡ b → Guards vars words (cond b (incomplete vars words) (Ok words))
-few vars words below true is = short is below refl
-few vars words below false is = other is refl
+few : (names : Binding) (words : List Text) → length words < 4 → (b : Bool) → is_if words ≡ b → Guards names words (cond b (incomplete names words) (Ok words))
+few names words below true is = short is below refl
+few names words below false is = other is refl
 
-many : (vars : Values) (word left sign right : Text) (words : List Text) → Guards vars words (guarded vars words)
-    → (b : Bool) → is_if (word ∷ left ∷ sign ∷ right ∷ words) ≡ b → (c : Result Bool Fault) → compared vars left sign right ≡ c
-    → Guards vars (word ∷ left ∷ sign ∷ right ∷ words)
-    (cond b (c >>= (λ holds. if_holds holds (guarded vars words))) (Ok (word ∷ left ∷ sign ∷ right ∷ words)))
-many vars word left sign right words g false is c e = other is refl
-many vars word left sign right words g true is (Ok true) e = holds is e g
-many vars word left sign right words g true is (Ok false) e = fails is e refl
-many vars word left sign right words g true is (Err fault) e = if_fault is e refl
+many : (names : Binding) (word left sign right : Text) (words : List Text) → Guards names words (guarded names words)
+    → (b : Bool) → is_if (word ∷ left ∷ sign ∷ right ∷ words) ≡ b → (c : Result Bool Fault) → compared names left sign right ≡ c
+    → Guards names (word ∷ left ∷ sign ∷ right ∷ words)
+    (cond b (c >>= (λ holds. if_holds holds (guarded names words))) (Ok (word ∷ left ∷ sign ∷ right ∷ words)))
+many names word left sign right words g false is c e = other is refl
+many names word left sign right words g true is (Ok true) e = holds is e g
+many names word left sign right words g true is (Ok false) e = fails is e refl
+many names word left sign right words g true is (Err fault) e = if_fault is e refl
 
-guards_of : (vars : Values) (words : List Text) → Guards vars words (guarded vars words)
+guards_of : (names : Binding) (words : List Text) → Guards names words (guarded names words)
 unfolding guarded
-guards_of vars [] = few vars [] (omega arith) (is_if []) refl
-guards_of vars (a ∷ []) = few vars (a ∷ []) (omega arith) (is_if (a ∷ [])) refl
-guards_of vars (a ∷ b ∷ []) = few vars (a ∷ b ∷ []) (omega arith) (is_if (a ∷ b ∷ [])) refl
-guards_of vars (a ∷ b ∷ c ∷ []) = few vars (a ∷ b ∷ c ∷ []) (omega arith) (is_if (a ∷ b ∷ c ∷ [])) refl
-guards_of vars (a ∷ b ∷ c ∷ d ∷ words) =
-    many vars a b c d words (guards_of vars words) (is_if (a ∷ b ∷ c ∷ d ∷ words)) refl (compared vars b c d) refl
+guards_of names [] = few names [] (omega arith) (is_if []) refl
+guards_of names (a ∷ []) = few names (a ∷ []) (omega arith) (is_if (a ∷ [])) refl
+guards_of names (a ∷ b ∷ []) = few names (a ∷ b ∷ []) (omega arith) (is_if (a ∷ b ∷ [])) refl
+guards_of names (a ∷ b ∷ c ∷ []) = few names (a ∷ b ∷ c ∷ []) (omega arith) (is_if (a ∷ b ∷ c ∷ [])) refl
+guards_of names (a ∷ b ∷ c ∷ d ∷ words) =
+    many names a b c d words (guards_of names words) (is_if (a ∷ b ∷ c ∷ d ∷ words)) refl (compared names b c d) refl
 
--- ---- a statement at its line and moment
+-- ---- a statement
 
-executes_are : {moment : Moment} {s : Exec} {words : List Text} {m : Moved} → Executes moment s words m
-    → m ≡ at_line s.line (run (given_now moment s) words)
+executes_are : {s : Exec} {words : List Text} {m : Moved} → Executes s words m → m ≡ at_line s.line (run s words)
 unfolding run
-executes_are {moment} {s} (runs {statement} {step} g r e) =
-    rw (sym (guards_are g)) (e ∙ ap (at_line s.line) (runs_are_steps (given_now moment s) statement step r))
+executes_are {s} (runs {statement} {step} g r e) = rw (sym (guards_are g)) (e ∙ ap (at_line s.line) (runs_are_steps s statement step r))
 executes_are (faults g e) = rw (sym (guards_are g)) e
 
-executed : (moment : Moment) (s : Exec) (words : List Text) (r : Result (List Text) Fault) → Guards (given_now moment s).vars words r
-    → Executes moment s words (at_line s.line (r >>= (λ statement. run_kind (given_now moment s) statement)))
-executed moment s words (Ok statement) g = runs g (steps_are_runs (given_now moment s) statement) refl
-executed moment s words (Err fault) g = faults g refl
+executed : (s : Exec) (words : List Text) (r : Result (List Text) Fault) → Guards (seen s) words r
+    → Executes s words (at_line s.line (r >>= (λ statement. run_kind s statement)))
+executed s words (Ok statement) g = runs g (steps_are_runs s statement) refl
+executed s words (Err fault) g = faults g refl
 
-executes_of : (moment : Moment) (s : Exec) (words : List Text) → Executes moment s words (at_line s.line (run (given_now moment s) words))
+executes_of : (s : Exec) (words : List Text) → Executes s words (at_line s.line (run s words))
 unfolding run
-executes_of moment s words = executed moment s words (guarded (given_now moment s).vars words) (guards_of (given_now moment s).vars words)
+executes_of s words = executed s words (guarded (seen s) words) (guards_of (seen s) words)
 
 -- ---- loops
+
+positive : (n : ℕ) → (suc n == 0) ≡ false
+positive n = apart (suc n) 0 (λ e. absurd (omega (arith, e)))
+
+begins_are : {names : Binding} {passes : Passes} {m : Result Bool Fault} → Begins names passes m → m ≡ begins_by names passes
+begins_are (some_left {n} e) = e ∙ ap (λ b. Ok (not b)) (sym (positive n))
+begins_are (none_left e) = e
+begins_are (forever e) = e
+begins_are (while e) = e
+begins_are (until known e) = rw known e
+begins_are (until_fault known e) = rw known e
+
+tested : (names : Binding) (test : Test) (r : Result Bool Fault) → test_holds names test ≡ r
+    → Begins names (Until test) (r >>= (λ holds. Ok (not holds)))
+tested names test (Ok answer) is = until is refl
+tested names test (Err fault) is = until_fault is refl
+
+begins_of : (names : Binding) (passes : Passes) → Begins names passes (begins_by names passes)
+begins_of names (Left zero) = none_left refl
+begins_of names (Left (suc n)) = some_left (ap (λ b. Ok (not b)) (positive n))
+begins_of names Forever = forever refl
+begins_of names (While test) = while refl
+begins_of names (Until test) = tested names test (test_holds names test) refl
 
 settling_are : {moment : Moment} {s : Exec} {loops : List Loop} {m : Result Exec (Fault × ℕ)} → Settling moment s loops m → m ≡ settled_from moment s loops
 unfolding settled_from
 settling_are (none e) = e
-settling_are (again at p e) = rw (at, p) e
-settling_are (over at p r) = rw (at, p) (settling_are r)
-settling_are (faulty at p e) = rw (at, p) e
+settling_are (again at p e) = rw (at, sym (begins_are p)) e
+settling_are (over at p r) = rw (at, sym (begins_are p)) (settling_are r)
+settling_are (faulty at p e) = rw (at, sym (begins_are p)) e
 settling_are (inside at within e) = rw (at, within) e
 settling_are (jumped_out at out r) = rw (at, out) (settling_are r)
 
-passed : (moment : Moment) (s : Exec) (loop : Loop) (loops : List Loop) → ((t : Exec) → Settling moment t loops (settled_from moment t loops))
-    → (s.next == loop.past) ≡ true → (r : Result (Exec × Option Passes) Fault) → next_pass moment (record s { loops = loops }) loop.line loop.passes ≡ r
-    → Settling moment s (loop ∷ loops) (or_outer loop.line (r >>= (λ after. Ok (goes_on_by after.0 loop after.1))) (λ t. settled_from moment t loops))
-passed moment s loop loops outer at (Ok (t, Some passes)) p = again at p refl
-passed moment s loop loops outer at (Ok (t, None)) p = over at p (outer t)
+passed : (moment : Moment) (s : Exec) (loop : Loop) (loops : List Loop) → Settling moment s loops (settled_from moment s loops)
+    → (s.next == loop.past) ≡ true → (r : Result Bool Fault) → BeginsThen moment s loop r
+    → Settling moment s (loop ∷ loops) (looping.passed r loop.line (looping.again s loop loops) (settled_from moment s loops))
+passed moment s loop loops outer at (Ok true) p = again at p refl
+passed moment s loop loops outer at (Ok false) p = over at p outer
 passed moment s loop loops outer at (Err fault) p = faulty at p refl
 
-elsewhere : (moment : Moment) (s : Exec) (loop : Loop) (loops : List Loop) → ((t : Exec) → Settling moment t loops (settled_from moment t loops))
+elsewhere : (moment : Moment) (s : Exec) (loop : Loop) (loops : List Loop) → Settling moment s loops (settled_from moment s loops)
     → (s.next == loop.past) ≡ false → (b : Bool) → has loop s.next ≡ b
-    → Settling moment s (loop ∷ loops)
-    (or_outer loop.line (cond b (Ok (record s { loops = loop ∷ loops }, true)) (Ok (record s { loops = loops }, false))) (λ t. settled_from moment t loops))
+    → Settling moment s (loop ∷ loops) (cond b (Ok (record s { loops = loop ∷ loops })) (settled_from moment s loops))
 elsewhere moment s loop loops outer at true within = inside at within refl
-elsewhere moment s loop loops outer at false out = jumped_out at out (outer (record s { loops = loops }))
+elsewhere moment s loop loops outer at false out = jumped_out at out outer
 
 settling_of : (moment : Moment) (s : Exec) (loops : List Loop) → Settling moment s loops (settled_from moment s loops)
 unfolding settled_from
 settling_of moment s [] = none refl
-settling_of moment s (loop ∷ loops) = cases (λ t. settling_of moment t loops) (s.next == loop.past) refl
+settling_of moment s (loop ∷ loops) = cases (settling_of moment s loops) (s.next == loop.past) refl
   where
-    cases : ((t : Exec) → Settling moment t loops (settled_from moment t loops)) → (a : Bool) → (s.next == loop.past) ≡ a
-        → Settling moment s (loop ∷ loops) (or_outer loop.line (cond a (next_pass moment (record s { loops = loops }) loop.line loop.passes
-        >>= (λ after. Ok (goes_on_by after.0 loop after.1)))
-        (cond (has loop s.next) (Ok (record s { loops = loop ∷ loops }, true)) (Ok (record s { loops = loops }, false)))) (λ t. settled_from moment t loops))
-    cases outer true at = passed moment s loop loops outer at (next_pass moment (record s { loops = loops }) loop.line loop.passes) refl
+    cases : Settling moment s loops (settled_from moment s loops) → (a : Bool) → (s.next == loop.past) ≡ a
+        → Settling moment s (loop ∷ loops) (cond a (looping.passed (begins moment s loop) loop.line (looping.again s loop loops) (settled_from moment s loops))
+        (cond (has loop s.next) (Ok (record s { loops = loop ∷ loops })) (settled_from moment s loops)))
+    cases outer true at = passed moment s loop loops outer at (begins moment s loop) (begins_of (seen_at s loop.line moment) loop.passes)
     cases outer false at = elsewhere moment s loop loops outer at (has loop s.next) refl
 
 -- ---- the calls
@@ -140,7 +164,7 @@ moves_are (for_arguments is e) = rw is e
 moves_are (for_variables is e) = rw is e
 moves_are (for_text is e) = rw is e
 moves_are (for_nothing is e) = rw is e
-moves_are (good zero e) = rw zero e
+moves_are (good is e) = rw is e
 moves_are (starts differs some idle e) = rw (differs, some, idle) e
 moves_are (no_action differs lacks e) = rw (differs, lacks) e
 moves_are (in_action differs some started e) = rw (differs, some, started) e
@@ -171,7 +195,7 @@ taken old moment given (reading.Text name) is = for_text is refl
 
 coded : (old : Exec) (moment : Moment) (code : ℤ) (a b c : Bool) → int_eq code (pos 0) ≡ a → is_some old.error ≡ b → is_running old.action ≡ c
     → Moves old moment (GiveCode code) (Ok (record old { code = code; action = cond (not a && (b && not c)) Due Idle }, Next))
-coded old moment code true b c zero some started = good zero refl
+coded old moment code true b c is some started = good is refl
 coded old moment code false true true differs some started = in_action differs some started refl
 coded old moment code false true false differs some idle = starts differs some idle refl
 coded old moment code false false c differs lacks idle = no_action differs lacks refl
@@ -181,15 +205,15 @@ unfolding turned
 turns old moment = by_action (is_due old.action) refl (nat_lt old.next (length old.lines)) refl
   where
     by_action : (d : Bool) → is_due old.action ≡ d → (h : Bool) → nat_lt old.next (length old.lines) ≡ h
-        → Moves old moment Turn (at_line (cond d (record old { action = Running })
-        (cond h (record old { action = Idle; next = old.next + 1; line = old.next + 1 }) (record old { action = Idle }))).line
-        (run (given_now moment (cond d (record old { action = Running })
-        (cond h (record old { action = Idle; next = old.next + 1; line = old.next + 1 }) (record old { action = Idle }))))
+        → Moves old moment Turn (at_line (cond d (record old { action = Running; moment = moment })
+        (cond h (record old { action = Idle; moment = moment; next = old.next + 1; line = old.next + 1 }) (record old { action = Idle; moment = moment }))).line
+        (run (cond d (record old { action = Running; moment = moment })
+        (cond h (record old { action = Idle; moment = moment; next = old.next + 1; line = old.next + 1 }) (record old { action = Idle; moment = moment })))
         (cond d (action_words old.error) (words_at old))))
-    by_action true is h has = error_action is (executes_of moment (record old { action = Running }) (action_words old.error))
+    by_action true is h has = error_action is (executes_of (record old { action = Running; moment = moment }) (action_words old.error))
     by_action false is true has =
-        next_statement is has (executes_of moment (record old { action = Idle; next = old.next + 1; line = old.next + 1 }) (words_at old))
-    by_action false is false has = past_last is has (executes_of moment (record old { action = Idle }) (words_at old))
+        next_statement is has (executes_of (record old { action = Idle; moment = moment; next = old.next + 1; line = old.next + 1 }) (words_at old))
+    by_action false is false has = past_last is has (executes_of (record old { action = Idle; moment = moment }) (words_at old))
 
 moves_of : (old : Exec) (moment : Moment) (a : Action) → Moves old moment a (moved old moment a)
 unfolding settled line_taken code_taken
@@ -200,7 +224,7 @@ moves_of old moment (GiveCode code) = coded old moment code (int_eq code (pos 0)
 moves_of old moment RefuseStack = stack_full refl
 
 pub steps_are_moved : StepsAreMoved
-steps_are_moved old moment a answer new step = subst (λ (m : Moved). Takes m new answer) (moves_are step.1) step.2
+steps_are_moved old moment a answer new step = subst (λ (m : Moved). Takes m old new answer) (moves_are step.1) step.2
 
 pub moved_are_steps : MovedAreSteps
 moved_are_steps old moment a answer new takes = (moved old moment a, moves_of old moment a, takes)

@@ -1,7 +1,11 @@
 mod Blocks
 mod ByCases
+mod ByLabels
 mod ByRelation
 mod Cuts
 mod Encoded
 mod Places
+mod Searches
+mod Settled
 mod Tails
+mod Undone

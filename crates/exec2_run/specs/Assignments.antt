@@ -2,7 +2,7 @@
 use Rattle.std.specs.Prelude.{ℕ, ◌==◌, nat_le, Bool, true, false, ◌||◌, if◌then◌else◌, List, [], ◌∷◌, ◌++◌, length, drop, codes, Option, Some, None, ok_or, Result, Ok, Err, ℤ, pos, ◌+ℤ◌, ◌-ℤ◌}
 use Rattle.cms_fields.specs.Steps.{◌>>=◌, ◌>>◌}
 use Rattle.cms_text.specs.Texts.{Text, is_keyword}
-use Rattle.exec2_parse.specs.Variables.{Values}
+use Rattle.exec2_parse.specs.Expansion.{Binding}
 use Rattle.cms_text.specs.Numbers.{fits, number_of, written}
 use Rattle.exec2_funcs.specs.Functions.{function_of}
 use Rattle.exec2_funcs.specs.Calls.{called}
@@ -10,6 +10,7 @@ use Rattle.exec2_funcs.specs.declared.fault.FuncFault.{FuncFault}
 use Rattle.exec2_funcs.specs.declared.fault.FuncFault.TheVariants as calling
 use Rattle.exec2_funcs.specs.declared.function.Function.{Function}
 use Rattle.exec2_funcs.specs.declared.function.Function.TheVariants as function
+use Rattle.exec2_run.specs.Given.{seen}
 use Rattle.exec2_run.specs.Faults.{of_function, with_fault}
 use Rattle.exec2_run.specs.Values.{arguments, operands, whole}
 use Rattle.exec2_run.specs.Variables.{set_to, target}
@@ -152,8 +153,8 @@ fault_before f words = earlier (called f (probe f words))
 abbrev pub expanded_call : Function → Operands → Result Text Fault
 expanded_call f given = if given.is_cut then Err (fault_before f given.words) else with_fault of_function (called f given.words)
 
-abbrev pub counted_call : Values → Function → List Text → Result Text Fault
-counted_call vars f words = if takes f (length words) then expanded_call f (arguments vars words) else Err Arity
+abbrev pub counted_call : Binding → Function → List Text → Result Text Fault
+counted_call names f words = if takes f (length words) then expanded_call f (arguments names words) else Err Arity
 
 abbrev pub is_literal : Function → Bool
 is_literal function.Literal = true
@@ -174,22 +175,22 @@ is_literal function.Trim = false
 is_literal function.Word = false
 
 -- the value of a function, whose number of words is tested before all others; &LITERAL takes its words unexpanded
-unfoldable pub function_value : Values → Function → List Text → Result Text Fault
-function_value vars f words = if is_literal f then with_fault of_function (called f words) else counted_call vars f words
+unfoldable pub function_value : Binding → Function → List Text → Result Text Fault
+function_value names f words = if is_literal f then with_fault of_function (called f words) else counted_call names f words
 
-abbrev pub value_by : Option Function → Values → List Text → Result Text Fault
-value_by (Some f) vars words = function_value vars f (drop 2 words)
-value_by None vars words = plain_value (operands vars words)
+abbrev pub value_by : Option Function → Binding → List Text → Result Text Fault
+value_by (Some f) names words = function_value names f (drop 2 words)
+value_by None names words = plain_value (operands names words)
 
-unfoldable pub right_side : Values → List Text → Result Text Fault
-right_side vars words = value_by (function_in words) vars words
+unfoldable pub right_side : Binding → List Text → Result Text Fault
+right_side names words = value_by (function_in words) names words
 
 -- ---- the statement: a target, an equal sign, and a right side
 
 abbrev pub assigned_to : Exec → Text → List Text → Step
 assigned_to s name words = do
-  n ← target s.vars name
-  v ← right_side s.vars words
+  n ← target (seen s) name
+  v ← right_side (seen s) words
   set_to s n v
 
 unfoldable pub assigned : Exec → List Text → Step

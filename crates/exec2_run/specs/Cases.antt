@@ -1,18 +1,22 @@
 -- Statements as a relation, one case for each kind (VM/SP EXEC 2 Reference), and what the first line with a label is.
-use Rattle.std.specs.Prelude.{◌≡◌, ℕ, ◌<◌, ◌≤◌, true, List, drop, slice_get, Option, Some, None, Ok}
+use Rattle.std.specs.Prelude.{◌≡◌, ℕ, ◌<◌, ◌≤◌, Bool, true, false, List, [], ◌∷◌, drop, slice_get, Option, Some, None, Ok, Err}
 use Rattle.std.specs.Option.{IsSomeAnd}
 use Rattle.cms_text.specs.Texts.{Text}
 use Rattle.exec2_run.specs.Assignments.{assigned}
-use Rattle.exec2_run.specs.Calls.{called, returned}
-use Rattle.exec2_run.specs.Jumps.{gone, label_from, skipped}
+use Rattle.exec2_run.specs.Calls.{entered, returned}
+use Rattle.exec2_run.specs.Given.{seen}
+use Rattle.exec2_run.specs.Jumps.{label_from, skipped}
 use Rattle.exec2_run.specs.Kinds.{kind_of}
 use Rattle.exec2_run.specs.Loops.{looped}
 use Rattle.exec2_run.specs.Outputs.{issued, stacked, stacked_block, typed, typed_block}
 use Rattle.exec2_run.specs.Readings.{args_given, read}
 use Rattle.exec2_run.specs.State.{Step, still}
 use Rattle.exec2_run.specs.Steps.{exited, run_kind, with_error}
-use Rattle.exec2_run.specs.Words.{has_label}
+use Rattle.exec2_run.specs.Values.{ended, missing, operands}
+use Rattle.exec2_run.specs.Words.{has_label, is_label}
 use Rattle.exec2_run.specs.declared.exec.Exec.{Exec}
+use Rattle.exec2_run.specs.declared.fault.Fault.{Fault}
+use Rattle.exec2_run.specs.declared.fault.Fault.TheVariants.{BadStatement, NoLabel, TooLong}
 use Rattle.exec2_run.specs.declared.kind.Control.TheVariants as control
 use Rattle.exec2_run.specs.declared.kind.Kind.TheVariants as kind
 use Rattle.exec2_run.specs.declared.want.Want.TheVariants.{Next}
@@ -40,6 +44,44 @@ Search label lines from (Some k) = IsFirst label lines from k
 -- a search finds the first line with the label, or none where there is none
 abbrev pub FindsFirst : Type 0
 FindsFirst = (label : Text) (lines : List Text) (from : ℕ) → Search label lines from (label_from label from lines)
+
+-- ---- &GOTO and &CALL
+
+-- the line that a label of &GOTO or &CALL names: the first with it from the next line to the end, and without one there the first from the top
+pub data Names (s : Exec) (label : Text) : Option ℕ → Type 0 where
+  below : {k : ℕ} → IsFirst label s.lines s.next k → Names s label (Some k)
+  above : {k : ℕ} → HasNone label s.lines s.next → IsFirst label s.lines 0 k → Names s label (Some k)
+  nowhere : HasNone label s.lines 0 → Names s label None
+
+-- what the words become, each in full
+abbrev pub Become : Exec → List Text → List Text → Bool → Type 0
+Become s words values is_cut = operands (seen s) words ≡ record { words = values; is_cut = is_cut }
+
+-- &GOTO -label: the line that the label names is next
+pub data Goes (s : Exec) (words : List Text) (m : Step) : Type 0 where
+  goes : {label : Text} {k : ℕ} → Become s words (label ∷ []) false → is_label label ≡ true → Names s label (Some k)
+      → m ≡ Ok (record s { next = k }, Next) → Goes s words m
+  -- its faults from the left: no word, no label, no line with it, a word behind it
+  goes_nowhere : {is_cut : Bool} → Become s words [] is_cut → m ≡ Err (missing is_cut) → Goes s words m
+  goes_to_no_label : {label : Text} {others : List Text} {is_cut : Bool} → Become s words (label ∷ others) is_cut → is_label label ≡ false
+      → m ≡ Err BadStatement → Goes s words m
+  goes_to_no_line : {label : Text} {others : List Text} {is_cut : Bool} → Become s words (label ∷ others) is_cut → is_label label ≡ true
+      → Names s label None → m ≡ Err NoLabel → Goes s words m
+  goes_with_more : {label : Text} {others : List Text} {is_cut : Bool} {k : ℕ} {fault : Fault} → Become s words (label ∷ others) is_cut
+      → is_label label ≡ true → Names s label (Some k) → ended others is_cut ≡ Err fault → m ≡ Err fault → Goes s words m
+
+-- &CALL -label words: the same line is next, once what is to be kept was put aside
+pub data Calls (s : Exec) (words : List Text) (m : Step) : Type 0 where
+  calls : {label : Text} {values : List Text} {k : ℕ} → Become s words (label ∷ values) false → is_label label ≡ true
+      → Names s label (Some k) → m ≡ entered s k values → Calls s words m
+  -- its faults from the left: no word, no label, no line with it, a word that is too long
+  calls_nowhere : {is_cut : Bool} → Become s words [] is_cut → m ≡ Err (missing is_cut) → Calls s words m
+  calls_no_label : {label : Text} {values : List Text} {is_cut : Bool} → Become s words (label ∷ values) is_cut → is_label label ≡ false
+      → m ≡ Err BadStatement → Calls s words m
+  calls_no_line : {label : Text} {values : List Text} {is_cut : Bool} → Become s words (label ∷ values) is_cut → is_label label ≡ true
+      → Names s label None → m ≡ Err NoLabel → Calls s words m
+  calls_too_long : {label : Text} {values : List Text} {k : ℕ} → Become s words (label ∷ values) true → is_label label ≡ true
+      → Names s label (Some k) → m ≡ Err TooLong → Calls s words m
 
 -- ---- statements
 
@@ -70,13 +112,13 @@ pub data Runs (s : Exec) (words : List Text) (m : Step) : Type 0 where
   -- an &IF is taken off before the kind is asked
   if_ : kind_of words ≡ kind.Control control.If → m ≡ Ok (s, Next) → Runs s words m
   -- &GOTO -label
-  goto : kind_of words ≡ kind.Control control.Goto → m ≡ gone s (drop 1 words) → Runs s words m
+  goto : kind_of words ≡ kind.Control control.Goto → Goes s (drop 1 words) m → Runs s words m
   -- &SKIP [n]
   skip : kind_of words ≡ kind.Control control.Skip → m ≡ skipped s (drop 1 words) → Runs s words m
   -- &LOOP n m, &LOOP -label m
   loop : kind_of words ≡ kind.Control control.Loop → m ≡ looped s (drop 1 words) → Runs s words m
   -- &CALL -label words
-  call : kind_of words ≡ kind.Control control.Call → m ≡ called s (drop 1 words) → Runs s words m
+  call : kind_of words ≡ kind.Control control.Call → Calls s (drop 1 words) m → Runs s words m
   -- &RETURN
   return_ : kind_of words ≡ kind.Control control.Return → m ≡ returned s (drop 1 words) → Runs s words m
   -- &ERROR statement: it is kept unexpanded as the error action; alone, the action is dropped

@@ -5,7 +5,7 @@ use Rattle.std.specs.declared.cmp.Ordering.{Ordering}
 use Rattle.std.specs.Cmp.Lexicographic.{slice_cmp}
 use Rattle.cms_fields.specs.Steps.{◌>>=◌}
 use Rattle.cms_text.specs.Texts.{Text, is_keyword}
-use Rattle.exec2_parse.specs.Variables.{Values}
+use Rattle.exec2_parse.specs.Expansion.{Binding}
 use Rattle.cms_text.specs.Numbers.{number_of}
 use Rattle.exec2_run.specs.Values.{value}
 use Rattle.exec2_run.specs.declared.fault.Fault.{Fault}
@@ -69,8 +69,8 @@ abbrev pub holds : Comparison → Text → Text → Bool
 holds c a b = holds_at c (order a b)
 
 -- whether that of a WHILE or UNTIL holds
-unfoldable pub test_holds : Values → Test → Result Bool Fault
-test_holds vars test = do
-  a ← value vars test.left
-  b ← value vars test.right
+unfoldable pub test_holds : Binding → Test → Result Bool Fault
+test_holds names test = do
+  a ← value names test.left
+  b ← value names test.right
   Ok (holds test.comparison a b)

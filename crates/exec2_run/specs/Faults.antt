@@ -47,12 +47,17 @@ abbrev pub Answers : {A : Type 0} → Result A Fault → Result A Fault → Type
 Answers defined (Ok value) = defined ≡ Ok value
 Answers defined (Err fault) = (fault ≡ Memory) ⊎ (defined ≡ Err fault)
 
--- it leaves the defined object, and answers what is defined
-abbrev pub Does : {S A : Type 0} → Result (S × A) Fault → S → Result A Fault → Type 0
-Does defined new (Ok value) = defined ≡ Ok (new, value)
-Does defined new (Err fault) = (fault ≡ Memory) ⊎ (defined ≡ Err fault)
+-- it leaves the defined object, and answers what is defined; after a fault, and after want of memory, the object is as before
+abbrev pub Does : {S A : Type 0} → Result (S × A) Fault → S → S → Result A Fault → Type 0
+Does defined old new (Ok value) = defined ≡ Ok (new, value)
+Does defined old new (Err fault) = (new ≡ old) × ((fault ≡ Memory) ⊎ (defined ≡ Err fault))
 
 -- it leaves the defined object
-abbrev pub Leads : {S A : Type 0} → Result S Fault → S → Result A Fault → Type 0
-Leads defined new (Ok value) = defined ≡ Ok new
-Leads defined new (Err fault) = (fault ≡ Memory) ⊎ (defined ≡ Err fault)
+abbrev pub Leads : {S A : Type 0} → Result S Fault → S → S → Result A Fault → Type 0
+Leads defined old new (Ok value) = defined ≡ Ok new
+Leads defined old new (Err fault) = (new ≡ old) × ((fault ≡ Memory) ⊎ (defined ≡ Err fault))
+
+-- the same where a fault has its line
+abbrev pub Settles : {S A : Type 0} → Result S (Fault × ℕ) → S → S → Result A (Fault × ℕ) → Type 0
+Settles defined old new (Ok value) = defined ≡ Ok new
+Settles defined old new (Err failure) = (new ≡ old) × ((failure.0 ≡ Memory) ⊎ (defined ≡ Err failure))

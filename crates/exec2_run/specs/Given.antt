@@ -1,13 +1,18 @@
 -- The variables that are given (VM/SP EXEC 2 Reference, predefined variables).
-use Rattle.std.specs.Prelude.{ℕ, ◌+◌, ◌-◌, ◌/◌, ◌%◌, ◌==◌, nat_lt, Bool, ◌||◌, if◌then◌else◌, List, [], ◌∷◌, codes, length, find, Option, is_some, pos}
-use Rattle.std.specs.FinMap.{insert}
+use Rattle.std.specs.Prelude.{ℕ, ◌+◌, ◌-◌, ◌/◌, ◌%◌, ◌==◌, nat_le, nat_lt, Bool, false, ◌&&◌, ◌||◌, if◌then◌else◌, List, [], ◌∷◌, codes, length, find, Option, Some, None, is_some, pos}
+use Rattle.std.specs.List.{list_all}
 use Rattle.cms_fields.specs.declared.time.Moment.{Moment}
-use Rattle.cms_text.specs.Texts.{Text, ebcdic, is_blank, is_keyword}
-use Rattle.exec2_parse.specs.Variables.{Values}
+use Rattle.cms_text.specs.Texts.{Text, is_blank, is_keyword}
+use Rattle.exec2_parse.specs.Expansion.{Binding}
+use Rattle.exec2_parse.specs.Variables.{Values, value_of}
 use Rattle.cms_text.specs.Numbers.{written}
 use Rattle.exec2_run.specs.declared.calls.Call.{Call}
+use Rattle.exec2_run.specs.declared.given.AtStart.{AtStart}
 use Rattle.exec2_run.specs.declared.given.Predefined.{Predefined}
 use Rattle.exec2_run.specs.declared.given.Predefined.TheVariants as given
+use Rattle.exec2_run.specs.declared.given.Seen.{Seen}
+use Rattle.exec2_run.specs.declared.given.Standing.{Standing}
+use Rattle.exec2_run.specs.declared.variables.Variables.{Variables}
 use Rattle.exec2_run.specs.declared.exec.Exec.{Exec}
 use Rattle.exec2_run.specs.declared.exec.FileName.{FileName}
 
@@ -48,9 +53,6 @@ given_of name = find (λ g. is_keyword (name_of g) name) all_given
 abbrev pub is_given : Text → Bool
 is_given name = is_some (given_of name)
 
-abbrev pub give : Predefined → Text → Values → Values
-give g value vars = insert vars (ebcdic (name_of g)) value
-
 abbrev pub numeral : ℕ → Text
 numeral n = written (pos n)
 
@@ -90,19 +92,72 @@ abbrev pub without_one_blank : Text → Text
 without_one_blank [] = []
 without_one_blank (byte ∷ bytes) = if is_blank byte then bytes else byte ∷ bytes
 
--- what stays as it is given at the start
-unfoldable pub given_at_start : Text → FileName → Values → Values
-given_at_start called f vars =
-    give given.Cmdstring called (give given.Argstring (without_one_blank (behind_name called)) (give given.Blank (0x40 ∷ [])
-    (give given.Filemode (mode_of f) (give given.Filetype f.name.kind (give given.Filename f.name.file
-    (give given.Procedure f.name.file vars))))))
-
--- the variables with what is given at a line and a moment
-unfoldable pub given_now : Moment → Exec → Exec
-given_now m s = record s {
-  vars =
-      give given.Time (time_of m) (give given.Date (date_of m) (give given.From (numeral (line_of_last s.calls))
-      (give given.Depth (numeral (length s.calls)) (give given.Linenum (numeral s.line) (give given.Line (numeral s.line)
-      (give given.Retcode (written s.code) (give given.Rc (written s.code)
-      (give given.Index (numeral s.count) (give given.Count (numeral s.count) s.vars)))))))));
+-- what is fixed where a procedure begins, called by a line and found in a file
+abbrev pub at_start : Text → FileName → AtStart
+at_start called f = record {
+  name = f.name.file;
+  kind = f.name.kind;
+  mode = mode_of f;
+  rest = without_one_blank (behind_name called);
+  called = called;
 }
+
+-- what is given for each: some is fixed, the other is what it is where the procedure stands
+abbrev pub value_given : AtStart → Standing → Predefined → Text
+value_given start at given.Procedure = start.name
+value_given start at given.Count = numeral at.count
+value_given start at given.Index = numeral at.count
+value_given start at given.Rc = written at.code
+value_given start at given.Retcode = written at.code
+value_given start at given.Line = numeral at.line
+value_given start at given.Linenum = numeral at.line
+value_given start at given.Depth = numeral at.depth
+value_given start at given.From = numeral at.from
+value_given start at given.Filename = start.name
+value_given start at given.Filetype = start.kind
+value_given start at given.Filemode = start.mode
+value_given start at given.Date = date_of at.moment
+value_given start at given.Time = time_of at.moment
+value_given start at given.Blank = 0x40 ∷ []
+value_given start at given.Argstring = start.rest
+value_given start at given.Cmdstring = start.called
+
+-- ---- what the names in a statement stand for
+
+abbrev pub is_digit : ℕ → Bool
+is_digit byte = nat_le 0xF0 byte && nat_le byte 0xF9
+
+abbrev pub is_first_digit : ℕ → Bool
+is_first_digit byte = nat_le 0xF1 byte && nat_le byte 0xF9
+
+-- an argument's name is a number from 1 without leading zeros
+unfoldable pub is_argument : Text → Bool
+is_argument [] = false
+is_argument (first ∷ digits) = is_first_digit first && list_all is_digit digits
+
+-- the variables among which a name belongs
+abbrev pub table_of : Variables → Text → Values
+table_of v name = if is_argument name then v.arguments else v.others
+
+abbrev pub known_by : Option Predefined → AtStart → Standing → Variables → Text → Text
+known_by (Some g) start at v name = value_given start at g
+known_by None start at v name = value_of (table_of v name) name
+
+-- a name that is given has that value, and any other the one that was set
+unfoldable pub known : AtStart → Standing → Variables → Binding
+known start at v name = known_by (given_of name) start at v name
+
+abbrev pub bound : Seen → Binding
+bound seen = known seen.start.now seen.standing seen.variables.now
+
+abbrev pub standing_at : Exec → ℕ → Moment → Standing
+standing_at s line moment =
+    record { count = s.count; code = s.code; line = line; depth = length s.calls; from = line_of_last s.calls; moment = moment }
+
+-- what the names stand for at a line and a moment
+abbrev pub seen_at : Exec → ℕ → Moment → Binding
+seen_at s line moment = known s.start (standing_at s line moment) s.variables
+
+-- what they stand for in the statement that runs
+abbrev pub seen : Exec → Binding
+seen s = seen_at s s.line s.moment

@@ -4,6 +4,7 @@ use Rattle.std.specs.List.{position_from}
 use Rattle.cms_fields.specs.Steps.{◌>>=◌, ◌>>◌}
 use Rattle.cms_text.specs.Texts.{Text}
 use Rattle.cms_text.specs.Numbers.{number_of}
+use Rattle.exec2_run.specs.Given.{seen}
 use Rattle.exec2_run.specs.State.{Step}
 use Rattle.exec2_run.specs.Values.{ended, missing, operands, whole}
 use Rattle.exec2_run.specs.Words.{has_label, is_label}
@@ -37,7 +38,7 @@ gone_by s (label ∷ others) is_cut = do
   Ok (record s { next = place }, Next)
 
 unfoldable pub gone : Exec → List Text → Step
-gone s words = gone_by s (operands s.vars words).words (operands s.vars words).is_cut
+gone s words = gone_by s (operands (seen s) words).words (operands (seen s) words).is_cut
 
 -- the place behind so many lines from the next one on; the one behind the last line is the last such place
 abbrev pub place_below : Exec → ℕ → Result ℕ Fault
@@ -64,4 +65,4 @@ skipped_by s (word ∷ others) is_cut = do
   Ok (record s { next = place }, Next)
 
 unfoldable pub skipped : Exec → List Text → Step
-skipped s words = skipped_by s (operands s.vars words).words (operands s.vars words).is_cut
+skipped s words = skipped_by s (operands (seen s) words).words (operands (seen s) words).is_cut

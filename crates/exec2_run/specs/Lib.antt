@@ -9,6 +9,7 @@ pub mod Assignments
 pub mod Jumps
 pub mod Loops
 pub mod Calls
+pub mod Open
 pub mod Outputs
 pub mod Readings
 pub mod Relation

@@ -1,14 +1,16 @@
 -- &LOOP, and the passes of loops (VM/SP EXEC 2 Reference, &LOOP).
-use Rattle.std.specs.Prelude.{◌≡◌, ◌⊎◌, ℕ, ◌+◌, ◌==◌, nat_le, nat_lt, zero, suc, Bool, true, false, not, ◌&&◌, if◌then◌else◌, List, [], ◌∷◌, length, codes, Option, Some, None, ok_or, Result, Ok, Err, ℤ, pos, negsuc}
+use Rattle.std.specs.Prelude.{ℕ, ◌+◌, ◌==◌, nat_le, nat_lt, zero, suc, Bool, true, false, not, ◌&&◌, if◌then◌else◌, List, [], ◌∷◌, length, codes, Option, Some, None, ok_or, Result, Ok, Err, ℤ, pos, negsuc}
 use Rattle.std.specs.Str.{bytes_eq}
 use Rattle.cms_fields.specs.Steps.{◌>>=◌, ◌>>◌}
 use Rattle.cms_fields.specs.declared.time.Moment.{Moment}
 use Rattle.cms_text.specs.Texts.{Text, is_keyword}
-use Rattle.exec2_parse.specs.Variables.{Values}
+use Rattle.exec2_parse.specs.Expansion.{Binding}
 use Rattle.cms_text.specs.Numbers.{number_of}
 use Rattle.exec2_run.specs.Comparisons.{comparison_of, test_holds}
-use Rattle.exec2_run.specs.Given.{given_now}
+use Rattle.exec2_run.specs.Given.{seen_at}
 use Rattle.exec2_run.specs.Jumps.{label_from, place_below}
+use Rattle.exec2_run.specs.Given.{seen}
+use Rattle.exec2_run.specs.Open.{with_pass}
 use Rattle.exec2_run.specs.State.{Step}
 use Rattle.exec2_run.specs.Values.{ended, missing, operands, value}
 use Rattle.exec2_run.specs.Words.{is_label}
@@ -19,7 +21,7 @@ use Rattle.exec2_run.specs.declared.loops.Passes.TheVariants.{Left, Forever, Whi
 use Rattle.exec2_run.specs.declared.loops.Test.{Test}
 use Rattle.exec2_run.specs.declared.want.Want.TheVariants.{Next}
 use Rattle.exec2_run.specs.declared.fault.Fault.{Fault}
-use Rattle.exec2_run.specs.declared.fault.Fault.TheVariants.{NotNumber, BadStatement, NoLabel, TooDeep, Memory}
+use Rattle.exec2_run.specs.declared.fault.Fault.TheVariants.{NotNumber, BadStatement, NoLabel, TooDeep}
 
 -- ---- the statement
 
@@ -28,11 +30,11 @@ first_by [] words otherwise = otherwise
 first_by (byte ∷ bytes) words otherwise = Ok (byte ∷ bytes, words)
 
 -- the first word that doesn't become nothing, expanded, and the words behind it
-unfoldable pub first_of : Values → List Text → Result (Text × List Text) Fault
-first_of vars [] = Err BadStatement
-first_of vars (word ∷ words) = do
-  text ← value vars word
-  first_by text words (first_of vars words)
+unfoldable pub first_of : Binding → List Text → Result (Text × List Text) Fault
+first_of names [] = Err BadStatement
+first_of names (word ∷ words) = do
+  text ← value names word
+  first_by text words (first_of names words)
 
 -- the range goes up to a label below, and has its line in it
 abbrev pub behind : Option ℕ → Result ℕ Fault
@@ -54,12 +56,12 @@ abbrev pub end_of_range : Exec → Text → Result ℕ Fault
 end_of_range s word = if is_label word then end_at_label s word else end_of_count s (number_of word)
 
 -- a comparison, which is expanded at each test
-abbrev pub test_in : Values → List Text → Result Test Fault
-test_in vars (left ∷ sign ∷ right ∷ others) = do
+abbrev pub test_in : Binding → List Text → Result Test Fault
+test_in names (left ∷ sign ∷ right ∷ others) = do
   comparison ← ok_or (comparison_of sign) BadStatement
-  ended (operands vars others).words (operands vars others).is_cut
+  ended (operands names others).words (operands names others).is_cut
   Ok (record { left = left; comparison = comparison; right = right })
-test_in vars words = Err BadStatement
+test_in names words = Err BadStatement
 
 abbrev pub count_by : Option ℤ → Result Passes Fault
 count_by (Some (pos n)) = Ok (Left n)
@@ -77,26 +79,26 @@ counted_by (count ∷ others) is_cut = do
   ended others is_cut
   Ok passes
 
-abbrev pub counted : Values → List Text → Result Passes Fault
-counted vars words = counted_by (operands vars words).words (operands vars words).is_cut
+abbrev pub counted : Binding → List Text → Result Passes Fault
+counted names words = counted_by (operands names words).words (operands names words).is_cut
 
-abbrev pub while_in : Values → List Text → Result Passes Fault
-while_in vars words = do
-  test ← test_in vars words
+abbrev pub while_in : Binding → List Text → Result Passes Fault
+while_in names words = do
+  test ← test_in names words
   Ok (While test)
 
-abbrev pub until_in : Values → List Text → Result Passes Fault
-until_in vars words = do
-  test ← test_in vars words
+abbrev pub until_in : Binding → List Text → Result Passes Fault
+until_in names words = do
+  test ← test_in names words
   Ok (Until test)
 
 -- how often the range is repeated
-abbrev pub passes : Values → List Text → Result Passes Fault
-passes vars [] = Err BadStatement
-passes vars (word ∷ words) =
-    if is_keyword (codes "WHILE") word then while_in vars words
-    else (if is_keyword (codes "UNTIL") word then until_in vars words
-    else counted vars (word ∷ words))
+abbrev pub passes : Binding → List Text → Result Passes Fault
+passes names [] = Err BadStatement
+passes names (word ∷ words) =
+    if is_keyword (codes "WHILE") word then while_in names words
+    else (if is_keyword (codes "UNTIL") word then until_in names words
+    else counted names (word ∷ words))
 
 -- what is left of so many passes once one more begins
 abbrev pub left : ℕ → Option Passes
@@ -107,13 +109,13 @@ abbrev pub if_holds : Bool → Passes → Option Passes
 if_holds holds passes = if holds then Some passes else None
 
 -- what is left once the first pass begins: a WHILE is tested before it
-abbrev pub first_pass : Values → Passes → Result (Option Passes) Fault
-first_pass vars (Left n) = Ok (left n)
-first_pass vars Forever = Ok (Some Forever)
-first_pass vars (While test) = do
-  holds ← test_holds vars test
+abbrev pub first_pass : Binding → Passes → Result (Option Passes) Fault
+first_pass names (Left n) = Ok (left n)
+first_pass names Forever = Ok (Some Forever)
+first_pass names (While test) = do
+  holds ← test_holds names test
   Ok (if_holds holds (While test))
-first_pass vars (Until test) = Ok (Some (Until test))
+first_pass names (Until test) = Ok (Some (Until test))
 
 -- without a pass the next line is the one past the range; at most 100 loops are open
 abbrev pub opened_by : Exec → ℕ → Option Passes → Step
@@ -124,87 +126,60 @@ opened_by s past (Some passes) =
 
 unfoldable pub opened : Exec → ℕ → Passes → Step
 opened s past passes = do
-  first ← first_pass s.vars passes
+  first ← first_pass (seen s) passes
   opened_by s past first
 
 abbrev pub range_looped : Exec → Text → List Text → Step
 range_looped s range words = do
   past ← end_of_range s range
-  often ← passes s.vars words
+  often ← passes (seen s) words
   opened s past often
 
 -- &LOOP n m, &LOOP -label m
 unfoldable pub looped : Exec → List Text → Step
 looped s words = do
-  first ← first_of s.vars words
+  first ← first_of (seen s) words
   range_looped s first.0 first.1
 
 -- ---- between two statements
 
--- a loop's test sees its line as &LINE
-abbrev pub at_line : Moment → Exec → ℕ → Exec
-at_line moment s line = given_now moment (record s { line = line })
+-- whether another pass begins: both WHILE and UNTIL are tested between two passes, with the line of the &LOOP as &LINE
+abbrev pub begins_by : Binding → Passes → Result Bool Fault
+begins_by names (Left n) = Ok (not (n == 0))
+begins_by names Forever = Ok true
+begins_by names (While test) = test_holds names test
+begins_by names (Until test) = do
+  holds ← test_holds names test
+  Ok (not holds)
 
-abbrev pub tested : Moment → Exec → ℕ → Test → Result (Exec × Bool) Fault
-tested moment s line test = do
-  holds ← test_holds (at_line moment s line).vars test
-  Ok (at_line moment s line, holds)
-
--- what is left once another pass begins: both WHILE and UNTIL are tested between two passes
-abbrev pub next_pass : Moment → Exec → ℕ → Passes → Result (Exec × Option Passes) Fault
-next_pass moment s line (Left n) = Ok (s, left n)
-next_pass moment s line Forever = Ok (s, Some Forever)
-next_pass moment s line (While test) = do
-  after ← tested moment s line test
-  Ok (after.0, if_holds after.1 (While test))
-next_pass moment s line (Until test) = do
-  after ← tested moment s line test
-  Ok (after.0, if_holds (not after.1) (Until test))
+abbrev pub begins : Moment → Exec → Loop → Result Bool Fault
+begins moment s loop = begins_by (seen_at s loop.line moment) loop.passes
 
 -- the place stands in the range
 abbrev pub has : Loop → ℕ → Bool
 has loop place = nat_le loop.first place && nat_lt place loop.past
 
 -- another pass begins
-abbrev pub again : Exec → Loop → Passes → Exec
-again s loop passes = record s {
-  next = loop.first;
-  loops = record { line = loop.line; first = loop.first; past = loop.past; passes = passes } ∷ s.loops;
-}
+abbrev pub again : Exec → Loop → List Loop → Exec
+again s loop loops = record s { next = loop.first; loops = with_pass (loop ∷ loops) }
 
-abbrev pub goes_on_by : Exec → Loop → Option Passes → Exec × Bool
-goes_on_by s loop (Some passes) = (again s loop passes, true)
-goes_on_by s loop None = (s, false)
-
--- whether another pass begins, where all loops within are over
-abbrev pub goes_on : Moment → Exec → Loop → Result (Exec × Bool) Fault
-goes_on moment s loop = do
-  after ← next_pass moment s loop.line loop.passes
-  Ok (goes_on_by after.0 loop after.1)
-
--- whether a loop stays open, where all loops within are over: the next line stands in its range, or another pass begins
-abbrev pub stays : Moment → Exec → Loop → Result (Exec × Bool) Fault
-stays moment s loop =
-    if s.next == loop.past then goes_on moment s loop
-    else (if has loop s.next then Ok (record s { loops = loop ∷ s.loops }, true) else Ok (s, false))
-
-abbrev pub or_outer : ℕ → Result (Exec × Bool) Fault → (Exec → Result Exec (Fault × ℕ)) → Result Exec (Fault × ℕ)
-or_outer line (Ok (s, true)) outer = Ok s
-or_outer line (Ok (s, false)) outer = outer s
-or_outer line (Err fault) outer = Err (fault, line)
+abbrev pub passed : Result Bool Fault → ℕ → Exec → Result Exec (Fault × ℕ) → Result Exec (Fault × ℕ)
+passed (Ok true) line more outer = Ok more
+passed (Ok false) line more outer = outer
+passed (Err fault) line more outer = Err (fault, line)
 
 -- where the next line is the one past the innermost range a pass is over: another begins, or the loop is dropped and the one around it
--- asked; where it lies elsewhere outside, the loop is dropped. A fault of a test is at the
--- line of its &LOOP.
+-- asked; where it lies elsewhere outside, the loop is dropped. A fault of a test is at the line of its &LOOP.
 unfoldable pub settled_from : Moment → Exec → List Loop → Result Exec (Fault × ℕ)
-settled_from moment s [] = Ok s
+settled_from moment s [] = Ok (record s { loops = [] })
 settled_from moment s (loop ∷ loops) =
-    or_outer loop.line (stays moment (record s { loops = loops }) loop) (λ t. settled_from moment t loops)
+    if s.next == loop.past then passed (begins moment s loop) loop.line (again s loop loops) (settled_from moment s loops)
+    else (if has loop s.next then Ok (record s { loops = loop ∷ loops }) else settled_from moment s loops)
 
 abbrev pub settled_loops : Moment → Exec → Result Exec (Fault × ℕ)
 settled_loops moment s = settled_from moment s s.loops
 
--- it leaves the defined state, or answers the fault of the line that it leaves
-abbrev pub Settles : {A : Type 0} → Result Exec (Fault × ℕ) → Exec → Result A Fault → Type 0
-Settles defined new (Ok value) = defined ≡ Ok new
-Settles defined new (Err fault) = (fault ≡ Memory) ⊎ (defined ≡ Err (fault, new.line))
+-- the first so many loops are dropped, and of those that are left the innermost begins another pass or not
+abbrev pub left_open : Exec → Bool → List Loop → Exec
+left_open s more [] = record s { loops = [] }
+left_open s more (loop ∷ loops) = if more then again s loop loops else record s { loops = loop ∷ loops }

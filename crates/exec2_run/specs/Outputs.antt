@@ -2,6 +2,7 @@
 use Rattle.std.specs.Prelude.{ℕ, ◌+◌, Bool, ◌||◌, if◌then◌else◌, List, [], ◌∷◌, ◌++◌, drop, codes, Result, Ok, Err}
 use Rattle.cms_fields.specs.Steps.{◌>>=◌, ◌>>◌}
 use Rattle.cms_text.specs.Texts.{Text, first_word, is_keyword}
+use Rattle.exec2_run.specs.Given.{seen}
 use Rattle.exec2_run.specs.State.{Step}
 use Rattle.exec2_run.specs.Values.{ended, operands, text}
 use Rattle.exec2_run.specs.declared.exec.Exec.{Exec}
@@ -16,7 +17,7 @@ use Rattle.exec2_run.specs.declared.fault.Fault.TheVariants.{NoEnd}
 -- the words' text as the only line
 abbrev pub text_line : Exec → List Text → Result (List Text) Fault
 text_line s words = do
-  line ← text s.vars words
+  line ← text (seen s) words
   Ok (line ∷ [])
 
 -- &TYPE text
@@ -28,12 +29,12 @@ typed s words = do
 -- &COMMAND text, and a command
 unfoldable pub issued : Exec → List Text → Result Want Fault
 issued s words = do
-  line ← text s.vars words
+  line ← text (seen s) words
   Ok (Command line)
 
 -- no word stands behind
 unfoldable pub no_words : Exec → List Text → Result (Unit {0}) Fault
-no_words s words = ended (operands s.vars words).words (operands s.vars words).is_cut
+no_words s words = ended (operands (seen s) words).words (operands (seen s) words).is_cut
 
 -- a line whose first word is &END
 abbrev pub is_end : Text → Bool

@@ -1,12 +1,13 @@
 -- &READ, the line that it asks for, and &ARGS (VM/SP EXEC 2 Reference, &READ and &ARGS).
-use Rattle.std.specs.Prelude.{if◌then◌else◌, List, [], ◌∷◌, ◌++◌, drop, codes, Result, Ok, Err}
+use Rattle.std.specs.Prelude.{if◌then◌else◌, List, [], ◌∷◌, ◌++◌, codes, Result, Ok, Err}
 use Rattle.cms_fields.specs.Steps.{◌>>=◌, ◌>>◌}
 use Rattle.cms_text.specs.Texts.{Text, is_keyword}
-use Rattle.exec2_parse.specs.Variables.{Values}
+use Rattle.exec2_parse.specs.Expansion.{Binding}
 use Rattle.exec2_run.specs.Outputs.{no_words}
+use Rattle.exec2_run.specs.Given.{seen}
 use Rattle.exec2_run.specs.State.{Step}
 use Rattle.exec2_run.specs.Values.{operands, whole}
-use Rattle.exec2_run.specs.Variables.{target, with_arguments, with_variable}
+use Rattle.exec2_run.specs.Variables.{each_set, target, with_arguments, with_variable, with_variables}
 use Rattle.exec2_run.specs.Words.{words_of}
 use Rattle.exec2_run.specs.declared.exec.Exec.{Exec}
 use Rattle.exec2_run.specs.declared.reading.Reading.{Reading}
@@ -18,16 +19,16 @@ use Rattle.exec2_run.specs.declared.fault.Fault.TheVariants.{BadStatement}
 -- &ARGS words: they become the arguments
 unfoldable pub args_given : Exec → List Text → Step
 args_given s words = do
-  whole (operands s.vars words).is_cut
-  t ← with_arguments s (operands s.vars words).words
+  whole (operands (seen s) words).is_cut
+  t ← with_arguments s (operands (seen s) words).words
   Ok (t, Next)
 
 -- each word is written as an assignment's target
-unfoldable pub names : Values → List Text → Result (List Text) Fault
-names vars [] = Ok []
-names vars (word ∷ words) = do
-  name ← target vars word
-  others ← names vars words
+unfoldable pub names : Binding → List Text → Result (List Text) Fault
+names binding [] = Ok []
+names binding (word ∷ words) = do
+  name ← target binding word
+  others ← names binding words
   Ok (name ∷ others)
 
 -- names in front of others
@@ -39,7 +40,7 @@ in_front front (Err fault) = Err fault
 abbrev pub reading_of_text : Exec → List Text → Result Reading Fault
 reading_of_text s [] = Err BadStatement
 reading_of_text s (word ∷ words) = do
-  name ← target s.vars word
+  name ← target (seen s) word
   no_words s words
   Ok (reading.Text name)
 
@@ -51,7 +52,7 @@ reading_of_args s words = do
 -- VARS names
 abbrev pub reading_of_names : Exec → List Text → Result Reading Fault
 reading_of_names s words = do
-  all ← names s.vars words
+  all ← names (seen s) words
   Ok (reading.Variables all)
 
 -- what the line is asked for
@@ -69,20 +70,9 @@ read s words = do
   for ← reading_of s words
   Ok (record s { reading = for }, Read)
 
-abbrev pub first_or_empty : List Text → Text
-first_or_empty [] = []
-first_or_empty (word ∷ words) = word
-
--- each name takes a word, those past the last word the empty one
-unfoldable pub each_set : List Text → List Text → Exec → Result Exec Fault
-each_set [] words s = Ok s
-each_set (name ∷ names) words s = do
-  t ← with_variable s name (first_or_empty words)
-  each_set names (drop 1 words) t
-
 -- the line that was asked for
 unfoldable pub taken_for : Reading → Exec → Text → Result Exec Fault
 taken_for reading.Nothing s line = Ok s
 taken_for reading.Arguments s line = with_arguments s (words_of line)
-taken_for (reading.Variables names) s line = each_set names (words_of line) s
+taken_for (reading.Variables names) s line = with_variables s (each_set names (words_of line) s.variables)
 taken_for (reading.Text name) s line = with_variable s name line

@@ -7,13 +7,14 @@ use Rattle.std.specs.Global.{Global}
 use Rattle.cms_fields.specs.Steps.{◌>>=◌, ◌>>◌}
 use Rattle.cms_fields.specs.declared.time.Moment.{Moment}
 use Rattle.cms_text.specs.Texts.{Text}
-use Rattle.exec2_parse.specs.Variables.{Values}
+use Rattle.exec2_parse.specs.Expansion.{Binding}
 use Rattle.cms_text.specs.Numbers.{number_of}
+use Rattle.exec2_run.specs.Given.{seen}
 use Rattle.exec2_run.specs.Faults.{number_of_fault}
 use Rattle.exec2_run.specs.Assignments.{assigned}
 use Rattle.exec2_run.specs.Calls.{called, returned}
 use Rattle.exec2_run.specs.Comparisons.{comparison_of, holds}
-use Rattle.exec2_run.specs.Given.{behind_name, given_now, given_at_start}
+use Rattle.exec2_run.specs.Given.{at_start, behind_name}
 use Rattle.exec2_run.specs.Jumps.{gone, skipped}
 use Rattle.exec2_run.specs.Kinds.{is_if, kind_of}
 use Rattle.exec2_run.specs.Loops.{looped, settled_loops}
@@ -27,6 +28,7 @@ use Rattle.exec2_run.specs.declared.exec.ErrorAction.{ErrorAction}
 use Rattle.exec2_run.specs.declared.exec.ErrorAction.TheVariants.{Idle, Due, Running}
 use Rattle.exec2_run.specs.declared.exec.Exec.{Exec}
 use Rattle.exec2_run.specs.declared.exec.FileName.{FileName}
+use Rattle.exec2_run.specs.declared.exec.Place.{Place}
 use Rattle.exec2_run.specs.declared.kind.Control.{Control}
 use Rattle.exec2_run.specs.declared.kind.Control.TheVariants as control
 use Rattle.exec2_run.specs.declared.kind.Kind.{Kind}
@@ -59,7 +61,7 @@ exited_by (word ∷ others) is_cut = do
 
 -- &EXIT, with a code or without
 unfoldable pub exited : Exec → List Text → Result Want Fault
-exited s words = exited_by (operands s.vars words).words (operands s.vars words).is_cut
+exited s words = exited_by (operands (seen s) words).words (operands (seen s) words).is_cut
 
 -- &ERROR and a statement that is kept unexpanded, or alone
 abbrev pub action_of : List Text → Option (List Text)
@@ -71,36 +73,36 @@ with_error s words = record s { error = action_of words }
 
 -- ---- &IF a op b statement
 
-abbrev pub compared : Values → Text → Text → Text → Result Bool Fault
-compared vars left sign right = do
-  a ← value vars left
+abbrev pub compared : Binding → Text → Text → Text → Result Bool Fault
+compared names left sign right = do
+  a ← value names left
   comparison ← ok_or (comparison_of sign) BadStatement
-  b ← value vars right
+  b ← value names right
   Ok (holds comparison a b)
 
-abbrev pub fault_of_if : Values → List Text → Result Fault Fault
-fault_of_if vars (word ∷ left ∷ words) = do
-  a ← value vars left
+abbrev pub fault_of_if : Binding → List Text → Result Fault Fault
+fault_of_if names (word ∷ left ∷ words) = do
+  a ← value names left
   Ok BadStatement
-fault_of_if vars words = Ok BadStatement
+fault_of_if names words = Ok BadStatement
 
 abbrev pub if_holds : Bool → Result (List Text) Fault → Result (List Text) Fault
 if_holds holds statement = if holds then statement else Ok []
 
-abbrev pub incomplete : Values → List Text → Result (List Text) Fault
-incomplete vars words = do
-  fault ← fault_of_if vars words
+abbrev pub incomplete : Binding → List Text → Result (List Text) Fault
+incomplete names words = do
+  fault ← fault_of_if names words
   Err fault
 
 -- the statement that runs: of an &IF what follows it, or nothing where the comparison doesn't hold
-unfoldable pub guarded : Values → List Text → Result (List Text) Fault
-guarded vars (word ∷ left ∷ sign ∷ right ∷ words) =
+unfoldable pub guarded : Binding → List Text → Result (List Text) Fault
+guarded names (word ∷ left ∷ sign ∷ right ∷ words) =
     if is_if (word ∷ left ∷ sign ∷ right ∷ words)
     then (do
-      holds ← compared vars left sign right
-      if_holds holds (guarded vars words))
+      holds ← compared names left sign right
+      if_holds holds (guarded names words))
     else Ok (word ∷ left ∷ sign ∷ right ∷ words)
-guarded vars words = if is_if words then incomplete vars words else Ok words
+guarded names words = if is_if words then incomplete names words else Ok words
 
 -- ---- statements
 
@@ -135,7 +137,7 @@ run_kind s words = run_by (kind_of words) s words
 
 unfoldable pub run : Exec → List Text → Step
 run s words = do
-  statement ← guarded s.vars words
+  statement ← guarded (seen s) words
   run_kind s statement
 
 -- ---- one turn
@@ -152,9 +154,17 @@ words_at s = option_map_or statement_on (slice_get s.lines s.next) []
 abbrev pub past_line : Exec → Exec
 past_line s = if nat_lt s.next (length s.lines) then record s { next = s.next + 1; line = s.next + 1 } else s
 
+-- where a procedure stands, and the state there
+abbrev pub place_of : Exec → Place
+place_of s = record { next = s.next; line = s.line; moment = s.moment; action = s.action }
+
+abbrev pub at_place : Exec → Place → Exec
+at_place s place = record s { next = place.next; line = place.line; moment = place.moment; action = place.action }
+
 -- the error action runs where it is due, as if on the command's line
-abbrev pub advanced : Exec → Exec
-advanced s = if is_due s.action then record s { action = Running } else past_line (record s { action = Idle })
+abbrev pub advanced : Moment → Exec → Exec
+advanced moment s =
+    if is_due s.action then record s { action = Running; moment = moment } else past_line (record s { action = Idle; moment = moment })
 
 abbrev pub action_words : Option (List Text) → List Text
 action_words (Some words) = words
@@ -170,7 +180,7 @@ at_line line (Err fault) = Err (fault, line)
 
 -- the statement that is due, with the variables that are given at its line and moment
 unfoldable pub turned : Moment → Exec → Result (Exec × Want) (Fault × ℕ)
-turned moment s = at_line (advanced s).line (run (given_now moment (advanced s)) (due_words s))
+turned moment s = at_line (advanced moment s).line (run (advanced moment s) (due_words s))
 
 -- ---- between two statements
 
@@ -218,9 +228,9 @@ begun alloc lines called f = with_arguments (record {
   lines = lines;
   next = 0;
   line = 0;
-  vars = given_at_start called f finite.empty;
-  set = 0;
-  numbered = [];
+  moment = record { year = 1970; month = 1; day = 1; hour = 0; minute = 0; second = 0 };
+  start = at_start called f;
+  variables = record { arguments = finite.empty; others = finite.empty };
   count = 0;
   loops = [];
   calls = [];
@@ -232,7 +242,7 @@ begun alloc lines called f = with_arguments (record {
 
 -- ---- what a call answers
 
--- the defined state and want, or the fault and its line, after which nothing is said of the state
-abbrev pub Takes : Result (Exec × Want) (Fault × ℕ) → Exec → Want → Type 0
-Takes (Ok moved) new want = (new ≡ moved.0) × (want ≡ moved.1)
-Takes (Err failure) new want = want ≡ Failed (number_of_fault failure.0) failure.1
+-- the defined state and want, or the fault and its line, after which the procedure stands as before the call
+abbrev pub Takes : Result (Exec × Want) (Fault × ℕ) → Exec → Exec → Want → Type 0
+Takes (Ok moved) old new want = (new ≡ moved.0) × (want ≡ moved.1)
+Takes (Err failure) old new want = (new ≡ old) × (want ≡ Failed (number_of_fault failure.0) failure.1)

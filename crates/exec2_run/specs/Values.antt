@@ -2,7 +2,7 @@
 use Rattle.std.specs.Prelude.{Bool, true, false, List, [], ◌∷◌, ◌++◌, if◌then◌else◌, Result, Ok, Err}
 use Rattle.cms_fields.specs.Steps.{◌>>◌}
 use Rattle.cms_text.specs.Texts.{Text}
-use Rattle.exec2_parse.specs.Variables.{Values}
+use Rattle.exec2_parse.specs.Expansion.{Binding}
 use Rattle.exec2_parse.specs.Expansion.{expanded}
 use Rattle.exec2_parse.specs.declared.expansion.ExpandFault.{ExpandFault}
 use Rattle.exec2_funcs.specs.Calls.{called}
@@ -13,8 +13,8 @@ use Rattle.exec2_run.specs.declared.fault.Fault.TheVariants.{TooLong, BadStateme
 use Rattle.exec2_run.specs.declared.values.Operands.{Operands}
 
 -- what a word becomes
-abbrev pub value : Values → Text → Result Text Fault
-value vars word = with_fault of_expansion (expanded vars word)
+abbrev pub value : Binding → Text → Result Text Fault
+value names word = with_fault of_expansion (expanded names word)
 
 -- a word's value in front of others; nothing is left out, and behind one that is too long nothing counts
 abbrev pub in_front : Result Text ExpandFault → Operands → Operands
@@ -23,18 +23,18 @@ in_front (Ok (byte ∷ bytes)) more = record { words = (byte ∷ bytes) ∷ more
 in_front (Err fault) more = record { words = []; is_cut = true }
 
 -- what the words become from left to right, up to the first that becomes too long, without those that become nothing
-unfoldable pub operands : Values → List Text → Operands
-operands vars [] = record { words = []; is_cut = false }
-operands vars (word ∷ words) = in_front (expanded vars word) (operands vars words)
+unfoldable pub operands : Binding → List Text → Operands
+operands names [] = record { words = []; is_cut = false }
+operands names (word ∷ words) = in_front (expanded names word) (operands names words)
 
 abbrev pub kept_in_front : Result Text ExpandFault → Operands → Operands
 kept_in_front (Ok text) more = record { words = text ∷ more.words; is_cut = more.is_cut }
 kept_in_front (Err fault) more = record { words = []; is_cut = true }
 
 -- the same among a function's words, where one that becomes nothing is an empty word
-unfoldable pub arguments : Values → List Text → Operands
-arguments vars [] = record { words = []; is_cut = false }
-arguments vars (word ∷ words) = kept_in_front (expanded vars word) (arguments vars words)
+unfoldable pub arguments : Binding → List Text → Operands
+arguments names [] = record { words = []; is_cut = false }
+arguments names (word ∷ words) = kept_in_front (expanded names word) (arguments names words)
 
 -- values in front of others
 abbrev pub behind : List Text → Operands → Operands
@@ -54,7 +54,7 @@ ended [] is_cut = whole is_cut
 ended (word ∷ words) is_cut = Err BadStatement
 
 -- the words joined by a blank
-unfoldable pub text : Values → List Text → Result Text Fault
-text vars words = do
-  whole (operands vars words).is_cut
-  with_fault of_function (called function.String (operands vars words).words)
+unfoldable pub text : Binding → List Text → Result Text Fault
+text names words = do
+  whole (operands names words).is_cut
+  with_fault of_function (called function.String (operands names words).words)

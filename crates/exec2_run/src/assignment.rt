@@ -1,15 +1,16 @@
 // Assignments: the value of a right side.
 ghost use Rattle.std.specs.Prelude.{◌≡◌, IfOk, Ok, drop};
 ghost use Rattle.exec2_run.specs.Assignments as spec;
+ghost use Rattle.exec2_run.specs.Given.{bound};
 ghost use Rattle.exec2_run.specs.Faults.{Answers, Does};
 
+use crate::given::Seen;
 use crate::values::{Operands, arguments, expanded_words, missing, whole};
 use crate::variables::target;
 use crate::words::copied;
 use crate::{Exec, Fault, Want};
 use cms_text::{Word, WordList, is_keyword, number, written};
 use exec2_funcs::{FuncFault, Function, call};
-use exec2_parse::Vars;
 use std::alloc::{AllocError, Global};
 
 const PLUS: u8 = 0x4E;
@@ -35,7 +36,7 @@ impl Exec {
     /// Sets a variable to the value of a right side.
     #[tactic(auto, unfolding(crate::specs::Assignments::assigned))]
     pub fn assign(&mut self, words: &[Word]) -> Result<Want, Fault>
-        ensures { Does (spec.assigned self.old words.now) self.new result }
+        ensures { Does (spec.assigned self.old words.now) self.old self.new result }
     {
         let [name, _, right @ ..] = words else {
             return Err(Fault::BadStatement);
@@ -47,10 +48,10 @@ impl Exec {
     }
 
     fn assign_to(&mut self, name: &Word, right: &[Word]) -> Result<Want, Fault>
-        ensures { Does (spec.assigned_to self.old name.now right.now) self.new result }
+        ensures { Does (spec.assigned_to self.old name.now right.now) self.old self.new result }
     {
-        let name = target(self.alloc, &self.vars, name)?;
-        let value = right_side(self.alloc, &self.vars, right)?;
+        let name = target(self.alloc, &self.seen(), name)?;
+        let value = right_side(self.alloc, &self.seen(), right)?;
         match self.set_to(name, value) {
             Ok(want) => Ok(want),
             Err(fault) => Err(fault),
@@ -60,13 +61,13 @@ impl Exec {
 
 /// The value of what stands behind the equal sign.
 #[tactic(auto, unfolding(crate::specs::Assignments::right_side))]
-fn right_side(alloc: Global, vars: &Vars, words: &[Word]) -> Result<Word, Fault>
-    ensures { Answers (spec.right_side vars.now words.now) result }
+fn right_side(alloc: Global, seen: &Seen<'_>, words: &[Word]) -> Result<Word, Fault>
+    ensures { Answers (spec.right_side (bound seen.now) words.now) result }
 {
     if let Some(function) = function_of(words) {
-        return function_value(alloc, vars, function, behind_of(words));
+        return function_value(alloc, seen, function, behind_of(words));
     }
-    plain_value(alloc, &expanded_words(alloc, vars, words)?)
+    plain_value(alloc, &expanded_words(alloc, seen, words)?)
 }
 
 /// The function that is called: a function word stands first, and OF behind it.
@@ -98,11 +99,11 @@ fn behind_of(words: &[Word]) -> &[Word]
 #[tactic(auto, unfolding(crate::specs::Assignments::function_value))]
 fn function_value(
     alloc: Global,
-    vars: &Vars,
+    seen: &Seen<'_>,
     function: Function,
     words: &[Word],
 ) -> Result<Word, Fault>
-    ensures { Answers (spec.function_value vars.now function words.now) result }
+    ensures { Answers (spec.function_value (bound seen.now) function words.now) result }
 {
     if function == Function::Literal {
         return Ok(call(alloc, function, &copied(alloc, words)?)?);
@@ -110,7 +111,7 @@ fn function_value(
     if !takes(function, words.len()) {
         return Err(Fault::Arity);
     }
-    let arguments = arguments(alloc, vars, words)?;
+    let arguments = arguments(alloc, seen, words)?;
     if arguments.is_cut {
         return Err(fault_before(alloc, function, arguments.words)?);
     }

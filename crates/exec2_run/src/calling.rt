@@ -1,12 +1,16 @@
 // &CALL and &RETURN.
+ghost use Rattle.std.specs.Prelude.{◌≡◌, OnOk, OnErr};
 ghost use Rattle.exec2_run.specs.Calls as spec;
-ghost use Rattle.exec2_run.specs.Faults.{Does, Leads};
+ghost use Rattle.exec2_run.specs.Faults.{Does};
 
 use crate::calls::Call;
 use crate::loops::Loops;
 use crate::values::{ended, expanded_words, missing, whole};
+use crate::variables::numbered;
 use crate::{Exec, Fault, Want};
 use cms_text::Word;
+use exec2_parse::Vars;
+use std::alloc::AllocError;
 
 /// The most calls that may be open.
 const MOST: usize = 100;
@@ -15,9 +19,9 @@ impl Exec {
     /// &CALL, with a label and the arguments.
     #[tactic(auto, unfolding(crate::specs::Calls::called))]
     pub fn call(&mut self, words: &[Word]) -> Result<Want, Fault>
-        ensures { Does (spec.called self.old words.now) self.new result }
+        ensures { Does (spec.called self.old words.now) self.old self.new result }
     {
-        let operands = expanded_words(self.alloc, &self.vars, words)?;
+        let operands = expanded_words(self.alloc, &self.seen(), words)?;
         let [label, values @ ..] = operands.words.as_slice() else {
             return Err(missing(operands.is_cut));
         };
@@ -28,7 +32,7 @@ impl Exec {
     }
 
     fn call_at(&mut self, label: &Word, values: &[Word], is_cut: bool) -> Result<Want, Fault>
-        ensures { Does (spec.called_at self.old label.now values.now is_cut) self.new result }
+        ensures { Does (spec.called_at self.old label.now values.now is_cut) self.old self.new result }
     {
         let place = self.place_named(label.bytes())?;
         whole(is_cut)?;
@@ -39,47 +43,75 @@ impl Exec {
     }
 
     /// Goes on at a place with these arguments.
+    #[tactic(auto, unfolding(crate::specs::Calls::entered))]
     fn enter(&mut self, place: u32, values: &[Word]) -> Result<Want, Fault>
-        ensures { Does (spec.entered self.old place values.now) self.new result }
-    {
-        self.put_aside()?;
-        self.next = place;
-        self.set_arguments(values)?;
-        Ok(Want::Next)
-    }
-
-    /// Puts this line, the open loops and the arguments aside.
-    #[tactic(auto, unfolding(crate::specs::Calls::put_aside))]
-    fn put_aside(&mut self) -> Result<(), Fault>
-        ensures { Leads (spec.put_aside self.old) self.new result }
+        ensures { Does (spec.entered self.old place values.now) self.old self.new result }
     {
         if self.calls.len() >= MOST {
             return Err(Fault::TooDeep);
         }
-        let arguments = self.kept_arguments()?;
-        let loops = std::mem::replace(&mut self.loops, Loops::new(self.alloc));
-        self.calls.push(Call {
+        self.variables.room_for(values.len())?;
+        let arguments = numbered(self.alloc, values)?;
+        self.put_aside(arguments, values.len())?;
+        self.next = place;
+        Ok(Want::Next)
+    }
+
+    /// Puts this line, the open loops and the arguments aside, and takes these arguments.
+    fn put_aside(&mut self, arguments: Vars, count: usize) -> Result<(), AllocError>
+        ensures ok { OnOk result (self.new ≡ spec.put_aside self.old arguments count) }
+        ensures err { OnErr result (self.new ≡ self.old) }
+    {
+        let call = Call {
             line: self.line,
-            loops,
-            arguments,
+            loops: std::mem::replace(&mut self.loops, Loops::new(self.alloc)),
+            arguments: std::mem::replace(&mut self.variables.arguments, arguments),
             count: self.count,
-        })?;
-        Ok(())
+        };
+        match self.calls.push(call) {
+            Ok(()) => {
+                self.count = count;
+                Ok(())
+            }
+            Err(refused) => {
+                self.loops = refused.loops;
+                self.variables.arguments = refused.arguments;
+                Err(AllocError)
+            }
+        }
     }
 
     /// &RETURN.
     #[tactic(auto, unfolding(crate::specs::Calls::returned))]
     pub fn give_back(&mut self, words: &[Word]) -> Result<Want, Fault>
-        ensures { Does (spec.returned self.old words.now) self.new result }
+        ensures { Does (spec.returned self.old words.now) self.old self.new result }
     {
+        if self.calls.get(0).is_none() {
+            return Err(Fault::NoCall);
+        }
+        let operands = expanded_words(self.alloc, &self.seen(), words)?;
+        ended(operands.words.as_slice(), operands.is_cut)?;
+        match self.go_back() {
+            Ok(want) => Ok(want),
+            Err(fault) => Err(fault),
+        }
+    }
+
+    /// Goes to the line behind the last &CALL with what was put aside.
+    fn go_back(&mut self) -> Result<Want, Fault>
+        ensures { Does (spec.gone_back self.old self.old.calls) self.old self.new result }
+    {
+        let Some(last) = self.calls.get(0) else {
+            return Err(Fault::NoCall);
+        };
+        self.variables.room_for(last.arguments.len())?;
         let Some(call) = self.calls.pop() else {
             return Err(Fault::NoCall);
         };
-        let operands = expanded_words(self.alloc, &self.vars, words)?;
-        ended(operands.words.as_slice(), operands.is_cut)?;
         self.next = call.line;
         self.loops = call.loops;
-        self.restore_arguments(call.arguments.as_slice(), call.count)?;
+        self.variables.arguments = call.arguments;
+        self.count = call.count;
         Ok(Want::Next)
     }
 }

@@ -1,13 +1,14 @@
 // Comparisons.
 ghost use Rattle.std.specs.Prelude.{◌≡◌, IfOk};
 ghost use Rattle.exec2_run.specs.Comparisons as spec;
+ghost use Rattle.exec2_run.specs.Given.{bound};
 ghost use Rattle.exec2_run.specs.Faults.{Answers};
 
 use crate::Fault;
+use crate::given::Seen;
 use crate::loops::Test;
 use crate::values::value;
 use cms_text::{BLANK, Word, is_keyword, number};
-use exec2_parse::Vars;
 use std::alloc::{AllocError, Global};
 use std::cmp::Ordering;
 
@@ -113,11 +114,11 @@ pub fn holds(
 
 /// Whether the comparison of a WHILE or UNTIL holds now.
 #[tactic(auto, unfolding(crate::specs::Comparisons::test_holds))]
-pub fn test_holds(alloc: Global, vars: &Vars, test: &Test) -> Result<bool, Fault>
-    ensures { Answers (spec.test_holds vars.now test.now) result }
+pub fn test_holds(alloc: Global, seen: &Seen<'_>, test: &Test) -> Result<bool, Fault>
+    ensures { Answers (spec.test_holds (bound seen.now) test.now) result }
 {
-    let left = value(alloc, vars, &test.left)?;
-    let right = value(alloc, vars, &test.right)?;
+    let left = value(alloc, seen, &test.left)?;
+    let right = value(alloc, seen, &test.right)?;
     Ok(holds(alloc, test.comparison, &left, &right)?)
 }
 

@@ -1,24 +1,25 @@
 // A procedure that runs.
-ghost use Rattle.std.specs.Prelude.{◌≡◌, ◌≢◌, IfOk, IfErr, OnOk, Ok, Err, ◌⊎◌, MatchResult, drop, length, unwrap_or, slice_get};
+ghost use Rattle.std.specs.Prelude.{◌≡◌, ◌≢◌, IfOk, IfErr, OnOk, OnErr, Ok, Err, ◌⊎◌, MatchResult, drop, length, unwrap_or, slice_get};
 ghost use Rattle.exec2_run.specs.Faults.{Answers, Does, Leads, number_of_fault};
-ghost use Rattle.exec2_run.specs.Given.{given_now};
+ghost use Rattle.exec2_run.specs.Given.{bound, seen, seen_at};
 ghost use Rattle.exec2_run.specs.Steps as spec;
 ghost use Rattle.exec2_run.specs.Kinds.{is_if};
 ghost use Rattle.exec2_run.specs.Steps.{Takes};
 
-use crate::calls::Calls;
+use crate::calls::{Calls, line_of_last};
 use crate::comparison::{Comparison, holds};
-use crate::given::{behind_name, give_all, give_at_start};
+use crate::given::{AtStart, Seen, Standing, behind_name};
 use crate::kind::{Control, Kind, kind_of};
 use crate::loops::Loops;
 use crate::reading::Reading;
 use crate::values::{ended, expanded_words, value, whole};
+use crate::variables::Variables;
 use crate::words::{copied, is_comment, statement_of, words_of};
 use crate::{Fault, Want};
 use cms_fields::Moment;
 use cms_names::Name;
 use cms_text::{Line, Word, WordList, number};
-use exec2_parse::{Procedure, Vars};
+use exec2_parse::Procedure;
 use std::alloc::{AllocError, Global};
 
 /// The file of a procedure as it was found.
@@ -41,6 +42,25 @@ pub enum ErrorAction {
     Running,
 }
 
+/// Where a procedure stands: what a turn changes before its statement runs.
+#[derive(Clone, Copy, Debug)]
+struct Place {
+    next: u32,
+    line: u32,
+    moment: Moment,
+    action: ErrorAction,
+}
+
+/// The moment of a procedure before its first statement, which no statement sees.
+const FIRST_MOMENT: Moment = Moment {
+    year: 1970,
+    month: 1,
+    day: 1,
+    hour: 0,
+    minute: 0,
+    second: 0,
+};
+
 /// A procedure that runs, a statement at a time.
 #[derive(Drop)]
 pub struct Exec {
@@ -50,12 +70,10 @@ pub struct Exec {
     pub(crate) next: u32,
     /// The line of the statement or test that ran last, from 1.
     pub(crate) line: u32,
-    /// All variables, with those that are given.
-    pub(crate) vars: Vars,
-    /// How many variables are set, without those that are given.
-    pub(crate) set: usize,
-    /// The names of the arguments that are set.
-    pub(crate) numbered: WordList,
+    /// The moment of the statement that ran last.
+    pub(crate) moment: Moment,
+    pub(crate) start: AtStart,
+    pub(crate) variables: Variables,
     /// How many arguments there are, which is &N.
     pub(crate) count: usize,
     pub(crate) loops: Loops,
@@ -79,16 +97,14 @@ impl Exec {
     ) -> Result<Exec, AllocError>
         ensures { IfOk result (λ exec. spec.begun alloc procedure called.now found.now ≡ Ok exec) }
     {
-        let mut vars = Vars::new(alloc);
-        give_at_start(alloc, &mut vars, called, found)?;
         let mut exec = Exec {
             alloc,
             lines: procedure,
             next: 0,
             line: 0,
-            vars,
-            set: 0,
-            numbered: WordList::new(alloc),
+            moment: FIRST_MOMENT,
+            start: AtStart::of(alloc, called, found)?,
+            variables: Variables::new(alloc),
             count: 0,
             loops: Loops::new(alloc),
             calls: Calls::new(alloc),
@@ -105,17 +121,44 @@ impl Exec {
     }
 
     /// Finds the next line, and makes the loops' tests that are due at the moment of the last statement. It spends no turn. It answers
-    /// `Next` where a statement is due, `Ended(0)` past the last line, and `Failed` where a test has a fault.
+    /// `Next` where a statement is due, `Ended(0)` past the last line, and `Failed` where a test has a fault. After that, and without
+    /// memory, the procedure stands as before.
     #[tactic(auto, unfolding(crate::specs::Steps::settled))]
     pub fn settle(&mut self, moment: &Moment) -> Result<Want, AllocError>
-        ensures { IfOk result (λ want. Takes (spec.settled moment.now self.old) self.new want) }
+        ensures step { IfOk result (λ want. Takes (spec.settled moment.now self.old) self.old self.new want) }
+        ensures err { OnErr result (self.new ≡ self.old) }
     {
         if self.is_due() {
             return Ok(Want::Next);
         }
         match self.settle_loops(moment) {
             Ok(()) => Ok(self.at_next()),
-            Err(fault) => failed(fault, self.line),
+            Err((fault, line)) => failed(fault, line),
+        }
+    }
+
+    /// What the names stand for in the statement that runs.
+    pub(crate) fn seen(&self) -> Seen<'_>
+        ensures { bound result ≡ seen self.now }
+    {
+        self.seen_at(self.line, &self.moment)
+    }
+
+    /// What they stand for at a line and a moment.
+    pub(crate) fn seen_at(&self, line: u32, moment: &Moment) -> Seen<'_>
+        ensures { bound result ≡ seen_at self.now line moment.now }
+    {
+        Seen {
+            start: &self.start,
+            standing: Standing {
+                count: self.count,
+                code: self.code,
+                line,
+                depth: self.calls.len(),
+                from: line_of_last(&self.calls),
+                moment: *moment,
+            },
+            variables: &self.variables,
         }
     }
 
@@ -130,39 +173,59 @@ impl Exec {
         }
     }
 
-    /// Runs one statement at a turn's moment: the error action where it is due, else that of the next line.
+    /// Runs one statement at a turn's moment: the error action where it is due, else that of the next line. After `Failed`, and without
+    /// memory, the procedure stands as before.
     #[tactic(auto, unfolding(crate::specs::Steps::turned))]
     pub fn turn(&mut self, moment: &Moment) -> Result<Want, AllocError>
-        ensures { IfOk result (λ want. Takes (spec.turned moment.now self.old) self.new want) }
+        ensures step { IfOk result (λ want. Takes (spec.turned moment.now self.old) self.old self.new want) }
+        ensures err { OnErr result (self.new ≡ self.old) }
     {
-        let words = self.next_statement()?;
-        let line = self.line;
-        match self.run_at(words.as_slice(), moment) {
+        let words = self.statement_due()?;
+        let before = self.place();
+        self.advance(moment);
+        match self.run(words.as_slice()) {
             Ok(want) => Ok(want),
-            Err(fault) => failed(fault, line),
+            Err(fault) => {
+                let line = self.line;
+                self.go_to_place(before);
+                failed(fault, line)
+            }
         }
     }
 
-    fn run_at(&mut self, words: &[Word], moment: &Moment) -> Result<Want, Fault>
-        ensures { Does (spec.run (given_now moment.now self.old) words.now) self.new result }
+    fn place(&self) -> Place
+        ensures { result ≡ spec.place_of self.now }
     {
-        give_all(self, moment)?;
-        match self.run(words) {
-            Ok(want) => Ok(want),
-            Err(fault) => Err(fault),
+        Place {
+            next: self.next,
+            line: self.line,
+            moment: self.moment,
+            action: self.action,
         }
     }
 
-    /// Takes the line that `Read` asked for.
+    fn go_to_place(&mut self, place: Place)
+        ensures { self.new ≡ spec.at_place self.old place }
+    {
+        self.next = place.next;
+        self.line = place.line;
+        self.moment = place.moment;
+        self.action = place.action;
+    }
+
+    /// Takes the line that `Read` asked for. After `Failed`, and without memory, it is still asked for.
     #[tactic(auto, unfolding(crate::specs::Steps::line_taken))]
     pub fn take_line(&mut self, line: &Line) -> Result<Want, AllocError>
-        ensures { IfOk result (λ want. Takes (spec.line_taken self.old line.now) self.new want) }
+        ensures step { IfOk result (λ want. Takes (spec.line_taken self.old line.now) self.old self.new want) }
+        ensures err { OnErr result (self.new ≡ self.old) }
     {
         let reading = std::mem::replace(&mut self.reading, Reading::Nothing);
-        let at = self.line;
-        match self.take(reading, line) {
+        match self.take(&reading, line) {
             Ok(()) => Ok(Want::Next),
-            Err(fault) => failed(fault, at),
+            Err(fault) => {
+                self.reading = reading;
+                failed(fault, self.line)
+            }
         }
     }
 
@@ -187,22 +250,12 @@ impl Exec {
 
     /// What follows where the program stack has no room for the lines: fault 13 at this line, and the procedure stays as it was.
     pub fn refuse_stack(&mut self) -> Want
-        ensures { Takes (spec.refused self.old) self.new result }
+        ensures { Takes (spec.refused self.old) self.old self.new result }
     {
         Want::Failed {
             number: Fault::StackFull.number(),
             line: self.line,
         }
-    }
-
-    /// Goes to the statement that runs next, and gives its words.
-    fn next_statement(&mut self) -> Result<WordList, AllocError>
-        ensures words { IfOk result (λ words. words ≡ spec.due_words self.old) }
-        ensures state { OnOk result (self.new ≡ spec.advanced self.old) }
-    {
-        let words = self.statement_due()?;
-        self.advance();
-        Ok(words)
     }
 
     /// Whether the error action runs next.
@@ -235,9 +288,10 @@ impl Exec {
     }
 
     /// Goes to the statement that is due.
-    fn advance(&mut self)
-        ensures { self.new ≡ spec.advanced self.old }
+    fn advance(&mut self, moment: &Moment)
+        ensures { self.new ≡ spec.advanced moment.now self.old }
     {
+        self.moment = *moment;
         if self.is_due() {
             self.action = ErrorAction::Running;
         } else {
@@ -282,7 +336,7 @@ impl Exec {
 
     #[tactic(auto, unfolding(crate::specs::Steps::run))]
     fn run(&mut self, words: &[Word]) -> Result<Want, Fault>
-        ensures { Does (spec.run self.old words.now) self.new result }
+        ensures { Does (spec.run self.old words.now) self.old self.new result }
     {
         let statement = self.guarded(words)?;
         match self.run_kind(statement) {
@@ -294,8 +348,8 @@ impl Exec {
     /// The statement that runs: of &IF and a comparison what follows it, or nothing where that doesn't hold.
     #[tactic(auto, unfolding(crate::specs::Steps::guarded))]
     fn guarded<'w>(&self, words: &'w [Word]) -> Result<&'w [Word], Fault>
-        ensures { MatchResult result (λ statement. spec.guarded self.now.vars words.now ≡ Ok statement.now)
-            (λ fault. (fault ≡ Fault.Memory) ⊎ (spec.guarded self.now.vars words.now ≡ Err fault)) }
+        ensures { MatchResult result (λ statement. spec.guarded (seen self.now) words.now ≡ Ok statement.now)
+            (λ fault. (fault ≡ Fault.Memory) ⊎ (spec.guarded (seen self.now) words.now ≡ Err fault)) }
     {
         let mut rest = words;
         while is_if(rest) {
@@ -312,27 +366,27 @@ impl Exec {
 
     /// The fault of an &IF without three words behind it.
     fn fault_of_if(&self, words: &[Word]) -> Result<Fault, Fault>
-        ensures { Answers (spec.fault_of_if self.now.vars words.now) result }
+        ensures { Answers (spec.fault_of_if (seen self.now) words.now) result }
     {
         if let [_, left, ..] = words {
-            value(self.alloc, &self.vars, left)?;
+            value(self.alloc, &self.seen(), left)?;
         }
         Ok(Fault::BadStatement)
     }
 
     fn compare(&self, left: &Word, sign: &Word, right: &Word) -> Result<bool, Fault>
-        ensures { Answers (spec.compared self.now.vars left.now sign.now right.now) result }
+        ensures { Answers (spec.compared (seen self.now) left.now sign.now right.now) result }
     {
-        let left = value(self.alloc, &self.vars, left)?;
+        let left = value(self.alloc, &self.seen(), left)?;
         let comparison = Comparison::read(sign.bytes()).ok_or(Fault::BadStatement)?;
-        let right = value(self.alloc, &self.vars, right)?;
+        let right = value(self.alloc, &self.seen(), right)?;
         Ok(holds(self.alloc, comparison, &left, &right)?)
     }
 
     /// Runs a statement that no &IF guards.
     #[tactic(auto, unfolding(crate::specs::Steps::run_kind))]
     fn run_kind(&mut self, words: &[Word]) -> Result<Want, Fault>
-        ensures { Does (spec.run_kind self.old words.now) self.new result }
+        ensures { Does (spec.run_kind self.old words.now) self.old self.new result }
     {
         match kind_of(words) {
             Kind::Nothing => Ok(Want::Next),
@@ -344,7 +398,7 @@ impl Exec {
 
     #[tactic(auto, unfolding(crate::specs::Steps::run_control))]
     fn run_control(&mut self, control: Control, words: &[Word]) -> Result<Want, Fault>
-        ensures { Does (spec.run_control control self.old words.now) self.new result }
+        ensures { Does (spec.run_control control self.old words.now) self.old self.new result }
     {
         match control {
             Control::Trace | Control::End | Control::If => Ok(Want::Next),
@@ -367,7 +421,7 @@ impl Exec {
 
     /// &ERROR and a statement, which is kept, or alone.
     fn set_error(&mut self, words: &[Word]) -> Result<Want, Fault>
-        ensures { Does (Ok (spec.with_error self.old words.now, Want.Next)) self.new result }
+        ensures { Does (Ok (spec.with_error self.old words.now, Want.Next)) self.old self.new result }
     {
         self.error = self.error_of(words)?;
         Ok(Want::Next)
@@ -387,7 +441,7 @@ impl Exec {
     fn exit(&self, words: &[Word]) -> Result<Want, Fault>
         ensures { Answers (spec.exited self.now words.now) result }
     {
-        let operands = expanded_words(self.alloc, &self.vars, words)?;
+        let operands = expanded_words(self.alloc, &self.seen(), words)?;
         match operands.words.as_slice() {
             [] => {
                 whole(operands.is_cut)?;

@@ -1,13 +1,14 @@
 // The variables that are given.
-ghost use Rattle.std.specs.Prelude.{◌≡◌, ◌≤◌, length, IfOk, OnOk};
+ghost use Rattle.std.specs.Prelude.{◌≡◌, ◌≤◌, length, IfOk};
 ghost use Rattle.cms_text.specs.Texts as texts;
 ghost use Rattle.exec2_run.specs.Given as spec;
 
-use crate::{Exec, FileName};
+use crate::FileName;
+use crate::variables::Variables;
 use cms_fields::Moment;
 use cms_names::Part;
 use cms_text::{BLANK, Line, Word, ebcdic, is_keyword, written};
-use exec2_parse::Vars;
+use exec2_parse::Scope;
 use std::alloc::{AllocError, Global};
 
 /// A variable that is given and can't be set (VM/SP EXEC 2 Reference, predefined variables).
@@ -101,13 +102,6 @@ pub fn is_given(name: &[u8]) -> bool
     Predefined::read(name).is_some()
 }
 
-/// Gives a variable its value.
-fn give(alloc: Global, vars: &mut Vars, given: Predefined, value: Word) -> Result<(), AllocError>
-    ensures { OnOk result (vars.new ≡ spec.give given value vars.old) }
-{
-    vars.set(word_of(alloc, given.name())?, value)
-}
-
 /// An ASCII text as a word.
 fn word_of(alloc: Global, text: &str) -> Result<Word, AllocError>
     requires { length text.now ≤ 255 }
@@ -125,103 +119,96 @@ pub fn numeral(alloc: Global, number: usize) -> Result<Word, AllocError>
     word_of(alloc, text.as_str())
 }
 
-/// The variables with those that are given: the arguments' number, the last command's code, this line, the open calls, the line
-/// of the last of them, and the moment.
-#[tactic(auto, unfolding(crate::specs::Given::given_now))]
-pub fn give_all(exec: &mut Exec, moment: &Moment) -> Result<(), AllocError>
-    ensures given { OnOk result (exec.new ≡ spec.given_now moment.now exec.old) }
-    ensures line { exec.new.line ≡ exec.old.line }
-    ensures loops { exec.new.loops ≡ exec.old.loops }
-{
-    let alloc = exec.alloc;
-    let count = exec.count;
-    give(
-        alloc,
-        &mut exec.vars,
-        Predefined::Count,
-        numeral(alloc, count)?,
-    )?;
-    give(
-        alloc,
-        &mut exec.vars,
-        Predefined::Index,
-        numeral(alloc, count)?,
-    )?;
-    let code = i64::from(exec.code);
-    give(alloc, &mut exec.vars, Predefined::Rc, written(alloc, code)?)?;
-    give(
-        alloc,
-        &mut exec.vars,
-        Predefined::Retcode,
-        written(alloc, code)?,
-    )?;
-    let line = exec.line as usize;
-    give(
-        alloc,
-        &mut exec.vars,
-        Predefined::Line,
-        numeral(alloc, line)?,
-    )?;
-    give(
-        alloc,
-        &mut exec.vars,
-        Predefined::Linenum,
-        numeral(alloc, line)?,
-    )?;
-    let depth = exec.calls.len();
-    give(
-        alloc,
-        &mut exec.vars,
-        Predefined::Depth,
-        numeral(alloc, depth)?,
-    )?;
-    let from = exec.calls.last_line() as usize;
-    give(
-        alloc,
-        &mut exec.vars,
-        Predefined::From,
-        numeral(alloc, from)?,
-    )?;
-    give(
-        alloc,
-        &mut exec.vars,
-        Predefined::Date,
-        date(alloc, moment)?,
-    )?;
-    give(
-        alloc,
-        &mut exec.vars,
-        Predefined::Time,
-        time(alloc, moment)?,
-    )
+/// What is fixed where a procedure begins.
+#[derive(Debug, Drop)]
+pub struct AtStart {
+    /// The procedure's name.
+    name: Word,
+    kind: Word,
+    mode: Word,
+    /// The called line behind the name and one blank.
+    rest: Word,
+    /// The line from the procedure's name on.
+    called: Word,
 }
 
-/// The variables that stay as they are given at the start.
-#[tactic(auto, unfolding(crate::specs::Given::given_at_start))]
-pub fn give_at_start(
+impl AtStart {
+    /// What is fixed for a procedure that is called by a line and was found in a file.
+    pub fn of(alloc: Global, called: &Line, found: &FileName) -> Result<AtStart, AllocError>
+        ensures { IfOk result (λ start. start ≡ spec.at_start called.now found.now) }
+    {
+        Ok(AtStart {
+            name: part_word(alloc, &found.name.file)?,
+            kind: part_word(alloc, &found.name.kind)?,
+            mode: mode(alloc, found)?,
+            rest: Word::of(alloc, without_one_blank(behind_name(called.bytes())))?,
+            called: Word::of(alloc, called.bytes())?,
+        })
+    }
+}
+
+/// Where a procedure stands.
+#[derive(Clone, Copy, Debug)]
+pub struct Standing {
+    /// How many arguments there are.
+    pub count: usize,
+    /// The last command's code.
+    pub code: i32,
+    /// The line of the statement or test that runs, from 1.
+    pub line: u32,
+    /// How many calls are open.
+    pub depth: usize,
+    /// The line of the last open &CALL, or 0.
+    pub from: u32,
+    pub moment: Moment,
+}
+
+/// What the names in a statement stand for: what is given, and what was set.
+#[derive(Clone, Copy)]
+pub struct Seen<'e> {
+    pub start: &'e AtStart,
+    pub standing: Standing,
+    pub variables: &'e Variables,
+}
+
+impl Scope for Seen<'_> {
+    ghost use Rattle.exec2_run.specs.Given.{bound};
+
+    ghost binding = { bound };
+
+    #[tactic(auto, unfolding(crate::specs::Given::known))]
+    fn value(&self, alloc: Global, name: &[u8]) -> Result<Word, AllocError> {
+        match Predefined::read(name) {
+            Some(given) => value_given(alloc, self.start, &self.standing, given),
+            None => self.variables.value(alloc, name),
+        }
+    }
+}
+
+/// The value of a variable that is given.
+fn value_given(
     alloc: Global,
-    vars: &mut Vars,
-    called: &Line,
-    found: &FileName,
-) -> Result<(), AllocError>
-    ensures { OnOk result (vars.new ≡ spec.given_at_start called.now found.now vars.old) }
+    start: &AtStart,
+    at: &Standing,
+    given: Predefined,
+) -> Result<Word, AllocError>
+    ensures { IfOk result (λ value. value ≡ spec.value_given start.now at.now given) }
 {
-    let name = part_word(alloc, &found.name.file)?;
-    give(alloc, vars, Predefined::Procedure, name)?;
-    let name = part_word(alloc, &found.name.file)?;
-    give(alloc, vars, Predefined::Filename, name)?;
-    let kind = part_word(alloc, &found.name.kind)?;
-    give(alloc, vars, Predefined::Filetype, kind)?;
-    give(alloc, vars, Predefined::Filemode, mode(alloc, found)?)?;
-    give(alloc, vars, Predefined::Blank, Word::of(alloc, &[BLANK])?)?;
-    let rest = Word::of(alloc, without_one_blank(behind_name(called.bytes())))?;
-    give(alloc, vars, Predefined::Argstring, rest)?;
-    give(
-        alloc,
-        vars,
-        Predefined::Cmdstring,
-        Word::of(alloc, called.bytes())?,
-    )
+    match given {
+        Predefined::Procedure | Predefined::Filename => Word::of(alloc, start.name.bytes()),
+        Predefined::Filetype => Word::of(alloc, start.kind.bytes()),
+        Predefined::Filemode => Word::of(alloc, start.mode.bytes()),
+        Predefined::Argstring => Word::of(alloc, start.rest.bytes()),
+        Predefined::Cmdstring => Word::of(alloc, start.called.bytes()),
+        Predefined::Blank => Word::of(alloc, &[BLANK]),
+        Predefined::Count | Predefined::Index => numeral(alloc, at.count),
+        Predefined::Rc | Predefined::Retcode => written(alloc, i64::from(at.code)),
+        Predefined::Line | Predefined::Linenum => numeral(alloc, at.line as usize),
+        Predefined::Depth => numeral(alloc, at.depth),
+        Predefined::From => numeral(alloc, at.from as usize),
+        Predefined::Date => date(alloc, &at.moment),
+        Predefined::Time => time(alloc, &at.moment),
+    }
 }
 
 const LEFT_PARENTHESIS: u8 = 0x4D;

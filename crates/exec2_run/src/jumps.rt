@@ -60,9 +60,9 @@ impl Exec {
     /// &GOTO -label.
     #[tactic(auto, unfolding(crate::specs::Jumps::gone))]
     pub fn go_to(&mut self, words: &[Word]) -> Result<Want, Fault>
-        ensures { Does (spec.gone self.old words.now) self.new result }
+        ensures { Does (spec.gone self.old words.now) self.old self.new result }
     {
-        let operands = expanded_words(self.alloc, &self.vars, words)?;
+        let operands = expanded_words(self.alloc, &self.seen(), words)?;
         let [label, others @ ..] = operands.words.as_slice() else {
             return Err(missing(operands.is_cut));
         };
@@ -75,9 +75,9 @@ impl Exec {
     /// &SKIP, with a number or without.
     #[tactic(auto, unfolding(crate::specs::Jumps::skipped))]
     pub fn skip(&mut self, words: &[Word]) -> Result<Want, Fault>
-        ensures { Does (spec.skipped self.old words.now) self.new result }
+        ensures { Does (spec.skipped self.old words.now) self.old self.new result }
     {
-        let operands = expanded_words(self.alloc, &self.vars, words)?;
+        let operands = expanded_words(self.alloc, &self.seen(), words)?;
         let place = match operands.words.as_slice() {
             [] => {
                 whole(operands.is_cut)?;

@@ -15,6 +15,7 @@ mod looping;
 mod loops;
 mod output;
 mod reading;
+mod stack;
 mod values;
 mod variables;
 mod want;

@@ -1,19 +1,19 @@
 // &LOOP, and the passes of loops.
-ghost use Rattle.std.specs.Prelude.{◌≡◌, ◌⊎◌, Ok, Err, false, IfOk, IfErr, OnOk, MatchResult};
+ghost use Rattle.std.specs.Prelude.{◌≡◌, ◌⊎◌, Ok, Err, true, drop, MatchResult};
+ghost use Rattle.exec2_run.specs.Given.{bound, seen};
 ghost use Rattle.exec2_run.specs.Faults.{Answers, Does};
-ghost use Rattle.exec2_run.specs.Loops.{Settles};
+ghost use Rattle.exec2_run.specs.Faults.{Settles};
 ghost use Rattle.exec2_run.specs.Loops as spec;
 
 use crate::comparison::{Comparison, test_holds};
-use crate::given::give_all;
+use crate::given::Seen;
 use crate::jumps::label_from;
-use crate::loops::{Loop, Passes, Test};
+use crate::loops::{Loop, Loops, Passes, Test};
 use crate::values::{ended, expanded_words, missing, value};
 use crate::words::{ASTERISK, is_label};
 use crate::{Exec, Fault, Want};
 use cms_fields::Moment;
 use cms_text::{Word, is_keyword, number};
-use exec2_parse::Vars;
 use std::alloc::{AllocError, Global};
 
 /// The most loops that may be open.
@@ -30,9 +30,9 @@ impl Exec {
     /// &LOOP, with a number of lines or a label, and how often they are repeated.
     #[tactic(auto, unfolding(crate::specs::Loops::looped))]
     pub fn repeat(&mut self, words: &[Word]) -> Result<Want, Fault>
-        ensures { Does (spec.looped self.old words.now) self.new result }
+        ensures { Does (spec.looped self.old words.now) self.old self.new result }
     {
-        let first = first_of(self.alloc, &self.vars, words)?;
+        let first = first_of(self.alloc, &self.seen(), words)?;
         match self.repeat_range(first.value.bytes(), first.behind) {
             Ok(want) => Ok(want),
             Err(fault) => Err(fault),
@@ -40,10 +40,10 @@ impl Exec {
     }
 
     fn repeat_range(&mut self, range: &[u8], words: &[Word]) -> Result<Want, Fault>
-        ensures { Does (spec.range_looped self.old range.now words.now) self.new result }
+        ensures { Does (spec.range_looped self.old range.now words.now) self.old self.new result }
     {
         let past = self.end_of_range(range)?;
-        let passes = passes(self.alloc, &self.vars, words)?;
+        let passes = passes(self.alloc, &self.seen(), words)?;
         match self.open_loop(past, passes) {
             Ok(want) => Ok(want),
             Err(fault) => Err(fault),
@@ -75,7 +75,7 @@ impl Exec {
     /// Opens a loop up to a place, or goes there where there is no pass.
     #[tactic(auto, unfolding(crate::specs::Loops::opened))]
     fn open_loop(&mut self, past: u32, passes: Passes) -> Result<Want, Fault>
-        ensures { Does (spec.opened self.old past passes) self.new result }
+        ensures { Does (spec.opened self.old past passes) self.old self.new result }
     {
         match self.first_pass(passes)? {
             None => {
@@ -86,25 +86,28 @@ impl Exec {
                 if self.loops.len() >= MOST {
                     return Err(Fault::TooDeep);
                 }
-                self.loops.push(Loop {
+                let inner = Loop {
                     line: self.line,
                     first: self.next,
                     past,
                     passes,
-                })?;
-                Ok(Want::Next)
+                };
+                match self.loops.push(inner) {
+                    Ok(()) => Ok(Want::Next),
+                    Err(_) => Err(Fault::Memory),
+                }
             }
         }
     }
 
     /// What is left once the first pass begins; none where there is no pass.
     fn first_pass(&self, passes: Passes) -> Result<Option<Passes>, Fault>
-        ensures { Answers (spec.first_pass self.now.vars passes) result }
+        ensures { Answers (spec.first_pass (seen self.now) passes) result }
     {
         match passes {
             Passes::Left(count) => Ok(left(count)),
             Passes::While(test) => {
-                let holds = test_holds(self.alloc, &self.vars, &test)?;
+                let holds = test_holds(self.alloc, &self.seen(), &test)?;
                 Ok(if_holds(holds, Passes::While(test)))
             }
             Passes::Forever => Ok(Some(Passes::Forever)),
@@ -112,96 +115,90 @@ impl Exec {
         }
     }
 
-    /// Ends the passes and the loops that the next line has left. A fault of a test has the line of its &LOOP.
-    #[tactic(auto, unfolding(crate::specs::Loops::settled_from))]
-    pub fn settle_loops(&mut self, moment: &Moment) -> Result<(), Fault>
-        ensures { Settles (spec.settled_loops moment.now self.old) self.new result }
+    /// Ends the passes and the loops that the next line has left. A fault of a test has the line of its &LOOP, and changes nothing.
+    pub fn settle_loops(&mut self, moment: &Moment) -> Result<(), (Fault, u32)>
+        ensures { Settles (spec.settled_loops moment.now self.old) self.old self.new result }
     {
-        while let Some(top) = self.loops.pop() {
-            if self.stays(top, moment)? {
-                return Ok(());
-            }
+        let left = self.loops_left(moment)?;
+        drop_first(&mut self.loops, left.over);
+        if left.begins {
+            self.begin_pass();
         }
         Ok(())
     }
 
-    /// Whether a loop stays open, which was the innermost one, or is dropped.
-    fn stays(&mut self, top: Loop, moment: &Moment) -> Result<bool, Fault>
-        ensures step { Does (spec.stays moment.now self.old top) self.new result }
-        ensures line { IfErr result (λ fault. (fault ≡ Fault.Memory) ⊎ (self.new.line ≡ top.line)) }
-        ensures loops { IfOk result (λ on. on ≡ false → self.new.loops ≡ self.old.loops) }
+    /// Goes to the first line of the innermost loop, whose next pass begins.
+    fn begin_pass(&mut self)
+        ensures { self.new ≡ spec.left_open self.old true self.old.loops }
     {
-        if self.next == top.past {
-            return self.goes_on(top, moment);
+        if let Some(innermost) = self.loops.get(0) {
+            self.next = innermost.first;
         }
-        if top.has(self.next) {
-            self.loops.push(top)?;
-            return Ok(true);
-        }
-        Ok(false)
+        self.loops.begin_pass();
     }
 
-    /// Starts another pass of a loop whose range was passed, or drops it.
-    fn goes_on(&mut self, top: Loop, moment: &Moment) -> Result<bool, Fault>
-        ensures step { Does (spec.goes_on moment.now self.old top) self.new result }
-        ensures line { IfErr result (λ fault. (fault ≡ Fault.Memory) ⊎ (self.new.line ≡ top.line)) }
-        ensures loops { IfOk result (λ on. on ≡ false → self.new.loops ≡ self.old.loops) }
+    /// Which loops are left where the next line has left some.
+    #[tactic(auto, unfolding(crate::specs::Loops::settled_from))]
+    fn loops_left(&self, moment: &Moment) -> Result<LoopsLeft, (Fault, u32)>
+        ensures { MatchResult result
+            (λ left. spec.settled_loops moment.now self.now ≡ Ok (spec.left_open self.now left.begins (drop left.over self.now.loops)))
+            (λ failure. (failure.0 ≡ Fault.Memory) ⊎ (spec.settled_loops moment.now self.now ≡ Err failure)) }
     {
-        let Loop {
-            line,
-            first,
-            past,
-            passes,
-        } = top;
-        match self.next_pass(line, passes, moment)? {
-            None => Ok(false),
-            Some(passes) => {
-                self.next = first;
-                self.loops.push(Loop {
-                    line,
-                    first,
-                    past,
-                    passes,
-                })?;
-                Ok(true)
+        for over in 0..self.loops.len() {
+            let Some(innermost) = self.loops.get(over) else {
+                break;
+            };
+            if self.next == innermost.past {
+                match self.begins(innermost, moment) {
+                    Ok(true) => return Ok(LoopsLeft { over, begins: true }),
+                    Ok(false) => {}
+                    Err(fault) => return Err((fault, innermost.line)),
+                }
+            } else if innermost.has(self.next) {
+                return Ok(LoopsLeft {
+                    over,
+                    begins: false,
+                });
             }
         }
+        Ok(LoopsLeft {
+            over: self.loops.len(),
+            begins: false,
+        })
     }
 
-    /// What is left once another pass begins; none where there is no other.
-    fn next_pass(
-        &mut self,
-        line: u32,
-        passes: Passes,
-        moment: &Moment,
-    ) -> Result<Option<Passes>, Fault>
-        ensures step { Does (spec.next_pass moment.now self.old line passes) self.new result }
-        ensures line { IfErr result (λ fault. (fault ≡ Fault.Memory) ⊎ (self.new.line ≡ line)) }
-        ensures loops { OnOk result (self.new.loops ≡ self.old.loops) }
+    /// Whether another pass of a loop begins whose range was passed. Its test has the line of its &LOOP.
+    fn begins(&self, passed: &Loop, moment: &Moment) -> Result<bool, Fault>
+        ensures { Answers (spec.begins moment.now self.now passed.now) result }
     {
-        match passes {
-            Passes::Left(count) => Ok(left(count)),
-            Passes::Forever => Ok(Some(Passes::Forever)),
+        match &passed.passes {
+            Passes::Left(count) => Ok(*count != 0),
+            Passes::Forever => Ok(true),
             Passes::While(test) => {
-                let holds = self.holds_then(line, &test, moment)?;
-                Ok(if_holds(holds, Passes::While(test)))
+                test_holds(self.alloc, &self.seen_at(passed.line, moment), test)
             }
             Passes::Until(test) => {
-                let holds = self.holds_then(line, &test, moment)?;
-                Ok(if_holds(!holds, Passes::Until(test)))
+                let holds = test_holds(self.alloc, &self.seen_at(passed.line, moment), test)?;
+                Ok(!holds)
             }
         }
     }
+}
 
-    /// Whether a loop's comparison holds at a moment, at the line of its &LOOP.
-    fn holds_then(&mut self, line: u32, test: &Test, moment: &Moment) -> Result<bool, Fault>
-        ensures step { Does (spec.tested moment.now self.old line test.now) self.new result }
-        ensures line { IfErr result (λ fault. (fault ≡ Fault.Memory) ⊎ (self.new.line ≡ line)) }
-        ensures loops { OnOk result (self.new.loops ≡ self.old.loops) }
-    {
-        self.line = line;
-        give_all(self, moment)?;
-        test_holds(self.alloc, &self.vars, test)
+/// Which loops are left.
+#[derive(Clone, Copy, Debug)]
+struct LoopsLeft {
+    /// So many are over, the innermost first.
+    over: usize,
+    /// Whether the innermost of the others begins another pass.
+    begins: bool,
+}
+
+fn drop_first(loops: &mut Loops, count: usize)
+    ensures { loops.new ≡ drop count loops.old }
+{
+    for _ in 0..count {
+        loops.pop();
     }
 }
 
@@ -232,13 +229,13 @@ impl Loop {
 }
 
 #[tactic(auto, unfolding(crate::specs::Loops::first_of))]
-fn first_of<'w>(alloc: Global, vars: &Vars, words: &'w [Word]) -> Result<First<'w>, Fault>
-    ensures { MatchResult result (λ first. spec.first_of vars.now words.now ≡ Ok (first.value, first.behind.now))
-        (λ fault. (fault ≡ Fault.Memory) ⊎ (spec.first_of vars.now words.now ≡ Err fault)) }
+fn first_of<'w>(alloc: Global, seen: &Seen<'_>, words: &'w [Word]) -> Result<First<'w>, Fault>
+    ensures { MatchResult result (λ first. spec.first_of (bound seen.now) words.now ≡ Ok (first.value, first.behind.now))
+        (λ fault. (fault ≡ Fault.Memory) ⊎ (spec.first_of (bound seen.now) words.now ≡ Err fault)) }
 {
     let mut rest = words;
     while let [word, behind @ ..] = rest {
-        let value = value(alloc, vars, word)?;
+        let value = value(alloc, seen, word)?;
         if !value.bytes().is_empty() {
             return Ok(First { value, behind });
         }
@@ -248,25 +245,25 @@ fn first_of<'w>(alloc: Global, vars: &Vars, words: &'w [Word]) -> Result<First<'
 }
 
 /// How often lines are repeated: so often, `*`, or WHILE or UNTIL and a comparison.
-fn passes(alloc: Global, vars: &Vars, words: &[Word]) -> Result<Passes, Fault>
-    ensures { Answers (spec.passes vars.now words.now) result }
+fn passes(alloc: Global, seen: &Seen<'_>, words: &[Word]) -> Result<Passes, Fault>
+    ensures { Answers (spec.passes (bound seen.now) words.now) result }
 {
     let [word, others @ ..] = words else {
         return Err(Fault::BadStatement);
     };
     if is_keyword(word.bytes(), "WHILE") {
-        return Ok(Passes::While(test(alloc, vars, others)?));
+        return Ok(Passes::While(test(alloc, seen, others)?));
     }
     if is_keyword(word.bytes(), "UNTIL") {
-        return Ok(Passes::Until(test(alloc, vars, others)?));
+        return Ok(Passes::Until(test(alloc, seen, others)?));
     }
-    counted(alloc, vars, words)
+    counted(alloc, seen, words)
 }
 
-fn counted(alloc: Global, vars: &Vars, words: &[Word]) -> Result<Passes, Fault>
-    ensures { Answers (spec.counted vars.now words.now) result }
+fn counted(alloc: Global, seen: &Seen<'_>, words: &[Word]) -> Result<Passes, Fault>
+    ensures { Answers (spec.counted (bound seen.now) words.now) result }
 {
-    let operands = expanded_words(alloc, vars, words)?;
+    let operands = expanded_words(alloc, seen, words)?;
     let [count, others @ ..] = operands.words.as_slice() else {
         return Err(missing(operands.is_cut));
     };
@@ -288,14 +285,14 @@ fn count_of(word: &[u8]) -> Result<Passes, Fault>
 }
 
 /// The comparison of a WHILE or UNTIL, which is expanded at each test.
-fn test(alloc: Global, vars: &Vars, words: &[Word]) -> Result<Test, Fault>
-    ensures { Answers (spec.test_in vars.now words.now) result }
+fn test(alloc: Global, seen: &Seen<'_>, words: &[Word]) -> Result<Test, Fault>
+    ensures { Answers (spec.test_in (bound seen.now) words.now) result }
 {
     let [left, sign, right, others @ ..] = words else {
         return Err(Fault::BadStatement);
     };
     let comparison = Comparison::read(sign.bytes()).ok_or(Fault::BadStatement)?;
-    let others = expanded_words(alloc, vars, others)?;
+    let others = expanded_words(alloc, seen, others)?;
     ended(others.words.as_slice(), others.is_cut)?;
     Ok(Test {
         left: Word::of(alloc, left.bytes())?,

@@ -1,11 +1,10 @@
 // The open loops.
-ghost use Rattle.std.specs.Prelude.{◌≡◌, [], ◌∷◌, ◌++◌, length, OnOk, OnErr, MatchOption};
+ghost use Rattle.std.specs.Prelude.{◌≡◌};
+ghost use Rattle.exec2_run.specs.Open.{one_less, with_pass};
 
 use crate::comparison::Comparison;
+use crate::stack::Stack;
 use cms_text::Word;
-use std::alloc::{AllocError, Global};
-use std::collections::VecDeque;
-use std::marker::Model;
 
 /// The comparison of a WHILE or UNTIL, expanded at each test.
 #[derive(Debug, Drop)]
@@ -28,6 +27,17 @@ pub enum Passes {
     Until(Test),
 }
 
+impl Passes {
+    /// One more begins.
+    fn begin(&mut self)
+        ensures { self.new ≡ one_less self.old }
+    {
+        if let Passes::Left(count) = self {
+            *count = count.saturating_sub(1);
+        }
+    }
+}
+
 /// An open loop.
 #[derive(Debug, Drop)]
 pub struct Loop {
@@ -41,50 +51,15 @@ pub struct Loop {
 }
 
 /// The open loops, the innermost first.
-#[derive(Debug, Drop)]
-pub struct Loops {
-    loops: VecDeque<Loop>,
-}
+pub type Loops = Stack<Loop>;
 
-impl Model for Loops {
-    ghost use Rattle.std.specs.Prelude.{List};
-    ghost use Rattle.exec2_run.specs.declared.loops.Loop.{Loop};
-
-    ghost Value = { List Loop };
-
-    ghost view = { λ l. l.loops.items };
-}
-
-impl Loops {
-    /// No loop is open.
-    pub fn new(alloc: Global) -> Loops
-        ensures { result ≡ [] }
+impl Stack<Loop> {
+    /// Another pass of the innermost loop begins.
+    pub fn begin_pass(&mut self)
+        ensures { self.new ≡ with_pass self.old }
     {
-        Loops {
-            loops: VecDeque::new(alloc),
+        if let Some(innermost) = self.items.front_mut() {
+            innermost.passes.begin();
         }
-    }
-
-    /// Opens a loop within all others.
-    pub fn push(&mut self, inner: Loop) -> Result<(), AllocError>
-        ensures ok { OnOk result (self.new ≡ inner ∷ self.old) }
-        ensures err { OnErr result (self.new ≡ self.old) }
-    {
-        self.loops.push_front(inner)?;
-        Ok(())
-    }
-
-    /// Takes the innermost loop, if one is open.
-    pub fn pop(&mut self) -> Option<Loop>
-        ensures { MatchOption result ((self.old ≡ []) × (self.new ≡ [])) (λ top. self.old ≡ top ∷ self.new) }
-    {
-        self.loops.pop_front()
-    }
-
-    /// How many loops are open.
-    pub fn len(&self) -> usize
-        ensures { result ≡ length self.now }
-    {
-        self.loops.len()
     }
 }

@@ -26,7 +26,7 @@ impl Exec {
     /// &BEGTYPE.
     #[tactic(auto, unfolding(crate::specs::Outputs::typed_block))]
     pub fn type_block(&mut self, words: &[Word]) -> Result<Want, Fault>
-        ensures { Does (spec.typed_block self.old words.now) self.new result }
+        ensures { Does (spec.typed_block self.old words.now) self.old self.new result }
     {
         self.no_words(words)?;
         let block = self.block()?;
@@ -46,7 +46,7 @@ impl Exec {
     /// &BEGSTACK, with FIFO or LIFO or neither.
     #[tactic(auto, unfolding(crate::specs::Outputs::stacked_block))]
     pub fn stack_block(&mut self, words: &[Word]) -> Result<Want, Fault>
-        ensures { Does (spec.stacked_block self.old words.now) self.new result }
+        ensures { Does (spec.stacked_block self.old words.now) self.old self.new result }
     {
         self.no_words(behind_side(words))?;
         let block = self.block()?;
@@ -59,7 +59,7 @@ impl Exec {
     pub fn command(&self, words: &[Word]) -> Result<Want, Fault>
         ensures { Answers (spec.issued self.now words.now) result }
     {
-        Ok(Want::Command(text(self.alloc, &self.vars, words)?))
+        Ok(Want::Command(text(self.alloc, &self.seen(), words)?))
     }
 
     /// No word stands here that doesn't become nothing.
@@ -67,7 +67,7 @@ impl Exec {
     pub fn no_words(&self, words: &[Word]) -> Result<(), Fault>
         ensures { Answers (spec.no_words self.now words.now) result }
     {
-        let operands = expanded_words(self.alloc, &self.vars, words)?;
+        let operands = expanded_words(self.alloc, &self.seen(), words)?;
         ended(operands.words.as_slice(), operands.is_cut)
     }
 
@@ -76,7 +76,7 @@ impl Exec {
         ensures { Answers (spec.text_line self.now words.now) result }
     {
         let mut lines = Lines::new(self.alloc);
-        lines.push(text(self.alloc, &self.vars, words)?)?;
+        lines.push(text(self.alloc, &self.seen(), words)?)?;
         Ok(lines)
     }
 

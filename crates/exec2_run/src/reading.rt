@@ -1,13 +1,14 @@
 // &READ, the line that it asks for, and &ARGS.
+ghost use Rattle.exec2_run.specs.Given.{bound};
 ghost use Rattle.exec2_run.specs.Faults.{Answers, Does, Leads};
 ghost use Rattle.exec2_run.specs.Readings as spec;
 
+use crate::given::Seen;
 use crate::values::{expanded_words, whole};
 use crate::variables::target;
 use crate::words::words_of;
 use crate::{Exec, Fault, Want};
 use cms_text::{Line, Word, WordList, is_keyword};
-use exec2_parse::Vars;
 use std::alloc::Global;
 
 /// What a line is asked for.
@@ -26,9 +27,9 @@ impl Exec {
     /// &ARGS, with the words that become the arguments.
     #[tactic(auto, unfolding(crate::specs::Readings::args_given))]
     pub fn args(&mut self, words: &[Word]) -> Result<Want, Fault>
-        ensures { Does (spec.args_given self.old words.now) self.new result }
+        ensures { Does (spec.args_given self.old words.now) self.old self.new result }
     {
-        let operands = expanded_words(self.alloc, &self.vars, words)?;
+        let operands = expanded_words(self.alloc, &self.seen(), words)?;
         whole(operands.is_cut)?;
         self.set_arguments(operands.words.as_slice())?;
         Ok(Want::Next)
@@ -37,7 +38,7 @@ impl Exec {
     /// &READ ARGS, &READ VARS and names, &READ STRING and a name.
     #[tactic(auto, unfolding(crate::specs::Readings::read))]
     pub fn read(&mut self, words: &[Word]) -> Result<Want, Fault>
-        ensures { Does (spec.read self.old words.now) self.new result }
+        ensures { Does (spec.read self.old words.now) self.old self.new result }
     {
         self.reading = self.reading_of(words)?;
         Ok(Want::Read)
@@ -55,7 +56,7 @@ impl Exec {
             return Ok(Reading::Arguments);
         }
         if is_keyword(word.bytes(), "VARS") {
-            let names = names(self.alloc, &self.vars, others)?;
+            let names = names(self.alloc, &self.seen(), others)?;
             return Ok(Reading::Variables(names));
         }
         if is_keyword(word.bytes(), "STRING") {
@@ -70,61 +71,45 @@ impl Exec {
         let [name, others @ ..] = words else {
             return Err(Fault::BadStatement);
         };
-        let name = target(self.alloc, &self.vars, name)?;
+        let name = target(self.alloc, &self.seen(), name)?;
         self.no_words(others)?;
         Ok(Reading::Text(name))
     }
 
     /// Takes the line that was asked for.
     #[tactic(auto, unfolding(crate::specs::Readings::taken_for))]
-    pub fn take(&mut self, reading: Reading, line: &Line) -> Result<(), Fault>
-        ensures { Leads (spec.taken_for reading self.old line.now) self.new result }
+    pub fn take(&mut self, reading: &Reading, line: &Line) -> Result<(), Fault>
+        ensures { Leads (spec.taken_for reading.now self.old line.now) self.old self.new result }
     {
         match reading {
             Reading::Nothing => Ok(()),
             Reading::Arguments => {
                 let words = words_of(self.alloc, line.bytes())?;
-                self.set_arguments(words.as_slice())?;
-                Ok(())
+                self.set_arguments(words.as_slice())
             }
             Reading::Variables(names) => {
                 let words = words_of(self.alloc, line.bytes())?;
-                self.set_each(names.as_slice(), words.as_slice())?;
-                Ok(())
+                let alloc = self.alloc;
+                self.variables
+                    .set_each(alloc, names.as_slice(), words.as_slice())
             }
             Reading::Text(name) => {
+                let name = Word::of(self.alloc, name.bytes())?;
                 let value = Word::of(self.alloc, line.bytes())?;
-                self.set_variable(name, value)?;
-                Ok(())
+                self.set_variable(name, value)
             }
         }
-    }
-
-    /// Sets each variable to a word, those past the last word to the empty one.
-    #[tactic(auto, unfolding(crate::specs::Readings::each_set))]
-    fn set_each(&mut self, names: &[Word], words: &[Word]) -> Result<(), Fault>
-        ensures { Leads (spec.each_set names.now words.now self.old) self.new result }
-    {
-        for (place, name) in names.iter().enumerate() {
-            let name = Word::of(self.alloc, name.bytes())?;
-            let value = match words.get(place) {
-                Some(word) => Word::of(self.alloc, word.bytes())?,
-                None => Word::of(self.alloc, &[])?,
-            };
-            self.set_variable(name, value)?;
-        }
-        Ok(())
     }
 }
 
 /// The names that words are written for.
 #[tactic(auto, unfolding(crate::specs::Readings::names))]
-fn names(alloc: Global, vars: &Vars, words: &[Word]) -> Result<WordList, Fault>
-    ensures { Answers (spec.names vars.now words.now) result }
+fn names(alloc: Global, seen: &Seen<'_>, words: &[Word]) -> Result<WordList, Fault>
+    ensures { Answers (spec.names (bound seen.now) words.now) result }
 {
     let mut names = WordList::new(alloc);
     for word in words {
-        names.push(target(alloc, vars, word)?)?;
+        names.push(target(alloc, seen, word)?)?;
     }
     Ok(names)
 }

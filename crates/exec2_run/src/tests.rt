@@ -249,6 +249,7 @@ const ROWS: &str = "# ---- typing and expansion
  # &TYPE &NOPE A &NOPE B # # say [A B];end 0
  # &X = 5;&TYPE &X # # say [5];end 0;turns 3
  # &I = 2;&A2 = Q;&TYPE &A&I # # say [Q];end 0
+ # &I = 2;&A2 = Q;&TYPE &A&I;&TYPE X &NOPE Y # # say [Q];say [X Y];end 0;turns 5
  # &I = 2;&A&I = Q;&TYPE &A2 # # say [Q];end 0
  # & = 5;&TYPE & # # say [5];end 0
  # &X = Y;&XY = Z;&TYPE A&X &X&X # # say [AY Z];end 0
@@ -291,6 +292,7 @@ T A B # &1 = X;&3 = C;&TYPE &1 &2 &3 &N # # say [X B C 2];end 0
  # &X = &PIECE OF ABCDE 2 3;&Y = &SUBSTR OF ABC 2;&Z = &POSITION OF B A B;&TYPE &X &Y &Z # # say [BCD BC 2];end 0
  # &X = &STRING OF A &NOPE B;&Y = &TRANS OF CAB XY AB;&Z = &WORD OF 2 A B;&TYPE &X &Y &Z # # say [A B CXY B];end 0
  # &X = &LEFT OF A 3;&Y = &TRIM OF &X;&TYPE &Y # # say [A];end 0
+ # &X = &DIV OF 7 0 # # fail 4 2;turns 2
  # &X = &LEFT OF AB # # fail 1 2
  # &X = &LEFT OF A 1 2 # # fail 1 2
  # &X = &LEFT OF AB X # # fail 2 2
@@ -342,6 +344,7 @@ T ab # erase &1 file # # cmd [erase ab file];end 0
  # &SKIP -2 # # fail 12 2
  # &SKIP A # # fail 2 2
  # &SKIP 1 2;&TYPE A # # fail 6 2
+ # -T &I = &I + 1;&TYPE &I;&IF &I < 2 &GOTO -T;&EXIT 7 # # say [1];say [2];end 7;turns 8
 # ---- loops
  # &LOOP 1 3;&TYPE A # # say [A];say [A];say [A];end 0;turns 5
  # &LOOP 2 2;&TYPE A;&TYPE B # # say [A];say [B];say [A];say [B];end 0
@@ -456,7 +459,12 @@ T  a  b # &TYPE &ARGSTRING # # say [ a  b];end 0
  # &TYPE &DATE &TIME # # say [00/01/01 00:00:01];end 0
 # ---- limits
  # &LOOP 2 999;&I = &I + 1;&V&I = X;&TYPE OK # # say [OK];end 0
- # &LOOP 2 1000;&I = &I + 1;&V&I = X;&TYPE OK # # fail 14 4";
+ # &LOOP 2 1000;&I = &I + 1;&V&I = X;&TYPE OK # # fail 14 4
+ # &LOOP 2 997;&I = &I + 1;&V&I = X;&READ VARS &A &B;&TYPE &A &B # r x y # read;say [x y];end 0
+ # &LOOP 2 998;&I = &I + 1;&V&I = X;&READ VARS &A &B # r x y # read;fail 14 5
+ # &LOOP 2 998;&I = &I + 1;&V&I = X;&CALL -S A B;-S &RETURN # # fail 14 5
+ # &LOOP 2 998;&I = &I + 1;&V&I = X;&ARGS A;&TYPE &1;&ARGS A B # # say [A];fail 14 7
+T X # &LOOP 2 997;&I = &I + 1;&V&I = X;&CALL -S;&EXIT;-S &Y = 1;&Z = 2;&RETURN # # fail 14 9";
 
 #[test]
 fn procedures(rt: HostRuntime) -> Result<(), Fail> {
@@ -476,5 +484,14 @@ fn procedures(rt: HostRuntime) -> Result<(), Fail> {
             );
         }
     }
+    Ok(())
+}
+
+/// A procedure that jumps to its own line takes each turn that it is given, and wants nothing.
+#[test]
+fn jumps_without_end(rt: HostRuntime) -> Result<(), Fail> {
+    let row = row_of(" # -L &GOTO -L # # ").ok_or("no row")?;
+    let shown = run(&rt, rt.alloc(), &row, 99)?;
+    assert_eq!(rt; shown.as_str(), ";turns 99");
     Ok(())
 }

@@ -1,12 +1,14 @@
 // What the words of a statement become.
 ghost use Rattle.std.specs.Prelude.{◌≡◌, ◌∷◌, IfOk, Ok, Err};
+ghost use Rattle.exec2_run.specs.Given.{bound};
 ghost use Rattle.exec2_run.specs.Faults.{Answers};
 ghost use Rattle.exec2_run.specs.Values as spec;
 
 use crate::Fault;
+use crate::given::Seen;
 use cms_text::{Line, Word, WordList};
 use exec2_funcs::{Function, call};
-use exec2_parse::{ExpandFault, Vars, expand};
+use exec2_parse::{ExpandFault, expand_in};
 use std::alloc::{AllocError, Global};
 
 /// What words become from left to right, up to the first that becomes too long.
@@ -18,20 +20,24 @@ pub struct Operands {
 }
 
 /// What a word becomes.
-pub fn value(alloc: Global, vars: &Vars, word: &Word) -> Result<Word, Fault>
-    ensures { Answers (spec.value vars.now word.now) result }
+pub fn value(alloc: Global, seen: &Seen<'_>, word: &Word) -> Result<Word, Fault>
+    ensures { Answers (spec.value (bound seen.now) word.now) result }
 {
-    Ok(expand(alloc, word.bytes(), vars)?)
+    Ok(expand_in(alloc, word.bytes(), seen)?)
 }
 
 /// What the words of a statement become, without those that become nothing.
 #[tactic(auto, unfolding(crate::specs::Values::operands))]
-pub fn expanded_words(alloc: Global, vars: &Vars, words: &[Word]) -> Result<Operands, AllocError>
-    ensures { IfOk result (λ operands. operands ≡ spec.operands vars.now words.now) }
+pub fn expanded_words(
+    alloc: Global,
+    seen: &Seen<'_>,
+    words: &[Word],
+) -> Result<Operands, AllocError>
+    ensures { IfOk result (λ operands. operands ≡ spec.operands (bound seen.now) words.now) }
 {
     let mut values = WordList::new(alloc);
     for word in words {
-        match expand(alloc, word.bytes(), vars) {
+        match expand_in(alloc, word.bytes(), seen) {
             Ok(value) => {
                 if !value.bytes().is_empty() {
                     values.push(value)?;
@@ -54,12 +60,12 @@ pub fn expanded_words(alloc: Global, vars: &Vars, words: &[Word]) -> Result<Oper
 
 /// What the words of a function become; a word that becomes nothing is an empty one.
 #[tactic(auto, unfolding(crate::specs::Values::arguments))]
-pub fn arguments(alloc: Global, vars: &Vars, words: &[Word]) -> Result<Operands, AllocError>
-    ensures { IfOk result (λ operands. operands ≡ spec.arguments vars.now words.now) }
+pub fn arguments(alloc: Global, seen: &Seen<'_>, words: &[Word]) -> Result<Operands, AllocError>
+    ensures { IfOk result (λ operands. operands ≡ spec.arguments (bound seen.now) words.now) }
 {
     let mut values = WordList::new(alloc);
     for word in words {
-        match expand(alloc, word.bytes(), vars) {
+        match expand_in(alloc, word.bytes(), seen) {
             Ok(value) => values.push(value)?,
             Err(ExpandFault::TooLong) => {
                 return Ok(Operands {
@@ -109,10 +115,10 @@ pub fn whole(is_cut: bool) -> Result<(), Fault>
 
 /// The text that the words make: joined by a blank, those that become nothing left out.
 #[tactic(auto, unfolding(crate::specs::Values::text))]
-pub fn text(alloc: Global, vars: &Vars, words: &[Word]) -> Result<Line, Fault>
-    ensures { Answers (spec.text vars.now words.now) result }
+pub fn text(alloc: Global, seen: &Seen<'_>, words: &[Word]) -> Result<Line, Fault>
+    ensures { Answers (spec.text (bound seen.now) words.now) result }
 {
-    let operands = expanded_words(alloc, vars, words)?;
+    let operands = expanded_words(alloc, seen, words)?;
     whole(operands.is_cut)?;
     let text = call(alloc, Function::String, &operands.words)?;
     Ok(Line::take(text.into_bytes()))

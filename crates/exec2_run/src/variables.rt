@@ -1,16 +1,16 @@
 // Variables that are set, the arguments among them.
-ghost use Rattle.std.specs.Prelude.{◌≡◌, IfOk, Ok, fold};
-ghost use Rattle.std.specs.FinMap.{remove};
+ghost use Rattle.std.specs.Prelude.{◌≡◌, ◌+◌, IfOk, IsSome, is_some, drop};
+ghost use Rattle.std.specs.FinMap.{empty, get, insert, len, remove};
 ghost use Rattle.std.specs.List.{list_all};
 ghost use Rattle.exec2_parse.specs.Variables.{value_of};
 ghost use Rattle.exec2_run.specs.Faults.{Answers, Does, Leads};
+ghost use Rattle.exec2_run.specs.Given as given;
 ghost use Rattle.exec2_run.specs.Variables as spec;
 
-use crate::calls::{Argument, Arguments};
-use crate::given::{is_given, numeral};
+use crate::given::{Seen, is_given, numeral};
 use crate::{Exec, Fault, Want};
-use cms_text::{Word, WordList};
-use exec2_parse::{Vars, expand, folded};
+use cms_text::Word;
+use exec2_parse::{Scope, Vars, expand_in, folded};
 use std::alloc::{AllocError, Global};
 
 /// The most variables that may be set.
@@ -22,13 +22,13 @@ const AMPERSAND: u8 = 0x50;
 /// The name of the variable that is written as an assignment's target: its first ampersand stands, and what follows is expanded and
 /// folded.
 #[tactic(auto, unfolding(crate::specs::Variables::target))]
-pub fn target(alloc: Global, vars: &Vars, word: &Word) -> Result<Word, Fault>
-    ensures { Answers (spec.target vars.now word.now) result }
+pub fn target(alloc: Global, seen: &Seen<'_>, word: &Word) -> Result<Word, Fault>
+    ensures { Answers (spec.target (given.bound seen.now) word.now) result }
 {
     let [AMPERSAND, name @ ..] = word.bytes() else {
         return Err(Fault::BadStatement);
     };
-    let name = expand(alloc, name, vars)?;
+    let name = expand_in(alloc, name, seen)?;
     let name = folded(alloc, name.bytes())?;
     if is_given(name.bytes()) {
         return Err(Fault::Given);
@@ -37,9 +37,9 @@ pub fn target(alloc: Global, vars: &Vars, word: &Word) -> Result<Word, Fault>
 }
 
 /// Whether a variable is an argument: its name is a number from 1 without leading zeros.
-#[tactic(auto, unfolding(crate::specs::Variables::is_argument))]
+#[tactic(auto, unfolding(crate::specs::Given::is_argument))]
 fn is_argument(name: &[u8]) -> bool
-    ensures { result ≡ spec.is_argument name.now }
+    ensures { result ≡ given.is_argument name.now }
 {
     let [first, digits @ ..] = name else {
         return false;
@@ -51,19 +51,19 @@ fn is_argument(name: &[u8]) -> bool
 }
 
 fn is_first_digit(byte: u8) -> bool
-    ensures { result ≡ spec.is_first_digit byte }
+    ensures { result ≡ given.is_first_digit byte }
 {
     (0xF1..=0xF9).contains(&byte)
 }
 
 fn is_digit(byte: u8) -> bool
-    ensures { result ≡ spec.is_digit byte }
+    ensures { result ≡ given.is_digit byte }
 {
     (0xF0..=0xF9).contains(&byte)
 }
 
 fn are_digits(bytes: &[u8]) -> bool
-    ensures { result ≡ list_all spec.is_digit bytes.now }
+    ensures { result ≡ list_all given.is_digit bytes.now }
 {
     for byte in bytes {
         if !is_digit(*byte) {
@@ -73,136 +73,208 @@ fn are_digits(bytes: &[u8]) -> bool
     true
 }
 
+/// The variables that are set, and the arguments beside the others.
+#[derive(Drop)]
+pub struct Variables {
+    /// Those whose names are numbers from 1.
+    pub arguments: Vars,
+    pub others: Vars,
+}
+
+impl Variables {
+    /// No variable is set.
+    pub fn new(alloc: Global) -> Variables
+        ensures arguments { result.arguments ≡ empty }
+        ensures others { result.others ≡ empty }
+    {
+        Variables {
+            arguments: Vars::new(alloc),
+            others: Vars::new(alloc),
+        }
+    }
+
+    /// The value of a variable, empty where it isn't set.
+    pub fn value(&self, alloc: Global, name: &[u8]) -> Result<Word, AllocError>
+        ensures { IfOk result (λ value. value ≡ value_of (given.table_of self.now name.now) name.now) }
+    {
+        if is_argument(name) {
+            self.arguments.value(alloc, name)
+        } else {
+            self.others.value(alloc, name)
+        }
+    }
+
+    fn is_set(&self, name: &[u8]) -> bool
+        ensures { result ≡ is_some (get (given.table_of self.now name.now) name.now) }
+    {
+        if is_argument(name) {
+            self.arguments.get(name).is_some()
+        } else {
+            self.others.get(name).is_some()
+        }
+    }
+
+    /// Whether a variable may be set.
+    fn has_room(&self, name: &[u8]) -> bool
+        ensures { result ≡ spec.has_room self.now name.now }
+    {
+        if self.is_set(name) {
+            return true;
+        }
+        self.arguments.len().saturating_add(self.others.len()) < MOST
+    }
+
+    /// Sets a variable, and gives the value that it had.
+    #[tactic(auto, unfolding(crate::specs::Variables::with_value))]
+    fn replace(&mut self, name: Word, value: Word) -> Result<Option<Word>, Fault>
+        ensures step { Leads (spec.with_value self.old name value) self.old self.new result }
+        ensures before { IfOk result (λ before. before ≡ get (given.table_of self.old name) name) }
+    {
+        if !self.has_room(name.bytes()) {
+            return Err(Fault::TooManyVariables);
+        }
+        if is_argument(name.bytes()) {
+            Ok(self.arguments.replace(name, value)?)
+        } else {
+            Ok(self.others.replace(name, value)?)
+        }
+    }
+
+    /// Takes back that a variable was set, which had this value before.
+    #[tactic(auto, unfolding(crate::specs::Variables::taken_back))]
+    fn take_back(&mut self, name: Word, before: Option<Word>)
+        requires { IsSome (get (given.table_of self.old name) name) }
+        ensures { self.new ≡ spec.taken_back self.old name before }
+    {
+        match before {
+            Some(value) => self.put_back(name, value),
+            None => self.unset(name.bytes()),
+        }
+    }
+
+    /// Sets a variable that is set.
+    fn put_back(&mut self, name: Word, value: Word)
+        requires { IsSome (get (given.table_of self.old name) name) }
+        ensures { self.new ≡ spec.with_table self.old name (insert (given.table_of self.old name) name value) }
+    {
+        if is_argument(name.bytes()) {
+            match self.arguments.set(name, value) {
+                Ok(()) => {}
+                Err(_) => {}
+            }
+        } else {
+            match self.others.set(name, value) {
+                Ok(()) => {}
+                Err(_) => {}
+            }
+        }
+    }
+
+    fn unset(&mut self, name: &[u8])
+        ensures { self.new ≡ spec.with_table self.old name.now (remove (given.table_of self.old name.now) name.now) }
+    {
+        if is_argument(name) {
+            self.arguments.unset(name);
+        } else {
+            self.others.unset(name);
+        }
+    }
+
+    /// Sets a variable.
+    pub fn set(&mut self, name: Word, value: Word) -> Result<(), Fault>
+        ensures { Leads (spec.with_value self.old name value) self.old self.new result }
+    {
+        self.replace(name, value)?;
+        Ok(())
+    }
+
+    /// Sets each variable to a word, those past the last word to the empty one: all of them or none.
+    #[tactic(auto, unfolding(crate::specs::Variables::each_set))]
+    pub fn set_each(&mut self, alloc: Global, names: &[Word], words: &[Word]) -> Result<(), Fault>
+        ensures { Leads (spec.each_set names.now words.now self.old) self.old self.new result }
+    {
+        let [name, others @ ..] = names else {
+            return Ok(());
+        };
+        let value = first_or_empty(alloc, words)?;
+        let again = Word::of(alloc, name.bytes())?;
+        let before = self.replace(Word::of(alloc, name.bytes())?, value)?;
+        match self.set_each(alloc, others, behind_first(words)) {
+            Ok(()) => Ok(()),
+            Err(fault) => {
+                self.take_back(again, before);
+                Err(fault)
+            }
+        }
+    }
+
+    /// Whether so many arguments may be set in place of those that are.
+    pub fn room_for(&self, count: usize) -> Result<(), Fault>
+        ensures { result ≡ spec.room_for (len self.now.others + count) }
+    {
+        if self.others.len().saturating_add(count) <= MOST {
+            Ok(())
+        } else {
+            Err(Fault::TooManyVariables)
+        }
+    }
+}
+
+fn first_or_empty(alloc: Global, words: &[Word]) -> Result<Word, AllocError>
+    ensures { IfOk result (λ word. word ≡ spec.first_or_empty words.now) }
+{
+    match words {
+        [word, ..] => Word::of(alloc, word.bytes()),
+        [] => Ok(Word::take(Vec::new(alloc))),
+    }
+}
+
+fn behind_first(words: &[Word]) -> &[Word]
+    ensures { result.now ≡ drop 1 words.now }
+{
+    match words {
+        [_, rest @ ..] => rest,
+        [] => words,
+    }
+}
+
+/// These as &1 and on.
+#[tactic(auto, unfolding(crate::specs::Variables::numbered))]
+pub fn numbered(alloc: Global, values: &[Word]) -> Result<Vars, AllocError>
+    ensures { IfOk result (λ arguments. arguments ≡ spec.numbered 1 values.now empty) }
+{
+    let mut arguments = Vars::new(alloc);
+    for (place, value) in values.iter().enumerate() {
+        let name = numeral(alloc, place + 1)?;
+        arguments.set(name, Word::of(alloc, value.bytes())?)?;
+    }
+    Ok(arguments)
+}
+
 impl Exec {
     /// Sets a variable that isn't given.
-    #[tactic(auto, unfolding(crate::specs::Variables::with_variable))]
     pub fn set_variable(&mut self, name: Word, value: Word) -> Result<(), Fault>
-        ensures { Leads (spec.with_variable self.old name value) self.new result }
+        ensures { Leads (spec.with_variable self.old name value) self.old self.new result }
     {
-        self.count_variable(&name)?;
-        self.vars.set(name, value)?;
-        Ok(())
+        self.variables.set(name, value)
     }
 
     /// Sets a variable, and wants nothing.
     pub fn set_to(&mut self, name: Word, value: Word) -> Result<Want, Fault>
-        ensures { Does (spec.set_to self.old name value) self.new result }
+        ensures { Does (spec.set_to self.old name value) self.old self.new result }
     {
         self.set_variable(name, value)?;
         Ok(Want::Next)
     }
 
-    /// Counts a variable that is to be set, unless it is set.
-    #[tactic(auto, unfolding(crate::specs::Variables::counting))]
-    fn count_variable(&mut self, name: &Word) -> Result<(), Fault>
-        ensures { Leads (spec.counting self.old name.now) self.new result }
-    {
-        if self.vars.get(name.bytes()).is_some() {
-            return Ok(());
-        }
-        if self.set >= MOST {
-            return Err(Fault::TooManyVariables);
-        }
-        self.set += 1;
-        self.note_argument(name)
-    }
-
-    /// Notes the name of a variable that is an argument.
-    fn note_argument(&mut self, name: &Word) -> Result<(), Fault>
-        ensures { Leads (Ok (spec.noting self.old name.now)) self.new result }
-    {
-        if is_argument(name.bytes()) {
-            self.numbered.push(Word::of(self.alloc, name.bytes())?)?;
-        }
-        Ok(())
-    }
-
     /// Sets the arguments to these and no others.
     #[tactic(auto, unfolding(crate::specs::Variables::with_arguments))]
     pub fn set_arguments(&mut self, values: &[Word]) -> Result<(), Fault>
-        ensures { Leads (spec.with_arguments self.old values.now) self.new result }
+        ensures { Leads (spec.with_arguments self.old values.now) self.old self.new result }
     {
-        self.unset_arguments();
-        self.set_numbered(values)?;
+        self.variables.room_for(values.len())?;
+        self.variables.arguments = numbered(self.alloc, values)?;
         self.count = values.len();
         Ok(())
-    }
-
-    /// Sets &1 and on.
-    #[tactic(auto, unfolding(crate::specs::Variables::numbered_from))]
-    fn set_numbered(&mut self, values: &[Word]) -> Result<(), Fault>
-        ensures { Leads (spec.numbered_from 1 values.now self.old) self.new result }
-    {
-        for (place, value) in values.iter().enumerate() {
-            let name = numeral(self.alloc, place + 1)?;
-            let value = Word::of(self.alloc, value.bytes())?;
-            self.set_variable(name, value)?;
-        }
-        Ok(())
-    }
-
-    /// Unsets all arguments.
-    fn unset_arguments(&mut self)
-        ensures { self.new ≡ spec.without_arguments self.old }
-    {
-        unset_all(&mut self.vars, self.numbered.as_slice());
-        self.set = self.set.saturating_sub(self.numbered.len());
-        self.numbered = WordList::new(self.alloc);
-    }
-
-    /// The arguments that are set.
-    pub fn kept_arguments(&self) -> Result<Arguments, AllocError>
-        ensures { IfOk result (λ arguments. arguments ≡ spec.kept_arguments self.now) }
-    {
-        let mut arguments = Arguments::new(self.alloc);
-        for name in self.numbered.as_slice() {
-            arguments.push(Argument {
-                name: Word::of(self.alloc, name.bytes())?,
-                value: self.value_of(name.bytes())?,
-            })?;
-        }
-        Ok(arguments)
-    }
-
-    /// The value of a variable, empty where it isn't set.
-    fn value_of(&self, name: &[u8]) -> Result<Word, AllocError>
-        ensures { IfOk result (λ value. value ≡ value_of self.now.vars name.now) }
-    {
-        match self.vars.get(name) {
-            Some(value) => Word::of(self.alloc, value.bytes()),
-            None => Word::of(self.alloc, &[]),
-        }
-    }
-
-    /// Brings arguments back that were put aside.
-    #[tactic(auto, unfolding(crate::specs::Variables::with_restored))]
-    pub fn restore_arguments(&mut self, arguments: &[Argument], count: usize) -> Result<(), Fault>
-        ensures { Leads (spec.with_restored self.old arguments.now count) self.new result }
-    {
-        self.unset_arguments();
-        self.set_all(arguments)?;
-        self.count = count;
-        Ok(())
-    }
-
-    #[tactic(auto, unfolding(crate::specs::Variables::restored))]
-    fn set_all(&mut self, arguments: &[Argument]) -> Result<(), Fault>
-        ensures { Leads (spec.restored arguments.now self.old) self.new result }
-    {
-        for argument in arguments {
-            let name = Word::of(self.alloc, argument.name.bytes())?;
-            let value = Word::of(self.alloc, argument.value.bytes())?;
-            self.set_variable(name, value)?;
-        }
-        Ok(())
-    }
-}
-
-/// Unsets these variables.
-fn unset_all(vars: &mut Vars, names: &[Word])
-    ensures { vars.new ≡ fold remove vars.old names.now }
-{
-    for name in names {
-        vars.unset(name.bytes());
     }
 }
