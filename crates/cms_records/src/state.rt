@@ -68,6 +68,8 @@ impl RecordState {
         requires few { self.old.place + length self.old.bytes + length piece.now ≤ most_bytes + from }
         ensures taken { IfOk result (λ fed. Takes self.old self.new (drop from piece.now) (fed.next - from) fed.whole) }
         ensures next { IfOk result (λ fed. (from ≤ fed.next) × (fed.next ≤ length piece.now)) }
+        ensures held { length self.new.bytes ≤ self.new.longest + 2 }
+        ensures rules { (self.new.fixed ≡ self.old.fixed) × (self.new.longest ≡ self.old.longest) }
         ensures fault { IfErr result (λ why. record_size self.old.fixed self.old.longest (next_place self.old)
             (bytes_so_far self.old ++ drop from piece.now) ≡ Err why) }
     {

@@ -1,0 +1,97 @@
+-- What a step of a read makes of the records that are left.
+use Rattle.std.proofs.Common.{◌≡◌, ℕ, zero, suc, ◌+◌, ◌-◌, ◌≤◌, ◌<◌, Bool, true, false, List, [], ◌∷◌, ◌++◌, length, drop, slice_index, refl, sym, ◌∙◌, ap, subst, arith, Err}
+use Rattle.std.proofs.lemmas.List.{drop-drop, length-drop}
+use Rattle.cms_model.specs.Trees.{Image, bytes_at}
+use Rattle.cms_model.specs.declared.fault.VarFault.{VarFault}
+use Rattle.cms_records.specs.Pieces.{Begun, Takes, bytes_so_far, next_place, record_size}
+use Rattle.cms_disk.specs.Cursors.{Reading, HoldLeft, HasLeft, Gives, IsShort, Waits, AreOn, unread}
+use Rattle.cms_journal.specs.Journal.{Journal, HasBlock, HasBlocks}
+use Rattle.cms_edf.proofs.TreesRead.{on_unit}
+use Rattle.cms_disk.proofs.Taking.{hands_out, keeps_left, takes_all, not_altered, not_ended, none_left}
+
+some_left : (n : ℕ) → 1 ≤ n → n ≡ suc (n - 1)
+some_left n some = omega arith
+
+-- bytes were taken of the block
+abbrev pub taken : Reading → Begun → ℕ → Bool → Reading
+taken c b f a = record c { begun = b; from = f; altered = a }
+
+rest_of : (c : Reading) (f : ℕ) → c.from ≤ f → drop (f - c.from) (drop c.from c.block) ≡ drop f c.block
+rest_of c f later = let at : c.from + (f - c.from) ≡ f = omega arith in drop-drop (f - c.from) c.from c.block ∙ ap (λ (n : ℕ). drop n c.block) at
+
+pub take_gives : (image : Image) (c : Reading) (b : Begun) (f : ℕ) (a whole : Bool) (records : List (List ℕ)) → Takes c.begun b (drop c.from c.block) (f - c.from) whole → a ≡ false → c.from ≤ f
+    → 1 ≤ c.left → HasLeft image c records → Gives image (taken c b f a) records whole
+take_gives image c b f a true records t sound later some left =
+    let held = subst (λ (n : ℕ). HoldLeft c.bsize c.begun.fixed c.begun.longest n (next_place c.begun) (unread image c) records) (some_left c.left some) left.held in
+    let h = hands_out c.bsize (c.left - 1) c.begun b (drop c.from c.block) (bytes_at image (drop c.done c.leaves)) (f - c.from) records t held in
+    let rest = rest_of c f later in
+    (h.more, h.records_are, record { sound = sound; held = subst (λ (l : List ℕ). HoldLeft c.bsize b.fixed b.longest (c.left - 1) (next_place b) (bytes_so_far b ++ (l ++ bytes_at image (drop c.done c.leaves))) h.more) rest h.rest })
+take_gives image c b f a false records t sound later some left =
+    let h = keeps_left c.bsize c.left c.begun b (drop c.from c.block) (bytes_at image (drop c.done c.leaves)) (f - c.from) records t left.held in
+    let rest = rest_of c f later in
+    record { sound = sound; held = subst (λ (l : List ℕ). HoldLeft c.bsize b.fixed b.longest c.left (next_place b) (bytes_so_far b ++ (l ++ bytes_at image (drop c.done c.leaves))) records) rest h }
+
+pub take_altered : (image : Image) (c : Reading) (records : List (List ℕ)) (why : VarFault) → record_size c.begun.fixed c.begun.longest (next_place c.begun) (bytes_so_far c.begun ++ drop c.from c.block) ≡ Err why
+    → 1 ≤ c.left → HasLeft image c records → ⊥
+take_altered image c records why is some left =
+    not_altered c.bsize (c.left - 1) c.begun (drop c.from c.block) (bytes_at image (drop c.done c.leaves)) records why is
+    (subst (λ (n : ℕ). HoldLeft c.bsize c.begun.fixed c.begun.longest n (next_place c.begun) (unread image c) records) (some_left c.left some) left.held)
+
+pub take_waits : (c : Reading) (b : Begun) (f : ℕ) (a : Bool) → Takes c.begun b (drop c.from c.block) (f - c.from) false → c.from ≤ f → f ≤ length c.block → length c.block ≡ c.bsize → Waits (taken c b f a)
+take_waits c b f a t later within long =
+    let all = takes_all c.begun b (drop c.from c.block) (f - c.from) t in
+    let d = length-drop c.from c.block in
+    let e = all.0 in
+    (all.1, omega arith)
+
+-- ---- the next block
+
+pub drop_whole : (n : ℕ) (xs : List ℕ) → length xs ≤ n → drop n xs ≡ []
+drop_whole zero [] le = refl
+drop_whole zero (x ∷ xs) le = absurd (omega arith)
+drop_whole (suc n) [] le = refl
+drop_whole (suc n) (x ∷ xs) le = drop_whole n xs (omega arith)
+
+drop_next : (n : ℕ) (xs : List ℕ) → n < length xs → drop n xs ≡ slice_index xs n ∷ drop (n + 1) xs
+drop_next n [] less = absurd (omega arith)
+drop_next zero (x ∷ xs) less = refl
+drop_next (suc n) (x ∷ xs) less = let one : suc n + 1 ≡ suc (n + 1) = omega arith in rw one (drop_next n xs (omega arith))
+
+-- all of the last block is taken, and the next one is there
+pub read_next : (image : Image) (c : Reading) (block : List ℕ) (d f : ℕ) (a : Bool) (records : List (List ℕ)) → block ≡ image (slice_index c.leaves c.done) → d ≡ c.done + 1 → f ≡ 0 → a ≡ c.altered → c.done < length c.leaves
+    → length c.block ≤ c.from → HasLeft image c records → HasLeft image (record c { done = d; block = block; from = f; altered = a }) records
+unfolding bytes_at
+read_next image c block d f a records is next first sound less all left =
+    let gone : drop c.from c.block ≡ [] = drop_whole c.from c.block all in
+    let more : bytes_at image (drop c.done c.leaves) ≡ image (slice_index c.leaves c.done) ++ bytes_at image (drop (c.done + 1) c.leaves) = ap (bytes_at image) (drop_next c.done c.leaves less) in
+    let same : unread image c ≡ bytes_so_far c.begun ++ (drop f block ++ bytes_at image (drop d c.leaves)) = rw (gone, more, first, next, is) refl in
+    record { sound = sound ∙ left.sound; held = subst (λ (l : List ℕ). HoldLeft c.bsize c.begun.fixed c.begun.longest c.left (next_place c.begun) l records) same left.held }
+
+-- the block may be any while all of it is taken
+pub read_failed : (image : Image) (c : Reading) (block : List ℕ) (f : ℕ) (a : Bool) (records : List (List ℕ)) → length c.block ≤ c.from → length block ≤ f → a ≡ c.altered → HasLeft image c records
+    → HasLeft image (record c { block = block; from = f; altered = a }) records
+read_failed image c block f a records all all' sound left =
+    let gone : drop c.from c.block ≡ drop f block = drop_whole c.from c.block all ∙ sym (drop_whole f block all') in
+    record { sound = sound ∙ left.sound; held = subst (λ (l : List ℕ). HoldLeft c.bsize c.begun.fixed c.begun.longest c.left (next_place c.begun) (bytes_so_far c.begun ++ (l ++ bytes_at image (drop c.done c.leaves))) records) gone left.held }
+
+pub read_ended : (image : Image) (c : Reading) (records : List (List ℕ)) → c.done ≡ length c.leaves → length c.block ≤ c.from → IsShort c.begun → 1 ≤ c.left → HasLeft image c records → ⊥
+unfolding bytes_at
+read_ended image c records end all short some left =
+    let gone : drop c.from c.block ≡ [] = drop_whole c.from c.block all in
+    let none : drop c.done c.leaves ≡ [] = drop_whole c.done c.leaves (omega arith) in
+    let same : unread image c ≡ bytes_so_far c.begun ++ ([] ++ []) = rw (gone, none) refl in
+    not_ended c.bsize (c.left - 1) c.begun records short
+    (subst (λ (l : List ℕ). HoldLeft c.bsize c.begun.fixed c.begun.longest (suc (c.left - 1)) (next_place c.begun) l records) same
+    (subst (λ (n : ℕ). HoldLeft c.bsize c.begun.fixed c.begun.longest n (next_place c.begun) (unread image c) records) (some_left c.left some) left.held))
+
+-- ---- the unit's blocks
+
+pub has_block : (j : Journal) (c : Reading) (n leaf size : ℕ) → HasBlocks j.units c.unit c.total c.bsize → AreOn c.total c.leaves → n < length c.leaves → leaf ≡ slice_index c.leaves n → size ≡ c.bsize → HasBlock j.units c.unit leaf size
+has_block j c n leaf size has on less is same = let within = on n less in rw (same, is) (on_unit j c.unit c.total c.bsize (slice_index c.leaves n) within.0 within.1 has)
+
+-- ---- behind the last
+
+pub none_more : (image : Image) (c : Reading) (records : List (List ℕ)) → c.left ≡ 0 → HasLeft image c records → records ≡ []
+none_more image c records none left =
+    none_left c.bsize c.begun.fixed c.begun.longest (next_place c.begun) (unread image c) records
+    (subst (λ (n : ℕ). HoldLeft c.bsize c.begun.fixed c.begun.longest n (next_place c.begun) (unread image c) records) none left.held)

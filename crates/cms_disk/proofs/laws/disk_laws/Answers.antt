@@ -1,0 +1,12 @@
+use Rattle.cms_disk.proofs.Finding.{stands_tells}
+use Rattle.cms_disk.proofs.Quieting.{quiet_rests, sync_quiets}
+use Rattle.cms_disk.proofs.laws.disk_laws.Goals as goal
+
+pub returns-clause-tells : goal.returns-clause-tells
+returns-clause-tells c = stands_tells
+
+pub returns-clause-rests : goal.returns-clause-rests
+returns-clause-rests c = quiet_rests
+
+pub returns-clause-synced : goal.returns-clause-synced
+returns-clause-synced c = sync_quiets

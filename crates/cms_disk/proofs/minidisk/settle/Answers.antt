@@ -1,0 +1,8 @@
+use Rattle.std.proofs.Common.{sym, ◌∙◌}
+use Rattle.cms_disk.specs.Disks.{disk_on}
+use Rattle.cms_disk.proofs.Quieting.{synced_told}
+use Rattle.cms_disk.proofs.minidisk.settle.Goals as goal
+
+pub returns-in-Ok-clause-quiet : goal.returns-in-Ok-clause-quiet
+returns-in-Ok-clause-quiet g c = λ j told quiet.
+    synced_told (disk_on c.args.unit.now) c.args.unit.now.unit.number (g.W.World.told c.args.world.now) j (sym c.in-Ok.ensures.synced ∙ told)

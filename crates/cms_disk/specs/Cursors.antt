@@ -1,0 +1,144 @@
+-- A file that is read record by record.
+use Rattle.std.specs.Prelude.{◌≡◌, ◌⊎◌, ℕ, ◌+◌, ◌-◌, ◌*◌, ◌≤◌, ◌<◌, Bool, true, false, List, [], ◌∷◌, ◌++◌, length, drop, slice_index, Option, None, Some, IfSome, Result, Ok, Err}
+use Rattle.cms_names.specs.declared.name.Format.{Format}
+use Rattle.cms_names.specs.declared.name.Format.TheVariants.{F, V}
+use Rattle.cms_model.specs.Lists.{cut}
+use Rattle.cms_model.specs.Records.{varying, longest}
+use Rattle.cms_model.specs.Trees.{Image, bytes_at}
+use Rattle.cms_records.specs.Pieces.{Begun, bytes_so_far, next_place, record_size, is_whole, text_in}
+use Rattle.cms_disk.specs.declared.fault.DiskFault.{DiskFault}
+use Rattle.cms_disk.specs.declared.fault.DiskFault.TheVariants as failed
+
+-- how far a file was read: its unit, with so many blocks of a size; the file's data blocks, how many of them were read, the bytes of
+-- the one that was read last, and how many of these were taken; how many records are left to hand out, the record that is begun or was
+-- handed out last, and whether the bytes turned out to be no records
+pub record Reading : Type 0 where
+  pub unit : ℕ
+  pub total : ℕ
+  pub bsize : ℕ
+  pub leaves : List ℕ
+  pub done : ℕ
+  pub block : List ℕ
+  pub from : ℕ
+  pub left : ℕ
+  pub begun : Begun
+  pub altered : Bool
+
+-- ---- what is held in memory
+
+-- besides the list of blocks one block is held, and of one record, no longer than the longest, its bytes and those of its length
+abbrev pub HoldsLittle : Reading → Type 0
+HoldsLittle c = (length c.block ≡ c.bsize) × (length c.begun.bytes ≤ c.begun.longest + 2)
+
+-- records of one length have at least one byte, and none is above the longest
+abbrev pub HasLengths : Begun → Type 0
+HasLengths s = IfSome s.fixed (λ n. (1 ≤ n) × (n ≤ s.longest)) × (s.longest ≤ 65535)
+
+-- each of these is a block of so many
+abbrev pub AreOn : ℕ → List ℕ → Type 0
+AreOn total leaves = (k : ℕ) → k < length leaves → (1 ≤ slice_index leaves k) × (slice_index leaves k ≤ total)
+
+-- what was taken lies in the blocks that were read
+abbrev pub IsWithin : Reading → Type 0
+IsWithin c = c.altered ≡ false → c.begun.place + length c.begun.bytes + c.bsize ≤ c.done * c.bsize + c.from
+
+-- what always holds
+abbrev pub IsReading : Reading → Type 0
+IsReading c = HoldsLittle c × HasLengths c.begun × AreOn c.total c.leaves × (c.from ≤ c.bsize) × (c.done ≤ length c.leaves)
+    × (length c.leaves * c.bsize ≤ 67108864) × IsWithin c × (1 ≤ c.bsize)
+
+-- ---- what is left
+
+-- these bytes hold so many records, the first at a place: all of one length, or each behind its own and none above the longest
+abbrev pub HoldLeft : ℕ → Option ℕ → ℕ → ℕ → ℕ → List ℕ → List (List ℕ) → Type 0
+HoldLeft bsize (Some size) most left place bytes records = (records ≡ cut left size bytes) × (left * size ≤ length bytes)
+HoldLeft bsize None most left place bytes records = (varying bsize left place bytes ≡ Ok records) × (longest records ≤ most)
+
+-- the bytes of the file that aren't handed out, in an image of its unit
+abbrev pub unread : Image → Reading → List ℕ
+unread image c = bytes_so_far c.begun ++ (drop c.from c.block ++ bytes_at image (drop c.done c.leaves))
+
+-- these records are left to hand out, where the unit has this image
+pub record HasLeft (image : Image) (c : Reading) (records : List (List ℕ)) : Type 0 where
+  pub sound : c.altered ≡ false
+  pub held : HoldLeft c.bsize c.begun.fixed c.begun.longest c.left (next_place c.begun) (unread image c) records
+
+-- the record that was handed out last
+abbrev pub text_of : Reading → List ℕ
+text_of c = text_in c.begun.fixed c.begun.bytes
+
+-- what the next read makes of the records that are left: it hands out the first of them, says that there is none, or leaves
+-- them as they are; they are never found altered
+abbrev pub HandsOut : Image → Reading → List (List ℕ) → Result Bool DiskFault → Type 0
+HandsOut image c records (Ok true) = (more : List (List ℕ)) × (records ≡ text_of c ∷ more) × HasLeft image c more
+HandsOut image c records (Ok false) = (records ≡ []) × HasLeft image c records
+HandsOut image c records (Err failed.Device) = HasLeft image c records
+HandsOut image c records (Err failed.NotFound) = ⊥
+HandsOut image c records (Err failed.Exists) = ⊥
+HandsOut image c records (Err failed.ReadOnly) = ⊥
+HandsOut image c records (Err failed.InDoubt) = ⊥
+HandsOut image c records (Err failed.Altered) = ⊥
+HandsOut image c records (Err (failed.Limit which)) = ⊥
+HandsOut image c records (Err (failed.Full need free)) = ⊥
+HandsOut image c records (Err failed.Memory) = ⊥
+
+-- ---- steps of a read
+
+-- it is the same file
+pub record SameFile (old new : Reading) : Type 0 where
+  pub unit : new.unit ≡ old.unit
+  pub total : new.total ≡ old.total
+  pub bsize : new.bsize ≡ old.bsize
+  pub leaves : new.leaves ≡ old.leaves
+  pub fixed : new.begun.fixed ≡ old.begun.fixed
+  pub longest : new.begun.longest ≡ old.begun.longest
+
+-- no block was read, or bytes of the one that was read last were taken for the record
+abbrev pub IsNeeded : Reading → Reading → Type 0
+IsNeeded old new = (new.done ≡ old.done) ⊎ (1 ≤ new.from)
+
+-- more bytes belong to the record that is begun
+pub record IsShort (s : Begun) : Type 0 where
+  pub size : Option ℕ
+  pub size_is : record_size s.fixed s.longest s.place s.bytes ≡ Ok size
+  pub short : is_whole size s.bytes ≡ false
+  pub begun : s.whole ≡ false
+
+-- and all bytes that were read are taken
+abbrev pub Waits : Reading → Type 0
+Waits c = IsShort c.begun × (c.from ≡ c.bsize)
+
+-- what taking bytes makes of the records that are left: the first of them is whole, or they stay
+abbrev pub Gives : Image → Reading → List (List ℕ) → Bool → Type 0
+Gives image c records true = (more : List (List ℕ)) × (records ≡ text_of c ∷ more) × HasLeft image (record c { left = c.left - 1 }) more
+Gives image c records false = HasLeft image c records
+
+-- a record has at least one byte and no more than the longest, and where all have one length, that
+pub record TextFits (c : Reading) : Type 0 where
+  pub some : 1 ≤ length (text_of c)
+  pub short : length (text_of c) ≤ c.begun.longest
+  pub fixed : IfSome c.begun.fixed (λ n. length (text_of c) ≡ n)
+
+-- ---- the start
+
+-- the length that all records have, where they have one
+abbrev pub fixed_of : Format → ℕ → Option ℕ
+fixed_of F size = Some size
+fixed_of V size = None
+
+-- before the first byte of records
+abbrev pub first_begun : Format → ℕ → Begun
+first_begun format size = record { fixed = fixed_of format size; longest = size; place = 0; bytes = []; whole = false }
+
+-- no block was read yet of these, on a unit with so many of a size, and no record of so many
+pub record IsFirst (number most size : ℕ) (blocks : List ℕ) (format : Format) (high count : ℕ) (c : Reading) : Type 0 where
+  pub unit : c.unit ≡ number
+  pub total : c.total ≡ most
+  pub bsize : c.bsize ≡ size
+  pub leaves : c.leaves ≡ blocks
+  pub done : c.done ≡ 0
+  pub all : c.from ≡ size
+  pub left : c.left ≡ count
+  pub begun : c.begun ≡ first_begun format high
+  pub altered : c.altered ≡ false
+  pub held : HoldsLittle c

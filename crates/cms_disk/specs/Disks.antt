@@ -1,0 +1,125 @@
+-- Minidisks on the units of a world.
+use Rattle.std.specs.Prelude.{◌≡◌, ◌⊎◌, ℕ, Bool, true, false, position, slice_get, Option, None, Some, Result, Ok, Err, ⊤}
+use Rattle.cms_journal.specs.declared.event.Event.TheVariants.{Synced}
+use Rattle.cms_journal.specs.Journal.{Journal, HasBlocks, adds}
+use Rattle.cms_journal.specs.Told.{Told}
+use Rattle.cms_names.specs.declared.name.Name.{Name}
+use Rattle.cms_model.specs.Trees.{Image}
+use Rattle.cms_model.specs.Minidisks.{File, Minidisk, Not, same_name}
+use Rattle.cms_model.specs.Volumes.{Disk, Opened, open_of, minidisk_of, reason}
+use Rattle.cms_model.specs.Changes.{file_named}
+use Rattle.cms_model.specs.Settled.{IsSettled, IsFirm}
+use Rattle.cms_model.specs.LawsSizes.{IsWhole}
+use Rattle.cms_model.specs.LawsUpdates.{now}
+use Rattle.cms_model.specs.declared.fault.OpenFault.{OpenFault}
+use Rattle.cms_model.specs.declared.fault.OpenFault.TheVariants as failed
+use Rattle.cms_edf.specs.Opening.{HeldFile, HeldVolume, IsFaultOf, held_of, names_in}
+use Rattle.cms_disk.specs.Cursors.{Reading, IsFirst, HasLeft}
+use Rattle.cms_disk.specs.declared.fault.AccessFault.{AccessFault}
+use Rattle.cms_disk.specs.declared.fault.AccessFault.TheVariants.{Sync, Open}
+use Rattle.cms_disk.specs.declared.unit.UnitInfo.{UnitInfo}
+
+-- an accessed volume: its device, whether it may be written, the volume as it is held, and for how many more files there is room with
+-- no more memory
+pub record Accessed : Type 0 where
+  pub vdev : ℕ
+  pub writable : Bool
+  pub volume : HeldVolume
+  pub spare : ℕ
+
+-- what is looked at of a unit
+abbrev pub disk_on : UnitInfo → Disk
+disk_on unit = record { bsize = unit.bsize; count = unit.unit.blocks }
+
+-- it is on this unit
+pub record IsOn (unit : UnitInfo) (d : Accessed) : Type 0 where
+  pub vdev : d.vdev ≡ unit.vdev
+  pub writable : d.writable ≡ unit.writable
+  pub number : d.volume.unit ≡ unit.unit.number
+  pub disk : d.volume.disk ≡ disk_on unit
+
+-- the blocks of its unit may be read
+abbrev pub IsReadable : Journal → Accessed → Type 0
+IsReadable j d = HasBlocks j.units d.volume.unit d.volume.disk.count d.volume.disk.bsize
+
+-- ---- the minidisk that it is
+
+-- in this image of its unit, whose blocks have their size, it is this minidisk
+pub record StandsIn (image : Image) (d : Accessed) (m : Minidisk) : Type 0 where
+  pub whole : IsWhole d.volume.disk image
+  pub opened : Opened
+  pub opens : open_of d.volume.disk image ≡ Ok opened
+  pub volume_is : d.volume ≡ held_of d.volume.unit d.volume.disk image opened
+  pub minidisk_is : m ≡ minidisk_of d.volume.disk opened
+
+-- at a journal it is this minidisk, and its unit is settled at it
+pub record IsMinidisk (j : Journal) (d : Accessed) (m : Minidisk) : Type 0 where
+  pub stands : StandsIn (now j d.volume.unit) d m
+  pub settled : IsSettled d.volume.disk j d.volume.unit stands.opened
+
+-- a unit is quiet: it is settled at a volume, or is none for the same reason in every crash image
+abbrev pub IsQuiet : Disk → Journal → ℕ → Type 0
+IsQuiet disk j u = ((v : Opened) × IsSettled disk j u v) ⊎ ((k : ℕ) × IsFirm disk j u (Not k))
+
+-- ---- an access
+
+-- the volume that opens in this image, or the first test that fails
+abbrev pub AnswersAccess : UnitInfo → Image → Result Accessed AccessFault → Type 0
+AnswersAccess unit image (Ok d) = (v : Opened) × (open_of (disk_on unit) image ≡ Ok v)
+    × (d.volume ≡ held_of unit.unit.number (disk_on unit) image v)
+AnswersAccess unit image (Err (Open why)) = IsFaultOf (open_of (disk_on unit) image) why
+AnswersAccess unit image (Err Sync) = ⊤
+
+-- what is told with a sync of a unit, where it was in doubt
+abbrev pub synced : Bool → ℕ → Told → Told
+synced true u told = adds (Synced u) told
+synced false u told = told
+
+-- what is told where the access was refused
+abbrev pub told_with : AccessFault → Bool → ℕ → Told → Told
+told_with Sync doubt u told = told
+told_with (Open why) doubt u told = synced doubt u told
+
+-- where the volume doesn't open for a reason, every crash image is none for that reason
+abbrev pub IsRefused : Disk → Journal → ℕ → OpenFault → Type 0
+IsRefused disk j u failed.Device = IsQuiet disk j u
+IsRefused disk j u failed.Memory = IsQuiet disk j u
+IsRefused disk j u (failed.Label k) = IsFirm disk j u (Not (reason (failed.Label k)))
+IsRefused disk j u (failed.Entry n k) = IsFirm disk j u (Not (reason (failed.Entry n k)))
+IsRefused disk j u (failed.Pointer holder value) = IsFirm disk j u (Not (reason (failed.Pointer holder value)))
+IsRefused disk j u (failed.Crossed n) = IsFirm disk j u (Not (reason (failed.Crossed n)))
+IsRefused disk j u (failed.MapMissing n) = IsFirm disk j u (Not (reason (failed.MapMissing n)))
+IsRefused disk j u (failed.Var n k) = IsFirm disk j u (Not (reason (failed.Var n k)))
+IsRefused disk j u (failed.Twice n) = IsFirm disk j u (Not (reason (failed.Twice n)))
+IsRefused disk j u (failed.System n) = IsFirm disk j u (Not (reason (failed.System n)))
+
+-- how an access leaves the unit: settled at the minidisk, or refused; nothing is said where the sync failed
+abbrev pub IsLeft : Disk → Journal → ℕ → Result Accessed AccessFault → Type 0
+IsLeft disk j u (Ok d) = (m : Minidisk) × IsMinidisk j d m
+IsLeft disk j u (Err (Open why)) = IsRefused disk j u why
+IsLeft disk j u (Err Sync) = ⊤
+
+-- ---- files by their names
+
+-- the place of the file of a name
+abbrev pub place_of : Name → HeldVolume → Option ℕ
+place_of name v = position (same_name name) (names_in v.files)
+
+-- the file of a name is read from its first record on
+pub record StartsAt (name : Name) (v : HeldVolume) (c : Reading) : Type 0 where
+  pub place : ℕ
+  pub place_is : place_of name v ≡ Some place
+  pub file : HeldFile
+  pub file_is : slice_get v.files place ≡ Some file
+  pub first : IsFirst v.unit v.disk.count v.disk.bsize file.tree.leaves file.entry.format file.length file.entry.count c
+
+-- all records of the file of a name are left to read, in this image
+abbrev pub OpensFile : Image → Name → Minidisk → Reading → Type 0
+OpensFile image name m c = (f : File) × (file_named name m.files ≡ Some f) × HasLeft image c f.records
+
+abbrev pub OpensIn : Accessed → Name → Reading → Type 0
+OpensIn d name c = (image : Image) (m : Minidisk) → StandsIn image d m → OpensFile image name m c
+
+-- no file has this name
+abbrev pub HasNone : Accessed → Name → Type 0
+HasNone d name = (image : Image) (m : Minidisk) → StandsIn image d m → file_named name m.files ≡ None

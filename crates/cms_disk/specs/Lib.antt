@@ -1,0 +1,4 @@
+pub mod Cursors
+pub mod Disks
+pub mod Getting
+pub mod LawsDisks

@@ -1,0 +1,204 @@
+// The records of a file, one after another.
+ghost use Rattle.std.specs.Prelude.{◌≡◌, ◌⊎◌, ◌≤◌, ◌<◌, ◌+◌, ◌-◌, ◌*◌, ◌++◌, ◌↔◌, ℕ, List, true, false, length, drop, IfOk, IfErr, OnOk, OnErr, IsTrue, IfSome, Err};
+ghost use Rattle.std.specs.Option.{ForSome};
+ghost use Rattle.cms_journal.specs.Causes.{Rose};
+ghost use Rattle.cms_journal.specs.Journal.{HasBlocks, contents_of};
+ghost use Rattle.cms_names.specs.declared.name.Format.TheVariants.{F};
+ghost use Rattle.cms_model.specs.Trees.{Image, image_of};
+ghost use Rattle.cms_edf.specs.OpeningSteps.{OfImage};
+ghost use Rattle.cms_disk.specs.Cursors.{AreOn, IsFirst, HoldsLittle, HasLeft, HandsOut, Gives, SameFile, IsNeeded, IsShort, TextFits, Waits, text_of};
+ghost use Rattle.cms_disk.specs.declared.fault.DiskFault.TheVariants.{Device, Altered, Memory};
+
+use crate::fault::DiskFault;
+use cms_edf::FileInfo;
+use cms_journal::BlockSize;
+use cms_names::Format;
+use cms_records::RecordState;
+use cms_world::{Unit, World};
+use std::alloc::Global;
+use std::marker::Model;
+
+/// A file that is read record by record. Besides the list of its data blocks it holds one block and one record, with its length.
+#[derive(Drop)]
+pub struct Cursor {
+    unit: Unit,
+    bsize: BlockSize,
+    leaves: Vec<u32>,
+    done: usize,
+    block: Vec<u8>,
+    from: usize,
+    left: u32,
+    begun: RecordState,
+    altered: bool,
+}
+
+impl Model for Cursor {
+    ghost use Rattle.cms_disk.specs.Cursors.{Reading, IsReading};
+
+    ghost Value = { Reading };
+
+    ghost view = { λ c. record {
+      unit = c.unit.number;
+      total = c.unit.blocks;
+      bsize = c.bsize;
+      leaves = c.leaves.items;
+      done = c.done;
+      block = c.block.items;
+      from = c.from;
+      left = c.left;
+      begun = c.begun;
+      altered = c.altered;
+    } };
+
+    ghost invariant = { λ c. IsReading (record {
+      unit = c.unit.number;
+      total = c.unit.blocks;
+      bsize = c.bsize;
+      leaves = c.leaves.items;
+      done = c.done;
+      block = c.block.items;
+      from = c.from;
+      left = c.left;
+      begun = c.begun;
+      altered = c.altered;
+    }) };
+}
+
+impl Cursor {
+    /// Before the first record of a file with these data blocks, of which this is told.
+    pub(crate) fn new(
+        alloc: Global,
+        unit: Unit,
+        bsize: BlockSize,
+        info: &FileInfo,
+        leaves: &[u32],
+    ) -> Result<Cursor, DiskFault>
+        requires leaves { AreOn unit.blocks leaves.now }
+        requires few { length leaves.now * bsize ≤ 67108864 }
+        requires short { info.now.length ≤ 65535 }
+        requires fixed { info.now.format ≡ F → 1 ≤ info.now.length }
+        ensures first { IfOk result (IsFirst unit.number unit.blocks bsize leaves.now info.now.format info.now.length info.now.count) }
+        ensures fault { IfErr result (λ e. e ≡ Memory) }
+    {
+        let fixed = match info.format {
+            Format::F => Some(info.length),
+            Format::V => None,
+        };
+        let size = bsize.bytes() as usize;
+        Ok(Cursor {
+            unit,
+            bsize,
+            leaves: leaves.to_vec(alloc)?,
+            done: 0,
+            block: vec![in alloc; 0; size]?,
+            from: size,
+            left: info.count,
+            begun: RecordState::new(alloc, fixed, info.length)?,
+            altered: false,
+        })
+    }
+
+    /// Reads the next record, and says whether there was one: none after the last. `Device` leaves the same records to read.
+    /// `Altered` where the file's bytes aren't its records any more, which is never in a world that tells its journal and has left
+    /// the file as it was; it comes again at each later call. A block is read once, and no sooner than a record needs it. It
+    /// takes no memory.
+    pub fn next<W: World>(&mut self, world: &mut W) -> Result<bool, DiskFault>
+        requires blocks { ForSome (W.told world.old) (λ j. HasBlocks j.units self.old.unit self.old.total self.old.bsize) }
+        ensures records { OfImage (W.told world.old) self.old.unit (λ image. (records : List (List ℕ)) → HasLeft image self.old records
+            → HandsOut image self.new records result) }
+        ensures some { IfOk result (λ more. IsTrue more ↔ (1 ≤ self.old.left)) }
+        ensures whole { IfOk result (λ more. IsTrue more → self.new.begun.whole ≡ true) }
+        ensures text { IfOk result (λ more. IsTrue more → TextFits self.new) }
+        ensures left { IfOk result (λ more. IsTrue more → self.old.left ≡ self.new.left + 1) }
+        ensures last { IfOk result (λ more. more ≡ false → self.new ≡ self.old) }
+        ensures needed { IfOk result (λ more. IsNeeded self.old self.new) }
+        ensures fault { IfErr result (λ e. (e ≡ Device) ⊎ (e ≡ Altered)) }
+        ensures held { HoldsLittle self.new }
+        ensures file { SameFile self.old self.new }
+        ensures cause { IfErr result (λ e. e ≡ Device → Rose (W.faults world.old) (W.faults world.new)) }
+        ensures told { W.told world.new ≡ W.told world.old }
+        ensures faults { W.faults world.old ≤ W.faults world.new }
+        ensures edges { W.edges world.new ≡ W.edges world.old }
+    {
+        if self.left == 0 {
+            return Ok(false);
+        }
+        while !self.take()? {
+            self.read(world)?;
+        }
+        self.left -= 1;
+        Ok(true)
+    }
+
+    /// The record that `next` read, where it answered true.
+    pub fn text(&self) -> &[u8]
+        requires { self.now.begun.whole ≡ true }
+        ensures { result.now ≡ text_of self.now }
+    {
+        self.begun.text()
+    }
+
+    // Takes bytes of the block that was read last, until a record is whole or the block ends.
+    fn take(&mut self) -> Result<bool, DiskFault>
+        ensures gives { IfOk result (λ whole. (image : Image) (records : List (List ℕ)) → 1 ≤ self.old.left → HasLeft image self.old records
+            → Gives image self.new records whole) }
+        ensures altered { OnErr result ((image : Image) (records : List (List ℕ)) → 1 ≤ self.old.left → HasLeft image self.old records → ⊥) }
+        ensures whole { IfOk result (λ whole. whole ≡ true → self.new.begun.whole ≡ true) }
+        ensures text { IfOk result (λ whole. whole ≡ true → TextFits self.new) }
+        ensures waits { IfOk result (λ whole. whole ≡ false → Waits self.new) }
+        ensures some { OnOk result (IsShort self.old.begun → self.old.from ≡ 0 → 1 ≤ self.new.from) }
+        ensures held { HoldsLittle self.new }
+        ensures fault { IfErr result (λ e. e ≡ Altered) }
+        ensures same { self.new ≡ record self.old { begun = self.new.begun; from = self.new.from; altered = self.new.altered } }
+        ensures rules { (self.new.begun.fixed ≡ self.old.begun.fixed) × (self.new.begun.longest ≡ self.old.begun.longest) }
+    {
+        if self.altered {
+            return Err(DiskFault::Altered);
+        }
+        match self.begun.feed(&self.block, self.from) {
+            Ok(fed) => {
+                self.from = fed.next;
+                Ok(fed.whole)
+            }
+            Err(_) => {
+                self.altered = true;
+                Err(DiskFault::Altered)
+            }
+        }
+    }
+
+    // Reads the next block, where all bytes of the last were taken.
+    fn read<W: World>(&mut self, world: &mut W) -> Result<(), DiskFault>
+        requires blocks { ForSome (W.told world.old) (λ j. HasBlocks j.units self.old.unit self.old.total self.old.bsize) }
+        requires waits { Waits self.old }
+        ensures read { OnOk result (OfImage (W.told world.old) self.old.unit (λ image. (records : List (List ℕ)) → HasLeft image self.old records
+            → HasLeft image self.new records)) }
+        ensures stays { IfErr result (λ e. e ≡ Device → (image : Image) (records : List (List ℕ)) → HasLeft image self.old records
+            → HasLeft image self.new records) }
+        ensures altered { IfErr result (λ e. e ≡ Altered → (image : Image) (records : List (List ℕ)) → 1 ≤ self.old.left
+            → HasLeft image self.old records → ⊥) }
+        ensures held { HoldsLittle self.new }
+        ensures fault { IfErr result (λ e. (e ≡ Device) ⊎ (e ≡ Altered)) }
+        ensures done { OnOk result ((self.new.done ≡ self.old.done + 1) × (self.old.done < length self.old.leaves)) }
+        ensures from { OnOk result (self.new.from ≡ 0) }
+        ensures same { self.new ≡ record self.old { done = self.new.done; block = self.new.block; from = self.new.from; altered = self.new.altered } }
+        ensures cause { IfErr result (λ e. e ≡ Device → Rose (W.faults world.old) (W.faults world.new)) }
+        ensures told { W.told world.new ≡ W.told world.old }
+        ensures faults { W.faults world.old ≤ W.faults world.new }
+        ensures edges { W.edges world.new ≡ W.edges world.old }
+    {
+        if self.done == self.leaves.len() {
+            self.altered = true;
+            return Err(DiskFault::Altered);
+        }
+        let leaf = self.leaves[self.done];
+        match world.read_block(self.unit.number, leaf, self.block.as_mut_slice()) {
+            Ok(()) => {
+                self.done += 1;
+                self.from = 0;
+                Ok(())
+            }
+            Err(_) => Err(DiskFault::Device),
+        }
+    }
+}

@@ -1,0 +1,184 @@
+// A volume that is accessed.
+ghost use Rattle.std.specs.Prelude.{◌≡◌, ◌⊎◌, ◌<◌, ◌≤◌, true, false, length, slice_get, Some, None, IfOk, IfErr, OnOk, OnErr};
+ghost use Rattle.std.specs.Option.{ForSome};
+ghost use Rattle.cms_journal.specs.Causes.{Rose};
+ghost use Rattle.cms_journal.specs.Journal.{HasBlocks, contents_of};
+ghost use Rattle.cms_model.specs.LawsSizes.{IsWhole};
+ghost use Rattle.cms_model.specs.LawsUpdates.{now};
+ghost use Rattle.cms_model.specs.Trees.{image_of};
+ghost use Rattle.cms_model.specs.declared.fault.OpenFault.TheVariants as failed;
+ghost use Rattle.cms_edf.specs.Asking.{infos_in, space_of};
+ghost use Rattle.cms_edf.specs.Kept.{Keeps};
+ghost use Rattle.cms_edf.specs.Opening.{HeldFile};
+ghost use Rattle.cms_edf.specs.OpeningSteps.{OfImage};
+ghost use Rattle.cms_disk.specs.Cursors.{IsFirst};
+ghost use Rattle.cms_disk.specs.Disks.{AnswersAccess, HasNone, IsLeft, IsOn, IsQuiet, OpensIn, StartsAt, disk_on, place_of, synced, told_with};
+ghost use Rattle.cms_disk.specs.declared.fault.AccessFault.TheVariants.{Open, Sync};
+ghost use Rattle.cms_disk.specs.declared.fault.DiskFault.TheVariants.{Memory, NotFound};
+
+use crate::cursor::Cursor;
+use crate::fault::{AccessFault, DiskFault};
+use crate::unit::UnitInfo;
+use cms_edf::{FileInfo, Held, Space, open_volume};
+use cms_names::Name;
+use cms_world::World;
+use std::alloc::Global;
+use std::marker::Model;
+
+/// An accessed volume. It holds all of it but the files' data.
+#[derive(Drop)]
+pub struct Minidisk {
+    unit: UnitInfo,
+    held: Held,
+}
+
+impl Model for Minidisk {
+    ghost use Rattle.std.specs.Prelude.{◌≡◌};
+    ghost use Rattle.cms_disk.specs.Disks.{Accessed, disk_on};
+
+    ghost Value = { Accessed };
+
+    ghost view = { λ d. record { vdev = d.unit.vdev; writable = d.unit.writable; volume = d.held.volume; spare = d.held.spare } };
+
+    ghost invariant = { λ d. (d.held.volume.unit ≡ d.unit.unit.number) × (d.held.volume.disk ≡ disk_on d.unit) };
+}
+
+impl Minidisk {
+    /// Opens the volume on an attached unit. A unit in doubt is synced first: `Sync` says that this failed, and nothing was read. `Open`
+    /// says why the volume doesn't open. The unit is left quiet, where it was quiet or is synced.
+    pub fn access<W: World>(
+        alloc: Global,
+        world: &mut W,
+        unit: &UnitInfo,
+        doubt: bool,
+    ) -> Result<Minidisk, AccessFault>
+        requires blocks { ForSome (W.told world.old) (λ j. HasBlocks j.units unit.now.unit.number unit.now.unit.blocks unit.now.bsize) }
+        ensures unit { IfOk result (IsOn unit.now) }
+        ensures answers { OfImage (W.told world.new) unit.now.unit.number (λ image. AnswersAccess unit.now image result) }
+        ensures left { ForSome (W.told world.new) (λ j. IsWhole (disk_on unit.now) (now j unit.now.unit.number)
+            → (doubt ≡ false → IsQuiet (disk_on unit.now) j unit.now.unit.number)
+            → IsLeft (disk_on unit.now) j unit.now.unit.number result) }
+        ensures synced { OnOk result (W.told world.new ≡ synced doubt unit.now.unit.number (W.told world.old)) }
+        ensures refused { IfErr result (λ e. W.told world.new ≡ told_with e doubt unit.now.unit.number (W.told world.old)) }
+        ensures doubt { IfErr result (λ e. e ≡ Sync → (doubt ≡ true) × Rose (W.faults world.old) (W.faults world.new)) }
+        ensures cause { IfErr result (λ e. e ≡ Open failed.Device → Rose (W.faults world.old) (W.faults world.new)) }
+        ensures faults { W.faults world.old ≤ W.faults world.new }
+        ensures edges { W.edges world.new ≡ W.edges world.old }
+    {
+        settle(world, unit, doubt)?;
+        Minidisk::read(alloc, world, unit)
+    }
+
+    // The volume of a unit.
+    fn read<W: World>(
+        alloc: Global,
+        world: &mut W,
+        unit: &UnitInfo,
+    ) -> Result<Minidisk, AccessFault>
+        requires blocks { ForSome (W.told world.old) (λ j. HasBlocks j.units unit.now.unit.number unit.now.unit.blocks unit.now.bsize) }
+        ensures unit { IfOk result (IsOn unit.now) }
+        ensures answers { OfImage (W.told world.old) unit.now.unit.number (λ image. AnswersAccess unit.now image result) }
+        ensures left { ForSome (W.told world.old) (λ j. IsWhole (disk_on unit.now) (now j unit.now.unit.number)
+            → IsQuiet (disk_on unit.now) j unit.now.unit.number → IsLeft (disk_on unit.now) j unit.now.unit.number result) }
+        ensures opened { IfErr result (λ e. e ≡ Sync → ⊥) }
+        ensures cause { IfErr result (λ e. e ≡ Open failed.Device → Rose (W.faults world.old) (W.faults world.new)) }
+        ensures told { W.told world.new ≡ W.told world.old }
+        ensures faults { W.faults world.old ≤ W.faults world.new }
+        ensures edges { W.edges world.new ≡ W.edges world.old }
+    {
+        match open_volume(alloc, world, &unit.unit, unit.bsize) {
+            Ok(held) => Ok(Minidisk { unit: *unit, held }),
+            Err(fault) => Err(AccessFault::Open(fault)),
+        }
+    }
+
+    /// How many files there are, at most 16,384.
+    pub fn count(&self) -> u32
+        ensures { result ≡ length self.now.volume.files }
+    {
+        self.held.count()
+    }
+
+    /// What is told of the file at a place, from 0 below their number.
+    pub fn info(&self, nth: u32) -> FileInfo
+        requires { nth < length self.now.volume.files }
+        ensures { slice_get (infos_in self.now.volume) nth ≡ Some result }
+    {
+        self.held.info(nth)
+    }
+
+    /// The place of the file of a name, from 0; none exactly where no file has that name.
+    pub fn find(&self, name: &Name) -> Option<u32>
+        ensures { result ≡ place_of name.now self.now.volume }
+    {
+        self.held.find(name)
+    }
+
+    /// The volume id, the size of blocks, and how many there are and are free.
+    pub fn space(&self) -> Space
+        ensures { result ≡ space_of self.now.volume }
+    {
+        self.held.space()
+    }
+
+    /// Before the first record of the file of a name; `NotFound` exactly where no file has it.
+    pub fn cursor(&self, alloc: Global, name: &Name) -> Result<Cursor, DiskFault>
+        ensures start { IfOk result (StartsAt name.now self.now.volume) }
+        ensures records { IfOk result (OpensIn self.now name.now) }
+        ensures missing { IfErr result (λ e. e ≡ NotFound → place_of name.now self.now.volume ≡ None) }
+        ensures absent { IfErr result (λ e. e ≡ NotFound → HasNone self.now name.now) }
+        ensures fault { IfErr result (λ e. (e ≡ NotFound) ⊎ (e ≡ Memory)) }
+    {
+        let place = self.place(name)?;
+        self.file(alloc, place)
+    }
+
+    /// The place of the file of a name.
+    pub(crate) fn place(&self, name: &Name) -> Result<u32, DiskFault>
+        ensures place { IfOk result (λ k. place_of name.now self.now.volume ≡ Some k) }
+        ensures within { IfOk result (λ k. k < length self.now.volume.files) }
+        ensures kept { Keeps self.now.volume }
+        ensures missing { OnErr result (place_of name.now self.now.volume ≡ None) }
+        ensures absent { OnErr result (HasNone self.now name.now) }
+        ensures fault { IfErr result (λ e. e ≡ NotFound) }
+    {
+        match self.held.find(name) {
+            Some(place) => Ok(place),
+            None => Err(DiskFault::NotFound),
+        }
+    }
+
+    /// Before the first record of the file at a place.
+    pub(crate) fn file(&self, alloc: Global, place: u32) -> Result<Cursor, DiskFault>
+        requires { place < length self.now.volume.files }
+        ensures first { IfOk result (λ c. (file : HeldFile) × (slice_get self.now.volume.files place ≡ Some file)
+            × IsFirst self.now.volume.unit self.now.volume.disk.count self.now.volume.disk.bsize file.tree.leaves
+            file.entry.format file.length file.entry.count c) }
+        ensures fault { IfErr result (λ e. e ≡ Memory) }
+    {
+        let info = self.held.info(place);
+        let leaves = self.held.leaves(place);
+        Cursor::new(alloc, self.unit.unit, self.unit.bsize, &info, leaves)
+    }
+}
+
+// Syncs a unit that is in doubt.
+fn settle<W: World>(world: &mut W, unit: &UnitInfo, doubt: bool) -> Result<(), AccessFault>
+    requires blocks { ForSome (W.told world.old) (λ j. HasBlocks j.units unit.now.unit.number unit.now.unit.blocks unit.now.bsize) }
+    ensures quiet { OnOk result (ForSome (W.told world.new) (λ j. (doubt ≡ false → IsQuiet (disk_on unit.now) j unit.now.unit.number)
+        → IsQuiet (disk_on unit.now) j unit.now.unit.number)) }
+    ensures blocks { ForSome (W.told world.new) (λ j. HasBlocks j.units unit.now.unit.number unit.now.unit.blocks unit.now.bsize) }
+    ensures synced { OnOk result (W.told world.new ≡ synced doubt unit.now.unit.number (W.told world.old)) }
+    ensures failed { IfErr result (λ e. (e ≡ Sync) × (doubt ≡ true) × (W.told world.new ≡ W.told world.old)
+        × Rose (W.faults world.old) (W.faults world.new)) }
+    ensures faults { W.faults world.old ≤ W.faults world.new }
+    ensures edges { W.edges world.new ≡ W.edges world.old }
+{
+    if !doubt {
+        return Ok(());
+    }
+    match world.sync(unit.unit.number) {
+        Ok(()) => Ok(()),
+        Err(_) => Err(AccessFault::Sync),
+    }
+}
