@@ -24,7 +24,13 @@ fn measured(rt: &HostRuntime) -> Option<()> {
     let bsize = BlockSize::of(bytes.parse().ok()?)?;
     let held = opened(rt, name.as_str(), bsize)?;
     let space = held.space();
-    println!(rt; "{} files, {} of {} blocks free", held.count(), space.free, space.total).ok()
+    println!(rt;
+        "{} files, {} of {} blocks free",
+        held.count(),
+        space.free,
+        space.total
+    )
+    .ok()
 }
 
 fn main(rt: HostRuntime) -> ExitCode {
