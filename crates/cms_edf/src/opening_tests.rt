@@ -1,15 +1,12 @@
 // Any volume, opened on a unit of a world in memory.
 use super::*;
-use cms_fields::{EntryFault, LabelFault};
-use cms_images::known::{empty, full, long_directory, one_file, spanning, two_files};
-use cms_images::{Edit, put_edits};
+use cms_fields::LabelFault;
+use cms_images::known::{empty, full, long_directory, one_file, put, spanning, two_files};
 use cms_journal::BlockSize;
 use cms_world::{Access, MemWorld, World};
 use std::alloc::{AllocError, Global};
+use std::process::Abort;
 use std::test::Fail;
-
-// Some places of an image are changed, and the first test that fails then.
-type Damage = (&'static [Edit], OpenFault);
 
 /// A world with the image, whose call of a number fails.
 pub fn world_of(alloc: Global, image: &[u8], failing: u32) -> Result<MemWorld, AllocError> {
@@ -39,161 +36,103 @@ fn refused(alloc: Global, image: &[u8]) -> Result<Option<OpenFault>, AllocError>
     }
 }
 
-// The place in a table of the first damage that is not found.
-fn first_missed(
-    alloc: Global,
-    whole: &[u8],
-    table: &[Damage],
-) -> Result<Option<usize>, AllocError> {
-    for (row, (edits, wanted)) in table.iter().enumerate() {
-        let mut image = whole.to_vec(alloc)?;
-        put_edits(image.as_mut_slice(), edits);
-        if refused(alloc, &image)? != Some(*wanted) {
-            return Ok(Some(row));
-        }
+// Puts bytes into an image, by a text of the block, the place in it, and the bytes in hexadecimal.
+fn put_text(image: &mut [u8], change: &str) -> Option<()> {
+    let mut words = change.split(' ');
+    let block: usize = words.next()?.parse().ok()?;
+    let mut at: usize = words.next()?.parse().ok()?;
+    for word in words {
+        put(image, block, at, &[u8::from_str_radix(word, 16).ok()?]);
+        at = at.saturating_add(1);
     }
-    Ok(None)
+    Some(())
 }
 
-const ONE_FILE: &[Damage] = &[
-    (&[(3, 0, &[0x00])], OpenFault::Label(LabelFault::Id)),
-    (
-        &[(3, 12, &[0, 0, 4, 0])],
-        OpenFault::Label(LabelFault::BlockSize),
-    ),
-    (
-        &[(3, 16, &[0, 0, 0, 6])],
-        OpenFault::Label(LabelFault::Origin),
-    ),
-    (
-        &[(3, 28, &[0, 0, 0, 10])],
-        OpenFault::Label(LabelFault::Count),
-    ),
-    (
-        &[(3, 36, &[0, 0, 0, 32])],
-        OpenFault::Label(LabelFault::EntrySize),
-    ),
-    (&[(5, 48, &[0, 0, 0, 1])], OpenFault::System(0)),
-    (&[(5, 96, &[0, 0, 1, 0])], OpenFault::System(1)),
-    (&[(5, 128, &[0x00])], OpenFault::Entry(2, EntryFault::Name)),
-    (&[(5, 153, &[0xF7])], OpenFault::Entry(2, EntryFault::Mode)),
-    (
-        &[(5, 158, &[0x40])],
-        OpenFault::Entry(2, EntryFault::Format),
-    ),
-    (&[(5, 180, &[1])], OpenFault::Entry(2, EntryFault::Levels)),
-    (&[(5, 183, &[0x13])], OpenFault::Entry(2, EntryFault::Date)),
-    (
-        &[(5, 172, &[0, 0, 0, 2])],
-        OpenFault::Entry(2, EntryFault::Levels),
-    ),
-    (
-        &[(5, 168, &[0, 0, 0, 0])],
-        OpenFault::Pointer {
-            holder: 5,
-            value: 0,
-        },
-    ),
-    (
-        &[(5, 168, &[0, 0, 0, 10])],
-        OpenFault::Pointer {
-            holder: 5,
-            value: 10,
-        },
-    ),
-    (&[(5, 168, &[0, 0, 0, 8])], OpenFault::Crossed(8)),
-    (&[(8, 0, &[0xF9])], OpenFault::MapMissing(7)),
-    (
-        &[(7, 0, &[0x00, 0x00])],
-        OpenFault::Var(2, VarFault::Zero(0)),
-    ),
-    (
-        &[(7, 0, &[0x01, 0xFF])],
-        OpenFault::Var(2, VarFault::PastEnd(0)),
-    ),
-];
+// Why the image doesn't open with some changes, which have commas between them.
+fn refused_with(alloc: Global, whole: &[u8], changes: &str) -> Result<String, Fail> {
+    let mut image = whole.to_vec(alloc)?;
+    for change in changes.split(", ") {
+        put_text(image.as_mut_slice(), change).ok_or("no change")?;
+    }
+    let fault = refused(alloc, &image)?.ok_or("it opens")?;
+    Ok(format!(in alloc; "{fault:?}")?)
+}
 
-const SPANNING: &[Damage] = &[
-    (
-        &[(4, 181, &[4])],
-        OpenFault::Entry(2, EntryFault::PointerSize),
-    ),
-    (
-        &[(4, 176, &[0, 0, 0, 1])],
-        OpenFault::Var(2, VarFault::Left(511)),
-    ),
-    (
-        &[(4, 176, &[0, 0, 0, 3])],
-        OpenFault::Var(2, VarFault::Zero(516)),
-    ),
-    (&[(8, 0, &[0])], OpenFault::Var(2, VarFault::Zero(511))),
-    (
-        &[(7, 511, &[0x02]), (8, 0, &[0xFF])],
-        OpenFault::Var(2, VarFault::PastEnd(511)),
-    ),
-    (
-        &[(9, 0, &[0, 0, 0, 0])],
-        OpenFault::Pointer {
-            holder: 9,
-            value: 0,
-        },
-    ),
-    (
-        &[(9, 12, &[0, 0, 0, 13])],
-        OpenFault::Pointer {
-            holder: 9,
-            value: 13,
-        },
-    ),
-    (&[(9, 12, &[0, 0, 0, 9])], OpenFault::Crossed(9)),
-    (&[(9, 12, &[0, 0, 0, 10])], OpenFault::MapMissing(10)),
-];
+// Each row has changes of the image, and the first test that fails then.
+fn try_rows(rt: &impl Abort, alloc: Global, whole: &[u8], rows: &str) -> Result<(), Fail> {
+    for row in rows.lines() {
+        let (changes, wanted) = row.split_once(" = ").ok_or("no fault")?;
+        assert_eq!(rt;
+            refused_with(alloc, whole, changes)?.as_str(),
+            wanted,
+            "{row}"
+        );
+    }
+    Ok(())
+}
 
-const LONG_DIRECTORY: &[Damage] = &[
-    (
-        &[(4, 40, &[0, 0, 0, 3])],
-        OpenFault::Pointer {
-            holder: 4,
-            value: 3,
-        },
-    ),
-    (
-        &[(7, 0, &[0, 0, 0, 8])],
-        OpenFault::Pointer {
-            holder: 7,
-            value: 8,
-        },
-    ),
-    (
-        &[(4, 104, &[0, 0, 0, 17])],
-        OpenFault::Pointer {
-            holder: 4,
-            value: 17,
-        },
-    ),
-    (
-        &[(8, 40, &[0, 0, 0, 0])],
-        OpenFault::Pointer {
-            holder: 8,
-            value: 0,
-        },
-    ),
-    (&[(8, 0, &[0xC6])], OpenFault::Twice(8)),
-    (&[(8, 40, &[0, 0, 0, 7])], OpenFault::Crossed(7)),
-    (&[(6, 0, &[0xFF, 0xBE])], OpenFault::MapMissing(10)),
-];
+const ONE_FILE: &str = "3 0 00 = Label(Id)
+3 12 00 00 04 00 = Label(BlockSize)
+3 16 00 00 00 06 = Label(Origin)
+3 28 00 00 00 0A = Label(Count)
+3 36 00 00 00 20 = Label(EntrySize)
+5 48 00 00 00 01 = System(0)
+5 96 00 00 01 00 = System(1)
+5 128 00 = Entry(2, Name)
+5 153 F7 = Entry(2, Mode)
+5 158 40 = Entry(2, Format)
+5 180 01 = Entry(2, Levels)
+5 183 13 = Entry(2, Date)
+5 172 00 00 00 02 = Entry(2, Levels)
+5 168 00 00 00 00 = Pointer { holder: 5, value: 0 }
+5 168 00 00 00 0A = Pointer { holder: 5, value: 10 }
+5 168 00 00 00 08 = Crossed(8)
+8 0 F9 = MapMissing(7)
+7 0 00 00 = Var(2, Zero(0))
+7 0 01 FF = Var(2, PastEnd(0))";
 
 #[test]
-fn the_first_test_that_fails_is_told(rt: HostRuntime) -> Result<(), Fail> {
+fn damage_of_one_file_is_told(rt: HostRuntime) -> Result<(), Fail> {
+    let image = one_file(rt.alloc())?;
+    try_rows(&rt, rt.alloc(), &image, ONE_FILE)
+}
+
+const SPANNING: &str = "4 181 04 = Entry(2, PointerSize)
+4 176 00 00 00 01 = Var(2, Left(511))
+4 176 00 00 00 03 = Var(2, Zero(516))
+8 0 00 = Var(2, Zero(511))
+7 511 02, 8 0 FF = Var(2, PastEnd(511))
+9 0 00 00 00 00 = Pointer { holder: 9, value: 0 }
+9 12 00 00 00 0D = Pointer { holder: 9, value: 13 }
+9 12 00 00 00 09 = Crossed(9)
+9 12 00 00 00 0A = MapMissing(10)";
+
+#[test]
+fn damage_of_a_spanning_file_is_told(rt: HostRuntime) -> Result<(), Fail> {
+    let image = spanning(rt.alloc())?;
+    try_rows(&rt, rt.alloc(), &image, SPANNING)
+}
+
+const LONG_DIRECTORY: &str = "4 40 00 00 00 03 = Pointer { holder: 4, value: 3 }
+7 0 00 00 00 08 = Pointer { holder: 7, value: 8 }
+4 104 00 00 00 11 = Pointer { holder: 4, value: 17 }
+8 40 00 00 00 00 = Pointer { holder: 8, value: 0 }
+8 0 C6 = Twice(8)
+8 40 00 00 00 07 = Crossed(7)
+6 0 FF BE = MapMissing(10)";
+
+#[test]
+fn damage_of_a_long_directory_is_told(rt: HostRuntime) -> Result<(), Fail> {
+    let image = long_directory(rt.alloc())?;
+    try_rows(&rt, rt.alloc(), &image, LONG_DIRECTORY)
+}
+
+#[test]
+fn a_short_unit_has_no_label(rt: HostRuntime) -> Result<(), Fail> {
     let alloc = rt.alloc();
-    assert_eq!(rt; first_missed(alloc, &one_file(alloc)?, ONE_FILE)?, None);
-    assert_eq!(rt; first_missed(alloc, &spanning(alloc)?, SPANNING)?, None);
-    assert_eq!(rt;
-        first_missed(alloc, &long_directory(alloc)?, LONG_DIRECTORY)?,
-        None
-    );
     let count = Some(OpenFault::Label(LabelFault::Count));
-    assert_eq!(rt; refused(alloc, &one_file(alloc)?[..4096])?, count);
+    let image = one_file(alloc)?;
+    assert_eq!(rt; refused(alloc, &image[..4096])?, count);
     assert_eq!(rt; refused(alloc, &[])?, count);
     Ok(())
 }
