@@ -6,6 +6,8 @@ mod fault;
 mod get;
 mod laws;
 mod minidisk;
+#[cfg(test)]
+mod tests;
 mod unit;
 
 pub use cms_edf::{FileData, FileInfo, OpenFault, Space, Stored};
