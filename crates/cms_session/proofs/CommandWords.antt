@@ -1,6 +1,6 @@
 -- Words of a line.
 use Rattle.std.proofs.Common.{◌≡◌, ℕ, ◌≤◌, Bool, true, false, List, [], ◌∷◌, length, Result, Ok, Err, Some, None, codes, refl, ap, sym, ◌∙◌, arith}
-use Rattle.std.specs.Prelude.{not, cond, slice_index, nat_le, nat_lt, ◌==◌, ◌&&◌, if◌then◌else◌}
+use Rattle.std.specs.Prelude.{not, cond, nat_le, nat_lt, ◌==◌, ◌&&◌, if◌then◌else◌}
 use Rattle.std.specs.List.{list_all, prefix_len, slice_split}
 use Rattle.std.specs.Option.{option_map_or}
 use Rattle.std.specs.Str.{bytes_eq}
@@ -78,24 +78,13 @@ pub part_is_short : (part : List ℕ) → is_part part ≡ true → length part 
 unfolding is_text_of
 part_is_short part is = let few = leb-true (length part) 8 (and_parts _ _ (and_parts _ _ is).0).1 in omega (arith, few)
 
--- ---- comments
-
-pub starred : (line : List ℕ) → 1 ≤ length line → slice_index line 0 ≡ 0x5C → is_comment line ≡ true
-unfolding is_comment
-starred [] some star = absurd (omega (arith, some))
-starred (c ∷ line) some star = rw star refl
-
-pub not_starred : (line : List ℕ) → 1 ≤ length line → (slice_index line 0 ≡ 0x5C → ⊥) → is_comment line ≡ list_all (λ x. x == 0x40) line
-unfolding is_comment
-not_starred [] some other = absurd (omega (arith, some))
-not_starred (c ∷ line) some other = let e : (c == 0x5C) ≡ false = grind (arith, other) in rw e refl
-
 -- ---- commands
 
 abbrev four : List ℕ → List ℕ → List ℕ → List ℕ → List (List ℕ)
 four word file kind mode = word ∷ file ∷ kind ∷ mode ∷ []
 
-pub parts_are_read : (word file kind mode : List ℕ) (a b : List ℕ) → same mode letter_a ≡ true → IsRead file (Ok a) → IsRead kind (Ok b) → file_command word (record { file = a; kind = b }) ≡ command_of_words (four word file kind mode)
+pub parts_are_read : (word file kind mode : List ℕ) (a b : List ℕ) → same mode letter_a ≡ true → IsRead file (Ok a) → IsRead kind (Ok b)
+    → file_command word (record { file = a; kind = b }) ≡ command_of_words (four word file kind mode)
 parts_are_read word file kind mode a b letter f k = rw (f.0, k.0, f.1, k.1, letter) refl
 
 pub file_is_not_part : (word file kind mode : List ℕ) → is_part file ≡ false → NotBuilt ≡ command_of_words (four word file kind mode)

@@ -98,13 +98,16 @@ seen_named disk name m f is =
     one_seen None g e = absurd (cc)
     one_seen (Some h) g e = if_seen (is_seen disk h) h e
 
-chosen_has : (told : Told) (d : Disk) (k : ℕ) (within : k < length d.small.files) (j : Journal) → told ≡ Some j → (e : Entry) → (chosen told d k within).records ≡ records_in (contents_image j d.small) (slice_index_or d.small.files k e)
+chosen_has : (told : Told) (d : Disk) (k : ℕ) (within : k < length d.small.files) (j : Journal) → told ≡ Some j → (e : Entry)
+    → (chosen told d k within).records ≡ records_in (contents_image j d.small) (slice_index_or d.small.files k e)
 chosen_has None d k within j is = absurd (cc)
 chosen_has (Some i) d k within j is =
     let same : i ≡ j = some_same i j is in
-    λ e. ap (records_in (contents_image i d.small)) (index_same d.small.files k (some_entry d.small.files k within) e within) ∙ ap (λ (x : Journal). records_in (contents_image x d.small) (slice_index_or d.small.files k e)) same
+    λ e. ap (records_in (contents_image i d.small)) (index_same d.small.files k (some_entry d.small.files k within) e within)
+    ∙ ap (λ (x : Journal). records_in (contents_image x d.small) (slice_index_or d.small.files k e)) same
 
-chosen_is : (told : Told) (d : Disk) (k : ℕ) (within : k < length d.small.files) (j : Journal) → told ≡ Some j → file_in (contents_image j d.small) (slice_index_or d.small.files k (some_entry d.small.files k within)) ≡ chosen told d k within
+chosen_is : (told : Told) (d : Disk) (k : ℕ) (within : k < length d.small.files) (j : Journal) → told ≡ Some j
+    → file_in (contents_image j d.small) (slice_index_or d.small.files k (some_entry d.small.files k within)) ≡ chosen told d k within
 chosen_is told d k within j is = rw is refl
 
 chosen_file : (told : Told) (d : Disk) (name : Name) (k : ℕ) (within : k < length d.small.files)

@@ -53,7 +53,8 @@ dropped_slot u m name stamp o = slot_after (Settled (Volume m)) (drop_step u m n
 abbrev pub dropped_units : List Slot → ℕ → Minidisk → Name → Stamp → Outcome → List Slot
 dropped_units units u m name stamp o = units_after units (drop_step u m name stamp) o
 
-there_after : (units : List Slot) (u : ℕ) (m : Minidisk) (name : Name) (stamp : Stamp) (o : Outcome) → slice_get units u ≡ Some (Settled (Volume m)) → slice_get (dropped_units units u m name stamp o) u ≡ Some (dropped_slot u m name stamp o)
+there_after : (units : List Slot) (u : ℕ) (m : Minidisk) (name : Name) (stamp : Stamp) (o : Outcome) → slice_get units u ≡ Some (Settled (Volume m))
+    → slice_get (dropped_units units u m name stamp o) u ≡ Some (dropped_slot u m name stamp o)
 there_after units u m name stamp o there = slot_there units u (Settled (Volume m)) (new_slot (drop_step u m name stamp) o) there
 
 -- ---- what is held
@@ -64,7 +65,8 @@ pub record DropsIn (j : Journal) (u : ℕ) (m : Minidisk) (name : Name) (stamp :
   pub crash : (x : State) → Leaves (plus (Some j) es) u x → IsAmong x (set_of (dropped_slot u m name stamp o))
   pub now : (x : State) → HasNow (plus (Some j) es) u x → state_in (dropped_slot u m name stamp o) ≡ x
 
-other_covered : (j : Journal) (es : List Event) (units : List Slot) (u v : ℕ) (m : Minidisk) (name : Name) (stamp : Stamp) (o : Outcome) → OnlyOf u es → u ≢ v → IsCovered j units v → IsCovered (after j es) (dropped_units units u m name stamp o) v
+other_covered : (j : Journal) (es : List Event) (units : List Slot) (u v : ℕ) (m : Minidisk) (name : Name) (stamp : Stamp) (o : Outcome) → OnlyOf u es → u ≢ v
+    → IsCovered j units v → IsCovered (after j es) (dropped_units units u m name stamp o) v
 other_covered j es units u v m name stamp o all other c =
     let aside = of_aside u es v other all in
     record {
@@ -74,7 +76,8 @@ other_covered j es units u v m name stamp o all other c =
       now = λ x has. c.now x (now_before j es v x aside has);
     }
 
-own_covered : (j : Journal) (es : List Event) (units : List Slot) (u : ℕ) (m : Minidisk) (name : Name) (stamp : Stamp) (o : Outcome) → slice_get units u ≡ Some (Settled (Volume m)) → DropsIn j u m name stamp o es → IsCovered (after j es) (dropped_units units u m name stamp o) u
+own_covered : (j : Journal) (es : List Event) (units : List Slot) (u : ℕ) (m : Minidisk) (name : Name) (stamp : Stamp) (o : Outcome)
+    → slice_get units u ≡ Some (Settled (Volume m)) → DropsIn j u m name stamp o es → IsCovered (after j es) (dropped_units units u m name stamp o) u
 own_covered j es units u m name stamp o there drops =
     record {
       slot = dropped_slot u m name stamp o;
@@ -84,7 +87,8 @@ own_covered j es units u m name stamp o there drops =
     }
 
 -- after a fault no disk is accessed
-pub held_none : (j : Journal) (es : List Event) (units : List Slot) (d : Disk) (m : Minidisk) (name : Name) (stamp : Stamp) (o : Outcome) → slice_get units d.small.unit ≡ Some (Settled (Volume m)) → DropsIn j d.small.unit m name stamp o es
+pub held_none : (j : Journal) (es : List Event) (units : List Slot) (d : Disk) (m : Minidisk) (name : Name) (stamp : Stamp) (o : Outcome)
+    → slice_get units d.small.unit ≡ Some (Settled (Volume m)) → DropsIn j d.small.unit m name stamp o es
     → HoldsIn j (Some d) units → HoldsIn (after j es) None (dropped_units units d.small.unit m name stamp o)
 held_none j es units d m name stamp o there drops h = record {
   same = as_many units d.small.unit (new_slot (drop_step d.small.unit m name stamp) o) ∙ h.same;
@@ -96,8 +100,10 @@ held_none j es units d m name stamp o there drops h = record {
 }
 
 -- and else disk A is the minidisk without the file
-pub held_later : (j : Journal) (es : List Event) (units : List Slot) (d new : Disk) (m later : Minidisk) (name : Name) (stamp : Stamp) → new.small.unit ≡ d.small.unit → answer_of m (Drop name) ≡ Changed later → IsMinidisk (after j es) new.small later
-    → slice_get units d.small.unit ≡ Some (Settled (Volume m)) → DropsIn j d.small.unit m name stamp Good es → HoldsIn j (Some d) units → HoldsIn (after j es) (Some new) (dropped_units units d.small.unit m name stamp Good)
+pub held_later : (j : Journal) (es : List Event) (units : List Slot) (d new : Disk) (m later : Minidisk) (name : Name) (stamp : Stamp)
+    → new.small.unit ≡ d.small.unit → answer_of m (Drop name) ≡ Changed later → IsMinidisk (after j es) new.small later
+    → slice_get units d.small.unit ≡ Some (Settled (Volume m)) → DropsIn j d.small.unit m name stamp Good es → HoldsIn j (Some d) units
+    → HoldsIn (after j es) (Some new) (dropped_units units d.small.unit m name stamp Good)
 held_later j es units d new m later name stamp same answer is there drops h = record {
   same = as_many units d.small.unit (new_slot (drop_step d.small.unit m name stamp) Good) ∙ h.same;
   disk_a = λ x found.
@@ -113,13 +119,17 @@ held_later j es units d new m later name stamp same answer is there drops h = re
 -- ---- the step
 
 -- a file was dropped, with this outcome
-pub drop_ran : {R : Type 0} (old new : Spot) (units : List Slot) (u : ℕ) (m : Minidisk) (name : Name) (stamp : Stamp) (o : Outcome) (k : Outcome → Act R) → slice_get units u ≡ Some (Settled (Volume m))
+pub drop_ran : {R : Type 0} (old new : Spot) (units : List Slot) (u : ℕ) (m : Minidisk) (name : Name) (stamp : Stamp) (o : Outcome) (k : Outcome → Act R)
+    → slice_get units u ≡ Some (Settled (Volume m))
     → (changes : Changes old.world.told new.world.told u m name stamp o) → ((x : State) → HasNow new.world.told u x → state_in (dropped_slot u m name stamp o) ≡ x)
-    → Counted old.world.faults (faults_in (o ∷ [])) new.world.faults → new.state.console ≡ old.state.console → Ran (at old units) (at new (dropped_units units u m name stamp o)) (Does (drop_step u m name stamp) k) (k o)
+    → Counted old.world.faults (faults_in (o ∷ [])) new.world.faults → new.state.console ≡ old.state.console
+    → Ran (at old units) (at new (dropped_units units u m name stamp o)) (Does (drop_step u m name stamp) k) (k o)
 drop_ran old new units u m name stamp o k there changes now counted console =
     let slot = there_after units u m name stamp o there in
     let before : unit_set units u ≡ Volume m ∷ [] = rw there refl in
     let behind : unit_set (dropped_units units u m name stamp o) u ≡ set_of (dropped_slot u m name stamp o) = rw slot refl in
     let covers : Covers old.world.told changes.events u (unit_set units u) (unit_set (dropped_units units u m name stamp o) u) = rw (before, behind) changes.covers in
-    ran_step (at old units) (at new (dropped_units units u m name stamp o)) (drop_step u m name stamp) o k changes.events changes.told counted changes.of_unit changes.fits there refl
-    (record { unread = ap (λ (c : ConsoleState). c.unread) console; ended = ap (λ (c : ConsoleState). c.ended) console }) (λ sound. covers) (λ sound x has. ap (λ (z : Option Slot). option_map state_in z) slot ∙ ap (λ (y : State). Some y) (now x has))
+    ran_step (at old units) (at new (dropped_units units u m name stamp o)) (drop_step u m name stamp) o k changes.events changes.told counted
+    changes.of_unit changes.fits there refl
+    (record { unread = ap (λ (c : ConsoleState). c.unread) console; ended = ap (λ (c : ConsoleState). c.ended) console }) (λ sound. covers)
+    (λ sound x has. ap (λ (z : Option Slot). option_map state_in z) slot ∙ ap (λ (y : State). Some y) (now x has))

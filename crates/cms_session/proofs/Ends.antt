@@ -359,7 +359,8 @@ on_unit spec before mid now name size access number blocks seen_number seen_bloc
     }
 
 pub not_attached : (spec : Asked) (before now : Seen) (name : List ℕ) (size : ℕ) (access : Access) → before.told ≡ Some (fresh [])
-    → name ≡ spec.unit.name → size ≡ spec.unit.bsize → access ≡ spec.unit.access → MayAdd (Missed name size access) before.told now.told → Rose before.edges now.edges → NotAttached spec before now World
+    → name ≡ spec.unit.name → size ≡ spec.unit.bsize → access ≡ spec.unit.access → MayAdd (Missed name size access) before.told now.told
+    → Rose before.edges now.edges → NotAttached spec before now World
 not_attached spec before now name size access told is_name is_size is_access added rose = record {
   status_is = refl;
   told =

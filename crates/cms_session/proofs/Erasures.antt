@@ -1,5 +1,5 @@
 -- ERASE.
-use Rattle.std.proofs.Common.{◌≡◌, ℕ, ◌<◌, List, [], ◌∷◌, length, slice_index_or, slice_get, Option, Some, None, Result, Ok, Err, IfOk, pos, true, false, refl, ap, sym, ◌∙◌, subst, arith}
+use Rattle.std.proofs.Common.{◌≡◌, ℕ, ◌<◌, List, [], ◌∷◌, length, slice_index_or, slice_get, Option, Some, None, Result, Ok, Err, pos, true, false, refl, ap, sym, ◌∙◌, subst}
 use Rattle.std.specs.Prelude.{⊤, if◌then◌else◌, replicate}
 use Rattle.std.specs.Option.{option_and_then}
 use Rattle.cms_journal.specs.declared.event.Event.{Event}
@@ -366,15 +366,7 @@ erased_place told now d t nth stamp within u =
     let is = u.volume (some_entry d.small.files nth within) in
     (ap (λ (v : SmallVolume). v.unit) is, ap (λ (v : SmallVolume). v.disk) is)
 
--- another code than 0
-pub other_code : (P : Type 0) (r : Result declared.Course End) (n : ℕ) → 0 < n → IfOk r (λ c. c ≡ course.Went (pos n))
-    → IfOk r (λ c. c ≡ course.Went (pos 0) → P)
-other_code P (Ok c) n some went = λ zero.
-    let e : course.Went (pos n) ≡ course.Went (pos 0) = sym went ∙ zero in
-    let same : n ≡ 0 = cc in
-    absurd (omega (arith, some, same))
-other_code P (Err e) n some went = tt
-
+-- the update had this stamp
 pub stamped_on : (told now : Told) (disk : Option Disk) (d : Disk) (t : SmallVolume) (nth : ℕ) (stamp wanted : Stamp) → disk ≡ Some d
     → stamp ≡ wanted → Updated told now d.small t nth stamp → IsStamped told now disk (Some (with_small d t)) wanted
 stamped_on told now disk d t nth stamp wanted is same u = rw is (nth, subst (λ (s : Stamp). Updated told now d.small t nth s) same u)

@@ -42,7 +42,8 @@ root_in [] k e within = absurd (omega (arith, within))
 root_in (x ∷ es) zero e within = inl refl
 root_in (x ∷ es) (suc k) e within = inr (root_in es k e (omega (arith, within)))
 
-root_within : (j : Journal) (s : SmallVolume) (m : Minidisk) (k : ℕ) (e : Entry) → IsMinidisk j s m → k < length s.files → (6 ≤ (slice_index_or s.files k e).root) × ((slice_index_or s.files k e).root ≤ s.disk.count)
+root_within : (j : Journal) (s : SmallVolume) (m : Minidisk) (k : ℕ) (e : Entry) → IsMinidisk j s m → k < length s.files
+    → (6 ≤ (slice_index_or s.files k e).root) × ((slice_index_or s.files k e).root ≤ s.disk.count)
 unfolding volume_of
 root_within j s m k e is within =
     let image = contents_image j s in

@@ -1,5 +1,6 @@
 pub mod ReadWords
 pub mod CommandWords
+pub mod Stars
 pub mod Starts
 pub mod Ends
 pub mod Records

@@ -1,12 +1,12 @@
 -- Records that are typed one after another.
 use Rattle.std.proofs.Common.{◌≡◌, ◌≤◌, ℕ, zero, suc, List, [], ◌∷◌, length, take, drop, Ok, Err, refl, ap, ◌∙◌, subst, arith}
 use Rattle.std.specs.Prelude.{min}
-use Rattle.cms_journal.specs.Told.{Told, Idle}
-use Rattle.cms_journal.proofs.Pieces.{idle_same, idle_then}
+use Rattle.cms_journal.specs.Told.{Idle}
+use Rattle.cms_journal.proofs.Pieces.{idle_then}
 use Rattle.cms_model.specs.Lists.{cut}
 use Rattle.cms_machine.specs.Acts.{Act, Done, Out, saying, typed_line}
 use Rattle.cms_machine.specs.Runs.{Ran}
-use Rattle.cms_machine.proofs.Join.{ran_none, ran_then, ran_bind, broke_then, broke_bind}
+use Rattle.cms_machine.proofs.Join.{ran_then, ran_bind, broke_then, broke_bind}
 use Rattle.cms_machine.specs.Points.{Point}
 use Rattle.cms_search.specs.declared.state.End.{End}
 use Rattle.cms_search.specs.Machine.{typing}
@@ -20,22 +20,12 @@ pub record Goes {R : Type 0} (before now : Seen) (t u : Act R) : Type 0 where
   pub faults : now.faults ≡ before.faults
   pub edges : before.edges ≤ now.edges
 
-pub goes_none : {R : Type 0} (s : Seen) (t : Act R) → Goes s s t t
-goes_none s t = record {
-  each = λ p journal faults. subst (λ (q : Point). Ran p q t t) (same_point p s.told s.faults journal faults) (ran_none p t);
-  idle = idle_same s.told s.told refl;
-  faults = refl;
-  edges = omega arith;
-}
-  where
-    same_point : (p : Point) (told : Told) (count : ℕ) → p.journal ≡ told → p.faults ≡ count → p ≡ record p { journal = told; faults = count }
-    same_point p told count journal faults = rw (← journal, ← faults) refl
-
 -- pieces from the front
 abbrev pub cut_tree : ℕ → ℕ → List ℕ → Act (Unit {0})
 cut_tree n size bytes = typing (cut n size bytes) (Done tt)
 
-first_piece : (n next size : ℕ) (bytes piece behind : List ℕ) → n ≡ suc next → piece ≡ take size bytes → behind ≡ drop size bytes → cut_tree n size bytes ≡ Out (typed_line piece) (cut_tree next size behind)
+first_piece : (n next size : ℕ) (bytes piece behind : List ℕ) → n ≡ suc next → piece ≡ take size bytes → behind ≡ drop size bytes
+    → cut_tree n size bytes ≡ Out (typed_line piece) (cut_tree next size behind)
 unfolding cut typing
 first_piece n next size bytes piece behind some is rest = rw (some, is, rest) refl
 

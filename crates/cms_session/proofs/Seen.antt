@@ -94,7 +94,8 @@ entries_parts bsize number [] es is = subst AllHaveParts (ok_same [] es is) tt
 entries_parts bsize number (bytes ∷ more) es is =
     bind_then (blamed (failed.Entry number) (entry_of bsize bytes)) _ es is (λ e is_e e1.
     bind_then (entries_of bsize (number + 1) more) _ es e1 (λ others is_others e2.
-    subst AllHaveParts (ok_same (e ∷ others) es e2) (entry_parts bsize bytes e (blamed_ok (failed.Entry number) (entry_of bsize bytes) e is_e), entries_parts bsize (number + 1) more others is_others)))
+    subst AllHaveParts (ok_same (e ∷ others) es e2)
+    (entry_parts bsize bytes e (blamed_ok (failed.Entry number) (entry_of bsize bytes) e is_e), entries_parts bsize (number + 1) more others is_others)))
 
 -- ---- the file of a name
 

@@ -114,7 +114,8 @@ small_state unit s number disk first_whole stands =
     let v = volume_of s (contents_image j s) in
     let opens : open_of s.disk (image_of (start_of j.units s.unit)) ≡ Ok v = ap (λ (blocks : List (List ℕ)). open_of s.disk (image_of blocks)) (sym begun.contents_are) ∙ there.opens in
     let first : start_of j.units s.unit ≡ unit.start = ap (start_of j.units) number in
-    let state : first_state unit ≡ Volume (minidisk_of s.disk v) = ap (λ (d : LookedAt). state_of d (image_of unit.start)) disk ∙ ap (λ (blocks : List (List ℕ)). state_of s.disk (image_of blocks)) (sym first) ∙ state_opens s.disk (image_of (start_of j.units s.unit)) v opens in (
+    let state : first_state unit ≡ Volume (minidisk_of s.disk v) = ap (λ (d : LookedAt). state_of d (image_of unit.start)) disk
+    ∙ ap (λ (blocks : List (List ℕ)). state_of s.disk (image_of blocks)) (sym first) ∙ state_opens s.disk (image_of (start_of j.units s.unit)) v opens in (
       minidisk_of s.disk v,
       (
         state,
@@ -130,7 +131,8 @@ small_state unit s number disk first_whole stands =
       ),
     )
 
-pub holds_disk : (unit : Attached) (disk : Disk) (m : Minidisk) → disk.small.unit ≡ 0 → first_state unit ≡ Volume m → IsMinidisk (fresh (unit ∷ [])) disk.small m → HoldsIn (fresh (unit ∷ [])) (Some disk) (settled (unit ∷ []))
+pub holds_disk : (unit : Attached) (disk : Disk) (m : Minidisk) → disk.small.unit ≡ 0 → first_state unit ≡ Volume m → IsMinidisk (fresh (unit ∷ [])) disk.small m
+    → HoldsIn (fresh (unit ∷ [])) (Some disk) (settled (unit ∷ []))
 holds_disk unit disk m number state is = record {
   same = refl;
   disk_a = λ d e. let same : disk ≡ d = cc in subst (IsSeated (fresh (unit ∷ [])) (settled (unit ∷ []))) same
@@ -189,21 +191,27 @@ counted_one before now later rose = record {
 pub ran_no_device : (spec : Asked) (unit : Attached) (before : ℕ) → spec.unit.vdev ≢ 0x191
     → Ran (start_point (start_on spec unit before)) (start_point (start_on spec unit before)) (start_tree (start_on spec unit before)) (lines_on spec unit None)
 ran_no_device spec unit before other =
-    subst (λ (letter : Option Letter). Ran (start_point (start_on spec unit before)) (start_point (start_on spec unit before)) (started_on (machine_on spec unit) letter) (lines_on spec unit None)) (sym (device_none spec other))
+    subst (λ (letter : Option Letter). Ran (start_point (start_on spec unit before)) (start_point (start_on spec unit before))
+    (started_on (machine_on spec unit) letter) (lines_on spec unit None)) (sym (device_none spec other))
     (ran_none (start_point (start_on spec unit before)) (lines_on spec unit None))
 
 -- the unit was accessed, with this outcome
 ran_access : (spec : Asked) (unit : Attached) (before now : ℕ) (o : Outcome) → spec.unit.vdev ≡ 0x191 → (o ≡ Good) ⊎ (o ≡ ReadFault 0) → Counted before (faults_in (o ∷ [])) now
-    → Ran (start_point (start_on spec unit before)) (start_point (start_on spec unit now)) (start_tree (start_on spec unit before)) (accessed (machine_on spec unit) (disk_a_of spec) (Settled (first_state unit)) o)
+    → Ran (start_point (start_on spec unit before)) (start_point (start_on spec unit now)) (start_tree (start_on spec unit before))
+    (accessed (machine_on spec unit) (disk_a_of spec) (Settled (first_state unit)) o)
 ran_access spec unit before now o device may counted =
-    subst (λ (d : Option Letter). Ran (start_point (start_on spec unit before)) (start_point (start_on spec unit now)) (started_on (machine_on spec unit) d) (accessed (machine_on spec unit) (disk_a_of spec) (Settled (first_state unit)) o)) (sym (device_is spec device))
-    (ran_still (start_point (start_on spec unit before)) (start_point (start_on spec unit now)) (Access 0 (Settled (first_state unit))) o (accessed (machine_on spec unit) (disk_a_of spec) (Settled (first_state unit))) refl counted refl
+    subst (λ (d : Option Letter). Ran (start_point (start_on spec unit before)) (start_point (start_on spec unit now)) (started_on (machine_on spec unit) d)
+    (accessed (machine_on spec unit) (disk_a_of spec) (Settled (first_state unit)) o)) (sym (device_is spec device))
+    (ran_still (start_point (start_on spec unit before)) (start_point (start_on spec unit now)) (Access 0 (Settled (first_state unit))) o
+    (accessed (machine_on spec unit) (disk_a_of spec) (Settled (first_state unit))) refl counted refl
     (⊎_elim (λ (e : o ≡ Good). rw e tt) (λ (e : o ≡ ReadFault 0). rw e refl) may) refl refl refl (record { unread = refl; ended = refl }))
 
-pub ran_found : (spec : Asked) (unit : Attached) (before now : ℕ) (state : State) (disk : Option Disk) → spec.unit.vdev ≡ 0x191 → before ≤ now → first_state unit ≡ state → found_on (disk_a_of spec) (Settled state) ≡ option_map letter_of disk
+pub ran_found : (spec : Asked) (unit : Attached) (before now : ℕ) (state : State) (disk : Option Disk) → spec.unit.vdev ≡ 0x191 → before ≤ now
+    → first_state unit ≡ state → found_on (disk_a_of spec) (Settled state) ≡ option_map letter_of disk
     → Ran (start_point (start_on spec unit before)) (start_point (start_on spec unit now)) (start_tree (start_on spec unit before)) (lines_on spec unit disk)
 ran_found spec unit before now state disk device later is found =
-    subst (λ (d : Option Letter). Ran (start_point (start_on spec unit before)) (start_point (start_on spec unit now)) (start_tree (start_on spec unit before)) (run_lines (with_disk_a (machine_on spec unit) d)))
+    subst (λ (d : Option Letter). Ran (start_point (start_on spec unit before)) (start_point (start_on spec unit now)) (start_tree (start_on spec unit before))
+    (run_lines (with_disk_a (machine_on spec unit) d)))
     (ap (λ (st : State). found_on (disk_a_of spec) (Settled st)) is ∙ found)
     (ran_access spec unit before now Good device (inl refl) (counted_none before now later))
 
@@ -239,7 +247,8 @@ built_in s image stands other =
     let same : s.label ≡ other.label = cc in
     ⊎_elim
     (λ (large : is_small s.disk.bsize other.label image ≡ false). let e : true ≡ false = sym stands.small ∙ ap (λ (l : Label). is_small s.disk.bsize l image) same ∙ large in absurd (cc))
-    (λ (none : (k : ℕ) × (state_of s.disk image ≡ Not k)). let e : Volume (minidisk_of s.disk (volume_of s image)) ≡ Not none.0 = sym (state_opens s.disk image (volume_of s image) stands.opens) ∙ none.1 in absurd (cc))
+    (λ (none : (k : ℕ) × (state_of s.disk image ≡ Not k)). let e : Volume (minidisk_of s.disk (volume_of s image)) ≡ Not none.0 = sym
+    (state_opens s.disk image (volume_of s image) stands.opens) ∙ none.1 in absurd (cc))
     other.why
 
 built : (unit : Attached) (s : SmallVolume) → disk_of unit ≡ s.disk → StandsIn s (image_of (contents_of (fresh (unit ∷ [])) 0)) → IsNotBuilt (disk_of unit) (image_of unit.start) → ⊥
@@ -252,7 +261,8 @@ labelled disk image (inr h) other = let e : err_label h.0 ≡ ok_label other.lab
 pub found_none : (spec : Asked) (unit : Attached) (faults : ℕ) → spec.unit.vdev ≢ 0x191 → FoundAs spec unit faults faults (Ok None)
 found_none spec unit faults other = record { holds = holds_none unit; built = λ u. other u.0; ran = ran_no_device spec unit faults other }
 
-pub found_small : (spec : Asked) (unit : Attached) (told : Told) (looked : LookedAt) (number before now : ℕ) (small : SmallVolume) (read_only : Bool) → spec.unit.vdev ≡ 0x191 → IsBlockSize looked.bsize → IsAlone told looked number unit → read_only ≡ not (may_write spec.unit.access)
+pub found_small : (spec : Asked) (unit : Attached) (told : Told) (looked : LookedAt) (number before now : ℕ) (small : SmallVolume) (read_only : Bool)
+    → spec.unit.vdev ≡ 0x191 → IsBlockSize looked.bsize → IsAlone told looked number unit → read_only ≡ not (may_write spec.unit.access)
     → before ≤ now → Answered told looked number (Ok small) → FoundAs spec unit before now (Ok (Some (record { small = small; read_only = read_only })))
 found_small spec unit told looked number before now small read_only device size alone access later h =
     let sized : IsBlockSize unit.bsize = subst (λ (d : LookedAt). IsBlockSize d.bsize) (sym alone.disk_is) size in
@@ -267,7 +277,8 @@ found_small spec unit told looked number before now small read_only device size 
       ran = ran_found spec unit before now (Volume found.0) (Some disk) device later found.1.0 same;
     }
 
-pub found_unlabelled : (spec : Asked) (unit : Attached) (told : Told) (looked : LookedAt) (number before now : ℕ) → spec.unit.vdev ≡ 0x191 → IsAlone told looked number unit → before ≤ now → Answered told looked number (Err NoVolume) → FoundAs spec unit before now (Ok None)
+pub found_unlabelled : (spec : Asked) (unit : Attached) (told : Told) (looked : LookedAt) (number before now : ℕ) → spec.unit.vdev ≡ 0x191
+    → IsAlone told looked number unit → before ≤ now → Answered told looked number (Err NoVolume) → FoundAs spec unit before now (Ok None)
 found_unlabelled spec unit told looked number before now device alone later h =
     let none : HasNoLabel (disk_of unit) (image_of unit.start) = subst (HasNoLabel (disk_of unit)) (first_image unit) (answered_at told looked number unit (Err NoVolume) alone h) in
     let state = state_unlabelled (disk_of unit) (image_of unit.start) none in
@@ -277,6 +288,7 @@ found_unlabelled spec unit told looked number before now device alone later h =
       ran = ran_found spec unit before now (Not state.0) None device later state.1 refl;
     }
 
-pub found_not_built : (spec : Asked) (unit : Attached) (told : Told) (looked : LookedAt) (number : ℕ) → spec.unit.vdev ≡ 0x191 → IsAlone told looked number unit → Answered told looked number (Err NotBuilt)
+pub found_not_built : (spec : Asked) (unit : Attached) (told : Told) (looked : LookedAt) (number : ℕ) → spec.unit.vdev ≡ 0x191 → IsAlone told looked number unit
+    → Answered told looked number (Err NotBuilt)
     → (spec.unit.vdev ≡ 0x191) × IsNotBuilt (disk_of unit) (image_of unit.start)
 found_not_built spec unit told looked number device alone h = (device, subst (IsNotBuilt (disk_of unit)) (first_image unit) (answered_at told looked number unit (Err NotBuilt) alone h))

@@ -42,7 +42,7 @@ fn is_blank(line: &[u8]) -> bool
 }
 
 // Nothing is done for the line.
-#[tactic(auto, using(crate::proofs::CommandWords::starred, crate::proofs::CommandWords::not_starred), unfolding(crate::specs::Commands::is_comment))]
+#[tactic(auto, using(crate::proofs::Stars::starred, crate::proofs::Stars::not_starred), unfolding(crate::specs::Commands::is_comment))]
 fn is_comment(line: &[u8]) -> bool
     ensures { result ≡ is_comment line.now }
 {

@@ -15,7 +15,8 @@ use Rattle.cms_session.proofs.laws.laws_of_sessions.Goals as goal
 same_finish : (f : Fed Finish) (a b : Finish) → f.close ≡ Over a → f.close ≡ Over b → a ≡ b
 same_finish f a b x y = let e : Over a ≡ Over b = sym x ∙ y in cc
 
-as_machine : (s : Start) (events : List Event) (f : Fed Finish) (units : List Slot) (before now : ℕ) (status : Status) → EndsAs s events f units before now status → (Rose before now → ⊥) → (end : Finish) → f.close ≡ Over end → (status ≡ status_of end) ⊎ (status ≡ Memory)
+as_machine : (s : Start) (events : List Event) (f : Fed Finish) (units : List Slot) (before now : ℕ) (status : Status) → EndsAs s events f units before now status
+    → (Rose before now → ⊥) → (end : Finish) → f.close ≡ Over end → (status ≡ status_of end) ⊎ (status ≡ Memory)
 as_machine s events f units before now Done e still end close = inl (ap status_of (same_finish f finish.AtEnd end e.close close))
 as_machine s events f units before now Turns e still end close = inl (ap status_of (same_finish f finish.AtTurns end e.close close))
 as_machine s events f units before now NotBuilt e still end close = inl (ap status_of (same_finish f finish.NotBuilt end e.close close))

@@ -8,7 +8,8 @@ pub returns-in-Ok-clause-ran : goal.returns-in-Ok-clause-ran
 returns-in-Ok-clause-ran g c = λ alone h.
     let spec = asked c.args.word.now c.args.terms in
     ran_on spec alone (seen g.W.World c.args.world.now) (seen g.W.World c.run_lines.new.world)
-    (g.W.World.told c.disk_a.new.world) (g.W.World.edges c.disk_a.new.world) (g.W.World.faults c.disk_a.new.world) c.in-Ok.disk c.run_lines.result (c.in-Ok.ensures.told ∙ h.told_is) c.in-Ok.ensures.edges (c.in-Ok.ensures.found spec alone refl h)
+    (g.W.World.told c.disk_a.new.world) (g.W.World.edges c.disk_a.new.world) (g.W.World.faults c.disk_a.new.world) c.in-Ok.disk c.run_lines.result
+    (c.in-Ok.ensures.told ∙ h.told_is) c.in-Ok.ensures.edges (c.in-Ok.ensures.found spec alone refl h)
     (λ units held. c.run_lines.ensures.ended c.args.word.now units c.device_of.ensures held)
 
 pub returns-in-Err-clause-ran : goal.returns-in-Err-clause-ran
