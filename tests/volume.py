@@ -3,18 +3,15 @@
 
 By default 10,000 files in 262,144 blocks of 4,096 bytes. Every tenth file has records of varying length in two data blocks, the others
 have records of 80 bytes in as many data blocks as there is room for. The directory, the map and all pointer blocks stand together
-from block 6 on, so that one `dd` reads them; the blocks of that front are printed. Data blocks of fixed records are left as holes.
+from block 6 on, so that one `dd` reads them; the last block of that front is printed. Data blocks of fixed records are left as holes.
 """
 
 import pathlib
 import struct
 import sys
 
-if len(sys.argv) not in (2, 5):
-    sys.exit(__doc__)
-NAME = sys.argv[1]
-FILES, BLOCKS, SIZE = map(int, sys.argv[2:] or ("10000", "262144", "4096"))
 DATE = bytes([0x26, 0x07, 0x01, 0x12, 0x00, 0x00])
+TEXT = "HELLO".encode("cp037")
 VARYING = 10
 
 
@@ -23,103 +20,119 @@ def up(a, b):
 
 
 def levels(fan, count):
+    """The least number of levels that has room for so many data blocks."""
     k = 0
     while fan**k < count:
         k += 1
     return k
 
 
-def pointer_blocks(fan, count):
-    return sum(up(count, fan**k) for k in range(1, levels(fan, count) + 1))
-
-
-def entry(name, kind, form, length, root, count, records, deep, psize):
+def entry(name, kind, form, length, root, count, records, psize, size):
     row = bytearray(64)
     row[0:16] = name + kind
     row[24:26] = b"\xc1\xf1"
     row[30:31] = form.encode("cp037")
     row[32:36] = struct.pack(">I", length)
     row[40:52] = struct.pack(">III", root, count, records)
-    row[52:54] = bytes([deep, psize])
+    row[52:54] = bytes([levels(size // psize, count), psize])
     row[54:60] = DATE
     return bytes(row)
 
 
-def tree(leaves, psize, fresh):
-    """The pointer blocks over some data blocks, lowest level first, at fresh numbers: the root, and each block's bytes by its number."""
-    fan, below, blocks = SIZE // psize, leaves, {}
-    while len(below) > 1:
-        above = []
-        for start in range(0, len(below), fan):
-            number = fresh()
-            blocks[number] = b"".join(struct.pack(">I", leaf).ljust(psize, b"\0") for leaf in below[start : start + fan])
-            above.append(number)
-        below = above
-    return below[0], blocks
+class Volume:
+    def __init__(self, files, blocks, size):
+        self.files, self.blocks, self.size = files, blocks, size
+        self.written = {}
+        self.numbers = iter(range(6, blocks + 1))
+        self.rows = []
+
+    def fresh(self, count):
+        return [next(self.numbers) for _ in range(count)]
+
+    def tree(self, leaves, psize, numbers):
+        """Writes the pointer blocks over some data blocks, lowest level first, and gives the root."""
+        fan = self.size // psize
+        while len(leaves) > 1:
+            above = []
+            for start in range(0, len(leaves), fan):
+                number = next(numbers)
+                cells = [struct.pack(">I", leaf).ljust(psize, b"\0") for leaf in leaves[start : start + fan]]
+                self.written[number] = b"".join(cells)
+                above.append(number)
+            leaves = above
+        return leaves[0]
+
+    def put(self, numbers, data):
+        """Writes bytes to these blocks, one after another."""
+        for nth, number in enumerate(numbers):
+            self.written[number] = data[nth * self.size : (nth + 1) * self.size]
+
+    def put_varying(self, name, kind, root):
+        record = struct.pack(">H", len(TEXT)) + TEXT
+        count = 2 * self.size // len(record)
+        leaves = self.fresh(2)
+        self.put(leaves, record * count)
+        root = self.tree(leaves, 12, iter([root]))
+        self.rows.append(entry(name, kind, "V", len(TEXT), root, 2, count, 12, self.size))
+
+    def put_fixed(self, name, kind, root, count):
+        root = self.tree(self.fresh(count), 4, iter([root]))
+        self.rows.append(entry(name, kind, "F", 80, root, count, count * self.size // 80, 4, self.size))
+
+    def put_files(self, roots, each):
+        kind = "DATA    ".encode("cp037")
+        for nth, root in enumerate(roots):
+            name = f"F{nth:07}".encode("cp037")
+            if nth % VARYING == 0:
+                self.put_varying(name, kind, root)
+            else:
+                self.put_fixed(name, kind, root, each)
+
+    def put_map(self, numbers, used):
+        bits = bytearray(len(numbers) * self.size)
+        for place in range(used):
+            bits[place // 8] |= 0x80 >> (place % 8)
+        self.put(numbers, bytes(bits))
+
+    def put_label(self, used):
+        label = bytearray(self.size)
+        label[0:10] = b"\xc3\xd4\xe2\xf1" + "LARGE1".encode("cp037")
+        for at, value in ((12, self.size), (16, 4), (28, self.blocks), (32, used), (36, 64)):
+            label[at : at + 4] = struct.pack(">I", value)
+        self.written[3] = bytes(label)
+
+    def make(self):
+        """Makes it all, and gives the last block of its front."""
+        listing, marks = up(64 * (self.files + 2), self.size), up(up(self.blocks, 8), self.size)
+        directory = [4, *self.fresh(listing - 1)]
+        directory_root = self.tree(directory, 4, self.numbers)
+        bitmap = self.fresh(marks)
+        map_root = self.tree(bitmap, 4, self.numbers)
+        self.rows.append(entry(b"\0\0\0\1\0\0\0\0", "DIRECTOR".encode("cp037"), "F", 64, directory_root, listing, self.files + 2, 4, self.size))
+        self.rows.append(entry(b"\0\0\0\2\0\0\0\0", "ALLOCMAP".encode("cp037"), "F", self.size, map_root, marks, marks, 4, self.size))
+        roots = self.fresh(self.files)
+        varying = up(self.files, VARYING)
+        self.put_files(roots, max(2, (self.blocks - roots[-1] - 2 * varying) // (self.files - varying)))
+        used = self.fresh(1)[0] - 1
+        self.put_map(bitmap, used)
+        self.put(directory, b"".join(self.rows))
+        self.put_label(used)
+        return roots[-1]
+
+    def save(self, name):
+        with pathlib.Path(name).open("xb") as image:
+            image.truncate(self.blocks * self.size)
+            for number, block in self.written.items():
+                image.seek((number - 1) * self.size)
+                image.write(block)
 
 
 def main():
-    directory_blocks = up(64 * (FILES + 2), SIZE)
-    map_blocks = up(up(BLOCKS, 8), SIZE)
-    numbers = iter(range(6, BLOCKS + 1))
-
-    def fresh():
-        return next(numbers)
-
-    plain = FILES - FILES // VARYING
-    front = 5 + directory_blocks - 1 + pointer_blocks(SIZE // 4, directory_blocks) + map_blocks + pointer_blocks(SIZE // 4, map_blocks) + FILES
-    each = max(2, (BLOCKS - front - 2 * (FILES // VARYING)) // plain)
-    written = {}
-    directory = [4] + [fresh() for _ in range(directory_blocks - 1)]
-    directory_root, blocks = tree(directory, 4, fresh)
-    written.update(blocks)
-    bitmap = [fresh() for _ in range(map_blocks)]
-    map_root, blocks = tree(bitmap, 4, fresh)
-    written.update(blocks)
-    roots = [fresh() for _ in range(FILES)]
-    last = roots[-1]
-    text = b"\xc8\xc5\xd3\xd3\xd6"
-    record = struct.pack(">H", len(text)) + text
-    varying = (record * (2 * SIZE // len(record)))
-    rows = [
-        entry(b"\0\0\0\1\0\0\0\0", "DIRECTOR".encode("cp037"), "F", 64, directory_root, directory_blocks, FILES + 2,
-              levels(SIZE // 4, directory_blocks), 4),
-        entry(b"\0\0\0\2\0\0\0\0", "ALLOCMAP".encode("cp037"), "F", SIZE, map_root, map_blocks, map_blocks,
-              levels(SIZE // 4, map_blocks), 4),
-    ]
-    for nth, root in enumerate(roots):
-        is_varying = nth % VARYING == 0
-        count = 2 if is_varying else each
-        leaves = [fresh() for _ in range(count)]
-        psize = 12 if is_varying else 4
-        block_root, blocks = tree(leaves, psize, lambda: root)
-        written.update(blocks)
-        name, kind = f"F{nth:07}".encode("cp037"), "DATA    ".encode("cp037")
-        if is_varying:
-            padded = varying.ljust(2 * SIZE, b"\0")
-            written[leaves[0]], written[leaves[1]] = padded[:SIZE], padded[SIZE:]
-            rows.append(entry(name, kind, "V", len(text), block_root, 2, len(varying) // len(record), 1, 12))
-        else:
-            rows.append(entry(name, kind, "F", 80, block_root, each, each * SIZE // 80, levels(SIZE // 4, each), 4))
-    used = fresh() - 1
-    bits = bytearray(map_blocks * SIZE)
-    for number in range(1, used + 1):
-        bits[(number - 1) // 8] |= 0x80 >> ((number - 1) % 8)
-    for nth, number in enumerate(bitmap):
-        written[number] = bytes(bits[nth * SIZE : (nth + 1) * SIZE])
-    listing = b"".join(rows).ljust(directory_blocks * SIZE, b"\0")
-    for nth, number in enumerate(directory):
-        written[number] = listing[nth * SIZE : (nth + 1) * SIZE]
-    label = bytearray(SIZE)
-    label[0:10] = b"\xc3\xd4\xe2\xf1" + "LARGE1".encode("cp037")
-    for at, value in ((12, SIZE), (16, 4), (28, BLOCKS), (32, used), (36, 64)):
-        label[at : at + 4] = struct.pack(">I", value)
-    written[3] = bytes(label)
-    with pathlib.Path(NAME).open("xb") as image:
-        image.truncate(BLOCKS * SIZE)
-        for number, block in sorted(written.items()):
-            image.seek((number - 1) * SIZE)
-            image.write(block)
+    if len(sys.argv) not in (2, 5):
+        sys.exit(__doc__)
+    volume = Volume(*map(int, sys.argv[2:] or ("10000", "262144", "4096")))
+    last = volume.make()
+    volume.save(sys.argv[1])
     print(last)
 
 

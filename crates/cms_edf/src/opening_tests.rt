@@ -81,6 +81,8 @@ const ONE_FILE: &str = "3 0 00 = Label(Id)
 5 128 00 = Entry(2, Name)
 5 153 F7 = Entry(2, Mode)
 5 158 40 = Entry(2, Format)
+5 158 C6 00 00 00 00 00 = Entry(2, Length)
+5 176 00 00 00 00 = Entry(2, Counts)
 5 180 01 = Entry(2, Levels)
 5 183 13 = Entry(2, Date)
 5 172 00 00 00 02 = Entry(2, Levels)
@@ -89,7 +91,8 @@ const ONE_FILE: &str = "3 0 00 = Label(Id)
 5 168 00 00 00 08 = Crossed(8)
 8 0 F9 = MapMissing(7)
 7 0 00 00 = Var(2, Zero(0))
-7 0 01 FF = Var(2, PastEnd(0))";
+7 0 01 FF = Var(2, PastEnd(0))
+5 48 00 00 00 04, 5 192 C1 40 40 40 40 40 40 40 C6 C9 D3 C5 40 40 40 40, 5 216 C1 F1, 5 222 E5, 5 227 05, 5 235 07, 5 239 01, 5 243 01, 5 245 0C, 5 247 01 01 = Twice(3)";
 
 #[test]
 fn damage_of_one_file_is_told(rt: HostRuntime) -> Result<(), Fail> {
@@ -128,11 +131,20 @@ fn damage_of_a_long_directory_is_told(rt: HostRuntime) -> Result<(), Fail> {
 }
 
 #[test]
+fn files_share_no_block(rt: HostRuntime) -> Result<(), Fail> {
+    let image = two_files(rt.alloc())?;
+    try_rows(&rt, rt.alloc(), &image, "4 232 00 00 00 07 = Crossed(7)")
+}
+
+#[test]
 fn a_short_unit_has_no_label(rt: HostRuntime) -> Result<(), Fail> {
     let alloc = rt.alloc();
     let count = Some(OpenFault::Label(LabelFault::Count));
     let mut image = one_file(alloc)?;
     image.truncate(4096);
+    assert_eq!(rt; refused(alloc, &image)?, count);
+    let mut image = empty(alloc)?;
+    image.truncate(2560);
     assert_eq!(rt; refused(alloc, &image)?, count);
     assert_eq!(rt; refused(alloc, &[])?, count);
     Ok(())

@@ -1,5 +1,0 @@
-pub mod Below
-pub mod Places
-pub mod Plains
-pub mod Opening
-pub mod Scripts
