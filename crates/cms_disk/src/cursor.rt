@@ -142,7 +142,8 @@ impl Cursor {
     fn take(&mut self) -> Result<bool, DiskFault>
         ensures gives { IfOk result (λ whole. (image : Image) (records : List (List ℕ)) → 1 ≤ self.old.left → HasLeft image self.old records
             → Gives image self.new records whole) }
-        ensures altered { OnErr result ((image : Image) (records : List (List ℕ)) → 1 ≤ self.old.left → HasLeft image self.old records → ⊥) }
+        ensures altered { OnErr result ((image : Image) (records : List (List ℕ)) → 1 ≤ self.old.left
+            → HasLeft image self.old records → ⊥) }
         ensures whole { IfOk result (λ whole. whole ≡ true → self.new.begun.whole ≡ true) }
         ensures text { IfOk result (λ whole. whole ≡ true → TextFits self.new) }
         ensures waits { IfOk result (λ whole. whole ≡ false → Waits self.new) }
@@ -171,8 +172,8 @@ impl Cursor {
     fn read<W: World>(&mut self, world: &mut W) -> Result<(), DiskFault>
         requires blocks { ForSome (W.told world.old) (λ j. HasBlocks j.units self.old.unit self.old.total self.old.bsize) }
         requires waits { Waits self.old }
-        ensures read { OnOk result (OfImage (W.told world.old) self.old.unit (λ image. (records : List (List ℕ)) → HasLeft image self.old records
-            → HasLeft image self.new records)) }
+        ensures read { OnOk result (OfImage (W.told world.old) self.old.unit (λ image. (records : List (List ℕ))
+            → HasLeft image self.old records → HasLeft image self.new records)) }
         ensures stays { IfErr result (λ e. e ≡ Device → (image : Image) (records : List (List ℕ)) → HasLeft image self.old records
             → HasLeft image self.new records) }
         ensures altered { IfErr result (λ e. e ≡ Altered → (image : Image) (records : List (List ℕ)) → 1 ≤ self.old.left
@@ -181,7 +182,12 @@ impl Cursor {
         ensures fault { IfErr result (λ e. (e ≡ Device) ⊎ (e ≡ Altered)) }
         ensures done { OnOk result ((self.new.done ≡ self.old.done + 1) × (self.old.done < length self.old.leaves)) }
         ensures from { OnOk result (self.new.from ≡ 0) }
-        ensures same { self.new ≡ record self.old { done = self.new.done; block = self.new.block; from = self.new.from; altered = self.new.altered } }
+        ensures same { self.new ≡ record self.old {
+          done = self.new.done;
+          block = self.new.block;
+          from = self.new.from;
+          altered = self.new.altered;
+        } }
         ensures cause { IfErr result (λ e. e ≡ Device → Rose (W.faults world.old) (W.faults world.new)) }
         ensures told { W.told world.new ≡ W.told world.old }
         ensures faults { W.faults world.old ≤ W.faults world.new }

@@ -147,16 +147,16 @@ fn a_failing_read_loses_no_record(rt: HostRuntime) -> Result<(), Fail> {
         let Some(mut cursor) = cursor_on(alloc, &mut world) else {
             panic!(rt; "no cursor");
         };
-        let mut faults = 0;
+        let mut failed = false;
         for length in [509, 3, 0] {
             let mut answer = next(&mut world, &mut cursor);
             if answer == Err(DiskFault::Device) {
-                faults += 1;
+                failed = true;
                 answer = next(&mut world, &mut cursor);
             }
             assert_eq!(rt; answer, Ok(length));
         }
-        assert_eq!(rt; faults, 1);
+        assert!(rt; failed);
     }
     Ok(())
 }
