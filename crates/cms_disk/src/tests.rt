@@ -4,7 +4,7 @@ ghost use Rattle.std.specs.Prelude.{None};
 use super::*;
 use cms_edf::VarFault;
 use cms_fields::{EntryFault, LabelFault};
-use cms_images::known::{long_directory, one_file, spanning};
+use cms_images::known::{erased, full, long_directory, one_file, spanning, two_files};
 use cms_images::{Edit, put_edits};
 use cms_journal::BlockSize;
 use cms_names::{Name, Part};
@@ -212,6 +212,32 @@ fn a_file_is_read_whole(rt: HostRuntime) -> Result<(), Fail> {
         panic!(rt; "a file");
     };
     assert_eq!(rt; fault, DiskFault::NotFound);
+    Ok(())
+}
+
+// The image has a file of this letter, with the one record HELLO.
+fn has_hello(alloc: Global, image: Vec<u8>, blocks: u32, letter: u8) -> bool {
+    let mut world = world_of(image);
+    match get(alloc, &mut world, blocks, letter) {
+        Some(Ok(data)) => data.bytes.bytes() == [0, 5, 0xC8, 0xC5, 0xD3, 0xD3, 0xD6].as_slice(),
+        _ => false,
+    }
+}
+
+#[test]
+fn images_hold_their_files(rt: HostRuntime) -> Result<(), Fail> {
+    let alloc = rt.alloc();
+    for (letter, wanted) in [(0xC1, true), (0xC2, true), (0xC3, false)] {
+        assert_eq!(rt; has_hello(alloc, two_files(alloc)?, 9, letter), wanted);
+    }
+    for (letter, wanted) in [(0xC1, true), (0xC7, true), (0xC8, false)] {
+        assert_eq!(rt;
+            has_hello(alloc, long_directory(alloc)?, 16, letter),
+            wanted
+        );
+    }
+    assert!(rt; has_hello(alloc, full(alloc)?, 9, 0xC1));
+    assert!(rt; !has_hello(alloc, erased(alloc)?, 9, 0xC1));
     Ok(())
 }
 

@@ -91,13 +91,17 @@ const ONE_FILE: &str = "3 0 00 = Label(Id)
 5 168 00 00 00 08 = Crossed(8)
 8 0 F9 = MapMissing(7)
 7 0 00 00 = Var(2, Zero(0))
-7 0 01 FF = Var(2, PastEnd(0))
-5 48 00 00 00 04, 5 192 C1 40 40 40 40 40 40 40 C6 C9 D3 C5 40 40 40 40, 5 216 C1 F1, 5 222 E5, 5 227 05, 5 235 07, 5 239 01, 5 243 01, 5 245 0C, 5 247 01 01 = Twice(3)";
+7 0 01 FF = Var(2, PastEnd(0))";
+
+// A third entry, like that of A FILE.
+const TWICE: &str = "5 48 00 00 00 04, 5 192 C1 40 40 40 40 40 40 40 C6 C9 D3 C5 40 40 40 40, \
+    5 216 C1 F1, 5 222 E5, 5 227 05, 5 235 07, 5 239 01, 5 243 01, 5 245 0C, 5 247 01 01 = Twice(3)";
 
 #[test]
 fn damage_of_one_file_is_told(rt: HostRuntime) -> Result<(), Fail> {
     let image = one_file(rt.alloc())?;
-    try_rows(&rt, rt.alloc(), &image, ONE_FILE)
+    try_rows(&rt, rt.alloc(), &image, ONE_FILE)?;
+    try_rows(&rt, rt.alloc(), &image, TWICE)
 }
 
 const SPANNING: &str = "4 181 04 = Entry(2, PointerSize)

@@ -47,7 +47,8 @@ FindsFirst = (label : Text) (lines : List Text) (from : ℕ) → Search label li
 
 -- ---- &GOTO and &CALL
 
--- the line that a label of &GOTO or &CALL names: the first with it from the next line to the end, and without one there the first from the top
+-- the line that a label of &GOTO or &CALL names: the first with it from the next line to the end, and without one there the first
+-- from the top
 pub data Names (s : Exec) (label : Text) : Option ℕ → Type 0 where
   below : {k : ℕ} → IsFirst label s.lines s.next k → Names s label (Some k)
   above : {k : ℕ} → HasNone label s.lines s.next → IsFirst label s.lines 0 k → Names s label (Some k)

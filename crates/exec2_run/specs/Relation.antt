@@ -78,7 +78,8 @@ pub data Begins (names : Binding) : Passes → Result Bool Fault → Type 0 wher
   -- WHILE: where the comparison holds
   while : {test : Test} {m : Result Bool Fault} → m ≡ test_holds names test → Begins names (While test) m
   -- UNTIL: where it doesn't hold
-  until : {test : Test} {holds : Bool} {m : Result Bool Fault} → test_holds names test ≡ Ok holds → m ≡ Ok (not holds) → Begins names (Until test) m
+  until : {test : Test} {holds : Bool} {m : Result Bool Fault} → test_holds names test ≡ Ok holds → m ≡ Ok (not holds)
+      → Begins names (Until test) m
   until_fault : {test : Test} {fault : Fault} {m : Result Bool Fault} → test_holds names test ≡ Err fault → m ≡ Err fault
       → Begins names (Until test) m
 
@@ -121,11 +122,13 @@ pub data Moves (old : Exec) (moment : Moment) : Action → Moved → Type 0 wher
   test_fault : {failure : Fault × ℕ} {m : Moved} → is_due old.action ≡ false → Settling moment old old.loops (Err failure) → m ≡ Err failure
       → Moves old moment Settle m
   -- a turn: the error action where it is due, as if on the command's line
-  error_action : {m : Moved} → is_due old.action ≡ true → Executes (record old { action = Running; moment = moment }) (action_words old.error) m
+  error_action : {m : Moved} → is_due old.action ≡ true
+      → Executes (record old { action = Running; moment = moment }) (action_words old.error) m
       → Moves old moment Turn m
   -- else the statement of the next line
   next_statement : {m : Moved} → is_due old.action ≡ false → nat_lt old.next (length old.lines) ≡ true
-      → Executes (record old { action = Idle; moment = moment; next = old.next + 1; line = old.next + 1 }) (words_at old) m → Moves old moment Turn m
+      → Executes (record old { action = Idle; moment = moment; next = old.next + 1; line = old.next + 1 }) (words_at old) m
+      → Moves old moment Turn m
   -- past the last line no words stand
   past_last : {m : Moved} → is_due old.action ≡ false → nat_lt old.next (length old.lines) ≡ false
       → Executes (record old { action = Idle; moment = moment }) (words_at old) m → Moves old moment Turn m
@@ -134,7 +137,8 @@ pub data Moves (old : Exec) (moment : Moment) : Action → Moved → Type 0 wher
       → m ≡ with_next old (with_arguments (record old { reading = reading.Nothing }) (words_of given)) → Moves old moment (GiveLine given) m
   -- &READ VARS: each name takes a word
   for_variables : {given : Text} {names : List Text} {m : Moved} → old.reading ≡ reading.Variables names
-      → m ≡ with_next old (with_variables (record old { reading = reading.Nothing }) (each_set names (words_of given) old.variables)) → Moves old moment (GiveLine given) m
+      → m ≡ with_next old (with_variables (record old { reading = reading.Nothing }) (each_set names (words_of given) old.variables))
+      → Moves old moment (GiveLine given) m
   -- &READ STRING: the name takes the line
   for_text : {given name : Text} {m : Moved} → old.reading ≡ reading.Text name
       → m ≡ with_next old (with_variable (record old { reading = reading.Nothing }) name given) → Moves old moment (GiveLine given) m
