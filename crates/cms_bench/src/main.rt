@@ -24,7 +24,13 @@ fn measure_opening(rt: &HostRuntime, name: &str, bytes: &str) -> Option<()> {
     let bsize = BlockSize::of(bytes.parse().ok()?)?;
     let held = opened(rt, name, bsize)?;
     let space = held.space();
-    println!(rt; "{} files, {} of {} blocks free", held.count(), space.free, space.total).ok()
+    println!(rt;
+        "{} files, {} of {} blocks free",
+        held.count(),
+        space.free,
+        space.total
+    )
+    .ok()
 }
 
 /// Runs a procedure, and says for how many turns.
