@@ -126,7 +126,7 @@ file_left bsize total image h f room is stored kept high =
 pub first_has : (image : Image) (c : Reading) (number most size : ℕ) (blocks : List ℕ) (format : Format) (high count : ℕ) (records : List (List ℕ)) → IsFirst number most size blocks format high count c
     → HoldLeft size (fixed_of format high) high count 0 (bytes_at image blocks) records → HasLeft image c records
 first_has image c number most size blocks format high count records s held =
-    let long = s.held.0 in
+    let long = s.held.block in
     let all = s.all in
     let one = s.bsize in
     let gone : drop c.from c.block ≡ [] = drop_whole c.from c.block (omega arith) in

@@ -1,5 +1,6 @@
 -- A file that is read record by record.
 use Rattle.std.specs.Prelude.{◌≡◌, ◌⊎◌, ℕ, ◌+◌, ◌-◌, ◌*◌, ◌≤◌, ◌<◌, Bool, true, false, List, [], ◌∷◌, ◌++◌, length, drop, slice_index, Option, None, Some, IfSome, Result, Ok, Err}
+use Rattle.cms_fields.specs.Limits.{most_bytes, longest_record}
 use Rattle.cms_names.specs.declared.name.Format.{Format}
 use Rattle.cms_names.specs.declared.name.Format.TheVariants.{F, V}
 use Rattle.cms_model.specs.Lists.{cut}
@@ -27,12 +28,14 @@ pub record Reading : Type 0 where
 -- ---- what is held in memory
 
 -- besides the list of blocks one block is held, and of one record, no longer than the longest, its bytes and those of its length
-abbrev pub HoldsLittle : Reading → Type 0
-HoldsLittle c = (length c.block ≡ c.bsize) × (length c.begun.bytes ≤ c.begun.longest + 2)
+pub record HoldsLittle (c : Reading) : Type 0 where
+  pub block : length c.block ≡ c.bsize
+  pub begun : length c.begun.bytes ≤ c.begun.longest + 2
 
 -- records of one length have at least one byte, and none is above the longest
-abbrev pub HasLengths : Begun → Type 0
-HasLengths s = IfSome s.fixed (λ n. (1 ≤ n) × (n ≤ s.longest)) × (s.longest ≤ 65535)
+pub record HasLengths (s : Begun) : Type 0 where
+  pub fixed : IfSome s.fixed (λ n. (1 ≤ n) × (n ≤ s.longest))
+  pub short : s.longest ≤ longest_record
 
 -- each of these is a block of so many
 abbrev pub AreOn : ℕ → List ℕ → Type 0
@@ -43,9 +46,15 @@ abbrev pub IsWithin : Reading → Type 0
 IsWithin c = c.altered ≡ false → c.begun.place + length c.begun.bytes + c.bsize ≤ c.done * c.bsize + c.from
 
 -- what always holds
-abbrev pub IsReading : Reading → Type 0
-IsReading c = HoldsLittle c × HasLengths c.begun × AreOn c.total c.leaves × (c.from ≤ c.bsize) × (c.done ≤ length c.leaves)
-    × (length c.leaves * c.bsize ≤ 67108864) × IsWithin c × (1 ≤ c.bsize)
+pub record IsReading (c : Reading) : Type 0 where
+  pub held : HoldsLittle c
+  pub lengths : HasLengths c.begun
+  pub leaves : AreOn c.total c.leaves
+  pub taken : c.from ≤ c.bsize
+  pub done : c.done ≤ length c.leaves
+  pub few : length c.leaves * c.bsize ≤ most_bytes
+  pub within : IsWithin c
+  pub some : 1 ≤ c.bsize
 
 -- ---- what is left
 

@@ -3,6 +3,7 @@ ghost use Rattle.std.specs.Prelude.{◌≡◌, ◌⊎◌, ◌≤◌, ◌<◌, �
 ghost use Rattle.std.specs.Option.{ForSome};
 ghost use Rattle.cms_journal.specs.Causes.{Rose};
 ghost use Rattle.cms_journal.specs.Journal.{HasBlocks, contents_of};
+ghost use Rattle.cms_fields.specs.Limits.{most_bytes, longest_record};
 ghost use Rattle.cms_names.specs.declared.name.Format.TheVariants.{F};
 ghost use Rattle.cms_model.specs.Trees.{Image, image_of};
 ghost use Rattle.cms_edf.specs.OpeningSteps.{OfImage};
@@ -74,8 +75,8 @@ impl Cursor {
         leaves: &[u32],
     ) -> Result<Cursor, DiskFault>
         requires leaves { AreOn unit.blocks leaves.now }
-        requires few { length leaves.now * bsize ≤ 67108864 }
-        requires short { info.now.length ≤ 65535 }
+        requires few { length leaves.now * bsize ≤ most_bytes }
+        requires short { info.now.length ≤ longest_record }
         requires fixed { info.now.format ≡ F → 1 ≤ info.now.length }
         ensures first { IfOk result (IsFirst unit.number unit.blocks bsize leaves.now info.now.format info.now.length info.now.count) }
         ensures fault { IfErr result (λ e. e ≡ Memory) }

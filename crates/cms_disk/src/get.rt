@@ -3,6 +3,7 @@ ghost use Rattle.std.specs.Prelude.{◌≡◌, ◌⊎◌, ◌≤◌, ◌++◌, �
 ghost use Rattle.std.specs.Option.{ForSome};
 ghost use Rattle.cms_journal.specs.Causes.{Rose};
 ghost use Rattle.cms_journal.specs.Journal.{HasBlocks, contents_of};
+ghost use Rattle.cms_fields.specs.Limits.{longest_record};
 ghost use Rattle.cms_model.specs.Records.{IsValid, stored};
 ghost use Rattle.cms_model.specs.Trees.{image_of};
 ghost use Rattle.cms_edf.specs.OpeningSteps.{OfImage};
@@ -30,7 +31,7 @@ struct Gathered {
 // Appends a record as it is stored.
 fn push(bytes: &mut Vec<u8>, format: Format, text: &[u8]) -> Result<(), AllocError>
     requires some { 1 ≤ length text.now }
-    requires short { length text.now ≤ 65535 }
+    requires short { length text.now ≤ longest_record }
     ensures { OnOk result (bytes.new.items ≡ bytes.old.items ++ stored format (text.now ∷ [])) }
 {
     match format {
@@ -48,7 +49,7 @@ fn gather<W: World>(
 ) -> Result<Gathered, DiskFault>
     requires blocks { ForSome (W.told world.old) (λ j. HasBlocks j.units cursor.old.unit cursor.old.total cursor.old.bsize) }
     requires fixed { cursor.old.begun.fixed ≡ fixed_of format cursor.old.begun.longest }
-    requires short { cursor.old.begun.longest ≤ 65535 }
+    requires short { cursor.old.begun.longest ≤ longest_record }
     ensures gathered { IfOk result (λ g. (records : List (List ℕ)) × Gathers format cursor.old g.bytes.items g.longest records
         × OfImage (W.told world.old) cursor.old.unit (λ image. (all : List (List ℕ)) → HasLeft image cursor.old all → all ≡ records)) }
     ensures altered { IfErr result (λ e. e ≡ Altered → OfImage (W.told world.old) cursor.old.unit (λ image. (all : List (List ℕ))

@@ -23,8 +23,8 @@ returns-in-Ok-clause-some c = λ short none.
     let there : c.deref.result.now ≡ v.block.items = search rules in
     let t = subst (λ (l : List ℕ). Takes v.begun c.feed.new.self (drop v.from l) (c.in-Ok.fed.next - v.from) c.in-Ok.fed.whole) there c.in-Ok.ensures.taken in
     let d = length-drop v.from v.block.items in
-    let long = c.self.invariant.0.0 in
-    let size = c.self.invariant.7 in
+    let long = c.self.invariant.held.block in
+    let size = c.self.invariant.some in
     let first : v.from ≡ 0 = subst (λ (r : Reading). r.from ≡ 0) (sym view) none in
     let got = takes_some v.begun c.feed.new.self (drop v.from v.block.items) (c.in-Ok.fed.next - v.from) c.in-Ok.fed.whole (subst (λ (r : Reading). IsShort r.begun) (sym view) short) (omega arith) t in
     omega arith
