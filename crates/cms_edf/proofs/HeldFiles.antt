@@ -25,7 +25,8 @@ use Rattle.cms_model.specs.declared.fault.VarFault.TheVariants.{Zero, PastEnd, L
 use Rattle.cms_model.specs.declared.fault.OpenFault.TheVariants as failed
 use Rattle.cms_model.specs.LawsChanges.{NoneNamed, IsPlace}
 use Rattle.cms_model.proofs.Changing.{names_told, name_differs}
-use Rattle.cms_model.proofs.FileSizes.{EntryFits, AllFit, Counted, fan_wide, entries_fit, entry_counted, bytes_length}
+use Rattle.cms_model.proofs.FilesRead.{IsRead, each_read}
+use Rattle.cms_model.proofs.FileSizes.{EntryFits, AllFit, Counted, file_of, entries_fit, are_cut, is_filled}
 use Rattle.cms_model.proofs.InOrder.{in_order, place_none}
 use Rattle.cms_model.proofs.MinidiskSizes.{blocks_are_shared}
 use Rattle.cms_model.proofs.Opening.{blamed_ok, open_ok}
@@ -76,27 +77,14 @@ fills : (format : Format) (bsize len blocks count : ℕ) (bytes : List ℕ) (rs 
     → Counted format bsize len blocks count → Fills format bsize len count bytes rs
 unfolding records_of
 fills F bsize len blocks count bytes rs room e long c =
-    let is : blocks ≡ up (count * len) bsize = c.fixed refl in
-    let fit = up_spec (count * len) bsize room in
-    let low = fit.0 in
-    let high = fit.1 in
-    let same : blocks * bsize ≡ up (count * len) bsize * bsize = ap (λ (n : ℕ). n * bsize) is in
-    let cuts : cut count len bytes ≡ rs = ok_same (cut count len bytes) rs e in
-    let many : count ≡ length rs = sym (length_cut count len bytes) ∙ ap length cuts in
-    let wide : length (concat (cut count len bytes)) ≡ count * len = length_stored_fixed len (cut count len bytes) (fits_cut count len bytes (omega arith)) ∙ ap (λ (n : ℕ). n * len) (length_cut count len bytes) in
-    record {
-      size = sym wide ∙ ap (λ (l : List (List ℕ)). length (concat l)) cuts;
-      held = λ fits. (fixed_cut bsize len count bytes rs (sym many)).1 (e, omega arith, omega arith);
-    }
+    let cuts = are_cut bsize len blocks count bytes rs room e long c in
+    record { size = sym cuts.size; held = λ fits. (fixed_cut bsize len count bytes rs (sym cuts.many)).1 (e, cuts.enough, cuts.within) }
 fills V bsize len blocks count bytes rs room e long c = record {
   size = refl;
   held = λ fits. ((varying_read bsize (length_of V len rs) count bytes rs fits).1 e).0;
 }
 
 -- ---- a file
-
-abbrev file_of : Entry → List (List ℕ) → File
-file_of e rs = record { name = e.name; number = e.number; format = e.format; length = length_of e.format e.length rs; stamp = e.stamp; records = rs }
 
 one_file : (bsize total : ℕ) (image : Image) (e : Entry) (m : Met) (rs : List (List ℕ)) → records_of bsize e.format e.length e.count (bytes_at image m.leaves) ≡ Ok rs
     → IsFileOf bsize image (held_file bsize total image e m rs) (file_of e rs)
@@ -105,21 +93,12 @@ one_file bsize total image e m rs is_rs =
     record { name_is = refl; number_is = refl; format_is = refl; length_is = refl; stamp_is = refl; count_is = t.many; are_read = t.again }
 
 one_stored : (disk : Disk) (image : Image) (total holder : ℕ) (e : Entry) (m : Met) (rs : List (List ℕ)) → IsWhole disk image → total ≤ disk.count → EntryFits disk.bsize e
-    → tree (form_of disk.bsize total e.format) image e.levels None holder e.root e.blocks ≡ Ok m → records_of disk.bsize e.format e.length e.count (bytes_at image m.leaves) ≡ Ok rs
-    → IsStored disk.bsize image (held_file disk.bsize total image e m rs) (file_of e rs)
-unfolding levels_fit
-one_stored disk image total holder e m rs whole top fits is_m is_rs =
-    let bounds = block_bounds disk.bsize whole.size in
-    let low = bounds.0 in
-    let form = form_of disk.bsize total e.format in
-    let c = entry_counted disk.bsize e (omega arith) fits in
-    let size = tree_has_size form image e.levels None holder e.root e.blocks m (fan_wide disk.bsize e.format whole.size) c.some c.small fits.levels is_m in
-    let sized : (n : ℕ) → In n m.leaves → length (image n) ≡ disk.bsize =
-    λ n in'. (let free = place_none total n (tree_places form image e.levels None holder e.root e.blocks m is_m n (tree_inside form image e.levels None holder e.root e.blocks m is_m n in')) in
-    let first = free.0 in let last = free.1 in whole.each n (omega arith) (omega arith)) in
-    let wide : length (bytes_at image m.leaves) ≡ length m.leaves * disk.bsize = bytes_length image disk.bsize m.leaves sized in
-    let f = fills e.format disk.bsize e.length e.blocks e.count (bytes_at image m.leaves) rs (omega arith) is_rs (wide ∙ ap (λ (n : ℕ). n * disk.bsize) size.0) c in
-    record { size_is = f.size; long = wide; are_held = f.held }
+    → IsRead disk total image holder e m rs → IsStored disk.bsize image (held_file disk.bsize total image e m rs) (file_of e rs)
+one_stored disk image total holder e m rs whole top fits read =
+    let low = (block_bounds disk.bsize whole.size).0 in
+    let t = is_filled disk image total holder e m whole top fits read.met in
+    let f = fills e.format disk.bsize e.length e.blocks e.count (bytes_at image m.leaves) rs (omega arith) read.records (t.long ∙ ap (λ (n : ℕ). n * disk.bsize) t.leaves) t.counted in
+    record { size_is = f.size; long = t.long; are_held = f.held }
 
 -- ---- all files
 
@@ -131,29 +110,12 @@ Each P (h ∷ hs) (f ∷ fs) = P h f × Each P hs fs
 
 -- what holds of each file that has its entry, its tree and its records
 each_file : (P : HeldFile → File → Type 0) (disk : Disk) (image : Image) (total : ℕ) (dirs : List ℕ) (number : ℕ) (es : List Entry) (ms : List Met) (cs : List (List (List ℕ))) → AllFit disk.bsize es
-    → ((holder : ℕ) (e : Entry) (m : Met) (rs : List (List ℕ)) → EntryFits disk.bsize e → tree (form_of disk.bsize total e.format) image e.levels None holder e.root e.blocks ≡ Ok m
-    → records_of disk.bsize e.format e.length e.count (bytes_at image m.leaves) ≡ Ok rs → P (held_file disk.bsize total image e m rs) (file_of e rs))
+    → ((holder : ℕ) (e : Entry) (m : Met) (rs : List (List ℕ)) → EntryFits disk.bsize e → IsRead disk total image holder e m rs → P (held_file disk.bsize total image e m rs) (file_of e rs))
     → file_trees disk.bsize total image dirs number es ≡ Ok ms → contents_in disk.bsize image number es ms ≡ Ok cs → Each P (held_files disk.bsize total image es ms cs) (files_of es cs)
-unfolding file_trees contents_in files_of held_files
-each_file P disk image total dirs number [] ms cs fits go t c = tt
-each_file P disk image total dirs number (e ∷ es) ms cs fits go t c =
-    let holder = holder_of disk.bsize dirs number in
-    bind_then (tree (form_of disk.bsize total e.format) image e.levels None holder e.root e.blocks) _ ms t (λ m is_m t1.
-    bind_then (file_trees disk.bsize total image dirs (number + 1) es) _ ms t1 (λ more is_more t2.
-    let is : m ∷ more ≡ ms = ok_same (m ∷ more) ms t2 in
-    let c' = subst (λ (l : List Met). contents_in disk.bsize image number (e ∷ es) l ≡ Ok cs) (sym is) c in
-    bind_then (blamed (failed.Var number) (records_of disk.bsize e.format e.length e.count (bytes_at image m.leaves))) _ cs c' (λ rs is_rs c1.
-    bind_then (contents_in disk.bsize image (number + 1) es more) _ cs c1 (λ rest is_rest c2.
-    let one = go holder e m rs fits.0 is_m (blamed_ok (failed.Var number) (records_of disk.bsize e.format e.length e.count (bytes_at image m.leaves)) rs is_rs) in
-    let deeper = each_file P disk image total dirs (number + 1) es more rest fits.1 go is_more is_rest in
-    finish m more rs rest is (ok_same (rs ∷ rest) cs c2) (one, deeper)))))
-  where
-    finish : (m : Met) (more : List Met) (rs : List (List ℕ)) (rest : List (List (List ℕ))) → ◌≡◌ {A = List Met} (m ∷ more) ms → ◌≡◌ {A = List (List (List ℕ))} (rs ∷ rest) cs
-        → Each P (held_files disk.bsize total image (e ∷ es) (m ∷ more) (rs ∷ rest)) (files_of (e ∷ es) (rs ∷ rest))
-        → Each P (held_files disk.bsize total image (e ∷ es) ms cs) (files_of (e ∷ es) cs)
-    finish m more rs rest is_ms is_cs are =
-        subst (λ (l : List (List (List ℕ))). Each P (held_files disk.bsize total image (e ∷ es) ms l) (files_of (e ∷ es) l)) is_cs
-        (subst (λ (l : List Met). Each P (held_files disk.bsize total image (e ∷ es) l (rs ∷ rest)) (files_of (e ∷ es) (rs ∷ rest))) is_ms are)
+unfolding files_of held_files
+each_file P disk image total dirs number es ms cs fits go t c =
+    each_read disk total image dirs (λ es ms cs. AllFit disk.bsize es → Each P (held_files disk.bsize total image es ms cs) (files_of es cs)) (λ none. tt)
+    (λ holder e m rs es ms cs read rest fits. (go holder e m rs fits.0 read, rest fits.1)) number es ms cs t c fits
 
 same_count : (P : HeldFile → File → Type 0) (hs : List HeldFile) (fs : List File) → Each P hs fs → length hs ≡ length fs
 same_count P [] [] are = refl
@@ -231,7 +193,7 @@ opened_is_held unit disk image v opens =
     let fs = files_of v.entries v.contents in
     let P = IsFileOf disk.bsize image in
     let are : Each P hs fs = each_file P disk image v.label.blocks v.directory_met.leaves 2 v.entries v.mets v.contents (entries_of_all disk image v o)
-    (λ holder e m rs fits is_m is_rs. one_file disk.bsize v.label.blocks image e m rs is_rs) o.mets o.contents in
+    (λ holder e m rs fits read. one_file disk.bsize v.label.blocks image e m rs read.records) o.mets o.contents in
     record {
       volid_is = refl;
       bsize_is = refl;
@@ -251,7 +213,7 @@ opened_has_room unit disk image v whole opens =
     let big = order.size.0 in
     let P = IsStored disk.bsize image in
     let are = each_file P disk image v.label.blocks v.directory_met.leaves 2 v.entries v.mets v.contents (entries_of_all disk image v o)
-    (λ holder e m rs fits is_m is_rs. one_stored disk image v.label.blocks holder e m rs whole order.size.1 fits is_m is_rs) o.mets o.contents in
+    (λ holder e m rs fits read. one_stored disk image v.label.blocks holder e m rs whole order.size.1 fits read) o.mets o.contents in
     record {
       free_is = free_are (bytes_at image v.map_met.leaves) v.label.blocks (omega arith) ∙ shared.free;
       files_are = at_place P (held_files disk.bsize v.label.blocks image v.entries v.mets v.contents) (files_of v.entries v.contents) are;

@@ -16,10 +16,10 @@ use Rattle.cms_fields.specs.declared.entry.Entry.{Entry}
 use Rattle.cms_fields.proofs.ReadEntry.{entry_is}
 use Rattle.cms_model.specs.Lists.{In, cut}
 use Rattle.cms_model.specs.Trees.{Image, Met, form_of, tree, bytes_at}
-use Rattle.cms_model.specs.Records.{varying, records_of, length_of}
+use Rattle.cms_model.specs.Records.{varying, records_of, stored, length_of}
 use Rattle.cms_model.specs.Minidisks.{File}
 use Rattle.cms_model.specs.Sizes.{stored_size, tree_size, file_size}
-use Rattle.cms_model.specs.Volumes.{Disk, blamed, entries_of, holder_of, file_trees, blocks_of, contents_in, files_of}
+use Rattle.cms_model.specs.Volumes.{Disk, blamed, entries_of, file_trees, blocks_of, contents_in, files_of}
 use Rattle.cms_model.specs.LawsSizes.{IsWhole}
 use Rattle.cms_model.specs.declared.fault.VarFault.TheVariants.{Zero, PastEnd, Left}
 use Rattle.cms_model.specs.declared.fault.OpenFault.TheVariants as failed
@@ -30,6 +30,7 @@ use Rattle.cms_model.proofs.Records.{length_stored, length_stored_fixed, fits_cu
 use Rattle.cms_model.proofs.TreeFrame.{between, tree_inside, tree_places}
 use Rattle.cms_model.proofs.TreeSizes.{tree_has_size}
 use Rattle.cms_model.proofs.Opening.{blamed_ok}
+use Rattle.cms_model.proofs.FilesRead.{IsRead, each_read}
 use Rattle.cms_model.proofs.InOrder.{place_none}
 
 -- the bounds of a block size
@@ -122,16 +123,34 @@ varying_size bsize (suc n) place bytes rs e =
     let whole = sum_by-cons (λ (text : List ℕ). 2 + length text) (take len (drop 2 bytes)) more in
     subst (λ (l : List (List ℕ)). (stored_size V l ≤ length bytes) × (length bytes < stored_size V l + bsize)) (ok_same (take len (drop 2 bytes) ∷ more) rs done) (omega arith, omega arith))
 
+-- fixed records that were cut from the blocks that they take
+pub record AreCut (len blocks bsize count : ℕ) (bytes : List ℕ) (rs : List (List ℕ)) : Type 0 where
+  pub many : count ≡ length rs
+  pub enough : count * len ≤ length bytes
+  pub within : length bytes < count * len + bsize
+  pub size : length (stored F rs) ≡ count * len
+
+pub are_cut : (bsize len blocks count : ℕ) (bytes : List ℕ) (rs : List (List ℕ)) → 1 ≤ bsize → records_of bsize F len count bytes ≡ Ok rs → length bytes ≡ blocks * bsize → Counted F bsize len blocks count
+    → AreCut len blocks bsize count bytes rs
+unfolding records_of
+are_cut bsize len blocks count bytes rs room e long c =
+    let fit = up_spec (count * len) bsize room in
+    let low = fit.0 in
+    let high = fit.1 in
+    let same : blocks * bsize ≡ up (count * len) bsize * bsize = ap (λ (n : ℕ). n * bsize) (c.fixed refl) in
+    let cuts : cut count len bytes ≡ rs = ok_same (cut count len bytes) rs e in
+    let wide : length (concat (cut count len bytes)) ≡ count * len = length_stored_fixed len (cut count len bytes) (fits_cut count len bytes (omega arith)) ∙ ap (λ (n : ℕ). n * len) (length_cut count len bytes) in
+    record {
+      many = sym (length_cut count len bytes) ∙ ap length cuts;
+      enough = omega arith;
+      within = omega arith;
+      size = ap (λ (l : List (List ℕ)). length (concat l)) (sym cuts) ∙ wide;
+    }
+
 pub stored_fills : (format : Format) (bsize len blocks count : ℕ) (bytes : List ℕ) (rs : List (List ℕ)) → 1 ≤ bsize → records_of bsize format len count bytes ≡ Ok rs → length bytes ≡ blocks * bsize → Counted format bsize len blocks count → up (stored_size format rs) bsize ≡ blocks
 unfolding records_of
 stored_fills F bsize len blocks count bytes rs room e long c =
-    let is : blocks ≡ up (count * len) bsize = c.fixed refl in
-    let fit = (up_spec (count * len) bsize room).0 in
-    let same : blocks * bsize ≡ up (count * len) bsize * bsize = ap (λ (n : ℕ). n * bsize) is in
-    let cuts : cut count len bytes ≡ rs = ok_same (cut count len bytes) rs e in
-    let wide : length (concat (cut count len bytes)) ≡ count * len = length_stored_fixed len (cut count len bytes) (fits_cut count len bytes (omega arith)) ∙ ap (λ (n : ℕ). n * len) (length_cut count len bytes) in
-    let size : stored_size F rs ≡ count * len = sym (length_stored F rs) ∙ ap (λ (l : List (List ℕ)). length (concat l)) (sym cuts) ∙ wide in
-    ap (λ (n : ℕ). up n bsize) size ∙ sym is
+    ap (λ (n : ℕ). up n bsize) (sym (length_stored F rs) ∙ (are_cut bsize len blocks count bytes rs room e long c).size) ∙ sym (c.fixed refl)
 stored_fills V bsize len blocks count bytes rs room e long c =
     let s = varying_size bsize count 0 bytes rs e in
     let low = s.0 in
@@ -148,14 +167,17 @@ bytes_length image size (n ∷ ns) each =
     let deeper = bytes_length image size ns (λ x in'. each x (inr in')) in
     length-append (image n) (bytes_at image ns) ∙ (omega arith)
 
-abbrev file_of : Entry → List (List ℕ) → File
-file_of e rs = record { name = e.name; number = e.number; format = e.format; length = length_of e.format e.length rs; stamp = e.stamp; records = rs }
+-- the blocks of a file whose tree was read are as many as its entry says, and whole
+pub record IsFilled (disk : Disk) (image : Image) (e : Entry) (m : Met) : Type 0 where
+  pub counted : Counted e.format disk.bsize e.length e.blocks e.count
+  pub leaves : length m.leaves ≡ e.blocks
+  pub blocks : length m.blocks ≡ tree_size (fan_of disk.bsize e.format) e.blocks
+  pub long : length (bytes_at image m.leaves) ≡ length m.leaves * disk.bsize
 
-file_blocks : (disk : Disk) (image : Image) (total holder : ℕ) (e : Entry) (m : Met) (rs : List (List ℕ)) → IsWhole disk image → total ≤ disk.count → EntryFits disk.bsize e
-    → tree (form_of disk.bsize total e.format) image e.levels None holder e.root e.blocks ≡ Ok m → records_of disk.bsize e.format e.length e.count (bytes_at image m.leaves) ≡ Ok rs
-    → file_size disk.bsize (file_of e rs) ≡ length m.blocks
-unfolding file_size levels_fit
-file_blocks disk image total holder e m rs whole top fits is_m is_rs =
+pub is_filled : (disk : Disk) (image : Image) (total holder : ℕ) (e : Entry) (m : Met) → IsWhole disk image → total ≤ disk.count → EntryFits disk.bsize e
+    → tree (form_of disk.bsize total e.format) image e.levels None holder e.root e.blocks ≡ Ok m → IsFilled disk image e m
+unfolding levels_fit
+is_filled disk image total holder e m whole top fits is_m =
     let bounds = block_bounds disk.bsize whole.size in
     let low = bounds.0 in
     let form = form_of disk.bsize total e.format in
@@ -164,28 +186,33 @@ file_blocks disk image total holder e m rs whole top fits is_m is_rs =
     let sized : (n : ℕ) → In n m.leaves → length (image n) ≡ disk.bsize =
     λ n in'. (let free = place_none total n (tree_places form image e.levels None holder e.root e.blocks m is_m n (tree_inside form image e.levels None holder e.root e.blocks m is_m n in')) in
     let first = free.0 in let last = free.1 in whole.each n (omega arith) (omega arith)) in
-    let long : length (bytes_at image m.leaves) ≡ e.blocks * disk.bsize = bytes_length image disk.bsize m.leaves sized ∙ ap (λ (n : ℕ). n * disk.bsize) size.0 in
-    ap (tree_size (fan_of disk.bsize e.format)) (stored_fills e.format disk.bsize e.length e.blocks e.count (bytes_at image m.leaves) rs (omega arith) is_rs long c) ∙ sym size.1
+    record { counted = c; leaves = size.0; blocks = size.1; long = bytes_length image disk.bsize m.leaves sized }
+
+abbrev pub file_of : Entry → List (List ℕ) → File
+file_of e rs = record { name = e.name; number = e.number; format = e.format; length = length_of e.format e.length rs; stamp = e.stamp; records = rs }
+
+file_blocks : (disk : Disk) (image : Image) (total holder : ℕ) (e : Entry) (m : Met) (rs : List (List ℕ)) → IsWhole disk image → total ≤ disk.count → EntryFits disk.bsize e
+    → IsRead disk total image holder e m rs → file_size disk.bsize (file_of e rs) ≡ length m.blocks
+unfolding file_size
+file_blocks disk image total holder e m rs whole top fits read =
+    let low = (block_bounds disk.bsize whole.size).0 in
+    let f = is_filled disk image total holder e m whole top fits read.met in
+    let long : length (bytes_at image m.leaves) ≡ e.blocks * disk.bsize = f.long ∙ ap (λ (n : ℕ). n * disk.bsize) f.leaves in
+    ap (tree_size (fan_of disk.bsize e.format)) (stored_fills e.format disk.bsize e.length e.blocks e.count (bytes_at image m.leaves) rs (omega arith) read.records long f.counted) ∙ sym f.blocks
+
+-- the files take as many blocks as their trees have, and are as many as the entries
+abbrev Fill : ℕ → List Entry → List Met → List (List (List ℕ)) → Type 0
+Fill bsize es ms cs = (sum_by (file_size bsize) (files_of es cs) ≡ length (blocks_of ms)) × (length (files_of es cs) ≡ length es)
 
 pub files_blocks : (disk : Disk) (image : Image) (total : ℕ) (dirs : List ℕ) (number : ℕ) (es : List Entry) (ms : List Met) (cs : List (List (List ℕ))) → IsWhole disk image → total ≤ disk.count → AllFit disk.bsize es
-    → file_trees disk.bsize total image dirs number es ≡ Ok ms → contents_in disk.bsize image number es ms ≡ Ok cs
-    → (sum_by (file_size disk.bsize) (files_of es cs) ≡ length (blocks_of ms)) × (length (files_of es cs) ≡ length es)
-unfolding file_trees contents_in files_of blocks_of
-files_blocks disk image total dirs number [] ms cs whole top fits t c =
-    (ap (λ (l : List Met). length (blocks_of l)) (ok_same [] ms t), refl)
-files_blocks disk image total dirs number (e ∷ es) ms cs whole top fits t c =
-    let holder = holder_of disk.bsize dirs number in
-    bind_then (tree (form_of disk.bsize total e.format) image e.levels None holder e.root e.blocks) _ ms t (λ m is_m t1.
-    bind_then (file_trees disk.bsize total image dirs (number + 1) es) _ ms t1 (λ more is_more t2.
-    let is : m ∷ more ≡ ms = ok_same (m ∷ more) ms t2 in
-    let c' = subst (λ (l : List Met). contents_in disk.bsize image number (e ∷ es) l ≡ Ok cs) (sym is) c in
-    bind_then (blamed (failed.Var number) (records_of disk.bsize e.format e.length e.count (bytes_at image m.leaves))) _ cs c' (λ rs is_rs c1.
-    bind_then (contents_in disk.bsize image (number + 1) es more) _ cs c1 (λ rest is_rest c2.
-    let one = file_blocks disk image total holder e m rs whole top fits.0 is_m (blamed_ok (failed.Var number) (records_of disk.bsize e.format e.length e.count (bytes_at image m.leaves)) rs is_rs) in
-    let deeper = files_blocks disk image total dirs (number + 1) es more rest whole top fits.1 is_more is_rest in
-    let both = sum_by-cons (file_size disk.bsize) (file_of e rs) (files_of es rest) in
-    let long = length-append m.blocks (blocks_of more) in
-    finish m more rs rest is (ok_same (rs ∷ rest) cs c2) (both ∙ ap (λ (n : ℕ). n + sum_by (file_size disk.bsize) (files_of es rest)) one ∙ ap (λ (n : ℕ). length m.blocks + n) deeper.0 ∙ sym long) (ap suc deeper.1)))))
+    → file_trees disk.bsize total image dirs number es ≡ Ok ms → contents_in disk.bsize image number es ms ≡ Ok cs → Fill disk.bsize es ms cs
+unfolding files_of blocks_of
+files_blocks disk image total dirs number es ms cs whole top fits t c = each_read disk total image dirs (λ es ms cs. AllFit disk.bsize es → Fill disk.bsize es ms cs) (λ none. (refl, refl)) more number es ms cs t c fits
   where
-    finish : (m : Met) (more : List Met) (rs : List (List ℕ)) (rest : List (List (List ℕ))) → ◌≡◌ {A = List Met} (m ∷ more) ms → ◌≡◌ {A = List (List (List ℕ))} (rs ∷ rest) cs → sum_by (file_size disk.bsize) (files_of (e ∷ es) (rs ∷ rest)) ≡ length (blocks_of (m ∷ more)) → length (files_of (e ∷ es) (rs ∷ rest)) ≡ suc (length es) → (sum_by (file_size disk.bsize) (files_of (e ∷ es) cs) ≡ length (blocks_of ms)) × (length (files_of (e ∷ es) cs) ≡ suc (length es))
-    finish m more rs rest is_ms is_cs a b = (ap (λ (l : List (List (List ℕ))). sum_by (file_size disk.bsize) (files_of (e ∷ es) l)) (sym is_cs) ∙ a ∙ ap (λ (l : List Met). length (blocks_of l)) is_ms, ap (λ (l : List (List (List ℕ))). length (files_of (e ∷ es) l)) (sym is_cs) ∙ b)
+    more : (holder : ℕ) (e : Entry) (m : Met) (rs : List (List ℕ)) (es : List Entry) (ms : List Met) (cs : List (List (List ℕ))) → IsRead disk total image holder e m rs
+        → (AllFit disk.bsize es → Fill disk.bsize es ms cs) → AllFit disk.bsize (e ∷ es) → Fill disk.bsize (e ∷ es) (m ∷ ms) (rs ∷ cs)
+    more holder e m rs es ms cs read rest fits =
+        let deeper = rest fits.1 in
+        let both = sum_by-cons (file_size disk.bsize) (file_of e rs) (files_of es cs) in
+        let one = file_blocks disk image total holder e m rs whole top fits.0 read in
+        (both ∙ ap (λ (n : ℕ). n + sum_by (file_size disk.bsize) (files_of es cs)) one ∙ ap (λ (n : ℕ). length m.blocks + n) deeper.0 ∙ sym (length-append m.blocks (blocks_of ms)), ap suc deeper.1)

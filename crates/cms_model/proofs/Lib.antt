@@ -17,6 +17,7 @@ pub mod Updating
 pub mod Wiping
 pub mod Building
 pub mod Shares
+pub mod FilesRead
 pub mod FileSizes
 pub mod MinidiskSizes
 pub mod Changing

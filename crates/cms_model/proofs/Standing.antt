@@ -14,7 +14,8 @@ use Rattle.cms_model.specs.declared.fault.OpenFault.TheVariants as failed
 use Rattle.cms_model.proofs.Results.{ok_same, bind_then}
 use Rattle.cms_model.proofs.Repeats.{held_from, in_from, no_repeat, none_unmarked, if_none}
 use Rattle.cms_model.proofs.TreeFrame.{tree_keeps}
-use Rattle.cms_model.proofs.Opening.{open_ok, open_again, blamed_ok}
+use Rattle.cms_model.proofs.Opening.{open_ok, open_again}
+use Rattle.cms_model.proofs.FilesRead.{IsRead, each_read}
 use Rattle.cms_model.proofs.InOrder.{in_order}
 use Rattle.cms_model.proofs.Changing.{name_other, name_differs}
 
@@ -88,31 +89,24 @@ record Files (disk : Disk) (total : ℕ) (image : Image) (es : List Entry) (ms :
   all : HoldsFiles disk total image files
 
 files_from : (disk : Disk) (total : ℕ) (image : Image) (dirs : List ℕ) (number : ℕ) (es : List Entry) (ms : List Met) (cs : List (List (List ℕ))) → file_trees disk.bsize total image dirs number es ≡ Ok ms → contents_in disk.bsize image number es ms ≡ Ok cs → Files disk total image es ms cs
-unfolding file_trees contents_in
-files_from disk total image dirs number [] ms cs t c = record { files = []; are_entries = refl; are_mets = ok_same [] ms t; are_records = ok_same [] cs c; all = tt }
-files_from disk total image dirs number (e ∷ es) ms cs t c =
-    let holder = holder_of disk.bsize dirs number in
-    bind_then (tree (form_of disk.bsize total e.format) image e.levels None holder e.root e.blocks) _ ms t (λ m is_m t1.
-    bind_then (file_trees disk.bsize total image dirs (number + 1) es) _ ms t1 (λ more is_more t2.
-    let is : m ∷ more ≡ ms = ok_same (m ∷ more) ms t2 in
-    let c' = subst (λ (l : List Met). contents_in disk.bsize image number (e ∷ es) l ≡ Ok cs) (sym is) c in
-    bind_then (blamed (failed.Var number) (records_of disk.bsize e.format e.length e.count (bytes_at image m.leaves))) _ cs c' (λ rs is_rs c1.
-    bind_then (contents_in disk.bsize image (number + 1) es more) _ cs c1 (λ rest is_rest c2.
-    let f = files_from disk total image dirs (number + 1) es more rest is_more is_rest in
-    let one : Kept = record { entry = e; met = m; records = rs } in
-    record {
-      files = one ∷ f.files;
-      are_entries = ap (λ (l : List Entry). e ∷ l) f.are_entries;
-      are_mets = ap (λ (l : List Met). m ∷ l) f.are_mets ∙ is;
-      are_records = ap (λ (l : List (List (List ℕ))). rs ∷ l) f.are_records ∙ ok_same (rs ∷ rest) cs c2;
-      all = (
+files_from disk total image dirs number es ms cs t c = each_read disk total image dirs (Files disk total image) (record { files = []; are_entries = refl; are_mets = refl; are_records = refl; all = tt }) more number es ms cs t c
+  where
+    more : (holder : ℕ) (e : Entry) (m : Met) (rs : List (List ℕ)) (es : List Entry) (ms : List Met) (cs : List (List (List ℕ))) → IsRead disk total image holder e m rs
+        → Files disk total image es ms cs → Files disk total image (e ∷ es) (m ∷ ms) (rs ∷ cs)
+    more holder e m rs es ms cs read f =
         record {
-          met = λ other. tree_keeps (form_of disk.bsize total e.format) image image e.levels None holder other e.root e.blocks m is_m (λ x in'. refl);
-          records = blamed_ok (failed.Var number) (records_of disk.bsize e.format e.length e.count (bytes_at image m.leaves)) rs is_rs;
-        },
-        f.all,
-      );
-    }))))
+          files = (record { entry = e; met = m; records = rs }) ∷ f.files;
+          are_entries = ap (λ (l : List Entry). e ∷ l) f.are_entries;
+          are_mets = ap (λ (l : List Met). m ∷ l) f.are_mets;
+          are_records = ap (λ (l : List (List (List ℕ))). rs ∷ l) f.are_records;
+          all = (
+            record {
+              met = λ other. tree_keeps (form_of disk.bsize total e.format) image image e.levels None holder other e.root e.blocks m read.met (λ x in'. refl);
+              records = read.records;
+            },
+            f.all,
+          );
+        }
 
 one_more : (before : List Name) (f : Kept) (fs : List Kept) → is_named f.entry.name before ≡ false → NoneBefore fs before → NoneBefore (f ∷ fs) before
 unfolding is_named

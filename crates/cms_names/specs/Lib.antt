@@ -1,3 +1,4 @@
 pub mod Names
+pub mod Alphabets
 pub mod Patterns
 pub mod Modes

@@ -1,13 +1,12 @@
 // File names and record formats.
-ghost use Rattle.std.specs.Prelude.{◌≡◌, ◌<◌, true, not, length, position, IfSome};
+ghost use Rattle.std.specs.Prelude.{◌≡◌, true};
 ghost use Rattle.std.specs.Cmp;
 ghost use Rattle.std.specs.Cmp.Lexicographic.{nat_list_eq_equiv};
 ghost use Rattle.std.specs.Str.{bytes_eq};
-ghost use Rattle.cms_names.specs.Names.{is_name_character, is_part, part_of, filled};
+ghost use Rattle.cms_names.specs.Names.{is_part, part_of, filled};
 
-use crate::character::is_name_character;
 use crate::fault::NameFault;
-use crate::text::Text;
+use crate::text::{Alphabet, Text};
 use std::hash::{Hash, Hasher};
 use std::marker::Model;
 
@@ -36,7 +35,7 @@ impl Part {
     pub fn read(word: &[u8]) -> Result<Part, NameFault>
         ensures { result ≡ part_of word.now }
     {
-        let text = Text::read(word, bad_place(word))?;
+        let text = Text::read(word, Alphabet::Names)?;
         Ok(Part { text })
     }
 
@@ -55,14 +54,6 @@ impl Part {
     {
         self.text.padded()
     }
-}
-
-// The place of the first character that names can't have.
-fn bad_place(word: &[u8]) -> Option<usize>
-    ensures place { result ≡ position (λ c. not (is_name_character c)) word.now }
-    ensures within { IfSome result (λ place. place < length word.now) }
-{
-    word.iter().position(|c| !is_name_character(*c))
 }
 
 impl PartialEq for Part {

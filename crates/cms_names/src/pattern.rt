@@ -1,12 +1,12 @@
 // Patterns of file names and file types.
-ghost use Rattle.std.specs.Prelude.{◌≡◌, ℕ, ◌<◌, ◌≤◌, List, [], ◌∷◌, Bool, not, length, position, IfSome, IsTrue, ◌↔◌};
-ghost use Rattle.cms_names.specs.Names.{is_pattern_character, pattern_of};
+ghost use Rattle.std.specs.Prelude.{◌≡◌, ℕ, ◌≤◌, List, [], ◌∷◌, Bool, length, IsTrue, ◌↔◌};
+ghost use Rattle.cms_names.specs.Names.{pattern_of};
 ghost use Rattle.cms_names.specs.Patterns.{fits, Fits, some_suffix, one_and_then, is_wanted, IsRow};
 
-use crate::character::{ASTERISK, PERCENT, is_pattern_character};
+use crate::character::{ASTERISK, PERCENT};
 use crate::fault::NameFault;
 use crate::name::Part;
-use crate::text::Text;
+use crate::text::{Alphabet, Text};
 use std::marker::Model;
 
 /// A pattern of file names or file types: 1 to 8 name characters, `*` and `%`, in EBCDIC
@@ -34,7 +34,7 @@ impl Pattern {
     pub fn read(word: &[u8]) -> Result<Pattern, NameFault>
         ensures { result ≡ pattern_of word.now }
     {
-        let text = Text::read(word, bad_place(word))?;
+        let text = Text::read(word, Alphabet::Patterns)?;
         Ok(Pattern { text })
     }
 
@@ -61,14 +61,6 @@ fn fits_text(pattern: &[u8], text: &[u8]) -> bool
         rests = row_before(pattern[place], text, &rests);
     }
     rests[0]
-}
-
-// The place of the first character that patterns can't have.
-fn bad_place(word: &[u8]) -> Option<usize>
-    ensures place { result ≡ position (λ c. not (is_pattern_character c)) word.now }
-    ensures within { IfSome result (λ place. place < length word.now) }
-{
-    word.iter().position(|c| !is_pattern_character(*c))
 }
 
 // The row of the empty pattern, which fits at the end alone.

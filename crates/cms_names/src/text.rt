@@ -1,10 +1,39 @@
 // Short texts in fields of eight bytes.
-ghost use Rattle.std.specs.Prelude.{◌≡◌, ℕ, ◌<◌, ◌≤◌, Bool, not, length, position, IfSome};
-ghost use Rattle.cms_names.specs.Names.{filled, text_of};
+ghost use Rattle.std.specs.Prelude.{◌≡◌, ◌<◌, ◌≤◌, true, not, length, position, IfOk, IfSome};
+ghost use Rattle.cms_names.specs.Names.{filled, is_text_of, text_of};
+ghost use Rattle.cms_names.specs.Alphabets.{is_of};
 
-use crate::character::BLANK;
+use crate::character::{BLANK, is_name_character, is_pattern_character};
 use crate::fault::NameFault;
 use std::marker::Model;
+
+/// The characters that a text may have.
+#[derive(Clone, Copy)]
+pub(crate) enum Alphabet {
+    /// those of file names and file types
+    Names,
+    /// those of patterns
+    Patterns,
+}
+
+impl Alphabet {
+    fn has(self, character: u8) -> bool
+        ensures { result ≡ is_of self character }
+    {
+        match self {
+            Alphabet::Names => is_name_character(character),
+            Alphabet::Patterns => is_pattern_character(character),
+        }
+    }
+
+    // The place of the first character of the word that isn't in the alphabet.
+    fn first_outside(self, word: &[u8]) -> Option<usize>
+        ensures place { result ≡ position (λ c. not (is_of self c)) word.now }
+        ensures within { IfSome result (λ place. place < length word.now) }
+    {
+        word.iter().position(|c| !self.has(*c))
+    }
+}
 
 /// 1 to 8 bytes of EBCDIC, filled with blanks.
 #[derive(Clone, Copy, Debug)]
@@ -29,13 +58,11 @@ impl Model for Text {
 }
 
 impl Text {
-    /// The word, where it has 1 to 8 bytes and all are allowed. `bad` is the place of the first that
-    /// isn't.
+    /// The word, where it has 1 to 8 bytes and all are in the alphabet.
     #[tactic(auto, unfolding(crate::specs::Names::text_of))]
-    pub(crate) fn read(word: &[u8], bad: Option<usize>) -> Result<Text, NameFault>
-        requires { IfSome bad (λ place. place < length word.now) }
-        ensures { (is_allowed : ℕ → Bool) → bad ≡ position (λ c. not (is_allowed c)) word.now
-            → result ≡ text_of is_allowed word.now }
+    pub(crate) fn read(word: &[u8], alphabet: Alphabet) -> Result<Text, NameFault>
+        ensures value { result ≡ text_of (is_of alphabet) word.now }
+        ensures allowed { IfOk result (λ text. is_text_of (is_of alphabet) text ≡ true) }
     {
         if word.is_empty() {
             return Err(NameFault::Empty);
@@ -43,7 +70,7 @@ impl Text {
         if word.len() > 8 {
             return Err(NameFault::TooLong);
         }
-        match bad {
+        match alphabet.first_outside(word) {
             Some(place) => Err(NameFault::BadChar(place as u32)),
             None => Ok(Text::of(word)),
         }

@@ -1,92 +1,50 @@
 // Small texts in EBCDIC.
 ghost use Rattle.std.specs.Prelude.{◌≡◌, ◌≤◌, length, IfOk};
+ghost use Rattle.cms_text.specs.Limits.{longest_text};
 
 use std::alloc::{AllocError, Global};
 use std::marker::Model;
 
-/// A line of the console, of a file or of the program stack: 0 to 255 bytes.
+/// A text of 0 to 255 bytes.
 #[derive(Debug, Drop)]
-pub struct Line {
+pub struct ShortText {
     bytes: Vec<u8>,
 }
 
-impl Model for Line {
+impl Model for ShortText {
     ghost use Rattle.std.specs.Prelude.{List, ℕ, length, ◌≤◌};
+    ghost use Rattle.cms_text.specs.Limits.{longest_text};
 
     ghost Value = { List ℕ };
 
-    ghost view = { λ l. l.bytes.items };
+    ghost view = { λ t. t.bytes.items };
 
-    ghost invariant = { λ l. length l.bytes.items ≤ 255 };
+    ghost invariant = { λ t. length t.bytes.items ≤ longest_text };
 }
 
-impl Line {
-    /// A line of these bytes.
+impl ShortText {
+    /// A text of these bytes.
     pub fn of(alloc: Global, bytes: &[u8]) -> Result<Self, AllocError>
-        requires { length bytes.now ≤ 255 }
-        ensures { IfOk result (λ line. line ≡ bytes.now) }
+        requires { length bytes.now ≤ longest_text }
+        ensures { IfOk result (λ text. text ≡ bytes.now) }
     {
-        Ok(Line {
+        Ok(ShortText {
             bytes: bytes.to_vec(alloc)?,
         })
     }
 
-    /// A line of these bytes. Takes no memory.
+    /// A text of these bytes. Takes no memory.
     pub fn take(bytes: Vec<u8>) -> Self
-        requires { length bytes.items ≤ 255 }
+        requires { length bytes.items ≤ longest_text }
         ensures { result ≡ bytes.items }
     {
-        Line { bytes }
+        ShortText { bytes }
     }
 
     /// The bytes, 0 to 255.
     pub fn bytes(&self) -> &[u8]
         ensures bytes { result.now ≡ self.now }
-        ensures short { length self.now ≤ 255 }
-    {
-        &self.bytes
-    }
-}
-
-/// A word: 0 to 255 bytes.
-#[derive(Debug, Drop)]
-pub struct Word {
-    bytes: Vec<u8>,
-}
-
-impl Model for Word {
-    ghost use Rattle.std.specs.Prelude.{List, ℕ, length, ◌≤◌};
-
-    ghost Value = { List ℕ };
-
-    ghost view = { λ w. w.bytes.items };
-
-    ghost invariant = { λ w. length w.bytes.items ≤ 255 };
-}
-
-impl Word {
-    /// A word of these bytes.
-    pub fn of(alloc: Global, bytes: &[u8]) -> Result<Self, AllocError>
-        requires { length bytes.now ≤ 255 }
-        ensures { IfOk result (λ word. word ≡ bytes.now) }
-    {
-        Ok(Word {
-            bytes: bytes.to_vec(alloc)?,
-        })
-    }
-
-    /// A word of these bytes. Takes no memory.
-    pub fn take(bytes: Vec<u8>) -> Self
-        requires { length bytes.items ≤ 255 }
-        ensures { result ≡ bytes.items }
-    {
-        Word { bytes }
-    }
-
-    /// The bytes, 0 to 255.
-    pub fn bytes(&self) -> &[u8]
-        ensures bytes { result.now ≡ self.now }
-        ensures short { length self.now ≤ 255 }
+        ensures short { length self.now ≤ longest_text }
     {
         &self.bytes
     }
@@ -94,8 +52,14 @@ impl Word {
     /// The bytes, 0 to 255, moved out.
     pub fn into_bytes(self) -> Vec<u8>
         ensures bytes { result.items ≡ self }
-        ensures short { length self ≤ 255 }
+        ensures short { length self ≤ longest_text }
     {
         self.bytes
     }
 }
+
+/// A line of the console, of a file or of the program stack.
+pub type Line = ShortText;
+
+/// A word of a line.
+pub type Word = ShortText;
