@@ -2,6 +2,7 @@
 ghost use Rattle.std.specs.Prelude.{◌≡◌, ◌<◌, None, Err};
 ghost use Rattle.cms_journal.specs.Causes.{HasCause};
 
+use cms_journal::MOST_BLOCKS;
 use cms_world::{Access, Failed, Unit, World};
 use std::fs::{File, Files, OpenOptions};
 use std::os::unix::fs::FileExt;
@@ -35,7 +36,7 @@ impl ImageWorld {
         Some(ImageWorld {
             file,
             bsize,
-            blocks: (size / bsize as u64).min(1_048_576) as u32,
+            blocks: (size / bsize as u64).min(u64::from(MOST_BLOCKS)) as u32,
             faults: 0,
             edges: 0,
         })

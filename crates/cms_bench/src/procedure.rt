@@ -1,6 +1,7 @@
 // A procedure that runs for a number of turns.
 ghost use Rattle.std.specs.Prelude.{◌≤◌, length, IfOk, IfSome};
 ghost use Rattle.cms_model.specs.Records.{IsValid};
+ghost use Rattle.cms_fields.specs.Limits.{most_bytes};
 
 use cms_ebcdic::from_host;
 use cms_fields::{Moment, Stamp};
@@ -23,7 +24,7 @@ const STAMP: Stamp = Stamp {
 /// A file of these lines, as records of 255 bytes; none where there is no line or too many, or one is too long.
 fn cards(alloc: Global, lines: &[String]) -> Result<Option<FileData>, AllocError>
     ensures valid { IfOk result (λ file. IfSome file IsValid) }
-    ensures stored { IfOk result (λ file. IfSome file (λ f. length f.bytes ≤ 67108864)) }
+    ensures stored { IfOk result (λ file. IfSome file (λ f. length f.bytes ≤ most_bytes)) }
 {
     let mut bytes = Vec::new(alloc);
     for line in lines {
@@ -79,7 +80,7 @@ pub fn turns(exec: &mut Exec, most: u32) -> Result<u32, AllocError> {
         };
         match exec.turn(&moment)? {
             Want::Command(_) => exec.take_code(0),
-            Want::Read | Want::Ended(_) | Want::Failed { .. } => return Ok(turn),
+            Want::Read | Want::Ended(_) | Want::Faulted { .. } => return Ok(turn),
             Want::Next | Want::Say(_) | Want::Stack(_, _) => {}
         }
     }

@@ -1,7 +1,9 @@
 // An image file that stands as a unit.
 ghost use Rattle.std.specs.Prelude.{◌≡◌, ◌≤◌, ◌<◌, ◌↔◌, ◌+◌, ◌-◌, ◌*◌, ◌/◌, min, length, IfSome, IsSome, IfOk, IsTrue};
 ghost use Rattle.cms_journal.specs.Journal.{may_write};
+ghost use Rattle.cms_journal.specs.Limits.{most_blocks};
 
+use cms_journal::MOST_BLOCKS;
 use cms_world::Access;
 use std::fs::{File, Files, OpenFile, OpenOptions};
 use std::io;
@@ -10,9 +12,6 @@ use std::os::unix::fs::FileExt;
 
 #[cfg(test)]
 mod tests;
-
-/// The blocks of an image that count: its first 1,048,576.
-const MOST_BLOCKS: u64 = 1_048_576;
 
 /// An image file that stands as a unit.
 #[derive(Drop)]
@@ -96,9 +95,9 @@ fn open_image<R: Files<File = File>>(
 // The whole blocks in so many bytes, up to the last one that counts.
 fn whole_blocks(bytes: u64, bsize: u32) -> u32
     requires { 0 < bsize }
-    ensures { result ≡ min (bytes / bsize) 1048576 }
+    ensures { result ≡ min (bytes / bsize) most_blocks }
 {
-    (bytes / bsize as u64).min(MOST_BLOCKS) as u32
+    (bytes / bsize as u64).min(u64::from(MOST_BLOCKS)) as u32
 }
 
 /// An image as a unit; what isn't a plain file is refused.
@@ -110,7 +109,7 @@ pub fn open_unit<R: Files<File = File>>(
 ) -> io::Result<FileUnit>
     requires { 0 < bsize }
     ensures bsize { IfOk result (λ unit. unit.bsize ≡ bsize) }
-    ensures blocks { IfOk result (λ unit. unit.blocks ≤ 1048576) }
+    ensures blocks { IfOk result (λ unit. unit.blocks ≤ most_blocks) }
     ensures writable { IfOk result (λ unit. unit.writable ≡ may_write access) }
 {
     let file = open_image(rt, name, bsize, access)?;

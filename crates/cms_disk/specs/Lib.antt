@@ -1,4 +1,5 @@
 pub mod Cursors
+pub mod CursorFields
 pub mod Disks
 pub mod Getting
 pub mod LawsDisks

@@ -34,35 +34,15 @@ pub struct Cursor {
 }
 
 impl Model for Cursor {
-    ghost use Rattle.cms_disk.specs.Cursors.{Reading, IsReading};
+    ghost use Rattle.cms_disk.specs.Cursors.{Reading};
 
     ghost Value = { Reading };
 
-    ghost view = { λ c. record {
-      unit = c.unit.number;
-      total = c.unit.blocks;
-      bsize = c.bsize;
-      leaves = c.leaves.items;
-      done = c.done;
-      block = c.block.items;
-      from = c.from;
-      left = c.left;
-      begun = c.begun;
-      altered = c.altered;
-    } };
+    ghost use Rattle.cms_disk.specs.CursorFields.{reading_of, AreSound};
 
-    ghost invariant = { λ c. IsReading (record {
-      unit = c.unit.number;
-      total = c.unit.blocks;
-      bsize = c.bsize;
-      leaves = c.leaves.items;
-      done = c.done;
-      block = c.block.items;
-      from = c.from;
-      left = c.left;
-      begun = c.begun;
-      altered = c.altered;
-    }) };
+    ghost view = { reading_of };
+
+    ghost invariant = { AreSound };
 }
 
 impl Cursor {

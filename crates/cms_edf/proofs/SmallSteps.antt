@@ -171,3 +171,8 @@ found_behind name (f ∷ files) file place result some first long other found is
     let all : take (suc (length files) - 1) files ≡ files = rw less (take_all (length files) files (omega arith)) in
     let rest : IsPlaceOf name files place = subst (λ (l : List Entry). IsPlaceOf name l place) all found in
     rw is (found_rest name f files place (subst (λ (x : Entry). length (filled x.name.file) ≡ 8) first long) (subst (λ (x : Entry). is_spelled name x.name ≡ false) first other) rest)
+
+-- for search
+pub ruleset entry_steps = (entries_end, entries_bad, entries_more)
+
+pub ruleset system_bounds = (systems_least, systems_most, places_ok)

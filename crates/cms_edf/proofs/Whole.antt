@@ -10,7 +10,7 @@ use Rattle.cms_model.specs.Lists.{cut, first_repeat}
 use Rattle.cms_model.specs.Trees.{Image, form_of, tree, bytes_at}
 use Rattle.cms_model.specs.Maps.{lowest_unmarked, lost_count}
 use Rattle.cms_model.specs.Systems.{directory_of, map_of}
-use Rattle.cms_model.specs.Volumes.{Disk, Opened, blamed, absent, open_of, entries_of, first_twice, file_trees, tree_blocks, contents_in}
+use Rattle.cms_model.specs.Volumes.{Disk, Opened, blamed, absent, opened_behind, open_of, entries_of, first_twice, file_trees, tree_blocks, contents_in}
 use Rattle.cms_model.specs.declared.fault.OpenFault.{OpenFault}
 use Rattle.cms_model.specs.declared.fault.OpenFault.TheVariants as failed
 use Rattle.cms_edf.specs.OpeningSteps.{Listed, Treed, listed_in, trees_in, lost_in}
@@ -29,32 +29,7 @@ same_next : {A C : Type 0} (r : Result A OpenFault) (f g : A → Result C OpenFa
 same_next (Ok x) f g same = same x
 same_next (Err e) f g same = refl
 
--- the tests behind that of the label, one after another
-abbrev tests : Disk → Image → Label → Result Opened OpenFault
-tests disk image label = do
-  directory ← directory_of disk.bsize label.origin (image label.origin)
-  directory_met ← tree (form_of disk.bsize label.blocks F) image directory.levels (Some label.origin) label.origin directory.root directory.blocks
-  map ← map_of disk.bsize label.blocks (drop 64 (image label.origin))
-  entries ← entries_of disk.bsize 2 (cut (directory.count - 2) 64 (drop 128 (bytes_at image directory_met.leaves)))
-  absent (first_twice 2 [] entries) failed.Twice
-  map_met ← tree (form_of disk.bsize label.blocks F) image map.levels None label.origin map.root map.blocks
-  mets ← file_trees disk.bsize label.blocks image directory_met.leaves 2 entries
-  absent (first_repeat [] (tree_blocks directory_met map_met mets)) failed.Crossed
-  absent (lowest_unmarked (bytes_at image map_met.leaves) (tree_blocks directory_met map_met mets) 6 (label.blocks - 5)) failed.MapMissing
-  contents ← contents_in disk.bsize image 2 entries mets
-  Ok (record {
-    label = label;
-    directory = directory;
-    directory_met = directory_met;
-    map = map;
-    map_met = map_met;
-    entries = entries;
-    mets = mets;
-    contents = contents;
-    lost = lost_count (bytes_at image map_met.leaves) (tree_blocks directory_met map_met mets) 6 (label.blocks - 5);
-  })
-
-tests_are : (disk : Disk) (image : Image) (label : Label) → tests disk image label ≡ behind_label disk image label
+tests_are : (disk : Disk) (image : Image) (label : Label) → opened_behind disk image label ≡ behind_label disk image label
 unfolding behind_label listed_in trees_in lost_in
 tests_are disk image label =
     under (directory_of disk.bsize label.origin (image label.origin)) _ (treed disk image label) _ (λ directory.
@@ -74,4 +49,4 @@ pub open_is : (disk : Disk) (image : Image) → open_of disk image ≡ (want (na
 unfolding open_of
 open_is disk image =
     ap (λ (r : Result Opened OpenFault). want (nat_le 6 disk.count) (failed.Label Count) >> r)
-    (same_next (blamed failed.Label (label_of disk.bsize disk.count (image 3))) (tests disk image) (behind_label disk image) (tests_are disk image))
+    (same_next (blamed failed.Label (label_of disk.bsize disk.count (image 3))) (opened_behind disk image) (behind_label disk image) (tests_are disk image))

@@ -1,5 +1,6 @@
 -- What the tests of an entry say of its tree and of its bytes.
 use Rattle.std.specs.Prelude.{◌≡◌, ◌≤◌, ℕ, ◌*◌}
+use Rattle.cms_fields.specs.Limits.{longest_record, most_bytes}
 use Rattle.cms_names.specs.declared.name.Format.TheVariants.{F}
 use Rattle.cms_fields.specs.Entries.{fan_of}
 use Rattle.cms_fields.specs.declared.entry.Entry.{Entry}
@@ -12,6 +13,6 @@ HasShape bsize e = (1 ≤ e.blocks) × (e.levels ≡ levels (fan_of bsize e.form
 -- it has a record, and its data blocks have no more than 67,108,864 bytes; at F its records have no more either, and each has 1 to 65,535
 pub record HasSize (bsize : ℕ) (e : Entry) : Type 0 where
   pub some : 1 ≤ e.count
-  pub room : e.blocks * bsize ≤ 67108864
-  pub few : e.format ≡ F → e.count * e.length ≤ 67108864
-  pub fits : e.format ≡ F → (1 ≤ e.length) × (e.length ≤ 65535)
+  pub room : e.blocks * bsize ≤ most_bytes
+  pub few : e.format ≡ F → e.count * e.length ≤ most_bytes
+  pub fits : e.format ≡ F → (1 ≤ e.length) × (e.length ≤ longest_record)

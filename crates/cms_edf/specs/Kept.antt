@@ -1,5 +1,6 @@
 -- What a volume that is held always is, also in a world that tells nothing.
 use Rattle.std.specs.Prelude.{◌≡◌, ◌≤◌, ℕ, ◌*◌, Bool, true, List, length, All}
+use Rattle.cms_fields.specs.Limits.{longest_record, most_bytes, most_files}
 use Rattle.cms_names.specs.declared.name.Format.TheVariants.{F}
 use Rattle.cms_fields.specs.Entries.{passes}
 use Rattle.cms_model.specs.Lists.{In}
@@ -11,17 +12,17 @@ pub record IsKeptFile (bsize total : ℕ) (f : HeldFile) : Type 0 where
   pub entry : passes bsize f.entry ≡ true
   pub count : length f.tree.leaves ≡ f.entry.blocks
   pub within : (n : ℕ) → In n f.tree.leaves → (6 ≤ n) × (n ≤ total)
-  pub room : length f.tree.leaves * bsize ≤ 67108864
+  pub room : length f.tree.leaves * bsize ≤ most_bytes
   pub some : 1 ≤ f.length
-  pub short : f.length ≤ 65535
+  pub short : f.length ≤ longest_record
   pub fixed : f.entry.format ≡ F → f.length ≡ f.entry.length
-  pub size : f.size ≤ 67108864
+  pub size : f.size ≤ most_bytes
 
 -- a volume of so many blocks on a unit of so many: its map has a bit for each of its blocks, and it has at most 16,384 files
 pub record IsKept (bsize count total : ℕ) (bits : List Bool) (files : List HeldFile) : Type 0 where
   pub within : total ≤ count
   pub bits_are : length bits ≡ total
-  pub few : length files ≤ 16384
+  pub few : length files ≤ most_files
   pub each : All (IsKeptFile bsize total) files
 
 abbrev pub Keeps : HeldVolume → Type 0

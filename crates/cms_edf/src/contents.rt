@@ -17,6 +17,7 @@ ghost use Rattle.cms_edf.specs.Kept.{IsKeptFile};
 ghost use Rattle.cms_edf.specs.OpeningSteps.{OfImage, met_in};
 ghost use Rattle.cms_edf.specs.EntryShapes.{HasSize};
 ghost use Rattle.cms_edf.specs.OpeningFiles.{records_in, HasRecords, HasContents, HaveCounts};
+ghost use Rattle.cms_fields.specs.Limits.{longest_record, most_bytes, most_files};
 
 use crate::held::{FileHeld, TreeBlocks};
 use crate::open::Place;
@@ -32,7 +33,7 @@ use std::alloc::Global;
 
 // Takes the next block of the file of a number.
 fn feed(scan: &mut VarScan, number: u32, block: &[u8]) -> Result<(), OpenFault>
-    requires { scan.old.fed + length block.now ≤ 67108864 }
+    requires { scan.old.fed + length block.now ≤ most_bytes }
     ensures fed { OnOk result ((count : ℕ) (bytes : List ℕ) → IsFed count bytes scan.old → IsFed count (bytes ++ block.now) scan.new) }
     ensures fault { IfErr result (λ why. (count : ℕ) (bytes rest : List ℕ) → IsFed count bytes scan.old → blamed (failed.Var number)
         (sizes_in scan.old.bsize count ((bytes ++ block.now) ++ rest)) ≡ Err why) }
@@ -50,8 +51,8 @@ fn feed(scan: &mut VarScan, number: u32, block: &[u8]) -> Result<(), OpenFault>
 fn end(scan: &VarScan, number: u32) -> Result<VarSizes, OpenFault>
     ensures told { (count : ℕ) (bytes : List ℕ) → IsFed count bytes scan.now → result ≡ blamed (failed.Var number)
         (sizes_in scan.now.bsize count bytes) }
-    ensures longest { IfOk result (λ sizes. sizes.longest ≤ 65535) }
-    ensures stored { IfOk result (λ sizes. sizes.stored ≤ 67108864) }
+    ensures longest { IfOk result (λ sizes. sizes.longest ≤ longest_record) }
+    ensures stored { IfOk result (λ sizes. sizes.stored ≤ most_bytes) }
     ensures device { IfErr result (λ e. e ≡ failed.Device → ⊥) }
 {
     match scan.end() {
@@ -71,7 +72,7 @@ fn read_varying<W: World>(
     leaves: &[u32],
 ) -> Result<VarSizes, OpenFault>
     requires some { 1 ≤ count }
-    requires small { length leaves.now * place.now.bsize ≤ 67108864 }
+    requires small { length leaves.now * place.now.bsize ≤ most_bytes }
     requires blocks { ForSome (W.told world.old) (λ j. (k : ℕ) → k < length leaves.now
         → HasBlock j.units place.now.unit (slice_index leaves.now k) place.now.bsize) }
     ensures read { IfOk result (λ sizes. OfImage (W.told world.old) place.now.unit (λ image. blamed (failed.Var number)
@@ -79,8 +80,8 @@ fn read_varying<W: World>(
     ensures fault { IfErr result (λ why. OfImage (W.told world.old) place.now.unit (λ image. IsFaultOf (blamed (failed.Var number)
         (sizes_in place.now.bsize count (bytes_at image leaves.now))) why)) }
     ensures some { IfOk result (λ sizes. 1 ≤ sizes.longest) }
-    ensures longest { IfOk result (λ sizes. sizes.longest ≤ 65535) }
-    ensures stored { IfOk result (λ sizes. sizes.stored ≤ 67108864) }
+    ensures longest { IfOk result (λ sizes. sizes.longest ≤ longest_record) }
+    ensures stored { IfOk result (λ sizes. sizes.stored ≤ most_bytes) }
     ensures cause { IfErr result (λ e. e ≡ failed.Device → Rose (W.faults world.old) (W.faults world.new)) }
     ensures told { W.told world.new ≡ W.told world.old }
     ensures faults { W.faults world.old ≤ W.faults world.new }
@@ -113,9 +114,9 @@ fn read_sizes<W: World>(
     ensures fault { IfErr result (λ why. OfImage (W.told world.old) place.now.unit (λ image.
         IsFaultOf (records_in place.now.bsize image number entry.now leaves.now) why)) }
     ensures some { IfOk result (λ sizes. 1 ≤ sizes.longest) }
-    ensures longest { IfOk result (λ sizes. sizes.longest ≤ 65535) }
+    ensures longest { IfOk result (λ sizes. sizes.longest ≤ longest_record) }
     ensures fixed { IfOk result (λ sizes. entry.now.format ≡ F → sizes.longest ≡ entry.now.length) }
-    ensures stored { IfOk result (λ sizes. sizes.stored ≤ 67108864) }
+    ensures stored { IfOk result (λ sizes. sizes.stored ≤ most_bytes) }
     ensures cause { IfErr result (λ e. e ≡ failed.Device → Rose (W.faults world.old) (W.faults world.new)) }
     ensures told { W.told world.new ≡ W.told world.old }
     ensures faults { W.faults world.old ≤ W.faults world.new }
@@ -171,7 +172,7 @@ pub fn read_contents<W: World>(
     entries: &[Entry],
     trees: Vec<Walked>,
 ) -> Result<IndexMap<Name, FileHeld>, OpenFault>
-    requires few { length entries.now ≤ 16384 }
+    requires few { length entries.now ≤ most_files }
     requires count { length trees.items ≡ length entries.now }
     requires entries { All (λ e. passes place.now.bsize e ≡ true) entries.now }
     requires names { first_twice 2 [] entries.now ≡ None }
@@ -182,7 +183,7 @@ pub fn read_contents<W: World>(
     ensures read { IfOk result (λ files. OfImage (W.told world.old) place.now.unit (λ image.
         HasContents place.now.bsize image entries.now trees.items (values files))) }
     ensures names { IfOk result (λ files. files.entries ≡ by_name (values files)) }
-    ensures few { IfOk result (λ files. length (values files) ≤ 16384) }
+    ensures few { IfOk result (λ files. length (values files) ≤ most_files) }
     ensures each { IfOk result (λ files. All (IsKeptFile place.now.bsize place.now.total) (values files)) }
     ensures fault { IfErr result (λ why. OfImage (W.told world.old) place.now.unit (λ image. IsFaultOf
         (contents_in place.now.bsize image 2 entries.now (map met_in trees.items)) why)) }

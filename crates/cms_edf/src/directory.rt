@@ -89,7 +89,7 @@ fn small_entry(bsize: BlockSize, bytes: &[u8]) -> Option<Entry>
 }
 
 // Reads so many entries, which must be those of small files.
-#[tactic(auto, using(crate::proofs::SmallSteps::entries_end, crate::proofs::SmallSteps::entries_bad, crate::proofs::SmallSteps::entries_more))]
+#[tactic(auto, using(crate::proofs::SmallSteps::entry_steps))]
 fn read_entries(
     bsize: BlockSize,
     count: u32,
@@ -147,7 +147,7 @@ fn first_twice(
 
 /// The files of a directory of one block, which must all be small, and the map too. `NotBuilt` where they aren't, where a name
 /// stands twice, or where the map and the files aren't in blocks of their own.
-#[tactic(auto, using(crate::proofs::SmallSteps::systems_least, crate::proofs::SmallSteps::systems_most, crate::proofs::SmallSteps::places_ok), unfolding(crate::specs::Reading::small_files))]
+#[tactic(auto, using(crate::proofs::SmallSteps::system_bounds), unfolding(crate::specs::Reading::small_files))]
 pub fn small_files(
     alloc: Global,
     bsize: BlockSize,

@@ -6,6 +6,7 @@ ghost use Rattle.cms_model.specs.Lists.{cut};
 ghost use Rattle.cms_model.specs.Volumes.{blamed, entries_of, first_twice};
 ghost use Rattle.cms_model.specs.declared.fault.OpenFault.TheVariants as failed;
 ghost use Rattle.cms_edf.specs.Opening.{IsFaultOf};
+ghost use Rattle.cms_fields.specs.Limits.{most_files};
 
 use crate::blocks::after;
 use cms_fields::{Entry, Label, read_entry, read_label};
@@ -60,7 +61,7 @@ pub fn entries_of(
     bytes: &[u8],
 ) -> Result<Vec<Entry>, OpenFault>
     requires long { count * 64 ≤ length bytes.now }
-    requires few { count ≤ 16384 }
+    requires few { count ≤ most_files }
     ensures count { IfOk result (λ v. length v.items ≡ count) }
     ensures entries { IfOk result (λ v. entries_of bsize 2 (cut count 64 bytes.now) ≡ Ok v.items) }
     ensures fault { IfErr result (IsFaultOf (entries_of bsize 2 (cut count 64 bytes.now))) }
@@ -76,7 +77,7 @@ pub fn entries_of(
 
 /// The number of the first entry whose name stands before it, where the first has number 2.
 pub fn name_twice(alloc: Global, entries: &[Entry]) -> Result<Option<u32>, AllocError>
-    requires { length entries.now ≤ 16384 }
+    requires { length entries.now ≤ most_files }
     ensures { IfOk result (λ first. first ≡ first_twice 2 [] entries.now) }
 {
     let mut names: HashSet<Name> = HashSet::new(alloc);

@@ -12,6 +12,7 @@ ghost use Rattle.cms_edf.specs.Opening.{IsFaultOf};
 ghost use Rattle.cms_edf.specs.OpeningSteps.{OfImage, met_in};
 ghost use Rattle.cms_edf.specs.EntryShapes.{HasShape};
 ghost use Rattle.cms_edf.specs.OpeningFiles.{file_at, ReadsFile, HasFiles, HaveCounts};
+ghost use Rattle.cms_fields.specs.Limits.{most_files};
 
 use crate::directory::ENTRY_SIZE;
 use crate::open::Place;
@@ -100,7 +101,7 @@ pub fn read_files<W: World>(
     leaves: &[u32],
     entries: &[Entry],
 ) -> Result<Vec<Walked>, OpenFault>
-    requires few { length entries.now ≤ 16384 }
+    requires few { length entries.now ≤ most_files }
     requires room { (length entries.now + 2) * 64 ≤ length leaves.now * place.now.bsize }
     requires shapes { All (HasShape place.now.bsize) entries.now }
     requires blocks { ForSome (W.told world.old) (λ j. HasBlocks j.units place.now.unit place.now.total place.now.bsize) }

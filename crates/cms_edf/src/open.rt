@@ -12,6 +12,7 @@ ghost use Rattle.cms_tree.specs.Walks.{IsWithin, image_at};
 ghost use Rattle.cms_edf.specs.Opening.{IsFaultOf, AnswersOpening};
 ghost use Rattle.cms_edf.specs.OpeningSteps.{OfImage, ReadsTree, ReadsListed, ReadsMap, system_at};
 ghost use Rattle.cms_edf.specs.EntryShapes.{HasShape, HasSize};
+ghost use Rattle.cms_fields.specs.Limits.{most_files};
 
 use crate::blocks::after;
 use crate::entries::{entries_of, name_twice};
@@ -64,7 +65,7 @@ fn system_at(place: &Place, system: &System, first: Option<u32>) -> TreeAt
 
 // No name stands twice.
 fn names_once(alloc: Global, entries: &[Entry]) -> Result<(), OpenFault>
-    requires { length entries.now ≤ 16384 }
+    requires { length entries.now ≤ most_files }
     ensures ok { OnOk result (first_twice 2 [] entries.now ≡ None) }
     ensures fault { IfErr result (IsFaultOf (absent (first_twice 2 [] entries.now) failed.Twice)) }
     ensures device { IfErr result (λ e. e ≡ failed.Device → ⊥) }
@@ -94,7 +95,7 @@ pub fn read_listing<W: World>(
     ensures sizes { IfOk result (λ l. All (HasSize place.now.bsize) l.entries.items) }
     ensures passing { IfOk result (λ l. All (λ e. passes place.now.bsize e ≡ true) l.entries.items) }
     ensures names { IfOk result (λ l. first_twice 2 [] l.entries.items ≡ None) }
-    ensures few { IfOk result (λ l. length l.entries.items ≤ 16384) }
+    ensures few { IfOk result (λ l. length l.entries.items ≤ most_files) }
     ensures within { IfOk result (λ l. IsWithin place.now.total (Some place.now.origin) l.walked) }
     ensures cause { IfErr result (λ e. e ≡ failed.Device → Rose (W.faults world.old) (W.faults world.new)) }
     ensures told { W.told world.new ≡ W.told world.old }

@@ -1,10 +1,11 @@
 // The directory's entries of itself and of the map.
-ghost use Rattle.std.specs.Prelude.{◌≡◌, ◌≤◌, ◌<◌, ◌*◌, ◌/◌, ◌^◌, length, IfOk, IfErr};
+ghost use Rattle.std.specs.Prelude.{◌≡◌, ◌≤◌, ◌<◌, ◌+◌, ◌*◌, ◌/◌, ◌^◌, length, IfOk, IfErr};
 ghost use Rattle.cms_journal.specs.Journal.{IsBlockSize};
 ghost use Rattle.cms_fields.specs.Numbers.{is_shape};
 ghost use Rattle.cms_model.specs.Sizes.{levels};
 ghost use Rattle.cms_model.specs.declared.fault.OpenFault.TheVariants.{Device};
 ghost use Rattle.cms_model.specs.Systems.{system_fields, is_system, is_directory, is_map, directory_of, map_of};
+ghost use Rattle.cms_fields.specs.Limits.{most_files};
 
 use crate::directory::{ENTRY_SIZE, FIXED};
 use cms_journal::BlockSize;
@@ -12,6 +13,9 @@ use cms_model::OpenFault;
 use cms_text::bytes::word_at;
 use cms_tree::shape;
 use std::marker::Model;
+
+/// The greatest number of files.
+const MOST_FILES: u32 = 16_384;
 
 /// Where a system file stands: its root, data blocks, count of records and levels of pointer blocks.
 #[derive(Drop)]
@@ -81,7 +85,7 @@ fn is_directory(bsize: u32, origin: u32, bytes: &[u8]) -> bool
 {
     let count = word_at(bytes, 48);
     is_system(bsize, ENTRY_SIZE, bytes)
-        && (count >= 2 && count <= 16_386)
+        && (count >= 2 && count <= MOST_FILES + 2)
         && (bytes[52] >= 1 || word_at(bytes, 40) == origin)
 }
 
@@ -102,7 +106,7 @@ pub fn directory_in(bsize: BlockSize, origin: u32, bytes: &[u8]) -> Result<Syste
     ensures is { result ≡ directory_of bsize origin bytes.now }
     ensures device { IfErr result (λ e. e ≡ Device → ⊥) }
     ensures shape { IfOk result (λ s. (1 ≤ s.blocks) × (s.levels ≡ levels (bsize / 4) s.blocks)) }
-    ensures count { IfOk result (λ s. (2 ≤ s.count) × (s.count ≤ 16386) × (s.count * 64 ≤ s.blocks * bsize)) }
+    ensures count { IfOk result (λ s. (2 ≤ s.count) × (s.count ≤ most_files + 2) × (s.count * 64 ≤ s.blocks * bsize)) }
     ensures size { IsBlockSize bsize }
 {
     let size = bsize.bytes();

@@ -13,6 +13,7 @@ ghost use Rattle.cms_edf.specs.Opening.{IsFaultOf};
 ghost use Rattle.cms_edf.specs.OpeningSteps.{OfImage, met_in, listed, trees_in, lost_in};
 ghost use Rattle.cms_edf.specs.EntryShapes.{HasShape};
 ghost use Rattle.cms_edf.specs.OpeningFiles.{HasTrees, HaveCounts};
+ghost use Rattle.cms_fields.specs.Limits.{most_files};
 
 use crate::files::{all_blocks, read_files};
 use crate::met::lost_of;
@@ -40,7 +41,7 @@ pub fn read_trees<W: World>(
 ) -> Result<Trees, OpenFault>
     requires some { 1 ≤ listing.now.map.blocks }
     requires shape { listing.now.map.levels ≡ levels (place.now.bsize / 4) listing.now.map.blocks }
-    requires few { length listing.now.entries.items ≤ 16384 }
+    requires few { length listing.now.entries.items ≤ most_files }
     requires entries { (length listing.now.entries.items + 2) * 64 ≤ length listing.now.walked.leaves.items * place.now.bsize }
     requires shapes { All (HasShape place.now.bsize) listing.now.entries.items }
     requires blocks { ForSome (W.told world.old) (λ j. HasBlocks j.units place.now.unit place.now.total place.now.bsize) }

@@ -18,6 +18,9 @@ const MOST_BYTES: u32 = 67_108_864;
 /// The greatest number of records that a file may have.
 const MOST_RECORDS: u32 = 1_048_576;
 
+/// The greatest length of fixed records.
+const LONGEST_RECORD: u32 = 65_535;
+
 // The part in a field of 8 bytes: 1 to 8 name characters and then blanks.
 #[tactic(auto, unfolding(crate::specs::Entries::is_part_field))]
 fn part_in(field: &[u8]) -> Option<Part>
@@ -120,7 +123,7 @@ pub(crate) fn length_fits(entry: &Entry) -> bool
     ensures { result ≡ length_fits entry.now }
 {
     match entry.format {
-        Format::F => matches!(entry.length, 1..=65535),
+        Format::F => matches!(entry.length, 1..=LONGEST_RECORD),
         Format::V => true,
     }
 }

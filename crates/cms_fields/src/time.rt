@@ -1,6 +1,6 @@
 // Moments of the clock, and the stamps that volumes keep of them.
 ghost use Rattle.std.specs.Prelude.{◌≡◌, true, ◌+ℤ◌, ◌≤◌};
-ghost use Rattle.jiff.specs.Words.{IsWithin};
+ghost use Rattle.cms_fields.specs.Offsets.{IsOffset};
 ghost use Rattle.cms_fields.specs.Moments.{moment_of, moment_after, held, last_second, seconds_to, is_moment, stamp_of, IsShown};
 ghost use Rattle.cms_fields.specs.Stamps.{days_of_month, is_stamp};
 
@@ -29,7 +29,7 @@ impl Moment {
     /// `offset` seconds ahead of UTC: at most 15 hours either way. It is held between 1970-01-01
     /// 00:00:00 and 2099-12-31 23:59:59.
     pub fn of_epoch(seconds: i64, offset: i32) -> Moment
-        requires { IsWithin 54_000 offset }
+        requires { IsOffset offset }
         ensures value { result ≡ moment_of seconds offset }
         ensures count { seconds_to result ≡ held (seconds +ℤ offset) }
         ensures civil { is_moment result ≡ true }

@@ -1,4 +1,5 @@
 pub mod Blocks
+pub mod Limits
 pub mod Causes
 pub mod Journal
 pub mod Told

@@ -21,3 +21,6 @@ pub use block_size::BlockSize;
 pub use bytes::{Blocks, Bytes};
 pub use event::{Access, Attached, Event, Failed, Unit};
 pub use laws::crash_laws;
+
+/// The most blocks of a minidisk; those behind them on a unit aren't looked at.
+pub const MOST_BLOCKS: u32 = 1_048_576;

@@ -3,6 +3,7 @@ use Rattle.std.specs.Prelude.{◌≡◌, ℕ, ◌-◌, ◌<◌, ◌≤◌, ◌==
 use Rattle.std.specs.List.{list_any}
 use Rattle.cms_journal.specs.declared.event.Event.TheVariants.{Read}
 use Rattle.cms_journal.specs.Told.{Told, plus, is_over}
+use Rattle.cms_text.specs.Limits.{longest_text}
 use Rattle.cms_machine.specs.Items.{Item, items, extended, Goes}
 use Rattle.cms_line.specs.ConsoleState.{ConsoleState}
 use Rattle.cms_line.specs.Consoles.{item_of}
@@ -27,7 +28,7 @@ goes_past count bytes ended = not (has_feed (take count bytes)) && begins_in_lin
 
 -- how many bytes the current piece of a line may still have
 abbrev pub room_of : ConsoleState → ℕ
-room_of c = 255 - c.unread.within
+room_of c = longest_text - c.unread.within
 
 -- the first line feed is at this place, and the line doesn't go on past the room
 pub record LineEnds (c : ConsoleState) (n : ℕ) : Type 0 where

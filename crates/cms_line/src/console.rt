@@ -6,9 +6,11 @@ ghost use Rattle.cms_machine.specs.Items.{short_line, without_return, console_co
 ghost use Rattle.cms_line.specs.ConsoleState.{fresh, state};
 ghost use Rattle.cms_line.specs.Consoles.{item_of, Took, Stayed, LineCause};
 ghost use Rattle.cms_line.specs.ConsoleSteps.{begins_in_line, goes_past, room_of, LineEnds, LineIsLast, IsFront, Gives, GivesLine, IsStep, Filled};
+ghost use Rattle.cms_text.specs.Limits.{longest_text};
 
 use crate::Line;
 use cms_ebcdic::from_host;
+use cms_text::LONGEST_TEXT;
 use cms_world::World;
 use std::alloc::{AllocError, Global};
 use std::marker::Model;
@@ -145,7 +147,7 @@ fn console_code(byte: u8) -> Option<u8>
 
 // A line of up to 255 bytes.
 fn line_of(alloc: Global, bytes: &[u8]) -> Result<ConsoleLine, AllocError>
-    requires { length bytes.now ≤ 255 }
+    requires { length bytes.now ≤ longest_text }
     ensures { IfOk result (λ line. item_of line ≡ Some (short_line bytes.now)) }
 {
     let mut codes = Vec::with_capacity(alloc, bytes.len())?;
@@ -213,7 +215,7 @@ impl Console {
     fn room(&self) -> usize
         ensures { result ≡ room_of self.now }
     {
-        255 - usize::from(self.within)
+        LONGEST_TEXT - usize::from(self.within)
     }
 
     fn is_at_beginning(&self) -> bool
@@ -253,7 +255,7 @@ impl Console {
     {
         let room = self.room();
         if self.is_at_beginning() {
-            self.advance(room, 255);
+            self.advance(room, LONGEST_TEXT as u8);
             ConsoleLine::Long
         } else {
             self.advance_past(room, 1);

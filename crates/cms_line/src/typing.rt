@@ -28,8 +28,8 @@ fn type_all<W: World>(world: &mut W, bytes: &[u8]) -> Result<(), Failed>
     Ok(())
 }
 
-// Turns a text into ASCII, at the front of a buffer.
-fn turn(text: &[u8], into: &mut [u8])
+// Puts a text in ASCII at the front of a buffer.
+fn put_ascii(text: &[u8], into: &mut [u8])
     requires { length text.now ≤ length into.old }
     ensures { take (length text.now) into.new ≡ map host_of text.now }
 {
@@ -50,11 +50,11 @@ fn type_through<W: World>(world: &mut W, bytes: &[u8], buffer: &mut [u8]) -> Res
     let mut rest = bytes;
     while rest.len() >= room {
         let (front, behind) = rest.split_at(room);
-        turn(front, buffer);
+        put_ascii(front, buffer);
         type_all(world, buffer)?;
         rest = behind;
     }
-    turn(rest, buffer);
+    put_ascii(rest, buffer);
     buffer[rest.len()] = b'\n';
     type_all(world, &buffer[..rest.len() + 1])
 }

@@ -2,6 +2,7 @@
 ghost use Rattle.std.specs.Prelude.{◌≡◌, ◌≤◌, ◌<◌, ◌||◌, ◌++◌, length, map, IfOk, OnOk};
 ghost use Rattle.cms_ebcdic.specs.CodePage.{upper_of};
 ghost use Rattle.cms_line.specs.Tokens.{tokens_of, word_at, words_at, parenthesis_at, is_blank, is_parenthesis};
+ghost use Rattle.cms_text.specs.Limits.{longest_text};
 
 use crate::{Line, Token, Tokens, Word};
 use cms_ebcdic::fold_upper;
@@ -31,7 +32,7 @@ fn is_parenthesis(byte: u8) -> bool
 
 // A text folded to upper case.
 fn folded(alloc: Global, text: &[u8]) -> Result<Word, AllocError>
-    requires { length text.now ≤ 255 }
+    requires { length text.now ≤ longest_text }
     ensures { IfOk result (λ word. word ≡ map upper_of text.now) }
 {
     let mut bytes = Vec::with_capacity(alloc, text.len())?;
@@ -45,7 +46,7 @@ fn folded(alloc: Global, text: &[u8]) -> Result<Word, AllocError>
 fn word_at(alloc: Global, line: &[u8], start: usize, end: usize) -> Result<Token, AllocError>
     requires ordered { start ≤ end }
     requires inside { end ≤ length line.now }
-    requires short { length line.now ≤ 255 }
+    requires short { length line.now ≤ longest_text }
     ensures { IfOk result (λ token. token ≡ word_at line.now start end) }
 {
     Ok(Token {
@@ -65,7 +66,7 @@ fn end_word(
 ) -> Result<(), AllocError>
     requires ordered { start ≤ end }
     requires inside { end ≤ length line.now }
-    requires short { length line.now ≤ 255 }
+    requires short { length line.now ≤ longest_text }
     ensures { OnOk result (tokens.new ≡ tokens.old ++ words_at line.now start end) }
 {
     if start == end {
@@ -83,7 +84,7 @@ fn add_parenthesis(
     tokens: &mut Tokens,
 ) -> Result<(), AllocError>
     requires inside { place < length line.now }
-    requires short { length line.now ≤ 255 }
+    requires short { length line.now ≤ longest_text }
     ensures { OnOk result (tokens.new ≡ tokens.old ++ parenthesis_at line.now place byte) }
 {
     if !is_parenthesis(byte) {

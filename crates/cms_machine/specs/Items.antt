@@ -3,6 +3,7 @@ use Rattle.std.specs.Prelude.{◌≡◌, ◌↔◌, ℕ, zero, suc, ◌-◌, ◌
 use Rattle.std.specs.Option.{option_map, option_map_or, option_and_then}
 use Rattle.std.specs.List.{slice_split, flat_map}
 use Rattle.std.specs.Str.Lines.{lines}
+use Rattle.cms_text.specs.Limits.{longest_text}
 use Rattle.cms_fields.specs.Numbers.{up}
 use Rattle.cms_ebcdic.specs.CodePage.{code_of}
 use Rattle.cms_journal.specs.declared.event.Event.{Event}
@@ -40,10 +41,10 @@ short_line bytes = option_map_or Text (coded_line bytes) Bad
 
 -- the pieces that begin in the next `count` bytes of a long line, of whose current piece so many bytes were taken
 abbrev pub rests : ℕ → ℕ → List Item
-rests taken count = replicate (up (count - (255 - taken)) 255) Rest
+rests taken count = replicate (up (count - (longest_text - taken)) longest_text) Rest
 
 abbrev pub line_items : List ℕ → List Item
-line_items bytes = if nat_le (length bytes) 255 then short_line bytes ∷ [] else Long ∷ rests 0 (length bytes)
+line_items bytes = if nat_le (length bytes) longest_text then short_line bytes ∷ [] else Long ∷ rests 0 (length bytes)
 
 -- ---- a script, or what is left of it
 
@@ -64,7 +65,7 @@ items_left (suc within) bytes = rests (suc within) (length bytes)
 
 -- of a line that may go on, those that it has however it does
 abbrev pub items_sure : ℕ → List ℕ → List Item
-items_sure zero bytes = if nat_le (length bytes) 255 then [] else line_items bytes
+items_sure zero bytes = if nat_le (length bytes) longest_text then [] else line_items bytes
 items_sure (suc within) bytes = rests (suc within) (length bytes)
 
 -- the part behind the last line feed: at the script's end a line where it isn't empty; before that it may go on, and its last carriage

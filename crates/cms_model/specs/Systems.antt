@@ -1,6 +1,7 @@
 -- The entries of the directory itself (0) and of the allocation map (1).
-use Rattle.std.specs.Prelude.{ℕ, ◌*◌, ◌/◌, Bool, ◌==◌, ◌&&◌, ◌||◌, nat_le, List, Result, Ok}
+use Rattle.std.specs.Prelude.{ℕ, ◌+◌, ◌*◌, ◌/◌, Bool, ◌==◌, ◌&&◌, ◌||◌, nat_le, List, Result, Ok}
 use Rattle.cms_names.specs.Names.{is_between}
+use Rattle.cms_fields.specs.Limits.{most_files}
 use Rattle.cms_fields.specs.Steps.{◌>>◌, want}
 use Rattle.cms_text.specs.Bytes.{word, byte}
 use Rattle.cms_fields.specs.Numbers.{up, is_shape}
@@ -26,7 +27,7 @@ is_system bsize size bytes =
 -- 2 to 16,386 records of 64 bytes, and with one data block the root is the directory's origin
 unfoldable pub is_directory : ℕ → ℕ → List ℕ → Bool
 is_directory bsize origin bytes =
-    is_system bsize 64 bytes && is_between 2 16386 (word bytes 48) && (nat_le 1 (byte bytes 52) || (word bytes 40 == origin))
+    is_system bsize 64 bytes && is_between 2 (most_files + 2) (word bytes 48) && (nat_le 1 (byte bytes 52) || (word bytes 40 == origin))
 
 -- the bytes of a map of so many blocks, in records of a block
 unfoldable pub is_map : ℕ → ℕ → List ℕ → Bool

@@ -1,5 +1,6 @@
 -- What the image of a unit stands for.
 use Rattle.std.specs.Prelude.{◌≡◌, ℕ, ◌+◌, ◌-◌, min, true, if◌then◌else◌, nat_le, ◌/◌, List, [], ◌∷◌, ◌++◌, length, drop, slice_index, Option, Some, None, Result, Ok, Err}
+use Rattle.cms_journal.specs.Limits.{most_blocks}
 use Rattle.cms_journal.specs.declared.event.Attached.{Attached}
 use Rattle.cms_names.specs.declared.name.Name.{Name}
 use Rattle.cms_names.specs.declared.name.Format.TheVariants.{F}
@@ -25,7 +26,7 @@ pub record Disk : Type 0 where
 
 -- a session looks at the first 1,048,576 blocks of a unit at most
 abbrev pub disk_of : Attached → Disk
-disk_of unit = record { bsize = unit.bsize; count = min (length unit.start) 1048576 }
+disk_of unit = record { bsize = unit.bsize; count = min (length unit.start) most_blocks }
 
 -- a fault of a part is a fault of the volume
 abbrev pub blamed : {A E : Type 0} → (E → OpenFault) → Result A E → Result A OpenFault
@@ -96,11 +97,9 @@ tree_blocks directory map files = directory.blocks ++ (map.blocks ++ blocks_of f
 abbrev pub all_blocks : Opened → List ℕ
 all_blocks v = tree_blocks v.directory_met v.map_met v.mets
 
--- the volume in an image, or the first test that fails, in the order of the tests on opening
-unfoldable pub open_of : Disk → Image → Result Opened OpenFault
-open_of disk image = do
-  want (nat_le 6 disk.count) (failed.Label Count)
-  label ← blamed failed.Label (label_of disk.bsize disk.count (image 3))
+-- the volume behind its label, by the further tests, one after another
+abbrev pub opened_behind : Disk → Image → Label → Result Opened OpenFault
+opened_behind disk image label = do
   directory ← directory_of disk.bsize label.origin (image label.origin)
   directory_met ← tree (form_of disk.bsize label.blocks F) image directory.levels
       (Some label.origin) label.origin directory.root directory.blocks
@@ -123,6 +122,13 @@ open_of disk image = do
     contents = contents;
     lost = lost_count (bytes_at image map_met.leaves) (tree_blocks directory_met map_met mets) 6 (label.blocks - 5);
   })
+
+-- the volume in an image, or the first test that fails, in the order of the tests on opening
+unfoldable pub open_of : Disk → Image → Result Opened OpenFault
+open_of disk image = do
+  want (nat_le 6 disk.count) (failed.Label Count)
+  label ← blamed failed.Label (label_of disk.bsize disk.count (image 3))
+  opened_behind disk image label
 
 -- the image has the label, directory and map of this volume
 pub record HoldsSystem (disk : Disk) (image : Image) (v : Opened) : Type 0 where

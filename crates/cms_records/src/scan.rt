@@ -2,6 +2,7 @@
 ghost use Rattle.std.specs.Prelude.{◌≡◌, ◌⊎◌, ℕ, List, Option, ◌+◌, ◌*◌, ◌≤◌, ◌<◌, ◌++◌, [], None, Some, true, false, length, drop, slice_index, IfOk, IfErr, IfNone, IfSome, OnOk, Ok, Err};
 ghost use Rattle.cms_text.specs.Bytes.{half};
 ghost use Rattle.cms_records.specs.Scans.{Scan, sizes_in, Holds, Passes, IsCut, IsFed};
+ghost use Rattle.cms_fields.specs.Limits.{longest_record, most_bytes};
 
 use crate::VarFault;
 use crate::sizes::VarSizes;
@@ -23,6 +24,7 @@ pub struct VarScan {
 
 impl Model for VarScan {
     ghost use Rattle.std.specs.Prelude.{◌≤◌, ◌<◌, ◌^◌, IfSome};
+    ghost use Rattle.cms_fields.specs.Limits.{longest_record, most_bytes};
     ghost use Rattle.cms_records.specs.Scans.{Scan};
 
     ghost Value = { Scan };
@@ -37,7 +39,7 @@ impl Model for VarScan {
       longest = s.longest;
     } };
 
-    ghost invariant = { λ s. (s.place ≤ s.fed) × (s.fed ≤ 67108864) × (s.longest ≤ 65535) × IfSome s.size (λ n. n < 65536) };
+    ghost invariant = { λ s. (s.place ≤ s.fed) × (s.fed ≤ most_bytes) × (s.longest ≤ longest_record) × IfSome s.size (λ n. n ≤ longest_record) };
 }
 
 impl VarScan {
@@ -61,7 +63,7 @@ impl VarScan {
     /// Takes the bytes that come next: at most 67,108,864 in all. A length of 0 is refused with its place, counted from the
     /// first byte of all, and the check isn't used again then.
     pub fn feed(&mut self, piece: &[u8]) -> Result<(), VarFault>
-        requires { self.old.fed + length piece.now ≤ 67108864 }
+        requires { self.old.fed + length piece.now ≤ most_bytes }
         ensures fed { OnOk result ((count : ℕ) (bytes : List ℕ) → IsFed count bytes self.old → IsFed count (bytes ++ piece.now) self.new) }
         ensures fault { IfErr result (λ why. (count : ℕ) (bytes rest : List ℕ) → IsFed count bytes self.old
             → sizes_in self.old.bsize count ((bytes ++ piece.now) ++ rest) ≡ Err why) }
@@ -83,8 +85,8 @@ impl VarScan {
     /// with that behind the last record where a whole block or more remains.
     pub fn end(&self) -> Result<VarSizes, VarFault>
         ensures told { (count : ℕ) (bytes : List ℕ) → IsFed count bytes self.now → result ≡ sizes_in self.now.bsize count bytes }
-        ensures longest { IfOk result (λ sizes. sizes.longest ≤ 65535) }
-        ensures stored { IfOk result (λ sizes. sizes.stored ≤ 67108864) }
+        ensures longest { IfOk result (λ sizes. sizes.longest ≤ longest_record) }
+        ensures stored { IfOk result (λ sizes. sizes.stored ≤ most_bytes) }
     {
         if self.left > 0 {
             return Err(VarFault::PastEnd(self.place));
@@ -117,7 +119,7 @@ impl VarScan {
         ensures size { IfSome result (λ n. (count : ℕ) (bytes : List ℕ) → length bytes ≡ start → Holds count (bytes ++ piece.now) self.now
             → Passes bytes self.now
             → (self.now.place + 2 ≤ self.now.fed) × (half (drop self.now.place (bytes ++ piece.now)) 0 ≡ n)) }
-        ensures small { IfSome result (λ n. n < 65536) }
+        ensures small { IfSome result (λ n. n ≤ longest_record) }
         ensures known { IfSome result (λ n. (self.now.size ≡ None) ⊎ (self.now.size ≡ Some n)) }
         ensures none { result ≡ None → (self.now.size ≡ None) × (self.now.fed < self.now.place + 2) }
     {

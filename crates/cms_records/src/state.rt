@@ -29,17 +29,15 @@ pub struct RecordState {
 }
 
 impl Model for RecordState {
-    ghost use Rattle.std.specs.Prelude.{◌≤◌, ◌<◌, ◌+◌, IfSome, length, vec_len, vec_capacity};
-    ghost use Rattle.cms_fields.specs.Limits.{longest_record, most_bytes};
-    ghost use Rattle.cms_records.specs.Pieces.{Begun, IsPart, record_size};
+    ghost use Rattle.cms_records.specs.Pieces.{Begun};
 
     ghost Value = { Begun };
 
+    ghost use Rattle.cms_records.specs.States.{AreSound};
+
     ghost view = { λ s. record { fixed = s.fixed; longest = s.longest; place = s.place; bytes = s.bytes.items; whole = s.whole } };
 
-    ghost invariant = { λ s. IfSome s.fixed (λ n. (1 ≤ n) × (n ≤ s.longest)) × (s.longest ≤ longest_record)
-        × (vec_len s.bytes ≤ s.longest + 2) × (s.longest + 2 ≤ vec_capacity s.bytes) × (s.place + length s.bytes.items ≤ most_bytes)
-        × IsPart (record_size s.fixed s.longest s.place s.bytes.items) s.whole s.bytes.items };
+    ghost invariant = { AreSound };
 }
 
 impl RecordState {

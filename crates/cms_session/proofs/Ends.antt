@@ -1,5 +1,6 @@
 -- How a session ends: its parts joined, and the headline.
 use Rattle.std.proofs.Common.{◌≡◌, inl, inr, ⊎_elim, ℕ, ◌≤◌, min, List, [], ◌∷◌, ◌++◌, Option, Some, Result, Ok, Err, pos, refl, ap, sym, subst, ◌∙◌, arith, append-nil, slice_get, length}
+use Rattle.cms_journal.specs.Limits.{most_blocks}
 use Rattle.cms_journal.specs.declared.event.Event.{Event}
 use Rattle.cms_journal.specs.declared.event.Event.TheVariants.{Missed}
 use Rattle.cms_journal.specs.declared.event.Access.{Access}
@@ -34,7 +35,6 @@ use Rattle.cms_search.specs.declared.state.End.{End}
 use Rattle.cms_search.specs.declared.state.State as declared
 use Rattle.cms_search.specs.Calls.{Seen, Spot, Holds, Acts, at}
 use Rattle.cms_session.specs.Calls.{session_tree, finished}
-use Rattle.cms_session.specs.declared.top.TheConstants.{MOST_BLOCKS}
 use Rattle.cms_session.specs.Headline.{Start, Headline, Came, Begins, EndsAs, IsAs, fresh, settled, first_point, start_point, start_tree, run_on}
 use Rattle.cms_session.specs.Sessions.{IsAsSeen, CameTo, WasCut, EndedAs, RanOn, NotAttached, OnUnit, IsAlone, FoundAs, start_on, device_of, lines_tree, status_of}
 use Rattle.std.specs.Prelude.{Vec}
@@ -326,7 +326,7 @@ ran_from spec unit told edges mid now status earlier r = record {
 
 pub on_unit : (spec : Asked) (before mid now : Seen) (name : List ℕ) (size : ℕ) (access : Access) (number blocks seen_number seen_blocks : ℕ)
     (status : Status) → name ≡ spec.unit.name → size ≡ spec.unit.bsize → access ≡ spec.unit.access
-    → IsAttached (fresh []) mid.told name size access number blocks → seen_number ≡ number → seen_blocks ≡ min blocks MOST_BLOCKS
+    → IsAttached (fresh []) mid.told name size access number blocks → seen_number ≡ number → seen_blocks ≡ min blocks most_blocks
     → before.faults ≡ mid.faults → before.edges ≤ mid.edges
     → ((alone : Attached) → IsAlone mid.told (record { bsize = size; count = seen_blocks }) seen_number alone → RanOn spec alone mid now status) → OnUnit spec before now status
 on_unit spec before mid now name size access number blocks seen_number seen_blocks status is_name is_size is_access attached is_number is_blocks same earlier ran =
@@ -334,7 +334,7 @@ on_unit spec before mid now name size access number blocks seen_number seen_bloc
     let alone : IsAlone mid.told (record { bsize = size; count = seen_blocks }) seen_number unit = record {
       told_is = attached.told;
       number_is = is_number ∙ attached.number_is;
-      disk_is = ap (λ (n : ℕ). record { bsize = size; count = n }) (ap (λ (n : ℕ). min n MOST_BLOCKS) (sym attached.blocks_is) ∙ sym is_blocks);
+      disk_is = ap (λ (n : ℕ). record { bsize = size; count = n }) (ap (λ (n : ℕ). min n most_blocks) (sym attached.blocks_is) ∙ sym is_blocks);
       sizes = attached.sizes;
     } in
     let from = ran_from spec unit before.told before.edges mid now status earlier (ran unit alone) in

@@ -1,7 +1,6 @@
 -- What a call of the session does, as a part of the machine's run.
 use Rattle.std.specs.Prelude.{◌≡◌, ◌⊎◌, ℕ, ℤ, Bool, true, false, ◌&&◌, ◌==◌, List, Option, Some, None, slice_index_or, is_some}
 use Rattle.std.specs.Option.{option_map}
-use Rattle.jiff.specs.Words.{IsWithin}
 use Rattle.cms_journal.specs.Told.{Told}
 use Rattle.cms_names.specs.declared.name.Name.{Name}
 use Rattle.cms_fields.specs.Moments.{stamp_of}
@@ -30,10 +29,6 @@ use Rattle.cms_session.specs.declared.state.Round as rounds
 use Rattle.cms_session.specs.declared.state.Round.TheVariants as end
 use Rattle.cms_session.specs.declared.state.Finish.{Finish}
 use Rattle.cms_session.specs.declared.state.Finish.TheVariants as finish
-
--- civil time is ahead of UTC by at most 15 hours either way, in seconds
-abbrev pub IsOffset : ℤ → Type 0
-IsOffset offset = IsWithin 54000 offset
 
 -- ---- files of disk A
 

@@ -24,7 +24,8 @@ use Rattle.cms_words.specs.declared.fault.WordFault.TheVariants as fault
 use Rattle.cms_words.specs.declared.unit.UnitWord.{UnitWord}
 use Rattle.cms_session.specs.Words.{Asked, Read}
 use Rattle.cms_session.specs.Words as words
-use Rattle.cms_session.specs.Headline.{Start, Headline, fresh, settled, first_machine, start_point, start_tree}
+use Rattle.cms_session.specs.Headline.{Start, Headline, fresh, settled, first_machine, first_point, start_point, start_tree}
+use Rattle.cms_session.specs.declared.asked.Terms.{Terms}
 use Rattle.cms_session.specs.declared.state.Finish.{Finish}
 use Rattle.cms_session.specs.declared.state.Finish.TheVariants as finish
 use Rattle.cms_session.specs.declared.status.Status.{Status}
@@ -182,3 +183,22 @@ FoundAs spec unit before now (Err Memory) = ⊤
 FoundAs spec unit before now (Err Done) = ⊥
 FoundAs spec unit before now (Err Turns) = ⊥
 FoundAs spec unit before now (Err (Usage why)) = ⊥
+
+-- what is found on the word's unit, of so many blocks, where it stands alone, whatever else is asked for
+abbrev pub FindsDisk : UnitWord → ℕ → ℕ → Seen → Seen → Result (Option Disk) Status → Type 0
+FindsDisk word blocks number before now disk =
+    (spec : Asked) (unit : Attached) → word ≡ spec.unit → IsAlone before.told (record { bsize = word.bsize; count = blocks }) number unit
+    → FoundAs spec unit before.faults now.faults disk
+
+-- how a session on that unit ran
+abbrev pub RunsOn : UnitWord → Terms → ℕ → ℕ → Seen → Seen → Status → Type 0
+RunsOn word terms blocks number before now status =
+    (unit : Attached) → IsAlone before.told (record { bsize = word.bsize; count = blocks }) number unit
+    → RanOn (words.asked word terms) unit before now status
+
+-- how the lines of a script ended with this disk A, from whatever is on the units
+abbrev pub LinesEnd : Device → Terms → Option Disk → Seen → Seen → Status → Type 0
+LinesEnd device terms disk before now status =
+    (word : UnitWord) (units : List Slot) → device ≡ device_of word → Holds before.told disk units
+    → EndedAs (first_point before.told before.faults units (words.given_in terms.given)) before.edges now
+        (lines_tree (words.asked word terms) disk units) status

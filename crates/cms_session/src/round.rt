@@ -6,7 +6,8 @@ ghost use Rattle.cms_line.specs.Consoles.{item_of};
 ghost use Rattle.cms_search.specs.Texts.{coded};
 ghost use Rattle.cms_search.specs.Calls.{seen, spot, Does, Acts, IsUsable, beside, itself, said};
 ghost use Rattle.cms_session.specs.Commands.{command_of};
-ghost use Rattle.cms_session.specs.Calls.{IsOffset, IsTest, machine_now, round_of, ready_text, round_after, taking_tree, asking_tree, turning_tree, command_tree, round_tree};
+ghost use Rattle.cms_session.specs.Calls.{IsTest, machine_now, round_of, ready_text, round_after, taking_tree, asking_tree, turning_tree, command_tree, round_tree};
+ghost use Rattle.cms_fields.specs.Offsets.{IsOffset};
 ghost use Rattle.cms_session.specs.declared.state.Round.TheVariants.{Ready};
 
 use crate::command::{Command, command_of_line};

@@ -1,6 +1,7 @@
 // The session: rounds until it ends.
 ghost use Rattle.cms_search.specs.Calls.{spot, Acts, IsUsable};
-ghost use Rattle.cms_session.specs.Calls.{IsOffset, session_tree, finished};
+ghost use Rattle.cms_session.specs.Calls.{session_tree, finished};
+ghost use Rattle.cms_fields.specs.Offsets.{IsOffset};
 
 use crate::round::round;
 use crate::state::{Finish, Round};

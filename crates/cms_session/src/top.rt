@@ -2,13 +2,14 @@
 ghost use Rattle.std.specs.Prelude.{◌≡◌, ◌≢◌, ◌≤◌, ◌==◌, ℕ, List, [], length, min, not, IfOk, IfErr, IsTrue, Option, Some, None};
 ghost use Rattle.std.specs.Option.{ForSome};
 ghost use Rattle.cms_journal.specs.Causes.{Rose};
+ghost use Rattle.cms_journal.specs.Limits.{most_blocks};
 ghost use Rattle.cms_journal.specs.Journal.{IsBlockSize, HasBlocks, IsWritable, may_write};
 ghost use Rattle.cms_journal.specs.declared.event.Attached.{Attached};
 ghost use Rattle.cms_machine.specs.Slots.{Slot};
 ghost use Rattle.cms_search.specs.Calls.{Holds, Usable, seen};
-ghost use Rattle.cms_session.specs.Calls.{IsOffset};
+ghost use Rattle.cms_fields.specs.Offsets.{IsOffset};
 ghost use Rattle.cms_session.specs.Headline.{fresh, first_point};
-ghost use Rattle.cms_session.specs.Sessions.{HasRoom, FitsWords, RunsNone, refusal_of, IsAlone, device_of, lines_tree, status_of, FoundAs, EndedAs, RanOn, SessionIn, WorldCause};
+ghost use Rattle.cms_session.specs.Sessions.{HasRoom, FitsWords, RunsNone, refusal_of, device_of, FindsDisk, RunsOn, LinesEnd, status_of, SessionIn, WorldCause};
 ghost use Rattle.cms_words.specs.declared.fault.WordFault.{WordFault};
 ghost use Rattle.cms_words.specs.declared.fault.WordFault.TheVariants.{Memory};
 ghost use Rattle.cms_words.specs.declared.unit.UnitWord.{UnitWord};
@@ -20,6 +21,7 @@ use crate::state::Finish;
 use crate::status::Status;
 use cms_edf::{SmallFault, small_volume};
 use cms_fields::Moment;
+use cms_journal::MOST_BLOCKS;
 use cms_line::Console;
 use cms_search::{Device, Disk, End, State};
 use cms_words::{UnitWord, WordFault, Words, read_words};
@@ -29,13 +31,10 @@ use std::alloc::Global;
 /// The device whose volume is disk A at the start.
 const DEVICE_A: u16 = 0x191;
 
-/// How many blocks of a unit are looked at.
-const MOST_BLOCKS: u32 = 1_048_576;
-
 // What a session looks at of a unit.
 fn looked_at(unit: Unit) -> Unit
     ensures number { result.number ≡ unit.number }
-    ensures blocks { result.blocks ≡ min unit.blocks MOST_BLOCKS }
+    ensures blocks { result.blocks ≡ min unit.blocks most_blocks }
 {
     Unit {
         number: unit.number,
@@ -63,9 +62,7 @@ fn disk_a<W: World>(
     requires size { IsBlockSize word.now.bsize }
     requires blocks { ForSome (W.told world.old) (λ j. HasBlocks j.units unit.now.number unit.now.blocks word.now.bsize) }
     requires writable { IsTrue (may_write word.now.access) → ForSome (W.told world.old) (λ j. IsWritable j.units unit.now.number) }
-    ensures found { (spec : Asked) (alone : Attached) → word.now ≡ spec.unit
-        → IsAlone (W.told world.old) (record { bsize = word.now.bsize; count = unit.now.blocks }) unit.now.number alone
-        → FoundAs spec alone (W.faults world.old) (W.faults world.new) result }
+    ensures found { FindsDisk word.now unit.now.blocks unit.now.number (seen W.World world.old) (seen W.World world.new) result }
     ensures usable { IfOk result (λ disk. Usable (W.told world.new) disk) }
     ensures no_usage { IfErr result (λ status. (fault : WordFault) → status ≢ Status.Usage fault) }
     ensures cause { IfErr result (λ status. status ≡ Status.World → Rose (W.faults world.old) (W.faults world.new)) }
@@ -125,9 +122,7 @@ fn run_lines<W: World>(
 ) -> Status
     requires usable { Usable (W.told world.old) disk_a }
     requires offset { IsOffset terms.offset }
-    ensures ended { (word : UnitWord) (units : List Slot) → device ≡ device_of word → Holds (W.told world.old) disk_a units
-        → EndedAs (first_point (W.told world.old) (W.faults world.old) units (given_in terms.given)) (W.edges world.old)
-        (seen W.World world.new) (lines_tree (asked word terms) disk_a units) result }
+    ensures ended { LinesEnd device terms disk_a (seen W.World world.old) (seen W.World world.new) result }
     ensures no_usage { (fault : WordFault) → result ≢ Status.Usage fault }
     ensures cause { WorldCause (seen W.World world.old) (seen W.World world.new) result }
 {
@@ -173,9 +168,7 @@ fn run_attached<W: World>(
     requires size { IsBlockSize word.now.bsize }
     requires blocks { ForSome (W.told world.old) (λ j. HasBlocks j.units unit.now.number unit.now.blocks word.now.bsize) }
     requires writable { IsTrue (may_write word.now.access) → ForSome (W.told world.old) (λ j. IsWritable j.units unit.now.number) }
-    ensures ran { (alone : Attached)
-        → IsAlone (W.told world.old) (record { bsize = word.now.bsize; count = unit.now.blocks }) unit.now.number alone
-        → RanOn (asked word.now terms) alone (seen W.World world.old) (seen W.World world.new) result }
+    ensures ran { RunsOn word.now terms unit.now.blocks unit.now.number (seen W.World world.old) (seen W.World world.new) result }
     ensures no_usage { (fault : WordFault) → result ≢ Status.Usage fault }
     ensures cause { WorldCause (seen W.World world.old) (seen W.World world.new) result }
 {

@@ -9,7 +9,7 @@ mod words;
 
 pub use list::Series;
 pub use numbers::{decimal, number, written};
-pub use text::{Line, ShortText, Word};
+pub use text::{LONGEST_TEXT, Line, ShortText, Word};
 pub use words::{BLANK, ebcdic, first_word, is_keyword, without_trailing_blanks};
 
 /// A list of lines.

@@ -5,6 +5,9 @@ ghost use Rattle.cms_text.specs.Limits.{longest_text};
 use std::alloc::{AllocError, Global};
 use std::marker::Model;
 
+/// The most bytes of a line or a word.
+pub const LONGEST_TEXT: usize = 255;
+
 /// A text of 0 to 255 bytes.
 #[derive(Debug, Drop)]
 pub struct ShortText {

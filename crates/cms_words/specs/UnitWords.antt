@@ -5,6 +5,7 @@ use Rattle.std.specs.List.{before_first, after_first}
 use Rattle.std.specs.Str.{bytes_eq}
 use Rattle.cms_journal.specs.declared.event.Access.{Access}
 use Rattle.cms_journal.specs.declared.event.Access.TheVariants.{ReadOnly, ReadWrite, New}
+use Rattle.cms_journal.specs.Limits.{most_blocks}
 use Rattle.cms_words.specs.Numbers.{decimal_from, device_of, up_to, at_least, ◌>>=◌}
 use Rattle.cms_words.specs.declared.unit.UnitWord.{UnitWord}
 
@@ -24,7 +25,7 @@ begins_with first (c ∷ cs) = c == first
 
 -- the blocks of a new image: decimal digits with no leading zero, 8 to 1,048,576
 unfoldable pub count_of : List ℕ → Option ℕ
-count_of digits = if begins_with 48 digits then None else at_least 8 (up_to 1048576 (decimal_from 0 digits))
+count_of digits = if begins_with 48 digits then None else at_least 8 (up_to most_blocks (decimal_from 0 digits))
 
 -- n and the blocks of a new image
 unfoldable pub new_image_of : List ℕ → Option Access

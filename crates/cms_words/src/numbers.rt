@@ -1,6 +1,6 @@
 // Numbers among the words, in ASCII.
-ghost use Rattle.jiff.specs.Words.{IsWithin};
-ghost use Rattle.std.specs.Prelude.{◌≡◌, ◌≤◌, ◌<◌, IfSome, IsTrue, length};
+ghost use Rattle.cms_fields.specs.Offsets.{IsOffset};
+ghost use Rattle.std.specs.Prelude.{◌≡◌, ◌≤◌, ◌<◌, IfSome, IsTrue, length, ◌^◌};
 ghost use Rattle.cms_words.specs.Numbers.{is_digit, hex_digit, decimal_from, device_of, number_up_to, offset_of, up_to};
 
 /// A hexadecimal digit's value, in either case.
@@ -43,7 +43,7 @@ fn is_digit(byte: u8) -> bool
 /// The value of decimal digits, of which there may be none, where it is at most so much: at most 2^31.
 #[tactic(auto, using(crate::proofs::NumberLemmas::digit_stops, crate::proofs::NumberLemmas::at_the_end))]
 pub fn decimal(digits: &[u8], most: u32) -> Option<u32>
-    requires { most ≤ 2147483648 }
+    requires { most ≤ 2 ^ 31 }
     ensures value { result ≡ up_to most (decimal_from 0 digits.now) }
     ensures within { IfSome result (λ n. n ≤ most) }
 {
@@ -63,7 +63,7 @@ pub fn decimal(digits: &[u8], most: u32) -> Option<u32>
 /// A number of 1 to 10 digits, where it is at most so much: at most 2^31.
 #[tactic(auto, unfolding(crate::specs::Numbers::number_up_to))]
 pub fn number(word: &[u8], most: u32) -> Option<u32>
-    requires { most ≤ 2147483648 }
+    requires { most ≤ 2 ^ 31 }
     ensures value { result ≡ number_up_to most word.now }
     ensures within { IfSome result (λ n. n ≤ most) }
 {
@@ -77,7 +77,7 @@ pub fn number(word: &[u8], most: u32) -> Option<u32>
 #[tactic(auto, unfolding(crate::specs::Numbers::offset_of))]
 pub fn offset(word: &[u8]) -> Option<i32>
     ensures value { result ≡ offset_of word.now }
-    ensures within { IfSome result (λ seconds. IsWithin 54_000 seconds) }
+    ensures within { IfSome result (λ seconds. IsOffset seconds) }
 {
     let [side, digits @ ..] = word else {
         return None;

@@ -1,5 +1,5 @@
 // What the words say, with the refusals in their order.
-ghost use Rattle.jiff.specs.Words.{IsWithin};
+ghost use Rattle.cms_fields.specs.Offsets.{IsOffset};
 ghost use Rattle.std.specs.Prelude.{◌≡◌, IfOk, map, option_map};
 ghost use Rattle.std.specs.Prelude.{codes};
 ghost use Rattle.clap.specs.Words.{found_of, rows_of};
@@ -97,7 +97,7 @@ fn turns(word: Option<&str>) -> Result<u64, WordFault>
 #[tactic(auto, unfolding(crate::specs::Words::zone_of))]
 fn zone(word: Option<&str>) -> Result<i32, WordFault>
     ensures value { result ≡ zone_of (option_map (λ s. s.now) word.entry) }
-    ensures within { IfOk result (λ seconds. IsWithin 54_000 seconds) }
+    ensures within { IfOk result (λ seconds. IsOffset seconds) }
 {
     let Some(word) = word else {
         return Ok(0);
@@ -134,7 +134,7 @@ fn without_repeat(units: &UnitWords) -> Result<(), WordFault>
 #[tactic(auto, using(crate::proofs::ReadingLemmas::repeat_fails, crate::proofs::ReadingLemmas::all_said))]
 fn values(alloc: Global, matches: &ArgMatches<'_>) -> Result<Words, WordFault>
     ensures answer { IsAnswer result (values_of (rows_of (found_of matches.now))) }
-    ensures offset { IfOk result (λ words. IsWithin 54_000 words.offset) }
+    ensures offset { IfOk result (λ words. IsOffset words.offset) }
 {
     let units = match units(alloc, matches) {
         Ok(units) => units,
@@ -168,7 +168,7 @@ fn values(alloc: Global, matches: &ArgMatches<'_>) -> Result<Words, WordFault>
 #[tactic(auto, using(crate::proofs::ReadingLemmas::words_taken, crate::proofs::ReadingLemmas::words_refused))]
 fn read_texts<'a>(alloc: Global, words: &'a [&'a str]) -> Result<Words, WordFault>
     ensures answer { IsAnswer result (words_of (map (λ s. s.now) words.entry.now)) }
-    ensures offset { IfOk result (λ words. IsWithin 54_000 words.offset) }
+    ensures offset { IfOk result (λ words. IsOffset words.offset) }
 {
     match find_words(alloc, words) {
         Ok(matches) => values(alloc, &matches),
@@ -187,7 +187,7 @@ fn read_texts<'a>(alloc: Global, words: &'a [&'a str]) -> Result<Words, WordFaul
 /// `-t5` or `-t=5`. An option that is given twice, and a value that begins with `-`, are `Syntax`.
 pub fn read_words(alloc: Global, words: &Argv) -> Result<Words, WordFault>
     ensures answer { IsAnswer result (words_of words.now) }
-    ensures offset { IfOk result (λ words. IsWithin 54_000 words.offset) }
+    ensures offset { IfOk result (λ words. IsOffset words.offset) }
 {
     match texts(alloc, words) {
         Ok(texts) => read_texts(alloc, &texts),

@@ -4,15 +4,12 @@ ghost use Rattle.cms_words.specs.UnitWords.{bsize_of, count_of, new_image_of, ac
 ghost use Rattle.cms_words.specs.Readings.{AreFields, IsReading};
 
 use crate::numbers::{decimal, device};
-use cms_journal::BlockSize;
+use cms_journal::{BlockSize, MOST_BLOCKS};
 use cms_world::{Access, ImageName};
 use std::alloc::{AllocError, Global};
 
 /// The fewest blocks that a new image may have.
 const FEWEST_BLOCKS: u32 = 8;
-
-/// The most.
-const MOST_BLOCKS: u32 = 1_048_576;
 
 /// A unit: its device, its block size, how its image is attached, and the image's name.
 #[derive(Drop)]

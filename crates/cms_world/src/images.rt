@@ -8,11 +8,11 @@ use crate::Access;
 use cms_journal::{Blocks, Bytes};
 use std::alloc::{AllocError, Global};
 
-// An image as it was given.
+/// An image as it was given.
 #[derive(Drop)]
 pub struct Image {
     pub bytes: Bytes,
-    // How many units were attached before it was given: what is written to the later units of its name stands in it.
+    /// How many units were attached before it was given: what is written to the later units of its name stands in it.
     pub since: usize,
 }
 

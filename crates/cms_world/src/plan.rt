@@ -3,46 +3,53 @@ ghost use Rattle.std.specs.Prelude.{◌≡◌, ◌∷◌, ◌++◌, [], OnOk, On
 
 use std::alloc::{AllocError, Global};
 
-// The letters of the seven calls.
+/// The letter of an attach.
 pub const ATTACH: u8 = b'a';
 
+/// The letter of a read of a block.
 pub const READ_BLOCK: u8 = b'r';
 
+/// The letter of a write of a block.
 pub const WRITE_BLOCK: u8 = b'w';
 
+/// The letter of a sync.
 pub const SYNC: u8 = b's';
 
+/// The letter of a read of the script.
 pub const READ: u8 = b'i';
 
+/// The letter of typing.
 pub const TYPE_OUT: u8 = b'o';
 
+/// The letter of a look at the clock.
 pub const NOW: u8 = b'n';
 
-// A call that is to fail.
+/// A call that is to fail.
 #[derive(Clone, Copy)]
 pub struct Planned {
-    // its number, from 1 over all calls
+    /// its number, from 1 over all calls
     pub call: u32,
-    // a write adds its event
+    /// a write adds its event
     pub lands: bool,
 }
 
-// What the plan says of a call.
+/// What the plan says of a call.
 #[derive(Clone, Copy)]
 pub enum Next {
-    // it is done
+    /// it is done
     Goes,
-    // it fails, and nothing happens
+    /// it fails, and nothing happens
     Fails,
-    // it fails, and a write adds its event
+    /// it fails, and a write adds its event
     Lands,
 }
 
+/// The calls so far, and those that are to fail.
 #[derive(Drop)]
 pub struct Plan {
-    // a letter for each call so far
+    /// a letter for each call so far
     pub calls: Vec<u8>,
-    // in the order in which they were planned
+    /// in the order in which they were planned
     pub failing: Vec<Planned>,
 }
 

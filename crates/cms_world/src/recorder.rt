@@ -14,8 +14,8 @@ use cms_journal::{Attached, Blocks, Bytes, Event};
 use std::alloc::{AllocError, Global};
 use std::marker::Model;
 
-// The journal, with the blocks of each unit as they are by now, so that a read looks through no events. Contracts see the
-// journal.
+/// The journal, with the blocks of each unit as they are by now, so that a read looks through no events. Contracts see the
+/// journal.
 #[derive(Drop)]
 pub struct Recorder {
     units: Vec<Attached>,

@@ -3,7 +3,7 @@ ghost use Rattle.std.specs.Prelude.{◌≡◌, ◌≤◌, List, ℕ, length, tak
 
 use std::marker::Model;
 
-// Contracts see the bytes that are left.
+/// The script, of which contracts see the bytes that are left.
 #[derive(Drop)]
 pub struct Script {
     bytes: Vec<u8>,

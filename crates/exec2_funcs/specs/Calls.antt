@@ -3,6 +3,7 @@ use Rattle.std.specs.Prelude.{◌≡◌, ◌⊎◌, ℕ, nat_le, nat_lt, ◌&&�
 use Rattle.std.specs.List.{concat}
 use Rattle.std.specs.Ordering.{int_eq}
 use Rattle.cms_fields.specs.Steps.{◌>>=◌}
+use Rattle.cms_text.specs.Limits.{longest_text}
 use Rattle.cms_text.specs.Texts.{Text, ebcdic, without_trailing_blanks}
 use Rattle.cms_text.specs.Numbers.{fits, number_of, written}
 use Rattle.exec2_funcs.specs.Values.{first_filled, from_place, joined, last_filled, location_of, nth_word, position_of, text_of, translated}
@@ -47,7 +48,7 @@ abbrev pub number_in : Text → Result ℤ FuncFault
 number_in word = ok_or (number_of word) NotNumber
 
 abbrev pub counted : ℕ → Option ℤ → Result ℕ FuncFault
-counted low (Some (pos n)) = if nat_le low n && nat_le n 255 then Ok n else Err NotNumber
+counted low (Some (pos n)) = if nat_le low n && nat_le n longest_text then Ok n else Err NotNumber
 counted low (Some (negsuc n)) = Err NotNumber
 counted low None = Err NotNumber
 
@@ -59,7 +60,7 @@ count_in low word = counted low (number_of word)
 
 -- a text, unless it is too long
 abbrev pub fitting : Text → Result Text FuncFault
-fitting text = if nat_lt 255 (length text) then Err TooLong else Ok text
+fitting text = if nat_lt longest_text (length text) then Err TooLong else Ok text
 
 -- a number, unless it is outside signed 64 bits
 abbrev pub checked : ℤ → Result ℤ FuncFault

@@ -1,13 +1,14 @@
 // What functions make of the bytes of a text.
 ghost use Rattle.std.specs.Prelude.{◌≡◌, ◌+◌, ◌≤◌, length, position, take, ◌==◌, IfOk};
 ghost use Rattle.exec2_funcs.specs.Values as spec;
+ghost use Rattle.cms_text.specs.Limits.{longest_text};
 
 use cms_text::{BLANK, Word};
 use std::alloc::{AllocError, Global};
 
 /// The first bytes of a text, filled with blanks on the right.
 pub fn first_filled(alloc: Global, text: &[u8], count: usize) -> Result<Word, AllocError>
-    requires { count ≤ 255 }
+    requires { count ≤ longest_text }
     ensures { IfOk result (λ word. word ≡ spec.first_filled count text.now) }
 {
     let mut bytes = text.to_vec(alloc)?;
@@ -17,7 +18,7 @@ pub fn first_filled(alloc: Global, text: &[u8], count: usize) -> Result<Word, Al
 
 /// The last bytes of a text, filled with blanks on the left.
 pub fn last_filled(alloc: Global, text: &[u8], count: usize) -> Result<Word, AllocError>
-    requires { count ≤ 255 }
+    requires { count ≤ longest_text }
     ensures { IfOk result (λ word. word ≡ spec.last_filled count text.now) }
 {
     let kept = count.min(text.len());
@@ -61,7 +62,7 @@ pub fn first_bytes(text: &[u8], count: usize) -> &[u8]
 /// A text of at most 255 bytes, in which each byte of `from` gives way to the byte of `out` at its first place in `from`, or
 /// to a blank where `out` is too short.
 pub fn translated(alloc: Global, text: &[u8], out: &[u8], from: &[u8]) -> Result<Word, AllocError>
-    requires { length text.now ≤ 255 }
+    requires { length text.now ≤ longest_text }
     ensures { IfOk result (λ word. word ≡ spec.translated text.now out.now from.now) }
 {
     let bytes: Vec<u8> = text

@@ -4,6 +4,7 @@ ghost use Rattle.std.specs.Str.{bytes_eq};
 ghost use Rattle.exec2_funcs.specs.Calls as spec;
 ghost use Rattle.exec2_funcs.specs.Calls.{Answers};
 ghost use Rattle.exec2_funcs.specs.Values as values;
+ghost use Rattle.cms_text.specs.Limits.{longest_text};
 
 use crate::arithmetic::{Operation, arithmetic};
 use crate::bytes::{first_bytes, first_filled, from_place, last_filled, location, translated};
@@ -56,7 +57,7 @@ fn datatype(alloc: Global, words: &[Word]) -> Result<Word, FuncFault>
 
 fn kind_of(word: &[u8]) -> &'static [u8]
     ensures kind { result.now ≡ spec.kind_of word.now }
-    ensures short { length result.now ≤ 255 }
+    ensures short { length result.now ≤ longest_text }
 {
     match number(word) {
         Some(_) => &NUM,
@@ -192,7 +193,7 @@ fn word(alloc: Global, words: &[Word]) -> Result<Word, FuncFault>
 
 fn nth_word(number: usize, words: &[Word]) -> &[u8]
     ensures word { result.now ≡ values.nth_word number words.now }
-    ensures short { length result.now ≤ 255 }
+    ensures short { length result.now ≤ longest_text }
 {
     match words.get(number.saturating_sub(1)) {
         Some(word) => word.bytes(),
@@ -203,7 +204,7 @@ fn nth_word(number: usize, words: &[Word]) -> &[u8]
 /// A word in the place of a number from `low` to 255.
 fn count_in(low: u8, word: &Word) -> Result<usize, FuncFault>
     ensures count { result ≡ spec.count_in low word.now }
-    ensures most { IfOk result (λ count. count ≤ 255) }
+    ensures most { IfOk result (λ count. count ≤ longest_text) }
 {
     let Some(number) = number(word.bytes()) else {
         return Err(FuncFault::NotNumber);

@@ -1,13 +1,11 @@
 // Words joined to a text.
 ghost use Rattle.std.specs.Prelude.{◌≡◌, ◌+◌, ◌<◌, ◌≤◌, ◌⊎◌, ◌∷◌, ◌++◌, length, OnOk, IfErr};
 ghost use Rattle.exec2_funcs.specs.Calls.{Answers, concat_call, literal_call, string_call};
+ghost use Rattle.cms_text.specs.Limits.{longest_text};
 
 use crate::FuncFault;
-use cms_text::{BLANK, Word};
+use cms_text::{BLANK, LONGEST_TEXT, Word};
 use std::alloc::Global;
-
-/// The most bytes of a value.
-const LONGEST: usize = 255;
 
 /// The words joined without blanks.
 pub fn concat(alloc: Global, words: &[Word]) -> Result<Word, FuncFault>
@@ -55,13 +53,13 @@ pub fn string(alloc: Global, words: &[Word]) -> Result<Word, FuncFault>
 
 /// Adds bytes to a text, unless it gets too long.
 fn append(text: &mut Vec<u8>, more: &[u8]) -> Result<(), FuncFault>
-    requires { length text.old.items ≤ 255 }
+    requires { length text.old.items ≤ longest_text }
     ensures added { OnOk result (text.new.items ≡ text.old.items ++ more.now) }
-    ensures short { OnOk result (length text.new.items ≤ 255) }
+    ensures short { OnOk result (length text.new.items ≤ longest_text) }
     ensures fault { IfErr result (λ fault. (fault ≡ FuncFault.Memory)
-        ⊎ ((fault ≡ FuncFault.TooLong) × (255 < length text.old.items + length more.now))) }
+        ⊎ ((fault ≡ FuncFault.TooLong) × (longest_text < length text.old.items + length more.now))) }
 {
-    if text.len() + more.len() > LONGEST {
+    if text.len() + more.len() > LONGEST_TEXT {
         return Err(FuncFault::TooLong);
     }
     text.extend_from_slice(more)?;
@@ -70,11 +68,11 @@ fn append(text: &mut Vec<u8>, more: &[u8]) -> Result<(), FuncFault>
 
 /// Adds a blank and a word to a text, unless it gets too long.
 fn append_word(text: &mut Vec<u8>, word: &[u8]) -> Result<(), FuncFault>
-    requires { length text.old.items ≤ 255 }
+    requires { length text.old.items ≤ longest_text }
     ensures added { OnOk result (text.new.items ≡ text.old.items ++ 0x40 ∷ word.now) }
-    ensures short { OnOk result (length text.new.items ≤ 255) }
+    ensures short { OnOk result (length text.new.items ≤ longest_text) }
     ensures fault { IfErr result (λ fault. (fault ≡ FuncFault.Memory)
-        ⊎ ((fault ≡ FuncFault.TooLong) × (255 < length text.old.items + length word.now + 1))) }
+        ⊎ ((fault ≡ FuncFault.TooLong) × (longest_text < length text.old.items + length word.now + 1))) }
 {
     append(text, &[BLANK])?;
     append(text, word)

@@ -16,7 +16,7 @@ use Rattle.cms_text.specs.Texts.{Text}
 use Rattle.exec2_parse.specs.Variables.{Values, texts_of}
 
 -- the order of names
-abbrev R : Text → Text → Ordering
+abbrev pub R : Text → Text → Ordering
 R = slice_cmp nat_cmp
 
 module _ {Z : Type 0} where
@@ -55,7 +55,8 @@ equal Less h = absurd (true≢false (sym h))
 equal Equal h = refl
 equal Greater h = absurd (true≢false (sym h))
 
-tied : (x y : Text) → is_eq (R x y) ≡ true → x ≡ y
+-- names that tie are the same
+pub tied : (x y : Text) → is_eq (R x y) ≡ true → x ≡ y
 tied x y h = slice_cmp-IsAntisymmetric nat_cmp-IsAntisymmetric x y (equal (R x y) h)
 
 module _ {Z : Type 0} where

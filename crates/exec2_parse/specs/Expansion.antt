@@ -2,6 +2,7 @@
 use Rattle.std.specs.Prelude.{◌≡◌, ◌+◌, ℕ, zero, suc, ◌==◌, Bool, [], ◌∷◌, ◌++◌, length, nat_lt, if◌then◌else◌, map, Result, Ok, Err, count_by}
 use Rattle.std.specs.List.{before_last, after_last}
 use Rattle.cms_ebcdic.specs.CodePage.{upper_of}
+use Rattle.cms_text.specs.Limits.{longest_text}
 use Rattle.cms_text.specs.Texts.{Text}
 use Rattle.exec2_parse.specs.declared.expansion.ExpandFault.{ExpandFault}
 use Rattle.exec2_parse.specs.declared.expansion.ExpandFault.TheVariants.{TooLong}
@@ -36,7 +37,7 @@ expanded_before zero binding word text = Ok (word ++ text)
 expanded_before (suc n) binding word text =
     let value = binding (name_of (after_last is_ampersand word) text) in
     let front = before_last is_ampersand word in
-    if nat_lt 255 (length (front ++ value)) then Err TooLong else expanded_before n binding front value
+    if nat_lt longest_text (length (front ++ value)) then Err TooLong else expanded_before n binding front value
 
 -- a word, followed by such a text
 abbrev pub expanded_with : Binding → Text → Text → Result Text ExpandFault
@@ -58,4 +59,4 @@ abbrev pub ReplacesFromTheRight : Type 0
 ReplacesFromTheRight =
     (binding : Binding) (front name text : Text) → ampersands name ≡ 0 → expanded_with binding (front ++ (0x50 ∷ name)) text
     ≡ (let value = binding (name_of name text) in
-    if nat_lt 255 (length (front ++ value)) then Err TooLong else expanded_with binding front value)
+    if nat_lt longest_text (length (front ++ value)) then Err TooLong else expanded_with binding front value)

@@ -2,14 +2,12 @@
 use Rattle.std.specs.Prelude.{ℕ, ◌+◌, ◌==◌, nat_le, nat_lt, Bool, false, not, ◌||◌, List, map, length, slice_index, codes, Option, Some, None, Result, Ok, Err, find, option_map, position}
 use Rattle.std.specs.Option.{option_map_or}
 use Rattle.cms_fields.specs.Steps.{◌>>◌, want}
+use Rattle.cms_text.specs.Limits.{longest_text}
 use Rattle.cms_text.specs.Texts.{Text, first_word, is_keyword, without_trailing_blanks}
 use Rattle.exec2_parse.specs.declared.procedure.ProcFault.{ProcFault}
 use Rattle.exec2_parse.specs.declared.procedure.ProcFault.TheVariants.{NotExec2, LineTooLong, TooManyLines}
 
--- the most bytes of a line, and the most lines
-abbrev pub longest_line : ℕ
-longest_line = 255
-
+-- the most lines
 abbrev pub most_lines : ℕ
 most_lines = 4096
 
@@ -30,7 +28,7 @@ unfoldable pub begins_with_trace : List Text → Bool
 begins_with_trace lines = option_map_or (λ line. is_keyword (codes "&TRACE") (first_word line)) (first_statement lines) false
 
 abbrev pub is_long : Text → Bool
-is_long line = nat_lt longest_line (length line)
+is_long line = nat_lt longest_text (length line)
 
 -- the number of the first line that is too long, from 1
 abbrev pub number_of_long_line : List Text → Option ℕ

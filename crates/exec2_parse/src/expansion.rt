@@ -3,17 +3,15 @@ ghost use Rattle.std.specs.Prelude.{◌≡◌, ◌≤◌, ◌+◌, ◌++◌, len
 ghost use Rattle.exec2_parse.specs.Expansion.{KeepsPlainWords, ReplacesFromTheRight, SplitsAtLast, ampersands, expanded};
 ghost use Rattle.exec2_parse.specs.Expansion as spec;
 ghost use Rattle.exec2_parse.specs.Variables.{value_of};
+ghost use Rattle.cms_text.specs.Limits.{longest_text};
 
 use crate::fold::folded;
 use crate::{Scope, Vars};
-use cms_text::Word;
+use cms_text::{LONGEST_TEXT, Word};
 use std::alloc::{AllocError, Global};
 use thiserror::Error;
 
 const AMPERSAND: u8 = 0x50;
-
-/// The most bytes of a word.
-const LONGEST: usize = 255;
 
 /// Why a word wasn't expanded.
 #[derive(Clone, Copy, Debug, PartialEq, Eq, Error)]
@@ -40,7 +38,7 @@ impl From<AllocError> for ExpandFault {
 /// are a name, which gives way to its value, and then the same for the ampersand to the left of that place. A name counts in
 /// capital letters, a value isn't scanned again, and a variable that was never set is empty.
 pub fn expand(alloc: Global, word: &[u8], vars: &Vars) -> Result<Word, ExpandFault>
-    requires { length word.now ≤ 255 }
+    requires { length word.now ≤ longest_text }
     ensures value { IfOk result (λ text. expanded (value_of vars.now) word.now ≡ Ok text) }
     ensures too_long { result ≡ Err ExpandFault.TooLong
         → expanded (value_of vars.now) word.now ≡ Err ExpandFault.TooLong }
@@ -50,7 +48,7 @@ pub fn expand(alloc: Global, word: &[u8], vars: &Vars) -> Result<Word, ExpandFau
 
 /// The word with the values that its names have in a scope, by the same rule.
 pub fn expand_in<S: Scope>(alloc: Global, word: &[u8], scope: &S) -> Result<Word, ExpandFault>
-    requires { length word.now ≤ 255 }
+    requires { length word.now ≤ longest_text }
     ensures value { IfOk result (λ text. expanded (S.binding scope.now) word.now ≡ Ok text) }
     ensures too_long { result ≡ Err ExpandFault.TooLong
         → expanded (S.binding scope.now) word.now ≡ Err ExpandFault.TooLong }
@@ -61,7 +59,7 @@ pub fn expand_in<S: Scope>(alloc: Global, word: &[u8], scope: &S) -> Result<Word
         let name = name_of(alloc, name, value.bytes())?;
         value = scope.value(alloc, name.bytes())?;
         left = front;
-        if left.len() + value.bytes().len() > LONGEST {
+        if left.len() + value.bytes().len() > LONGEST_TEXT {
             return Err(ExpandFault::TooLong);
         }
     }
@@ -94,14 +92,14 @@ fn split_at_last_ampersand(word: &[u8]) -> Option<(&[u8], &[u8])>
 
 /// The name of a variable, in capital letters: what follows an ampersand, and a text.
 fn name_of(alloc: Global, first: &[u8], second: &[u8]) -> Result<Word, AllocError>
-    requires { length first.now + length second.now ≤ 255 }
+    requires { length first.now + length second.now ≤ longest_text }
     ensures { IfOk result (λ name. name ≡ spec.name_of first.now second.now) }
 {
     folded(alloc, joined(alloc, first, second)?.bytes())
 }
 
 fn joined(alloc: Global, first: &[u8], second: &[u8]) -> Result<Word, AllocError>
-    requires { length first.now + length second.now ≤ 255 }
+    requires { length first.now + length second.now ≤ longest_text }
     ensures { IfOk result (λ word. word ≡ first.now ++ second.now) }
 {
     let mut bytes = first.to_vec(alloc)?;

@@ -7,13 +7,10 @@ ghost use Rattle.cms_records.specs.Stored.{records_in};
 
 use cms_model::FileData;
 use cms_records::Records;
-use cms_text::{Line, Lines, first_word, is_keyword, without_trailing_blanks};
+use cms_text::{LONGEST_TEXT, Line, Lines, first_word, is_keyword, without_trailing_blanks};
 use std::alloc::{AllocError, Global};
 use std::marker::Model;
 use thiserror::Error;
-
-/// The most bytes of a line.
-const LONGEST: usize = 255;
 
 /// The most lines of a procedure.
 const MOST_LINES: u32 = 4096;
@@ -153,7 +150,7 @@ fn number_of_long_line(file: &FileData) -> Option<u32>
 {
     let mut before = 0;
     for record in Records::of(file) {
-        if without_trailing_blanks(record).len() > LONGEST {
+        if without_trailing_blanks(record).len() > LONGEST_TEXT {
             return Some(before + 1);
         }
         before += 1;

@@ -1,33 +1,20 @@
 -- A variable that was set and taken back.
-use Rattle.std.proofs.Common.{◌≡◌, ◌∙◌, ◌∷◌, [], ◌⊎◌, inl, inr, ◌-◌, ◌≤◌, suc, List, length, take, drop, get_or, arith, refl, sym, ap, subst, true≢false, Bool, true, false, cond}
+use Rattle.std.proofs.Common.{◌≡◌, ◌∙◌, ◌∷◌, [], ◌⊎◌, inl, inr, ◌-◌, ◌≤◌, suc, List, length, take, drop, get_or, arith, refl, sym, ap, subst, Bool, true, false, cond}
 use Rattle.std.specs.Prelude.{Option, Some, None, Ok, Err, IsSome}
 use Rattle.std.proofs.Math.Seq.{take-length}
-use Rattle.std.specs.Ordering.{nat_cmp, is_eq}
-use Rattle.std.specs.declared.cmp.Ordering.{Ordering}
-use Rattle.std.specs.declared.cmp.Ordering.TheVariants.{Less, Equal, Greater}
+use Rattle.std.specs.Ordering.{is_eq}
 use Rattle.std.specs.Cmp.{eq_by_cmp_equiv}
-use Rattle.std.specs.Cmp.Lexicographic.{slice_cmp, nat_list_cmp_total}
+use Rattle.std.specs.Cmp.Lexicographic.{nat_list_cmp_total}
 use Rattle.std.specs.FinMap.{get, insert, remove, get-insert, get-remove, same_map, slice_cmp-IsAntisymmetric, nat_cmp-IsAntisymmetric}
 use Rattle.cms_fields.specs.Steps.{◌>>=◌}
 use Rattle.cms_text.specs.Texts.{Text}
 use Rattle.exec2_parse.specs.Variables.{Values}
+use Rattle.exec2_parse.proofs.Finite.{R, tied}
 use Rattle.exec2_run.specs.Given.{is_argument, table_of}
 use Rattle.exec2_run.specs.Variables.{each_set, first_or_empty, has_room, taken_back, with_table, with_value}
 use Rattle.exec2_run.specs.declared.variables.Variables.{Variables}
 use Rattle.exec2_run.specs.declared.fault.Fault.{Fault}
 use Rattle.exec2_run.specs.declared.fault.Fault.TheVariants.{Memory, TooManyVariables}
-
--- the order of names
-abbrev R : Text → Text → Ordering
-R = slice_cmp nat_cmp
-
-equal : (o : Ordering) → is_eq o ≡ true → o ≡ Equal
-equal Less h = absurd (true≢false (sym h))
-equal Equal h = refl
-equal Greater h = absurd (true≢false (sym h))
-
-tied : (x y : Text) → is_eq (R x y) ≡ true → x ≡ y
-tied x y h = slice_cmp-IsAntisymmetric nat_cmp-IsAntisymmetric x y (equal (R x y) h)
 
 removed_again : (m : Values) (k v : Text) → get m k ≡ None → remove (insert m k v) k ≡ m
 removed_again m k v none = same_map nat_list_cmp_total (slice_cmp-IsAntisymmetric nat_cmp-IsAntisymmetric) _ _ (λ q.

@@ -16,25 +16,25 @@ use Rattle.exec2_run.specs.declared.values.Operands.{Operands}
 abbrev pub value : Binding → Text → Result Text Fault
 value names word = with_fault of_expansion (expanded names word)
 
--- a word's value in front of others; nothing is left out, and behind one that is too long nothing counts
-abbrev pub in_front : Result Text ExpandFault → Operands → Operands
-in_front (Ok []) more = more
-in_front (Ok (byte ∷ bytes)) more = record { words = (byte ∷ bytes) ∷ more.words; is_cut = more.is_cut }
-in_front (Err fault) more = record { words = []; is_cut = true }
+-- a word's value in front of others, but for an empty one that isn't kept; behind one that is too long nothing counts
+abbrev pub in_front : Bool → Result Text ExpandFault → Operands → Operands
+in_front true (Ok text) more = record { words = text ∷ more.words; is_cut = more.is_cut }
+in_front false (Ok []) more = more
+in_front false (Ok (byte ∷ bytes)) more = record { words = (byte ∷ bytes) ∷ more.words; is_cut = more.is_cut }
+in_front keeps (Err fault) more = record { words = []; is_cut = true }
 
--- what the words become from left to right, up to the first that becomes too long, without those that become nothing
-unfoldable pub operands : Binding → List Text → Operands
-operands names [] = record { words = []; is_cut = false }
-operands names (word ∷ words) = in_front (expanded names word) (operands names words)
+-- what the words become from left to right, up to the first that becomes too long; those that become nothing are kept or left out
+unfoldable pub values : Bool → Binding → List Text → Operands
+values keeps names [] = record { words = []; is_cut = false }
+values keeps names (word ∷ words) = in_front keeps (expanded names word) (values keeps names words)
 
-abbrev pub kept_in_front : Result Text ExpandFault → Operands → Operands
-kept_in_front (Ok text) more = record { words = text ∷ more.words; is_cut = more.is_cut }
-kept_in_front (Err fault) more = record { words = []; is_cut = true }
+-- what the words of a statement become
+abbrev pub operands : Binding → List Text → Operands
+operands = values false
 
--- the same among a function's words, where one that becomes nothing is an empty word
-unfoldable pub arguments : Binding → List Text → Operands
-arguments names [] = record { words = []; is_cut = false }
-arguments names (word ∷ words) = kept_in_front (expanded names word) (arguments names words)
+-- what the words of a function become, where one that becomes nothing is an empty word
+abbrev pub arguments : Binding → List Text → Operands
+arguments = values true
 
 -- values in front of others
 abbrev pub behind : List Text → Operands → Operands

@@ -2,6 +2,7 @@
 ghost use Rattle.std.specs.Prelude.{◌≡◌, ◌≤◌, length, IfOk};
 ghost use Rattle.cms_text.specs.Texts as texts;
 ghost use Rattle.exec2_run.specs.Given as spec;
+ghost use Rattle.cms_text.specs.Limits.{longest_text};
 
 use crate::FileName;
 use crate::variables::Variables;
@@ -65,7 +66,7 @@ impl Predefined {
 
     fn name(self) -> &'static str
         ensures name { result.now ≡ spec.name_of self }
-        ensures short { length result.now ≤ 255 }
+        ensures short { length result.now ≤ longest_text }
     {
         match self {
             Predefined::Procedure => "0",
@@ -104,7 +105,7 @@ pub fn is_given(name: &[u8]) -> bool
 
 /// An ASCII text as a word.
 fn word_of(alloc: Global, text: &str) -> Result<Word, AllocError>
-    requires { length text.now ≤ 255 }
+    requires { length text.now ≤ longest_text }
     ensures { IfOk result (λ word. word ≡ texts.ebcdic text.now) }
 {
     Ok(Word::take(ebcdic(alloc, text)?))

@@ -205,7 +205,7 @@ fn answered(
             write!(shown, "end {code}")?;
             Ok(None)
         }
-        Want::Failed { number, line } => {
+        Want::Faulted { number, line } => {
             write!(shown, "fail {number} {line}")?;
             Ok(None)
         }

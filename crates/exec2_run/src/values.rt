@@ -26,20 +26,21 @@ pub fn value(alloc: Global, seen: &Seen<'_>, word: &Word) -> Result<Word, Fault>
     Ok(expand_in(alloc, word.bytes(), seen)?)
 }
 
-/// What the words of a statement become, without those that become nothing.
-#[tactic(auto, unfolding(crate::specs::Values::operands))]
-pub fn expanded_words(
+// What words become. One that becomes nothing is an empty one, or is left out.
+#[tactic(auto, unfolding(crate::specs::Values::values))]
+fn values(
     alloc: Global,
     seen: &Seen<'_>,
     words: &[Word],
+    keeps_empty: bool,
 ) -> Result<Operands, AllocError>
-    ensures { IfOk result (λ operands. operands ≡ spec.operands (bound seen.now) words.now) }
+    ensures { IfOk result (λ operands. operands ≡ spec.values keeps_empty (bound seen.now) words.now) }
 {
     let mut values = WordList::new(alloc);
     for word in words {
         match expand_in(alloc, word.bytes(), seen) {
             Ok(value) => {
-                if !value.bytes().is_empty() {
+                if keeps_empty || !value.bytes().is_empty() {
                     values.push(value)?;
                 }
             }
@@ -58,28 +59,22 @@ pub fn expanded_words(
     })
 }
 
+/// What the words of a statement become, without those that become nothing.
+pub fn expanded_words(
+    alloc: Global,
+    seen: &Seen<'_>,
+    words: &[Word],
+) -> Result<Operands, AllocError>
+    ensures { IfOk result (λ operands. operands ≡ spec.operands (bound seen.now) words.now) }
+{
+    values(alloc, seen, words, false)
+}
+
 /// What the words of a function become; a word that becomes nothing is an empty one.
-#[tactic(auto, unfolding(crate::specs::Values::arguments))]
 pub fn arguments(alloc: Global, seen: &Seen<'_>, words: &[Word]) -> Result<Operands, AllocError>
     ensures { IfOk result (λ operands. operands ≡ spec.arguments (bound seen.now) words.now) }
 {
-    let mut values = WordList::new(alloc);
-    for word in words {
-        match expand_in(alloc, word.bytes(), seen) {
-            Ok(value) => values.push(value)?,
-            Err(ExpandFault::TooLong) => {
-                return Ok(Operands {
-                    words: values,
-                    is_cut: true,
-                });
-            }
-            Err(ExpandFault::Memory) => return Err(AllocError),
-        }
-    }
-    Ok(Operands {
-        words: values,
-        is_cut: false,
-    })
+    values(alloc, seen, words, true)
 }
 
 /// Why a word is missing: it became too long, or it isn't there.

@@ -2,6 +2,7 @@
 ghost use Rattle.std.specs.Prelude.{◌≡◌, ◌≤◌, ◌++◌, length, drop, take, position, ◌<◌, IfOk, IfSome, OnOk, MatchOption};
 ghost use Rattle.std.specs.List.{slice_split};
 ghost use Rattle.exec2_run.specs.Words as spec;
+ghost use Rattle.cms_text.specs.Limits.{longest_text};
 
 use cms_text::{BLANK, Word, WordList};
 use std::alloc::{AllocError, Global};
@@ -14,7 +15,7 @@ pub const ASTERISK: u8 = 0x5C;
 
 /// The words of a text, which stand between blanks.
 pub fn words_of(alloc: Global, text: &[u8]) -> Result<WordList, AllocError>
-    requires { length text.now ≤ 255 }
+    requires { length text.now ≤ longest_text }
     ensures { IfOk result (λ words. words ≡ spec.words_of text.now) }
 {
     let mut words = WordList::new(alloc);
@@ -49,7 +50,7 @@ fn place_of_blank(text: &[u8]) -> Option<usize>
 
 /// Adds a word, unless it has no bytes.
 fn add(alloc: Global, words: &mut WordList, word: &[u8]) -> Result<(), AllocError>
-    requires { length word.now ≤ 255 }
+    requires { length word.now ≤ longest_text }
     ensures { OnOk result (words.new ≡ words.old ++ spec.word_if_any word.now) }
 {
     if word.is_empty() {

@@ -9,8 +9,8 @@ loop-front-init g c =
     let e = c.take-value.ensures ∙ c.new.ensures.items in
     rw e (omega arith, expanded_start (g.S.Scope.binding c.args.scope.now) c.args.word.now)
 
-pub returns-then-left-bytes-gt-LONGEST-clause-too_long : goal.returns-then-left-bytes-gt-LONGEST-clause-too_long
-returns-then-left-bytes-gt-LONGEST-clause-too_long g c = λ _.
+pub returns-then-left-bytes-gt-LONGEST_TEXT-clause-too_long : goal.returns-then-left-bytes-gt-LONGEST_TEXT-clause-too_long
+returns-then-left-bytes-gt-LONGEST_TEXT-clause-too_long g c = λ _.
     let names = g.S.Scope.binding c.args.scope.now in
     let value : c.in_ok-value.value ≡ names (name_of c.in-Some.name.now c.loop-front.value) = c.in_ok-value.ensures
     ∙ ap names (c.bytes-in-Some.ensures.bytes ∙ c.in_ok-name.ensures ∙ ap (name_of c.in-Some.name.now) c.bytes.ensures.bytes) in

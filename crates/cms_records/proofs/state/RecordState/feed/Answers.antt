@@ -26,7 +26,7 @@ invariant_of-self-2 c =
     let all = c.self.view_is ∙ c.begin.ensures in
     let inv = c.self.invariant in
     let whole : v.whole ≡ false = ap (λ (s : Begun). s.whole) all in
-    let part : IsPart (record_size v.fixed v.longest v.place v.bytes.items) false v.bytes.items = subst (λ (b : Bool). IsPart (record_size v.fixed v.longest v.place v.bytes.items) b v.bytes.items) whole inv.5 in
+    let part : IsPart (record_size v.fixed v.longest v.place v.bytes.items) false v.bytes.items = subst (λ (b : Bool). IsPart (record_size v.fixed v.longest v.place v.bytes.items) b v.bytes.items) whole inv.part in
     let good : c.size_of.result ≡ Ok (Some n) = search rules in
     let there : c.deref.result.now ≡ c.take-next.new.bytes.items = search rules in
     let two = λ (none : v.fixed ≡ None). c.head_of.ensures ∙ ap head_of none in
@@ -36,12 +36,12 @@ invariant_of-self-2 c =
     let fits = part_fits v.fixed v.longest v.place c.head_of.result n v.bytes.items more (λ m is. c.head_of.ensures ∙ ap head_of is) two part size in
     let second = all_taken v.bytes.items c.args.piece.now (max c.head_of.result (length v.bytes.items)) n c.args.from c.take-next.result c.take-next.new.bytes.items c.take-next-2.new.bytes.items
     (omega arith) fits c.take-next.ensures.within.0 c.take-next.ensures.next c.take-next.ensures.bytes c.take-next-2.ensures.bytes in
-    let most = size_most v.fixed v.longest v.place (v.bytes.items ++ more) n inv.0 size in
+    let most = size_most v.fixed v.longest v.place (v.bytes.items ++ more) n inv.fixed size in
     let few = front_few n (v.bytes.items ++ more) c.take-next-2.new.bytes.items second in
     let sum = begun_sum c.args.self.now in
     let place : v.place ≡ next_place c.args.self.now = ap (λ (s : Begun). s.place) all in
     let bytes : length v.bytes.items ≡ length (bytes_so_far c.args.self.now) = ap (λ (s : Begun). length s.bytes) all in
-    let room = inv.3 in
+    let room = inv.room in
     let one = c.take-next.ensures.capacity in
     let other = c.take-next-2.ensures.capacity in
     let n1 = c.take-next.ensures.next in
@@ -49,15 +49,16 @@ invariant_of-self-2 c =
     let w1 = c.take-next.ensures.within in
     let w2 = c.take-next-2.ensures.within in
     let most_fed = c.requires.few in
-    let len : c.len.result ≡ length c.take-next-2.new.bytes.items = search rules in (
-      inv.0,
-      inv.1,
-      omega (arith, few, most),
-      omega (arith, room, one, other),
-      omega (arith, sum, place, bytes, n1, n2, w1.0, w1.1, w2.0, w2.1, most_fed),
-      subst (λ (k : ℕ). IsPart (record_size v.fixed v.longest v.place c.take-next-2.new.bytes.items) (k == n) c.take-next-2.new.bytes.items) (sym len)
-          (front_is_part v.fixed v.longest v.place n (v.bytes.items ++ more) c.take-next-2.new.bytes.items second size),
-    )
+    let len : c.len.result ≡ length c.take-next-2.new.bytes.items = search rules in
+    record {
+      fixed = inv.fixed;
+      short = inv.short;
+      few = omega (arith, few, most);
+      room = omega (arith, room, one, other);
+      within = omega (arith, sum, place, bytes, n1, n2, w1.0, w1.1, w2.0, w2.1, most_fed);
+      part = subst (λ (k : ℕ). IsPart (record_size v.fixed v.longest v.place c.take-next-2.new.bytes.items) (k == n) c.take-next-2.new.bytes.items) (sym len)
+          (front_is_part v.fixed v.longest v.place n (v.bytes.items ++ more) c.take-next-2.new.bytes.items second size);
+    }
 
 pub returns-clause-taken : goal.returns-clause-taken
 returns-clause-taken c =
@@ -67,7 +68,7 @@ returns-clause-taken c =
     let all = c.self.view_is ∙ c.begin.ensures in
     let inv = c.self.invariant in
     let whole : v.whole ≡ false = ap (λ (s : Begun). s.whole) all in
-    let part : IsPart (record_size v.fixed v.longest v.place v.bytes.items) false v.bytes.items = subst (λ (b : Bool). IsPart (record_size v.fixed v.longest v.place v.bytes.items) b v.bytes.items) whole inv.5 in
+    let part : IsPart (record_size v.fixed v.longest v.place v.bytes.items) false v.bytes.items = subst (λ (b : Bool). IsPart (record_size v.fixed v.longest v.place v.bytes.items) b v.bytes.items) whole inv.part in
     let good : c.size_of.result ≡ Ok (Some n) = search rules in
     let there : c.deref.result.now ≡ c.take-next.new.bytes.items = search rules in
     let two = λ (none : v.fixed ≡ None). c.head_of.ensures ∙ ap head_of none in

@@ -1,0 +1,22 @@
+-- What the fields of a cursor are.
+use Rattle.cms_disk.specs.Cursors.{Reading, IsReading}
+use Rattle.cms_disk.specs.declared.cursor.Cursor.TheInside.{Inside}
+
+-- how far the file was read
+abbrev pub reading_of : Inside → Reading
+reading_of c = record {
+  unit = c.unit.number;
+  total = c.unit.blocks;
+  bsize = c.bsize;
+  leaves = c.leaves.items;
+  done = c.done;
+  block = c.block.items;
+  from = c.from;
+  left = c.left;
+  begun = c.begun;
+  altered = c.altered;
+}
+
+-- what always holds of them
+abbrev pub AreSound : Inside → Type 0
+AreSound c = IsReading (reading_of c)
