@@ -203,6 +203,13 @@ impl Held {
         }
     }
 
+    /// The number of lost blocks: marked in the map and in no tree.
+    pub fn lost(&self) -> u32
+        ensures { result ≡ self.now.volume.lost }
+    {
+        self.lost
+    }
+
     /// The data blocks, in order, of the file at a place, from 0 below their number.
     pub fn leaves(&self, nth: u32) -> &[u32]
         requires { nth < length self.now.volume.files }

@@ -25,12 +25,3 @@ pub use held::{FileHeld, FileInfo, Held, Space};
 pub use laws::held_laws;
 pub use opening::open_volume;
 pub use small::{Small, SmallFault, SmallInfo, small_volume};
-
-#[cfg(test)]
-mod erase_tests;
-#[cfg(test)]
-mod held_tests;
-#[cfg(test)]
-mod opening_tests;
-#[cfg(test)]
-mod tests;

@@ -17,8 +17,3 @@ pub use stack::{ProgStack, PushFault, STACK_LINES};
 pub use token::{Token, Tokens};
 pub use typing::type_line;
 pub use words::tokens;
-
-#[cfg(test)]
-mod option_tests;
-#[cfg(test)]
-mod tests;

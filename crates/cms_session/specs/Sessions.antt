@@ -201,4 +201,4 @@ abbrev pub LinesEnd : Device → Terms → Option Disk → Seen → Seen → Sta
 LinesEnd device terms disk before now status =
     (word : UnitWord) (units : List Slot) → device ≡ device_of word → Holds before.told disk units
     → EndedAs (first_point before.told before.faults units (words.given_in terms.given)) before.edges now
-        (lines_tree (words.asked word terms) disk units) status
+    (lines_tree (words.asked word terms) disk units) status

@@ -16,10 +16,3 @@ pub use cms_words::WordFault;
 pub use laws::laws_of_sessions;
 pub use status::Status;
 pub use top::run;
-
-#[cfg(test)]
-mod erase_tests;
-#[cfg(test)]
-mod session_tests;
-#[cfg(test)]
-mod status_tests;

@@ -11,6 +11,3 @@ mod join;
 pub use calls::call;
 pub use fault::FuncFault;
 pub use function::Function;
-
-#[cfg(test)]
-mod tests;

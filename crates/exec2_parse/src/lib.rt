@@ -12,6 +12,3 @@ pub use fold::folded;
 pub use procedure::{ProcFault, Procedure, read_procedure};
 pub use scope::Scope;
 pub use vars::Vars;
-
-#[cfg(test)]
-mod tests;

@@ -25,6 +25,3 @@ pub use exec::{Exec, FileName};
 pub use fault::Fault;
 pub use laws::{call_laws, label_laws, statement_laws};
 pub use want::{Side, Want};
-
-#[cfg(test)]
-mod tests;

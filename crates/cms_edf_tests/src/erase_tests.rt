@@ -1,8 +1,8 @@
 // Files erased from small volumes on the units of a world in memory.
-use super::*;
-use crate::tests::{
+use crate::small_tests::{
     Answer, HELLO_LIST, HELLO_TEXT, NAME, OTHER_NAME, OTHER_TYPE, image, looked_at,
 };
+use cms_edf::{SmallErase, SmallFault, small_volume};
 use cms_fields::Stamp;
 use cms_images::hello::{MARKED, NEW_DIRECTORY, NEW_LABEL, NEW_MAP, three};
 use cms_images::{Edit, put_edits};

@@ -1,23 +1,10 @@
 // Calls of the functions, by the rules of VM/SP EXEC 2.
-use crate::{FuncFault, Function, call};
-use cms_ebcdic::to_host;
+use crate::shared::{host, word};
 use cms_text::{Word, WordList, ebcdic, number, written};
+use exec2_funcs::{FuncFault, Function, call};
 use std::alloc::{AllocError, Global};
 use std::process::Abort;
 use std::test::Fail;
-
-fn word(rt: &impl Abort, alloc: Global, text: &str) -> Result<Word, AllocError> {
-    let bytes = ebcdic(alloc, text)?;
-    assert!(rt; bytes.len() <= 255);
-    Ok(Word::take(bytes))
-}
-
-fn text(alloc: Global, word: &Word) -> Result<String, AllocError> {
-    word.bytes()
-        .iter()
-        .map(|byte| char::from(to_host(*byte)))
-        .collect(alloc)
-}
 
 /// The answer to a line of a function word and its words, with a stroke between each two: the value between apostrophes, or the fault.
 fn answer(rt: &impl Abort, alloc: Global, line: &str) -> Result<String, Fail> {
@@ -31,7 +18,7 @@ fn answer(rt: &impl Abort, alloc: Global, line: &str) -> Result<String, Fail> {
     }
     match call(alloc, function.ok_or("no function")?, &words) {
         Ok(word) => {
-            let text = text(alloc, &word)?;
+            let text = host(alloc, word.bytes())?;
             Ok(format!(in alloc; "'{text}'")?)
         }
         Err(fault) => Ok(format!(in alloc; "{fault:?}")?),
@@ -200,7 +187,7 @@ fn numbers_are_read_as_written(rt: HostRuntime) -> Result<(), Fail> {
         (i64::MIN, "-9223372036854775808"),
     ] {
         let word = written(rt.alloc(), value)?;
-        assert_eq!(rt; text(rt.alloc(), &word)?.as_str(), wanted);
+        assert_eq!(rt; host(rt.alloc(), word.bytes())?.as_str(), wanted);
         assert_eq!(rt; number(word.bytes()), Some(value), "{wanted}");
     }
     Ok(())

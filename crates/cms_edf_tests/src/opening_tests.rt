@@ -1,5 +1,5 @@
 // Any volume, opened on a unit of a world in memory.
-use super::*;
+use cms_edf::{Held, OpenFault, open_volume};
 use cms_fields::LabelFault;
 use cms_images::known::{empty, full, long_directory, one_file, put, spanning, two_files};
 use cms_journal::BlockSize;
@@ -158,7 +158,7 @@ fn a_short_unit_has_no_label(rt: HostRuntime) -> Result<(), Fail> {
 fn sizes_of(alloc: Global, image: &[u8]) -> Result<Option<(u32, u32, u32)>, AllocError> {
     let mut world = world_of(alloc, image, 1000)?;
     match open(alloc, &mut world) {
-        Some(Ok(held)) => Ok(Some((held.label.blocks, held.count(), held.lost))),
+        Some(Ok(held)) => Ok(Some((held.space().total, held.count(), held.lost()))),
         _ => Ok(None),
     }
 }
@@ -187,7 +187,7 @@ fn each_block_is_read_once(rt: HostRuntime) -> Result<(), Fail> {
     assert_eq!(rt; file.length(), 509);
     assert_eq!(rt; file.size(), 516);
     assert_eq!(rt; file.leaves(), [7, 8].as_slice());
-    assert_eq!(rt; file.tree.pointers.as_slice(), [9].as_slice());
+    assert_eq!(rt; (file.entry().root, file.entry().levels), (9, 1));
     assert_eq!(rt; world.calls(), b"arrrrrr".as_slice());
     Ok(())
 }

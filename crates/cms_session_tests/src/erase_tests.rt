@@ -1,10 +1,10 @@
 // Sessions that erase files of disk A, on images in memory.
-use crate::Status;
 use crate::session_tests::{WORD as READ_ONLY, ended, world};
 use cms_images::hello::{
     ERASE_EXEC, MARKED, NEW_DIRECTORY, NEW_LABEL, NEW_MAP, NO_LABEL, TYPE_EXEC, hello, three,
 };
 use cms_images::{Edit, put_edits};
+use cms_session::Status;
 use cms_world::MemWorld;
 use std::alloc::{AllocError, Global};
 use std::process::Abort;

@@ -1,6 +1,6 @@
 // Lines, their words and the options among them, written by hand.
-use crate::{Chosen, Line, OptionFault, OptionRule, Tokens, accepted_options, options, tokens};
 use cms_ebcdic::{from_host, to_host};
+use cms_line::{Chosen, Line, OptionFault, OptionRule, Tokens, accepted_options, options, tokens};
 use std::alloc::Global;
 use std::test::Fail;
 

@@ -1,7 +1,7 @@
 // Whole sessions on images in memory.
-use crate::{Status, WordFault, run};
 use cms_images::hello::{NO_LABEL, TYPE_EXEC, hello};
 use cms_images::{Edit, many_files};
+use cms_session::{Status, WordFault, run};
 use cms_world::{Argv, MemWorld};
 use std::alloc::{AllocError, Global};
 use std::test::Fail;

@@ -1,5 +1,5 @@
 // Small volumes on the units of a world in memory.
-use super::*;
+use cms_edf::{SmallFault, SmallInfo, small_volume};
 use cms_images::hello::{HELLO, SECOND};
 use cms_images::{Edit, edited, put_edits};
 use cms_journal::BlockSize;

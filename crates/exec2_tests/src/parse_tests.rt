@@ -1,63 +1,16 @@
 // Words, variables and procedures, by the rules of VM/SP EXEC 2.
 ghost use Rattle.std.specs.Prelude.{◌≤◌, length, IfOk};
+ghost use Rattle.cms_fields.specs.Limits.{most_bytes};
 ghost use Rattle.cms_model.specs.Records.{IsValid};
 
-use crate::{ExpandFault, ProcFault, Vars, expand, read_procedure};
-use cms_ebcdic::to_host;
-use cms_fields::Stamp;
+use crate::shared::{STAMP, cards, host, word};
 use cms_model::{FileData, Stored};
 use cms_names::Format;
 use cms_text::{Word, ebcdic, first_word, is_keyword, without_trailing_blanks};
+use exec2_parse::{ExpandFault, ProcFault, Vars, expand, read_procedure};
 use std::alloc::{AllocError, Global};
 use std::process::Abort;
 use std::test::Fail;
-
-fn word(rt: &impl Abort, alloc: Global, text: &str) -> Result<Word, AllocError> {
-    let bytes = ebcdic(alloc, text)?;
-    assert!(rt; bytes.len() <= 255);
-    Ok(Word::take(bytes))
-}
-
-fn host(alloc: Global, bytes: &[u8]) -> Result<String, AllocError> {
-    bytes
-        .iter()
-        .map(|byte| char::from(to_host(*byte)))
-        .collect(alloc)
-}
-
-const STAMP: Stamp = Stamp {
-    year: 0,
-    month: 1,
-    day: 1,
-    hour: 0,
-    minute: 0,
-    second: 0,
-};
-
-/// A file of records of one length, filled with blanks.
-fn cards(rt: &impl Abort, alloc: Global, size: u16, lines: &[&str]) -> Result<FileData, AllocError>
-    ensures valid { IfOk result (λ file. IsValid file) }
-    ensures stored { IfOk result (λ file. length file.bytes ≤ 67108864) }
-{
-    let mut bytes = Vec::new(alloc);
-    for line in lines {
-        let mut card = ebcdic(alloc, line)?;
-        card.resize(usize::from(size), 0x40)?;
-        bytes.extend_from_slice(&card)?;
-    }
-    let count = lines.len();
-    assert!(rt; 1 <= size && size <= 300);
-    assert!(rt; 1 <= count && count <= 5000);
-    assert!(rt; bytes.len() == count * usize::from(size));
-    Ok(FileData {
-        format: Format::F,
-        length: u32::from(size),
-        number: 1,
-        stamp: STAMP,
-        count: count as u32,
-        bytes: Stored::take(bytes),
-    })
-}
 
 /// Two records of 9 and 7 bytes, `&TRACE ON` and `&EXIT  `, each with its length before it.
 const VARYING: [u8; 20] = [
@@ -67,7 +20,7 @@ const VARYING: [u8; 20] = [
 
 fn varying(alloc: Global) -> Result<FileData, AllocError>
     ensures valid { IfOk result (λ file. IsValid file) }
-    ensures stored { IfOk result (λ file. length file.bytes ≤ 67108864) }
+    ensures stored { IfOk result (λ file. length file.bytes ≤ most_bytes) }
 {
     Ok(FileData {
         format: Format::V,

@@ -1,5 +1,5 @@
 // How statuses are told.
-use crate::{Status, WordFault};
+use cms_session::{Status, WordFault};
 
 #[test]
 fn statuses_have_codes(rt: HostRuntime) {

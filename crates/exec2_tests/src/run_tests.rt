@@ -1,43 +1,13 @@
 // Procedures and what they want, by the rules of VM/SP EXEC 2.
-ghost use Rattle.std.specs.Prelude.{◌≤◌, length, IfOk};
-ghost use Rattle.cms_model.specs.Records.{IsValid};
-
-use crate::{Exec, FileName, Side, Want};
-use cms_ebcdic::{from_host, to_host};
-use cms_fields::{Moment, Stamp};
-use cms_model::{FileData, Stored};
-use cms_names::{Format, Name, Part};
-use cms_text::{Line, Lines};
+use crate::shared::{cards, host, word};
+use cms_fields::Moment;
+use cms_names::{Name, Part};
+use cms_text::{Lines, ebcdic};
 use exec2_parse::{Procedure, read_procedure};
+use exec2_run::{Exec, FileName, Side, Want};
 use std::alloc::{AllocError, Global};
 use std::process::Abort;
 use std::test::Fail;
-
-fn ebcdic(alloc: Global, text: &str) -> Result<Vec<u8>, AllocError> {
-    text.bytes().filter_map(from_host).collect(alloc)
-}
-
-fn line(rt: &impl Abort, alloc: Global, text: &str) -> Result<Line, AllocError> {
-    let bytes = ebcdic(alloc, text)?;
-    assert!(rt; bytes.len() <= 255);
-    Ok(Line::take(bytes))
-}
-
-fn host(alloc: Global, bytes: &[u8]) -> Result<String, AllocError> {
-    bytes
-        .iter()
-        .map(|byte| char::from(to_host(*byte)))
-        .collect(alloc)
-}
-
-const STAMP: Stamp = Stamp {
-    year: 0,
-    month: 1,
-    day: 1,
-    hour: 0,
-    minute: 0,
-    second: 0,
-};
 
 /// A procedure and what it wants. The lines stand between semicolons, behind a first line `&TRACE OFF`, where `@N text` is N lines of
 /// that text; the answers are `r text` to a read, `c code` to a command, and `f` where the stack is full.
@@ -87,32 +57,8 @@ fn copies(line: &str) -> (u32, &str) {
     (1, line)
 }
 
-/// A file of these lines, as records of 255 bytes.
-fn cards(rt: &impl Abort, alloc: Global, lines: &[&str]) -> Result<FileData, AllocError>
-    ensures valid { IfOk result (λ file. IsValid file) }
-    ensures stored { IfOk result (λ file. length file.bytes ≤ 67108864) }
-{
-    let mut bytes = Vec::new(alloc);
-    for line in lines {
-        let mut card = ebcdic(alloc, line)?;
-        card.resize(255, 0x40)?;
-        bytes.extend_from_slice(&card)?;
-    }
-    let count = lines.len();
-    assert!(rt; 1 <= count && count <= 5000);
-    assert!(rt; bytes.len() == count * 255);
-    Ok(FileData {
-        format: Format::F,
-        length: 255,
-        number: 1,
-        stamp: STAMP,
-        count: count as u32,
-        bytes: Stored::take(bytes),
-    })
-}
-
 fn started(rt: &impl Abort, alloc: Global, row: &Row<'_>) -> Result<Exec, Fail> {
-    let file = cards(rt, alloc, lines_of(alloc, row.lines)?.as_slice())?;
+    let file = cards(rt, alloc, 255, lines_of(alloc, row.lines)?.as_slice())?;
     let procedure = read_procedure(alloc, &file)?;
     let found = FileName {
         name: Name {
@@ -127,7 +73,7 @@ fn started(rt: &impl Abort, alloc: Global, row: &Row<'_>) -> Result<Exec, Fail> 
     } else {
         row.called
     };
-    Ok(Exec::start(alloc, procedure, &line(rt, alloc, called)?, &found)?)
+    Ok(Exec::start(alloc, procedure, &word(rt, alloc, called)?, &found)?)
 }
 
 fn part(alloc: Global, text: &str) -> Result<Part, Fail> {
@@ -192,7 +138,7 @@ fn answered(
         Want::Read => {
             shown.push_str("read;")?;
             let text = answer(answers, "r ").unwrap_or("");
-            Ok(Some(exec.take_line(&line(rt, alloc, text)?)?))
+            Ok(Some(exec.take_line(&word(rt, alloc, text)?)?))
         }
         Want::Command(command) => {
             let text = host(alloc, command.bytes())?;

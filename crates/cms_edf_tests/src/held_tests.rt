@@ -1,6 +1,6 @@
 // What is asked of a volume that is held.
-use super::*;
 use crate::opening_tests::{open, world_of};
+use cms_edf::{FileInfo, Held, Space};
 use cms_fields::Stamp;
 use cms_images::known::{empty, full, long_directory, spanning};
 use cms_names::{Format, Name, Part};

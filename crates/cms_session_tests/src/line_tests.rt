@@ -1,8 +1,11 @@
 // Scripts and their lines, typed lines, messages and the program stack.
 ghost use Rattle.std.specs.Prelude.{None};
 
-use super::*;
 use cms_ebcdic::{from_host, to_host};
+use cms_line::{
+    Console, ConsoleLine, Line, LineFault, Message, ProgStack, PushFault, Word, type_line,
+    write_message,
+};
 use cms_world::{Access, Failed, MemWorld, Unit, World};
 use std::alloc::{AllocError, Global};
 use std::process::Abort;

@@ -1,0 +1,13 @@
+//! The tests of cms_line and cms_session, which so are proved without them, once. No part of the product.
+#![tactic(auto)]
+
+#[cfg(test)]
+mod erase_tests;
+#[cfg(test)]
+mod line_tests;
+#[cfg(test)]
+mod option_tests;
+#[cfg(test)]
+mod session_tests;
+#[cfg(test)]
+mod status_tests;
