@@ -7,7 +7,7 @@ use Rattle.cms_fields.specs.Steps.{◌>>◌, want}
 use Rattle.cms_text.specs.Bytes.{half}
 use Rattle.cms_model.specs.declared.fault.VarFault.{VarFault}
 use Rattle.cms_model.specs.declared.fault.VarFault.TheVariants.{Zero, PastEnd}
-use Rattle.cms_records.specs.Pieces.{Begun, next_place, bytes_so_far, record_size, IsPart}
+use Rattle.cms_records.specs.Pieces.{Begun, head_of, next_place, bytes_so_far, record_size, IsPart}
 use Rattle.cms_records.proofs.Scanning.{half_front}
 
 -- ---- the front of bytes
@@ -108,22 +108,41 @@ part_fits None longest place head n before more heads two part is =
     one_or : (a : ℕ) → (a ≤ 1) ⊎ (2 ≤ a)
     one_or a = grind arith
 
+-- a front has no more bytes than it is to have
+pub front_few : (n : ℕ) (all second : List ℕ) → second ≡ take n all → length second ≤ n
+front_few n all second is = subst (λ (l : List ℕ). length l ≤ n) (sym is) (short n all)
+  where
+    short : (k : ℕ) (all : List ℕ) → length (take k all) ≤ k
+    short zero all = omega arith
+    short (suc k) [] = omega arith
+    short (suc k) (x ∷ xs) = let s = short k xs in omega arith
+
 -- all of it
 pub all_taken : (before piece : List ℕ) (k n from next : ℕ) (first second : List ℕ) → length before ≤ k → k ≤ n → from ≤ next → length before + (next - from) ≡ length first
     → first ≡ take k (before ++ drop from piece) → second ≡ take (max n (length first)) (first ++ drop next piece) → second ≡ take n (before ++ drop from piece)
 all_taken before piece k n from next first second le fits later taken first_is second_is =
     let joined = rejoined before piece k from next le later (taken ∙ ap length first_is) in
-    let short : length first ≤ k = front_short k (before ++ drop from piece) first first_is in
+    let short : length first ≤ k = front_few k (before ++ drop from piece) first first_is in
     let m : max n (length first) ≡ n = omega arith in
     second_is ∙ (ap (λ (j : ℕ). take j (first ++ drop next piece)) m ∙ ap (take n) (ap (λ (l : List ℕ). l ++ drop next piece) first_is ∙ joined))
-  where
-    front_short : (k : ℕ) (all first : List ℕ) → first ≡ take k all → length first ≤ k
-    front_short k all first is = subst (λ (l : List ℕ). length l ≤ k) (sym is) (short k all)
-      where
-        short : (k : ℕ) (all : List ℕ) → length (take k all) ≤ k
-        short zero all = omega arith
-        short (suc k) [] = omega arith
-        short (suc k) (x ∷ xs) = let s = short k xs in omega arith
+
+-- bytes that tell the size of a record were taken, and then all of the record
+pub record IsTaken (fixed : Option ℕ) (longest place n : ℕ) (before more second : List ℕ) : Type 0 where
+  pub size : record_size fixed longest place (before ++ more) ≡ Ok (Some n)
+  pub all : second ≡ take n (before ++ more)
+
+pub is_taken : (fixed : Option ℕ) (longest place head n : ℕ) (before piece : List ℕ) (from next : ℕ) (first second : List ℕ) (whole : Bool) → whole ≡ false → head ≡ head_of fixed
+    → IsPart (record_size fixed longest place before) whole before → record_size fixed longest place first ≡ Ok (Some n)
+    → from ≤ next → length before + (next - from) ≡ length first → first ≡ take (max head (length before)) (before ++ drop from piece)
+    → second ≡ take (max n (length first)) (first ++ drop next piece) → IsTaken fixed longest place n before (drop from piece) second
+is_taken fixed longest place head n before piece from next first second whole begun is part size later taken first_is second_is =
+    let more = drop from piece in
+    let two = λ (none : fixed ≡ None). is ∙ ap head_of none in
+    let so_far = subst (λ (b : Bool). IsPart (record_size fixed longest place before) b before) begun part in
+    let all : record_size fixed longest place (before ++ more) ≡ Ok (Some n) =
+    sym (size_told fixed longest place head before more two) ∙ (ap (record_size fixed longest place) (sym first_is) ∙ size) in
+    let fits = part_fits fixed longest place head n before more (λ m e. is ∙ ap head_of e) two so_far all in
+    record { size = all; all = all_taken before piece (max head (length before)) n from next first second (omega arith) fits later taken first_is second_is }
 
 -- it is whole where so many bytes are there
 pub whole_told : (n : ℕ) (all second : List ℕ) → second ≡ take n all → (length second == n) ≡ nat_le n (length all)
@@ -171,11 +190,3 @@ begun_sum s = go s.whole
     go : (b : Bool) → (if b then s.place + length s.bytes else s.place) + length (if b then [] else s.bytes) ≡ s.place + length s.bytes
     go true = omega arith
     go false = refl
-
-pub front_few : (n : ℕ) (all second : List ℕ) → second ≡ take n all → length second ≤ n
-front_few n all second is = subst (λ (l : List ℕ). length l ≤ n) (sym is) (short n all)
-  where
-    short : (k : ℕ) (all : List ℕ) → length (take k all) ≤ k
-    short zero all = omega arith
-    short (suc k) [] = omega arith
-    short (suc k) (x ∷ xs) = let s = short k xs in omega arith

@@ -2,7 +2,7 @@ use Rattle.std.proofs.Common.{rules, ◌≡◌, ◌++◌, ℕ, Bool, false, List
 use Rattle.std.specs.Prelude.{max, nat_le, ◌==◌}
 use Rattle.std.proofs.lemmas.Result.{err_from_is_err_and}
 use Rattle.cms_records.specs.Pieces.{Begun, head_of, record_size, next_place, bytes_so_far, IsPart}
-use Rattle.cms_records.proofs.Feeding.{size_told, part_fits, all_taken, whole_told, front_is_part, size_most, begun_sum, front_few}
+use Rattle.cms_records.proofs.Feeding.{size_told, is_taken, whole_told, front_is_part, size_most, begun_sum, front_few}
 use Rattle.cms_records.proofs.state.RecordState.feed.Goals as goal
 
 pub returns-in_err-size-clause-fault : goal.returns-in_err-size-clause-fault
@@ -25,19 +25,13 @@ invariant_of-self-2 c =
     let more = drop c.args.from c.args.piece.now in
     let all = c.self.view_is ∙ c.begin.ensures in
     let inv = c.self.invariant in
-    let whole : v.whole ≡ false = ap (λ (s : Begun). s.whole) all in
-    let part : IsPart (record_size v.fixed v.longest v.place v.bytes.items) false v.bytes.items = subst (λ (b : Bool). IsPart (record_size v.fixed v.longest v.place v.bytes.items) b v.bytes.items) whole inv.part in
     let good : c.size_of.result ≡ Ok (Some n) = search rules in
     let there : c.deref.result.now ≡ c.take-next.new.bytes.items = search rules in
-    let two = λ (none : v.fixed ≡ None). c.head_of.ensures ∙ ap head_of none in
-    let size : record_size v.fixed v.longest v.place (v.bytes.items ++ more) ≡ Ok (Some n) =
-    sym (size_told v.fixed v.longest v.place c.head_of.result v.bytes.items more two)
-    ∙ (ap (record_size v.fixed v.longest v.place) (sym (there ∙ c.take-next.ensures.bytes)) ∙ (sym c.size_of.ensures ∙ good)) in
-    let fits = part_fits v.fixed v.longest v.place c.head_of.result n v.bytes.items more (λ m is. c.head_of.ensures ∙ ap head_of is) two part size in
-    let second = all_taken v.bytes.items c.args.piece.now (max c.head_of.result (length v.bytes.items)) n c.args.from c.take-next.result c.take-next.new.bytes.items c.take-next-2.new.bytes.items
-    (omega arith) fits c.take-next.ensures.within.0 c.take-next.ensures.next c.take-next.ensures.bytes c.take-next-2.ensures.bytes in
-    let most = size_most v.fixed v.longest v.place (v.bytes.items ++ more) n inv.fixed size in
-    let few = front_few n (v.bytes.items ++ more) c.take-next-2.new.bytes.items second in
+    let done = is_taken v.fixed v.longest v.place c.head_of.result n v.bytes.items c.args.piece.now c.args.from c.take-next.result c.take-next.new.bytes.items c.take-next-2.new.bytes.items
+    v.whole (ap (λ (s : Begun). s.whole) all) c.head_of.ensures inv.part (ap (record_size v.fixed v.longest v.place) (sym there) ∙ (sym c.size_of.ensures ∙ good))
+    c.take-next.ensures.within.0 c.take-next.ensures.next c.take-next.ensures.bytes c.take-next-2.ensures.bytes in
+    let most = size_most v.fixed v.longest v.place (v.bytes.items ++ more) n inv.fixed done.size in
+    let few = front_few n (v.bytes.items ++ more) c.take-next-2.new.bytes.items done.all in
     let sum = begun_sum c.args.self.now in
     let place : v.place ≡ next_place c.args.self.now = ap (λ (s : Begun). s.place) all in
     let bytes : length v.bytes.items ≡ length (bytes_so_far c.args.self.now) = ap (λ (s : Begun). length s.bytes) all in
@@ -57,7 +51,7 @@ invariant_of-self-2 c =
       room = omega (arith, room, one, other);
       within = omega (arith, sum, place, bytes, n1, n2, w1.0, w1.1, w2.0, w2.1, most_fed);
       part = subst (λ (k : ℕ). IsPart (record_size v.fixed v.longest v.place c.take-next-2.new.bytes.items) (k == n) c.take-next-2.new.bytes.items) (sym len)
-          (front_is_part v.fixed v.longest v.place n (v.bytes.items ++ more) c.take-next-2.new.bytes.items second size);
+          (front_is_part v.fixed v.longest v.place n (v.bytes.items ++ more) c.take-next-2.new.bytes.items done.all done.size);
     }
 
 pub returns-clause-taken : goal.returns-clause-taken
@@ -67,17 +61,11 @@ returns-clause-taken c =
     let more = drop c.args.from c.args.piece.now in
     let all = c.self.view_is ∙ c.begin.ensures in
     let inv = c.self.invariant in
-    let whole : v.whole ≡ false = ap (λ (s : Begun). s.whole) all in
-    let part : IsPart (record_size v.fixed v.longest v.place v.bytes.items) false v.bytes.items = subst (λ (b : Bool). IsPart (record_size v.fixed v.longest v.place v.bytes.items) b v.bytes.items) whole inv.part in
     let good : c.size_of.result ≡ Ok (Some n) = search rules in
     let there : c.deref.result.now ≡ c.take-next.new.bytes.items = search rules in
-    let two = λ (none : v.fixed ≡ None). c.head_of.ensures ∙ ap head_of none in
-    let size : record_size v.fixed v.longest v.place (v.bytes.items ++ more) ≡ Ok (Some n) =
-    sym (size_told v.fixed v.longest v.place c.head_of.result v.bytes.items more two)
-    ∙ (ap (record_size v.fixed v.longest v.place) (sym (there ∙ c.take-next.ensures.bytes)) ∙ (sym c.size_of.ensures ∙ good)) in
-    let fits = part_fits v.fixed v.longest v.place c.head_of.result n v.bytes.items more (λ m is. c.head_of.ensures ∙ ap head_of is) two part size in
-    let second = all_taken v.bytes.items c.args.piece.now (max c.head_of.result (length v.bytes.items)) n c.args.from c.take-next.result c.take-next.new.bytes.items c.take-next-2.new.bytes.items
-    (omega arith) fits c.take-next.ensures.within.0 c.take-next.ensures.next c.take-next.ensures.bytes c.take-next-2.ensures.bytes in
+    let done = is_taken v.fixed v.longest v.place c.head_of.result n v.bytes.items c.args.piece.now c.args.from c.take-next.result c.take-next.new.bytes.items c.take-next-2.new.bytes.items
+    v.whole (ap (λ (s : Begun). s.whole) all) c.head_of.ensures inv.part (ap (record_size v.fixed v.longest v.place) (sym there) ∙ (sym c.size_of.ensures ∙ good))
+    c.take-next.ensures.within.0 c.take-next.ensures.next c.take-next.ensures.bytes c.take-next-2.ensures.bytes in
     let place : v.place ≡ next_place c.args.self.now = ap (λ (s : Begun). s.place) all in
     let bytes : v.bytes.items ≡ bytes_so_far c.args.self.now = ap (λ (s : Begun). s.bytes) all in
     let same : v.bytes.items ++ more ≡ bytes_so_far c.args.self.now ++ more = ap (λ (l : List ℕ). l ++ more) bytes in
@@ -89,9 +77,9 @@ returns-clause-taken c =
     let len : c.len.result ≡ length c.take-next-2.new.bytes.items = search rules in
     record {
       size = Some n;
-      size_is = subst (λ (s : Begun). record_size s.fixed s.longest s.place (s.bytes ++ more) ≡ Ok (Some n)) all size;
-      bytes = second ∙ ap (take n) same;
+      size_is = subst (λ (s : Begun). record_size s.fixed s.longest s.place (s.bytes ++ more) ≡ Ok (Some n)) all done.size;
+      bytes = done.all ∙ ap (take n) same;
       taken_is = omega (arith, long, n1, n2, w1.0, w1.1, w2.0, w2.1);
-      whole_is = ap (λ (k : ℕ). k == n) len ∙ (whole_told n (v.bytes.items ++ more) c.take-next-2.new.bytes.items second ∙ ap (λ (l : List ℕ). nat_le n (length l)) same);
+      whole_is = ap (λ (k : ℕ). k == n) len ∙ (whole_told n (v.bytes.items ++ more) c.take-next-2.new.bytes.items done.all ∙ ap (λ (l : List ℕ). nat_le n (length l)) same);
       told = (refl, place, ap (λ (s : Begun). s.fixed) all, ap (λ (s : Begun). s.longest) all);
     }
