@@ -1,7 +1,7 @@
 -- A volume is held as the minidisk that it is.
 use Rattle.std.proofs.Common.{◌≡◌, ◌≢◌, ⊎_elim, ℕ, zero, suc, ◌+◌, ◌-◌, ◌*◌, ◌≤◌, Bool, true, false, if◌then◌else◌, List, [], ◌∷◌, length, map, take, drop, slice_get, position, Some, None, Ok, refl, sym, ◌∙◌, ap, subst, arith}
 use Rattle.std.specs.Prelude.{nat_le, nat_lt, ◌||◌}
-use Rattle.std.specs.List.{concat, range_with_len, position_from}
+use Rattle.std.specs.List.{range_with_len, position_from}
 use Rattle.std.proofs.lemmas.Bool.{le-leb, lt-leb, cases_Bool}
 use Rattle.std.proofs.lemmas.Iterator.Adapters.{position_from-zero}
 use Rattle.cms_names.specs.declared.name.Name.{Name}
@@ -9,33 +9,27 @@ use Rattle.cms_names.specs.declared.name.Format.{Format}
 use Rattle.cms_names.specs.declared.name.Format.TheVariants.{F, V}
 use Rattle.cms_journal.proofs.Sizes.{block_bounds}
 use Rattle.cms_text.specs.Bytes.{half}
-use Rattle.cms_fields.specs.Numbers.{up}
-use Rattle.cms_fields.specs.Entries.{levels_fit}
 use Rattle.cms_fields.specs.declared.entry.Entry.{Entry}
 use Rattle.cms_map.specs.Bits.{bits_in, free_from, free_blocks}
-use Rattle.cms_model.specs.Lists.{In, cut}
+use Rattle.cms_model.specs.Lists.{cut}
 use Rattle.cms_model.specs.Maps.{is_used, is_marked}
 use Rattle.cms_model.specs.Minidisks.{File, same_name}
 use Rattle.cms_model.specs.Records.{HoldRecords, varying, records_of, stored, length_of}
-use Rattle.cms_model.specs.Trees.{Image, Met, form_of, tree, bytes_at}
-use Rattle.cms_model.specs.Volumes.{Disk, Opened, IsOpened, blamed, minidisk_of, holder_of, file_trees, contents_in, files_of}
+use Rattle.cms_model.specs.Trees.{Image, Met, bytes_at}
+use Rattle.cms_model.specs.Volumes.{Disk, Opened, IsOpened, minidisk_of, file_trees, contents_in, files_of}
 use Rattle.cms_model.specs.LawsRecords.{AreBytes}
 use Rattle.cms_model.specs.LawsSizes.{IsWhole, unmarked_count}
 use Rattle.cms_model.specs.declared.fault.VarFault.TheVariants.{Zero, PastEnd, Left}
-use Rattle.cms_model.specs.declared.fault.OpenFault.TheVariants as failed
 use Rattle.cms_model.specs.LawsChanges.{NoneNamed, IsPlace}
 use Rattle.cms_model.proofs.Changing.{names_told, name_differs}
 use Rattle.cms_model.proofs.FilesRead.{IsRead, each_read}
 use Rattle.cms_model.proofs.FileSizes.{EntryFits, AllFit, Counted, file_of, entries_fit, are_cut, is_filled}
-use Rattle.cms_model.proofs.InOrder.{in_order, place_none}
+use Rattle.cms_model.proofs.InOrder.{in_order}
 use Rattle.cms_model.proofs.MinidiskSizes.{blocks_are_shared}
-use Rattle.cms_model.proofs.Opening.{blamed_ok, open_ok}
-use Rattle.cms_model.proofs.Quotients.{up_spec}
+use Rattle.cms_model.proofs.Opening.{open_ok}
 use Rattle.cms_model.proofs.Cuts.{length_cut}
-use Rattle.cms_model.proofs.Records.{fits_cut, length_stored_fixed, fixed_cut, varying_read}
+use Rattle.cms_model.proofs.Records.{fixed_cut, varying_read}
 use Rattle.cms_model.proofs.Results.{ok_same, want_ok, bind_then}
-use Rattle.cms_model.proofs.TreeFrame.{tree_inside, tree_places}
-use Rattle.cms_model.proofs.TreeSizes.{tree_has_size}
 use Rattle.cms_edf.specs.Opening.{HeldFile, names_in, size_of, held_file, held_files, held_of}
 use Rattle.cms_edf.specs.LawsHeld.{IsFileOf, IsStored, OpenedIsHeld, OpenedHasRoom, IsFound, PlaceIsTold}
 

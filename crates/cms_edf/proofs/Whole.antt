@@ -8,9 +8,9 @@ use Rattle.cms_fields.specs.declared.label.Label.{Label}
 use Rattle.cms_fields.specs.declared.label.LabelFault.TheVariants.{Count}
 use Rattle.cms_model.specs.Lists.{cut, first_repeat}
 use Rattle.cms_model.specs.Trees.{Image, form_of, tree, bytes_at}
-use Rattle.cms_model.specs.Maps.{lowest_unmarked, lost_count}
+use Rattle.cms_model.specs.Maps.{lowest_unmarked}
 use Rattle.cms_model.specs.Systems.{directory_of, map_of}
-use Rattle.cms_model.specs.Volumes.{Disk, Opened, blamed, absent, opened_behind, open_of, entries_of, first_twice, file_trees, tree_blocks, contents_in}
+use Rattle.cms_model.specs.Volumes.{Disk, Opened, blamed, absent, opened_behind, open_of, entries_of, first_twice, file_trees, tree_blocks}
 use Rattle.cms_model.specs.declared.fault.OpenFault.{OpenFault}
 use Rattle.cms_model.specs.declared.fault.OpenFault.TheVariants as failed
 use Rattle.cms_edf.specs.OpeningSteps.{Listed, Treed, listed_in, trees_in, lost_in}

@@ -4,14 +4,11 @@ use Rattle.std.proofs.lemmas.Bool.{or_parts}
 use Rattle.cms_names.specs.declared.name.Name.{Name}
 use Rattle.cms_fields.specs.declared.entry.Entry.{Entry}
 use Rattle.cms_model.specs.Lists.{In, times, first_repeat}
-use Rattle.cms_model.specs.Trees.{Image, Met, form_of, tree, bytes_at}
-use Rattle.cms_model.specs.Records.{records_of}
+use Rattle.cms_model.specs.Trees.{Image, Met, form_of, bytes_at}
 use Rattle.cms_model.specs.Maps.{lowest_unmarked, lost_count}
 use Rattle.cms_model.specs.Minidisks.{same_name, is_named}
-use Rattle.cms_model.specs.Volumes.{Disk, Opened, HoldsSystem, IsOpened, blamed, open_of, first_twice, holder_of, file_trees, blocks_of, contents_in, all_blocks}
+use Rattle.cms_model.specs.Volumes.{Disk, Opened, HoldsSystem, IsOpened, open_of, first_twice, holder_of, file_trees, blocks_of, contents_in, all_blocks}
 use Rattle.cms_model.specs.Stands.{Kept, HoldsFiles, entries_in, mets_in, records_in, file_blocks, NoEntryNamed, HaveNames, Layout, layout_blocks, opened, Stands}
-use Rattle.cms_model.specs.declared.fault.OpenFault.TheVariants as failed
-use Rattle.cms_model.proofs.Results.{ok_same, bind_then}
 use Rattle.cms_model.proofs.Repeats.{held_from, in_from, no_repeat, none_unmarked, if_none}
 use Rattle.cms_model.proofs.TreeFrame.{tree_keeps}
 use Rattle.cms_model.proofs.Opening.{open_ok, open_again}

@@ -1,5 +1,5 @@
 -- What the fields of a record that is begun always are.
-use Rattle.std.specs.Prelude.{ℕ, ◌+◌, ◌≤◌, IfSome, length, vec_len, vec_capacity}
+use Rattle.std.specs.Prelude.{◌+◌, ◌≤◌, IfSome, length, vec_len, vec_capacity}
 use Rattle.cms_fields.specs.Limits.{longest_record, most_bytes}
 use Rattle.cms_records.specs.Pieces.{IsPart, record_size}
 use Rattle.cms_records.specs.declared.state.RecordState.TheInside.{Inside}

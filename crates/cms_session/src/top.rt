@@ -1,19 +1,17 @@
 // The top call: a session as a whole.
-ghost use Rattle.std.specs.Prelude.{◌≡◌, ◌≢◌, ◌≤◌, ◌==◌, ℕ, List, [], length, min, not, IfOk, IfErr, IsTrue, Option, Some, None};
+ghost use Rattle.std.specs.Prelude.{◌≡◌, ◌≢◌, ◌≤◌, ◌==◌, [], min, not, IfOk, IfErr, IsTrue, Option, Some, None};
 ghost use Rattle.std.specs.Option.{ForSome};
 ghost use Rattle.cms_journal.specs.Causes.{Rose};
 ghost use Rattle.cms_journal.specs.Limits.{most_blocks};
 ghost use Rattle.cms_journal.specs.Journal.{IsBlockSize, HasBlocks, IsWritable, may_write};
-ghost use Rattle.cms_journal.specs.declared.event.Attached.{Attached};
-ghost use Rattle.cms_machine.specs.Slots.{Slot};
-ghost use Rattle.cms_search.specs.Calls.{Holds, Usable, seen};
+ghost use Rattle.cms_search.specs.Calls.{Usable, seen};
 ghost use Rattle.cms_fields.specs.Offsets.{IsOffset};
-ghost use Rattle.cms_session.specs.Headline.{fresh, first_point};
+ghost use Rattle.cms_session.specs.Headline.{fresh};
 ghost use Rattle.cms_session.specs.Sessions.{HasRoom, FitsWords, RunsNone, refusal_of, device_of, FindsDisk, RunsOn, LinesEnd, status_of, SessionIn, WorldCause};
 ghost use Rattle.cms_words.specs.declared.fault.WordFault.{WordFault};
 ghost use Rattle.cms_words.specs.declared.fault.WordFault.TheVariants.{Memory};
 ghost use Rattle.cms_words.specs.declared.unit.UnitWord.{UnitWord};
-ghost use Rattle.cms_session.specs.Words.{Asked, Runs, asked, given_in, asked_of, read_words};
+ghost use Rattle.cms_session.specs.Words.{Asked, Runs, asked, asked_of, read_words};
 
 use crate::asked::{Terms, given, only_unit};
 use crate::session::play;

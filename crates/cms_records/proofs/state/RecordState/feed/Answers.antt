@@ -1,5 +1,5 @@
-use Rattle.std.proofs.Common.{rules, ◌≡◌, ◌++◌, ℕ, Bool, false, List, None, Some, Ok, Err, length, take, drop, refl, sym, ◌∙◌, ap, subst, arith}
-use Rattle.std.specs.Prelude.{max, nat_le, ◌==◌}
+use Rattle.std.proofs.Common.{rules, ◌≡◌, ◌++◌, ℕ, List, Some, Ok, Err, length, take, drop, refl, sym, ◌∙◌, ap, subst, arith}
+use Rattle.std.specs.Prelude.{nat_le, ◌==◌}
 use Rattle.std.proofs.lemmas.Result.{err_from_is_err_and}
 use Rattle.cms_records.specs.Pieces.{Begun, head_of, record_size, next_place, bytes_so_far, IsPart}
 use Rattle.cms_records.proofs.Feeding.{size_told, is_taken, whole_told, front_is_part, size_most, begun_sum, front_few}
