@@ -39,7 +39,8 @@ impl Model for VarScan {
       longest = s.longest;
     } };
 
-    ghost invariant = { λ s. (s.place ≤ s.fed) × (s.fed ≤ most_bytes) × (s.longest ≤ longest_record) × IfSome s.size (λ n. n ≤ longest_record) };
+    ghost invariant = { λ s. (s.place ≤ s.fed) × (s.fed ≤ most_bytes) × (s.longest ≤ longest_record)
+        × IfSome s.size (λ n. n ≤ longest_record) };
 }
 
 impl VarScan {
