@@ -25,7 +25,7 @@ use Rattle.cms_model.proofs.Quotients.{up_spec}
 use Rattle.cms_model.proofs.Results.{ok_same}
 use Rattle.cms_model.proofs.TreeFrame.{between}
 use Rattle.cms_records.specs.Pieces.{Begun, bytes_so_far, next_place}
-use Rattle.cms_edf.specs.Opening.{HeldFile, HeldVolume, held_of}
+use Rattle.cms_edf.specs.Opening.{HeldFile, HeldVolume}
 use Rattle.cms_edf.specs.Asking.{info_of, infos_in, leaves_in}
 use Rattle.cms_edf.specs.declared.held.FileInfo.{FileInfo}
 use Rattle.cms_edf.specs.Kept.{IsKeptFile, Keeps}
@@ -41,8 +41,7 @@ use Rattle.cms_disk.proofs.Moving.{drop_whole}
 
 pub stands_tells : StandsTells
 stands_tells image d m s =
-    let held : IsMinidiskOf image d.volume m = subst (λ (v : HeldVolume). IsMinidiskOf image v m) (sym s.volume_is)
-    (subst (λ (x : Minidisk). IsMinidiskOf image (held_of d.volume.unit d.volume.disk image s.opened) x) (sym s.minidisk_is) (opened_is_held d.volume.unit d.volume.disk image s.opened s.opens)) in
+    let held : IsMinidiskOf image d.volume m = subst (IsMinidiskOf image d.volume) (sym s.minidisk_is) (opened_is_held d.volume.unit d.volume.disk image s.opened d.volume s.opens s.volume_is) in
     record {
       held = held;
       found = λ name. subst (λ (ns : List Name). IsFound name m.files (position (same_name name) ns)) (sym held.names_are) (place_is_told name m.files);
@@ -50,8 +49,7 @@ stands_tells image d m s =
 
 pub stands_stored : (image : Image) (d : Accessed) (m : Minidisk) → StandsIn image d m → (k : ℕ) (h : HeldFile) (f : File) → slice_get d.volume.files k ≡ Some h → slice_get m.files k ≡ Some f → IsStored m.bsize image h f
 stands_stored image d m s =
-    let room : HasRoomOf image d.volume m = subst (λ (v : HeldVolume). HasRoomOf image v m) (sym s.volume_is)
-    (subst (λ (x : Minidisk). HasRoomOf image (held_of d.volume.unit d.volume.disk image s.opened) x) (sym s.minidisk_is) (opened_has_room d.volume.unit d.volume.disk image s.opened s.whole s.opens)) in
+    let room : HasRoomOf image d.volume m = subst (HasRoomOf image d.volume) (sym s.minidisk_is) (opened_has_room d.volume.unit d.volume.disk image s.opened d.volume s.whole s.opens s.volume_is) in
     room.files_are
 
 -- the length of a file is that of its records

@@ -14,6 +14,7 @@ use Rattle.cms_model.specs.LawsUpdates.{now}
 use Rattle.cms_model.specs.declared.fault.OpenFault.{OpenFault}
 use Rattle.cms_model.specs.declared.fault.OpenFault.TheVariants as failed
 use Rattle.cms_edf.specs.Opening.{HeldFile, HeldVolume, IsFaultOf, held_of, names_in}
+use Rattle.cms_edf.specs.HeldAs.{IsHeldAs}
 use Rattle.cms_disk.specs.Cursors.{Reading, IsFirst, HasLeft}
 use Rattle.cms_disk.specs.declared.fault.AccessFault.{AccessFault}
 use Rattle.cms_disk.specs.declared.fault.AccessFault.TheVariants.{Sync, Open}
@@ -49,7 +50,7 @@ pub record StandsIn (image : Image) (d : Accessed) (m : Minidisk) : Type 0 where
   pub whole : IsWhole d.volume.disk image
   pub opened : Opened
   pub opens : open_of d.volume.disk image ≡ Ok opened
-  pub volume_is : d.volume ≡ held_of d.volume.unit d.volume.disk image opened
+  pub volume_is : IsHeldAs d.volume.unit d.volume.disk image opened d.volume
   pub minidisk_is : m ≡ minidisk_of d.volume.disk opened
 
 -- at a journal it is this minidisk, and its unit is settled at it

@@ -30,6 +30,7 @@ use Rattle.cms_edf.specs.Erase.{bits_of, bits_without}
 use Rattle.cms_edf.proofs.OneBlock.{up_one, map_blocks}
 use Rattle.cms_edf.proofs.SmallSteps.{size_least, size_most}
 use Rattle.cms_edf.proofs.SmallEntries.{bytes_of_one}
+use Rattle.cms_edf.proofs.Edits.{place_at}
 use Rattle.cms_edf.proofs.Removing.{map-removed}
 use Rattle.cms_edf.proofs.MapBits.{used_marked}
 use Rattle.cms_edf.proofs.Erasing.{gone, left, left_times, gone_times, Renewed}
@@ -119,22 +120,6 @@ pub files_are : (image : Image) (es : List Entry) → files_of es (map (records_
 unfolding files_of
 files_are image [] = refl
 files_are image (e ∷ es) = ap (λ (l : List File). entry_file image e ∷ l) (files_are image es)
-
-none_at : (name : Name) (fs : List File) (k : ℕ) (d : File) → NoneNamed name fs → k < length fs → (slice_index_or fs k d).name ≢ name
-none_at name [] k d none within = absurd (omega arith)
-none_at name (f ∷ fs) zero d none within = none.0
-none_at name (f ∷ fs) (suc k) d none within = none_at name fs k d none.1 (omega arith)
-
-pub place_at : (fs : List File) (k : ℕ) (d : File) → AreDistinct fs → k < length fs → IsPlace (slice_index_or fs k d).name fs k
-place_at [] k d distinct within = absurd (omega arith)
-place_at (f ∷ fs) zero d distinct within = record { within = within; named = λ x. refl; first = tt }
-place_at (f ∷ fs) (suc k) d distinct within =
-    let deeper = place_at fs k d distinct.1 (omega arith) in
-    record {
-      within = within;
-      named = deeper.named;
-      first = (λ e. none_at f.name fs k d distinct.0 (omega arith) (sym e), deeper.first);
-    }
 
 pub dropped : (image : Image) (es : List Entry) (k : ℕ) (e : Entry) → AreDistinct (map (entry_file image) es) → k < length es
     → drop_file (slice_index_or es k e).name (map (entry_file image) es) ≡ map (entry_file image) (swap_remove es k e)

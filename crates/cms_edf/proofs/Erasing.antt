@@ -17,7 +17,8 @@ use Rattle.cms_map.specs.Bits.{bytes_from}
 use Rattle.cms_edf.specs.Small.{SmallVolume}
 use Rattle.cms_edf.specs.Reading.{roots, are_allowed, are_apart, have_places}
 use Rattle.cms_edf.specs.Held.{IsFile, Holds}
-use Rattle.cms_edf.specs.Erase.{bits_without, label_for, without, IsLowest}
+use Rattle.cms_edf.specs.Renewing.{label_for}
+use Rattle.cms_edf.specs.Erase.{bits_without, without, IsLowest}
 use Rattle.cms_edf.proofs.SmallEntries.{apart_once, once_apart, allowed_range, marked_each, each_marked}
 use Rattle.cms_edf.proofs.Removing.{length-removed, All-removed, roots_removed, root_at, names_removed}
 use Rattle.cms_edf.proofs.MapBits.{IsUnmarked, lowest_unmarked, length_written, new_mark}
@@ -218,36 +219,6 @@ pub volume_is : (s : SmallVolume) (nth fresh root : ℕ) (e : Entry) (label : La
     → ◌≡◌ {A = SmallVolume} (record { unit = s.unit; disk = s.disk; label = label; label_bytes = label_bytes; map_root = fresh; map_bytes = map_bytes; files = files }) (without s nth fresh e)
 unfolding without
 volume_is s nth fresh root e label label_bytes map_bytes files is_root is_label is_bytes is_map is_files = rw (is_map, is_files, is_bytes, is_label, is_root) refl
-
-pub label_size : (bsize count : ℕ) (bytes : List ℕ) (label : Label) → label_of bsize count bytes ≡ Ok label → label.bsize ≡ bsize
-unfolding label_fields
-label_size bsize count bytes label is =
-    let p = label_passed bsize count bytes label is in
-    ap (λ (l : Label). l.bsize) (sym p.label_so) ∙ eqb-true (word bytes 12) bsize p.size_so
-
-pub spells_same : (bsize count : ℕ) (bytes : List ℕ) (label new : Label) → label_of bsize count bytes ≡ Ok label → new.bsize ≡ label.bsize → new.blocks ≡ label.blocks → SpellsSame new bytes
-unfolding label_fields
-spells_same bsize count bytes label new is same_size same_blocks =
-    let p = label_passed bsize count bytes label is in
-    let size : new.bsize ≡ bsize = same_size ∙ label_size bsize count bytes label is in
-    let blocks : word bytes 28 ≡ new.blocks = ap (λ (l : Label). l.blocks) p.label_so ∙ sym same_blocks in
-    let low = (between 6 count (word bytes 28) p.count_so).0 in
-    let again : label_of bsize new.blocks bytes ≡ Ok label = label_spelled bsize new.blocks bytes label (record {
-      id_so = p.id_so;
-      size_so = p.size_so;
-      origin_so = p.origin_so;
-      count_so = and_from (nat_le 6 (word bytes 28)) (nat_le (word bytes 28) new.blocks) (le-leb 6 (word bytes 28) low) (le-leb (word bytes 28) new.blocks (omega arith));
-      entry_so = p.entry_so;
-      label_so = p.label_so;
-    }) in
-    (label, subst (λ (n : ℕ). label_of n new.blocks bytes ≡ Ok label) (sym size) again, sym same_blocks)
-
-pub other_origin : (n : ℕ) → 4 ≤ n → n ≤ 5 → is_origin (9 - n) ≡ true
-unfolding is_origin
-other_origin n low high = ⊎_elim
-    (λ (four : n < 5). let is : n ≡ 4 = omega arith in rw is refl)
-    (λ (five : 5 ≤ n). let is : n ≡ 5 = omega arith in rw is refl)
-    (cases_lt n 5)
 
 pub rest_allowed : (s : SmallVolume) → Holds s → are_allowed s.label.blocks (roots s.files) ≡ true
 unfolding are_allowed

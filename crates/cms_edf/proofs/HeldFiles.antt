@@ -10,6 +10,7 @@ use Rattle.cms_names.specs.declared.name.Format.TheVariants.{F, V}
 use Rattle.cms_journal.proofs.Sizes.{block_bounds}
 use Rattle.cms_text.specs.Bytes.{half}
 use Rattle.cms_fields.specs.declared.entry.Entry.{Entry}
+use Rattle.cms_fields.specs.declared.label.Label.{Label}
 use Rattle.cms_map.specs.Bits.{bits_in, free_from, free_blocks}
 use Rattle.cms_model.specs.Lists.{cut}
 use Rattle.cms_model.specs.Maps.{is_used, is_marked}
@@ -30,7 +31,8 @@ use Rattle.cms_model.proofs.Opening.{open_ok}
 use Rattle.cms_model.proofs.Cuts.{length_cut}
 use Rattle.cms_model.proofs.Records.{fixed_cut, varying_read}
 use Rattle.cms_model.proofs.Results.{ok_same, want_ok, bind_then}
-use Rattle.cms_edf.specs.Opening.{HeldFile, names_in, size_of, held_file, held_files, held_of}
+use Rattle.cms_edf.specs.Opening.{HeldFile, names_in, size_of}
+use Rattle.cms_edf.specs.HeldAs.{IsHeldFile, AreHeld}
 use Rattle.cms_edf.specs.LawsHeld.{IsFileOf, IsStored, OpenedIsHeld, OpenedHasRoom, IsFound, PlaceIsTold}
 
 -- ---- the records of a file
@@ -80,19 +82,32 @@ fills V bsize len blocks count bytes rs room e long c = record {
 
 -- ---- a file
 
-one_file : (bsize total : ℕ) (image : Image) (e : Entry) (m : Met) (rs : List (List ℕ)) → records_of bsize e.format e.length e.count (bytes_at image m.leaves) ≡ Ok rs
-    → IsFileOf bsize image (held_file bsize total image e m rs) (file_of e rs)
-one_file bsize total image e m rs is_rs =
+one_file : (bsize : ℕ) (image : Image) (e : Entry) (m : Met) (rs : List (List ℕ)) (h : HeldFile) → IsHeldFile e m rs h → records_of bsize e.format e.length e.count (bytes_at image m.leaves) ≡ Ok rs
+    → IsFileOf bsize image h (file_of e rs)
+one_file bsize image e m rs h is is_rs =
     let t = told e.format bsize e.length e.count (bytes_at image m.leaves) rs is_rs in
-    record { name_is = refl; number_is = refl; format_is = refl; length_is = refl; stamp_is = refl; count_is = t.many; are_read = t.again }
+    let entry = is.entry_is in
+    record {
+      name_is = ap (λ (x : Entry). x.name) entry;
+      number_is = ap (λ (x : Entry). x.number) entry;
+      format_is = ap (λ (x : Entry). x.format) entry;
+      length_is = is.length_is;
+      stamp_is = ap (λ (x : Entry). x.stamp) entry;
+      count_is = ap (λ (x : Entry). x.count) entry ∙ t.many;
+      are_read = subst (λ (ns : List ℕ). records_of bsize e.format (length_of e.format e.length rs) (length rs) (bytes_at image ns) ≡ Ok rs) (sym is.tree_is.leaves) t.again;
+    }
 
-one_stored : (disk : Disk) (image : Image) (total holder : ℕ) (e : Entry) (m : Met) (rs : List (List ℕ)) → IsWhole disk image → total ≤ disk.count → EntryFits disk.bsize e
-    → IsRead disk total image holder e m rs → IsStored disk.bsize image (held_file disk.bsize total image e m rs) (file_of e rs)
-one_stored disk image total holder e m rs whole top fits read =
+one_stored : (disk : Disk) (image : Image) (total holder : ℕ) (e : Entry) (m : Met) (rs : List (List ℕ)) (h : HeldFile) → IsWhole disk image → total ≤ disk.count → EntryFits disk.bsize e
+    → IsHeldFile e m rs h → IsRead disk total image holder e m rs → IsStored disk.bsize image h (file_of e rs)
+one_stored disk image total holder e m rs h whole top fits is read =
     let low = (block_bounds disk.bsize whole.size).0 in
     let t = is_filled disk image total holder e m whole top fits read.met in
     let f = fills e.format disk.bsize e.length e.blocks e.count (bytes_at image m.leaves) rs (omega arith) read.records (t.long ∙ ap (λ (n : ℕ). n * disk.bsize) t.leaves) t.counted in
-    record { size_is = f.size; long = t.long; are_held = f.held }
+    record {
+      size_is = is.size_is ∙ f.size;
+      long = subst (λ (ns : List ℕ). length (bytes_at image ns) ≡ length ns * disk.bsize) (sym is.tree_is.leaves) t.long;
+      are_held = subst (λ (ns : List ℕ). AreBytes (bytes_at image ns) → HoldRecords disk.bsize e.format (length_of e.format e.length rs) (bytes_at image ns) rs) (sym is.tree_is.leaves) f.held;
+    }
 
 -- ---- all files
 
@@ -102,14 +117,24 @@ Each P [] (f ∷ fs) = ⊥
 Each P (h ∷ hs) [] = ⊥
 Each P (h ∷ hs) (f ∷ fs) = P h f × Each P hs fs
 
--- what holds of each file that has its entry, its tree and its records
-each_file : (P : HeldFile → File → Type 0) (disk : Disk) (image : Image) (total : ℕ) (dirs : List ℕ) (number : ℕ) (es : List Entry) (ms : List Met) (cs : List (List (List ℕ))) → AllFit disk.bsize es
-    → ((holder : ℕ) (e : Entry) (m : Met) (rs : List (List ℕ)) → EntryFits disk.bsize e → IsRead disk total image holder e m rs → P (held_file disk.bsize total image e m rs) (file_of e rs))
-    → file_trees disk.bsize total image dirs number es ≡ Ok ms → contents_in disk.bsize image number es ms ≡ Ok cs → Each P (held_files disk.bsize total image es ms cs) (files_of es cs)
-unfolding files_of held_files
-each_file P disk image total dirs number es ms cs fits go t c =
-    each_read disk total image dirs (λ es ms cs. AllFit disk.bsize es → Each P (held_files disk.bsize total image es ms cs) (files_of es cs)) (λ none. tt)
-    (λ holder e m rs es ms cs read rest fits. (go holder e m rs fits.0 read, rest fits.1)) number es ms cs t c fits
+-- what holds of each file that is held with its entry, its tree and its records
+each_file : (P : HeldFile → File → Type 0) (disk : Disk) (image : Image) (total : ℕ) (dirs : List ℕ) (number : ℕ) (es : List Entry) (ms : List Met) (cs : List (List (List ℕ))) (hs : List HeldFile)
+    → AllFit disk.bsize es → AreHeld es ms cs hs
+    → ((holder : ℕ) (e : Entry) (m : Met) (rs : List (List ℕ)) (h : HeldFile) → EntryFits disk.bsize e → IsHeldFile e m rs h → IsRead disk total image holder e m rs → P h (file_of e rs))
+    → file_trees disk.bsize total image dirs number es ≡ Ok ms → contents_in disk.bsize image number es ms ≡ Ok cs → Each P hs (files_of es cs)
+unfolding files_of
+each_file P disk image total dirs number es ms cs hs fits are go t c =
+    each_read disk total image dirs (λ es ms cs. AllFit disk.bsize es → (hs : List HeldFile) → AreHeld es ms cs hs → Each P hs (files_of es cs)) (λ fits hs are. none hs are)
+    (λ holder e m rs es ms cs read rest fits hs are. one holder e m rs es ms cs read fits.0 (λ others held. rest fits.1 others held) hs are) number es ms cs t c fits hs are
+  where
+    none : (hs : List HeldFile) → AreHeld [] [] [] hs → Each P hs []
+    none [] are = tt
+    none (h ∷ hs) are = absurd are
+
+    one : (holder : ℕ) (e : Entry) (m : Met) (rs : List (List ℕ)) (es : List Entry) (ms : List Met) (cs : List (List (List ℕ))) → IsRead disk total image holder e m rs → EntryFits disk.bsize e
+        → ((others : List HeldFile) → AreHeld es ms cs others → Each P others (files_of es cs)) → (hs : List HeldFile) → AreHeld (e ∷ es) (m ∷ ms) (rs ∷ cs) hs → Each P hs (files_of (e ∷ es) (rs ∷ cs))
+    one holder e m rs es ms cs read fit deeper [] are = absurd are
+    one holder e m rs es ms cs read fit deeper (h ∷ hs) are = (go holder e m rs h fit are.0 read, deeper hs are.1)
 
 same_count : (P : HeldFile → File → Type 0) (hs : List HeldFile) (fs : List File) → Each P hs fs → length hs ≡ length fs
 same_count P [] [] are = refl
@@ -180,37 +205,36 @@ entries_of_all : (disk : Disk) (image : Image) (v : Opened) → IsOpened disk im
 entries_of_all disk image v o = (entries_fit disk.bsize 2 (cut (v.directory.count - 2) 64 (drop 128 (bytes_at image v.directory_met.leaves))) v.entries o.system.entries).0
 
 pub opened_is_held : OpenedIsHeld
-unfolding held_of minidisk_of
-opened_is_held unit disk image v opens =
+unfolding minidisk_of
+opened_is_held unit disk image v h opens is =
     let o = open_ok disk image v opens in
-    let hs = held_files disk.bsize v.label.blocks image v.entries v.mets v.contents in
     let fs = files_of v.entries v.contents in
     let P = IsFileOf disk.bsize image in
-    let are : Each P hs fs = each_file P disk image v.label.blocks v.directory_met.leaves 2 v.entries v.mets v.contents (entries_of_all disk image v o)
-    (λ holder e m rs fits read. one_file disk.bsize v.label.blocks image e m rs read.records) o.mets o.contents in
+    let are : Each P h.files fs = each_file P disk image v.label.blocks v.directory_met.leaves 2 v.entries v.mets v.contents h.files (entries_of_all disk image v o) is.files_are
+    (λ holder e m rs one fits held read. one_file disk.bsize image e m rs one held read.records) o.mets o.contents in
     record {
-      volid_is = refl;
-      bsize_is = refl;
-      total_is = refl;
-      lost_is = refl;
-      count_is = same_count P hs fs are;
-      names_are = same_names disk.bsize image hs fs are;
-      files_are = at_place P hs fs are;
+      volid_is = ap (λ (l : Label). l.volid) is.label_is;
+      bsize_is = ap (λ (d : Disk). d.bsize) is.disk_is;
+      total_is = ap (λ (l : Label). l.blocks) is.label_is;
+      lost_is = is.lost_is;
+      count_is = same_count P h.files fs are;
+      names_are = same_names disk.bsize image h.files fs are;
+      files_are = at_place P h.files fs are;
     }
 
 pub opened_has_room : OpenedHasRoom
-unfolding held_of minidisk_of
-opened_has_room unit disk image v whole opens =
+unfolding minidisk_of
+opened_has_room unit disk image v h whole opens is =
     let o = open_ok disk image v opens in
     let order = in_order disk image v opens in
     let shared = blocks_are_shared disk image v whole opens in
     let big = order.size.0 in
     let P = IsStored disk.bsize image in
-    let are = each_file P disk image v.label.blocks v.directory_met.leaves 2 v.entries v.mets v.contents (entries_of_all disk image v o)
-    (λ holder e m rs fits read. one_stored disk image v.label.blocks holder e m rs whole order.size.1 fits read) o.mets o.contents in
+    let are = each_file P disk image v.label.blocks v.directory_met.leaves 2 v.entries v.mets v.contents h.files (entries_of_all disk image v o) is.files_are
+    (λ holder e m rs one fits held read. one_stored disk image v.label.blocks holder e m rs one whole order.size.1 fits held read) o.mets o.contents in
     record {
-      free_is = free_are (bytes_at image v.map_met.leaves) v.label.blocks (omega arith) ∙ shared.free;
-      files_are = at_place P (held_files disk.bsize v.label.blocks image v.entries v.mets v.contents) (files_of v.entries v.contents) are;
+      free_is = ap (λ (bits : List Bool). length (free_blocks bits)) is.bits_are ∙ (free_are (bytes_at image v.map_met.leaves) v.label.blocks (omega arith) ∙ shared.free);
+      files_are = at_place P h.files (files_of v.entries v.contents) are;
     }
 
 -- ---- the place of a name

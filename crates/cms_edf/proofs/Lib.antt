@@ -28,3 +28,13 @@ pub mod RecordsRead
 pub mod VolumeOpened
 pub mod FilesNamed
 pub mod HeldFiles
+pub mod HeldTrees
+pub mod MapMarks
+pub mod WritesPut
+pub mod NewLabel
+pub mod OldBlocks
+pub mod Exchanged
+pub mod Renewals
+pub mod PiecesWritten
+pub mod SystemsRead
+pub mod Edits

@@ -23,6 +23,7 @@ use Rattle.cms_map.specs.Bits.{bits_in, free_blocks, with_marked, bytes_from}
 use Rattle.cms_edf.specs.Small.{SmallVolume, IsMinidisk}
 use Rattle.cms_edf.specs.Reading.{roots}
 use Rattle.cms_edf.specs.Written.{system_writes}
+use Rattle.cms_edf.specs.Renewing.{label_for}
 use Rattle.cms_edf.specs.declared.erase.SmallErase.{SmallErase}
 use Rattle.cms_edf.specs.declared.erase.SmallErase.TheVariants as failed
 
@@ -39,10 +40,6 @@ IsLowest s n = take 1 (free_blocks (bits_of s)) ≡ n ∷ []
 -- the bits with a fresh block marked, and without those of a file's block and of the old map's
 unfoldable pub bits_without : SmallVolume → ℕ → ℕ → List Bool
 bits_without s root fresh = slice_set (slice_set (with_marked (fresh ∷ []) (bits_of s)) (root - 1) false) (s.map_root - 1) false
-
--- its label for a map: the directory is in the other one of blocks 4 and 5, and what isn't free is in use
-abbrev pub label_for : Label → List Bool → Label
-label_for label bits = record label { origin = 9 - label.origin; in_use = label.blocks - length (free_blocks bits) }
 
 -- the volume with these bits of its map in a fresh block, and these files
 abbrev pub renewed : SmallVolume → List Bool → ℕ → List Entry → SmallVolume

@@ -10,7 +10,8 @@ use Rattle.cms_model.specs.Volumes.{Disk, Opened, open_of, minidisk_of}
 use Rattle.cms_model.specs.LawsChanges.{NoneNamed, IsPlace}
 use Rattle.cms_model.specs.LawsRecords.{AreBytes}
 use Rattle.cms_model.specs.LawsSizes.{IsWhole}
-use Rattle.cms_edf.specs.Opening.{HeldFile, HeldVolume, names_in, held_of}
+use Rattle.cms_edf.specs.Opening.{HeldFile, HeldVolume, names_in}
+use Rattle.cms_edf.specs.HeldAs.{IsHeldAs}
 
 -- a file as it is held is this one of the minidisk: it has its fields and so many records, which are read from its data blocks in
 -- this image
@@ -37,8 +38,8 @@ pub record IsMinidiskOf (image : Image) (v : HeldVolume) (m : Minidisk) : Type 0
 -- what opens is held as the minidisk that it is
 abbrev pub OpenedIsHeld : Type 0
 OpenedIsHeld =
-    (unit : ℕ) (disk : Disk) (image : Image) (v : Opened) → open_of disk image ≡ Ok v
-    → IsMinidiskOf image (held_of unit disk image v) (minidisk_of disk v)
+    (unit : ℕ) (disk : Disk) (image : Image) (v : Opened) (h : HeldVolume) → open_of disk image ≡ Ok v → IsHeldAs unit disk image v h
+    → IsMinidiskOf image h (minidisk_of disk v)
 
 -- the records of a file are stored in so many bytes, at the front of its data blocks
 pub record IsStored (bsize : ℕ) (image : Image) (held : HeldFile) (f : File) : Type 0 where
@@ -56,8 +57,8 @@ pub record HasRoomOf (image : Image) (v : HeldVolume) (m : Minidisk) : Type 0 wh
 -- so it is where the blocks of the image have their size
 abbrev pub OpenedHasRoom : Type 0
 OpenedHasRoom =
-    (unit : ℕ) (disk : Disk) (image : Image) (v : Opened) → IsWhole disk image → open_of disk image ≡ Ok v
-    → HasRoomOf image (held_of unit disk image v) (minidisk_of disk v)
+    (unit : ℕ) (disk : Disk) (image : Image) (v : Opened) (h : HeldVolume) → IsWhole disk image → open_of disk image ≡ Ok v
+    → IsHeldAs unit disk image v h → HasRoomOf image h (minidisk_of disk v)
 
 -- the place of a name among the names of files, or that it is none of theirs
 abbrev pub IsFound : Name → List File → Option ℕ → Type 0

@@ -10,3 +10,8 @@ pub mod OpeningFiles
 pub mod Kept
 pub mod Asking
 pub mod LawsHeld
+pub mod Systems
+pub mod HeldAs
+pub mod Renewing
+pub mod LawsRenewing
+pub mod LawsEdits

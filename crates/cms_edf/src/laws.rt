@@ -1,10 +1,30 @@
 // What holds of every volume that is held.
+ghost use Rattle.cms_edf.specs.HeldAs.{OpenedHasHeld};
+ghost use Rattle.cms_edf.specs.LawsEdits.{DropEdits, RenameEdits};
 ghost use Rattle.cms_edf.specs.LawsHeld.{OpenedHasRoom, OpenedIsHeld, PlaceIsTold};
+ghost use Rattle.cms_edf.specs.LawsRenewing.{UpdateRenews};
+ghost use Rattle.cms_edf.specs.Systems.{MapIsRead, WrittenIsRead};
 
-/// A volume is held as the minidisk that it is, with its files and their records in their order; where each block of its image has its
-/// size, it has as many free blocks, and its files are stored so. A name is found in the place of its file.
+/// What opens is held with its trees, and what is held so is the minidisk that it is, with its files and their records in their order;
+/// where each block of its image has its size, it has as many free blocks, and its files are stored so. A name is found in the place
+/// of its file.
 pub fn held_laws()
+    ensures trees { OpenedHasHeld }
     ensures held { OpenedIsHeld }
     ensures room { OpenedHasRoom }
     ensures place { PlaceIsTold }
+{}
+
+/// An update of a volume as it is held: a crash leaves the old volume or the new one at every moment, and in the end the new one, which is
+/// held as the renewed one. Where a file goes or has another name, that is the minidisk after the change.
+pub fn renewal_laws()
+    ensures renews { UpdateRenews }
+    ensures dropped { DropEdits }
+    ensures renamed { RenameEdits }
+{}
+
+/// The directory, the map and the label that an update writes are read again, and the map says what it said.
+pub fn systems_laws()
+    ensures written { WrittenIsRead }
+    ensures map { MapIsRead }
 {}

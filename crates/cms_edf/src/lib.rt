@@ -22,6 +22,6 @@ mod written;
 pub use cms_model::{FileData, OpenFault, Stored, VarFault};
 pub use erase::SmallErase;
 pub use held::{FileHeld, FileInfo, Held, Space};
-pub use laws::held_laws;
+pub use laws::{held_laws, renewal_laws, systems_laws};
 pub use opening::open_volume;
 pub use small::{Small, SmallFault, SmallInfo, small_volume};

@@ -130,11 +130,11 @@ Comes disk total before later [] = ⊤
 Comes disk total before later (f ∷ fs) =
     ((HoldsFile disk total before f × Agree f.met.blocks before later) ⊎ HoldsFile disk total later f) × Comes disk total before later fs
 
--- which blocks from 6 on are given back and taken, in the map and in the trees: what is taken was free, what is given back was
--- the volume's
-pub record Exchange (old_map new_map old_blocks new_blocks : List ℕ) (released fresh : ℕ → Bool) : Type 0 where
-  pub blocks : (n : ℕ) → 6 ≤ n → holds new_blocks n ≡ ((holds old_blocks n && not (released n)) || fresh n)
-  pub marks : (n : ℕ) → 6 ≤ n → is_marked new_map n ≡ ((is_marked old_map n && not (released n)) || fresh n)
+-- which blocks from 6 to the last are given back and taken, in the map and in the trees: what is taken was free, what is given back
+-- was the volume's
+pub record Exchange (last : ℕ) (old_map new_map old_blocks new_blocks : List ℕ) (released fresh : ℕ → Bool) : Type 0 where
+  pub blocks : (n : ℕ) → 6 ≤ n → n ≤ last → holds new_blocks n ≡ ((holds old_blocks n && not (released n)) || fresh n)
+  pub marks : (n : ℕ) → 6 ≤ n → n ≤ last → is_marked new_map n ≡ ((is_marked old_map n && not (released n)) || fresh n)
   pub free : (n : ℕ) → fresh n ≡ true → is_marked old_map n ≡ false
   pub had : (n : ℕ) → released n ≡ true → holds old_blocks n ≡ true
 
@@ -147,7 +147,7 @@ pub record IsRenewed (disk : Disk) (before later : Image) (old new : Layout) (re
   pub names : HaveNames new.files
   pub files : Comes disk new.label.blocks before later new.files
   pub apart : (n : ℕ) → times n (layout_blocks new) ≤ 1
-  pub exchange : Exchange (bytes_at before old.map_met.leaves) (bytes_at later new.map_met.leaves) (layout_blocks old)
+  pub exchange : Exchange new.label.blocks (bytes_at before old.map_met.leaves) (bytes_at later new.map_met.leaves) (layout_blocks old)
       (layout_blocks new) released fresh
 
 abbrev pub RenewedStands : Type 0

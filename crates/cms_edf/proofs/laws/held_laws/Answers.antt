@@ -1,5 +1,9 @@
+use Rattle.cms_edf.proofs.HeldTrees.{opened_has_held}
 use Rattle.cms_edf.proofs.HeldFiles.{opened_is_held, opened_has_room, place_is_told}
 use Rattle.cms_edf.proofs.laws.held_laws.Goals as goal
+
+pub returns-clause-trees : goal.returns-clause-trees
+returns-clause-trees c = opened_has_held
 
 pub returns-clause-held : goal.returns-clause-held
 returns-clause-held c = opened_is_held

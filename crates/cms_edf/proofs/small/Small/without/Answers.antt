@@ -7,7 +7,8 @@ use Rattle.cms_edf.specs.Held.{Holds}
 use Rattle.cms_edf.specs.Erase.{without}
 use Rattle.cms_edf.proofs.MapBits.{free_few}
 use Rattle.cms_edf.proofs.Removing.{whole_new}
-use Rattle.cms_edf.proofs.Erasing.{places_of, held_without, gone_is, removed_any, volume_is, label_size, spells_same, other_origin, rest_allowed}
+use Rattle.cms_edf.proofs.NewLabel.{label_size, spells_same, other_origin}
+use Rattle.cms_edf.proofs.Erasing.{places_of, held_without, gone_is, removed_any, volume_is, rest_allowed}
 use Rattle.cms_edf.proofs.small.Small.without.Goals as goal
 
 pub overflow_sub-label-2 : goal.overflow_sub-label-2
