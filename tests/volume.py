@@ -136,4 +136,5 @@ def main():
     print(last)
 
 
-main()
+if __name__ == "__main__":
+    main()

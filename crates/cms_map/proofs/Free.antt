@@ -1,25 +1,19 @@
--- The free blocks of a map, and what marking the lowest of them leaves.
-use Rattle.std.proofs.Common.{◌≡◌, inl, inr, ⊎_elim, ℕ, zero, suc, ◌+◌, ◌-◌, ◌≤◌, ◌<◌, Bool, true, false, List, [], ◌∷◌, ◌++◌, length, take, drop, get_or, set, refl, sym, ◌∙◌, ap, arith, length-append}
-use Rattle.std.proofs.lemmas.List.{append-nil, append_assoc, drop_more, set_at, take_more, take_more_set, drop-set-lt, take-append-drop, drop_all, take_all}
-use Rattle.std.specs.Prelude.{◌≢◌}
-use Rattle.std.proofs.lemmas.Bool.{cases_eq}
+-- The free blocks of a map: the search for the next, what marking the lowest of them leaves, and what they are.
+use Rattle.std.proofs.Common.{◌≡◌, inl, inr, ⊎_elim, ℕ, zero, suc, ◌+◌, ◌-◌, ◌*◌, ◌^◌, ◌≤◌, ◌<◌, Bool, true, false, List, [], ◌∷◌, ◌++◌, length, take, drop, get_or, set, refl, sym, ◌∙◌, ap, arith, length-set}
+use Rattle.std.proofs.lemmas.List.{append-nil, append_assoc, drop_more, take_more, drop-drop, drop-set-lt, length-drop, get_or_default}
+use Rattle.std.specs.Prelude.{◌≢◌, ◌==◌, ◌&&◌, if◌then◌else◌}
+use Rattle.std.proofs.lemmas.Bool.{cases_eq, and_parts, eqb-true}
 use Rattle.std.specs.List.Sorted.{IsStrictlyIncreasing}
 use Rattle.cms_model.specs.Lists.{In}
-use Rattle.std.proofs.lemmas.List.FromFn.{map-range_with_len_more}
-use Rattle.cms_model.specs.Maps.{is_used}
-use Rattle.cms_map.specs.Bits.{bits_in, free_from, free_blocks, with_marked, FreeAreUnused, FreeAscend}
+use native.Mathlib.Nat.{pow-suc, one-le-pow}
+use Rattle.cms_map.specs.Bits.{free_from, free_blocks, with_marked, number_of, FreeAreUnused, FreeAscend}
+use Rattle.cms_map.proofs.Packed.{number_of-small}
 
--- the block of a bit, where it is free
-abbrev pub one_free : ℕ → Bool → List ℕ
-one_free n true = []
-one_free n false = n ∷ []
-
-pub free_from-push : (n m : ℕ) (bits : List Bool) (bit : Bool) → n + length bits ≡ m → free_from n (bits ++ bit ∷ []) ≡ free_from n bits ++ one_free m bit
+pub free_from-append : (n : ℕ) (xs ys : List Bool) → free_from n (xs ++ ys) ≡ free_from n xs ++ free_from (n + length xs) ys
 unfolding free_from
-free_from-push n m [] true is = refl
-free_from-push n m [] false is = let e : n ≡ m = omega arith in ap (λ (k : ℕ). k ∷ []) e
-free_from-push n m (true ∷ bits) bit is = free_from-push (n + 1) m bits bit (omega arith)
-free_from-push n m (false ∷ bits) bit is = ap (λ (l : List ℕ). n ∷ l) (free_from-push (n + 1) m bits bit (omega arith))
+free_from-append n [] ys = let e : n ≡ n + 0 = omega arith in ap (λ (k : ℕ). free_from k ys) e
+free_from-append n (true ∷ xs) ys = let e : n + 1 + length xs ≡ n + suc (length xs) = omega arith in rw (← e) (free_from-append (n + 1) xs ys)
+free_from-append n (false ∷ xs) ys = let e : n + 1 + length xs ≡ n + suc (length xs) = omega arith in rw (← e) (ap (λ (l : List ℕ). n ∷ l) (free_from-append (n + 1) xs ys))
 
 -- no more are free than there are
 pub free_from-le : (n : ℕ) (bits : List Bool) → length (free_from n bits) ≤ length bits
@@ -27,47 +21,6 @@ unfolding free_from
 free_from-le n [] = omega arith
 free_from-le n (true ∷ bits) = omega (arith, free_from-le (n + 1) bits)
 free_from-le n (false ∷ bits) = omega (arith, free_from-le (n + 1) bits)
-
--- the map in which so many of the lowest free blocks are marked
-unfoldable pub marked_lowest : ℕ → List Bool → List Bool
-marked_lowest zero bits = bits
-marked_lowest (suc k) [] = []
-marked_lowest (suc k) (true ∷ bits) = true ∷ marked_lowest (suc k) bits
-marked_lowest (suc k) (false ∷ bits) = true ∷ marked_lowest k bits
-
-pub marked_lowest-at : (k m : ℕ) (front bits : List Bool) → length front ≡ m → with_marked (take k (free_from (m + 1) bits)) (front ++ bits) ≡ front ++ marked_lowest k bits
-unfolding free_from with_marked marked_lowest
-marked_lowest-at zero m front bits is = refl
-marked_lowest-at (suc k) m front [] is = refl
-marked_lowest-at (suc k) m front (true ∷ bits) is =
-    let one : front ++ true ∷ bits ≡ (front ++ true ∷ []) ++ bits = sym (append_assoc front (true ∷ []) bits) in
-    let one' : (front ++ true ∷ []) ++ marked_lowest (suc k) bits ≡ front ++ true ∷ marked_lowest (suc k) bits = append_assoc front (true ∷ []) (marked_lowest (suc k) bits) in
-    let long : length (front ++ true ∷ []) ≡ m + 1 = omega (arith, length-append front (true ∷ [])) in
-    rw one (marked_lowest-at (suc k) (m + 1) (front ++ true ∷ []) bits long ∙ one')
-marked_lowest-at (suc k) m front (false ∷ bits) is =
-    let place : m + 1 - 1 ≡ m = omega arith in
-    let one : set (front ++ false ∷ bits) m true ≡ (front ++ true ∷ []) ++ bits = set_at front false bits true m is ∙ sym (append_assoc front (true ∷ []) bits) in
-    let one' : (front ++ true ∷ []) ++ marked_lowest k bits ≡ front ++ true ∷ marked_lowest k bits = append_assoc front (true ∷ []) (marked_lowest k bits) in
-    let long : length (front ++ true ∷ []) ≡ m + 1 = omega (arith, length-append front (true ∷ [])) in
-    rw (place, one) (marked_lowest-at k (m + 1) (front ++ true ∷ []) bits long ∙ one')
-
-pub marked_lowest-is : (k : ℕ) (bits : List Bool) → with_marked (take k (free_blocks bits)) bits ≡ marked_lowest k bits
-marked_lowest-is k bits = marked_lowest-at k 0 [] bits refl
-
-pub length-marked_lowest : (k : ℕ) (bits : List Bool) → length (marked_lowest k bits) ≡ length bits
-unfolding marked_lowest
-length-marked_lowest zero bits = refl
-length-marked_lowest (suc k) [] = refl
-length-marked_lowest (suc k) (true ∷ bits) = ap suc (length-marked_lowest (suc k) bits)
-length-marked_lowest (suc k) (false ∷ bits) = ap suc (length-marked_lowest k bits)
-
--- so many fewer are free
-pub free_from-marked_lowest : (k n : ℕ) (bits : List Bool) → length (free_from n (marked_lowest k bits)) ≡ length (free_from n bits) - k
-unfolding free_from marked_lowest
-free_from-marked_lowest zero n bits = omega arith
-free_from-marked_lowest (suc k) n [] = omega arith
-free_from-marked_lowest (suc k) n (true ∷ bits) = free_from-marked_lowest (suc k) (n + 1) bits
-free_from-marked_lowest (suc k) n (false ∷ bits) = omega (arith, free_from-marked_lowest k (n + 1) bits)
 
 pub free_from-released : (n place : ℕ) (bits : List Bool) → place < length bits → get_or bits place false ≡ true → length (free_from n (set bits place false)) ≡ suc (length (free_from n bits))
 unfolding free_from
@@ -77,105 +30,117 @@ free_from-released n zero (false ∷ bits) within is = absurd (cc)
 free_from-released n (suc place) (true ∷ bits) within is = free_from-released (n + 1) place bits (omega arith) is
 free_from-released n (suc place) (false ∷ bits) within is = ap suc (free_from-released (n + 1) place bits (omega arith) is)
 
--- how far the marking of the n lowest of the map `old` has come: so many are left, from a place on; `had` was there before
-pub record Marking (old : List Bool) (n : ℕ) (had : List ℕ) (bits : List Bool) (has : List ℕ) (left place : ℕ) : Type 0 where
-  pub same : drop place bits ≡ drop place old
-  pub marks : take place bits ++ marked_lowest left (drop place old) ≡ marked_lowest n old
-  pub blocks : has ++ take left (free_from (place + 1) (drop place old)) ≡ had ++ take n (free_from 1 old)
-  pub enough : left ≤ length (free_from (place + 1) (drop place old))
-
-pub starts : (old : List Bool) (n : ℕ) (had : List ℕ) → n ≤ length (free_from 1 old) → Marking old n had old had n 0
-starts old n had enough = record { same = refl; marks = refl; blocks = refl; enough = enough }
-
--- both maps have this bit at the place, and the same behind it
-record MetAt (old bits : List Bool) (place : ℕ) (bit : Bool) : Type 0 where
-  first : drop place old ≡ bit ∷ drop (place + 1) old
-  behind : drop (place + 1) bits ≡ drop (place + 1) old
-
-met_at : (old bits : List Bool) (place : ℕ) (bit : Bool) → drop place bits ≡ drop place old → place < length bits → length bits ≡ length old → get_or bits place false ≡ bit → MetAt old bits place bit
-met_at old bits place bit same within long is =
-    let here : drop place bits ≡ get_or bits place false ∷ drop (place + 1) bits = drop_more bits place false within in
-    let here' : drop place old ≡ get_or old place false ∷ drop (place + 1) old = drop_more old place false (omega arith) in
-    let both : ◌≡◌ {A = List Bool} (get_or bits place false ∷ drop (place + 1) bits) (get_or old place false ∷ drop (place + 1) old) = sym here ∙ same ∙ here' in
-    let told : get_or old place false ≡ bit = sym (cc both) ∙ is in
-    record { first = rw told at here'; behind = cc both }
-
--- a bit that is set is passed
-pub passes : (old : List Bool) (n : ℕ) (had : List ℕ) (bits : List Bool) (has : List ℕ) (left place : ℕ) → Marking old n had bits has left place → 0 < left → place < length bits → length bits ≡ length old → get_or bits place false ≡ true
-    → Marking old n had bits has left (place + 1)
-unfolding free_from marked_lowest
-passes old n had bits has zero place m some within long is = absurd (omega arith)
-passes old n had bits has (suc left) place m some within long is =
-    let met = met_at old bits place true m.same within long is in
-    let rest = met.first in
-    let front : take (place + 1) bits ≡ take place bits ++ true ∷ [] = rw is at (take_more bits place false within) in
-    record {
-      same = met.behind;
-      marks = rw front (append_assoc (take place bits) (true ∷ []) (marked_lowest (suc left) (drop (place + 1) old)) ∙ (rw rest at m.marks));
-      blocks = rw rest at m.blocks;
-      enough = rw rest at m.enough;
-    }
-
--- a bit that is not set is marked
-pub takes : (old : List Bool) (n : ℕ) (had : List ℕ) (bits : List Bool) (has : List ℕ) (left place : ℕ) → Marking old n had bits has left place → 0 < left → place < length bits → length bits ≡ length old → get_or bits place false ≡ false
-    → Marking old n had (set bits place true) (has ++ (place + 1) ∷ []) (left - 1) (place + 1)
-unfolding free_from marked_lowest
-takes old n had bits has zero place m some within long is = absurd (omega arith)
-takes old n had bits has (suc left) place m some within long is =
-    let met = met_at old bits place false m.same within long is in
-    let rest = met.first in
-    let front : take (place + 1) (set bits place true) ≡ take place bits ++ true ∷ [] = take_more_set bits place true within in
-    let down : suc left - 1 ≡ left = omega arith in
-    let next : drop (place + 1) (set bits place true) ≡ drop (place + 1) bits = drop-set-lt (place + 1) bits place true (omega arith) in
-    record {
-      same = next ∙ met.behind;
-      marks = rw (down, front) (append_assoc (take place bits) (true ∷ []) (marked_lowest left (drop (place + 1) old)) ∙ (rw rest at m.marks));
-      blocks = rw down (append_assoc has ((place + 1) ∷ []) (take left (free_from (place + 1 + 1) (drop (place + 1) old))) ∙ (rw rest at m.blocks));
-      enough = let e = (rw rest at m.enough) in omega arith;
-    }
-
--- at none left, or at the end
-pub ends : (old : List Bool) (n : ℕ) (had : List ℕ) (bits : List Bool) (has : List ℕ) (left place : ℕ) → Marking old n had bits has left place → left ≡ 0 → (has ≡ had ++ take n (free_blocks old)) × (bits ≡ with_marked (take n (free_blocks old)) old)
-unfolding marked_lowest
-ends old n had bits has left place m none =
-    let whole : take place bits ++ drop place old ≡ bits = rw (← m.same) (take-append-drop place bits) in
-    let a : has ++ [] ≡ had ++ take n (free_from 1 old) = rw none at m.blocks in
-    let b : take place bits ++ drop place old ≡ marked_lowest n old = rw none at m.marks in
-    (sym (append-nil has) ∙ a, sym whole ∙ b ∙ sym (marked_lowest-is n old))
-
-pub none_left : (old : List Bool) (n : ℕ) (had : List ℕ) (bits : List Bool) (has : List ℕ) (left place : ℕ) → Marking old n had bits has left place → length old ≤ place → left ≡ 0
+-- marking a free block leaves one fewer
+pub free_from-marked : (n place : ℕ) (bits : List Bool) → get_or bits place true ≡ false → length (free_from n bits) ≡ suc (length (free_from n (set bits place true)))
 unfolding free_from
-none_left old n had bits has left place m over =
-    let rest : drop place old ≡ [] = drop_all place old over in
-    let few = (rw rest at m.enough) in omega arith
+free_from-marked n place [] is = absurd (cc)
+free_from-marked n zero (true ∷ bits) is = absurd (cc)
+free_from-marked n zero (false ∷ bits) is = refl
+free_from-marked n (suc place) (true ∷ bits) is = free_from-marked (n + 1) place bits is
+free_from-marked n (suc place) (false ∷ bits) is = ap suc (free_from-marked (n + 1) place bits is)
 
-pub bits_in-more : (n : ℕ) (bytes : List ℕ) → bits_in (n + 1) bytes ≡ bits_in n bytes ++ is_used bytes (n + 1) ∷ []
-unfolding bits_in
-bits_in-more n bytes = map-range_with_len_more (is_used bytes) 1 n (n + 1) (omega arith)
+-- bits that are all 1 have no free block
+pub free_from-full : (k n : ℕ) (bits : List Bool) → number_of k bits + 1 ≡ 2 ^ k → free_from n bits ≡ free_from (n + k) (drop k bits)
+unfolding free_from number_of
+free_from-full zero n bits is = let e : n ≡ n + 0 = omega arith in ap (λ (m : ℕ). free_from m bits) e
+free_from-full (suc k) n [] is = refl
+free_from-full (suc k) n (true ∷ bits) is =
+    let double : 2 ^ suc k ≡ 2 ^ k * 2 = pow-suc 2 k in
+    let e : n + 1 + k ≡ n + suc k = omega arith in
+    rw (← e) (free_from-full k (n + 1) bits (omega arith))
+free_from-full (suc k) n (false ∷ bits) is =
+    let double : 2 ^ suc k ≡ 2 ^ k * 2 = pow-suc 2 k in
+    let some : 1 ≤ 2 ^ k = one-le-pow k 2 (omega arith) in
+    absurd (omega (arith, number_of-small k bits))
 
--- one more bit, and the count of free blocks with it
-pub counts : (bits : List Bool) (bit : Bool) (free more : ℕ) → free ≡ length (free_blocks bits) → more ≡ free + length (one_free 0 bit) → more ≡ length (free_blocks (bits ++ bit ∷ []))
-counts bits bit free more is is_more =
-    let e = ap length (free_from-push 1 (1 + length bits) bits bit refl) in
-    let same = same_count bit (1 + length bits) in
-    omega (arith, length-append (free_blocks bits) (one_free (1 + length bits) bit))
-  where
-    same_count : (b : Bool) (m : ℕ) → length (one_free 0 b) ≡ length (one_free m b)
-    same_count true m = refl
-    same_count false m = refl
+-- a block in use is passed, or eight of them
+passes_one : (bits : List Bool) (next : ℕ) → 1 ≤ next → next ≤ length bits → get_or bits (next - 1) false ≡ true
+    → free_from next (drop (next - 1) bits) ≡ free_from (next + 1) (drop (next + 1 - 1) bits)
+unfolding free_from
+passes_one bits next first last is =
+    let here : drop (next - 1) bits ≡ get_or bits (next - 1) false ∷ drop (next - 1 + 1) bits = drop_more bits (next - 1) false (omega arith) in
+    let on : next - 1 + 1 ≡ next + 1 - 1 = omega arith in
+    ap (free_from next) (rw (is, on) at here)
 
--- so many fewer are free once they are marked
-pub marked_count : (bits : List Bool) (n : ℕ) → length (free_blocks (with_marked (take n (free_blocks bits)) bits)) ≡ length (free_blocks bits) - n
-marked_count bits n = rw (marked_lowest-is n bits) (free_from-marked_lowest n 1 bits)
+passes_eight : (bits : List Bool) (next : ℕ) → 1 ≤ next → number_of 8 (drop (next - 1) bits) ≡ 255 → free_from next (drop (next - 1) bits) ≡ free_from (next + 8) (drop (next + 8 - 1) bits)
+passes_eight bits next first is =
+    let power : 2 ^ 8 ≡ 256 = refl in
+    let on : next - 1 + 8 ≡ next + 8 - 1 = omega arith in
+    free_from-full 8 next (drop (next - 1) bits) (omega arith) ∙ ap (free_from (next + 8)) (drop-drop 8 (next - 1) bits ∙ ap (λ (n : ℕ). drop n bits) on)
 
-pub length-with_marked : (bits : List Bool) (n : ℕ) → length (with_marked (take n (free_blocks bits)) bits) ≡ length bits
-length-with_marked bits n = rw (marked_lowest-is n bits) (length-marked_lowest n bits)
+pub passes : (bits : List Bool) (next step : ℕ) (begins full : Bool) → 1 ≤ next → next ≤ length bits → get_or bits (next - 1) false ≡ true
+    → full ≡ (begins && (number_of 8 (drop (next - 1) bits) == 255)) → step ≡ (if full then 8 else 1)
+    → free_from next (drop (next - 1) bits) ≡ free_from (next + step) (drop (next + step - 1) bits)
+passes bits next step begins true first last is is_full is_step =
+    let all : number_of 8 (drop (next - 1) bits) ≡ 255 = eqb-true _ _ (and_parts begins (number_of 8 (drop (next - 1) bits) == 255) (sym is_full)).1 in
+    rw is_step (passes_eight bits next first all)
+passes bits next step begins false first last is is_full is_step = rw is_step (passes_one bits next first last is)
 
--- what is written to a whole list is there
-pub written : (len : ℕ) (new old : List Bool) → length new ≡ length old → len ≡ length old → take len (new ++ drop (length new) old) ≡ new
-written len new old same is =
-    let none : drop (length new) old ≡ [] = drop_all (length new) old (omega arith) in
-    rw (none, append-nil new) (take_all len new (omega arith))
+-- a block that isn't in use is the next
+pub record IsNext (bits : List Bool) (next : ℕ) : Type 0 where
+  pub next_is : free_from next (drop (next - 1) bits) ≡ next ∷ free_from (next + 1) (drop next bits)
+  pub free : get_or bits (next - 1) true ≡ false
+
+pub finds : (bits : List Bool) (next : ℕ) → 1 ≤ next → next ≤ length bits → get_or bits (next - 1) false ≡ false → IsNext bits next
+unfolding free_from
+finds bits next first last is =
+    let here : drop (next - 1) bits ≡ get_or bits (next - 1) false ∷ drop (next - 1 + 1) bits = drop_more bits (next - 1) false (omega arith) in
+    let on : next - 1 + 1 ≡ next = omega arith in
+    record { next_is = ap (free_from next) (rw (is, on) at here); free = get_or_default bits (next - 1) true false (omega arith) ∙ is }
+
+-- some block from this one on is free, so it is no further than the last
+pub some_free : (n at : ℕ) (bits : List Bool) → 0 < length (free_from n (drop at bits)) → at < length bits
+some_free n at bits some = omega (arith, free_from-le n (drop at bits), length-drop at bits)
+
+-- ---- the marking of the lowest free blocks
+
+pub with_marked-push : (ns : List ℕ) (n : ℕ) (bits : List Bool) → with_marked (ns ++ n ∷ []) bits ≡ set (with_marked ns bits) (n - 1) true
+unfolding with_marked
+with_marked-push [] n bits = refl
+with_marked-push (m ∷ ns) n bits = with_marked-push ns n (set bits (m - 1) true)
+
+pub length-with_marked : (ns : List ℕ) (bits : List Bool) → length (with_marked ns bits) ≡ length bits
+unfolding with_marked
+length-with_marked [] bits = refl
+length-with_marked (n ∷ ns) bits = length-with_marked ns (set bits (n - 1) true) ∙ length-set bits (n - 1) true
+
+-- how far the marking of the lowest free blocks of the map `old` has come: so many are marked, the last of them is `block`, and `had` was there before
+pub record Marking (old : List Bool) (had : List ℕ) (bits : List Bool) (has : List ℕ) (block taken : ℕ) : Type 0 where
+  pub marks : bits ≡ with_marked (take taken (free_blocks old)) old
+  pub blocks : has ≡ had ++ take taken (free_blocks old)
+  pub same : drop block bits ≡ drop block old
+  pub left : free_from (block + 1) (drop block old) ≡ drop taken (free_blocks old)
+
+pub starts : (old : List Bool) (had : List ℕ) → Marking old had old had 0 0
+unfolding with_marked
+starts old had = record { marks = refl; blocks = sym (append-nil had); same = refl; left = refl }
+
+-- one more is free while fewer are marked than are free
+pub one_left : (old : List Bool) (had : List ℕ) (bits : List Bool) (has : List ℕ) (block taken : ℕ) → Marking old had bits has block taken → taken < length (free_blocks old)
+    → 0 < length (free_from (block + 1) (drop block bits))
+one_left old had bits has block taken m some =
+    let rest = ap length (ap (free_from (block + 1)) m.same ∙ m.left) in omega (arith, length-drop taken (free_blocks old))
+
+pub marks_next : (old : List Bool) (had : List ℕ) (bits : List Bool) (has : List ℕ) (block taken next : ℕ) → Marking old had bits has block taken → taken < length (free_blocks old)
+    → free_from (block + 1) (drop block bits) ≡ next ∷ free_from (next + 1) (drop next bits) → block < next
+    → Marking old had (set bits (next - 1) true) (has ++ next ∷ []) next (taken + 1)
+marks_next old had bits has block taken next m some is later =
+    let free = free_blocks old in
+    let first : drop taken free ≡ get_or free taken 0 ∷ drop (taken + 1) free = drop_more free taken 0 some in
+    let both : ◌≡◌ {A = List ℕ} (next ∷ free_from (next + 1) (drop next bits)) (get_or free taken 0 ∷ drop (taken + 1) free) = sym is ∙ ap (free_from (block + 1)) m.same ∙ m.left ∙ first in
+    let head : get_or free taken 0 ≡ next = sym (cc both) in
+    let tail : free_from (next + 1) (drop next bits) ≡ drop (taken + 1) free = cc both in
+    let more : take (taken + 1) free ≡ take taken free ++ next ∷ [] = rw head at (take_more free taken 0 some) in
+    let on : block + (next - block) ≡ next = omega arith in
+    let behind : drop next bits ≡ drop next old =
+    ap (λ (n : ℕ). drop n bits) (sym on) ∙ sym (drop-drop (next - block) block bits) ∙ ap (drop (next - block)) m.same ∙ drop-drop (next - block) block old ∙ ap (λ (n : ℕ). drop n old) on in
+    let unset : drop next (set bits (next - 1) true) ≡ drop next bits = drop-set-lt next bits (next - 1) true (omega arith) in
+    record {
+      marks = ap (λ (l : List Bool). set l (next - 1) true) m.marks ∙ sym (with_marked-push (take taken free) next old) ∙ ap (λ (l : List ℕ). with_marked l old) (sym more);
+      blocks = ap (λ (l : List ℕ). l ++ next ∷ []) m.blocks ∙ append_assoc had (take taken free) (next ∷ []) ∙ ap (λ (l : List ℕ). had ++ l) (sym more);
+      same = unset ∙ behind;
+      left = ap (free_from (next + 1)) (sym behind) ∙ tail;
+    }
 
 -- ---- what the free blocks are
 

@@ -1,9 +1,9 @@
--- Eight bits as a number.
-use Rattle.std.proofs.Common.{◌≡◌, ℕ, zero, suc, ◌+◌, ◌-◌, ◌*◌, ◌^◌, ◌≤◌, ◌<◌, ⊎_elim, Bool, true, false, List, [], ◌∷◌, length, take, drop, get_or, refl, sym, ◌∙◌, ap, subst, arith}
+-- The bits of a byte as a number, and those of a map as its bytes.
+use Rattle.std.proofs.Common.{◌≡◌, ℕ, zero, suc, ◌+◌, ◌-◌, ◌*◌, ◌^◌, ◌≤◌, ◌<◌, ⊎_elim, Bool, true, false, List, [], ◌∷◌, length, drop, get_or, refl, sym, ◌∙◌, ap, subst, arith}
 use Rattle.std.specs.Prelude.{if◌then◌else◌}
 use Rattle.std.specs.List.{range_with_len}
-use Rattle.std.specs.Prelude.{◌==◌, min, map, ◌/◌, ◌%◌}
-use Rattle.std.proofs.lemmas.List.{get_or-drop, drop-drop, take_rest, drop_min, same_lists, get_or_default}
+use Rattle.std.specs.Prelude.{◌==◌, map, ◌/◌, ◌%◌}
+use Rattle.std.proofs.lemmas.List.{get_or-drop, same_lists, get_or_default}
 use Rattle.std.proofs.lemmas.List.FromFn.{length-map-range_with_len, get_or-map-range_with_len}
 use Rattle.std.proofs.lemmas.Nat.{div-mul-add}
 use Rattle.std.proofs.Math.Nat.{mul-add-div_right, mul-add-mod_self_right}
@@ -18,62 +18,13 @@ use Rattle.cms_map.specs.Bits.{number_of, byte_at, bytes_from, bits_in, HasFixed
 abbrev pub worth : Bool → ℕ
 worth b = if b then 1 else 0
 
-worth_at : (b : Bool) (k : ℕ) → (if b then 2 ^ k else 0) ≡ worth b * 2 ^ k
+pub worth_at : (b : Bool) (k : ℕ) → (if b then 2 ^ k else 0) ≡ worth b * 2 ^ k
 worth_at true k = omega arith
 worth_at false k = omega arith
-
-pub number_of-first : (k : ℕ) (bits : List Bool) → number_of (suc k) bits ≡ worth (get_or bits 0 false) * 2 ^ k + number_of k (drop 1 bits)
-unfolding number_of
-number_of-first zero [] = refl
-number_of-first (suc k) [] = omega arith
-number_of-first k (bit ∷ bits) = ap (λ (n : ℕ). n + number_of k bits) (worth_at bit k)
 
 worth-le : (b : Bool) → worth b ≤ 1
 worth-le true = omega arith
 worth-le false = omega arith
-
--- the bits before a place as a number, and those from it on
-pub record Packed (bits : List Bool) (byte place : ℕ) : Type 0 where
-  pub number : byte * 2 ^ (8 - place) + number_of (8 - place) (drop place bits) ≡ number_of 8 bits
-  pub small : byte < 2 ^ place
-
-pub none_packed : (bits : List Bool) → Packed bits 0 0
-none_packed bits = record { number = omega arith; small = omega arith }
-
--- twice a number and a bit, beside the bits that are left
-shifts : (byte bit power rest whole : ℕ) → byte * (power * 2) + (bit * power + rest) ≡ whole → (2 * byte + bit) * power + rest ≡ whole
-shifts byte bit power rest whole is = omega arith
-
-pub one_packed : (bits : List Bool) (byte place : ℕ) → Packed bits byte place → place < 8 → Packed bits (2 * byte + worth (get_or bits place false)) (place + 1)
-one_packed bits byte place p less =
-    let more : 8 - place ≡ suc (8 - (place + 1)) = omega arith in
-    let k = 8 - (place + 1) in
-    let bit = worth (get_or bits place false) in
-    let here : place + 0 ≡ place = omega arith in
-    let same : get_or (drop place bits) 0 false ≡ get_or bits place false = get_or-drop place bits 0 false ∙ ap (λ (i : ℕ). get_or bits i false) here in
-    let first : number_of (suc k) (drop place bits) ≡ bit * 2 ^ k + number_of k (drop (place + 1) bits) =
-    number_of-first k (drop place bits) ∙ (rw (same, drop-drop 1 place bits) refl) in
-    let double : 2 ^ suc k ≡ 2 ^ k * 2 = pow-suc 2 k in
-    let twice : 2 ^ (place + 1) ≡ 2 ^ place * 2 = (let e : place + 1 ≡ suc place = omega arith in rw e (pow-suc 2 place)) in
-    let whole : byte * (2 ^ k * 2) + (bit * 2 ^ k + number_of k (drop (place + 1) bits)) ≡ number_of 8 bits = rw (more, double, first) at p.number in
-    let low = worth-le (get_or bits place false) in
-    let small = p.small in
-    record { number = shifts byte bit (2 ^ k) (number_of k (drop (place + 1) bits)) (number_of 8 bits) whole; small = omega arith }
-
-pub all_packed : (bits : List Bool) (byte place : ℕ) → Packed bits byte place → 8 ≤ place → byte ≡ number_of 8 bits
-unfolding number_of
-all_packed bits byte place p over =
-    let none : 8 - place ≡ 0 = omega arith in
-    let is = rw none at p.number in
-    omega arith
-
--- the first eight bits of what is left behind a place
-pub byte_of_rest : (bits : List Bool) (at times first : ℕ) → length bits < 2 ^ 32 → times ≡ min (at * 8) 18446744073709551615 → first ≡ min times (length bits)
-    → number_of 8 (take (length bits - first) (drop first bits)) ≡ byte_at bits at
-unfolding byte_at
-byte_of_rest bits at times first short is_times is_first =
-    let low : first ≡ min (8 * at) (length bits) = omega arith in
-    rw (take_rest bits first, low, drop_min (8 * at) bits) refl
 
 pub bytes_filled : (from count : ℕ) (bits : List Bool) (bytes : List ℕ) → length bytes ≡ count → ((k : ℕ) → k < count → get_or bytes k 0 ≡ byte_at bits (from + k)) → bytes ≡ bytes_from from count bits
 unfolding bytes_from
@@ -83,7 +34,7 @@ bytes_filled from count bits bytes long each =
     let within : k < count = subst (λ (n : ℕ). k < n) long less in
     get_or_default bytes k d 0 less ∙ each k within ∙ sym (get_or-map-range_with_len (byte_at bits) from count k (from + k) d within refl))
 
-number_of-small : (k : ℕ) (bits : List Bool) → number_of k bits < 2 ^ k
+pub number_of-small : (k : ℕ) (bits : List Bool) → number_of k bits < 2 ^ k
 unfolding number_of
 number_of-small zero bits = omega arith
 number_of-small (suc k) [] = let some = one-le-pow (suc k) 2 (omega arith) in omega arith
@@ -136,7 +87,8 @@ pub marked_bit : (bits : List Bool) (count place : ℕ) → place < 8 * count �
 unfolding is_marked bytes_from
 marked_bit bits count place less =
     let same : place + 1 - 1 ≡ place = omega arith in
-    let there : get_or (map (byte_at bits) (range_with_len 0 count)) (place / 8) 0 ≡ byte_at bits (place / 8) = get_or-map-range_with_len (byte_at bits) 0 count (place / 8) (place / 8) 0 (omega arith) (omega arith) in
+    let there : get_or (map (byte_at bits) (range_with_len 0 count)) (place / 8) 0 ≡ byte_at bits (place / 8) =
+    get_or-map-range_with_len (byte_at bits) 0 count (place / 8) (place / 8) 0 (omega arith) (omega arith) in
     rw (same, there) (byte_bit bits place)
 
 used_bit : (bits : List Bool) (count place : ℕ) → HasFixed bits → place < length bits → place < 8 * count → is_used (bytes_from 0 count bits) (place + 1) ≡ get_or bits place false

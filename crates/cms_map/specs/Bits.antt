@@ -2,6 +2,7 @@
 use Rattle.std.specs.Prelude.{◌≡◌, ◌↔◌, ℕ, zero, suc, ◌+◌, ◌-◌, ◌*◌, ◌^◌, ◌≤◌, Bool, true, false, if◌then◌else◌, List, [], ◌∷◌, length, map, drop, slice_set, slice_index_or}
 use Rattle.std.specs.List.Sorted.{IsStrictlyIncreasing}
 use Rattle.std.specs.List.{range_with_len}
+use Rattle.std.specs.Int.{div_ceil}
 use Rattle.cms_model.specs.Lists.{In}
 use Rattle.cms_model.specs.Maps.{is_used}
 
@@ -37,6 +38,11 @@ byte_at bits at = number_of 8 (drop (8 * at) bits)
 -- so many of the map's bytes, from one on
 unfoldable pub bytes_from : ℕ → ℕ → List Bool → List ℕ
 bytes_from at count bits = map (byte_at bits) (range_with_len at count)
+
+-- how a map of so many blocks is held: its bits in no more bytes than they need, those past the last block 0, and the count of free blocks
+pub record IsHeld (blocks free : ℕ) (bytes : List ℕ) : Type 0 where
+  pub bits : bytes ≡ bytes_from 0 (div_ceil blocks 8) (bits_in blocks bytes)
+  pub count : free ≡ length (free_blocks (bits_in blocks bytes))
 
 -- blocks 1 to 5 are in use
 abbrev pub HasFixed : List Bool → Type 0

@@ -1,27 +1,29 @@
-// A map of so many blocks, with the count of those that are free.
-ghost use Rattle.std.specs.Prelude.{◌≡◌, ℕ, ◌+◌, ◌-◌, ◌*◌, ◌^◌, ◌≤◌, ◌<◌, ◌++◌, [], true, false, length, take, nat_le, if◌then◌else◌, IfOk, slice_index_or, slice_set, vec_len, vec_capacity};
-ghost use Rattle.cms_model.specs.Maps.{is_marked, is_used};
-ghost use Rattle.cms_map.specs.Bits.{bits_in, free_blocks, with_marked, number_of, byte_at, bytes_from};
+// A map of so many blocks, one bit a block, with the count of those that are free.
+ghost use Rattle.std.specs.Prelude.{◌≡◌, ◌==◌, ◌&&◌, ℕ, ◌+◌, ◌-◌, ◌*◌, ◌^◌, ◌≤◌, ◌<◌, ◌++◌, ◌∷◌, true, false, length, take, drop, nat_le, if◌then◌else◌, IfOk, ◌/◌, ◌%◌, slice_index_or, slice_set, vec_len, vec_capacity};
+ghost use Rattle.cms_model.specs.Maps.{is_marked};
+ghost use Rattle.cms_map.specs.Bits.{bits_in, free_from, free_blocks, with_marked, number_of, byte_at, bytes_from};
 
 use std::alloc::{AllocError, Global};
 use std::marker::Model;
 
-/// The blocks of a volume that are in use, seen as a list of bits: that of block 1 first, true where it is in use.
+/// The blocks of a volume that are in use, seen as a list of bits: that of block 1 first, true where it is in use. It takes a bit of
+/// memory a block.
 #[derive(Clone, Drop)]
 pub struct Map {
-    used: Vec<bool>,
+    bytes: Vec<u8>,
+    blocks: u32,
     free: u32,
 }
 
 impl Model for Map {
-    ghost use Rattle.std.specs.Prelude.{◌≡◌, ◌^◌, ◌<◌, List, Bool, length, vec_len};
-    ghost use Rattle.cms_map.specs.Bits.{free_blocks};
+    ghost use Rattle.std.specs.Prelude.{List, Bool};
+    ghost use Rattle.cms_map.specs.Bits.{bits_in, IsHeld};
 
     ghost Value = { List Bool };
 
-    ghost view = { λ m. m.used.items };
+    ghost view = { λ m. bits_in m.blocks m.bytes.items };
 
-    ghost invariant = { λ m. (m.free ≡ length (free_blocks m.used.items)) × (vec_len m.used < 2 ^ 32) };
+    ghost invariant = { λ m. IsHeld m.blocks m.free m.bytes.items };
 }
 
 impl Map {
@@ -32,16 +34,19 @@ impl Map {
         ensures bits { IfOk result (λ m. m ≡ bits_in n bytes.now) }
         ensures count { IfOk result (λ m. length m ≡ n) }
     {
-        let mut used = Vec::with_capacity(alloc, n as usize)?;
-        let mut free = 0;
-        for place in 0..n {
-            let is_used = is_in_use(bytes, place + 1);
-            if !is_used {
-                free += 1;
-            }
-            used.push(is_used)?;
+        let count = (n as usize).div_ceil(8);
+        let mut held = Vec::with_capacity(alloc, count)?;
+        let mut used = 0;
+        for at in 0..count {
+            let byte = byte_in(bytes, n, at);
+            used += byte.count_ones();
+            held.push(byte)?;
         }
-        Ok(Map { used, free })
+        Ok(Map {
+            bytes: held,
+            blocks: n,
+            free: n - used,
+        })
     }
 
     /// Whether the block, from 1 to the last, is in use.
@@ -50,7 +55,7 @@ impl Map {
         requires last { block ≤ length self.now }
         ensures { result ≡ slice_index_or self.now (block - 1) false }
     {
-        self.used[block as usize - 1]
+        is_marked(&self.bytes, block)
     }
 
     /// How many blocks are free.
@@ -71,11 +76,15 @@ impl Map {
         ensures len { vec_len into.new ≡ (if result then vec_len into.old + n else vec_len into.old) }
         ensures capacity { vec_capacity into.old ≤ vec_capacity into.new }
     {
-        if n > self.free {
+        if n > self.free_count() {
             return false;
         }
-        mark_lowest(&mut self.used, n, into);
-        self.free -= n;
+        let mut block = 0;
+        for _taken in 0..n {
+            block = self.next_free(block);
+            self.mark(block);
+            into.push(block).unwrap();
+        }
         true
     }
 
@@ -86,9 +95,8 @@ impl Map {
         ensures released { self.new ≡ slice_set self.old (block - 1) false }
         ensures count { length self.new ≡ length self.old }
     {
-        let place = block as usize - 1;
-        if self.used[place] {
-            self.used[place] = false;
+        if self.is_used(block) {
+            self.bytes[place_of(block)] &= !bit_of(block);
             self.free += 1;
         }
     }
@@ -98,8 +106,50 @@ impl Map {
         ensures { into.new ≡ bytes_from from (length into.old) self.now }
     {
         for (place, byte) in into.iter_mut().enumerate() {
-            *byte = byte_from(&self.used, from as usize + place);
+            *byte = self.byte(from as usize + place);
         }
+    }
+
+    // The lowest free block past this one. Bytes without a free block are passed whole.
+    fn next_free(&self, block: u32) -> u32
+        requires some { 0 < length (free_from (block + 1) (drop block self.now)) }
+        ensures next { free_from (block + 1) (drop block self.now) ≡ result ∷ free_from (result + 1) (drop result self.now) }
+        ensures later { block < result }
+        ensures last { result ≤ length self.now }
+        ensures free { slice_index_or self.now (result - 1) true ≡ false }
+    {
+        prove!(block < self.blocks);
+        let mut next = block + 1;
+        while self.is_used(next) {
+            next += if self.fills_byte(next) { 8 } else { 1 };
+        }
+        next
+    }
+
+    // Marks the block, which is free.
+    fn mark(&mut self, block: u32)
+        requires first { 1 ≤ block }
+        requires last { block ≤ length self.old }
+        requires free { slice_index_or self.old (block - 1) true ≡ false }
+        ensures { self.new ≡ slice_set self.old (block - 1) true }
+    {
+        self.bytes[place_of(block)] |= bit_of(block);
+        self.free -= 1;
+    }
+
+    // Whether the block is the first of a byte in which all are in use.
+    fn fills_byte(&self, block: u32) -> bool
+        requires { 1 ≤ block }
+        ensures { result ≡ ((block % 8 == 1) && (number_of 8 (drop (block - 1) self.now) == 255)) }
+    {
+        block % 8 == 1 && self.byte(place_of(block)) == u8::MAX
+    }
+
+    // The byte at a place, counted from 0.
+    fn byte(&self, at: usize) -> u8
+        ensures { result ≡ byte_at self.now at }
+    {
+        self.bytes.get(at).copied().unwrap_or(0)
     }
 }
 
@@ -114,64 +164,34 @@ pub fn is_marked(bytes: &[u8], block: u32) -> bool
     (byte >> (7 - place % 8)) % 2 == 1
 }
 
-// Whether the block's bit is 1, or it is one of the first five.
-#[tactic(auto, unfolding(cms_model::specs::Maps::is_used))]
-fn is_in_use(bytes: &[u8], block: u32) -> bool
-    ensures { result ≡ is_used bytes.now block }
+// The byte at a place, counted from 0, of the map of blocks 1 to `n` in these bytes: blocks 1 to 5 are in use, and bits past the last
+// block are 0.
+fn byte_in(bytes: &[u8], n: u32, at: usize) -> u8
+    requires within { 8 * at < n }
+    requires room { n ≤ 8 * length bytes.now }
+    ensures { result ≡ byte_at (bits_in n bytes.now) at }
 {
-    block <= 5 || is_marked(bytes, block)
+    let byte = if at == 0 {
+        0xF8 | bytes[at] % 8
+    } else {
+        bytes[at]
+    };
+    let past = 8usize.saturating_sub(n as usize - 8 * at);
+    byte >> past << past
 }
 
-// Marks the lowest free blocks, and appends them.
-fn mark_lowest(used: &mut [bool], n: u32, into: &mut Vec<u32>)
-    requires small { length used.old < 2 ^ 32 }
-    requires enough { n ≤ length (free_blocks used.old) }
-    requires room { vec_len into.old + n ≤ vec_capacity into.old }
-    ensures appended { into.new.items ≡ into.old.items ++ take n (free_blocks used.old) }
-    ensures marked { used.new ≡ with_marked (take n (free_blocks used.old)) used.old }
-    ensures len { vec_len into.new ≡ vec_len into.old + n }
-    ensures capacity { vec_capacity into.old ≤ vec_capacity into.new }
+// The place of a block's byte, counted from 0.
+fn place_of(block: u32) -> usize
+    requires { 1 ≤ block }
+    ensures { result ≡ (block - 1) / 8 }
 {
-    let mut left = n;
-    for (place, is_used) in used.iter_mut().enumerate() {
-        if left == 0 {
-            break;
-        }
-        if !*is_used {
-            *is_used = true;
-            into.push(place as u32 + 1).unwrap();
-            left -= 1;
-        }
-    }
+    (block as usize - 1) / 8
 }
 
-// The byte at a place, counted from 0.
-fn byte_from(bits: &[bool], at: usize) -> u8
-    requires { length bits.now < 2 ^ 32 }
-    ensures { result ≡ byte_at bits.now at }
+// The block's bit in its byte.
+fn bit_of(block: u32) -> u8
+    requires { 1 ≤ block }
+    ensures { result ≡ 2 ^ (7 - (block - 1) % 8) }
 {
-    let first = at.saturating_mul(8).min(bits.len());
-    byte_of(&bits[first..])
-}
-
-// The byte of the first eight bits; those past the last are 0.
-fn byte_of(bits: &[bool]) -> u8
-    ensures { result ≡ number_of 8 bits.now }
-{
-    let mut byte = 0;
-    for place in 0..8 {
-        byte = 2 * byte + bit_at(bits, place);
-    }
-    byte
-}
-
-// The bit at a place, 0 past the last.
-fn bit_at(bits: &[bool], place: usize) -> u8
-    ensures is { result ≡ (if slice_index_or bits.now place false then 1 else 0) }
-    ensures small { result ≤ 1 }
-{
-    match bits.get(place) {
-        Some(true) => 1,
-        _ => 0,
-    }
+    1 << (7 - (block - 1) % 8)
 }

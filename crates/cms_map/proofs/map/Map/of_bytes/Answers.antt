@@ -1,26 +1,46 @@
-use Rattle.std.proofs.Common.{◌≡◌, ◌+◌, length, sym, refl, arith}
-use Rattle.cms_map.specs.Bits.{bits_in, free_from}
-use Rattle.cms_map.proofs.Free.{one_free, counts, free_from-le, bits_in-more}
+use Rattle.std.proofs.Common.{◌≡◌, ◌+◌, ◌*◌, sym, refl, arith}
+use Rattle.std.specs.Int.{div_ceil}
+use Rattle.std.proofs.lemmas.List.{length-take}
+use Rattle.cms_map.specs.Bits.{bits_in, free_from, bytes_from}
+use Rattle.cms_map.proofs.Held.{bits_count, bytes_more, ones_more, reads}
 use Rattle.cms_map.proofs.map.Map.of_bytes.Goals as goal
-use Rattle.cms_map.proofs.map.Map.of_bytes.Goals.{then-not-is_used, else-not-is_used}
 
-pub loop-place-init : goal.loop-place-init
-unfolding bits_in free_from
-loop-place-init c = rw c.in_ok-used.ensures.items (record { used = refl; free = refl; long = c.in_ok-used.ensures.len })
+pub loop-at-init : goal.loop-at-init
+unfolding bytes_from free_from
+loop-at-init c = record { bytes = c.in_ok-held.ensures.items; ones = refl }
 
-pub overflow_add-free : goal.overflow_add-free
-overflow_add-free c = omega (arith, free_from-le 1 c.loop-place.used.items)
+pub overflow_add-used : goal.overflow_add-used
+overflow_add-used c =
+    let l = c.loop-at in
+    let bits = bits_in c.args.n c.args.bytes.now in
+    omega (arith, ones_more bits l.at c.byte_in-byte.result l.used c.byte_in-byte.ensures l.invariant.ones, length-take (8 * (l.at + 1)) bits, bits_count c.args.n c.args.bytes.now)
 
-pub loop-place-preserved : goal.loop-place-preserved
-loop-place-preserved c =
-    let l = c.loop-place in
-    let bit = c.is_in_use-is_used.result in
-    let one : c.if-not-is_used.free ≡ l.free + length (one_free 0 bit) = elim c.if-not-is_used.branch [
-      | then-not-is_used w ↦ rw (w.if-not-is_used.true, w.free-is) refl
-      | else-not-is_used w ↦ rw (w.if-not-is_used.false, w.free-is) (omega arith)
-    ] in
+pub loop-at-preserved : goal.loop-at-preserved
+loop-at-preserved c =
+    let l = c.loop-at in
+    let bits = bits_in c.args.n c.args.bytes.now in
     record {
-      used = rw (c.in_ok-push.ensures.items, l.invariant.used, c.is_in_use-is_used.ensures) (sym (bits_in-more l.place c.args.bytes.now));
-      free = rw c.in_ok-push.ensures.items (counts l.used.items bit l.free c.if-not-is_used.free l.invariant.free one);
-      long = omega (arith, c.in_ok-push.ensures.len);
+      bytes = rw (c.in_ok-push.ensures.items, l.invariant.bytes, c.byte_in-byte.ensures) (sym (bytes_more bits l.at));
+      ones = ones_more bits l.at c.byte_in-byte.result l.used c.byte_in-byte.ensures l.invariant.ones;
     }
+
+pub overflow_sub-result : goal.overflow_sub-result
+overflow_sub-result c =
+    let l = c.loop-at in
+    let bits = bits_in c.args.n c.args.bytes.now in
+    omega (arith, l.invariant.ones, length-take (8 * l.at) bits, bits_count c.args.n c.args.bytes.now)
+
+pub invariant_of-result : goal.invariant_of-result
+invariant_of-result c =
+    let l = c.loop-at in
+    let end : l.at ≡ div_ceil c.args.n 8 = omega (arith, c.div_ceil-count.ensures) in
+    (reads c.args.n l.used c.args.bytes.now l.held.items (rw end at l.invariant.bytes) (rw end at l.invariant.ones)).held
+
+pub returns-clause-bits : goal.returns-clause-bits
+returns-clause-bits c =
+    let l = c.loop-at in
+    let end : l.at ≡ div_ceil c.args.n 8 = omega (arith, c.div_ceil-count.ensures) in
+    (reads c.args.n l.used c.args.bytes.now l.held.items (rw end at l.invariant.bytes) (rw end at l.invariant.ones)).view
+
+pub returns-clause-count : goal.returns-clause-count
+returns-clause-count c = bits_count c.args.n c.loop-at.held.items

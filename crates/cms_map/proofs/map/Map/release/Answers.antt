@@ -1,20 +1,42 @@
-use Rattle.std.proofs.Common.{◌≡◌, ◌-◌, true, false, length, get_or, set, sym, ◌∙◌, ap, arith, length-set}
-use Rattle.std.proofs.lemmas.List.{get_or_read}
-use Rattle.cms_map.proofs.Free.{free_from-released, free_from-le}
+use Rattle.std.proofs.Common.{false, ◌-◌, length, sym, ◌∙◌, ap, arith, length-set}
+use Rattle.cms_map.proofs.Held.{releases, place_within}
 use Rattle.cms_map.proofs.map.Map.release.Goals as goal
+
+pub index_mut-requires : goal.index_mut-requires
+index_mut-requires c =
+    let m = c.self.inside in
+    let r = c.requires in
+    omega (arith, m.bytes.ok, place_within m.blocks m.free m.bytes.items c.args.self.now c.args.block _ c.self.view_is c.self.invariant (omega arith) r.last c.place_of.ensures)
 
 pub overflow_add-self : goal.overflow_add-self
 overflow_add-self c =
-    let used = c.self.inside.used in
-    let place = c.args.block - 1 in
-    let long : length used.items ≡ length c.args.self.now = ap length c.self.view_is in
-    let is : get_or used.items place false ≡ true = sym (get_or_read used.items place _ (omega arith) c.index.ensures false) ∙ c.if-index.true in
-    omega (arith, free_from-released 1 place used.items (omega arith) is, free_from-le 1 (set used.items place false), length-set used.items place false)
+    let m = c.self.inside in
+    let r = c.requires in
+    omega (
+      arith,
+      (releases m.blocks m.free m.bytes.items c.args.self.now c.args.block _ _ _
+          c.self.view_is c.self.invariant r.first r.last (sym c.is_used.ensures ∙ c.if-is_used.true) c.place_of.ensures c.index_mut.ensures.value c.bit_of.ensures).fits,
+      c.self.ranges,
+    )
 
 pub invariant_of-self : goal.invariant_of-self
 invariant_of-self c =
-    let used = c.self.inside.used in
-    let place = c.args.block - 1 in
-    let long : length used.items ≡ length c.args.self.now = ap length c.self.view_is in
-    let is : get_or used.items place false ≡ true = sym (get_or_read used.items place _ (omega arith) c.index.ensures false) ∙ c.if-index.true in
-    (omega (arith, free_from-released 1 place used.items (omega arith) is), c.self.invariant.1)
+    let m = c.self.inside in
+    let r = c.requires in
+    (releases m.blocks m.free m.bytes.items c.args.self.now c.args.block _ _ _
+    c.self.view_is c.self.invariant r.first r.last (sym c.is_used.ensures ∙ c.if-is_used.true) c.place_of.ensures c.index_mut.ensures.value c.bit_of.ensures).held.held
+
+pub returns-then-is_used-clause-released : goal.returns-then-is_used-clause-released
+returns-then-is_used-clause-released c =
+    let m = c.self.inside in
+    let r = c.requires in
+    (releases m.blocks m.free m.bytes.items c.args.self.now c.args.block _ _ _
+    c.self.view_is c.self.invariant r.first r.last (sym c.is_used.ensures ∙ c.if-is_used.true) c.place_of.ensures c.index_mut.ensures.value c.bit_of.ensures).held.view
+
+pub returns-then-is_used-clause-count : goal.returns-then-is_used-clause-count
+returns-then-is_used-clause-count c =
+    let m = c.self.inside in
+    let r = c.requires in
+    ap length (releases m.blocks m.free m.bytes.items c.args.self.now c.args.block _ _ _
+    c.self.view_is c.self.invariant r.first r.last (sym c.is_used.ensures ∙ c.if-is_used.true) c.place_of.ensures c.index_mut.ensures.value c.bit_of.ensures).held.view
+    ∙ length-set c.args.self.now (c.args.block - 1) false

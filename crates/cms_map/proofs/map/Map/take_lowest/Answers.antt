@@ -1,12 +1,42 @@
-use Rattle.std.proofs.Common.{◌≡◌, length, take, arith}
-use Rattle.cms_map.specs.Bits.{free_blocks, with_marked}
-use Rattle.cms_map.proofs.Free.{marked_count, length-with_marked, written}
+use Rattle.std.proofs.Common.{◌≡◌, ◌<◌, length, take, ◌∙◌, ap, arith}
+use Rattle.cms_map.specs.Bits.{free_blocks}
+use Rattle.cms_map.proofs.Free.{starts, one_left, marks_next, length-with_marked}
 use Rattle.cms_map.proofs.map.Map.take_lowest.Goals as goal
 
-pub invariant_of-self : goal.invariant_of-self
-invariant_of-self c =
-    let used = c.self.inside.used in
-    let marked : c.mark_lowest.new.used ≡ with_marked (take c.args.n (free_blocks used.items)) used.items = rw c.deref_mut.ensures.value at c.mark_lowest.ensures.marked in
-    let same : length c.mark_lowest.new.used ≡ length used.items = rw marked (length-with_marked used.items c.args.n) in
-    let whole = written used.len c.mark_lowest.new.used used.items same (omega arith) in
-    rw (whole, marked, marked_count used.items c.args.n) (omega arith, omega arith)
+pub next_free-block-requires : goal.next_free-block-requires
+next_free-block-requires c =
+    let l = c.loop-taken in
+    let some : l._taken < length (free_blocks c.args.self.now) = omega (arith, c.free_count.ensures) in
+    record { some = one_left _ _ _ _ _ _ l.invariant.marking some }
+
+pub loop-taken-init : goal.loop-taken-init
+loop-taken-init c = record { marking = starts c.args.self.now c.args.into.now.items; len = omega arith; capacity = omega arith }
+
+pub loop-taken-preserved : goal.loop-taken-preserved
+loop-taken-preserved c =
+    let l = c.loop-taken in
+    let some : l._taken < length (free_blocks c.args.self.now) = omega (arith, c.free_count.ensures) in
+    let items = rw c.unwrap.ensures at c.push.ensures.items in
+    let longer = rw c.unwrap.ensures at c.push.ensures.len in
+    record {
+      marking = rw (c.mark.ensures, items) (marks_next _ _ _ _ _ _ _ l.invariant.marking some c.next_free-block.ensures.next c.next_free-block.ensures.later);
+      len = omega arith;
+      capacity = omega (arith, c.push.ensures.capacity);
+    }
+
+pub returns-clause-appended : goal.returns-clause-appended
+returns-clause-appended c =
+    let l = c.loop-taken in
+    let end : l._taken ≡ c.args.n = omega arith in
+    rw end at l.invariant.marking.blocks
+
+pub returns-clause-marked : goal.returns-clause-marked
+returns-clause-marked c =
+    let l = c.loop-taken in
+    let end : l._taken ≡ c.args.n = omega arith in
+    rw end at l.invariant.marking.marks
+
+pub returns-clause-count : goal.returns-clause-count
+returns-clause-count c =
+    let l = c.loop-taken in
+    ap length l.invariant.marking.marks ∙ length-with_marked (take l._taken (free_blocks c.args.self.now)) c.args.self.now
