@@ -22,7 +22,8 @@ use Rattle.cms_tree.specs.declared.types.Mark.{Mark}
 use Rattle.cms_tree.specs.Builds.{Child, marked, level_over, parents, all_over, cell_of, node_bytes, root_of, BuiltIsTree}
 use Rattle.cms_tree.proofs.Blocks.{allowed_lies}
 use Rattle.cms_tree.proofs.Filling.{length-cell}
-use Rattle.cms_tree.proofs.Rising.{over_count, all_count, up_less}
+use Rattle.cms_tree.specs.Levels.{over_count}
+use Rattle.cms_tree.proofs.Rising.{all_count, up_less}
 
 abbrev pub blocks_of : List Child → List ℕ
 blocks_of cs = map (λ c. c.block) cs
@@ -212,7 +213,7 @@ unfolding marked
 blocks-marked [] marks = refl
 blocks-marked (n ∷ ns) marks = ap (λ (l : List ℕ). n ∷ l) (blocks-marked ns (drop 1 marks))
 
-fan_wide : (bsize psize : ℕ) → IsBlockSize bsize → (psize ≡ 4) ⊎ (psize ≡ 12) → 2 ≤ bsize / psize
+pub fan_wide : (bsize psize : ℕ) → IsBlockSize bsize → (psize ≡ 4) ⊎ (psize ≡ 12) → 2 ≤ bsize / psize
 fan_wide bsize psize size kind = ⊎_elim (λ (is : psize ≡ 4). rw is (omega (arith, size))) (λ (is : psize ≡ 12). rw is (omega (arith, size))) kind
 
 pub built_is_tree : BuiltIsTree

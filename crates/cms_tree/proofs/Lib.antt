@@ -5,3 +5,6 @@ pub mod Within
 pub mod Filling
 pub mod Rising
 pub mod Building
+pub mod Lifting
+pub mod Stepping
+pub mod Totals

@@ -10,16 +10,11 @@ use Rattle.cms_model.proofs.Cuts.{get_or_cut, length_cut}
 use Rattle.cms_model.proofs.Quotients.{up_spec, up_unique, up_up, up_zero, up_some, up_below}
 use Rattle.cms_tree.specs.declared.types.Mark.{Mark}
 use Rattle.cms_tree.specs.Builds.{Child, no_mark, no_child, marked, level_over, parent, parents, all_over, nodes_over}
-use Rattle.cms_tree.specs.Levels.{mark_at, wide_mark, children_from}
+use Rattle.cms_tree.specs.Levels.{mark_at, wide_mark, children_from, over_count}
 use Rattle.cms_tree.proofs.Filling.{length-children, below_some}
 use Rattle.cms_tree.proofs.Sums.{levels_room}
 
 -- ---- numbers
-
--- how many pointer blocks so many levels have over so many blocks
-abbrev pub over_count : ℕ → ℕ → ℕ → ℕ
-over_count fan zero m = 0
-over_count fan (suc k) m = up m fan + over_count fan k (up m fan)
 
 same_count : (fan n k j : ℕ) → 1 ≤ fan → over_count fan k (up n (fan ^ j)) + pointers_to fan n j ≡ pointers_to fan n (j + k)
 unfolding pointers_to
@@ -31,7 +26,7 @@ same_count fan n (suc k) j some =
     let deeper = same_count fan n k (suc j) some in
     rw (next, e) (omega arith)
 
-up_one : (n : ℕ) → up n 1 ≡ n
+pub up_one : (n : ℕ) → up n 1 ≡ n
 up_one n = sym (up_unique n 1 n (omega arith) (omega arith) (omega arith))
 
 pub all_count : (fan n k : ℕ) → 1 ≤ fan → over_count fan k n ≡ pointers_to fan n k
@@ -178,7 +173,7 @@ rises_first fan leaves fresh nth some enough within =
     }
 
 -- the level over these
-level_long : (marks : List Mark) (n size fan : ℕ) (blocks : List ℕ) → length (level_over fan (children_from marks n size 0 blocks)) ≡ up (length blocks) fan
+pub level_long : (marks : List Mark) (n size fan : ℕ) (blocks : List ℕ) → length (level_over fan (children_from marks n size 0 blocks)) ≡ up (length blocks) fan
 level_long marks n size fan blocks =
     length_cut (up (length (children_from marks n size 0 blocks)) fan) fan (children_from marks n size 0 blocks) ∙ ap (λ (c : ℕ). up c fan) (length-children marks n size 0 blocks)
 
@@ -246,7 +241,7 @@ rises_next fan leaves fresh nth blocks numbers size place count some r is past =
     }
 
 -- it is a block of the lowest level
-found : (marks : List Mark) (fan k : ℕ) (blocks numbers : List ℕ) (size place n : ℕ) → place < over_count fan k (length blocks) → place < up (length blocks) fan
+pub found : (marks : List Mark) (fan k : ℕ) (blocks numbers : List ℕ) (size place n : ℕ) → place < over_count fan k (length blocks) → place < up (length blocks) fan
     → get_or (all_over fan k (children_from marks n size 0 blocks) numbers) place [] ≡ children_from marks n size (place * fan) (take fan (drop (place * fan) blocks))
 unfolding all_over
 found marks fan zero blocks numbers size place n within low = absurd (omega arith)

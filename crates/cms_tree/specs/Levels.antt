@@ -1,5 +1,5 @@
 -- The levels of a tree while a pointer block of it is built.
-use Rattle.std.specs.Prelude.{◌≡◌, ℕ, ◌+◌, ◌-◌, ◌*◌, ◌^◌, ◌≤◌, min, List, [], ◌∷◌, length, slice_index_or}
+use Rattle.std.specs.Prelude.{◌≡◌, ℕ, zero, suc, ◌+◌, ◌-◌, ◌*◌, ◌^◌, ◌≤◌, min, List, [], ◌∷◌, length, slice_index_or}
 use Rattle.cms_fields.specs.Numbers.{up}
 use Rattle.cms_tree.specs.declared.types.Mark.{Mark}
 use Rattle.cms_tree.specs.declared.node.Group.{Group}
@@ -29,3 +29,8 @@ pub record IsGroup (fan : ℕ) (leaves fresh : List ℕ) (nth : ℕ) (group : Gr
   pub short : group.size ≤ 2 ^ 60
   pub within : group.first + length group.blocks.now ≤ up (length leaves) group.size
   pub few : length group.blocks.now ≤ fan
+
+-- how many pointer blocks so many levels have over so many blocks
+abbrev pub over_count : ℕ → ℕ → ℕ → ℕ
+over_count fan zero m = 0
+over_count fan (suc k) m = up m fan + over_count fan k (up m fan)

@@ -2,3 +2,5 @@ pub mod Walks
 pub mod Parts
 pub mod Builds
 pub mod Levels
+pub mod Tiers
+pub mod Climbs

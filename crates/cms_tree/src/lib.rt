@@ -1,6 +1,7 @@
 //! Trees of pointer blocks over the data blocks of a file: their shape, reading them and building them.
 #![tactic(auto)]
 
+mod climb;
 mod node;
 mod read;
 mod sizes;
@@ -8,6 +9,7 @@ mod sizes;
 mod tests;
 mod types;
 
+pub use climb::{Climb, climb_laws};
 pub use node::{build, build_laws};
 pub use read::{leaves, walk};
 pub use sizes::shape;

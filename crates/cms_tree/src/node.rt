@@ -124,7 +124,7 @@ fn mark_of(marks: &[Mark], size: u64, place: u64) -> Mark
 }
 
 // Writes a pointer at a place.
-fn put_cell(into: &mut [u8], at: usize, psize: u8, block: u32, mark: &Mark)
+pub(crate) fn put_cell(into: &mut [u8], at: usize, psize: u8, block: u32, mark: &Mark)
     requires psize { (psize ≡ 4) ⊎ (psize ≡ 12) }
     requires room { at + psize ≤ length into.old }
     ensures { into.new ≡ overwritten at (cell_bytes (cell_of psize (record { block = block; mark = mark.now }))) into.old }

@@ -1,0 +1,134 @@
+use Rattle.std.proofs.Common.{◌≡◌, inl, inr, ℕ, zero, suc, ◌+◌, ◌-◌, ◌/◌, ◌≤◌, List, [], ◌∷◌, length, take, drop, Option, IfSome, Some, None, Ok, Err, All, refl, sym, ◌∙◌, ap, subst, arith}
+use Rattle.std.proofs.lemmas.Result.{err_from_is_err_and}
+use Rattle.std.proofs.lemmas.List.{drop-drop, length-drop, length-take, take_all}
+use Rattle.std.proofs.lemmas.List.Elements.{All-head, All-tail, All-cons, All-take, All-drop}
+use Rattle.cms_journal.specs.Journal.{HasBlock, IsWritable}
+use Rattle.cms_journal.specs.declared.event.Attached.{Attached}
+use Rattle.cms_fields.specs.Numbers.{up}
+use Rattle.cms_tree.specs.declared.types.Mark.{Mark}
+use Rattle.cms_tree.specs.declared.climb.Level.{Level}
+use Rattle.cms_tree.specs.declared.climb.Child.{Child}
+use Rattle.cms_tree.specs.Levels.{over_count}
+use Rattle.cms_tree.specs.Tiers.{Tier, tier_above, IsTier, IsParent, Stand, Lifts, Rises}
+use Rattle.cms_tree.specs.Climbs.{HasSize, HasEach}
+use Rattle.cms_tree.proofs.Lifting.{some_fan, tier_next}
+use Rattle.cms_tree.proofs.Stepping.{rises_nothing, rises_no_more, rises_on, rises_failed, units_kept, grown_twice}
+use Rattle.cms_tree.proofs.climb.+rise.Goals as goal
+
+pub returns-in_default-clause-rises : goal.returns-in_default-clause-rises
+returns-in_default-clause-rises g t c = λ leaves marks numbers tier fresh_is is_tier stand is_child.
+    let a = c.args in
+    let none : a.levels.now ≡ [] = empty a.levels.now c.in_default.ensures.cases in
+    subst (λ (l : List Level). Rises (g.W.World.told a.world.now) (g.W.World.told a.world.now) a.unit a.bsize a.psize leaves marks numbers tier a.child.now l l (Ok tt)) (sym none)
+    (rises_nothing (g.W.World.told a.world.now) a.unit a.bsize a.psize leaves marks numbers tier a.child.now)
+  where
+    empty : (l : List Level) → length l ≡ 0 → l ≡ []
+    empty [] is = refl
+    empty (x ∷ l) is = absurd (omega arith)
+
+pub lift-requires-clause-level : goal.lift-requires-clause-level
+lift-requires-clause-level g t c = All-head (HasSize c.args.bsize) c.in-Some.level.now c.in-Some.above.now (subst (All (HasSize c.args.bsize)) c.in-Some.ensures.cases.0 c.requires.levels)
+
+pub returns-in_err-parent-clause-rises : goal.returns-in_err-parent-clause-rises
+returns-in_err-parent-clause-rises g t c = λ leaves marks numbers tier fresh_is is_tier stand is_child.
+    let a = c.args in
+    let p = err_from_is_err_and c.from_residual.result c.from_residual.ensures.1 in
+    let whole = c.in-Some.ensures.cases.0 in
+    let above = c.in-Some.above.now in
+    let tier' = subst (λ (l : List Level). IsTier (a.bsize / a.psize) leaves marks numbers tier (length l)) whole is_tier in
+    let stand' = subst (λ (l : List Level). Stand a.bsize a.psize marks (length leaves) numbers tier a.child.now.nth l) whole stand in
+    let lifted = c.in_err-parent.ensures.lifts leaves marks numbers tier (length above) fresh_is tier' stand'.0 is_child in
+    rw p.1 (subst (λ (l : List Level). Rises (g.W.World.told a.world.now) (g.W.World.told c.lift.new.world) a.unit a.bsize a.psize leaves marks numbers tier a.child.now l (c.lift.new.level ∷ above) (Err p.0)) (sym whole)
+    (rises_failed (g.W.World.told a.world.now) (g.W.World.told c.lift.new.world) a.unit a.bsize a.psize leaves marks numbers tier a.child.now c.in-Some.level.now c.lift.new.level above (c.lift.new.level ∷ above) p.0 lifted))
+
+pub returns-in_err-parent-clause-sizes : goal.returns-in_err-parent-clause-sizes
+returns-in_err-parent-clause-sizes g t c =
+    All-cons (HasSize c.args.bsize) c.lift.new.level c.in-Some.above.now c.lift.ensures.size (All-tail (HasSize c.args.bsize) c.in-Some.level.now c.in-Some.above.now (subst (All (HasSize c.args.bsize)) c.in-Some.ensures.cases.0 c.requires.levels))
+
+pub returns-in-None-clause-sizes : goal.returns-in-None-clause-sizes
+returns-in-None-clause-sizes g t c =
+    All-cons (HasSize c.args.bsize) c.lift.new.level c.in-Some.above.now c.lift.ensures.size (All-tail (HasSize c.args.bsize) c.in-Some.level.now c.in-Some.above.now (subst (All (HasSize c.args.bsize)) c.in-Some.ensures.cases.0 c.requires.levels))
+
+pub rise-requires : goal.rise-requires
+rise-requires g t c κs within =
+    let a = c.args in
+    let whole = c.in-Some.ensures.cases.0 in
+    let less = c.in-Some.ensures.cases.1 in
+    let above = c.in-Some.above.now in
+    let fan = a.bsize / a.psize in
+    let parent = c.in-Some-2.parent in
+    let p : IsParent fan a.child.now parent = subst (λ (o : Option Child). IfSome o (IsParent fan a.child.now)) c.in-Some-2.is c.in_ok-parent.ensures.parent in
+    let count = p.count in
+    let all : over_count fan (suc (length above)) a.child.now.count ≤ length a.fresh.now = subst (λ (l : List Level). over_count fan (length l) a.child.now.count ≤ length a.fresh.now) whole c.requires.fresh in
+    let same : over_count fan (length above) parent.count ≡ over_count fan (length above) (up a.child.now.count fan) = ap (over_count fan (length above)) p.count in
+    let rest = drop parent.count a.fresh.now in
+    let kept = units_kept (λ units. HasEach units a.unit a.bsize a.fresh.now) (g.W.World.told a.world.now) (g.W.World.told c.lift.new.world) c.lift.ensures.grown c.requires.blocks in (
+      omega arith,
+      (
+        within,
+        (
+          c.requires.size,
+          (
+            c.requires.psize,
+            (
+              All-tail (HasSize a.bsize) c.in-Some.level.now above (subst (All (HasSize a.bsize)) whole c.requires.levels),
+              (
+                p.within,
+                (
+                  (let long = length-take (length a.fresh.now - parent.count) rest in let long' = length-drop parent.count a.fresh.now in omega arith),
+                  (
+                    (λ j told. All-take (λ n. HasBlock j.units a.unit n a.bsize) (length a.fresh.now - parent.count) rest (All-drop (λ n. HasBlock j.units a.unit n a.bsize) parent.count a.fresh.now (kept j told))),
+                    (λ j told. units_kept (λ units. IsWritable units a.unit) (g.W.World.told a.world.now) (g.W.World.told c.lift.new.world) c.lift.ensures.grown c.requires.writable j told),
+                  ),
+                ),
+              ),
+            ),
+          ),
+        ),
+      ),
+    )
+
+pub returns-in-Some-2-clause-grown : goal.returns-in-Some-2-clause-grown
+returns-in-Some-2-clause-grown g t c = grown_twice (g.W.World.told c.args.world.now) (g.W.World.told c.lift.new.world) (g.W.World.told c.rise.new.world) c.lift.ensures.grown c.rise.ensures.grown
+
+pub returns-in-Some-2-clause-rises : goal.returns-in-Some-2-clause-rises
+returns-in-Some-2-clause-rises g t c = λ leaves marks numbers tier fresh_is is_tier stand is_child.
+    let a = c.args in
+    let whole = c.in-Some.ensures.cases.0 in
+    let above = c.in-Some.above.now in
+    let fan = a.bsize / a.psize in
+    let parent = c.in-Some-2.parent in
+    let old = g.W.World.told a.world.now in
+    let mid = g.W.World.told c.lift.new.world in
+    let some = some_fan a.bsize a.psize c.requires.size c.requires.psize in
+    let tier' = subst (λ (l : List Level). IsTier fan leaves marks numbers tier (length l)) whole is_tier in
+    let stand' = subst (λ (l : List Level). Stand a.bsize a.psize marks (length leaves) numbers tier a.child.now.nth l) whole stand in
+    let p : IsParent fan a.child.now parent = subst (λ (o : Option Child). IfSome o (IsParent fan a.child.now)) c.in-Some-2.is c.in_ok-parent.ensures.parent in
+    let lifted : Lifts old mid a.unit a.bsize a.psize leaves marks numbers tier a.child.now c.lift.new.level (Ok (Some parent)) =
+    subst (λ (o : Option Child). Lifts old mid a.unit a.bsize a.psize leaves marks numbers tier a.child.now c.lift.new.level (Ok o)) c.in-Some-2.is
+    (c.in_ok-parent.ensures.lifts leaves marks numbers tier (length above) fresh_is tier' stand'.0 is_child) in
+    let count : parent.count ≡ up (length tier.blocks) fan = p.count ∙ ap (λ (n : ℕ). up n fan) is_child.count in
+    let rest : take (length a.fresh.now - parent.count) (drop parent.count a.fresh.now) ≡ drop (tier.first + up (length tier.blocks) fan) numbers =
+    take_all (length a.fresh.now - parent.count) (drop parent.count a.fresh.now) (let long = length-drop parent.count a.fresh.now in omega arith)
+    ∙ ap (drop parent.count) fresh_is ∙ drop-drop parent.count tier.first numbers ∙ ap (λ (n : ℕ). drop (tier.first + n) numbers) count in
+    let stand'' : Stand a.bsize a.psize marks (length leaves) numbers (tier_above fan numbers tier) parent.nth above =
+    subst (λ (n : ℕ). Stand a.bsize a.psize marks (length leaves) numbers (tier_above fan numbers tier) n above) (sym p.nth) stand'.1 in
+    let risen = c.rise.ensures.rises leaves marks numbers (tier_above fan numbers tier) rest (tier_next fan leaves marks numbers tier (length above) some tier') stand'' lifted.2 in
+    subst (λ (l : List Level). Rises old (g.W.World.told c.rise.new.world) a.unit a.bsize a.psize leaves marks numbers tier a.child.now l (c.lift.new.level ∷ c.rise.new.levels) c.rise.result) (sym whole)
+    (rises_on old mid (g.W.World.told c.rise.new.world) a.unit a.bsize a.psize leaves marks numbers tier a.child.now parent c.in-Some.level.now c.lift.new.level above c.rise.new.levels c.rise.result some c.requires.within is_child.count p lifted risen)
+
+pub returns-in-None-clause-rises : goal.returns-in-None-clause-rises
+returns-in-None-clause-rises g t c = λ leaves marks numbers tier fresh_is is_tier stand is_child.
+    let a = c.args in
+    let whole = c.in-Some.ensures.cases.0 in
+    let above = c.in-Some.above.now in
+    let fan = a.bsize / a.psize in
+    let old = g.W.World.told a.world.now in
+    let new = g.W.World.told c.lift.new.world in
+    let tier' = subst (λ (l : List Level). IsTier fan leaves marks numbers tier (length l)) whole is_tier in
+    let stand' = subst (λ (l : List Level). Stand a.bsize a.psize marks (length leaves) numbers tier a.child.now.nth l) whole stand in
+    let lifted : Lifts old new a.unit a.bsize a.psize leaves marks numbers tier a.child.now c.lift.new.level (Ok None) =
+    subst (λ (o : Option Child). Lifts old new a.unit a.bsize a.psize leaves marks numbers tier a.child.now c.lift.new.level (Ok o)) c.in-None.is
+    (c.in_ok-parent.ensures.lifts leaves marks numbers tier (length above) fresh_is tier' stand'.0 is_child) in
+    subst (λ (l : List Level). Rises old new a.unit a.bsize a.psize leaves marks numbers tier a.child.now l (c.lift.new.level ∷ above) (Ok tt)) (sym whole)
+    (rises_no_more old new a.unit a.bsize a.psize leaves marks numbers tier a.child.now c.in-Some.level.now c.lift.new.level above (some_fan a.bsize a.psize c.requires.size c.requires.psize) stand' lifted)

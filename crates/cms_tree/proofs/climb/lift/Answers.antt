@@ -1,0 +1,88 @@
+use Rattle.std.proofs.Common.{◌≡◌, inr, ◌≤◌, ℕ, ◌+◌, ◌*◌, ◌/◌, ◌%◌, ◌<◌, List, [], length, get_or, false, true, refl, sym, ◌∙◌, ap, subst, arith}
+use Rattle.std.specs.Prelude.{replicate}
+use Rattle.std.proofs.lemmas.Result.{err_from_is_err_and}
+use Rattle.std.proofs.lemmas.List.Elements.{All-get_or}
+use Rattle.cms_journal.specs.Journal.{HasBlock, MayAdd}
+use Rattle.cms_journal.specs.Told.{plus, Grown}
+use Rattle.cms_fields.specs.Numbers.{up}
+use Rattle.cms_tree.specs.Tiers.{Tier, IsTier, ends_group}
+use Rattle.cms_tree.proofs.Lifting.{Pointed, Stands, some_fan, stands_on, stands_whole, stands_parent, stands_next, stands_ends, may_add_front, may_add_grown, group_within}
+use Rattle.cms_tree.proofs.Sums.{div_ceil_is}
+use Rattle.cms_tree.proofs.climb.lift.Goals as goal
+
+pub returns-then-not-ends_group-clause-lifts : goal.returns-then-not-ends_group-clause-lifts
+returns-then-not-ends_group-clause-lifts g c = λ leaves marks numbers tier levels fresh_is is_tier is_open is_child.
+    let a = c.args in
+    let fan = c.bytes.result / c.from.result in
+    let fan_is : fan ≡ a.bsize / a.psize = rw (c.bytes.ensures.value, c.from.ensures) refl in
+    let s : Stands a.bsize a.psize fan leaves marks numbers tier levels a.child.now a.level.now =
+    record { size = c.requires.size; kind = c.requires.psize; fan_is = fan_is; within = c.requires.within; tier = is_tier; is_open = is_open; is_child = is_child } in
+    let p : Pointed a.psize fan a.child.now a.level.now c.point.new.self = record { bytes = c.point.ensures.bytes; first = c.point.ensures.first; later = c.point.ensures.later } in
+    stands_on (g.W.World.told a.world.now) a.bsize a.psize fan leaves marks numbers tier levels a.child.now a.level.now c.point.new.self s p (sym c.ends_group.ensures ∙ c.if-not-ends_group.true)
+
+pub write_block-requires-clause-block : goal.write_block-requires-clause-block
+write_block-requires-clause-block g c = λ j told.
+    let a = c.args in
+    let fan = c.bytes.result / c.from.result in
+    let fan_is : fan ≡ a.bsize / a.psize = rw (c.bytes.ensures.value, c.from.ensures) refl in
+    let some : 1 ≤ fan = rw fan_is (some_fan a.bsize a.psize c.requires.size c.requires.psize) in
+    let low = group_within fan a.child.now.count a.child.now.nth some c.requires.within in
+    let enough : up a.child.now.count fan ≤ length a.fresh.now = rw fan_is c.requires.fresh in
+    let size : length c.deref.result.now ≡ a.bsize = ap (λ (l : List ℕ). length l) c.deref.ensures.value ∙ c.point.ensures.size ∙ c.requires.level in
+    subst (λ (n : ℕ). HasBlock j.units a.unit (get_or a.fresh.now (a.child.now.nth / fan) 0) n) (sym size)
+    (All-get_or (λ n. HasBlock j.units a.unit n a.bsize) a.fresh.now (a.child.now.nth / fan) 0 (omega arith) (c.requires.blocks j told))
+
+pub returns-in_err-write_block-clause-lifts : goal.returns-in_err-write_block-clause-lifts
+returns-in_err-write_block-clause-lifts g c = λ leaves marks numbers tier levels fresh_is is_tier is_open is_child.
+    let a = c.args in
+    let fan = c.bytes.result / c.from.result in
+    let fan_is : fan ≡ a.bsize / a.psize = rw (c.bytes.ensures.value, c.from.ensures) refl in
+    let s : Stands a.bsize a.psize fan leaves marks numbers tier levels a.child.now a.level.now =
+    record { size = c.requires.size; kind = c.requires.psize; fan_is = fan_is; within = c.requires.within; tier = is_tier; is_open = is_open; is_child = is_child } in
+    let q : Pointed a.psize fan a.child.now a.level.now c.point.new.self = record { bytes = c.point.ensures.bytes; first = c.point.ensures.first; later = c.point.ensures.later } in
+    let p = err_from_is_err_and c.from_residual.result c.from_residual.ensures.1 in
+    let is : ends_group fan a.child.now.count a.child.now.nth ≡ true = sym c.ends_group.ensures ∙ c.if-not-ends_group.false in
+    rw p.1 (
+      stands_ends a.bsize a.psize fan a.child.now fan_is is,
+      may_add_front _ (g.W.World.told a.world.now) (g.W.World.told c.write_block.new.self) _
+          (stands_whole a.unit a.bsize a.psize fan leaves marks numbers a.fresh.now tier levels a.child.now a.level.now c.point.new.self c.deref.result.now s q is fresh_is c.deref.ensures.value) c.in_err-write_block.ensures.failed,
+    )
+
+pub returns-in_err-write_block-clause-grown : goal.returns-in_err-write_block-clause-grown
+returns-in_err-write_block-clause-grown g c = may_add_grown _ (g.W.World.told c.args.world.now) (g.W.World.told c.write_block.new.self) c.in_err-write_block.ensures.failed
+
+pub returns-clause-parent : goal.returns-clause-parent
+returns-clause-parent g c =
+    let a = c.args in
+    let fan = c.bytes.result / c.from.result in
+    let fan_is : fan ≡ a.bsize / a.psize = rw (c.bytes.ensures.value, c.from.ensures) refl in
+    let some : 1 ≤ fan = rw fan_is (some_fan a.bsize a.psize c.requires.size c.requires.psize) in
+    let count : c.div_ceil.result ≡ up a.child.now.count fan = c.div_ceil.ensures ∙ div_ceil_is a.child.now.count fan some in
+    let low = group_within fan a.child.now.count a.child.now.nth some c.requires.within in
+    record {
+      nth = ap (λ (n : ℕ). a.child.now.nth / n) fan_is;
+      count = count ∙ ap (up a.child.now.count) fan_is;
+      within = omega arith;
+    }
+
+pub returns-clause-grown : goal.returns-clause-grown
+returns-clause-grown g c = may_add_grown _ (g.W.World.told c.args.world.now) (g.W.World.told c.write_block.new.self) (inr c.in_ok-write_block.ensures.wrote)
+
+pub returns-clause-lifts : goal.returns-clause-lifts
+returns-clause-lifts g c = λ leaves marks numbers tier levels fresh_is is_tier is_open is_child.
+    let a = c.args in
+    let fan = c.bytes.result / c.from.result in
+    let fan_is : fan ≡ a.bsize / a.psize = rw (c.bytes.ensures.value, c.from.ensures) refl in
+    let s : Stands a.bsize a.psize fan leaves marks numbers tier levels a.child.now a.level.now =
+    record { size = c.requires.size; kind = c.requires.psize; fan_is = fan_is; within = c.requires.within; tier = is_tier; is_open = is_open; is_child = is_child } in
+    let q : Pointed a.psize fan a.child.now a.level.now c.point.new.self = record { bytes = c.point.ensures.bytes; first = c.point.ensures.first; later = c.point.ensures.later } in
+    let is : ends_group fan a.child.now.count a.child.now.nth ≡ true = sym c.ends_group.ensures ∙ c.if-not-ends_group.false in
+    let some : 1 ≤ fan = rw fan_is (some_fan a.bsize a.psize c.requires.size c.requires.psize) in
+    let count : c.div_ceil.result ≡ up a.child.now.count fan = c.div_ceil.ensures ∙ div_ceil_is a.child.now.count fan some in
+    let wrote = stands_whole a.unit a.bsize a.psize fan leaves marks numbers a.fresh.now tier levels a.child.now a.level.now c.point.new.self c.deref.result.now s q is fresh_is c.deref.ensures.value in
+    let zeros : c.clear.new.self.bytes.items ≡ replicate a.bsize 0 = c.clear.ensures.bytes ∙ ap (λ (n : ℕ). replicate n 0) (c.point.ensures.size ∙ c.requires.level) in (
+      stands_ends a.bsize a.psize fan a.child.now fan_is is,
+      c.in_ok-write_block.ensures.wrote ∙ ap (plus (g.W.World.told a.world.now)) wrote,
+      stands_parent a.bsize a.psize fan leaves marks numbers a.fresh.now tier levels a.child.now a.level.now c.point.new.self c.div_ceil.result c.clear.new.self.place s q is fresh_is count c.clear.ensures.place,
+      λ less. stands_next a.bsize a.psize fan leaves marks numbers tier levels a.child.now a.level.now c.clear.new.self s is zeros less,
+    )
