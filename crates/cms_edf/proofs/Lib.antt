@@ -38,3 +38,5 @@ pub mod Renewals
 pub mod PiecesWritten
 pub mod SystemsRead
 pub mod Edits
+pub mod CutOff
+pub mod SystemsWritten

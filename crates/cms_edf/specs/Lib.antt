@@ -15,3 +15,4 @@ pub mod HeldAs
 pub mod Renewing
 pub mod LawsRenewing
 pub mod LawsEdits
+pub mod Doubts

@@ -28,6 +28,22 @@ impl Model for TreeBlocks {
     ghost view = { λ t. record { leaves = t.leaves.items; pointers = t.pointers.items } };
 }
 
+impl TreeBlocks {
+    /// Its data blocks, in order.
+    pub fn leaves(&self) -> &[u32]
+        ensures { result.now ≡ self.now.leaves }
+    {
+        &self.leaves
+    }
+
+    /// Its pointer blocks.
+    pub fn pointers(&self) -> &[u32]
+        ensures { result.now ≡ self.now.pointers }
+    {
+        &self.pointers
+    }
+}
+
 /// A file of an open volume: all of it but its data.
 #[derive(Drop)]
 pub struct FileHeld {

@@ -4,6 +4,8 @@
 mod blocks;
 mod contents;
 mod directory;
+mod directory_bytes;
+mod doubt;
 mod entries;
 mod erase;
 mod files;
@@ -15,11 +17,14 @@ mod open;
 mod opening;
 mod small;
 mod system;
+mod system_blocks;
 mod trees;
 mod volume;
+mod writing;
 mod written;
 
 pub use cms_model::{FileData, OpenFault, Stored, VarFault};
+pub use doubt::Doubt;
 pub use erase::SmallErase;
 pub use held::{FileHeld, FileInfo, Held, Space};
 pub use laws::{held_laws, renewal_laws, systems_laws};

@@ -1,0 +1,56 @@
+-- What was done where an update was cut off.
+use Rattle.std.specs.Prelude.{◌≡◌, ◌⊎◌, ℕ, ◌+◌, ◌*◌, ◌/◌, ◌^◌, ◌<◌, ◌≤◌, Bool, List, ◌++◌, length, take, drop, All}
+use Rattle.cms_journal.specs.declared.event.Event.{Event}
+use Rattle.cms_journal.specs.Journal.{IsBlockSize}
+use Rattle.cms_journal.specs.Told.{Told, plus}
+use Rattle.cms_model.specs.Lists.{cut}
+use Rattle.cms_model.specs.Settled.{Write, writes}
+use Rattle.cms_model.specs.Sizes.{pointer_count}
+use Rattle.cms_model.specs.LawsUpdates.{IsFront, to_label, with_label}
+use Rattle.cms_map.specs.Bits.{bytes_from}
+use Rattle.cms_edf.specs.Opening.{HeldTree}
+use Rattle.cms_edf.specs.Systems.{Systems, block_writes, node_writes}
+use Rattle.cms_edf.specs.declared.doubt.Doubt.{Doubt}
+use Rattle.cms_edf.specs.declared.doubt.Doubt.TheVariants.{Old, Either}
+
+-- of these events the first were added, as many as were made
+pub record AddsFront (old new : Told) (events : List Event) : Type 0 where
+  pub front : List Event
+  pub told : new ≡ plus old front
+  pub is : IsFront front events
+
+-- an update of these writes was cut off: in its writes or at its first sync, or with its label
+abbrev pub IsCutOff : Told → Told → ℕ → List Write → List ℕ → Doubt → Type 0
+IsCutOff old new unit ws label Old = AddsFront old new (writes unit ws)
+IsCutOff old new unit ws label Either = (new ≡ plus old (to_label unit ws)) ⊎ (new ≡ plus old (with_label unit ws label))
+
+-- a block of so many
+abbrev pub IsBlockOf : ℕ → ℕ → Type 0
+IsBlockOf total n = (1 ≤ n) × (n ≤ total)
+
+-- what is held to be written has whole blocks: the label one, the directory as many as it has numbers; each tree has the pointer blocks that
+-- its size says, and all numbers are blocks of the volume
+pub record IsReady (bsize : ℕ) (s : Systems) : Type 0 where
+  pub size : IsBlockSize bsize
+  pub label_long : length s.label_bytes ≡ bsize
+  pub label_within : 3 ≤ s.label.blocks
+  pub directory_some : 1 ≤ length s.directory.leaves
+  pub directory_few : length s.directory.leaves < 2 ^ 32
+  pub directory_long : length s.directory_bytes ≡ length s.directory.leaves * bsize
+  pub directory_nodes : length s.directory.pointers ≡ pointer_count (bsize / 4) (length s.directory.leaves)
+  pub directory_within : All (IsBlockOf s.label.blocks) (s.directory.leaves ++ s.directory.pointers)
+  pub map_some : 1 ≤ length s.map.leaves
+  pub map_few : length s.map.leaves * bsize < 2 ^ 32
+  pub map_nodes : length s.map.pointers ≡ pointer_count (bsize / 4) (length s.map.leaves)
+  pub map_within : All (IsBlockOf s.label.blocks) (s.map.leaves ++ s.map.pointers)
+
+-- the parts of an update's writes, in their order: the directory's data blocks but its first with its pointer blocks, the map's data blocks
+-- with its pointer blocks, and the directory's first block
+abbrev pub directory_writes : ℕ → HeldTree → List ℕ → List Write
+directory_writes bsize t bytes = block_writes (drop 1 t.leaves) (drop 1 (cut (length t.leaves) bsize bytes)) ++ node_writes bsize t
+
+abbrev pub map_writes : ℕ → HeldTree → List Bool → List Write
+map_writes bsize t bits = block_writes t.leaves (cut (length t.leaves) bsize (bytes_from 0 (length t.leaves * bsize) bits)) ++ node_writes bsize t
+
+abbrev pub first_writes : ℕ → HeldTree → List ℕ → List Write
+first_writes bsize t bytes = block_writes (take 1 t.leaves) (take 1 (cut (length t.leaves) bsize bytes))

@@ -1,0 +1,116 @@
+// What an update writes but a file's blocks: the directory, the map and the label.
+ghost use Rattle.std.specs.Prelude.{◌≡◌, ◌⊎◌, ◌≤◌, length, OnOk, OnErr, IfErr};
+ghost use Rattle.std.specs.Option.{ForSome};
+ghost use Rattle.cms_journal.specs.Causes.{HasCause};
+ghost use Rattle.cms_journal.specs.Journal.{HasBlocks, IsWritable};
+ghost use Rattle.cms_journal.specs.Told.{plus};
+ghost use Rattle.cms_model.specs.Settled.{writes, update};
+ghost use Rattle.cms_edf.specs.Systems.{system_writes};
+ghost use Rattle.cms_edf.specs.Doubts.{AddsFront, IsCutOff};
+
+use crate::doubt::{Doubt, confirm};
+use crate::held::TreeBlocks;
+use crate::writing::{Target, write_directory, write_first, write_map_tree};
+use cms_fields::Label;
+use cms_journal::BlockSize;
+use cms_map::Map;
+use cms_world::{Failed, World};
+use std::marker::Model;
+
+/// The most bytes of a block.
+const LARGEST: usize = 4096;
+
+/// A new directory, map and label, ready to be written.
+#[derive(Drop)]
+pub struct SystemBlocks {
+    pub(crate) bsize: BlockSize,
+    pub(crate) label: Label,
+    pub(crate) label_bytes: Vec<u8>,
+    pub(crate) directory: TreeBlocks,
+    pub(crate) directory_bytes: Vec<u8>,
+    pub(crate) map_tree: TreeBlocks,
+    pub(crate) map: Map,
+}
+
+impl Model for SystemBlocks {
+    ghost use Rattle.cms_edf.specs.Systems.{Systems};
+    ghost use Rattle.cms_edf.specs.Doubts.{IsReady};
+
+    ghost Value = { Systems };
+
+    ghost view = { λ s. record {
+      label = s.label;
+      label_bytes = s.label_bytes.items;
+      directory = s.directory;
+      directory_bytes = s.directory_bytes.items;
+      map = s.map_tree;
+      bits = s.map;
+    } };
+
+    ghost invariant = { λ s. IsReady s.bsize (record {
+      label = s.label;
+      label_bytes = s.label_bytes.items;
+      directory = s.directory;
+      directory_bytes = s.directory_bytes.items;
+      map = s.map_tree;
+      bits = s.map;
+    }) };
+}
+
+impl SystemBlocks {
+    // Writes the directory and the map, but for the label.
+    fn write<W: World>(&self, world: &mut W, unit: u8) -> Result<(), Failed>
+        requires blocks { ForSome (W.told world.old) (λ j. HasBlocks j.units unit self.now.label.blocks (length self.now.label_bytes)) }
+        requires writable { ForSome (W.told world.old) (λ j. IsWritable j.units unit) }
+        ensures done { OnOk result (W.told world.new ≡ plus (W.told world.old)
+            (writes unit (system_writes (length self.now.label_bytes) self.now))) }
+        ensures failed { OnErr result (AddsFront (W.told world.old) (W.told world.new)
+            (writes unit (system_writes (length self.now.label_bytes) self.now))) }
+        ensures still { ForSome (W.told world.new) (λ j. HasBlocks j.units unit self.now.label.blocks (length self.now.label_bytes)) }
+        ensures writable { ForSome (W.told world.new) (λ j. IsWritable j.units unit) }
+        ensures cause { HasCause (W.faults world.old) (W.faults world.new) result }
+        ensures edges { W.edges world.new ≡ W.edges world.old }
+    {
+        let target = Target {
+            unit,
+            total: self.label.blocks,
+            bsize: self.bsize,
+        };
+        let mut room = [0; LARGEST];
+        let block = &mut room[..self.bsize.bytes() as usize];
+        match write_directory(
+            world,
+            &target,
+            &self.directory,
+            &self.directory_bytes,
+            block,
+        ) {
+            Ok(()) => {}
+            Err(Failed) => return Err(Failed),
+        }
+        match write_map_tree(world, &target, &self.map_tree, &self.map, block) {
+            Ok(()) => write_first(world, &target, &self.directory, &self.directory_bytes),
+            Err(Failed) => Err(Failed),
+        }
+    }
+
+    /// Carries out an update: writes the directory and the map, syncs, writes the label, and syncs.
+    ///
+    /// Takes no memory. At `Old` a part of the writes was made and nothing was synced since; at `Either` all of them were, with one
+    /// sync, and perhaps the label was written.
+    pub fn carry_out<W: World>(&self, world: &mut W, unit: u8) -> Result<(), Doubt>
+        requires blocks { ForSome (W.told world.old) (λ j. HasBlocks j.units unit self.now.label.blocks (length self.now.label_bytes)) }
+        requires writable { ForSome (W.told world.old) (λ j. IsWritable j.units unit) }
+        ensures done { OnOk result (W.told world.new ≡ plus (W.told world.old)
+            (update unit (system_writes (length self.now.label_bytes) self.now) self.now.label_bytes)) }
+        ensures cut_off { IfErr result (IsCutOff (W.told world.old) (W.told world.new) unit
+            (system_writes (length self.now.label_bytes) self.now) self.now.label_bytes) }
+        ensures cause { HasCause (W.faults world.old) (W.faults world.new) result }
+        ensures edges { W.edges world.new ≡ W.edges world.old }
+    {
+        match self.write(world, unit) {
+            Ok(()) => confirm(world, unit, self.bsize, &self.label_bytes),
+            Err(Failed) => Err(Doubt::Old),
+        }
+    }
+}
