@@ -1,4 +1,10 @@
 pub mod Holding
 pub mod Acts
 pub mod Says
+pub mod Searching
+pub mod Tabling
+pub mod Shown
 pub mod Ready
+pub mod Reading
+pub mod Asks
+pub mod Frames

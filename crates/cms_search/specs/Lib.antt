@@ -2,3 +2,9 @@ pub mod Machine
 pub mod Ready
 pub mod Texts
 pub mod Calls
+pub mod Reading
+pub mod Searches
+pub mod Tables
+pub mod Shows
+pub mod Asking
+pub mod Held

@@ -1,0 +1,62 @@
+-- What is held of the units of a table, a line for each.
+use Rattle.std.specs.Prelude.{◌≡◌, ℕ, ◌==◌, Bool, true, false, if◌then◌else◌, List, [], ◌∷◌, length, slice_get, Option, Some, None, ⊤}
+use Rattle.cms_journal.specs.Journal.{Journal, HasBlocks, IsWritable}
+use Rattle.cms_model.specs.Minidisks.{Minidisk, State, Volume}
+use Rattle.cms_model.specs.LawsSizes.{IsWhole}
+use Rattle.cms_model.specs.LawsUpdates.{now}
+use Rattle.cms_machine.specs.Slots.{Slot, Side, Settled, Doubt, IsAmong, set_of, state_in}
+use Rattle.cms_machine.specs.Points.{LeavesIn, HasNowIn}
+use Rattle.cms_disk.specs.Disks.{IsMinidisk, IsOn, IsQuiet, disk_on}
+use Rattle.cms_disk.specs.declared.unit.UnitInfo.{UnitInfo}
+use Rattle.cms_search.specs.Tables.{Accesses, Seated}
+
+-- the disk of a unit, where it is accessed
+abbrev pub disk_of : ℕ → List (Option Seated) → Option Seated
+disk_of u [] = None
+disk_of u (None ∷ seats) = disk_of u seats
+disk_of u (Some s ∷ seats) = if s.letter.unit == u then Some s else disk_of u seats
+
+-- a unit is settled at a state
+abbrev pub IsSettledSlot : Slot → Type 0
+IsSettledSlot (Settled state) = ⊤
+IsSettledSlot (Doubt before after side) = ⊥
+
+-- a unit is in doubt
+abbrev pub IsDoubtSlot : Slot → Type 0
+IsDoubtSlot (Settled state) = ⊥
+IsDoubtSlot (Doubt before after side) = ⊤
+
+-- a unit that is in doubt has a slot in doubt; one that is accessed is settled at the minidisk that its disk is; any other is quiet
+abbrev pub StandsAs : Journal → ℕ → UnitInfo → Slot → Bool → Option Seated → Type 0
+StandsAs j u unit slot true seat = IsDoubtSlot slot
+StandsAs j u unit slot false None = IsSettledSlot slot × IsQuiet (disk_on unit) j u
+StandsAs j u unit slot false (Some s) = (m : Minidisk) × (slot ≡ Settled (Volume m)) × IsOn unit s.disk × IsMinidisk j s.disk m
+
+-- the line of a unit: its number is its place, it has its blocks, a crash leaves it in a state of its slot's set, and its contents have
+-- the slot's state
+pub record HoldsUnit (j : Journal) (units : List Slot) (t : Accesses) (u : ℕ) (unit : UnitInfo) : Type 0 where
+  pub number : unit.unit.number ≡ u
+  pub blocks : HasBlocks j.units u unit.unit.blocks unit.bsize
+  pub writable : unit.writable ≡ true → IsWritable j.units u
+  pub whole : IsWhole (disk_on unit) (now j u)
+  pub slot : Slot
+  pub there : slice_get units u ≡ Some slot
+  pub doubt : Bool
+  pub marked : slice_get t.doubts u ≡ Some doubt
+  pub stands : StandsAs j u unit slot doubt (disk_of u t.seats)
+  pub crash : (state : State) → LeavesIn j u state → IsAmong state (set_of slot)
+  pub has : (state : State) → HasNowIn j u state → state_in slot ≡ state
+
+-- the machine's units are those of the table and of the journal, and each has its line
+pub record HoldsTable (j : Journal) (units : List Slot) (t : Accesses) : Type 0 where
+  pub same : length units ≡ length t.units
+  pub all : length t.units ≡ length j.units
+  pub each : (u : ℕ) (unit : UnitInfo) → slice_get t.units u ≡ Some unit → HoldsUnit j units t u unit
+
+-- ---- what a call leaves that touches one unit
+
+-- a unit's slot, its mark and its disk are as before
+pub record SameUnit (units units' : List Slot) (t t' : Accesses) (u : ℕ) : Type 0 where
+  pub slot : slice_get units' u ≡ slice_get units u
+  pub doubt : slice_get t'.doubts u ≡ slice_get t.doubts u
+  pub disk : disk_of u t'.seats ≡ disk_of u t.seats

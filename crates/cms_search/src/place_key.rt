@@ -1,0 +1,120 @@
+// The key of a file among reading places.
+ghost use Rattle.std.specs.Prelude.{◌≡◌, ◌∷◌, [], ◌++◌, ◌+◌, ◌<◌, ◌≤◌, Some, length, nat_eq};
+ghost use Rattle.std.specs.Ordering.{nat_cmp};
+ghost use Rattle.std.specs.Cmp.{partial_equiv_from_equiv, partial_order_from_agreeing_total, unsigned_ties};
+ghost use Rattle.std.specs.Cmp.Lexicographic.{pointwise, slice_cmp, nat_list_cmp_total, nat_list_eq_equiv, lists_ties};
+ghost use Rattle.cms_search.specs.Machine.{place_key};
+ghost use Rattle.cms_search.specs.Reading.{is_of_device};
+ghost use Rattle.std.proofs.Common.{refl};
+
+use cms_names::Name;
+use std::cmp::Ordering;
+use std::marker::Model;
+
+// A device, two parts of up to 8 characters, and a zero between these.
+const KEY_CODES: usize = 18;
+
+/// The codes of a device, a file's name, a zero, and the file's type.
+#[derive(Drop)]
+pub struct PlaceKey {
+    codes: [u16; KEY_CODES],
+    count: usize,
+}
+
+impl Model for PlaceKey {
+    ghost use Rattle.std.specs.Prelude.{List, ℕ, ◌≤◌, take};
+
+    ghost Value = { List ℕ };
+
+    ghost view = { λ k. take k.count k.codes };
+
+    ghost invariant = { λ k. k.count ≤ 18 };
+}
+
+impl PlaceKey {
+    /// The key of a file of a device.
+    pub fn of(vdev: u16, name: &Name) -> PlaceKey
+        ensures { result ≡ place_key vdev name.now }
+    {
+        let mut key = PlaceKey {
+            codes: [0; KEY_CODES],
+            count: 0,
+        };
+        key.push(vdev);
+        key.append(name.file.as_bytes());
+        key.push(0);
+        key.append(name.kind.as_bytes());
+        key
+    }
+
+    // Adds a code last.
+    fn push(&mut self, code: u16)
+        requires { length self.old < 18 }
+        ensures { self.new ≡ self.old ++ code ∷ [] }
+    {
+        self.codes[self.count] = code;
+        self.count += 1;
+    }
+
+    // Adds codes last.
+    fn append(&mut self, codes: &[u8])
+        requires { length self.old + length codes.now ≤ 18 }
+        ensures { self.new ≡ self.old ++ codes.now }
+    {
+        for code in codes {
+            self.push(u16::from(*code));
+        }
+    }
+
+    // The codes.
+    fn as_slice(&self) -> &[u16]
+        ensures { result.now ≡ self.now }
+    {
+        &self.codes[..self.count]
+    }
+
+    /// The device.
+    pub fn is_of_device(&self, vdev: u16) -> bool
+        ensures { result ≡ is_of_device vdev self.now }
+    {
+        self.as_slice().first() == Some(&vdev)
+    }
+}
+
+impl PartialEq for PlaceKey {
+    ghost eq = { pointwise nat_eq };
+
+    ghost laws = { partial_equiv_from_equiv nat_list_eq_equiv };
+
+    fn eq(&self, other: &PlaceKey) -> bool {
+        self.as_slice() == other.as_slice()
+    }
+}
+
+impl Eq for PlaceKey {
+    ghost laws = { nat_list_eq_equiv };
+}
+
+impl PartialOrd for PlaceKey {
+    ghost partial_cmp = { λ a b. Some (slice_cmp nat_cmp a b) };
+
+    ghost laws = { partial_order_from_agreeing_total (slice_cmp nat_cmp) nat_list_cmp_total (λ a b. refl) (lists_ties nat_cmp unsigned_ties) };
+
+    fn partial_cmp(&self, other: &PlaceKey) -> Option<Ordering> {
+        Some(self.cmp(other))
+    }
+}
+
+impl Ord for PlaceKey {
+    ghost cmp = { slice_cmp nat_cmp };
+
+    ghost total = { nat_list_cmp_total };
+
+    ghost matches_partial_cmp = { λ a b. refl };
+
+    ghost matches_eq = { lists_ties nat_cmp unsigned_ties };
+
+    fn cmp(&self, other: &PlaceKey) -> Ordering {
+        self.as_slice().cmp(other.as_slice())
+    }
+}

@@ -1,0 +1,314 @@
+// The access table.
+ghost use Rattle.std.specs.Prelude.{Bool, not, is_some, ◌||◌, ◌≡◌, ◌⊎◌, ◌<◌, ◌≤◌, ◌↔◌, true, false, length, slice_get, Some, None, unwrap_or, IfSome, IfOk, IfErr, OnOk, IsSome, IsTrue};
+ghost use Rattle.std.specs.Option.{ForSome, option_copied, option_map, option_and_then};
+ghost use Rattle.cms_journal.specs.Causes.{Rose};
+ghost use Rattle.cms_journal.specs.Journal.{HasBlocks};
+ghost use Rattle.cms_model.specs.declared.fault.OpenFault.TheVariants as failed;
+ghost use Rattle.cms_disk.specs.declared.fault.AccessFault.TheVariants.{Open, Sync};
+ghost use Rattle.cms_disk.specs.declared.unit.UnitInfo.{UnitInfo};
+ghost use Rattle.cms_search.specs.Searches.{item_at};
+ghost use Rattle.cms_search.specs.Tables.{EndsAccess, HaveDistinctDevices, IsTable, LooksAt, answer_for, table_after, letter_for, letters_of, marked, missing_parent, new_table, parent_of, place_of_device, released, seated, unit_of_device, wanted_unit, writing};
+ghost use Rattle.cms_search.specs.declared.fault.SearchFault.TheVariants.{NotAccessed, Volume};
+
+use crate::fault::SearchFault;
+use crate::seated::{Seated, put_on, seat_at};
+use cms_disk::{AccessFault, Minidisk, OpenFault, UnitInfo};
+use cms_text::Series;
+use cms_world::World;
+use std::alloc::{AllocError, Global};
+use std::marker::Model;
+
+/// How many letters there are: A is 0, Z is 25.
+pub const LETTERS: usize = 26;
+
+/// A list of units.
+pub type UnitList = Series<UnitInfo>;
+
+/// What is told of a letter's disk.
+#[derive(Clone, Copy, Debug, PartialEq, Eq)]
+pub struct Seat {
+    /// its device, 1 to 4,095
+    pub vdev: u16,
+    /// the letter whose extension it is, A is 0
+    pub parent: Option<u8>,
+    /// it may only be read
+    pub read_only: bool,
+}
+
+/// The units of a session, and the letters as which their disks are accessed. A unit stands on one letter at most, and on none while it
+/// is in doubt. Letters are numbers, A is 0.
+#[derive(Drop)]
+pub struct Table {
+    units: UnitList,
+    doubts: Vec<bool>,
+    seats: Vec<Option<Seated>>,
+}
+
+impl Model for Table {
+    ghost use Rattle.cms_search.specs.Tables.{Accesses, IsTable};
+
+    ghost Value = { Accesses };
+
+    ghost view = { λ t. record { units = t.units; doubts = t.doubts.items; seats = t.seats.items } };
+
+    ghost invariant = { λ t. IsTable (record { units = t.units; doubts = t.doubts.items; seats = t.seats.items }) };
+}
+
+// The parent that a letter gets.
+fn parent_of(letter: u8, parent: Option<u8>) -> Option<u8>
+    ensures { result ≡ parent_of letter parent }
+{
+    match parent {
+        Some(parent) if parent != letter => Some(parent),
+        _ => None,
+    }
+}
+
+// Whether a unit's disk may only be read.
+fn is_read_only(parent: Option<u8>, writable: bool) -> bool
+    ensures { result ≡ (is_some parent || not writable) }
+{
+    match parent {
+        Some(_) => true,
+        None => !writable,
+    }
+}
+
+impl Table {
+    /// A table of units with distinct devices. Nothing is accessed, and no unit is in doubt.
+    pub fn new(alloc: Global, units: UnitList) -> Result<Table, AllocError>
+        requires { HaveDistinctDevices units }
+        ensures { IfOk result (λ t. t ≡ new_table units) }
+    {
+        let mut seats = Vec::new(alloc);
+        for _ in 0..LETTERS {
+            seats.push(None)?;
+        }
+        Ok(Table {
+            doubts: vec![in alloc; false; units.len()]?,
+            units,
+            seats,
+        })
+    }
+
+    /// The unit of a device; none exactly where no unit has it.
+    pub fn unit(&self, vdev: u16) -> Option<&UnitInfo>
+        ensures unit { option_copied result ≡ unit_of_device vdev self.now.units }
+        ensures table { IsTable self.now }
+    {
+        self.units.get(self.place(vdev)?)
+    }
+
+    /// Whether the unit of a device is in doubt; false where no unit has it.
+    pub fn in_doubt(&self, vdev: u16) -> bool
+        ensures { result ≡ unwrap_or (option_and_then (λ u. slice_get self.now.doubts u) (place_of_device vdev self.now.units)) false }
+    {
+        match self.place(vdev) {
+            Some(place) => self.doubts[place],
+            None => false,
+        }
+    }
+
+    /// What is told of the disk of a letter; none exactly where the letter isn't accessed.
+    pub fn seat(&self, letter: u8) -> Option<Seat>
+        ensures none { (result ≡ None) ↔ (item_at self.now.seats letter ≡ None) }
+        ensures some { IfSome result (λ told. ForSome (item_at self.now.seats letter) (λ s. (told.parent ≡ s.letter.parent)
+            × (told.read_only ≡ s.letter.read_only)
+            × (option_map (λ unit. unit.vdev) (slice_get self.now.units s.letter.unit) ≡ Some told.vdev))) }
+    {
+        let seat = self.seated(letter)?;
+        let unit = self.units.get(seat.unit)?;
+        Some(Seat {
+            vdev: unit.vdev,
+            parent: seat.parent,
+            read_only: seat.read_only,
+        })
+    }
+
+    /// The disk of a letter; none exactly where the letter isn't accessed.
+    pub fn disk(&self, letter: u8) -> Option<&Minidisk>
+        ensures { option_copied result ≡ option_map (λ s. s.disk) (item_at self.now.seats letter) }
+    {
+        Some(&self.seated(letter)?.disk)
+    }
+
+    // The disk of a letter with its marks.
+    pub(crate) fn seated(&self, letter: u8) -> Option<&Seated>
+        ensures seat { option_copied result ≡ item_at self.now.seats letter }
+        ensures table { IsTable self.now }
+    {
+        seat_at(self.seats.as_slice(), letter as usize)
+    }
+
+    // How many letters there are.
+    pub(crate) fn letters(&self) -> u8
+        ensures letters { result ≡ 26 }
+        ensures table { IsTable self.now }
+    {
+        self.seats.len() as u8
+    }
+
+    // The place of the unit of a device.
+    fn place(&self, vdev: u16) -> Option<usize>
+        ensures place { result ≡ place_of_device vdev self.now.units }
+        ensures within { IfSome result (λ u. u < length self.now.units) }
+    {
+        self.units
+            .as_slice()
+            .iter()
+            .position(|unit| unit.vdev == vdev)
+    }
+
+    // The letter of /ext that is missing.
+    fn missing_parent(&self, letter: u8, parent: Option<u8>) -> Option<u8>
+        ensures { result ≡ missing_parent self.now.seats letter parent }
+    {
+        let parent = parent?;
+        if parent == letter || self.seated(parent).is_some() {
+            None
+        } else {
+            Some(parent)
+        }
+    }
+
+    // The unit that is accessed, or why none is looked at.
+    fn wanted(&self, vdev: u16, letter: u8, parent: Option<u8>) -> Result<usize, SearchFault>
+        ensures wanted { result ≡ wanted_unit vdev (place_of_device vdev self.now.units) (missing_parent self.now.seats letter parent) }
+        ensures within { IfOk result (λ u. u < length self.now.units) }
+    {
+        let Some(place) = self.place(vdev) else {
+            return Err(SearchFault::NoUnit(vdev));
+        };
+        match self.missing_parent(letter, parent) {
+            Some(missing) => Err(SearchFault::NotAccessed(missing)),
+            None => Ok(place),
+        }
+    }
+
+    // Whether the unit in a place is in doubt.
+    fn is_marked(&self, place: usize) -> bool
+        requires { place < length self.now.units }
+        ensures { slice_get self.now.doubts place ≡ Some result }
+    {
+        self.doubts[place]
+    }
+
+    // Opens the volume of the unit in a place.
+    fn open<W: World>(
+        &self,
+        alloc: Global,
+        world: &mut W,
+        place: usize,
+    ) -> Result<Minidisk, AccessFault>
+        requires within { place < length self.now.units }
+        requires blocks { ForSome (W.told world.old) (λ j. IfSome (slice_get self.now.units place)
+            (λ unit. HasBlocks j.units unit.unit.number unit.unit.blocks unit.bsize)) }
+        ensures opens { (unit : UnitInfo) (doubt : Bool) → slice_get self.now.units place ≡ Some unit
+            → slice_get self.now.doubts place ≡ Some doubt → LooksAt (W.told world.old) (W.told world.new) unit doubt result }
+        ensures table { IsTable self.now }
+        ensures cause { IfErr result (λ e. (e ≡ Sync) ⊎ (e ≡ Open failed.Device) → Rose (W.faults world.old) (W.faults world.new)) }
+        ensures faults { W.faults world.old ≤ W.faults world.new }
+        ensures edges { W.edges world.new ≡ W.edges world.old }
+    {
+        let unit = self.units.as_slice()[place];
+        let doubt = self.is_marked(place);
+        Minidisk::access(alloc, world, &unit, doubt)
+    }
+
+    // Seats the disk of the unit in a place. A good sync has ended a doubt, but where there was no memory.
+    fn settle(
+        &mut self,
+        place: usize,
+        letter: u8,
+        parent: Option<u8>,
+        found: Result<Minidisk, AccessFault>,
+    ) -> Result<(), SearchFault>
+        requires within { place < length self.old.units }
+        requires letter { letter < 26 }
+        ensures answer { result ≡ answer_for found }
+        ensures table { (unit : UnitInfo) → slice_get self.old.units place ≡ Some unit
+            → self.new ≡ table_after self.old place (letter_for place unit.writable letter parent) letter found }
+    {
+        match found {
+            Ok(disk) => {
+                let writable = self.units.as_slice()[place].writable;
+                self.doubts[place] = false;
+                let seat = Seated {
+                    disk,
+                    unit: place,
+                    parent: parent_of(letter, parent),
+                    read_only: is_read_only(parent, writable),
+                };
+                put_on(&mut self.seats, letter as usize, seat);
+                Ok(())
+            }
+            Err(AccessFault::Sync) => Err(SearchFault::Volume(OpenFault::Device)),
+            Err(AccessFault::Open(OpenFault::Memory)) => Err(SearchFault::Memory),
+            Err(AccessFault::Open(fault)) => {
+                self.doubts[place] = false;
+                Err(SearchFault::Volume(fault))
+            }
+        }
+    }
+
+    /// Accesses the volume of a device as a letter, read-only with `parent`. Refused are, in this order, a device that no unit has; a
+    /// parent that isn't accessed and isn't the letter itself; a volume that doesn't open. A unit in doubt is synced first. A refusal
+    /// leaves every letter as it was, and a good sync ends the doubt.
+    pub fn access<W: World>(
+        &mut self,
+        alloc: Global,
+        world: &mut W,
+        vdev: u16,
+        letter: u8,
+        parent: Option<u8>,
+    ) -> Result<(), SearchFault>
+        requires letter { letter < 26 }
+        requires blocks { ForSome (W.told world.old) (λ j. IfSome (unit_of_device vdev self.old.units)
+            (λ unit. HasBlocks j.units unit.unit.number unit.unit.blocks unit.bsize)) }
+        ensures access { EndsAccess (W.told world.old) (W.told world.new) self.old self.new letter parent result
+            (wanted_unit vdev (place_of_device vdev self.old.units) (missing_parent self.old.seats letter parent)) }
+        ensures cause { IfErr result (λ e. e ≡ Volume failed.Device → Rose (W.faults world.old) (W.faults world.new)) }
+        ensures faults { W.faults world.old ≤ W.faults world.new }
+        ensures edges { W.edges world.new ≡ W.edges world.old }
+    {
+        let place = self.wanted(vdev, letter, parent)?;
+        let found = self.open(alloc, world, place);
+        self.settle(place, letter, parent, found)
+    }
+
+    /// A letter isn't accessed any more; `NotAccessed` exactly where it wasn't.
+    pub fn release(&mut self, letter: u8) -> Result<(), SearchFault>
+        ensures released { OnOk result (IsSome (item_at self.old.seats letter) × (self.new ≡ released letter self.old)) }
+        ensures refused { IfErr result (λ e. (e ≡ NotAccessed letter) × (item_at self.old.seats letter ≡ None) × (self.new ≡ self.old)) }
+    {
+        if self.seated(letter).is_none() {
+            return Err(SearchFault::NotAccessed(letter));
+        }
+        self.seats[letter as usize] = None;
+        Ok(())
+    }
+
+    /// Releases an accessed letter, and marks its unit as in doubt.
+    pub fn doubt(&mut self, letter: u8)
+        requires { IsSome (item_at self.old.seats letter) }
+        ensures { IfSome (item_at self.old.seats letter) (λ s. self.new ≡ released letter (marked s.letter.unit true self.old)) }
+    {
+        if let Some(seat) = self.seated(letter) {
+            let unit = seat.unit;
+            self.seats[letter as usize] = None;
+            self.doubts[unit] = true;
+        }
+    }
+
+    /// Whether a letter may be written: `NotAccessed` exactly where it isn't accessed, else `ReadOnly` exactly where its disk may only
+    /// be read.
+    pub fn find_write(&self, letter: u8) -> Result<(), SearchFault>
+        ensures { result ≡ writing (item_at (letters_of self.now) letter) letter }
+    {
+        match self.seated(letter) {
+            None => Err(SearchFault::NotAccessed(letter)),
+            Some(seat) if seat.read_only => Err(SearchFault::ReadOnly(letter)),
+            Some(_) => Ok(()),
+        }
+    }
+}
