@@ -1,5 +1,5 @@
 -- A file goes, or has another name, among files that are held.
-use Rattle.std.proofs.Common.{◌≡◌, ◌≢◌, inl, inr, ⊎_elim, ℕ, zero, suc, ◌+◌, ◌-◌, ◌<◌, ◌≤◌, Bool, true, List, [], ◌∷◌, ◌++◌, length, map, take, set, get_or, swap_remove, slice_get, slice_index_or, sum_by, All, Some, refl, sym, ◌∙◌, ap, subst, arith}
+use Rattle.std.proofs.Common.{◌≡◌, ◌≢◌, ◌⊎◌, inl, inr, ⊎_elim, ℕ, zero, suc, ◌+◌, ◌-◌, ◌<◌, ◌≤◌, Bool, true, List, [], ◌∷◌, ◌++◌, length, map, take, set, get_or, swap_remove, slice_get, slice_index_or, sum_by, All, Some, refl, sym, ◌∙◌, ap, subst, arith}
 use Rattle.std.specs.Prelude.{nat_le, ◌&&◌}
 use Rattle.std.proofs.lemmas.Bool.{and_parts, and_from, le-leb}
 use Rattle.std.proofs.lemmas.List.{length-map, length-set, get_or-map, map-set}
@@ -16,7 +16,7 @@ use Rattle.cms_model.specs.Lists.{In, times}
 use Rattle.cms_model.specs.Trees.{Image, Met}
 use Rattle.cms_model.specs.Minidisks.{File}
 use Rattle.cms_model.specs.Volumes.{Disk}
-use Rattle.cms_model.specs.Changes.{Drop, Rename, changed_files, drop_file, change_file}
+use Rattle.cms_model.specs.Changes.{Change, Drop, Rename, changed_files, drop_file, change_file}
 use Rattle.cms_model.specs.Stands.{Kept, HoldsFile, HoldsFiles, Layout, NoEntryNamed, HaveNames, entries_in, mets_in, records_in, file_blocks, file_of, layout_blocks}
 use Rattle.cms_model.specs.LawsChanges.{NoneNamed, AreDistinct, IsPlace}
 use Rattle.cms_model.specs.LawsUpdates.{now}
@@ -53,14 +53,14 @@ place_at (f ∷ fs) (suc k) d distinct within =
 
 -- ---- files side by side with how they are held
 
-abbrev Beside : List Kept → List HeldFile → Type 0
+abbrev pub Beside : List Kept → List HeldFile → Type 0
 Beside fs hs = AreHeld (entries_in fs) (mets_in fs) (records_in fs) hs
 
 -- a file is held so
 abbrev Is : Kept → HeldFile → Type 0
 Is f h = IsHeldFile f.entry f.met f.records h
 
-beside_count : (fs : List Kept) (hs : List HeldFile) → Beside fs hs → length fs ≡ length hs
+pub beside_count : (fs : List Kept) (hs : List HeldFile) → Beside fs hs → length fs ≡ length hs
 beside_count [] [] b = refl
 beside_count [] (h ∷ hs) b = absurd b
 beside_count (f ∷ fs) [] b = absurd b
@@ -115,10 +115,10 @@ at_place (f ∷ fs) (x ∷ hs) b (suc k) h is =
 
 -- ---- what files keep
 
-abbrev Old : Disk → ℕ → Image → List ℕ → Kept → Type 0
+abbrev pub Old : Disk → ℕ → Image → List ℕ → Kept → Type 0
 Old disk total before blocks f = HoldsFile disk total before f × ((n : ℕ) → In n f.met.blocks → In n blocks)
 
-old_all : (disk : Disk) (total : ℕ) (before : Image) (blocks : List ℕ) (fs : List Kept) → HoldsFiles disk total before fs → ((n : ℕ) → In n (file_blocks fs) → In n blocks)
+pub old_all : (disk : Disk) (total : ℕ) (before : Image) (blocks : List ℕ) (fs : List Kept) → HoldsFiles disk total before fs → ((n : ℕ) → In n (file_blocks fs) → In n blocks)
     → All (Old disk total before blocks) fs
 unfolding file_blocks
 old_all disk total before blocks [] h inside = All-nil (Old disk total before blocks)
@@ -126,7 +126,7 @@ old_all disk total before blocks (f ∷ fs) h inside =
     All-cons (Old disk total before blocks) f fs (h.0, λ n in'. inside n (In-left n f.met.blocks (file_blocks fs) in'))
     (old_all disk total before blocks fs h.1 (λ n in'. inside n (In-right n f.met.blocks (file_blocks fs) in')))
 
-come_all : (disk : Disk) (total : ℕ) (before later : Image) (blocks : List ℕ) (fs : List Kept) → All (Old disk total before blocks) fs → ComesFrom disk total before later blocks fs
+pub come_all : (disk : Disk) (total : ℕ) (before later : Image) (blocks : List ℕ) (fs : List Kept) → All (Old disk total before blocks) fs → ComesFrom disk total before later blocks fs
 come_all disk total before later blocks [] all = tt
 come_all disk total before later blocks (f ∷ fs) all =
     (inl (All-head (Old disk total before blocks) f fs all), come_all disk total before later blocks fs (All-tail (Old disk total before blocks) f fs all))
@@ -187,18 +187,26 @@ no_times : (n : ℕ) → times n [] ≡ 0
 unfolding times
 no_times n = refl
 
+-- the files that an edit leaves, with what is said of them where their entries are read back
+pub record Moved (before later : Image) (v : HeldVolume) (edit : Edit) (old : Layout) (change : Change) : Type 0 where
+  pub files : List Kept
+  pub files_are : map file_of files ≡ changed_files (map file_of old.files) change
+  pub held : Beside files edit.files
+  pub leaves : All ReadsBack (entries_held edit.files) → LeavesFiles before later v edit old files
+
 -- ---- a file that goes
 
-files_old : (j : Journal) (v : HeldVolume) (old : Layout) → IsHeldAt j v old → All (Old v.disk v.label.blocks (now j v.unit) (layout_blocks old)) old.files
+pub files_old : (j : Journal) (v : HeldVolume) (old : Layout) → IsHeldAt j v old → All (Old v.disk v.label.blocks (now j v.unit) (layout_blocks old)) old.files
 files_old j v old x =
     let total : old.label.blocks ≡ v.label.blocks = sym (ap (λ (l : Label). l.blocks) x.held.label_is) in
     old_all v.disk v.label.blocks (now j v.unit) (layout_blocks old) old.files
     (subst (λ (n : ℕ). HoldsFiles v.disk n (now j v.unit) old.files) total x.stands.files)
     (λ n in'. In-right n old.directory_met.blocks (old.map_met.blocks ++ file_blocks old.files) (In-right n old.map_met.blocks (file_blocks old.files) in'))
 
-pub drop_edits : DropEdits
+pub drop_moves : (j : Journal) (v : HeldVolume) (old : Layout) (later : Image) (k : ℕ) (h : HeldFile) → IsHeldAt j v old → Keeps v → slice_get v.files k ≡ Some h
+    → Moved (now j v.unit) later v (dropping v.files k h) old (Drop h.entry.name)
 unfolding changed_files
-drop_edits j v old later k h x kept there back =
+drop_moves j v old later k h x kept there =
     let at = at_place old.files v.files x.held.files_are k h there in
     let g = at.file in
     let is = at.is g in
@@ -220,7 +228,8 @@ drop_edits j v old later k h x kept there back =
     record {
       files = fs;
       files_are = sym dropped;
-      leaves = record {
+      held = held;
+      leaves = λ back. record {
         few = (let n = length-removed old.files k g in omega arith);
         pass = All-map (λ (e : Entry). passes v.disk.bsize e ≡ true) (λ (f : Kept). f.entry) fs (All-removed P old.files k g less (pass_all v.disk.bsize v.label.blocks old.files v.files x.held.files_are kept.each));
         back = subst (All ReadsBack) (same_entries fs (dropping v.files k h).files held) back;
@@ -247,9 +256,10 @@ passes_renamed bsize e name number small is =
     and_from (nat_le number 6 && l && c && k) (is_stamp e.stamp)
     (and_from (nat_le number 6 && l && c) k (and_from (nat_le number 6 && l) c (and_from (nat_le number 6) l (le-leb number 6 small) t.1) r.1) q.1) p.1
 
-pub rename_edits : RenameEdits
+pub rename_moves : (j : Journal) (v : HeldVolume) (old : Layout) (later : Image) (k : ℕ) (h : HeldFile) (to : Name) (number : ℕ) → IsHeldAt j v old → Keeps v → slice_get v.files k ≡ Some h → number ≤ 6
+    → NoneNamed to (map file_of old.files) ⊎ (to ≡ h.entry.name) → Moved (now j v.unit) later v (renaming v.files k h to number) old (Rename h.entry.name to number)
 unfolding changed_files
-rename_edits j v old later k h to number x kept there small free back =
+rename_moves j v old later k h to number x kept there small free =
     let at = at_place old.files v.files x.held.files_are k h there in
     let g = at.file in
     let g' : Kept = record g { entry = record g.entry { name = to; number = number } } in
@@ -280,7 +290,8 @@ rename_edits j v old later k h to number x kept there small free back =
     record {
       files = fs;
       files_are = sym changed;
-      leaves = record {
+      held = held;
+      leaves = λ back. record {
         few = (let n = length-set old.files k g' in omega arith);
         pass = All-map (λ (e : Entry). passes v.disk.bsize e ≡ true) (λ (f : Kept). f.entry) fs (All-set P old.files k g' (passes_renamed v.disk.bsize g.entry to number small g_passes) all);
         back = subst (All ReadsBack) (same_entries fs (renaming v.files k h to number).files held) back;
@@ -291,3 +302,13 @@ rename_edits j v old later k h to number x kept there small free back =
         had = λ n. omega (arith, no_times n);
       };
     }
+
+pub drop_edits : DropEdits
+drop_edits j v old later k h x kept there back =
+    let m = drop_moves j v old later k h x kept there in
+    record { files = m.files; files_are = m.files_are; leaves = m.leaves back }
+
+pub rename_edits : RenameEdits
+rename_edits j v old later k h to number x kept there small free back =
+    let m = rename_moves j v old later k h to number x kept there small free in
+    record { files = m.files; files_are = m.files_are; leaves = m.leaves back }

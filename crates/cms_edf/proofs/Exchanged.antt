@@ -20,7 +20,7 @@ pub first_bit : (n x : ℕ) (xs : List ℕ) → times n (x ∷ xs) ≡ bit (n ==
 unfolding times
 first_bit n x xs = refl
 
-pub released_times : (v : HeldVolume) (edit : Edit) (n : ℕ) → times n (released v edit)
+pub released_times : (v : HeldVolume) (edit : Edit) (n : ℕ) → times n (released v edit.given)
     ≡ times n v.directory.leaves + (times n v.directory.pointers + (times n v.map.leaves + (times n v.map.pointers + times n edit.given)))
 released_times v edit n =
     omega (
@@ -28,10 +28,10 @@ released_times v edit n =
       times_append n v.directory.leaves (v.directory.pointers ++ (v.map.leaves ++ (v.map.pointers ++ edit.given))),
       times_append n v.directory.pointers (v.map.leaves ++ (v.map.pointers ++ edit.given)),
       times_append n v.map.leaves (v.map.pointers ++ edit.given),
-      times_append n v.map.pointers edit.given
+      times_append n v.map.pointers edit.given,
     )
 
-pub fresh_times : (edit : Edit) (s : Systems) (n : ℕ) → times n (fresh edit s)
+pub fresh_times : (edit : Edit) (s : Systems) (n : ℕ) → times n (fresh edit.taken s.directory s.map)
     ≡ times n edit.taken + (times n (drop 1 s.directory.leaves) + (times n s.directory.pointers + (times n s.map.leaves + times n s.map.pointers)))
 fresh_times edit s n =
     omega (
@@ -39,7 +39,7 @@ fresh_times edit s n =
       times_append n edit.taken (drop 1 s.directory.leaves ++ (s.directory.pointers ++ (s.map.leaves ++ s.map.pointers))),
       times_append n (drop 1 s.directory.leaves) (s.directory.pointers ++ (s.map.leaves ++ s.map.pointers)),
       times_append n s.directory.pointers (s.map.leaves ++ s.map.pointers),
-      times_append n s.map.leaves s.map.pointers
+      times_append n s.map.leaves s.map.pointers,
     )
 
 -- ---- the exchange, by counts
@@ -93,8 +93,8 @@ exchanged old new freed taken n c =
 pub record Setting (count : ℕ) (map : List ℕ) (v : HeldVolume) (edit : Edit) (s : Systems) (old : Layout) (files : List Kept) : Type 0 where
   pub old_has : HasBlocksOf count map v old
   pub first : s.directory.leaves ≡ (9 - v.label.origin) ∷ drop 1 s.directory.leaves
-  pub lowest : fresh edit s ≡ take (length (fresh edit s)) (free_blocks v.bits)
-  pub bits : s.bits ≡ with_freed (released v edit) (with_marked (fresh edit s) v.bits)
+  pub lowest : fresh edit.taken s.directory s.map ≡ take (length (fresh edit.taken s.directory s.map)) (free_blocks v.bits)
+  pub bits : s.bits ≡ with_freed (released v edit.given) (with_marked (fresh edit.taken s.directory s.map) v.bits)
   pub balance : (n : ℕ) → times n (file_blocks files) + times n edit.given ≡ times n (file_blocks old.files) + times n edit.taken
   pub had : (n : ℕ) → times n edit.given ≤ times n (file_blocks old.files)
 
@@ -110,18 +110,18 @@ new_times s files n =
       times_append n s.directory.leaves (s.directory.pointers ++ (s.map.leaves ++ (s.map.pointers ++ file_blocks files))),
       times_append n s.directory.pointers (s.map.leaves ++ (s.map.pointers ++ file_blocks files)),
       times_append n s.map.leaves (s.map.pointers ++ file_blocks files),
-      times_append n s.map.pointers (file_blocks files)
+      times_append n s.map.pointers (file_blocks files),
     )
 
 -- what the update takes was not marked
 pub unmarked : (count : ℕ) (map : List ℕ) (v : HeldVolume) (edit : Edit) (s : Systems) (old : Layout) (files : List Kept) → Setting count map v edit s old files
-    → AreUnmarked old.label.blocks map (fresh edit s)
+    → AreUnmarked old.label.blocks map (fresh edit.taken s.directory s.map)
 unmarked count map v edit s old files x =
-    lowest_free old.label.blocks map (fresh edit s) (x.lowest ∙ ap (λ (bits : List Bool). take (length (fresh edit s)) (free_blocks bits)) x.old_has.bits)
+    lowest_free old.label.blocks map (fresh edit.taken s.directory s.map) (x.lowest ∙ ap (λ (bits : List Bool). take (length (fresh edit.taken s.directory s.map)) (free_blocks bits)) x.old_has.bits)
 
 -- what it takes isn't a block of the old volume
 pub not_old : (count : ℕ) (map : List ℕ) (v : HeldVolume) (edit : Edit) (s : Systems) (old : Layout) (files : List Kept) → Setting count map v edit s old files
-    → (n : ℕ) → 1 ≤ times n (fresh edit s) → times n (layout_blocks old) ≡ 0
+    → (n : ℕ) → 1 ≤ times n (fresh edit.taken s.directory s.map) → times n (layout_blocks old) ≡ 0
 not_old count map v edit s old files x n some =
     let free = (unmarked count map v edit s old files x).each n some in
     ⊎_elim
@@ -146,8 +146,8 @@ other o (inr five) = record { low = omega arith; high = omega arith; old_low = o
 
 -- the sums at any block, with the new origin
 pub record Sums (v : HeldVolume) (edit : Edit) (s : Systems) (old : Layout) (files : List Kept) (n : ℕ) : Type 0 where
-  pub sum : times n (new_blocks s files) + times n (released v edit) ≡ times n (layout_blocks old) + (times n (fresh edit s) + bit (n == (9 - v.label.origin)))
-  pub part : times n (released v edit) ≤ times n (layout_blocks old)
+  pub sum : times n (new_blocks s files) + times n (released v edit.given) ≡ times n (layout_blocks old) + (times n (fresh edit.taken s.directory s.map) + bit (n == (9 - v.label.origin)))
+  pub part : times n (released v edit.given) ≤ times n (layout_blocks old)
 
 pub sums : (count : ℕ) (map : List ℕ) (v : HeldVolume) (edit : Edit) (s : Systems) (old : Layout) (files : List Kept) → Setting count map v edit s old files
     → (n : ℕ) → Sums v edit s old files n
@@ -170,7 +170,7 @@ bit_none n o ne = ⊎_elim (λ (same : (n == o) ≡ true). absurd (ne (eqb-true 
 
 -- from block 6 on they are counts of an exchange
 pub late_counts : (count : ℕ) (map : List ℕ) (v : HeldVolume) (edit : Edit) (s : Systems) (old : Layout) (files : List Kept) → Setting count map v edit s old files
-    → (n : ℕ) → 6 ≤ n → Counts (layout_blocks old) (new_blocks s files) (released v edit) (fresh edit s) n
+    → (n : ℕ) → 6 ≤ n → Counts (layout_blocks old) (new_blocks s files) (released v edit.given) (fresh edit.taken s.directory s.map) n
 late_counts count map v edit s old files x n late =
     let q = sums count map v edit s old files x n in
     let sum = q.sum in let part = q.part in
@@ -196,7 +196,7 @@ new_once count map v edit s old files x n =
     let high = o.high in
     let same : 9 - v.label.origin ≡ 9 - old.label.origin = ap (λ (l : Label). 9 - l.origin) x.old_has.label in
     let low : n ≤ 5 = omega arith in
-    let none_fresh : times n (fresh edit s) ≡ 0 = ⊎_elim (λ (none : times n (fresh edit s) < 1). omega arith) (λ (some : 1 ≤ times n (fresh edit s)). let six = (u.each n some).0 in absurd (omega arith)) (cases_lt (times n (fresh edit s)) 1) in
+    let none_fresh : times n (fresh edit.taken s.directory s.map) ≡ 0 = ⊎_elim (λ (none : times n (fresh edit.taken s.directory s.map) < 1). omega arith) (λ (some : 1 ≤ times n (fresh edit.taken s.directory s.map)). let six = (u.each n some).0 in absurd (omega arith)) (cases_lt (times n (fresh edit.taken s.directory s.map)) 1) in
     let none_old : times n (layout_blocks old) ≡ 0 = ⊎_elim
     (λ (none : times n (layout_blocks old) < 1). omega arith)
     (λ (some : 1 ≤ times n (layout_blocks old)). ⊎_elim (λ (free : (6 ≤ n) × (n ≤ old.label.blocks)). let six = free.0 in absurd (omega arith)) (λ (e : n ≡ old.label.origin). absurd (o.differs (sym same ∙ (sym is ∙ e)))) (x.old_has.within n some))
@@ -206,15 +206,15 @@ new_once count map v edit s old files x n =
     (λ (aside : (n == (9 - v.label.origin)) ≡ false).
     let none = miss (n == (9 - v.label.origin)) aside in
     ⊎_elim
-    (λ (not_fresh : times n (fresh edit s) < 1). omega arith)
-    (λ (some : 1 ≤ times n (fresh edit s)). let zero' = not_old count map v edit s old files x n some in omega arith)
-    (cases_lt (times n (fresh edit s)) 1))
+    (λ (not_fresh : times n (fresh edit.taken s.directory s.map) < 1). omega arith)
+    (λ (some : 1 ≤ times n (fresh edit.taken s.directory s.map)). let zero' = not_old count map v edit s old files x n some in omega arith)
+    (cases_lt (times n (fresh edit.taken s.directory s.map)) 1))
     (cases_Bool (n == (9 - v.label.origin)))
 
 -- ---- the marks
 
 pub released_in : (count : ℕ) (map : List ℕ) (v : HeldVolume) (edit : Edit) (s : Systems) (old : Layout) (files : List Kept) → Setting count map v edit s old files
-    → (n : ℕ) → 1 ≤ times n (released v edit) → (1 ≤ n) × (n ≤ old.label.blocks)
+    → (n : ℕ) → 1 ≤ times n (released v edit.given) → (1 ≤ n) × (n ≤ old.label.blocks)
 released_in count map v edit s old files x n some =
     let part = (sums count map v edit s old files x n).part in
     let size = x.old_has.size in
@@ -227,13 +227,13 @@ released_in count map v edit s old files x n some =
 
 pub renewed_marks : (count : ℕ) (map new : List ℕ) (v : HeldVolume) (edit : Edit) (s : Systems) (old : Layout) (files : List Kept) → Setting count map v edit s old files
     → bits_in old.label.blocks new ≡ s.bits → (n : ℕ) → 6 ≤ n → n ≤ old.label.blocks
-    → is_marked new n ≡ ((is_marked map n && not (holds (released v edit) n)) || holds (fresh edit s) n)
+    → is_marked new n ≡ ((is_marked map n && not (holds (released v edit.given) n)) || holds (fresh edit.taken s.directory s.map) n)
 renewed_marks count map new v edit s old files x is n late high =
     let u = unmarked count map v edit s old files x in
     let c = late_counts count map v edit s old files x n late in
     let part = c.part in
-    new_marks old.label.blocks map new (released v edit) (fresh edit s)
-    (is ∙ (x.bits ∙ ap (λ (bits : List Bool). with_freed (released v edit) (with_marked (fresh edit s) bits)) x.old_has.bits))
+    new_marks old.label.blocks map new (released v edit.given) (fresh edit.taken s.directory s.map)
+    (is ∙ (x.bits ∙ ap (λ (bits : List Bool). with_freed (released v edit.given) (with_marked (fresh edit.taken s.directory s.map) bits)) x.old_has.bits))
     (released_in count map v edit s old files x)
     (λ k some. let w = u.each k some in let low = w.0 in (omega arith, w.1))
     n late high (λ some. let none = c.apart some in omega arith)

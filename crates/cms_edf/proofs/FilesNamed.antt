@@ -18,7 +18,7 @@ pub keys_named : (files : List HeldFile) → keys_of (by_name files) ≡ names_i
 keys_named [] = refl
 keys_named (f ∷ fs) = ap (λ (ns : List Name). f.entry.name ∷ ns) (keys_named fs)
 
-values_named : (files : List HeldFile) → values_of (by_name files) ≡ files
+pub values_named : (files : List HeldFile) → values_of (by_name files) ≡ files
 values_named [] = refl
 values_named (f ∷ fs) = ap (λ (l : List HeldFile). f ∷ l) (values_named fs)
 

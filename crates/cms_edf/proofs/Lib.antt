@@ -38,5 +38,12 @@ pub mod Renewals
 pub mod PiecesWritten
 pub mod SystemsRead
 pub mod Edits
+pub mod Answering
+pub mod Allotting
+pub mod Relabelling
+pub mod Renaming
+pub mod Keeping
+pub mod Carried
+pub mod WritesLong
 pub mod CutOff
 pub mod SystemsWritten

@@ -209,7 +209,7 @@ new_marks total old new freed marked is freed_in marked_in n low high apart =
     ∙ (bit_freed freed (with_marked marked bits) n freed_in' low
     ∙ (ap (λ (b : Bool). not (holds freed n) && b) (bit_marked marked bits n marked_in' some)
     ∙ (ap (λ (b : Bool). not (holds freed n) && (holds marked n || b)) (bit_read total old n false some high ∙ used_marked old n low)
-    ∙ turned (is_marked old n) (holds freed n) (holds marked n) (λ h. not_held n freed (apart (some_times h)))))))) 
+    ∙ turned (is_marked old n) (holds freed n) (holds marked n) (λ h. not_held n freed (apart (some_times h))))))))
   where
     some_times : holds marked n ≡ true → 1 ≤ times n marked
     some_times h = ⊎_elim (λ (none : times n marked < 1). absurd (clash (sym h ∙ not_held n marked (omega arith)))) (λ (more : 1 ≤ times n marked). more) (cases_lt (times n marked) 1)

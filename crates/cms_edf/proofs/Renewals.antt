@@ -48,7 +48,7 @@ held_count : (hs : List HeldFile) → length (entries_held hs) ≡ length hs
 held_count [] = refl
 held_count (h ∷ hs) = ap suc (held_count hs)
 
-comes_from : (disk : Disk) (total : ℕ) (before later : Image) (blocks : List ℕ) (files : List Kept) → ((n : ℕ) → In n blocks → before n ≡ later n) → ComesFrom disk total before later blocks files
+pub comes_from : (disk : Disk) (total : ℕ) (before later : Image) (blocks : List ℕ) (files : List Kept) → ((n : ℕ) → In n blocks → before n ≡ later n) → ComesFrom disk total before later blocks files
     → Comes disk total before later files
 comes_from disk total before later blocks [] same come = tt
 comes_from disk total before later blocks (f ∷ fs) same come =
@@ -73,9 +73,9 @@ Set j v edit s old files = Setting v.disk.count (map_of j v old) v edit s old fi
 setting : (j : Journal) (v : HeldVolume) (edit : Edit) (stamp : Stamp) (s : Systems) (old : Layout) (files : List Kept) → IsRenewal j v edit stamp s old files → Set j v edit s old files
 setting j v edit stamp s old files x = record {
   old_has = old_blocks j v old x.at;
-  first = x.planned.origin;
-  lowest = x.planned.lowest;
-  bits = x.planned.bits;
+  first = x.planned.blocks.origin;
+  lowest = x.planned.blocks.lowest;
+  bits = x.planned.blocks.marks;
   balance = x.leaves.balance;
   had = x.leaves.had;
 }
@@ -111,7 +111,7 @@ label_facts j v edit stamp s old files x =
     let h = old_blocks j v old x.at in
     let whole = x.at.whole in
     let low = (block_bounds v.disk.bsize whole.size).0 in
-    let size = h.size in let top = h.top in let few = x.at.few in
+    let size = h.size in let top = h.top in let few = whole.small in
     let o = other old.label.origin h.origin in
     let old_origin : v.label.origin ≡ old.label.origin = ap (λ (l : Label). l.origin) h.label in
     let o_low = o.old_low in let o_high = o.old_high in
@@ -132,7 +132,7 @@ label_facts j v edit stamp s old files x =
 
 -- each block that is taken lies from 6 to the last
 taken_in : (j : Journal) (v : HeldVolume) (edit : Edit) (stamp : Stamp) (s : Systems) (old : Layout) (files : List Kept) → IsRenewal j v edit stamp s old files
-    → (n : ℕ) → 1 ≤ times n (fresh edit s) → (6 ≤ n) × (n ≤ s.label.blocks)
+    → (n : ℕ) → 1 ≤ times n (fresh edit.taken s.directory s.map) → (6 ≤ n) × (n ≤ s.label.blocks)
 taken_in j v edit stamp s old files x n some =
     let f = fields v s old x.planned.label x.at.held.label_is in
     let blocks = f.blocks in
@@ -143,8 +143,8 @@ taken_in j v edit stamp s old files x n some =
 new_map_long : (j : Journal) (v : HeldVolume) (edit : Edit) (stamp : Stamp) (s : Systems) (old : Layout) (files : List Kept) → IsRenewal j v edit stamp s old files → length s.bits ≡ old.label.blocks
 new_map_long j v edit stamp s old files x =
     let h = old_blocks j v old x.at in
-    ap (λ (l : List Bool). length l) x.planned.bits
-    ∙ (length_freed (released v edit) (with_marked (fresh edit s) v.bits) ∙ (length_marked (fresh edit s) v.bits
+    ap (λ (l : List Bool). length l) x.planned.blocks.marks
+    ∙ (length_freed (released v edit.given) (with_marked (fresh edit.taken s.directory s.map) v.bits) ∙ (length_marked (fresh edit.taken s.directory s.map) v.bits
     ∙ (ap (λ (l : List Bool). length l) h.bits ∙ length_read old.label.blocks (map_of j v old))))
 
 new_map_fixed : (j : Journal) (v : HeldVolume) (edit : Edit) (stamp : Stamp) (s : Systems) (old : Layout) (files : List Kept) → IsRenewal j v edit stamp s old files → HasFixed s.bits
@@ -152,16 +152,16 @@ new_map_fixed j v edit stamp s old files x =
     let h = old_blocks j v old x.at in
     let q = setting j v edit stamp s old files x in
     let u = unmarked v.disk.count (map_of j v old) v edit s old files q in
-    let is : s.bits ≡ with_freed (released v edit) (with_marked (fresh edit s) (bits_in old.label.blocks (map_of j v old))) =
-    x.planned.bits ∙ ap (λ (bits : List Bool). with_freed (released v edit) (with_marked (fresh edit s) bits)) h.bits in
+    let is : s.bits ≡ with_freed (released v edit.given) (with_marked (fresh edit.taken s.directory s.map) (bits_in old.label.blocks (map_of j v old))) =
+    x.planned.blocks.marks ∙ ap (λ (bits : List Bool). with_freed (released v edit.given) (with_marked (fresh edit.taken s.directory s.map) bits)) h.bits in
     subst HasFixed (sym is)
-    (new_fixed old.label.blocks (map_of j v old) (released v edit) (fresh edit s) (λ k some. let w = u.each k some in let low = w.0 in (omega arith, w.1)))
+    (new_fixed old.label.blocks (map_of j v old) (released v edit.given) (fresh edit.taken s.directory s.map) (λ k some. let w = u.each k some in let low = w.0 in (omega arith, w.1)))
 
 laid_out : (j : Journal) (v : HeldVolume) (edit : Edit) (stamp : Stamp) (s : Systems) (old : Layout) (files : List Kept) → IsRenewal j v edit stamp s old files → IsLaidOut v.disk s (entries_in files)
 laid_out j v edit stamp s old files x =
     let f = fields v s old x.planned.label x.at.held.label_is in
     let l = label_facts j v edit stamp s old files x in
-    let blocks = f.blocks in let old_count = f.old_blocks in let few = x.at.few in
+    let blocks = f.blocks in let old_count = f.old_blocks in let few = x.at.whole.small in let top = (old_blocks j v old x.at).top in
     let into = taken_in j v edit stamp s old files x in
     let p = x.planned in
     let count : length edit.files ≡ length (entries_in files) = sym (held_count edit.files) ∙ ap (λ (l : List Entry). length l) (same_entries files edit.files x.leaves.held) in
@@ -175,14 +175,14 @@ laid_out j v edit stamp s old files x =
       back = x.leaves.back;
       first = (
         drop 1 s.directory.leaves,
-        p.origin ∙ ap (λ (n : ℕ). n ∷ drop 1 s.directory.leaves) (sym f.origin),
+        p.blocks.origin ∙ ap (λ (n : ℕ). n ∷ drop 1 s.directory.leaves) (sym f.origin),
         all_of (λ n. (6 ≤ n) × (n ≤ s.label.blocks)) (drop 1 s.directory.leaves) (λ n some. into n (let t = fresh_times edit s n in omega arith)),
       );
-      directory_count = p.directory_count ∙ ap (λ (n : ℕ). up (64 * (n + 2)) v.disk.bsize) count;
-      directory_nodes = p.directory_nodes;
+      directory_count = p.blocks.directory_count ∙ ap (λ (n : ℕ). up (64 * (n + 2)) v.disk.bsize) count;
+      directory_nodes = p.blocks.directory_nodes;
       directory_within = all_of (λ n. (6 ≤ n) × (n ≤ s.label.blocks)) s.directory.pointers (λ n some. into n (let t = fresh_times edit s n in omega arith));
-      map_count = p.map_count ∙ ap (λ (n : ℕ). up (up n 8) v.disk.bsize) (old_count ∙ sym blocks);
-      map_nodes = p.map_nodes;
+      map_count = p.blocks.map_count ∙ ap (λ (n : ℕ). up (up n 8) v.disk.bsize) (old_count ∙ sym blocks);
+      map_nodes = p.blocks.map_nodes;
       map_within = all_of (λ n. (6 ≤ n) × (n ≤ s.label.blocks)) (s.map.leaves ++ s.map.pointers)
           (λ n some. into n (let t = fresh_times edit s n in omega (arith, times_append n s.map.leaves s.map.pointers)));
       bits_count = new_map_long j v edit stamp s old files x ∙ sym blocks;
@@ -196,7 +196,7 @@ laid_out j v edit stamp s old files x =
 -- ---- the writes
 
 write_times : (v : HeldVolume) (edit : Edit) (s : Systems) → s.directory.leaves ≡ (9 - v.label.origin) ∷ drop 1 s.directory.leaves → (n : ℕ)
-    → times n (blocks_written (writes_of v s)) ≤ times n (fresh edit s) + bit (n == (9 - v.label.origin))
+    → times n (blocks_written (writes_of v s)) ≤ times n (fresh edit.taken s.directory s.map) + bit (n == (9 - v.label.origin))
 unfolding times
 write_times v edit s first n =
     let t = system_times v.disk.bsize s n in
@@ -240,7 +240,7 @@ write_facts j v edit stamp s old files x = record {
     h : HasBlocksOf v.disk.count (map_of j v old) v old
     h = old_blocks j v old x.at
 
-    u : AreUnmarked old.label.blocks (map_of j v old) (fresh edit s)
+    u : AreUnmarked old.label.blocks (map_of j v old) (fresh edit.taken s.directory s.map)
     u = unmarked v.disk.count (map_of j v old) v edit s old files q
 
     o : Other old.label.origin (9 - old.label.origin)
@@ -249,20 +249,20 @@ write_facts j v edit stamp s old files x = record {
     same : 9 - v.label.origin ≡ 9 - old.label.origin
     same = ap (λ (l : Label). 9 - l.origin) h.label
 
-    times_of : (n : ℕ) → times n (blocks_written (writes_of v s)) ≤ times n (fresh edit s) + bit (n == (9 - v.label.origin))
-    times_of = write_times v edit s x.planned.origin
+    times_of : (n : ℕ) → times n (blocks_written (writes_of v s)) ≤ times n (fresh edit.taken s.directory s.map) + bit (n == (9 - v.label.origin))
+    times_of = write_times v edit s x.planned.blocks.origin
 
     at_low : (n : ℕ) → (n == (9 - v.label.origin)) ≡ true → n ≤ 5
     at_low n at = let is = eqb-true n (9 - v.label.origin) at in let high = o.high in omega (arith, same)
 
-    early : (n : ℕ) → n ≤ 5 → times n (fresh edit s) ≡ 0
-    early n five = ⊎_elim (λ (none : times n (fresh edit s) < 1). omega arith) (λ (some : 1 ≤ times n (fresh edit s)). let six = (u.each n some).0 in absurd (omega arith)) (cases_lt (times n (fresh edit s)) 1)
+    early : (n : ℕ) → n ≤ 5 → times n (fresh edit.taken s.directory s.map) ≡ 0
+    early n five = ⊎_elim (λ (none : times n (fresh edit.taken s.directory s.map) < 1). omega arith) (λ (some : 1 ≤ times n (fresh edit.taken s.directory s.map)). let six = (u.each n some).0 in absurd (omega arith)) (cases_lt (times n (fresh edit.taken s.directory s.map)) 1)
 
-    not_there : (n : ℕ) → 1 ≤ times n (layout_blocks old) → times n (fresh edit s) ≡ 0
+    not_there : (n : ℕ) → 1 ≤ times n (layout_blocks old) → times n (fresh edit.taken s.directory s.map) ≡ 0
     not_there n there = ⊎_elim
-        (λ (none : times n (fresh edit s) < 1). omega arith)
-        (λ (some : 1 ≤ times n (fresh edit s)). let none = not_old v.disk.count (map_of j v old) v edit s old files q n some in absurd (omega arith))
-        (cases_lt (times n (fresh edit s)) 1)
+        (λ (none : times n (fresh edit.taken s.directory s.map) < 1). omega arith)
+        (λ (some : 1 ≤ times n (fresh edit.taken s.directory s.map)). let none = not_old v.disk.count (map_of j v old) v edit s old files q n some in absurd (omega arith))
+        (cases_lt (times n (fresh edit.taken s.directory s.map)) 1)
 
 -- the writes are apart from what the old volume rests on
 writes_apart : (j : Journal) (v : HeldVolume) (edit : Edit) (s : Systems) (old : Layout) → WriteFacts j v edit s old → Apart (writes_of v s) (frame (opened old))
@@ -279,6 +279,15 @@ writes_apart j v edit s old w = apart_of (writes_of v s) (frame (opened old)) (�
         (λ (none : times n (blocks_written (writes_of v s)) < 1). omega arith)
         (λ (some : 1 ≤ times n (blocks_written (writes_of v s))). let low = (w.low n some).0 in absurd (omega arith))
         (cases_lt (times n (blocks_written (writes_of v s))) 1)
+
+-- they are to blocks of the unit
+pub write_within : (j : Journal) (v : HeldVolume) (edit : Edit) (stamp : Stamp) (s : Systems) (old : Layout) (files : List Kept) → IsRenewal j v edit stamp s old files
+    → AreWithin (length (start_of j.units v.unit)) (writes_of v s)
+write_within j v edit stamp s old files x =
+    let w = write_facts j v edit stamp s old files x in
+    let h = old_blocks j v old x.at in
+    let top = h.top in let attached = x.at.attached in
+    within_of (length (start_of j.units v.unit)) (writes_of v s) (λ n some. let r = w.low n some in let low = r.0 in let high = r.1 in (omega arith, omega arith))
 
 -- ---- the image after it
 
@@ -311,9 +320,7 @@ later_image j v edit stamp s old files x = record {
     put : PutsBlocks j v.unit (writes_of v s) s.label_bytes
     put =
         let top = h.top in let size = h.size in let attached = x.at.attached in
-        update_is_put j v.unit (writes_of v s) s.label_bytes
-        (within_of (length (start_of j.units v.unit)) (writes_of v s) (λ n some. let r = w.low n some in let low = r.0 in let high = r.1 in (omega arith, omega arith)))
-        (omega arith)
+        update_is_put j v.unit (writes_of v s) s.label_bytes (write_within j v edit stamp s old files x) (omega arith)
 
     aside : (image : Image) (n : ℕ) → n ≢ 3 → put_block image (record { block = 3; bytes = s.label_bytes }) n ≡ image n
     aside image n ne = go (n == 3) refl
@@ -382,7 +389,7 @@ new_stands j v edit stamp s old files x r =
     let f = fields v s old x.planned.label x.at.held.label_is in
     let u = unmarked v.disk.count (map_of j v old) v edit s old files q in
     let bits : bits_in old.label.blocks (bytes_at (later_at j v s) r.map.leaves) ≡ s.bits = ap (λ (n : ℕ). bits_in n (bytes_at (later_at j v s) r.map.leaves)) (sym f.blocks) ∙ new_bits j v edit stamp s old files x r in
-    renewed_stands v.disk before (later_at j v s) old new (holds (released v edit)) (holds (fresh edit s)) (record {
+    renewed_stands v.disk before (later_at j v s) old new (holds (released v edit.given)) (holds (fresh edit.taken s.directory s.map)) (record {
       old_stands = x.at.stands;
       system = r.holds (mets_in files) (records_in files) old.lost;
       total = f.blocks;
@@ -392,10 +399,10 @@ new_stands j v edit stamp s old files x r =
           (subst (λ (n : ℕ). ComesFrom v.disk n before (later_at j v s) (layout_blocks old) files) (f.old_blocks ∙ sym f.blocks) x.leaves.come);
       apart = λ n. (let most = new_once v.disk.count (map_of j v old) v edit s old files q n in let e = total_times n in omega arith);
       exchange = record {
-        blocks = λ n late high. exchanged (layout_blocks old) (layout_blocks new) (released v edit) (fresh edit s) n (counts n late);
+        blocks = λ n late high. exchanged (layout_blocks old) (layout_blocks new) (released v edit.given) (fresh edit.taken s.directory s.map) n (counts n late);
         marks = λ n late high. renewed_marks v.disk.count (map_of j v old) (bytes_at (later_at j v s) r.map.leaves) v edit s old files q bits n late (let b = f.blocks in omega arith);
-        free = λ n is. (u.each n (held n (fresh edit s) is)).2;
-        had = λ n is. held_from n (layout_blocks old) (let some = held n (released v edit) is in
+        free = λ n is. (u.each n (held n (fresh edit.taken s.directory s.map) is)).2;
+        had = λ n is. held_from n (layout_blocks old) (let some = held n (released v edit.given) is in
             let part = (sums v.disk.count (map_of j v old) v edit s old files q n).part in omega arith);
       };
     })
@@ -403,7 +410,7 @@ new_stands j v edit stamp s old files x r =
     total_times : (n : ℕ) → times n (layout_blocks (new_of v s old files r.directory r.map)) ≡ times n (new_blocks s files)
     total_times = new_layout_times v s old files r.directory r.map r.directory_is r.map_is
 
-    counts : (n : ℕ) → 6 ≤ n → Counts (layout_blocks old) (layout_blocks (new_of v s old files r.directory r.map)) (released v edit) (fresh edit s) n
+    counts : (n : ℕ) → 6 ≤ n → Counts (layout_blocks old) (layout_blocks (new_of v s old files r.directory r.map)) (released v edit.given) (fresh edit.taken s.directory s.map) n
     counts n late =
         let c = late_counts v.disk.count (map_of j v old) v edit s old files (setting j v edit stamp s old files x) n late in
         let sum = c.sum in
@@ -425,7 +432,6 @@ update_renews j v edit stamp s old files x =
       apart = apart;
       opens = stands_opens v.disk (later_at j v s) new stands;
     }) in
-    let few = x.at.few in let blocks = f.blocks in let old_count = f.old_blocks in
     record {
       new = new;
       files_are = refl;
@@ -437,7 +443,6 @@ update_renews j v edit stamp s old files x =
       at = record {
         whole = i.whole;
         attached = x.at.attached;
-        few = omega arith;
         settled = ups.whole;
         stands = stands;
         held = record {

@@ -139,7 +139,7 @@ Word n = n < 2 ^ 32
 abbrev Lies : ℕ → ℕ → Type 0
 Lies last n = (6 ≤ n) × (n ≤ last)
 
-lies_words : (last : ℕ) (ns : List ℕ) → last ≤ 1048576 → All (Lies last) ns → All Word ns
+lies_words : (last : ℕ) (ns : List ℕ) → last < 2 ^ 32 → All (Lies last) ns → All Word ns
 lies_words last ns few lie = All-weaker (Lies last) Word (λ n within. let high = within.1 in omega arith) ns lie
 
 lies_allowed : (last : ℕ) (ns : List ℕ) → All (Lies last) ns → AllAllowed last None ns
@@ -154,7 +154,7 @@ unfolding is_allowed
 first_allowed last origin leaves more is lie = rw is (eq-eqb origin origin refl, lies_allowed last more lie)
 
 -- a tree that was written is read
-tree_read : (bsize last : ℕ) (first : Option ℕ) (holder : ℕ) (t : HeldTree) (image : Image) → IsBlockSize bsize → 1 ≤ length t.leaves → length t.leaves < 2 ^ 32 → last ≤ 1048576
+tree_read : (bsize last : ℕ) (first : Option ℕ) (holder : ℕ) (t : HeldTree) (image : Image) → IsBlockSize bsize → 1 ≤ length t.leaves → length t.leaves < 2 ^ 32 → last < 2 ^ 32
     → length t.pointers ≡ pointer_count (bsize / 4) (length t.leaves) → All Word t.leaves → AllAllowed last first t.leaves → All (Lies last) t.pointers
     → HasWritten image (node_writes bsize t)
     → ReadsAs (form_of bsize last F) image (levels (bsize / 4) (length t.leaves)) first holder (root_of t.leaves t.pointers) t.leaves t.pointers

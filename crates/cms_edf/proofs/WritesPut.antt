@@ -50,7 +50,7 @@ system_times bsize s n =
       block_times n s.directory.pointers (nodes s.directory),
       block_times n s.map.leaves (map_pieces bsize s),
       block_times n s.map.pointers (nodes s.map),
-      block_times n (take 1 s.directory.leaves) (take 1 (directory_pieces bsize s))
+      block_times n (take 1 s.directory.leaves) (take 1 (directory_pieces bsize s)),
     )
 
 -- ---- what is written, and what isn't

@@ -3,6 +3,7 @@ use Rattle.std.specs.Prelude.{◌≡◌, ◌≤◌, ℕ, ◌*◌, Bool, true, Li
 use Rattle.cms_fields.specs.Limits.{longest_record, most_bytes, most_files}
 use Rattle.cms_names.specs.declared.name.Format.TheVariants.{F}
 use Rattle.cms_fields.specs.Entries.{passes}
+use Rattle.cms_fields.specs.declared.label.Label.{Label}
 use Rattle.cms_model.specs.Lists.{In}
 use Rattle.cms_edf.specs.Opening.{HeldFile, HeldVolume}
 
@@ -18,12 +19,17 @@ pub record IsKeptFile (bsize total : ℕ) (f : HeldFile) : Type 0 where
   pub fixed : f.entry.format ≡ F → f.length ≡ f.entry.length
   pub size : f.size ≤ most_bytes
 
--- a volume of so many blocks on a unit of so many: its map has a bit for each of its blocks, and it has at most 16,384 files
-pub record IsKept (bsize count total : ℕ) (bits : List Bool) (files : List HeldFile) : Type 0 where
-  pub within : total ≤ count
-  pub bits_are : length bits ≡ total
+-- a volume on a unit of so many blocks: its label is that of a volume, in the bytes of a block, its map has a bit for each of its blocks,
+-- and it has at most 16,384 files
+pub record IsKept (bsize count : ℕ) (label : Label) (long : ℕ) (bits : List Bool) (files : List HeldFile) : Type 0 where
+  pub within : label.blocks ≤ count
+  pub size : 6 ≤ label.blocks
+  pub origin_low : 4 ≤ label.origin
+  pub origin_high : label.origin ≤ 5
+  pub label_long : long ≡ bsize
+  pub bits_are : length bits ≡ label.blocks
   pub few : length files ≤ most_files
-  pub each : All (IsKeptFile bsize total) files
+  pub each : All (IsKeptFile bsize label.blocks) files
 
 abbrev pub Keeps : HeldVolume → Type 0
-Keeps v = IsKept v.disk.bsize v.disk.count v.label.blocks v.bits v.files
+Keeps v = IsKept v.disk.bsize v.disk.count v.label (length v.label_bytes) v.bits v.files

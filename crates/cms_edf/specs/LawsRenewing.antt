@@ -1,6 +1,7 @@
 -- An update of a volume as it is held is whole or absent.
 use Rattle.std.specs.Prelude.{◌≡◌, ◌⊎◌, ℕ, ◌+◌, ◌≤◌, true, List, [], ◌∷◌, length, map, All, ⊤}
 use Rattle.cms_journal.specs.Journal.{Journal, start_of}
+use Rattle.cms_journal.specs.declared.event.Event.{Event}
 use Rattle.cms_fields.specs.Entries.{passes}
 use Rattle.cms_fields.specs.Stamps.{is_stamp}
 use Rattle.cms_fields.specs.declared.time.Stamp.{Stamp}
@@ -10,7 +11,7 @@ use Rattle.cms_model.specs.Volumes.{Disk, minidisk_of}
 use Rattle.cms_model.specs.Stands.{Kept, HoldsFile, Layout, Stands, HaveNames, entries_in, mets_in, records_in, file_blocks, file_of, layout_blocks, opened, minidisk_in}
 use Rattle.cms_model.specs.Settled.{Write, IsSettled, Apart, frame, update}
 use Rattle.cms_model.specs.LawsSizes.{IsWhole}
-use Rattle.cms_model.specs.LawsUpdates.{Updates, after, now}
+use Rattle.cms_model.specs.LawsUpdates.{AreWithin, IsFront, Updates, after, now, to_label}
 use Rattle.cms_edf.specs.Opening.{HeldVolume}
 use Rattle.cms_edf.specs.Written.{ReadsBack}
 use Rattle.cms_edf.specs.Systems.{Systems, system_writes}
@@ -41,10 +42,16 @@ AreBlocks bsize (w ∷ ws) = (length w.bytes ≡ bsize) × AreBlocks bsize ws
 pub record IsHeldAt (j : Journal) (v : HeldVolume) (old : Layout) : Type 0 where
   pub whole : IsWhole v.disk (now j v.unit)
   pub attached : v.disk.count ≤ length (start_of j.units v.unit)
-  pub few : v.label.blocks ≤ 1048576
   pub settled : IsSettled v.disk j v.unit (opened old)
   pub stands : Stands v.disk (now j v.unit) old
   pub held : IsHeldAs v.unit v.disk (now j v.unit) (opened old) v
+
+-- as long as an update's label isn't written, a unit is settled at the old volume, which is held as before
+abbrev pub FrontKeepsHeld : Type 0
+FrontKeepsHeld =
+    (j : Journal) (v : HeldVolume) (old : Layout) (ws : List Write) (p : List Event) → IsHeldAt j v old → AreBlocks v.disk.bsize ws
+    → AreWithin (length (start_of j.units v.unit)) ws → Apart ws (frame (opened old)) → IsFront p (to_label v.unit ws)
+    → IsHeldAt (after j p) v old
 
 -- an edit leaves these files, whose blocks are the old files', without those that it gives back and with those that it takes
 pub record LeavesFiles (before later : Image) (v : HeldVolume) (edit : Edit) (old : Layout) (files : List Kept) : Type 0 where

@@ -15,4 +15,5 @@ pub mod HeldAs
 pub mod Renewing
 pub mod LawsRenewing
 pub mod LawsEdits
+pub mod Carrying
 pub mod Doubts

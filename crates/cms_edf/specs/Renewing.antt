@@ -1,15 +1,17 @@
 -- A volume as it is held is renewed by an update: its files, the blocks that it gives back and takes, and its directory, map and label.
-use Rattle.std.specs.Prelude.{◌≡◌, ℕ, ◌+◌, ◌-◌, ◌*◌, ◌/◌, Bool, false, List, [], ◌∷◌, ◌++◌, length, map, take, drop, slice_set, swap_remove, nat_le, if◌then◌else◌}
+use Rattle.std.specs.Prelude.{◌≡◌, ℕ, ◌+◌, ◌-◌, ◌*◌, ◌/◌, ◌<◌, Bool, false, List, [], ◌∷◌, ◌++◌, length, map, take, drop, slice_set, swap_remove, nat_le, if◌then◌else◌, ⊤}
 use Rattle.cms_names.specs.declared.name.Name.{Name}
 use Rattle.cms_fields.specs.Labels.{with_label}
 use Rattle.cms_fields.specs.Numbers.{up}
 use Rattle.cms_fields.specs.declared.time.Stamp.{Stamp}
 use Rattle.cms_fields.specs.declared.label.Label.{Label}
 use Rattle.cms_fields.specs.declared.entry.Entry.{Entry}
-use Rattle.cms_model.specs.Sizes.{pointer_count}
+use Rattle.cms_model.specs.Sizes.{directory_more, map_size, pointer_count}
 use Rattle.cms_map.specs.Bits.{free_blocks, with_marked}
 use Rattle.cms_edf.specs.Opening.{HeldTree, HeldFile, HeldVolume}
 use Rattle.cms_edf.specs.Systems.{Systems, directory_bytes_of}
+use Rattle.cms_edf.specs.declared.allotment.PlanFault.{PlanFault}
+use Rattle.cms_edf.specs.declared.allotment.PlanFault.TheVariants as failed
 
 -- ---- the files
 
@@ -47,28 +49,42 @@ with_freed [] bits = bits
 with_freed (n ∷ ns) bits = with_freed ns (if nat_le 6 n then slice_set bits (n - 1) false else bits)
 
 -- the blocks that an update gives back: those of the old directory, of the old map, and of a file
-abbrev pub released : HeldVolume → Edit → List ℕ
-released v edit = v.directory.leaves ++ (v.directory.pointers ++ (v.map.leaves ++ (v.map.pointers ++ edit.given)))
+abbrev pub released : HeldVolume → List ℕ → List ℕ
+released v given = v.directory.leaves ++ (v.directory.pointers ++ (v.map.leaves ++ (v.map.pointers ++ given)))
 
 -- the blocks that it takes, in their order: a file's, the new directory's data blocks but the first, its pointer blocks, the new map's data
 -- blocks, its pointer blocks
-abbrev pub fresh : Edit → Systems → List ℕ
-fresh edit s = edit.taken ++ (drop 1 s.directory.leaves ++ (s.directory.pointers ++ (s.map.leaves ++ s.map.pointers)))
+abbrev pub fresh : List ℕ → HeldTree → HeldTree → List ℕ
+fresh taken directory map = taken ++ (drop 1 directory.leaves ++ (directory.pointers ++ (map.leaves ++ map.pointers)))
+
+-- the trees of a directory of so many files and of a map are allotted: they have the sizes of their contents, the directory begins in the
+-- other one of blocks 4 and 5, all else takes the lowest free blocks in order, behind those that are taken for a file; the bits are the
+-- map then, without the blocks that are given back
+pub record IsAllotted (v : HeldVolume) (files : ℕ) (given taken : List ℕ) (directory map : HeldTree) (bits : List Bool) : Type 0 where
+  pub origin : directory.leaves ≡ (9 - v.label.origin) ∷ drop 1 directory.leaves
+  pub directory_count : length directory.leaves ≡ up (64 * (files + 2)) v.disk.bsize
+  pub directory_nodes : length directory.pointers ≡ pointer_count (v.disk.bsize / 4) (length directory.leaves)
+  pub map_count : length map.leaves ≡ up (up v.label.blocks 8) v.disk.bsize
+  pub map_nodes : length map.pointers ≡ pointer_count (v.disk.bsize / 4) (length map.leaves)
+  pub lowest : fresh taken directory map ≡ take (length (fresh taken directory map)) (free_blocks v.bits)
+  pub marks : bits ≡ with_freed (released v given) (with_marked (fresh taken directory map) v.bits)
+
+-- the free blocks that the new directory, of so many files, and the new map need
+abbrev pub needed : HeldVolume → ℕ → ℕ
+needed v files = directory_more v.disk.bsize files + map_size v.disk.bsize v.label.blocks
+
+-- so many free blocks are needed, and there are fewer; or there is no memory
+abbrev pub LacksRoom : HeldVolume → ℕ → PlanFault → Type 0
+LacksRoom v need (failed.Full n free) = (n ≡ need) × (free ≡ length (free_blocks v.bits)) × (free < n)
+LacksRoom v need failed.Memory = ⊤
 
 -- the label for a map: the directory begins in the other one of blocks 4 and 5, and what isn't free is in use
 abbrev pub label_for : Label → List Bool → Label
 label_for label bits = record label { origin = 9 - label.origin; in_use = label.blocks - length (free_blocks bits) }
 
--- what is written for such an edit: the trees have the sizes of their contents and take the lowest free blocks in order, and the map, the
--- label and the directory are those of the new volume
+-- what is written for an edit: its trees and its map are allotted, and the label and the directory are those of the new volume
 pub record IsPlanned (v : HeldVolume) (edit : Edit) (stamp : Stamp) (s : Systems) : Type 0 where
-  pub origin : s.directory.leaves ≡ (9 - v.label.origin) ∷ drop 1 s.directory.leaves
-  pub directory_count : length s.directory.leaves ≡ up (64 * (length edit.files + 2)) v.disk.bsize
-  pub directory_nodes : length s.directory.pointers ≡ pointer_count (v.disk.bsize / 4) (length s.directory.leaves)
-  pub map_count : length s.map.leaves ≡ up (up v.label.blocks 8) v.disk.bsize
-  pub map_nodes : length s.map.pointers ≡ pointer_count (v.disk.bsize / 4) (length s.map.leaves)
-  pub lowest : fresh edit s ≡ take (length (fresh edit s)) (free_blocks v.bits)
-  pub bits : s.bits ≡ with_freed (released v edit) (with_marked (fresh edit s) v.bits)
+  pub blocks : IsAllotted v (length edit.files) edit.given edit.taken s.directory s.map s.bits
   pub label : s.label ≡ label_for v.label s.bits
   pub label_bytes : s.label_bytes ≡ with_label s.label v.label_bytes
   pub directory_bytes : s.directory_bytes ≡ directory_bytes_of v.disk.bsize s (entries_held edit.files) stamp

@@ -1,5 +1,5 @@
 -- The directory, the map and the label of a volume as an update writes them.
-use Rattle.std.specs.Prelude.{◌≡◌, ℕ, ◌+◌, ◌-◌, ◌*◌, ◌/◌, ◌≤◌, Bool, true, false, List, [], ◌∷◌, ◌++◌, length, map, take, drop, replicate, slice_index_or, All, Ok, ⊤}
+use Rattle.std.specs.Prelude.{◌≡◌, ℕ, ◌+◌, ◌-◌, ◌*◌, ◌/◌, ◌^◌, ◌<◌, ◌≤◌, Bool, true, false, List, [], ◌∷◌, ◌++◌, length, map, take, drop, replicate, slice_index_or, All, Ok, ⊤}
 use Rattle.byteorder.specs.Endian.{big_bytes}
 use Rattle.cms_journal.specs.Journal.{IsBlockSize}
 use Rattle.cms_fields.specs.Numbers.{up}
@@ -97,7 +97,7 @@ pub record IsLaidOut (disk : Disk) (s : Systems) (entries : List Entry) : Type 0
   pub size : IsBlockSize disk.bsize
   pub spells : label_of disk.bsize disk.count s.label_bytes ≡ Ok s.label
   pub label_long : length s.label_bytes ≡ disk.bsize
-  pub blocks : s.label.blocks ≤ 1048576
+  pub blocks : s.label.blocks < 2 ^ 32
   pub few : length entries ≤ 16384
   pub each : All (λ e. passes disk.bsize e ≡ true) entries
   pub back : All ReadsBack entries

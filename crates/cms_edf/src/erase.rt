@@ -15,12 +15,13 @@ ghost use Rattle.cms_edf.specs.Written.{writes_with};
 ghost use Rattle.cms_edf.specs.Erase.{IsLowest, bits_of, bits_without, without, HasNone, Halted, Updated, Keeps, Erases};
 ghost use Rattle.cms_edf.specs.declared.erase.SmallErase.TheVariants.{Device};
 
+use crate::blocks::copied;
 use crate::small::{LABEL, Small};
 use crate::written::directory_block;
 use cms_fields::{Entry, Label, Stamp, write_label};
 use cms_map::Map;
 use cms_world::{Failed, World};
-use std::alloc::{AllocError, Global};
+use std::alloc::Global;
 
 /// Why no file was erased.
 #[derive(Clone, Copy, Debug, PartialEq, Eq)]
@@ -64,15 +65,6 @@ fn take_one(alloc: Global, map: &mut Map) -> Result<u32, SmallErase>
             free: map.free_count(),
         })
     }
-}
-
-// The same elements.
-fn copied<T: Copy>(alloc: Global, from: &[T]) -> Result<Vec<T>, AllocError>
-    ensures { IfOk result (λ v. v.items ≡ from.now) }
-{
-    let mut copy = Vec::with_capacity(alloc, from.len())?;
-    copy.extend_from_slice(from)?;
-    Ok(copy)
 }
 
 impl Small {

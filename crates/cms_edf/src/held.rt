@@ -13,7 +13,7 @@ use cms_names::{Format, Name};
 use indexmap::IndexMap;
 use std::marker::Model;
 
-/// The blocks of a tree: its data blocks in order, and its pointer blocks in preorder.
+/// The blocks of a tree: its data blocks in order, and its pointer blocks.
 #[derive(Drop)]
 pub struct TreeBlocks {
     pub leaves: Vec<u32>,
@@ -152,7 +152,7 @@ pub struct Held {
 }
 
 impl Model for Held {
-    ghost use Rattle.std.specs.Prelude.{◌≡◌};
+    ghost use Rattle.std.specs.Prelude.{◌≡◌, length};
     ghost use Rattle.indexmap.specs.IndexMap.{values, spare};
     ghost use Rattle.cms_edf.specs.Opening.{Holding, by_name};
     ghost use Rattle.cms_edf.specs.Kept.{IsKept};
@@ -175,7 +175,7 @@ impl Model for Held {
     } };
 
     ghost invariant = { λ h. (h.files.entries ≡ by_name (values h.files))
-        × IsKept h.bsize h.blocks h.label.blocks h.map (values h.files) };
+        × IsKept h.bsize h.blocks h.label (length h.label_bytes.items) h.map (values h.files) };
 }
 
 impl Held {

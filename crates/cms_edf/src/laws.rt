@@ -1,8 +1,9 @@
 // What holds of every volume that is held.
+ghost use Rattle.cms_edf.specs.Carrying.{LackingIsFull, PlannedIsCarried};
 ghost use Rattle.cms_edf.specs.HeldAs.{OpenedHasHeld};
-ghost use Rattle.cms_edf.specs.LawsEdits.{DropEdits, RenameEdits};
+ghost use Rattle.cms_edf.specs.LawsEdits.{DropEdits, EditIsAnswered, RelabelIsHeld, RenameEdits, RenewedIsChanged};
 ghost use Rattle.cms_edf.specs.LawsHeld.{OpenedHasRoom, OpenedIsHeld, PlaceIsTold};
-ghost use Rattle.cms_edf.specs.LawsRenewing.{UpdateRenews};
+ghost use Rattle.cms_edf.specs.LawsRenewing.{FrontKeepsHeld, UpdateRenews};
 ghost use Rattle.cms_edf.specs.Systems.{MapIsRead, WrittenIsRead};
 
 /// What opens is held with its trees, and what is held so is the minidisk that it is, with its files and their records in their order;
@@ -16,15 +17,27 @@ pub fn held_laws()
 {}
 
 /// An update of a volume as it is held: a crash leaves the old volume or the new one at every moment, and in the end the new one, which is
-/// held as the renewed one. Where a file goes or has another name, that is the minidisk after the change.
+/// held as the renewed one. Where a file goes or has another name, that is the minidisk after the change, which is made exactly where
+/// the new directory and map have room.
 pub fn renewal_laws()
+    ensures kept { FrontKeepsHeld }
     ensures renews { UpdateRenews }
     ensures dropped { DropEdits }
     ensures renamed { RenameEdits }
+    ensures changed { RenewedIsChanged }
+    ensures answered { EditIsAnswered }
+    ensures relabelled { RelabelIsHeld }
 {}
 
 /// The directory, the map and the label that an update writes are read again, and the map says what it said.
 pub fn systems_laws()
     ensures written { WrittenIsRead }
     ensures map { MapIsRead }
+{}
+
+/// An update that was planned for a held minidisk and a change, carried out, is the change: at every moment each crash image is the old
+/// minidisk or the new, up to the label's write the old is held, and in the end the new one is. Where there is no room, the change is full.
+pub fn carrying_laws()
+    ensures carried { PlannedIsCarried }
+    ensures full { LackingIsFull }
 {}

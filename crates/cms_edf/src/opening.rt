@@ -1,5 +1,5 @@
 // Any volume is opened.
-ghost use Rattle.std.specs.Prelude.{◌≡◌, ◌⊎◌, ◌≤◌, ◌<◌, IfOk, IfErr};
+ghost use Rattle.std.specs.Prelude.{◌≡◌, ◌⊎◌, ◌≤◌, ◌<◌, length, IfOk, IfErr};
 ghost use Rattle.std.specs.Option.{ForSome};
 ghost use Rattle.cms_journal.specs.Causes.{Rose};
 ghost use Rattle.cms_journal.specs.Journal.{HasBlocks, contents_of};
@@ -58,6 +58,7 @@ fn open_labelled<W: World>(
     requires origin { (label.origin ≡ 4) ⊎ (label.origin ≡ 5) }
     requires total { 6 ≤ label.blocks }
     requires within { label.blocks ≤ unit.now.blocks }
+    requires long { length label_bytes.items ≡ bsize }
     requires bytes { OfImage (W.told world.old) unit.now.number (λ image. label_bytes.items ≡ image 3) }
     requires blocks { ForSome (W.told world.old) (λ j. HasBlocks j.units unit.now.number unit.now.blocks bsize) }
     ensures read { IfOk result (λ held. OfImage (W.told world.old) unit.now.number (λ image.

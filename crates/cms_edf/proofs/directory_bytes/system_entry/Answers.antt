@@ -12,9 +12,9 @@ over at field f bytes b new is field_is bytes_is = rw (← field_is, ← bytes_i
 pub returns : goal.returns
 unfolding system_entry
 returns c =
-    let f = c.args.file.now in
+    let f = c.file.inside in
     let date : c.put_stamp.new.into ≡ stamp_bytes c.args.stamp.now = c.put_stamp.ensures ∙ append-nil (stamp_bytes c.args.stamp.now) in
-    over 54 _ _ _ _ _ c.put-5.ensures date
+    rw (← c.file.view_is) (over 54 _ _ _ _ _ c.put-5.ensures date
     (over 52 (f.levels ∷ 4 ∷ []) (f.levels ∷ 4 ∷ []) _ _ _ c.put-4.ensures refl
     (over 48 (big_bytes 4 f.count) (big_bytes 4 f.count) _ _ _ c.put_word-4.ensures refl
     (over 44 (big_bytes 4 f.blocks) (big_bytes 4 f.blocks) _ _ _ c.put_word-3.ensures refl
@@ -22,4 +22,4 @@ returns c =
     (over 32 (big_bytes 4 c.args.size) (big_bytes 4 c.args.size) _ _ _ c.put_word.ensures refl
     (over 30 (0xC6 ∷ []) (0xC6 ∷ []) _ _ _ c.put-3.ensures refl
     (over 24 (0xC1 ∷ 0xF1 ∷ []) (0xC1 ∷ 0xF1 ∷ []) _ _ _ c.put-2.ensures refl
-    (over 0 c.args.name.now c.args.name.now _ _ _ c.put.ensures refl refl))))))))
+    (over 0 c.args.name.now c.args.name.now _ _ _ c.put.ensures refl refl)))))))))

@@ -1,4 +1,7 @@
+use Rattle.cms_edf.proofs.Keeping.{front_keeps_held}
+use Rattle.cms_edf.proofs.Relabelling.{relabel_is_held}
 use Rattle.cms_edf.proofs.Renewals.{update_renews}
+use Rattle.cms_edf.proofs.Answering.{edit_is_answered, renewed_is_changed}
 use Rattle.cms_edf.proofs.Edits.{drop_edits, rename_edits}
 use Rattle.cms_edf.proofs.laws.renewal_laws.Goals as goal
 
@@ -10,3 +13,15 @@ returns-clause-dropped c = drop_edits
 
 pub returns-clause-renamed : goal.returns-clause-renamed
 returns-clause-renamed c = rename_edits
+
+pub returns-clause-changed : goal.returns-clause-changed
+returns-clause-changed c = renewed_is_changed
+
+pub returns-clause-answered : goal.returns-clause-answered
+returns-clause-answered c = edit_is_answered
+
+pub returns-clause-relabelled : goal.returns-clause-relabelled
+returns-clause-relabelled c = relabel_is_held
+
+pub returns-clause-kept : goal.returns-clause-kept
+returns-clause-kept c = front_keeps_held
