@@ -69,13 +69,15 @@ pub wrote_none : (old : Told) (u : ℕ) → old ≡ plus old (writes u [])
 unfolding writes
 wrote_none old u = refl
 
-pub wrote_next : (old mid new : Told) (u : ℕ) (ws : List Write) (k : ℕ) (w : Write) → IsWriteAt ws k w → mid ≡ plus old (writes u (take k ws)) → new ≡ adds (Wrote u w.block w.bytes) mid → new ≡ plus old (writes u (take (k + 1) ws))
+pub wrote_next : (old mid new : Told) (u : ℕ) (ws : List Write) (k : ℕ) (w : Write) → IsWriteAt ws k w → mid ≡ plus old (writes u (take k ws)) → new ≡ adds (Wrote u w.block w.bytes) mid
+    → new ≡ plus old (writes u (take (k + 1) ws))
 unfolding writes
 wrote_next old mid new u ws k w at before after =
     wrote_behind old mid new u (take k ws) (w ∷ []) before after ∙ ap (λ (l : List Write). plus old (writes u l)) (sym (more_by_one ws k w at))
 
 -- the write at a place failed
-pub failed_next : (old mid new : Told) (u : ℕ) (ws : List Write) (k : ℕ) (w : Write) → IsWriteAt ws k w → mid ≡ plus old (writes u (take k ws)) → MayAdd (Wrote u w.block w.bytes) mid new → AddsFront old new (writes u ws)
+pub failed_next : (old mid new : Told) (u : ℕ) (ws : List Write) (k : ℕ) (w : Write) → IsWriteAt ws k w → mid ≡ plus old (writes u (take k ws)) → MayAdd (Wrote u w.block w.bytes) mid new
+    → AddsFront old new (writes u ws)
 unfolding writes
 failed_next old mid new u ws k w at before may =
     let whole : take (k + 1) ws ++ drop (k + 1) ws ≡ ws = take-append-drop (k + 1) ws in
@@ -97,11 +99,13 @@ unfolding writes
 label_failed old synced new u label sync (inl same) = inl (same ∙ sync)
 label_failed old synced new u label sync (inr more) = inr (more ∙ ap (adds (Wrote u 3 label)) sync)
 
-pub last_failed : (old synced labelled new : Told) (u : ℕ) (label : List ℕ) → synced ≡ adds (Synced u) old → labelled ≡ adds (Wrote u 3 label) synced → new ≡ labelled → IsCutOff old new u [] label Either
+pub last_failed : (old synced labelled new : Told) (u : ℕ) (label : List ℕ) → synced ≡ adds (Synced u) old → labelled ≡ adds (Wrote u 3 label) synced → new ≡ labelled
+    → IsCutOff old new u [] label Either
 unfolding writes
 last_failed old synced labelled new u label sync wrote same = inr (same ∙ wrote ∙ ap (adds (Wrote u 3 label)) sync)
 
-pub all_confirmed : (old synced labelled new : Told) (u : ℕ) (label : List ℕ) → synced ≡ adds (Synced u) old → labelled ≡ adds (Wrote u 3 label) synced → new ≡ adds (Synced u) labelled → new ≡ plus old (update u [] label)
+pub all_confirmed : (old synced labelled new : Told) (u : ℕ) (label : List ℕ) → synced ≡ adds (Synced u) old → labelled ≡ adds (Wrote u 3 label) synced → new ≡ adds (Synced u) labelled
+    → new ≡ plus old (update u [] label)
 unfolding writes update
 all_confirmed old synced labelled new u label sync wrote last = last ∙ ap (adds (Synced u)) (wrote ∙ ap (adds (Wrote u 3 label)) sync)
 

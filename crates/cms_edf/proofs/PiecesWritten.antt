@@ -40,7 +40,8 @@ has_behind image [] more has = has
 has_behind image (w ∷ ws) more has = has_behind image ws more has.1
 
 -- the block at a place
-pub has_block : (image : Image) (ns : List ℕ) (pieces : List (List ℕ)) (k : ℕ) → HasWritten image (block_writes ns pieces) → k < length ns → k < length pieces → image (get_or ns k 0) ≡ get_or pieces k []
+pub has_block : (image : Image) (ns : List ℕ) (pieces : List (List ℕ)) (k : ℕ) → HasWritten image (block_writes ns pieces) → k < length ns → k < length pieces
+    → image (get_or ns k 0) ≡ get_or pieces k []
 unfolding block_writes
 has_block image [] pieces k has less less' = absurd (omega arith)
 has_block image (n ∷ ns) [] k has less less' = absurd (omega arith)
@@ -112,21 +113,24 @@ length_writes [] pieces same = refl
 length_writes (n ∷ ns) [] same = absurd (omega arith)
 length_writes (n ∷ ns) (p ∷ pieces) same = ap suc (length_writes ns pieces (omega arith))
 
-get_writes : (ns : List ℕ) (pieces : List (List ℕ)) (k : ℕ) (d : Write) → k < length ns → k < length pieces → get_or (block_writes ns pieces) k d ≡ record { block = get_or ns k 0; bytes = get_or pieces k [] }
+get_writes : (ns : List ℕ) (pieces : List (List ℕ)) (k : ℕ) (d : Write) → k < length ns → k < length pieces
+    → get_or (block_writes ns pieces) k d ≡ record { block = get_or ns k 0; bytes = get_or pieces k [] }
 unfolding block_writes
 get_writes [] pieces k d less less' = absurd (omega arith)
 get_writes (n ∷ ns) [] k d less less' = absurd (omega arith)
 get_writes (n ∷ ns) (p ∷ pieces) zero d less less' = refl
 get_writes (n ∷ ns) (p ∷ pieces) (suc k) d less less' = get_writes ns pieces k d (omega arith) (omega arith)
 
-pub write_at : (ns : List ℕ) (pieces : List (List ℕ)) (k : ℕ) (piece : List ℕ) → length pieces ≡ length ns → k < length ns → get_or pieces k [] ≡ piece → IsWriteAt (block_writes ns pieces) k (record { block = get_or ns k 0; bytes = piece })
+pub write_at : (ns : List ℕ) (pieces : List (List ℕ)) (k : ℕ) (piece : List ℕ) → length pieces ≡ length ns → k < length ns → get_or pieces k [] ≡ piece
+    → IsWriteAt (block_writes ns pieces) k (record { block = get_or ns k 0; bytes = piece })
 write_at ns pieces k piece same less is = record {
   within = (let e = length_writes ns pieces same in omega arith);
   is = λ d. get_writes ns pieces k d less (omega arith) ∙ ap (λ (b : List ℕ). record { block = get_or ns k 0; bytes = b }) is;
 }
 
 -- the piece at a place of bytes that are cut
-pub piece_at : (ns : List ℕ) (size : ℕ) (bytes : List ℕ) (k : ℕ) → k < length ns → IsWriteAt (block_writes ns (cut (length ns) size bytes)) k (record { block = get_or ns k 0; bytes = take (k * size + size - k * size) (drop (k * size) bytes) })
+pub piece_at : (ns : List ℕ) (size : ℕ) (bytes : List ℕ) (k : ℕ) → k < length ns
+    → IsWriteAt (block_writes ns (cut (length ns) size bytes)) k (record { block = get_or ns k 0; bytes = take (k * size + size - k * size) (drop (k * size) bytes) })
 piece_at ns size bytes k less =
     let e : k * size + size - k * size ≡ size = omega arith in
     write_at ns (cut (length ns) size bytes) k (take (k * size + size - k * size) (drop (k * size) bytes)) (length_cut (length ns) size bytes) less
@@ -188,8 +192,10 @@ bytes_part n size k bits less =
     ap (λ (m : ℕ). bytes_from 0 m bits) (sym e) ∙ bytes_both 0 (k * size) (size + rest) bits ∙ ap (λ (m : ℕ). bytes_from 0 (k * size) bits ++ bytes_from m (size + rest) bits) f
     ∙ ap (λ (l : List ℕ). bytes_from 0 (k * size) bits ++ l) (bytes_both (k * size) size rest bits) in
     let behind = bytes_from (k * size) size bits ++ bytes_from (k * size + size) rest bits in
-    let dropped : drop (k * size) (bytes_from 0 (n * size) bits) ≡ behind = ap (drop (k * size)) split ∙ subst (λ (m : ℕ). drop m (bytes_from 0 (k * size) bits ++ behind) ≡ behind) (length_bytes 0 (k * size) bits) (drop-append_seam (bytes_from 0 (k * size) bits) behind) in
-    ap (take size) dropped ∙ subst (λ (m : ℕ). take m behind ≡ bytes_from (k * size) size bits) (length_bytes (k * size) size bits) (take-append_seam (bytes_from (k * size) size bits) (bytes_from (k * size + size) rest bits))
+    let dropped : drop (k * size) (bytes_from 0 (n * size) bits) ≡ behind = ap (drop (k * size)) split ∙ subst (λ (m : ℕ). drop m (bytes_from 0 (k * size) bits ++ behind) ≡ behind)
+    (length_bytes 0 (k * size) bits) (drop-append_seam (bytes_from 0 (k * size) bits) behind) in
+    ap (take size) dropped ∙ subst (λ (m : ℕ). take m behind ≡ bytes_from (k * size) size bits) (length_bytes (k * size) size bits)
+    (take-append_seam (bytes_from (k * size) size bits) (bytes_from (k * size + size) rest bits))
 
 pub map_written_at : (ns : List ℕ) (size : ℕ) (bits : List Bool) (k : ℕ) → k < length ns
     → IsWriteAt (block_writes ns (cut (length ns) size (bytes_from 0 (length ns * size) bits))) k (record { block = get_or ns k 0; bytes = bytes_from (k * size) size bits })

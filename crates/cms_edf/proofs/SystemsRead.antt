@@ -41,7 +41,8 @@ use Rattle.cms_edf.proofs.PiecesWritten.{has_front, has_behind, has_block, piece
 
 -- ---- the entries of files
 
-entries_back : (bsize number : ℕ) (es : List Entry) (zeros : List ℕ) → All (λ e. passes bsize e ≡ true) es → All ReadsBack es → entries_of bsize number (cut (length es) 64 (file_entries es ++ zeros)) ≡ Ok es
+entries_back : (bsize number : ℕ) (es : List Entry) (zeros : List ℕ) → All (λ e. passes bsize e ≡ true) es → All ReadsBack es
+    → entries_of bsize number (cut (length es) 64 (file_entries es ++ zeros)) ≡ Ok es
 unfolding entries_of cut file_entries
 entries_back bsize number [] zeros each back = refl
 entries_back bsize number (e ∷ es) zeros each back =
@@ -106,12 +107,14 @@ fields_are : (size : ℕ) (file : SystemFile) (bytes : List ℕ) → Says size f
 unfolding system_fields
 fields_are size file bytes says = rw (says.root_is, says.blocks_is, says.count_is, says.levels_is) refl
 
-is_system_from : (bsize size : ℕ) (file : SystemFile) (bytes : List ℕ) → Says size file bytes → file.blocks ≡ up (file.count * size) bsize → is_shape (bsize / 4) file.blocks file.levels ≡ true → is_system bsize size bytes ≡ true
+is_system_from : (bsize size : ℕ) (file : SystemFile) (bytes : List ℕ) → Says size file bytes → file.blocks ≡ up (file.count * size) bsize → is_shape (bsize / 4) file.blocks file.levels ≡ true
+    → is_system bsize size bytes ≡ true
 unfolding is_system
 is_system_from bsize size file bytes says blocks shape =
     rw (says.form, says.size_is, says.blocks_is, says.count_is, says.levels_is)
     (and_from ((0xC6 == 0xC6) && (size == size) && (file.blocks == up (file.count * size) bsize)) (is_shape (bsize / 4) file.blocks file.levels)
-    (and_from ((0xC6 == 0xC6) && (size == size)) (file.blocks == up (file.count * size) bsize) (and_from (0xC6 == 0xC6) (size == size) refl (eq-eqb size size refl)) (eq-eqb file.blocks (up (file.count * size) bsize) blocks))
+    (and_from ((0xC6 == 0xC6) && (size == size)) (file.blocks == up (file.count * size) bsize) (and_from (0xC6 == 0xC6) (size == size) refl (eq-eqb size size refl))
+    (eq-eqb file.blocks (up (file.count * size) bsize) blocks))
     shape)
 
 is_directory_from : (bsize origin : ℕ) (file : SystemFile) (bytes : List ℕ) → Says 64 file bytes → file.blocks ≡ up (file.count * 64) bsize → is_shape (bsize / 4) file.blocks file.levels ≡ true
@@ -199,7 +202,8 @@ root_first bsize origin t more size is few numbers =
 -- ---- the whole
 
 -- a file of the first pieces and of those behind them
-pieces_whole : (image : Image) (ns : List ℕ) (pieces : List (List ℕ)) → HasWritten image (block_writes (drop 1 ns) (drop 1 pieces)) → HasWritten image (block_writes (take 1 ns) (take 1 pieces)) → HasWritten image (block_writes ns pieces)
+pieces_whole : (image : Image) (ns : List ℕ) (pieces : List (List ℕ)) → HasWritten image (block_writes (drop 1 ns) (drop 1 pieces)) → HasWritten image (block_writes (take 1 ns) (take 1 pieces))
+    → HasWritten image (block_writes ns pieces)
 unfolding block_writes
 pieces_whole image [] pieces behind first = tt
 pieces_whole image (n ∷ ns) [] behind first = tt
@@ -231,7 +235,8 @@ directory_long own map' files count whole own_long map_long files_long room =
     let d : length zeros ≡ whole - 64 * (count + 2) = length-replicate {A = ℕ} (whole - 64 * (count + 2)) 0 in
     omega arith
 
-first_read : (image : Image) (leaves more : List ℕ) (origin size : ℕ) (bytes : List ℕ) → leaves ≡ origin ∷ more → HasWritten image (block_writes leaves (cut (length leaves) size bytes)) → image origin ≡ take size bytes
+first_read : (image : Image) (leaves more : List ℕ) (origin size : ℕ) (bytes : List ℕ) → leaves ≡ origin ∷ more → HasWritten image (block_writes leaves (cut (length leaves) size bytes))
+    → image origin ≡ take size bytes
 unfolding block_writes cut
 first_read image [] more origin size bytes is has = absurd (let e = ap length is in omega arith)
 first_read image (n ∷ ns) more origin size bytes is has = ap image (ap (λ (l : List ℕ). get_or l 0 0) (sym is)) ∙ has.0
@@ -273,7 +278,8 @@ written_is_read disk image s entries stamp l ok bytes_is label_is has =
     let rest_of = has_behind image (block_writes (drop 1 leaves) (drop 1 (directory_pieces bsize s))) _ has in
     let nodes_has = has_front image (node_writes bsize s.directory) _ rest_of in
     let from_map = has_behind image (node_writes bsize s.directory) _ rest_of in
-    let dt = tree_read bsize last (Some origin) origin s.directory image l.size some leaves_few few l.directory_nodes words (first_allowed last origin leaves l.first.0 l.first.1 l.first.2) l.directory_within nodes_has in
+    let dt = tree_read bsize last (Some origin) origin s.directory image l.size some leaves_few few l.directory_nodes words (first_allowed last origin leaves l.first.0 l.first.1 l.first.2)
+    l.directory_within nodes_has in
     -- the map's tree
     let part = all_parts last s.map.leaves s.map.pointers l.map_within in
     let bytes_some = up_some last 8 (omega arith) (omega arith) in
@@ -293,26 +299,33 @@ written_is_read disk image s entries stamp l ok bytes_is label_is has =
     let own_long = directory_entry_long 64 (directory_file bsize s count) stamp in
     let map_long = map_entry_long bsize (map_file bsize s) stamp in
     let whole : s.directory_bytes ≡ own ++ (map' ++ tail) = bytes_is in
-    let long : length s.directory_bytes ≡ length leaves * bsize = ap length whole ∙ directory_long own map' (file_entries entries) count (length leaves * bsize) own_long map_long (length_entries entries l.back) held in
+    let long : length s.directory_bytes ≡ length leaves * bsize = ap length whole ∙ directory_long own map' (file_entries entries) count (length leaves * bsize) own_long map_long
+    (length_entries entries l.back) held in
     let pieces_has = pieces_whole image leaves (directory_pieces bsize s) (has_front image (block_writes (drop 1 leaves) (drop 1 (directory_pieces bsize s))) _ has) first_has in
-    let joined : bytes_at image leaves ≡ own ++ (map' ++ tail) = pieces_joined image leaves bsize s.directory_bytes pieces_has ∙ take_all (length leaves * bsize) s.directory_bytes (omega arith) ∙ whole in
-    let first : image origin ≡ own ++ (map' ++ take (bsize - 128) tail) = first_read image leaves l.first.0 origin bsize s.directory_bytes l.first.1 pieces_has ∙ ap (take bsize) whole ∙ first_block bsize own map' tail low own_long map_long in
+    let joined : bytes_at image leaves ≡ own ++ (map' ++ tail) = pieces_joined image leaves bsize s.directory_bytes pieces_has ∙ take_all (length leaves * bsize) s.directory_bytes (omega arith)
+    ∙ whole in
+    let first : image origin ≡ own ++ (map' ++ take (bsize - 128) tail) = first_read image leaves l.first.0 origin bsize s.directory_bytes l.first.1 pieces_has ∙ ap (take bsize) whole
+    ∙ first_block bsize own map' tail low own_long map_long in
     let second : drop 64 (image origin) ≡ map' ++ take (bsize - 128) tail = ap (drop 64) first ∙ behind_one own (map' ++ take (bsize - 128) tail) own_long in
     -- what they say
     let own_fits : Fits (directory_file bsize s count) = record { root = root_word leaves s.directory.pointers some words pointers_words; blocks = leaves_few; count = omega arith } in
     let map_fits : Fits (map_file bsize s) = record { root = root_word s.map.leaves s.map.pointers map_some map_words map_pointers_words; blocks = map_few; count = map_few } in
-    let own_says : Says 64 (directory_file bsize s count) (image origin) = subst (Says 64 (directory_file bsize s count)) (sym first) (directory_says 64 (directory_file bsize s count) stamp (map' ++ take (bsize - 128) tail) (omega arith) own_fits) in
-    let map_says' : Says bsize (map_file bsize s) (drop 64 (image origin)) = subst (Says bsize (map_file bsize s)) (sym second) (map_says bsize (map_file bsize s) stamp (take (bsize - 128) tail) (omega arith) map_fits) in
+    let own_says : Says 64 (directory_file bsize s count) (image origin) = subst (Says 64 (directory_file bsize s count)) (sym first)
+    (directory_says 64 (directory_file bsize s count) stamp (map' ++ take (bsize - 128) tail) (omega arith) own_fits) in
+    let map_says' : Says bsize (map_file bsize s) (drop 64 (image origin)) = subst (Says bsize (map_file bsize s)) (sym second)
+    (map_says bsize (map_file bsize s) stamp (take (bsize - 128) tail) (omega arith) map_fits) in
     let turned : (count + 2) * 64 ≡ 64 * (count + 2) = omega arith in
     let own_blocks : length leaves ≡ up ((count + 2) * 64) bsize = l.directory_count ∙ ap (λ (n : ℕ). up n bsize) (sym turned) in
     let map_blocks : length s.map.leaves ≡ up (length s.map.leaves * bsize) bsize = up_unique (length s.map.leaves * bsize) bsize (length s.map.leaves) (omega arith) (omega arith) (omega arith) in
-    let own_is = is_directory_from bsize origin (directory_file bsize s count) (image origin) own_says own_blocks dt.shape (omega arith) (omega arith) (root_first bsize origin s.directory l.first.0 l.size l.first.1 leaves_few l.directory_nodes) in
+    let own_is = is_directory_from bsize origin (directory_file bsize s count) (image origin) own_says own_blocks dt.shape (omega arith) (omega arith)
+    (root_first bsize origin s.directory l.first.0 l.size l.first.1 leaves_few l.directory_nodes) in
     let map_is' = is_map_from bsize last (map_file bsize s) (drop 64 (image origin)) map_says' map_blocks mt.shape l.map_count in
     let less : count + 2 - 2 ≡ count = omega arith in
     let spelled : entries_of bsize 2 (cut (count + 2 - 2) 64 (drop 128 (bytes_at image dt.met.leaves))) ≡ Ok entries =
     rw (less, dt.leaves_are, joined, behind_two own map' tail own_long map_long) (entries_back bsize 2 entries (replicate (length leaves * bsize - 64 * (count + 2)) 0) l.each l.back) in
     let map_joined : bytes_at image s.map.leaves ≡ bytes_from 0 (length s.map.leaves * bsize) s.bits =
-    pieces_joined image s.map.leaves bsize (bytes_from 0 (length s.map.leaves * bsize) s.bits) map_has ∙ take_all (length s.map.leaves * bsize) (bytes_from 0 (length s.map.leaves * bsize) s.bits) (let e = length_map_bytes (length s.map.leaves * bsize) s.bits in omega arith) in
+    pieces_joined image s.map.leaves bsize (bytes_from 0 (length s.map.leaves * bsize) s.bits) map_has ∙ take_all (length s.map.leaves * bsize) (bytes_from 0 (length s.map.leaves * bsize) s.bits)
+    (let e = length_map_bytes (length s.map.leaves * bsize) s.bits in omega arith) in
     record {
       directory = dt.met;
       map = mt.met;
@@ -329,6 +342,25 @@ written_is_read disk image s entries stamp l ok bytes_is label_is has =
       map_is = record { leaves = sym mt.leaves_are; blocks = mt.blocks_are };
       map_bytes = ap (bytes_at image) mt.leaves_are ∙ map_joined;
     }
+
+-- a directory whose parts were joined
+pub directory_is : (bsize : ℕ) (s : Systems) (entries : List Entry) (stamp : Stamp) (files all : List ℕ) → All ReadsBack entries
+    → files ≡ (system_entry directory_name 64 (directory_file bsize s (length entries)) stamp ++ system_entry map_name bsize (map_file bsize s) stamp) ++ file_entries entries
+    → all ≡ files ++ replicate (length s.directory.leaves * bsize - length files) 0 → all ≡ directory_bytes_of bsize s entries stamp
+unfolding directory_bytes_of
+directory_is bsize s entries stamp files all back is_files is =
+    let own : List ℕ = system_entry directory_name 64 (directory_file bsize s (length entries)) stamp in
+    let map' : List ℕ = system_entry map_name bsize (map_file bsize s) stamp in
+    let own_long : length own ≡ 64 = directory_entry_long 64 (directory_file bsize s (length entries)) stamp in
+    let map_long : length map' ≡ 64 = map_entry_long bsize (map_file bsize s) stamp in
+    let a = length-append (own ++ map') (file_entries entries) in
+    let b = length-append own map' in
+    let c = length_entries entries back in
+    let count : length files ≡ 64 * (length entries + 2) = ap length is_files ∙ (omega arith) in
+    is ∙ rw (count, is_files) (regroup own map' (file_entries entries) (replicate (length s.directory.leaves * bsize - 64 * (length entries + 2)) 0))
+  where
+    regroup : (a b c d : List ℕ) → ((a ++ b) ++ c) ++ d ≡ a ++ (b ++ (c ++ d))
+    regroup a b c d = simp append_assoc
 
 pub map_is_read : MapIsRead
 map_is_read disk image s entries l reads =

@@ -13,27 +13,32 @@ use Rattle.cms_edf.proofs.CutOff.{wrote_behind, failed_behind, failed_before}
 
 -- ---- the parts as they are cut
 
-rest_go : (bsize : ℕ) (leaves all : List ℕ) → block_writes (drop 1 leaves) (cut (length (drop 1 leaves)) bsize (drop bsize all)) ≡ block_writes (drop 1 leaves) (drop 1 (cut (length leaves) bsize all))
+rest_go : (bsize : ℕ) (leaves all : List ℕ) → block_writes (drop 1 leaves) (cut (length (drop 1 leaves)) bsize (drop bsize all)) ≡ block_writes (drop 1 leaves)
+    (drop 1 (cut (length leaves) bsize all))
 unfolding block_writes cut
 rest_go bsize [] all = refl
 rest_go bsize (n ∷ leaves) all = refl
 
-pub rest_is : (bsize : ℕ) (leaves all ns bytes : List ℕ) → ns ≡ drop 1 leaves → bytes ≡ drop bsize all → block_writes ns (cut (length ns) bsize bytes) ≡ block_writes (drop 1 leaves) (drop 1 (cut (length leaves) bsize all))
+pub rest_is : (bsize : ℕ) (leaves all ns bytes : List ℕ) → ns ≡ drop 1 leaves → bytes ≡ drop bsize all → block_writes ns (cut (length ns) bsize bytes) ≡ block_writes (drop 1 leaves)
+    (drop 1 (cut (length leaves) bsize all))
 rest_is bsize leaves all ns bytes is_ns is_bytes = rw (is_ns, is_bytes) (rest_go bsize leaves all)
 
-first_go : (bsize : ℕ) (leaves all : List ℕ) → block_writes (take 1 leaves) (cut (length (take 1 leaves)) bsize (take bsize all)) ≡ block_writes (take 1 leaves) (take 1 (cut (length leaves) bsize all))
+first_go : (bsize : ℕ) (leaves all : List ℕ) → block_writes (take 1 leaves) (cut (length (take 1 leaves)) bsize (take bsize all)) ≡ block_writes (take 1 leaves)
+    (take 1 (cut (length leaves) bsize all))
 unfolding block_writes cut
 first_go bsize [] all = refl
 first_go bsize (n ∷ leaves) all = let long = length-take bsize all in rw (take_all bsize (take bsize all) (omega arith)) refl
 
-pub first_is : (bsize : ℕ) (leaves all ns bytes : List ℕ) → ns ≡ take 1 leaves → bytes ≡ take bsize all → block_writes ns (cut (length ns) bsize bytes) ≡ first_writes bsize (record { leaves = leaves; pointers = [] }) all
+pub first_is : (bsize : ℕ) (leaves all ns bytes : List ℕ) → ns ≡ take 1 leaves → bytes ≡ take bsize all → block_writes ns (cut (length ns) bsize bytes) ≡ first_writes bsize
+    (record { leaves = leaves; pointers = [] }) all
 first_is bsize leaves all ns bytes is_ns is_bytes = rw (is_ns, is_bytes) (first_go bsize leaves all)
 
 pub map_is : (bsize : ℕ) (leaves ns : List ℕ) (bits : List Bool) → ns ≡ leaves
     → block_writes ns (cut (length ns) bsize (bytes_from 0 (length ns * bsize) bits)) ≡ block_writes leaves (cut (length leaves) bsize (bytes_from 0 (length leaves * bsize) bits))
 map_is bsize leaves ns bits is = rw is refl
 
-pub nodes_are : (bsize : ℕ) (t : HeldTree) (leaves pointers : List ℕ) → leaves ≡ t.leaves → pointers ≡ t.pointers → node_writes bsize (record { leaves = leaves; pointers = pointers }) ≡ node_writes bsize t
+pub nodes_are : (bsize : ℕ) (t : HeldTree) (leaves pointers : List ℕ) → leaves ≡ t.leaves → pointers ≡ t.pointers
+    → node_writes bsize (record { leaves = leaves; pointers = pointers }) ≡ node_writes bsize t
 nodes_are bsize t leaves pointers is_leaves is_pointers = rw (is_leaves, is_pointers) refl
 
 -- ---- one part behind another
@@ -54,7 +59,8 @@ pub wrote_two : (old mid new : Told) (u : ℕ) (a b done more : List Write) → 
 wrote_two old mid new u a b done more is_a is_b w f = wrote_behind old mid new u a b (subst (Wrote old mid u) is_a w) (subst (Wrote mid new u) is_b f)
 
 -- the parts joined are an update's writes
-pub parts_are : (bsize : ℕ) (s : Systems) → directory_writes bsize s.directory s.directory_bytes ++ (map_writes bsize s.map s.bits ++ first_writes bsize s.directory s.directory_bytes) ≡ system_writes bsize s
+pub parts_are : (bsize : ℕ) (s : Systems) → directory_writes bsize s.directory s.directory_bytes ++ (map_writes bsize s.map s.bits ++ first_writes bsize s.directory s.directory_bytes) ≡
+    system_writes bsize s
 parts_are bsize s =
     let rest = block_writes (drop 1 s.directory.leaves) (drop 1 (cut (length s.directory.leaves) bsize s.directory_bytes)) in
     let nodes = node_writes bsize s.directory in

@@ -28,8 +28,8 @@ IsCutOff old new unit ws label Either = (new ≡ plus old (to_label unit ws)) �
 abbrev pub IsBlockOf : ℕ → ℕ → Type 0
 IsBlockOf total n = (1 ≤ n) × (n ≤ total)
 
--- what is held to be written has whole blocks: the label one, the directory as many as it has numbers; each tree has the pointer blocks that
--- its size says, and all numbers are blocks of the volume
+-- what is held to be written has whole blocks: the label one, the directory as many as it has numbers; each tree has the pointer blocks
+-- that its size says, and all numbers are blocks of the volume
 pub record IsReady (bsize : ℕ) (s : Systems) : Type 0 where
   pub size : IsBlockSize bsize
   pub label_long : length s.label_bytes ≡ bsize
@@ -50,7 +50,8 @@ abbrev pub directory_writes : ℕ → HeldTree → List ℕ → List Write
 directory_writes bsize t bytes = block_writes (drop 1 t.leaves) (drop 1 (cut (length t.leaves) bsize bytes)) ++ node_writes bsize t
 
 abbrev pub map_writes : ℕ → HeldTree → List Bool → List Write
-map_writes bsize t bits = block_writes t.leaves (cut (length t.leaves) bsize (bytes_from 0 (length t.leaves * bsize) bits)) ++ node_writes bsize t
+map_writes bsize t bits = block_writes t.leaves (cut (length t.leaves) bsize (bytes_from 0 (length t.leaves * bsize) bits))
+    ++ node_writes bsize t
 
 abbrev pub first_writes : ℕ → HeldTree → List ℕ → List Write
 first_writes bsize t bytes = block_writes (take 1 t.leaves) (take 1 (cut (length t.leaves) bsize bytes))

@@ -51,7 +51,8 @@ map_file bsize s = file_at bsize s.map (length s.map.leaves)
 unfoldable pub system_entry : List ℕ → ℕ → SystemFile → Stamp → List ℕ
 system_entry name size file stamp =
     filled_in ((0, name) ∷ (24, 0xC1 ∷ 0xF1 ∷ []) ∷ (30, 0xC6 ∷ []) ∷ (32, big_bytes 4 size) ∷ (40, big_bytes 4 file.root)
-    ∷ (44, big_bytes 4 file.blocks) ∷ (48, big_bytes 4 file.count) ∷ (52, file.levels ∷ 4 ∷ []) ∷ (54, stamp_bytes stamp) ∷ []) (replicate 64 0)
+    ∷ (44, big_bytes 4 file.blocks) ∷ (48, big_bytes 4 file.count) ∷ (52, file.levels ∷ 4 ∷ [])
+    ∷ (54, stamp_bytes stamp) ∷ []) (replicate 64 0)
 
 -- the bytes of a directory of these files: its own entry, the map's, the files', and zeros up to the end of its last block
 unfoldable pub directory_bytes_of : ℕ → Systems → List Entry → Stamp → List ℕ
@@ -77,8 +78,8 @@ map_pieces bsize s = cut (length s.map.leaves) bsize (bytes_from 0 (length s.map
 abbrev pub node_writes : ℕ → HeldTree → List Write
 node_writes bsize t = block_writes t.pointers (map (node_bytes bsize 4) (nodes_over (bsize / 4) t.leaves [] t.pointers))
 
--- the writes before the label's: the directory's data blocks but its first, its pointer blocks, the map's data blocks, its pointer blocks, and
--- the directory's first block
+-- the writes before the label's: the directory's data blocks but its first, its pointer blocks, the map's data blocks, its pointer
+-- blocks, and the directory's first block
 abbrev pub system_writes : ℕ → Systems → List Write
 system_writes bsize s =
     block_writes (drop 1 s.directory.leaves) (drop 1 (directory_pieces bsize s))
@@ -150,5 +151,5 @@ pub record SaysBits (total : ℕ) (bits : List Bool) (bytes : List ℕ) : Type 0
 -- the map that is read has the bits that were written
 abbrev pub MapIsRead : Type 0
 MapIsRead =
-    (disk : Disk) (image : Image) (s : Systems) (entries : List Entry) → IsLaidOut disk s entries → (reads : ReadsSystems disk image s entries)
-    → SaysBits s.label.blocks s.bits (bytes_at image reads.map.leaves)
+    (disk : Disk) (image : Image) (s : Systems) (entries : List Entry) → IsLaidOut disk s entries
+    → (reads : ReadsSystems disk image s entries) → SaysBits s.label.blocks s.bits (bytes_at image reads.map.leaves)

@@ -5,7 +5,6 @@ mod allotment;
 mod blocks;
 mod contents;
 mod directory;
-mod directory_bytes;
 mod doubt;
 mod editing;
 mod entries;

@@ -116,9 +116,11 @@ pub fn write_map<W: World>(
     requires blocks { ForSome (W.told world.old) (λ j. HasBlocks j.units target.now.unit target.now.total target.now.bsize) }
     requires writable { ForSome (W.told world.old) (λ j. IsWritable j.units target.now.unit) }
     ensures done { OnOk result (W.told world.new ≡ plus (W.told world.old) (writes target.now.unit
-        (block_writes blocks.now (cut (length blocks.now) target.now.bsize (bytes_from 0 (length blocks.now * target.now.bsize) map.now))))) }
+        (block_writes blocks.now (cut (length blocks.now) target.now.bsize
+        (bytes_from 0 (length blocks.now * target.now.bsize) map.now))))) }
     ensures failed { OnErr result (AddsFront (W.told world.old) (W.told world.new) (writes target.now.unit
-        (block_writes blocks.now (cut (length blocks.now) target.now.bsize (bytes_from 0 (length blocks.now * target.now.bsize) map.now))))) }
+        (block_writes blocks.now (cut (length blocks.now) target.now.bsize
+        (bytes_from 0 (length blocks.now * target.now.bsize) map.now))))) }
     ensures still { ForSome (W.told world.new) (λ j. HasBlocks j.units target.now.unit target.now.total target.now.bsize) }
     ensures writable { ForSome (W.told world.new) (λ j. IsWritable j.units target.now.unit) }
     ensures cause { HasCause (W.faults world.old) (W.faults world.new) result }

@@ -26,7 +26,8 @@ returns-in-Ok-clause-done g c =
     let rest = rest_is size t.leaves bytes ns part (rw c.leaves.ensures at c.split_at.ensures.back) (rw c.bytes.ensures.value at c.split_at-2.ensures.back) in
     let nodes = nodes_are size t c.leaves-in-Ok.result.now c.pointers.result.now c.leaves-in-Ok.ensures c.pointers.ensures in
     on_ok c.write_nodes.result _ _
-    (λ last. wrote_two (told c.args.world.now) (told c.write_pieces.new.world) (told c.write_nodes.new.world) c.args.target.now.unit (block_writes (drop 1 t.leaves) (drop 1 (cut (length t.leaves) size bytes))) (node_writes size t)
+    (λ last. wrote_two (told c.args.world.now) (told c.write_pieces.new.world) (told c.write_nodes.new.world) c.args.target.now.unit
+    (block_writes (drop 1 t.leaves) (drop 1 (cut (length t.leaves) size bytes))) (node_writes size t)
     (block_writes ns (cut (length ns) size part)) (node_writes size (record { leaves = c.leaves-in-Ok.result.now; pointers = c.pointers.result.now })) rest nodes c.in-Ok.ensures.done last)
     c.write_nodes.ensures.done
 
@@ -41,7 +42,8 @@ returns-in-Ok-clause-failed g c =
     let rest = rest_is size t.leaves bytes ns part (rw c.leaves.ensures at c.split_at.ensures.back) (rw c.bytes.ensures.value at c.split_at-2.ensures.back) in
     let nodes = nodes_are size t c.leaves-in-Ok.result.now c.pointers.result.now c.leaves-in-Ok.ensures c.pointers.ensures in
     on_err c.write_nodes.result _ _
-    (λ last. failed_two (told c.args.world.now) (told c.write_pieces.new.world) (told c.write_nodes.new.world) c.args.target.now.unit (block_writes (drop 1 t.leaves) (drop 1 (cut (length t.leaves) size bytes))) (node_writes size t)
+    (λ last. failed_two (told c.args.world.now) (told c.write_pieces.new.world) (told c.write_nodes.new.world) c.args.target.now.unit
+    (block_writes (drop 1 t.leaves) (drop 1 (cut (length t.leaves) size bytes))) (node_writes size t)
     (block_writes ns (cut (length ns) size part)) (node_writes size (record { leaves = c.leaves-in-Ok.result.now; pointers = c.pointers.result.now })) rest nodes c.in-Ok.ensures.done last)
     c.write_nodes.ensures.failed
 

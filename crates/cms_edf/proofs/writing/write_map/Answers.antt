@@ -25,7 +25,8 @@ returns-in-Err-clause-failed g c =
     let told = g.W.World.told in
     let t = c.args.target.now in
     let at = map_written_at c.args.blocks.now t.bsize c.args.map.now c.loop-place.place c.loop-place-test.true in
-    let made = made_at c.loop-place.place c.bytes-size.result t.bsize (length c.loop-place.block) c.args.map.now c.put_bytes.new.into c.put_bytes.ensures c.bytes-size.ensures.value (c.loop-place.auto.block ∙ c.requires.room) in
+    let made = made_at c.loop-place.place c.bytes-size.result t.bsize (length c.loop-place.block) c.args.map.now c.put_bytes.new.into c.put_bytes.ensures c.bytes-size.ensures.value
+    (c.loop-place.auto.block ∙ c.requires.room) in
     failed_next (told c.args.world.now) (told c.loop-place.world) (told c.write_block.new.self) t.unit _ c.loop-place.place _ at c.loop-place.invariant.told
     (rw made at c.in-Err.ensures.failed)
 
@@ -34,7 +35,8 @@ loop-place-preserved g c =
     let told = g.W.World.told in
     let t = c.args.target.now in
     let at = map_written_at c.args.blocks.now t.bsize c.args.map.now c.loop-place.place c.loop-place-test.true in
-    let made = made_at c.loop-place.place c.bytes-size.result t.bsize (length c.loop-place.block) c.args.map.now c.put_bytes.new.into c.put_bytes.ensures c.bytes-size.ensures.value (c.loop-place.auto.block ∙ c.requires.room) in
+    let made = made_at c.loop-place.place c.bytes-size.result t.bsize (length c.loop-place.block) c.args.map.now c.put_bytes.new.into c.put_bytes.ensures c.bytes-size.ensures.value
+    (c.loop-place.auto.block ∙ c.requires.room) in
     record {
       told = wrote_next (told c.args.world.now) (told c.loop-place.world) (told c.write_block.new.self) t.unit _ c.loop-place.place _ at c.loop-place.invariant.told
           (rw made at c.in-Ok.ensures.wrote);
@@ -49,8 +51,10 @@ returns-clause-done g c =
     let told = g.W.World.told in
     let t = c.args.target.now in
     let ns = c.args.blocks.now in
-    let long = length_writes ns (cut (length ns) t.bsize (bytes_from 0 (length ns * t.bsize) c.args.map.now)) (length_cut (length ns) t.bsize (bytes_from 0 (length ns * t.bsize) c.args.map.now)) in
-    wrote_all (told c.args.world.now) (told c.loop-place.world) t.unit (block_writes ns (cut (length ns) t.bsize (bytes_from 0 (length ns * t.bsize) c.args.map.now))) c.loop-place.place (omega arith) c.loop-place.invariant.told
+    let long = length_writes ns (cut (length ns) t.bsize (bytes_from 0 (length ns * t.bsize) c.args.map.now)) (length_cut (length ns) t.bsize (bytes_from 0 (length ns * t.bsize) c.args.map.now))
+    in
+    wrote_all (told c.args.world.now) (told c.loop-place.world) t.unit (block_writes ns (cut (length ns) t.bsize (bytes_from 0 (length ns * t.bsize) c.args.map.now))) c.loop-place.place
+    (omega arith) c.loop-place.invariant.told
 
 pub overflow_cast-place : goal.overflow_cast-place
 overflow_cast-place g c =

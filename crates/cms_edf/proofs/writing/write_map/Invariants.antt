@@ -10,7 +10,8 @@ use Rattle.cms_edf.proofs.writing.write_map.Given as goal
 
 abbrev pub invariant-loop-place : goal.invariant-loop-place
 invariant-loop-place g l = record {
-  told : g.W.World.told l.world ≡ plus (g.W.World.told l.fn.world) (writes l.target.unit (take l.place (block_writes l.blocks (cut (length l.blocks) l.target.bsize (bytes_from 0 (length l.blocks * l.target.bsize) l.map)))));
+  told : g.W.World.told l.world ≡ plus (g.W.World.told l.fn.world)
+      (writes l.target.unit (take l.place (block_writes l.blocks (cut (length l.blocks) l.target.bsize (bytes_from 0 (length l.blocks * l.target.bsize) l.map)))));
   blocks : ForSome (g.W.World.told l.world) (λ j. HasBlocks j.units l.target.unit l.target.total l.target.bsize);
   writable : ForSome (g.W.World.told l.world) (λ j. IsWritable j.units l.target.unit);
   faults : g.W.World.faults l.fn.world ≤ g.W.World.faults l.world;

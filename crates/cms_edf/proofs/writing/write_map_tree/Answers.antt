@@ -20,8 +20,10 @@ returns-in-Ok-clause-done g c =
     let ns = c.leaves.result.now in
     let nodes = nodes_are size t c.leaves-in-Ok.result.now c.pointers.result.now c.leaves-in-Ok.ensures c.pointers.ensures in
     on_ok c.write_nodes.result _ _
-    (λ last. wrote_two (told c.args.world.now) (told c.write_map.new.world) (told c.write_nodes.new.world) c.args.target.now.unit (block_writes t.leaves (cut (length t.leaves) size (bytes_from 0 (length t.leaves * size) bits))) (node_writes size t)
-    (block_writes ns (cut (length ns) size (bytes_from 0 (length ns * size) bits))) (node_writes size (record { leaves = c.leaves-in-Ok.result.now; pointers = c.pointers.result.now })) (map_is size t.leaves ns bits c.leaves.ensures) nodes c.in-Ok.ensures.done last)
+    (λ last. wrote_two (told c.args.world.now) (told c.write_map.new.world) (told c.write_nodes.new.world) c.args.target.now.unit
+    (block_writes t.leaves (cut (length t.leaves) size (bytes_from 0 (length t.leaves * size) bits))) (node_writes size t)
+    (block_writes ns (cut (length ns) size (bytes_from 0 (length ns * size) bits))) (node_writes size (record { leaves = c.leaves-in-Ok.result.now; pointers = c.pointers.result.now }))
+    (map_is size t.leaves ns bits c.leaves.ensures) nodes c.in-Ok.ensures.done last)
     c.write_nodes.ensures.done
 
 pub returns-in-Ok-clause-failed : goal.returns-in-Ok-clause-failed
@@ -33,8 +35,10 @@ returns-in-Ok-clause-failed g c =
     let ns = c.leaves.result.now in
     let nodes = nodes_are size t c.leaves-in-Ok.result.now c.pointers.result.now c.leaves-in-Ok.ensures c.pointers.ensures in
     on_err c.write_nodes.result _ _
-    (λ last. failed_two (told c.args.world.now) (told c.write_map.new.world) (told c.write_nodes.new.world) c.args.target.now.unit (block_writes t.leaves (cut (length t.leaves) size (bytes_from 0 (length t.leaves * size) bits))) (node_writes size t)
-    (block_writes ns (cut (length ns) size (bytes_from 0 (length ns * size) bits))) (node_writes size (record { leaves = c.leaves-in-Ok.result.now; pointers = c.pointers.result.now })) (map_is size t.leaves ns bits c.leaves.ensures) nodes c.in-Ok.ensures.done last)
+    (λ last. failed_two (told c.args.world.now) (told c.write_map.new.world) (told c.write_nodes.new.world) c.args.target.now.unit
+    (block_writes t.leaves (cut (length t.leaves) size (bytes_from 0 (length t.leaves * size) bits))) (node_writes size t)
+    (block_writes ns (cut (length ns) size (bytes_from 0 (length ns * size) bits))) (node_writes size (record { leaves = c.leaves-in-Ok.result.now; pointers = c.pointers.result.now }))
+    (map_is size t.leaves ns bits c.leaves.ensures) nodes c.in-Ok.ensures.done last)
     c.write_nodes.ensures.failed
 
 pub returns-in-Err-clause-failed : goal.returns-in-Err-clause-failed
@@ -44,5 +48,6 @@ returns-in-Err-clause-failed g c =
     let size = c.args.target.now.bsize in
     let bits = c.args.map.now in
     let ns = c.leaves.result.now in
-    failed_one (told c.args.world.now) (told c.write_map.new.world) c.args.target.now.unit (block_writes t.leaves (cut (length t.leaves) size (bytes_from 0 (length t.leaves * size) bits))) (node_writes size t)
+    failed_one (told c.args.world.now) (told c.write_map.new.world) c.args.target.now.unit (block_writes t.leaves (cut (length t.leaves) size (bytes_from 0 (length t.leaves * size) bits)))
+    (node_writes size t)
     (block_writes ns (cut (length ns) size (bytes_from 0 (length ns * size) bits))) (map_is size t.leaves ns bits c.leaves.ensures) c.in-Err.ensures.failed

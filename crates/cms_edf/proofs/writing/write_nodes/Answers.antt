@@ -40,7 +40,8 @@ returns-clause-done g c =
     let told = g.W.World.told in
     let t = c.args.target.now in
     let long = length_node_writes t.bsize c.args.leaves.now c.args.pointers.now (omega (arith, c.requires.wide)) c.requires.nodes in
-    wrote_all (told c.args.world.now) (told c.loop-place.world) t.unit (node_writes t.bsize (record { leaves = c.args.leaves.now; pointers = c.args.pointers.now })) c.loop-place.place (omega arith) c.loop-place.invariant.told
+    wrote_all (told c.args.world.now) (told c.loop-place.world) t.unit (node_writes t.bsize (record { leaves = c.args.leaves.now; pointers = c.args.pointers.now })) c.loop-place.place
+    (omega arith) c.loop-place.invariant.told
 
 pub overflow_cast-place : goal.overflow_cast-place
 overflow_cast-place g c =

@@ -15,7 +15,8 @@ returns-in-Ok-clause-done g c =
     let new = told c.confirm.new.world in
     let label : c.deref.result.now ≡ s.label_bytes = c.deref.ensures.value ∙ ap (λ (x : Systems). x.label_bytes) c.self.view_is in
     on_ok c.confirm.result _ _
-    (λ last. confirmed_behind (told c.args.world.now) mid new c.args.unit (system_writes (length s.label_bytes) s) s.label_bytes c.in-Ok.ensures.done (subst (λ (l : List ℕ). new ≡ plus mid (update c.args.unit [] l)) label last))
+    (λ last. confirmed_behind (told c.args.world.now) mid new c.args.unit (system_writes (length s.label_bytes) s) s.label_bytes c.in-Ok.ensures.done
+    (subst (λ (l : List ℕ). new ≡ plus mid (update c.args.unit [] l)) label last))
     c.confirm.ensures.done
 
 pub returns-in-Ok-clause-cut_off : goal.returns-in-Ok-clause-cut_off
@@ -26,5 +27,6 @@ returns-in-Ok-clause-cut_off g c =
     let new = told c.confirm.new.world in
     let label : c.deref.result.now ≡ s.label_bytes = c.deref.ensures.value ∙ ap (λ (x : Systems). x.label_bytes) c.self.view_is in
     if_err c.confirm.result _ _
-    (λ (why : Doubt) cut. cut_behind (told c.args.world.now) mid new c.args.unit (system_writes (length s.label_bytes) s) s.label_bytes why c.in-Ok.ensures.done (subst (λ (l : List ℕ). IsCutOff mid new c.args.unit [] l why) label cut))
+    (λ (why : Doubt) cut. cut_behind (told c.args.world.now) mid new c.args.unit (system_writes (length s.label_bytes) s) s.label_bytes why c.in-Ok.ensures.done
+    (subst (λ (l : List ℕ). IsCutOff mid new c.args.unit [] l why) label cut))
     c.confirm.ensures.cut_off

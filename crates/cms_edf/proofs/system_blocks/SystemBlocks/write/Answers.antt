@@ -34,7 +34,8 @@ returns-in-Err-write_map_tree-clause-failed g c =
     let done = directory_writes i.bsize i.directory c.deref.result.now in
     let is = ap (directory_writes i.bsize i.directory) c.deref.ensures.value in
     let two = told c.write_map_tree.new.world in
-    subst (Failed old two c.args.unit) whole (failed_two old one two c.args.unit a (m ++ f) done (m ++ f) is refl c.in-Ok.ensures.done (failed_one one two c.args.unit m f m refl c.in-Err-write_map_tree.ensures.failed))
+    subst (Failed old two c.args.unit) whole
+    (failed_two old one two c.args.unit a (m ++ f) done (m ++ f) is refl c.in-Ok.ensures.done (failed_one one two c.args.unit m f m refl c.in-Err-write_map_tree.ensures.failed))
 
 pub returns-in-Ok-write_map_tree-clause-failed : goal.returns-in-Ok-write_map_tree-clause-failed
 returns-in-Ok-write_map_tree-clause-failed g c =
@@ -54,7 +55,9 @@ returns-in-Ok-write_map_tree-clause-failed g c =
     let last = first_writes i.bsize i.directory c.deref-in-Ok-write_map_tree.result.now in
     let is_last = ap (first_writes i.bsize i.directory) c.deref-in-Ok-write_map_tree.ensures.value in
     on_err c.write_first.result _ _
-    (λ failed. subst (Failed old new c.args.unit) whole (failed_two old one new c.args.unit a (m ++ f) done (m ++ f) is refl c.in-Ok.ensures.done (failed_two one two new c.args.unit m f m last refl is_last c.in-Ok-write_map_tree.ensures.done failed)))
+    (λ failed. subst (Failed old new c.args.unit) whole
+    (failed_two old one new c.args.unit a (m ++ f) done (m ++ f) is refl c.in-Ok.ensures.done
+    (failed_two one two new c.args.unit m f m last refl is_last c.in-Ok-write_map_tree.ensures.done failed)))
     c.write_first.ensures.failed
 
 pub returns-in-Ok-write_map_tree-clause-done : goal.returns-in-Ok-write_map_tree-clause-done
@@ -75,5 +78,6 @@ returns-in-Ok-write_map_tree-clause-done g c =
     let last = first_writes i.bsize i.directory c.deref-in-Ok-write_map_tree.result.now in
     let is_last = ap (first_writes i.bsize i.directory) c.deref-in-Ok-write_map_tree.ensures.value in
     on_ok c.write_first.result _ _
-    (λ wrote. subst (Wrote old new c.args.unit) whole (wrote_two old one new c.args.unit a (m ++ f) done (m ++ f) is refl c.in-Ok.ensures.done (wrote_two one two new c.args.unit m f m last refl is_last c.in-Ok-write_map_tree.ensures.done wrote)))
+    (λ wrote. subst (Wrote old new c.args.unit) whole
+    (wrote_two old one new c.args.unit a (m ++ f) done (m ++ f) is refl c.in-Ok.ensures.done (wrote_two one two new c.args.unit m f m last refl is_last c.in-Ok-write_map_tree.ensures.done wrote)))
     c.write_first.ensures.done
