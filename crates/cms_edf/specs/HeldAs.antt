@@ -39,4 +39,5 @@ pub record IsHeldAs (unit : ℕ) (disk : Disk) (image : Image) (v : Opened) (h :
 -- what opens is held so
 abbrev pub OpenedHasHeld : Type 0
 OpenedHasHeld =
-    (unit : ℕ) (disk : Disk) (image : Image) (v : Opened) → open_of disk image ≡ Ok v → IsHeldAs unit disk image v (held_of unit disk image v)
+    (unit : ℕ) (disk : Disk) (image : Image) (v : Opened) → open_of disk image ≡ Ok v
+    → IsHeldAs unit disk image v (held_of unit disk image v)

@@ -84,7 +84,8 @@ pub record RelabelsHeld (j : Journal) (v : HeldVolume) (old : Layout) (volid : L
   pub updates : Relabels v.disk j v.unit (relabelled v volid).label_bytes (opened old) (with_volid v.label volid)
   pub at : IsHeldAt (after j (relabel v.unit (relabelled v volid).label_bytes)) (relabelled v volid)
       (record old { label = with_volid v.label volid })
-  pub answered : answer_of (minidisk_in v.disk old) (Relabel volid) ≡ Changed (minidisk_in v.disk (record old { label = with_volid v.label volid }))
+  pub answered : answer_of (minidisk_in v.disk old) (Relabel volid)
+      ≡ Changed (minidisk_in v.disk (record old { label = with_volid v.label volid }))
 
 abbrev pub RelabelIsHeld : Type 0
 RelabelIsHeld = (j : Journal) (v : HeldVolume) (old : Layout) (volid : List ℕ) → IsHeldAt j v old → Keeps v → length volid ≡ 6

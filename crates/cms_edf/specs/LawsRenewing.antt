@@ -65,7 +65,8 @@ pub record LeavesFiles (before later : Image) (v : HeldVolume) (edit : Edit) (ol
   pub had : (n : ℕ) → times n edit.given ≤ times n (file_blocks old.files)
 
 -- what an update finds
-pub record IsRenewal (j : Journal) (v : HeldVolume) (edit : Edit) (stamp : Stamp) (s : Systems) (old : Layout) (files : List Kept) : Type 0 where
+pub record IsRenewal (j : Journal) (v : HeldVolume) (edit : Edit) (stamp : Stamp) (s : Systems) (old : Layout) (files : List Kept) :
+    Type 0 where
   pub at : IsHeldAt j v old
   pub stamped : is_stamp stamp ≡ true
   pub planned : IsPlanned v edit stamp s

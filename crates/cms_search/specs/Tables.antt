@@ -100,7 +100,8 @@ pub record IsTable (t : Accesses) : Type 0 where
 
 -- each accessed disk is on its unit
 abbrev pub AreOnUnits : Accesses → Type 0
-AreOnUnits t = (n : ℕ) (s : Seated) (unit : UnitInfo) → item_at t.seats n ≡ Some s → slice_get t.units s.letter.unit ≡ Some unit → IsOn unit s.disk
+AreOnUnits t =
+    (n : ℕ) (s : Seated) (unit : UnitInfo) → item_at t.seats n ≡ Some s → slice_get t.units s.letter.unit ≡ Some unit → IsOn unit s.disk
 
 -- ---- what calls make of it
 

@@ -98,7 +98,8 @@ impl Eq for PlaceKey {
 impl PartialOrd for PlaceKey {
     ghost partial_cmp = { λ a b. Some (slice_cmp nat_cmp a b) };
 
-    ghost laws = { partial_order_from_agreeing_total (slice_cmp nat_cmp) nat_list_cmp_total (λ a b. refl) (lists_ties nat_cmp unsigned_ties) };
+    ghost laws = { partial_order_from_agreeing_total (slice_cmp nat_cmp) nat_list_cmp_total (λ a b. refl)
+        (lists_ties nat_cmp unsigned_ties) };
 
     fn partial_cmp(&self, other: &PlaceKey) -> Option<Ordering> {
         Some(self.cmp(other))
