@@ -14,7 +14,8 @@ use Rattle.cms_model.proofs.Cuts.{length_cut, get_or_cut}
 use Rattle.cms_tree.specs.Builds.{Child, marked, level_over, parents, all_over, nodes_over, node_bytes, node_at, HasNodes}
 use Rattle.cms_map.specs.Bits.{byte_at, bytes_from}
 use Rattle.cms_model.proofs.Shapes.{levels_needs}
-use Rattle.cms_tree.proofs.Rising.{over_count, all_count}
+use Rattle.cms_tree.specs.Levels.{over_count}
+use Rattle.cms_tree.proofs.Rising.{all_count}
 use Rattle.cms_tree.proofs.Sums.{pointers_small}
 use Rattle.cms_edf.specs.Opening.{HeldTree}
 use Rattle.cms_edf.specs.Systems.{block_writes, node_writes, HasWritten}

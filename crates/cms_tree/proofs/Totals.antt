@@ -187,7 +187,7 @@ times_there n x xs other = ap (λ (b : Bool). cond b 1 0 + times n xs) (ne_eqb n
 times_more : (n x : ℕ) (xs : List ℕ) → times n xs ≤ times n (x ∷ xs)
 times_more n x xs = ⊎_elim (λ (is : n ≡ x). let e = times_here n x xs is in omega arith) (λ (other : n ≡ x → ⊥). let e = times_there n x xs other in omega arith) (cases_eq n x)
 
-in_times : (xs : List ℕ) (i : ℕ) → i < length xs → 1 ≤ times (get_or xs i 0) xs
+pub in_times : (xs : List ℕ) (i : ℕ) → i < length xs → 1 ≤ times (get_or xs i 0) xs
 in_times [] i less = absurd (omega arith)
 in_times (x ∷ xs) zero less = let e = times_here x x xs refl in let some : 1 ≤ times x (x ∷ xs) = omega arith in some
 in_times (x ∷ xs) (suc i) less =
@@ -203,7 +203,7 @@ twice x xs k once less same =
     let most = once x in omega arith
 
 -- numbers that don't repeat stand at one place
-one_place : (xs : List ℕ) → ((n : ℕ) → times n xs ≤ 1) → (i k : ℕ) → i < length xs → k < length xs → get_or xs i 0 ≡ get_or xs k 0 → i ≡ k
+pub one_place : (xs : List ℕ) → ((n : ℕ) → times n xs ≤ 1) → (i k : ℕ) → i < length xs → k < length xs → get_or xs i 0 ≡ get_or xs k 0 → i ≡ k
 one_place [] once i k less less' same = absurd (omega arith)
 one_place (x ∷ xs) once zero zero less less' same = refl
 one_place (x ∷ xs) once zero (suc k) less less' same = absurd (twice x xs k once (omega arith) same)

@@ -202,8 +202,7 @@ fn lift<W: World>(
     requires blocks { ForSome (W.told world.old) (λ j. HasEach j.units unit bsize fresh.now) }
     requires writable { ForSome (W.told world.old) (λ j. IsWritable j.units unit) }
     ensures lifts { (leaves : List ℕ) (marks : List Mark) (numbers : List ℕ) (tier : Tier) (levels : ℕ)
-        → fresh.now ≡ drop tier.first numbers
-        → IsTier (bsize / psize) leaves marks numbers tier (suc levels)
+        → fresh.now ≡ drop tier.first numbers → IsTier (bsize / psize) leaves marks numbers tier (suc levels)
         → IsOpen bsize psize marks (length leaves) tier child.now.nth level.old
         → IsChild psize marks (length leaves) tier child.now
         → Lifts (W.told world.old) (W.told world.new) unit bsize psize leaves marks numbers tier child.now level.new result }

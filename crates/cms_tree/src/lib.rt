@@ -2,6 +2,8 @@
 #![tactic(auto)]
 
 mod climb;
+#[cfg(test)]
+mod climb_tests;
 mod node;
 mod read;
 mod sizes;
