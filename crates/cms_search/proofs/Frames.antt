@@ -13,7 +13,7 @@ use Rattle.cms_model.specs.LawsSizes.{IsWhole}
 use Rattle.cms_model.specs.LawsUpdates.{AsBefore, after, now}
 use Rattle.cms_model.proofs.Settling.{aside_is_as_before}
 use Rattle.cms_machine.specs.Slots.{Slot}
-use Rattle.cms_edf.specs.Opening.{held_of}
+use Rattle.cms_edf.specs.HeldAs.{IsHeldAs}
 use Rattle.cms_disk.specs.Disks.{Accessed, IsMinidisk, IsQuiet, disk_on}
 use Rattle.cms_disk.specs.declared.unit.UnitInfo.{UnitInfo}
 use Rattle.cms_search.specs.Tables.{Accesses, Seated}
@@ -37,7 +37,7 @@ minidisk_aside j piece d m before is =
         whole = subst (λ (i : Image). IsWhole d.volume.disk i) (sym same) s.whole;
         opened = s.opened;
         opens = subst (λ (i : Image). open_of d.volume.disk i ≡ Ok s.opened) (sym same) s.opens;
-        volume_is = subst (λ (i : Image). d.volume ≡ held_of d.volume.unit d.volume.disk i s.opened) (sym same) s.volume_is;
+        volume_is = subst (λ (i : Image). IsHeldAs d.volume.unit d.volume.disk i s.opened d.volume) (sym same) s.volume_is;
         minidisk_is = s.minidisk_is;
       };
       settled = before.settled_same d.volume.disk s.opened is.settled;
