@@ -122,6 +122,20 @@ fn climbs(alloc: Global, world: &mut Paper, leaves: u32, psize: u8) -> Result<bo
     Ok(true)
 }
 
+// The bytes of a block, where it was written once.
+fn written_once(world: &Paper, number: u32) -> Option<&[u8]> {
+    let mut found = None;
+    for (block, bytes) in world.blocks.iter().zip(world.bytes.chunks(512)) {
+        if *block == number {
+            if found.is_some() {
+                return None;
+            }
+            found = Some(bytes);
+        }
+    }
+    found
+}
+
 // Whether the world holds, between the leaves, each pointer block once and as `build` makes it.
 fn holds_them(alloc: Global, world: &Paper, leaves: u32, psize: u8) -> Result<bool, AllocError>
     requires some { 1 ≤ leaves }
@@ -146,13 +160,8 @@ fn holds_them(alloc: Global, world: &Paper, leaves: u32, psize: u8) -> Result<bo
             nth,
             &mut block,
         );
-        let mut places = world
-            .blocks
-            .iter()
-            .zip(world.bytes.chunks(512))
-            .filter(|(number, _)| **number == FIRST.wrapping_add(nth));
-        match (places.next(), places.next()) {
-            (Some((_, bytes)), None) if bytes == block.as_slice() => {}
+        match written_once(world, FIRST.wrapping_add(nth)) {
+            Some(bytes) if bytes == block.as_slice() => {}
             _ => return Ok(false),
         }
     }
