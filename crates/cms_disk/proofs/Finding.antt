@@ -25,13 +25,13 @@ use Rattle.cms_model.proofs.Quotients.{up_spec}
 use Rattle.cms_model.proofs.Results.{ok_same}
 use Rattle.cms_model.proofs.TreeFrame.{between}
 use Rattle.cms_records.specs.Pieces.{Begun, bytes_so_far, next_place}
-use Rattle.cms_edf.specs.Opening.{HeldFile, HeldVolume}
+use Rattle.cms_held.specs.Opening.{HeldFile, HeldVolume}
 use Rattle.cms_edf.specs.Asking.{info_of, infos_in, leaves_in}
 use Rattle.cms_edf.specs.declared.held.FileInfo.{FileInfo}
-use Rattle.cms_edf.specs.Kept.{IsKeptFile, Keeps}
-use Rattle.cms_edf.specs.LawsHeld.{HasRoomOf, IsFileOf, IsFound, IsMinidiskOf, IsStored}
+use Rattle.cms_held.specs.Kept.{IsKeptFile, Keeps}
+use Rattle.cms_held.specs.LawsHeld.{HasRoomOf, IsFileOf, IsFound, IsMinidiskOf, IsStored}
 use Rattle.cms_edf.proofs.Listings.{stands}
-use Rattle.cms_edf.proofs.HeldFiles.{opened_is_held, opened_has_room, place_is_told}
+use Rattle.cms_held.proofs.HeldFiles.{opened_is_held, opened_has_room, place_is_told}
 use Rattle.cms_disk.specs.Cursors.{AreOn, Reading, HasLeft, HoldLeft, IsFirst, fixed_of, unread}
 use Rattle.cms_disk.specs.Disks.{Accessed, HasNone, OpensIn, StandsIn, StartsAt, place_of}
 use Rattle.cms_disk.specs.LawsDisks.{StandsTells}

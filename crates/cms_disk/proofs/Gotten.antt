@@ -18,8 +18,8 @@ use Rattle.cms_model.specs.declared.file.FileData.{FileData}
 use Rattle.cms_model.proofs.TreeFrame.{between}
 use Rattle.cms_records.specs.Pieces.{Begun}
 use Rattle.cms_edf.specs.Asking.{info_of, infos_in}
-use Rattle.cms_edf.specs.Kept.{Keeps}
-use Rattle.cms_edf.specs.Opening.{HeldFile, HeldVolume}
+use Rattle.cms_held.specs.Kept.{Keeps}
+use Rattle.cms_held.specs.Opening.{HeldFile, HeldVolume}
 use Rattle.cms_edf.specs.declared.held.FileInfo.{FileInfo}
 use Rattle.cms_disk.specs.Cursors.{Reading, HasLeft, IsFirst, fixed_of}
 use Rattle.cms_disk.specs.Disks.{Accessed, StandsIn, place_of}

@@ -4,3 +4,7 @@ pub mod Quieting
 pub mod Finding
 pub mod Gathering
 pub mod Gotten
+pub mod Standing
+pub mod Altering
+pub mod StepPieces
+pub mod Formatting

@@ -14,9 +14,9 @@ use Rattle.cms_model.proofs.Images.{crash_now}
 use Rattle.cms_model.proofs.Opening.{state_opens}
 use Rattle.cms_model.proofs.Results.{ok_same}
 use Rattle.cms_model.proofs.Settling.{sync_settles, synced_settles}
-use Rattle.cms_edf.specs.Opening.{IsFaultOf, held_of}
-use Rattle.cms_edf.specs.HeldAs.{IsHeldAs}
-use Rattle.cms_edf.proofs.HeldTrees.{opened_has_held}
+use Rattle.cms_held.specs.Opening.{IsFaultOf, held_of}
+use Rattle.cms_held.specs.HeldAs.{IsHeldAs}
+use Rattle.cms_held.proofs.HeldTrees.{opened_has_held}
 use Rattle.cms_disk.specs.Disks.{Accessed, IsOn, IsMinidisk, IsQuiet, AnswersAccess, IsRefused, disk_on}
 use Rattle.cms_disk.specs.declared.unit.UnitInfo.{UnitInfo}
 use Rattle.cms_disk.specs.LawsDisks.{QuietRests, SyncQuiets}

@@ -1,20 +1,21 @@
 -- Minidisks on the units of a world.
-use Rattle.std.specs.Prelude.{◌≡◌, ◌⊎◌, ℕ, Bool, true, false, position, slice_get, Option, None, Some, Result, Ok, Err, ⊤}
+use Rattle.std.specs.Prelude.{◌≡◌, ◌⊎◌, ℕ, Bool, true, false, position, slice_get, Option, None, Some, IsSome, Result, Ok, Err, ⊤}
 use Rattle.cms_journal.specs.declared.event.Event.TheVariants.{Synced}
+use Rattle.cms_journal.specs.declared.event.Attached.{Attached}
 use Rattle.cms_journal.specs.Journal.{Journal, HasBlocks, adds}
 use Rattle.cms_journal.specs.Told.{Told}
 use Rattle.cms_names.specs.declared.name.Name.{Name}
 use Rattle.cms_model.specs.Trees.{Image}
 use Rattle.cms_model.specs.Minidisks.{File, Minidisk, Not, same_name}
-use Rattle.cms_model.specs.Volumes.{Disk, Opened, open_of, minidisk_of, reason}
+use Rattle.cms_model.specs.Volumes.{Disk, Opened, disk_of, open_of, minidisk_of, reason}
 use Rattle.cms_model.specs.Changes.{file_named}
 use Rattle.cms_model.specs.Settled.{IsSettled, IsFirm}
 use Rattle.cms_model.specs.LawsSizes.{IsWhole}
 use Rattle.cms_model.specs.LawsUpdates.{now}
 use Rattle.cms_model.specs.declared.fault.OpenFault.{OpenFault}
 use Rattle.cms_model.specs.declared.fault.OpenFault.TheVariants as failed
-use Rattle.cms_edf.specs.Opening.{HeldFile, HeldVolume, IsFaultOf, held_of, names_in}
-use Rattle.cms_edf.specs.HeldAs.{IsHeldAs}
+use Rattle.cms_held.specs.Opening.{HeldFile, HeldVolume, IsFaultOf, held_of, names_in}
+use Rattle.cms_held.specs.HeldAs.{IsHeldAs}
 use Rattle.cms_disk.specs.Cursors.{Reading, IsFirst, HasLeft}
 use Rattle.cms_disk.specs.declared.fault.AccessFault.{AccessFault}
 use Rattle.cms_disk.specs.declared.fault.AccessFault.TheVariants.{Sync, Open}
@@ -42,6 +43,10 @@ pub record IsOn (unit : UnitInfo) (d : Accessed) : Type 0 where
 -- the blocks of its unit may be read
 abbrev pub IsReadable : Journal → Accessed → Type 0
 IsReadable j d = HasBlocks j.units d.volume.unit d.volume.disk.count d.volume.disk.bsize
+
+-- what is looked at of its unit is what an attached unit shows: blocks of its size, and at most 1,048,576 of them
+abbrev pub IsLookedAt : Journal → Accessed → Type 0
+IsLookedAt j d = (unit : Attached) → slice_get j.units d.volume.unit ≡ Some unit → disk_of unit ≡ d.volume.disk
 
 -- ---- the minidisk that it is
 
@@ -105,6 +110,10 @@ IsLeft disk j u (Err Sync) = ⊤
 -- the place of the file of a name
 abbrev pub place_of : Name → HeldVolume → Option ℕ
 place_of name v = position (same_name name) (names_in v.files)
+
+-- the name that a file is to have is another file's
+abbrev pub IsOthers : Name → Name → HeldVolume → Type 0
+IsOthers from to v = (from ≡ to → ⊥) × IsSome (place_of to v)
 
 -- the file of a name is read from its first record on
 pub record StartsAt (name : Name) (v : HeldVolume) (c : Reading) : Type 0 where

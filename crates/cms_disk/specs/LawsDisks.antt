@@ -9,7 +9,7 @@ use Rattle.cms_model.specs.Volumes.{Disk, Opened, open_of, reason}
 use Rattle.cms_model.specs.Settled.{IsSettled, IsFirm}
 use Rattle.cms_model.specs.LawsUpdates.{after, now}
 use Rattle.cms_model.specs.declared.fault.OpenFault.{OpenFault}
-use Rattle.cms_edf.specs.LawsHeld.{IsFound, IsMinidiskOf}
+use Rattle.cms_held.specs.LawsHeld.{IsFound, IsMinidiskOf}
 use Rattle.cms_disk.specs.Disks.{Accessed, StandsIn, IsQuiet, place_of}
 
 -- its files are the minidisk's, in their order, and a name is found in the place of its file

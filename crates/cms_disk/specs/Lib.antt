@@ -3,3 +3,5 @@ pub mod CursorFields
 pub mod Disks
 pub mod Getting
 pub mod LawsDisks
+pub mod Changing
+pub mod Making

@@ -1,7 +1,6 @@
 // The records of a file, one after another.
 ghost use Rattle.std.specs.Prelude.{◌≡◌, ◌⊎◌, ◌≤◌, ◌<◌, ◌+◌, ◌-◌, ◌*◌, ◌++◌, ◌↔◌, ℕ, List, true, false, length, drop, IfOk, IfErr, OnOk, OnErr, IsTrue, IfSome, Err};
 ghost use Rattle.std.specs.Option.{ForSome};
-ghost use Rattle.cms_journal.specs.Causes.{Rose};
 ghost use Rattle.cms_journal.specs.Journal.{HasBlocks, contents_of};
 ghost use Rattle.cms_fields.specs.Limits.{most_bytes, longest_record};
 ghost use Rattle.cms_names.specs.declared.name.Format.TheVariants.{F};
@@ -9,6 +8,7 @@ ghost use Rattle.cms_model.specs.Trees.{Image, image_of};
 ghost use Rattle.cms_edf.specs.OpeningSteps.{OfImage};
 ghost use Rattle.cms_disk.specs.Cursors.{AreOn, IsFirst, HoldsLittle, HasLeft, HandsOut, Gives, SameFile, IsNeeded, IsShort, TextFits, Waits, text_of};
 ghost use Rattle.cms_disk.specs.declared.fault.DiskFault.TheVariants.{Device, Altered, Memory};
+ghost use Rattle.cms_world.specs.Seen.{OnlyReads, seen};
 
 use crate::fault::DiskFault;
 use cms_edf::FileInfo;
@@ -96,10 +96,7 @@ impl Cursor {
         ensures fault { IfErr result (λ e. (e ≡ Device) ⊎ (e ≡ Altered)) }
         ensures held { HoldsLittle self.new }
         ensures file { SameFile self.old self.new }
-        ensures cause { IfErr result (λ e. e ≡ Device → Rose (W.faults world.old) (W.faults world.new)) }
-        ensures told { W.told world.new ≡ W.told world.old }
-        ensures faults { W.faults world.old ≤ W.faults world.new }
-        ensures edges { W.edges world.new ≡ W.edges world.old }
+        ensures reads { OnlyReads (seen W.World world.old) (seen W.World world.new) Device result }
     {
         if self.left == 0 {
             return Ok(false);
@@ -169,10 +166,7 @@ impl Cursor {
           from = self.new.from;
           altered = self.new.altered;
         } }
-        ensures cause { IfErr result (λ e. e ≡ Device → Rose (W.faults world.old) (W.faults world.new)) }
-        ensures told { W.told world.new ≡ W.told world.old }
-        ensures faults { W.faults world.old ≤ W.faults world.new }
-        ensures edges { W.edges world.new ≡ W.edges world.old }
+        ensures reads { OnlyReads (seen W.World world.old) (seen W.World world.new) Device result }
     {
         if self.done == self.leaves.len() {
             self.altered = true;

@@ -1,7 +1,6 @@
 // A file that is read whole.
 ghost use Rattle.std.specs.Prelude.{◌≡◌, ◌⊎◌, ◌≤◌, ◌++◌, ℕ, List, [], ◌∷◌, length, Some, None, IfOk, IfErr, OnOk, OnErr, IsSome};
 ghost use Rattle.std.specs.Option.{ForSome};
-ghost use Rattle.cms_journal.specs.Causes.{Rose};
 ghost use Rattle.cms_journal.specs.Journal.{HasBlocks, contents_of};
 ghost use Rattle.cms_fields.specs.Limits.{longest_record};
 ghost use Rattle.cms_model.specs.Records.{IsValid, stored};
@@ -11,6 +10,7 @@ ghost use Rattle.cms_disk.specs.Cursors.{HasLeft, fixed_of};
 ghost use Rattle.cms_disk.specs.Disks.{IsReadable, place_of};
 ghost use Rattle.cms_disk.specs.Getting.{Gathers, GetsIn, data_length};
 ghost use Rattle.cms_disk.specs.declared.fault.DiskFault.TheVariants.{Altered, Device, Memory, NotFound};
+ghost use Rattle.cms_world.specs.Seen.{OnlyReads, seen};
 
 use crate::cursor::Cursor;
 use crate::fault::DiskFault;
@@ -55,10 +55,7 @@ fn gather<W: World>(
     ensures altered { IfErr result (λ e. e ≡ Altered → OfImage (W.told world.old) cursor.old.unit (λ image. (all : List (List ℕ))
         → HasLeft image cursor.old all → ⊥)) }
     ensures fault { IfErr result (λ e. (e ≡ Device) ⊎ (e ≡ Altered) ⊎ (e ≡ Memory)) }
-    ensures cause { IfErr result (λ e. e ≡ Device → Rose (W.faults world.old) (W.faults world.new)) }
-    ensures told { W.told world.new ≡ W.told world.old }
-    ensures faults { W.faults world.old ≤ W.faults world.new }
-    ensures edges { W.edges world.new ≡ W.edges world.old }
+    ensures reads { OnlyReads (seen W.World world.old) (seen W.World world.new) Device result }
 {
     let mut bytes = Vec::new(alloc);
     let mut longest = 0;
@@ -96,10 +93,7 @@ impl Minidisk {
         ensures found { OnOk result (IsSome (place_of name.now self.now.volume)) }
         ensures missing { IfErr result (λ e. e ≡ NotFound → place_of name.now self.now.volume ≡ None) }
         ensures fault { IfErr result (λ e. (e ≡ NotFound) ⊎ (e ≡ Device) ⊎ (e ≡ Altered) ⊎ (e ≡ Memory)) }
-        ensures cause { IfErr result (λ e. e ≡ Device → Rose (W.faults world.old) (W.faults world.new)) }
-        ensures told { W.told world.new ≡ W.told world.old }
-        ensures faults { W.faults world.old ≤ W.faults world.new }
-        ensures edges { W.edges world.new ≡ W.edges world.old }
+        ensures reads { OnlyReads (seen W.World world.old) (seen W.World world.new) Device result }
     {
         let place = self.place(name)?;
         let info = self.info(place);

@@ -1,10 +1,14 @@
 //! Minidisks: files by their names, on the units of a world.
 #![tactic(auto)]
 
+mod changing;
 mod cursor;
 mod fault;
 mod get;
 mod laws;
+mod making;
+#[cfg(test)]
+mod making_tests;
 mod minidisk;
 #[cfg(test)]
 mod tests;

@@ -1,5 +1,5 @@
 // A volume that is accessed.
-ghost use Rattle.std.specs.Prelude.{◌≡◌, ◌⊎◌, ◌<◌, ◌≤◌, true, false, length, slice_get, Some, None, IfOk, IfErr, OnOk, OnErr};
+ghost use Rattle.std.specs.Prelude.{◌≡◌, ◌↔◌, ◌⊎◌, ◌<◌, ◌≤◌, true, false, length, slice_get, Some, None, IsSome, IsTrue, IfOk, IfErr, OnOk, OnErr};
 ghost use Rattle.std.specs.Option.{ForSome};
 ghost use Rattle.cms_journal.specs.Causes.{Rose};
 ghost use Rattle.cms_journal.specs.Journal.{HasBlocks, contents_of};
@@ -8,8 +8,8 @@ ghost use Rattle.cms_model.specs.LawsUpdates.{now};
 ghost use Rattle.cms_model.specs.Trees.{image_of};
 ghost use Rattle.cms_model.specs.declared.fault.OpenFault.TheVariants as failed;
 ghost use Rattle.cms_edf.specs.Asking.{infos_in, space_of};
-ghost use Rattle.cms_edf.specs.Kept.{Keeps};
-ghost use Rattle.cms_edf.specs.Opening.{HeldFile};
+ghost use Rattle.cms_held.specs.Kept.{Keeps};
+ghost use Rattle.cms_held.specs.Opening.{HeldFile};
 ghost use Rattle.cms_edf.specs.OpeningSteps.{OfImage};
 ghost use Rattle.cms_disk.specs.Cursors.{IsFirst};
 ghost use Rattle.cms_disk.specs.Disks.{AnswersAccess, HasNone, IsLeft, IsOn, IsQuiet, OpensIn, StartsAt, disk_on, place_of, synced, told_with};
@@ -28,8 +28,8 @@ use std::marker::Model;
 /// An accessed volume. It holds all of it but the files' data.
 #[derive(Drop)]
 pub struct Minidisk {
-    unit: UnitInfo,
-    held: Held,
+    pub(crate) unit: UnitInfo,
+    pub(crate) held: Held,
 }
 
 impl Model for Minidisk {
@@ -112,6 +112,20 @@ impl Minidisk {
         ensures { result ≡ place_of name.now self.now.volume }
     {
         self.held.find(name)
+    }
+
+    /// Whether a file has the name.
+    pub fn has(&self, name: &Name) -> bool
+        ensures { IsTrue result ↔ IsSome (place_of name.now self.now.volume) }
+    {
+        self.held.find(name).is_some()
+    }
+
+    /// Whether it may be written.
+    pub fn is_writable(&self) -> bool
+        ensures { result ≡ self.now.writable }
+    {
+        self.unit.writable
     }
 
     /// The volume id, the size of blocks, and how many there are and are free.

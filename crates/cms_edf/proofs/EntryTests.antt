@@ -2,15 +2,18 @@
 use Rattle.std.proofs.Common.{◌≡◌, inl, inr, ℕ, zero, suc, ◌+◌, ◌-◌, ◌*◌, ◌/◌, ◌≤◌, true, not, List, [], ◌∷◌, Ok, if◌then◌else◌, subst, arith}
 use Rattle.std.specs.Prelude.{nat_le, ◌==◌, ◌&&◌, ◌||◌}
 use Rattle.std.specs.List.{All}
-use Rattle.std.proofs.lemmas.Bool.{and_parts, leb-true, eqb-true}
+use Rattle.std.proofs.lemmas.Bool.{and_from, and_parts, le-leb, leb-true, eqb-true}
 use Rattle.std.proofs.lemmas.List.Elements.{All-nil, All-cons}
 use Rattle.cms_journal.specs.Journal.{IsBlockSize}
 use Rattle.cms_journal.proofs.Sizes.{block_bounds}
 use Rattle.cms_names.specs.Names.{is_between}
 use Rattle.cms_names.specs.declared.name.Format.{Format}
 use Rattle.cms_names.specs.declared.name.Format.TheVariants.{F, V}
+use Rattle.cms_text.specs.Bytes.{byte}
 use Rattle.cms_fields.specs.Numbers.{up}
-use Rattle.cms_fields.specs.Entries.{entry_of, passes, fan_of, is_fixed, length_fits, counts_fit, levels_fit}
+use Rattle.cms_fields.specs.Stamps.{has_stamp, are_packed, is_stamp, stamp_at}
+use Rattle.cms_fields.proofs.ReadEntry.{entry_is}
+use Rattle.cms_fields.specs.Entries.{entry_of, entry_fields, passes, has_mode, fan_of, is_fixed, length_fits, counts_fit, levels_fit}
 use Rattle.cms_fields.specs.declared.entry.Entry.{Entry}
 use Rattle.cms_model.specs.Volumes.{blamed, entries_of}
 use Rattle.cms_model.specs.declared.fault.OpenFault.TheVariants as failed
@@ -20,7 +23,6 @@ use Rattle.cms_model.proofs.Shapes.{shape_least}
 use Rattle.cms_model.proofs.TreeFrame.{between}
 use Rattle.cms_model.proofs.FileSizes.{EntryFits, AllFit, entries_fit, entry_counted, fan_wide}
 use Rattle.cms_edf.specs.EntryShapes.{HasShape, HasSize}
-use Rattle.cms_edf.proofs.SmallHeld.{entry_passes}
 
 shaped : (bsize : ℕ) (e : Entry) → IsBlockSize bsize → EntryFits bsize e → HasShape bsize e
 unfolding levels_fit
@@ -90,6 +92,25 @@ entries_shaped bsize pieces es size is = each (HasShape bsize) bsize es (λ e fi
 pub entries_small : (bsize : ℕ) (pieces : List (List ℕ)) (es : List Entry) → IsBlockSize bsize → entries_of bsize 2 pieces ≡ Ok es → All (HasSize bsize) es
 entries_small bsize pieces es size is = each (HasSize bsize) bsize es (λ e fits. small bsize e size fits) (entries_fit bsize 2 pieces es is).0
 
+-- ---- the fields of the entries pass
+
+-- the fields of an entry that is spelled pass
+fields_pass : (bsize : ℕ) (bytes : List ℕ) → has_mode bytes ≡ true → length_fits (entry_fields bytes) ≡ true → counts_fit bsize (entry_fields bytes) ≡ true
+    → levels_fit bsize (entry_fields bytes) ≡ true → has_stamp bytes 54 ≡ true
+    → passes bsize (entry_fields bytes) ≡ true
+unfolding passes has_mode has_stamp entry_fields
+fields_pass bsize bytes mode size counts levels stamp =
+    let range = between 0xF0 0xF6 (byte bytes 25) mode in
+    let high = range.1 in
+    let number : nat_le (byte bytes 25 - 0xF0) 6 ≡ true = le-leb (byte bytes 25 - 0xF0) 6 (omega arith) in
+    let date = (and_parts (are_packed bytes 54) (is_stamp (stamp_at bytes 54)) stamp).1 in
+    and_from _ _ (and_from _ _ (and_from _ _ (and_from _ _ number size) counts) levels) date
+
+entry_passes : (bsize : ℕ) (bytes : List ℕ) (e : Entry) → entry_of bsize bytes ≡ Ok e → passes bsize e ≡ true
+entry_passes bsize bytes e is =
+    let tests = entry_is bsize bytes e is in
+    subst (λ (x : Entry). passes bsize x ≡ true) tests.fields (fields_pass bsize bytes tests.mode tests.long tests.counts tests.levels tests.stamp)
+
 pub entries_pass : (bsize number : ℕ) (pieces : List (List ℕ)) (es : List Entry) → entries_of bsize number pieces ≡ Ok es → All (λ e. passes bsize e ≡ true) es
 unfolding entries_of
 entries_pass bsize number [] es is = subst (All (λ e. passes bsize e ≡ true)) (ok_same [] es is) (All-nil (λ e. passes bsize e ≡ true))
@@ -97,7 +118,8 @@ entries_pass bsize number (bytes ∷ rest) es is =
     bind_then (blamed (failed.Entry number) (entry_of bsize bytes)) _ es is (λ one is_one e1.
     bind_then (entries_of bsize (number + 1) rest) _ es e1 (λ more is_more e2.
     subst (All (λ e. passes bsize e ≡ true)) (ok_same (one ∷ more) es e2)
-    (All-cons (λ e. passes bsize e ≡ true) one more (entry_passes bsize bytes one (blamed_ok (failed.Entry number) (entry_of bsize bytes) one is_one)) (entries_pass bsize (number + 1) rest more is_more))))
+    (All-cons (λ e. passes bsize e ≡ true) one more (entry_passes bsize bytes one (blamed_ok (failed.Entry number) (entry_of bsize bytes) one is_one))
+    (entries_pass bsize (number + 1) rest more is_more))))
 
 pub entries_stand : (n count blocks leaves bsize : ℕ) → n ≡ count - 2 → 2 ≤ count → count * 64 ≤ blocks * bsize → leaves ≡ blocks → (n + 2) * 64 ≤ leaves * bsize
 entries_stand n count blocks leaves bsize is some fits same = let e : n + 2 ≡ count = omega arith in rw (e, same) fits

@@ -8,9 +8,9 @@ use Rattle.cms_fields.specs.declared.entry.Entry.{Entry}
 use Rattle.cms_records.specs.declared.sizes.VarSizes.{VarSizes}
 use Rattle.cms_tree.specs.Walks.{AreWithin}
 use Rattle.cms_tree.specs.declared.types.Walked.{Walked}
-use Rattle.cms_edf.specs.Opening.{HeldFile, by_name, names_in}
+use Rattle.cms_held.specs.Opening.{HeldFile, by_name, names_in}
 use Rattle.cms_edf.specs.EntryShapes.{HasSize}
-use Rattle.cms_edf.specs.Kept.{IsKeptFile}
+use Rattle.cms_held.specs.Kept.{IsKeptFile}
 use Rattle.cms_edf.proofs.RecordsRead.{made}
 
 -- the keys and values of files under their names

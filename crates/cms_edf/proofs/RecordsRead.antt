@@ -18,7 +18,7 @@ use Rattle.cms_model.specs.declared.fault.OpenFault.TheVariants as failed
 use Rattle.cms_records.specs.declared.sizes.VarSizes.{VarSizes}
 use Rattle.cms_records.specs.Scans.{Scan, IsFed, sizes_in, sizes_of}
 use Rattle.cms_tree.specs.declared.types.Walked.{Walked}
-use Rattle.cms_edf.specs.Opening.{IsFaultOf, HeldFile}
+use Rattle.cms_held.specs.Opening.{IsFaultOf, HeldFile}
 use Rattle.cms_edf.specs.OpeningSteps.{met_in, behind}
 use Rattle.cms_edf.specs.EntryShapes.{HasSize}
 use Rattle.cms_edf.specs.OpeningFiles.{records_in, AreSized, HasRecords, told_file, told_files, HasContents, HaveCounts}

@@ -1,6 +1,6 @@
 -- Files under their names, of which one goes or has another name.
-use Rattle.std.proofs.Common.{◌≡◌, ◌≢◌, ◌⊎◌, inl, inr, ⊎_elim, ℕ, zero, suc, ◌+◌, ◌-◌, ◌<◌, ◌≤◌, Bool, true, false, List, [], ◌∷◌, ◌++◌, length, map, take, set, get_or, swap_remove, slice_get, Option, Some, None, cond, refl, sym, ◌∙◌, ap, subst, arith, length-append}
-use Rattle.std.specs.Prelude.{◌==◌, IfSome}
+use Rattle.std.proofs.Common.{◌≡◌, ◌≢◌, ◌⊎◌, inl, inr, ℕ, zero, suc, ◌-◌, ◌<◌, Bool, true, false, List, [], ◌∷◌, ◌++◌, length, set, get_or, swap_remove, slice_get, Option, Some, None, cond, refl, sym, ◌∙◌, ap, arith, length-append}
+use Rattle.std.specs.Prelude.{IfSome}
 use Rattle.std.specs.List.{swap}
 use Rattle.std.specs.Map.{keys_of, lookup, values_of}
 use Rattle.std.proofs.lemmas.Bool.{cases_eq, eq-eqb, ne_eqb}
@@ -10,17 +10,17 @@ use Rattle.indexmap.proofs.ReorderLemmas.{exchange, get_or-swap}
 use Rattle.cms_names.specs.declared.name.Name.{Name}
 use Rattle.cms_model.specs.Minidisks.{is_named}
 use Rattle.cms_model.proofs.Changing.{name_self}
-use Rattle.cms_edf.specs.Opening.{HeldFile, by_name, names_in}
-use Rattle.cms_edf.specs.Renewing.{renamed}
+use Rattle.cms_held.specs.Opening.{HeldFile, by_name, names_in}
+use Rattle.cms_held.specs.Renewing.{renamed}
 use Rattle.cms_edf.proofs.FilesNamed.{keys_named, values_named}
 use Rattle.cms_edf.proofs.NamesMet.{none_there, same_as, same_there}
-use Rattle.cms_edf.proofs.Removing.{length-removed, map-removed}
+use Rattle.cms_held.proofs.Removing.{length-removed, map-removed}
 
-abbrev Pair : Type 0
+abbrev pub Pair : Type 0
 Pair = Name × HeldFile
 
 -- a file under its name
-abbrev named : HeldFile → Pair
+abbrev pub named : HeldFile → Pair
 named f = (f.entry.name, f)
 
 -- ---- a file that goes
@@ -103,3 +103,63 @@ was_removed es es' k (Some p) is gone named' less = (p, gone)
 was_removed es es' k None is gone named' less =
     let many : length es ≡ length (values_of es) = ap length named' ∙ length-map (values_of es) named in
     absurd (nothing_there es k (omega arith) (sym is))
+
+-- ---- a name that is free
+
+-- behind the file that went no file has the name, where none had it or it was that file's own
+pub absent_then : (to : Name) (p : Pair) (es : List Pair) (r : Option HeldFile) → r ≡ cond (same_as p.0 to) None (lookup (same_as to) es) → (is_named to (keys_of es) ≡ false) ⊎ (to ≡ p.0) → r ≡ None
+absent_then to p es r is (inl none) = is ∙ (ap (cond (same_as p.0 to) None) (none_there to es none) ∙ both (same_as p.0 to))
+  where
+    both : (b : Bool) → ◌≡◌ {A = Option HeldFile} (cond b None None) None
+    both true = refl
+    both false = refl
+absent_then to p es r is (inr own) =
+    let here : same_as p.0 to ≡ true = ap (same_as p.0) own ∙ (same_there p.0 p.0 ∙ name_self p.0) in
+    is ∙ ap (λ (b : Bool). cond b None (lookup (same_as to) es)) here
+
+-- the file at a place among files under their names
+pub file_there : (es : List Pair) (k : ℕ) (p : Pair) → es ≡ by_name (values_of es) → Some p ≡ slice_get es k → (slice_get (values_of es) k ≡ Some p.1) × (p.0 ≡ p.1.entry.name)
+file_there es k p is there = go (values_of es) k (there ∙ ap (λ (l : List Pair). slice_get l k) is)
+  where
+    go : (fs : List HeldFile) (i : ℕ) → Some p ≡ slice_get (by_name fs) i → (slice_get fs i ≡ Some p.1) × (p.0 ≡ p.1.entry.name)
+    go [] i e = absurd (cc)
+    go (f ∷ fs) zero e =
+        let one : p ≡ named f = cc in
+        (ap (λ (q : Pair). Some q.1) (sym one), ap (λ (q : Pair). q.0) one ∙ ap (λ (q : Pair). q.1.entry.name) (sym one))
+    go (f ∷ fs) (suc i) e = go fs i e
+
+-- ---- the whole
+
+some_same : (a b : HeldFile) → Some a ≡ Some b → a ≡ b
+some_same a b e = cc e
+
+-- the file f was taken out, as p, and put last as g, under a name that is free
+pub record Goes (es es1 es2 es3 : List Pair) (k : ℕ) (p : Pair) (to : Name) (number : ℕ) (g : HeldFile) : Type 0 where
+  pub named : es ≡ by_name (values_of es)
+  pub within : k < length (values_of es)
+  pub there : Some p ≡ slice_get es k
+  pub gone : es1 ≡ swap_remove es k p
+  pub last : es2 ≡ es1 ++ (g.entry.name, g) ∷ []
+  pub same : g ≡ renamed to number p.1
+  pub back : es3 ≡ swap es2 k (length es2 - 1)
+
+pub goes : (es es1 es2 es3 : List Pair) (k : ℕ) (p : Pair) (to : Name) (number : ℕ) (g : HeldFile) → Goes es es1 es2 es3 k p to number g
+    → (es3 ≡ by_name (values_of es3)) × ((f : HeldFile) → slice_get (values_of es) k ≡ Some f → values_of es3 ≡ set (values_of es) k (renamed to number f))
+goes es es1 es2 es3 k p to number g x =
+    let r = renames es es1 es2 es3 k p g x.named x.within x.gone x.last x.back in
+    let at = (file_there es k p x.named x.there).0 in
+    (r.named, λ f is. r.values ∙ ap (λ (h : HeldFile). set (values_of es) k h) (x.same ∙ ap (renamed to number) (some_same p.1 f (sym at ∙ is))))
+
+-- the name is free behind the file that went
+pub free_then : (es : List Pair) (k : ℕ) (p : Pair) (to : Name) → es ≡ by_name (values_of es) → Some p ≡ slice_get es k
+    → (is_named to (names_in (values_of es)) ≡ false) ⊎ ((f : HeldFile) → slice_get (values_of es) k ≡ Some f → to ≡ f.entry.name) → (is_named to (keys_of es) ≡ false) ⊎ (to ≡ p.0)
+free_then es k p to is there (inl none) = inl (ap (is_named to) (ap keys_of is ∙ keys_named (values_of es)) ∙ none)
+free_then es k p to is there (inr own) = let at = file_there es k p is there in inr (own p.1 at.0 ∙ sym at.1)
+
+-- there are as many files then
+pub within_still : (es es1 es2 : List Pair) (k : ℕ) (p q : Pair) → es ≡ by_name (values_of es) → k < length (values_of es) → es1 ≡ swap_remove es k p → es2 ≡ es1 ++ q ∷ [] → k < length es2
+within_still es es1 es2 k p q is within gone last =
+    let many : length es ≡ length (values_of es) = ap length is ∙ length-map (values_of es) named in
+    let cut : length es1 ≡ length es - 1 = ap length gone ∙ length-removed es k p in
+    let more : length es2 ≡ length (es1 ++ q ∷ []) = ap length last in
+    omega (arith, length-append es1 (q ∷ []))

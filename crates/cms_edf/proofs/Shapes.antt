@@ -3,13 +3,13 @@ use Rattle.std.proofs.Common.{◌≡◌, ⊎_elim, ℕ, zero, suc, ◌*◌, ◌/
 use Rattle.std.specs.Prelude.{◌&&◌, nat_le, nat_lt, nat_eq}
 use Rattle.std.proofs.lemmas.Bool.{cases_Bool, cases_eq, ltb-true}
 use Rattle.cms_journal.specs.Journal.{IsBlockSize}
+use Rattle.cms_journal.proofs.Sizes.{block_bounds}
 use Rattle.cms_fields.specs.Numbers.{is_shape, up}
 use Rattle.cms_model.specs.Sizes.{levels}
 use Rattle.cms_model.specs.Systems.{SystemFile, system_fields, is_directory, is_map, directory_of, map_of}
 use Rattle.cms_model.proofs.Shapes.{shape_least}
 use Rattle.cms_model.proofs.Quotients.{up_spec, up_some}
 use Rattle.cms_model.proofs.MinidiskSizes.{directory_fits, map_fits}
-use Rattle.cms_edf.proofs.SmallSteps.{size_least}
 
 -- the test against the least levels is the definition's
 pub shape_decides : (fan blocks shape k : ℕ) → 2 ≤ fan → blocks < 2 ^ 32 → shape ≡ levels fan blocks → nat_eq k shape ≡ is_shape fan blocks k
@@ -39,7 +39,7 @@ pub directory_shape : (bsize origin : ℕ) (bytes : List ℕ) (s : SystemFile) �
 directory_shape bsize origin bytes s size small is =
     let f = directory_fits bsize origin bytes s is in
     let low = f.low in
-    let least = size_least bsize size in
+    let least = (block_bounds bsize size).0 in
     let blocks = f.fits.blocks in
     let room = (up_spec (s.count * 64) bsize (omega arith)).0 in
     let some = up_some (s.count * 64) bsize (omega arith) (omega arith) in
@@ -49,7 +49,7 @@ pub map_shape : (bsize total : ℕ) (bytes : List ℕ) (s : SystemFile) → IsBl
     → (1 ≤ s.blocks) × (s.levels ≡ levels (bsize / 4) s.blocks) × (total ≤ 8 * (s.blocks * bsize))
 map_shape bsize total bytes s size some small is =
     let f = map_fits bsize total bytes s is in
-    let least = size_least bsize size in
+    let least = (block_bounds bsize size).0 in
     let blocks = f.fits.blocks in
     let many = up_some (up total 8) bsize (omega arith) (up_some total 8 (omega arith) some) in
     let count = f.count in

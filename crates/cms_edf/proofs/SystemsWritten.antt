@@ -1,15 +1,18 @@
 -- The writes of an update, part by part.
-use Rattle.std.proofs.Common.{◌≡◌, ℕ, suc, ◌+◌, ◌-◌, ◌*◌, ◌≤◌, Bool, List, [], ◌∷◌, ◌++◌, length, take, drop, refl, sym, ◌∙◌, ap, subst, arith, All, append_assoc}
+use Rattle.std.proofs.Common.{◌≡◌, ℕ, ◌*◌, Bool, List, [], ◌∷◌, ◌++◌, length, take, drop, refl, sym, ◌∙◌, ap, subst, arith, All, append_assoc}
 use Rattle.std.proofs.lemmas.List.{take_all, length-take}
 use Rattle.std.proofs.lemmas.List.Elements.{All-take, All-drop, All-head, All-tail, All-nil, All-cons}
-use Rattle.cms_journal.specs.Told.{Told, plus}
+use Rattle.std.specs.Prelude.{⊤, Result}
+use Rattle.cms_journal.specs.declared.event.Failed.{Failed}
 use Rattle.cms_model.specs.Lists.{cut}
-use Rattle.cms_model.specs.Settled.{Write, writes}
-use Rattle.cms_edf.specs.Opening.{HeldTree}
+use Rattle.cms_model.specs.Settled.{Write}
+use Rattle.cms_held.specs.Opening.{HeldTree}
 use Rattle.cms_map.specs.Bits.{bytes_from}
-use Rattle.cms_edf.specs.Systems.{Systems, block_writes, node_writes, system_writes}
-use Rattle.cms_edf.specs.Doubts.{AddsFront, IsBlockOf, directory_writes, map_writes, first_writes}
-use Rattle.cms_edf.proofs.CutOff.{wrote_behind, failed_behind, failed_before}
+use Rattle.cms_held.specs.Systems.{Systems, block_writes, node_writes, system_writes}
+use Rattle.cms_world.specs.Seen.{Seen}
+use Rattle.cms_edf.specs.declared.writing.Target.{Target}
+use Rattle.cms_edf.specs.Doubts.{target_of, directory_writes, map_writes, first_writes}
+use Rattle.cms_edf.specs.Writing.{IsBlockOf, Writes}
 
 -- ---- the parts as they are cut
 
@@ -41,23 +44,6 @@ pub nodes_are : (bsize : ℕ) (t : HeldTree) (leaves pointers : List ℕ) → le
     → node_writes bsize (record { leaves = leaves; pointers = pointers }) ≡ node_writes bsize t
 nodes_are bsize t leaves pointers is_leaves is_pointers = rw (is_leaves, is_pointers) refl
 
--- ---- one part behind another
-
-abbrev pub Wrote : Told → Told → ℕ → List Write → Type 0
-Wrote old new u ws = new ≡ plus old (writes u ws)
-
-abbrev pub Failed : Told → Told → ℕ → List Write → Type 0
-Failed old new u ws = AddsFront old new (writes u ws)
-
-pub failed_one : (old new : Told) (u : ℕ) (a b : List Write) (done : List Write) → done ≡ a → Failed old new u done → Failed old new u (a ++ b)
-failed_one old new u a b done is f = failed_before old new u a b (subst (Failed old new u) is f)
-
-pub failed_two : (old mid new : Told) (u : ℕ) (a b done more : List Write) → done ≡ a → more ≡ b → Wrote old mid u done → Failed mid new u more → Failed old new u (a ++ b)
-failed_two old mid new u a b done more is_a is_b w f = failed_behind old mid new u a b (subst (Wrote old mid u) is_a w) (subst (Failed mid new u) is_b f)
-
-pub wrote_two : (old mid new : Told) (u : ℕ) (a b done more : List Write) → done ≡ a → more ≡ b → Wrote old mid u done → Wrote mid new u more → Wrote old new u (a ++ b)
-wrote_two old mid new u a b done more is_a is_b w f = wrote_behind old mid new u a b (subst (Wrote old mid u) is_a w) (subst (Wrote mid new u) is_b f)
-
 -- the parts joined are an update's writes
 pub parts_are : (bsize : ℕ) (s : Systems) → directory_writes bsize s.directory s.directory_bytes ++ (map_writes bsize s.map s.bits ++ first_writes bsize s.directory s.directory_bytes) ≡
     system_writes bsize s
@@ -71,9 +57,22 @@ parts_are bsize s =
     ∙ ap (λ (l : List Write). rest ++ (nodes ++ l)) (append_assoc data' map_nodes first)
 
 -- the same of what is held, seen as a value
-pub seen : (v s : Systems) (bsize : ℕ) → v ≡ s → length v.label_bytes ≡ bsize
+pub parts_held : (v s : Systems) (bsize : ℕ) → v ≡ s → length v.label_bytes ≡ bsize
     → directory_writes bsize v.directory v.directory_bytes ++ (map_writes bsize v.map v.bits ++ first_writes bsize v.directory v.directory_bytes) ≡ system_writes (length s.label_bytes) s
-seen v s bsize is long = parts_are bsize v ∙ ap (λ (n : ℕ). system_writes n v) (sym long) ∙ ap (λ (x : Systems). system_writes (length x.label_bytes) x) is
+parts_held v s bsize is long = parts_are bsize v ∙ ap (λ (n : ℕ). system_writes n v) (sym long) ∙ ap (λ (x : Systems). system_writes (length x.label_bytes) x) is
+
+-- and where they are written
+pub target_held : (unit : ℕ) (v s : Systems) (bsize : ℕ) → v ≡ s → length v.label_bytes ≡ bsize → target_of unit s ≡ record { unit = unit; total = v.label.blocks; bsize = bsize }
+target_held unit v s bsize is long = rw (sym is, sym long) refl
+
+-- so the parts, written as they are held, are what an update writes
+pub held_made : (unit : ℕ) (v s : Systems) (bsize : ℕ) (old new : Seen) (r : Result ⊤ Failed) → v ≡ s → length v.label_bytes ≡ bsize
+    → Writes old new (record { unit = unit; total = v.label.blocks; bsize = bsize })
+    (directory_writes bsize v.directory v.directory_bytes ++ (map_writes bsize v.map v.bits ++ first_writes bsize v.directory v.directory_bytes)) r
+    → Writes old new (target_of unit s) (system_writes (length s.label_bytes) s) r
+held_made unit v s bsize old new r is long w =
+    subst (λ (t : Target). Writes old new t (system_writes (length s.label_bytes) s) r) (sym (target_held unit v s bsize is long))
+    (subst (λ (ws : List Write). Writes old new (record { unit = unit; total = v.label.blocks; bsize = bsize }) ws r) (parts_held v s bsize is long) w)
 
 -- the numbers of a part
 pub front_within : (total : ℕ) (xs ys : List ℕ) → All (IsBlockOf total) (xs ++ ys) → All (IsBlockOf total) xs

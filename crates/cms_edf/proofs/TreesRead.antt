@@ -14,7 +14,7 @@ use Rattle.cms_tree.specs.declared.types.Walked.{Walked}
 use Rattle.cms_edf.specs.declared.open.Place.{Place}
 use Rattle.cms_edf.specs.declared.open.Listing.{Listing}
 use Rattle.cms_edf.specs.declared.volume.Trees.{Trees}
-use Rattle.cms_edf.specs.Opening.{IsFaultOf}
+use Rattle.cms_held.specs.Opening.{IsFaultOf}
 use Rattle.cms_edf.specs.OpeningSteps.{AreBlocks, ReadsMap, met_in, listed, trees_in}
 use Rattle.cms_edf.specs.OpeningFiles.{HasFiles, HasTrees}
 use Rattle.cms_edf.proofs.Faults.{fault_passes}

@@ -20,7 +20,7 @@ use Rattle.cms_tree.specs.declared.types.Walked.{Walked}
 use Rattle.cms_edf.specs.declared.open.Place.{Place}
 use Rattle.cms_edf.specs.declared.open.Listing.{Listing}
 use Rattle.cms_edf.specs.declared.volume.Trees.{Trees}
-use Rattle.cms_edf.specs.Opening.{HeldFile, HeldVolume, Holding, IsFaultOf, AnswersOpening, held_file, held_files, held_of}
+use Rattle.cms_held.specs.Opening.{HeldFile, HeldVolume, Holding, IsFaultOf, AnswersOpening, held_file, held_files, held_of}
 use Rattle.cms_edf.specs.OpeningSteps.{Listed, Treed, listed, met_in, system_at, listed_in, trees_in, lost_in}
 use Rattle.cms_edf.specs.OpeningFiles.{file_nodes, pointers_in, HasTrees, read_trees, told_file, told_files, opened, behind_label, HasVolume}
 use Rattle.cms_edf.proofs.Faults.{fault_is, fault_passes}

@@ -1,7 +1,7 @@
 -- What is asked of a volume that is held.
 use Rattle.std.specs.Prelude.{ℕ, List, length, map}
 use Rattle.cms_map.specs.Bits.{free_blocks}
-use Rattle.cms_edf.specs.Opening.{HeldFile, HeldVolume}
+use Rattle.cms_held.specs.Opening.{HeldFile, HeldVolume}
 use Rattle.cms_edf.specs.declared.held.FileInfo.{FileInfo}
 use Rattle.cms_edf.specs.declared.held.Space.{Space}
 

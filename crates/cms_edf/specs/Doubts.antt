@@ -1,32 +1,23 @@
 -- What was done where an update was cut off.
-use Rattle.std.specs.Prelude.{◌≡◌, ◌⊎◌, ℕ, ◌+◌, ◌*◌, ◌/◌, ◌^◌, ◌<◌, ◌≤◌, Bool, List, ◌++◌, length, take, drop, All}
-use Rattle.cms_journal.specs.declared.event.Event.{Event}
+use Rattle.std.specs.Prelude.{◌≡◌, ◌⊎◌, ℕ, ◌*◌, ◌/◌, ◌^◌, ◌<◌, ◌≤◌, Bool, List, ◌++◌, length, take, drop, All}
 use Rattle.cms_journal.specs.Journal.{IsBlockSize}
 use Rattle.cms_journal.specs.Told.{Told, plus}
 use Rattle.cms_model.specs.Lists.{cut}
 use Rattle.cms_model.specs.Settled.{Write, writes}
 use Rattle.cms_model.specs.Sizes.{pointer_count}
-use Rattle.cms_model.specs.LawsUpdates.{IsFront, to_label, with_label}
+use Rattle.cms_model.specs.LawsUpdates.{AddsFront, to_label, with_label}
 use Rattle.cms_map.specs.Bits.{bytes_from}
-use Rattle.cms_edf.specs.Opening.{HeldTree}
-use Rattle.cms_edf.specs.Systems.{Systems, block_writes, node_writes}
+use Rattle.cms_held.specs.Opening.{HeldTree}
+use Rattle.cms_held.specs.Systems.{Systems, block_writes, node_writes}
+use Rattle.cms_edf.specs.Writing.{IsBlockOf}
+use Rattle.cms_edf.specs.declared.writing.Target.{Target}
 use Rattle.cms_edf.specs.declared.doubt.Doubt.{Doubt}
 use Rattle.cms_edf.specs.declared.doubt.Doubt.TheVariants.{Old, Either}
-
--- of these events the first were added, as many as were made
-pub record AddsFront (old new : Told) (events : List Event) : Type 0 where
-  pub front : List Event
-  pub told : new ≡ plus old front
-  pub is : IsFront front events
 
 -- an update of these writes was cut off: in its writes or at its first sync, or with its label
 abbrev pub IsCutOff : Told → Told → ℕ → List Write → List ℕ → Doubt → Type 0
 IsCutOff old new unit ws label Old = AddsFront old new (writes unit ws)
 IsCutOff old new unit ws label Either = (new ≡ plus old (to_label unit ws)) ⊎ (new ≡ plus old (with_label unit ws label))
-
--- a block of so many
-abbrev pub IsBlockOf : ℕ → ℕ → Type 0
-IsBlockOf total n = (1 ≤ n) × (n ≤ total)
 
 -- what is held to be written has whole blocks: the label one, the directory as many as it has numbers; each tree has the pointer blocks
 -- that its size says, and all numbers are blocks of the volume
@@ -43,6 +34,10 @@ pub record IsReady (bsize : ℕ) (s : Systems) : Type 0 where
   pub map_few : length s.map.leaves * bsize < 2 ^ 32
   pub map_nodes : length s.map.pointers ≡ pointer_count (bsize / 4) (length s.map.leaves)
   pub map_within : All (IsBlockOf s.label.blocks) (s.map.leaves ++ s.map.pointers)
+
+-- where they are written
+abbrev pub target_of : ℕ → Systems → Target
+target_of unit s = record { unit = unit; total = s.label.blocks; bsize = length s.label_bytes }
 
 -- the parts of an update's writes, in their order: the directory's data blocks but its first with its pointer blocks, the map's data blocks
 -- with its pointer blocks, and the directory's first block

@@ -17,7 +17,7 @@ use Rattle.cms_tree.specs.declared.types.Walked.{Walked}
 use Rattle.cms_tree.specs.Walks.{tree_at, nodes_at}
 use Rattle.cms_edf.specs.declared.open.Place.{Place}
 use Rattle.cms_edf.specs.declared.open.Listing.{Listing}
-use Rattle.cms_edf.specs.Opening.{IsFaultOf}
+use Rattle.cms_held.specs.Opening.{IsFaultOf}
 
 -- what holds of the image of a unit, where the journal is told
 abbrev pub OfImage : Option Journal → ℕ → (Image → Type 0) → Type 0

@@ -3,7 +3,8 @@ ghost use Rattle.std.specs.Prelude.{◌≡◌, ◌≤◌, ◌<◌, ◌+◌, ◌-
 ghost use Rattle.cms_fields.specs.Numbers.{up};
 ghost use Rattle.cms_model.specs.Sizes.{pointer_count};
 ghost use Rattle.cms_map.specs.Bits.{free_blocks, with_marked};
-ghost use Rattle.cms_edf.specs.Renewing.{IsAllotted, LacksRoom, fresh, needed, released, with_freed};
+ghost use Rattle.cms_held.specs.Renewing.{IsAllotted, fresh, needed, released, with_freed};
+ghost use Rattle.cms_edf.specs.Lacking.{LacksRoom};
 
 use crate::blocks::copied;
 use crate::held::{Held, TreeBlocks};
@@ -15,6 +16,9 @@ use std::alloc::{AllocError, Global};
 /// Why no update is planned.
 #[derive(Clone, Copy, Debug, PartialEq, Eq)]
 pub enum PlanFault {
+    /// a limit is passed, which never comes of a drop, a renaming or a relabelling: 1 the number of files, 2 that of records, 3 that of
+    /// stored bytes
+    Limit(u32),
     /// there is no room
     Full {
         /// the free blocks that are needed
@@ -155,14 +159,15 @@ fn take_trees(
     })
 }
 
-// The lowest free blocks, and the map with them.
+/// The lowest free blocks, and the map with them.
 #[derive(Drop)]
-struct Taken {
-    blocks: Vec<u32>,
-    map: Map,
+pub struct Taken {
+    pub blocks: Vec<u32>,
+    pub map: Map,
 }
 
-fn take_blocks(alloc: Global, map: &Map, count: u32) -> Result<Taken, AllocError>
+/// Takes so many of the lowest free blocks of a map, which stays as it is.
+pub fn take_blocks(alloc: Global, map: &Map, count: u32) -> Result<Taken, AllocError>
     requires { count ≤ length (free_blocks map.now) }
     ensures blocks { IfOk result (λ t. t.blocks.items ≡ take count (free_blocks map.now)) }
     ensures marked { IfOk result (λ t. t.map ≡ with_marked (take count (free_blocks map.now)) map.now) }
@@ -226,6 +231,7 @@ pub fn allot(
     ensures allotted { IfOk result (λ a. IsAllotted held.now.volume files (leaves.now ++ pointers.now)
         a.file.items a.directory a.map_tree a.map) }
     ensures file { IfOk result (λ a. length a.file.items ≡ file) }
+    ensures map_few { IfOk result (λ a. length a.map_tree.leaves < 2 ^ 32) }
     ensures room { OnOk result (file + needed held.now.volume files ≤ length (free_blocks held.now.volume.bits)) }
     ensures full { IfErr result (LacksRoom held.now.volume (file + needed held.now.volume files)) }
 {

@@ -4,6 +4,9 @@ ghost use Rattle.std.specs.Prelude.{◌≡◌, ◌≤◌, ◌+◌, length, drop,
 pub use cms_world::{ReadFault, read_block};
 use std::alloc::{AllocError, Global};
 
+/// The block of the label.
+pub const LABEL: u32 = 3;
+
 /// The bytes from a place on.
 pub fn after(bytes: &[u8], at: usize) -> &[u8]
     requires { at ≤ length bytes.now }

@@ -1,7 +1,6 @@
 // The records of the files of any volume, as opening reads them: none but those of varying lengths, a block at a time.
 ghost use Rattle.std.specs.Prelude.{◌≡◌, ◌⊎◌, ◌≤◌, ◌<◌, ◌+◌, ◌*◌, ◌++◌, ◌∷◌, [], ℕ, List, All, length, map, slice_index, true, false, Ok, Err, IfOk, IfErr, OnOk, None};
 ghost use Rattle.std.specs.Option.{ForSome};
-ghost use Rattle.cms_journal.specs.Causes.{Rose};
 ghost use Rattle.cms_journal.specs.Journal.{HasBlock, HasBlocks, contents_of};
 ghost use Rattle.cms_model.specs.Trees.{image_of, bytes_at};
 ghost use Rattle.indexmap.specs.IndexMap.{keys, values};
@@ -12,12 +11,13 @@ ghost use Rattle.cms_model.specs.Volumes.{blamed, contents_in, first_twice};
 ghost use Rattle.cms_model.specs.declared.fault.OpenFault.TheVariants as failed;
 ghost use Rattle.cms_records.specs.Scans.{IsFed, sizes_in};
 ghost use Rattle.cms_tree.specs.Walks.{IsWithin};
-ghost use Rattle.cms_edf.specs.Opening.{IsFaultOf, by_name};
-ghost use Rattle.cms_edf.specs.Kept.{IsKeptFile};
+ghost use Rattle.cms_held.specs.Opening.{IsFaultOf, by_name};
+ghost use Rattle.cms_held.specs.Kept.{IsKeptFile};
 ghost use Rattle.cms_edf.specs.OpeningSteps.{OfImage, met_in};
 ghost use Rattle.cms_edf.specs.EntryShapes.{HasSize};
 ghost use Rattle.cms_edf.specs.OpeningFiles.{records_in, HasRecords, HasContents, HaveCounts};
 ghost use Rattle.cms_fields.specs.Limits.{longest_record, most_bytes, most_files};
+ghost use Rattle.cms_world.specs.Seen.{OnlyReads, seen};
 
 use crate::held::{FileHeld, TreeBlocks};
 use crate::open::Place;
@@ -82,10 +82,7 @@ fn read_varying<W: World>(
     ensures some { IfOk result (λ sizes. 1 ≤ sizes.longest) }
     ensures longest { IfOk result (λ sizes. sizes.longest ≤ longest_record) }
     ensures stored { IfOk result (λ sizes. sizes.stored ≤ most_bytes) }
-    ensures cause { IfErr result (λ e. e ≡ failed.Device → Rose (W.faults world.old) (W.faults world.new)) }
-    ensures told { W.told world.new ≡ W.told world.old }
-    ensures faults { W.faults world.old ≤ W.faults world.new }
-    ensures edges { W.edges world.new ≡ W.edges world.old }
+    ensures reads { OnlyReads (seen W.World world.old) (seen W.World world.new) failed.Device result }
 {
     let mut scan = VarScan::new(count, place.bsize);
     for nth in 0..leaves.len() {
@@ -117,10 +114,7 @@ fn read_sizes<W: World>(
     ensures longest { IfOk result (λ sizes. sizes.longest ≤ longest_record) }
     ensures fixed { IfOk result (λ sizes. entry.now.format ≡ F → sizes.longest ≡ entry.now.length) }
     ensures stored { IfOk result (λ sizes. sizes.stored ≤ most_bytes) }
-    ensures cause { IfErr result (λ e. e ≡ failed.Device → Rose (W.faults world.old) (W.faults world.new)) }
-    ensures told { W.told world.new ≡ W.told world.old }
-    ensures faults { W.faults world.old ≤ W.faults world.new }
-    ensures edges { W.edges world.new ≡ W.edges world.old }
+    ensures reads { OnlyReads (seen W.World world.old) (seen W.World world.new) failed.Device result }
 {
     match entry.format {
         Format::F => Ok(VarSizes {
@@ -187,10 +181,7 @@ pub fn read_contents<W: World>(
     ensures each { IfOk result (λ files. All (IsKeptFile place.now.bsize place.now.total) (values files)) }
     ensures fault { IfErr result (λ why. OfImage (W.told world.old) place.now.unit (λ image. IsFaultOf
         (contents_in place.now.bsize image 2 entries.now (map met_in trees.items)) why)) }
-    ensures cause { IfErr result (λ e. e ≡ failed.Device → Rose (W.faults world.old) (W.faults world.new)) }
-    ensures told { W.told world.new ≡ W.told world.old }
-    ensures faults { W.faults world.old ≤ W.faults world.new }
-    ensures edges { W.edges world.new ≡ W.edges world.old }
+    ensures reads { OnlyReads (seen W.World world.old) (seen W.World world.new) failed.Device result }
 {
     let mut files = IndexMap::new(alloc);
     for tree in trees {

@@ -1,13 +1,13 @@
 // The end of an update, and what is left where one is cut off.
 ghost use Rattle.std.specs.Prelude.{◌≡◌, ◌⊎◌, ◌≤◌, ◌∷◌, [], length, OnOk, IfErr};
 ghost use Rattle.std.specs.Option.{ForSome};
-ghost use Rattle.cms_journal.specs.Causes.{HasCause};
 ghost use Rattle.cms_journal.specs.Journal.{HasBlocks, IsWritable};
 ghost use Rattle.cms_journal.specs.Told.{plus};
 ghost use Rattle.cms_model.specs.Settled.{update};
 ghost use Rattle.cms_edf.specs.Doubts.{IsCutOff};
+ghost use Rattle.cms_world.specs.Seen.{OnUnits, seen};
 
-use crate::small::LABEL;
+use crate::blocks::LABEL;
 use cms_journal::BlockSize;
 use cms_world::{Failed, World};
 
@@ -21,7 +21,7 @@ pub enum Doubt {
 }
 
 /// Syncs, writes the label, and syncs: the end of an update of no more writes.
-#[tactic(auto, using(crate::proofs::CutOff::all_confirmed, crate::proofs::CutOff::front_none))]
+#[tactic(auto, using(crate::proofs::CutOff::all_confirmed, cms_held::proofs::Fronts::front_none))]
 pub fn confirm<W: World>(
     world: &mut W,
     unit: u8,
@@ -33,8 +33,7 @@ pub fn confirm<W: World>(
     requires writable { ForSome (W.told world.old) (λ j. IsWritable j.units unit) }
     ensures done { OnOk result (W.told world.new ≡ plus (W.told world.old) (update unit [] label.now)) }
     ensures cut_off { IfErr result (IsCutOff (W.told world.old) (W.told world.new) unit [] label.now) }
-    ensures cause { HasCause (W.faults world.old) (W.faults world.new) result }
-    ensures edges { W.edges world.new ≡ W.edges world.old }
+    ensures counts { OnUnits (seen W.World world.old) (seen W.World world.new) result }
 {
     match world.sync(unit) {
         Ok(()) => {}

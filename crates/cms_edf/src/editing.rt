@@ -1,9 +1,12 @@
 // Files that go or have another name.
-ghost use Rattle.std.specs.Prelude.{◌≡◌, ◌≤◌, ◌<◌, length, swap_remove};
+ghost use Rattle.std.specs.Prelude.{◌≡◌, ◌⊎◌, ◌≤◌, ◌<◌, false, length, slice_get, slice_set, swap_remove, Some};
 ghost use Rattle.indexmap.specs.IndexMap.{spare, values};
-ghost use Rattle.cms_edf.specs.Opening.{HeldFile, by_name};
+ghost use Rattle.cms_model.specs.Minidisks.{is_named};
+ghost use Rattle.cms_held.specs.Opening.{HeldFile, by_name, names_in};
+ghost use Rattle.cms_held.specs.Renewing.{renamed};
 
 use crate::held::FileHeld;
+use cms_fields::Entry;
 use cms_names::Name;
 use indexmap::IndexMap;
 
@@ -16,4 +19,37 @@ pub fn drop_file(files: &mut IndexMap<Name, FileHeld>, place: u32)
     ensures room { spare files.old ≤ spare files.new }
 {
     files.swap_remove_index(place as usize);
+}
+
+// A file with another name and mode number.
+fn with_name(file: FileHeld, to: &Name, number: u8) -> FileHeld
+    ensures { result ≡ renamed to.now number file }
+{
+    let entry = Entry {
+        name: *to,
+        number,
+        ..file.entry
+    };
+    FileHeld { entry, ..file }
+}
+
+/// The file at a place has another name, which no other file has, and mode number. It keeps its place.
+pub fn rename_file(files: &mut IndexMap<Name, FileHeld>, place: u32, to: &Name, number: u8)
+    requires within { place < length (values files.old) }
+    requires named { files.old.entries ≡ by_name (values files.old) }
+    requires free { (is_named to.now (names_in (values files.old)) ≡ false)
+        ⊎ ((f : HeldFile) → slice_get (values files.old) place ≡ Some f → to.now ≡ f.entry.name) }
+    requires room { 1 ≤ spare files.old }
+    ensures files { (f : HeldFile) → slice_get (values files.old) place ≡ Some f
+        → values files.new ≡ slice_set (values files.old) place (renamed to.now number f) }
+    ensures named { files.new.entries ≡ by_name (values files.new) }
+{
+    let place = place as usize;
+    let Some((_, file)) = files.swap_remove_index(place) else {
+        return;
+    };
+    let file = with_name(file, to, number);
+    files.insert(*to, file).unwrap();
+    let last = files.len() - 1;
+    files.swap_indices(place, last);
 }

@@ -5,7 +5,7 @@ ghost use Rattle.cms_fields.specs.Entries.{entry_of};
 ghost use Rattle.cms_model.specs.Lists.{cut};
 ghost use Rattle.cms_model.specs.Volumes.{blamed, entries_of, first_twice};
 ghost use Rattle.cms_model.specs.declared.fault.OpenFault.TheVariants as failed;
-ghost use Rattle.cms_edf.specs.Opening.{IsFaultOf};
+ghost use Rattle.cms_held.specs.Opening.{IsFaultOf};
 ghost use Rattle.cms_fields.specs.Limits.{most_files};
 
 use crate::blocks::after;

@@ -1,21 +1,21 @@
 // The files of any volume: their trees, and what is told of their records.
 ghost use Rattle.std.specs.Prelude.{◌≡◌, ◌⊎◌, ◌≤◌, ◌<◌, ◌+◌, ◌*◌, ◌++◌, ◌∷◌, [], ℕ, List, All, length, map, Ok, IfOk, IfErr, OnOk, None};
 ghost use Rattle.std.specs.Option.{ForSome};
-ghost use Rattle.cms_journal.specs.Causes.{Rose};
 ghost use Rattle.cms_journal.specs.Journal.{HasBlocks, contents_of};
 ghost use Rattle.cms_fields.specs.Entries.{pointer_size};
 ghost use Rattle.cms_model.specs.Trees.{image_of};
 ghost use Rattle.cms_model.specs.Volumes.{holder_of, file_trees, tree_blocks};
 ghost use Rattle.cms_model.specs.declared.fault.OpenFault.TheVariants.{Device, Memory};
 ghost use Rattle.cms_tree.specs.Walks.{IsWithin};
-ghost use Rattle.cms_edf.specs.Opening.{IsFaultOf};
+ghost use Rattle.cms_held.specs.Opening.{IsFaultOf};
 ghost use Rattle.cms_edf.specs.OpeningSteps.{OfImage, met_in};
 ghost use Rattle.cms_edf.specs.EntryShapes.{HasShape};
 ghost use Rattle.cms_edf.specs.OpeningFiles.{file_at, ReadsFile, HasFiles, HaveCounts};
 ghost use Rattle.cms_fields.specs.Limits.{most_files};
+ghost use Rattle.cms_world.specs.Seen.{OnlyReads, seen};
 
-use crate::directory::ENTRY_SIZE;
 use crate::open::Place;
+use crate::system::ENTRY_SIZE;
 use crate::trees::tree_of;
 use cms_fields::Entry;
 use cms_journal::BlockSize;
@@ -74,10 +74,7 @@ fn read_file<W: World>(
     ensures read { OfImage (W.told world.old) place.now.unit (λ image. ReadsFile place.now image holder entry.now result) }
     ensures count { IfOk result (λ walked. length walked.leaves.items ≡ entry.now.blocks) }
     ensures within { IfOk result (IsWithin place.now.total None) }
-    ensures cause { IfErr result (λ e. e ≡ Device → Rose (W.faults world.old) (W.faults world.new)) }
-    ensures told { W.told world.new ≡ W.told world.old }
-    ensures faults { W.faults world.old ≤ W.faults world.new }
-    ensures edges { W.edges world.new ≡ W.edges world.old }
+    ensures reads { OnlyReads (seen W.World world.old) (seen W.World world.new) Device result }
 {
     tree_of(alloc, world, &file_at(place, holder, entry))
 }
@@ -112,10 +109,7 @@ pub fn read_files<W: World>(
     ensures count { IfOk result (λ v. length v.items ≡ length entries.now) }
     ensures counts { IfOk result (λ v. HaveCounts entries.now v.items) }
     ensures within { IfOk result (λ v. All (IsWithin place.now.total None) v.items) }
-    ensures cause { IfErr result (λ e. e ≡ Device → Rose (W.faults world.old) (W.faults world.new)) }
-    ensures told { W.told world.new ≡ W.told world.old }
-    ensures faults { W.faults world.old ≤ W.faults world.new }
-    ensures edges { W.edges world.new ≡ W.edges world.old }
+    ensures reads { OnlyReads (seen W.World world.old) (seen W.World world.new) Device result }
 {
     let mut trees = Vec::new(alloc);
     for nth in 0..entries.len() {

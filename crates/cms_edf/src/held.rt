@@ -1,9 +1,9 @@
 // A volume as it is held in memory, and what is asked of it.
-ghost use Rattle.std.specs.Prelude.{◌≡◌, ◌<◌, ◌≤◌, Some, length, map, position, slice_get};
+ghost use Rattle.std.specs.Prelude.{◌≡◌, ◌<◌, ◌≤◌, Some, IsSome, OnOk, length, map, position, slice_get};
 ghost use Rattle.indexmap.specs.IndexMap.{keys, values};
 ghost use Rattle.cms_model.specs.Minidisks.{same_name};
-ghost use Rattle.cms_edf.specs.Opening.{names_in};
-ghost use Rattle.cms_edf.specs.Kept.{Keeps};
+ghost use Rattle.cms_held.specs.Opening.{names_in};
+ghost use Rattle.cms_held.specs.Kept.{Keeps};
 ghost use Rattle.cms_edf.specs.Asking.{info_of, infos_in, leaves_in, space_of};
 
 use cms_fields::{Entry, Label, Stamp};
@@ -11,6 +11,7 @@ use cms_journal::BlockSize;
 use cms_map::Map;
 use cms_names::{Format, Name};
 use indexmap::IndexMap;
+use std::alloc::AllocError;
 use std::marker::Model;
 
 /// The blocks of a tree: its data blocks in order, and its pointer blocks.
@@ -21,7 +22,7 @@ pub struct TreeBlocks {
 }
 
 impl Model for TreeBlocks {
-    ghost use Rattle.cms_edf.specs.Opening.{HeldTree};
+    ghost use Rattle.cms_held.specs.Opening.{HeldTree};
 
     ghost Value = { HeldTree };
 
@@ -54,7 +55,7 @@ pub struct FileHeld {
 }
 
 impl Model for FileHeld {
-    ghost use Rattle.cms_edf.specs.Opening.{HeldFile};
+    ghost use Rattle.cms_held.specs.Opening.{HeldFile};
 
     ghost Value = { HeldFile };
 
@@ -74,6 +75,13 @@ impl FileHeld {
         ensures { result.now ≡ self.now.tree.leaves }
     {
         &self.tree.leaves
+    }
+
+    // Its blocks.
+    pub(crate) fn tree(&self) -> &TreeBlocks
+        ensures { result.now ≡ self.now.tree }
+    {
+        &self.tree
     }
 
     /// The length of each of its records at F, of the longest at V, 1 to 65,535.
@@ -154,8 +162,8 @@ pub struct Held {
 impl Model for Held {
     ghost use Rattle.std.specs.Prelude.{◌≡◌, length};
     ghost use Rattle.indexmap.specs.IndexMap.{values, spare};
-    ghost use Rattle.cms_edf.specs.Opening.{Holding, by_name};
-    ghost use Rattle.cms_edf.specs.Kept.{IsKept};
+    ghost use Rattle.cms_held.specs.Opening.{Holding, by_name};
+    ghost use Rattle.cms_held.specs.Kept.{IsKept};
 
     ghost Value = { Holding };
 
@@ -205,6 +213,24 @@ impl Held {
             Some(place) => Some(place as u32),
             None => None,
         }
+    }
+
+    // The place of a name that a file has.
+    pub(crate) fn place(&self, name: &Name) -> u32
+        requires { IsSome (position (same_name name.now) (names_in self.now.volume.files)) }
+        ensures { position (same_name name.now) (names_in self.now.volume.files) ≡ Some result }
+    {
+        self.find(name).unwrap()
+    }
+
+    // Room for one more file.
+    pub(crate) fn reserve(&mut self) -> Result<(), AllocError>
+        ensures volume { self.new.volume ≡ self.old.volume }
+        ensures spare { OnOk result (1 ≤ self.new.spare) }
+        ensures places { self.old.spare ≤ self.new.spare }
+        ensures kept { Keeps self.new.volume }
+    {
+        self.files.reserve(1)
     }
 
     /// The volume id, the size of blocks, and how many there are and are free.

@@ -1,7 +1,6 @@
 // Any volume is opened, test by test.
 ghost use Rattle.std.specs.Prelude.{◌≡◌, ◌⊎◌, ◌≤◌, ◌<◌, ◌+◌, ◌^◌, ◌*◌, ◌/◌, [], All, true, Some, None, IfOk, IfErr, OnOk, length};
 ghost use Rattle.std.specs.Option.{ForSome};
-ghost use Rattle.cms_journal.specs.Causes.{Rose};
 ghost use Rattle.cms_journal.specs.Journal.{HasBlocks, contents_of};
 ghost use Rattle.cms_fields.specs.Entries.{passes};
 ghost use Rattle.cms_model.specs.Trees.{image_of};
@@ -9,10 +8,11 @@ ghost use Rattle.cms_model.specs.Sizes.{levels};
 ghost use Rattle.cms_model.specs.Volumes.{absent, first_twice};
 ghost use Rattle.cms_model.specs.declared.fault.OpenFault.TheVariants as failed;
 ghost use Rattle.cms_tree.specs.Walks.{IsWithin, image_at};
-ghost use Rattle.cms_edf.specs.Opening.{IsFaultOf, AnswersOpening};
+ghost use Rattle.cms_held.specs.Opening.{IsFaultOf, AnswersOpening};
 ghost use Rattle.cms_edf.specs.OpeningSteps.{OfImage, ReadsTree, ReadsListed, ReadsMap, system_at};
 ghost use Rattle.cms_edf.specs.EntryShapes.{HasShape, HasSize};
 ghost use Rattle.cms_fields.specs.Limits.{most_files};
+ghost use Rattle.cms_world.specs.Seen.{OnlyReads, seen};
 
 use crate::blocks::after;
 use crate::entries::{entries_of, name_twice};
@@ -97,10 +97,7 @@ pub fn read_listing<W: World>(
     ensures names { IfOk result (λ l. first_twice 2 [] l.entries.items ≡ None) }
     ensures few { IfOk result (λ l. length l.entries.items ≤ most_files) }
     ensures within { IfOk result (λ l. IsWithin place.now.total (Some place.now.origin) l.walked) }
-    ensures cause { IfErr result (λ e. e ≡ failed.Device → Rose (W.faults world.old) (W.faults world.new)) }
-    ensures told { W.told world.new ≡ W.told world.old }
-    ensures faults { W.faults world.old ≤ W.faults world.new }
-    ensures edges { W.edges world.new ≡ W.edges world.old }
+    ensures reads { OnlyReads (seen W.World world.old) (seen W.World world.new) failed.Device result }
 {
     let first = block_of(alloc, world, place.unit, place.origin, place.bsize)?;
     let directory = directory_in(place.bsize, place.origin, &first)?;
@@ -132,10 +129,7 @@ pub fn read_map<W: World>(
     ensures read { OfImage (W.told world.old) place.now.unit (λ image. ReadsMap place.now image system.now result) }
     ensures count { IfOk result (λ walked. length walked.leaves.items ≡ system.now.blocks) }
     ensures within { IfOk result (IsWithin place.now.total None) }
-    ensures cause { IfErr result (λ e. e ≡ failed.Device → Rose (W.faults world.old) (W.faults world.new)) }
-    ensures told { W.told world.new ≡ W.told world.old }
-    ensures faults { W.faults world.old ≤ W.faults world.new }
-    ensures edges { W.edges world.new ≡ W.edges world.old }
+    ensures reads { OnlyReads (seen W.World world.old) (seen W.World world.new) failed.Device result }
 {
     tree_of(alloc, world, &system_at(place, system, None))
 }

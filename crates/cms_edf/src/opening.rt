@@ -1,20 +1,20 @@
 // Any volume is opened.
 ghost use Rattle.std.specs.Prelude.{◌≡◌, ◌⊎◌, ◌≤◌, ◌<◌, length, IfOk, IfErr};
 ghost use Rattle.std.specs.Option.{ForSome};
-ghost use Rattle.cms_journal.specs.Causes.{Rose};
 ghost use Rattle.cms_journal.specs.Journal.{HasBlocks, contents_of};
 ghost use Rattle.cms_model.specs.Trees.{image_of};
 ghost use Rattle.cms_model.specs.declared.fault.OpenFault.TheVariants.{Device};
-ghost use Rattle.cms_edf.specs.Opening.{IsFaultOf, AnswersOpening};
-ghost use Rattle.cms_edf.specs.Kept.{Keeps};
+ghost use Rattle.cms_held.specs.Opening.{IsFaultOf, AnswersOpening};
+ghost use Rattle.cms_held.specs.Kept.{Keeps};
 ghost use Rattle.cms_edf.specs.OpeningFiles.{HasVolume, behind_label};
 ghost use Rattle.cms_edf.specs.OpeningSteps.{OfImage};
+ghost use Rattle.cms_world.specs.Seen.{OnlyReads, seen};
 
+use crate::blocks::LABEL;
 use crate::contents::read_contents;
 use crate::entries::label_of;
 use crate::held::{Held, TreeBlocks};
 use crate::open::{Place, read_listing};
-use crate::small::LABEL;
 use crate::trees::block_of;
 use crate::volume::{read_marks, read_trees};
 use cms_fields::{Label, LabelFault};
@@ -68,10 +68,7 @@ fn open_labelled<W: World>(
     ensures kept { IfOk result (λ held. Keeps held.volume) }
     ensures fault { IfErr result (λ why. OfImage (W.told world.old) unit.now.number (λ image.
         IsFaultOf (behind_label (record { bsize = bsize; count = unit.now.blocks }) image label) why)) }
-    ensures cause { IfErr result (λ e. e ≡ Device → Rose (W.faults world.old) (W.faults world.new)) }
-    ensures told { W.told world.new ≡ W.told world.old }
-    ensures faults { W.faults world.old ≤ W.faults world.new }
-    ensures edges { W.edges world.new ≡ W.edges world.old }
+    ensures reads { OnlyReads (seen W.World world.old) (seen W.World world.new) Device result }
 {
     let place = place_of(unit, bsize, &label);
     let listing = read_listing(alloc, world, &place)?;
@@ -107,10 +104,7 @@ pub fn open_volume<W: World>(
     ensures disk { IfOk result (λ held. held.volume.disk ≡ record { bsize = bsize; count = unit.now.blocks }) }
     ensures unit { IfOk result (λ held. held.volume.unit ≡ unit.now.number) }
     ensures kept { IfOk result (λ held. Keeps held.volume) }
-    ensures cause { IfErr result (λ e. e ≡ Device → Rose (W.faults world.old) (W.faults world.new)) }
-    ensures told { W.told world.new ≡ W.told world.old }
-    ensures faults { W.faults world.old ≤ W.faults world.new }
-    ensures edges { W.edges world.new ≡ W.edges world.old }
+    ensures reads { OnlyReads (seen W.World world.old) (seen W.World world.new) Device result }
 {
     if unit.blocks < 6 {
         return Err(OpenFault::Label(LabelFault::Count));

@@ -7,12 +7,17 @@ ghost use Rattle.cms_model.specs.declared.fault.OpenFault.TheVariants.{Device};
 ghost use Rattle.cms_model.specs.Systems.{system_fields, is_system, is_directory, is_map, directory_of, map_of};
 ghost use Rattle.cms_fields.specs.Limits.{most_files};
 
-use crate::directory::{ENTRY_SIZE, FIXED};
 use cms_journal::BlockSize;
 use cms_model::OpenFault;
 use cms_text::bytes::word_at;
 use cms_tree::shape;
 use std::marker::Model;
+
+/// Bytes of an entry.
+pub const ENTRY_SIZE: u32 = 64;
+
+/// Fixed records, in EBCDIC.
+pub const FIXED: u8 = 0xC6;
 
 /// The greatest number of files.
 const MOST_FILES: u32 = 16_384;

@@ -1,12 +1,11 @@
 // What an update writes but a file's blocks: the directory, the map and the label.
-ghost use Rattle.std.specs.Prelude.{◌≡◌, ◌⊎◌, ◌≤◌, length, OnOk, OnErr, IfErr};
-ghost use Rattle.std.specs.Option.{ForSome};
-ghost use Rattle.cms_journal.specs.Causes.{HasCause};
-ghost use Rattle.cms_journal.specs.Journal.{HasBlocks, IsWritable};
+ghost use Rattle.std.specs.Prelude.{◌≡◌, length, OnOk, IfErr};
 ghost use Rattle.cms_journal.specs.Told.{plus};
-ghost use Rattle.cms_model.specs.Settled.{writes, update};
-ghost use Rattle.cms_edf.specs.Systems.{system_writes};
-ghost use Rattle.cms_edf.specs.Doubts.{AddsFront, IsCutOff};
+ghost use Rattle.cms_model.specs.Settled.{update};
+ghost use Rattle.cms_world.specs.Seen.{OnUnits, seen};
+ghost use Rattle.cms_held.specs.Systems.{system_writes};
+ghost use Rattle.cms_edf.specs.Doubts.{IsCutOff, target_of};
+ghost use Rattle.cms_edf.specs.Writing.{MayWrite, Writes};
 
 use crate::doubt::{Doubt, confirm};
 use crate::held::TreeBlocks;
@@ -18,7 +17,7 @@ use cms_world::{Failed, World};
 use std::marker::Model;
 
 /// The most bytes of a block.
-const LARGEST: usize = 4096;
+pub const LARGEST: usize = 4096;
 
 /// A new directory, map and label, ready to be written.
 #[derive(Drop)]
@@ -33,7 +32,7 @@ pub struct SystemBlocks {
 }
 
 impl Model for SystemBlocks {
-    ghost use Rattle.cms_edf.specs.Systems.{Systems};
+    ghost use Rattle.cms_held.specs.Systems.{Systems};
     ghost use Rattle.cms_edf.specs.Doubts.{IsReady};
 
     ghost Value = { Systems };
@@ -60,16 +59,9 @@ impl Model for SystemBlocks {
 impl SystemBlocks {
     // Writes the directory and the map, but for the label.
     fn write<W: World>(&self, world: &mut W, unit: u8) -> Result<(), Failed>
-        requires blocks { ForSome (W.told world.old) (λ j. HasBlocks j.units unit self.now.label.blocks (length self.now.label_bytes)) }
-        requires writable { ForSome (W.told world.old) (λ j. IsWritable j.units unit) }
-        ensures done { OnOk result (W.told world.new ≡ plus (W.told world.old)
-            (writes unit (system_writes (length self.now.label_bytes) self.now))) }
-        ensures failed { OnErr result (AddsFront (W.told world.old) (W.told world.new)
-            (writes unit (system_writes (length self.now.label_bytes) self.now))) }
-        ensures still { ForSome (W.told world.new) (λ j. HasBlocks j.units unit self.now.label.blocks (length self.now.label_bytes)) }
-        ensures writable { ForSome (W.told world.new) (λ j. IsWritable j.units unit) }
-        ensures cause { HasCause (W.faults world.old) (W.faults world.new) result }
-        ensures edges { W.edges world.new ≡ W.edges world.old }
+        requires may { MayWrite (W.told world.old) (target_of unit self.now) }
+        ensures writes { Writes (seen W.World world.old) (seen W.World world.new) (target_of unit self.now)
+            (system_writes (length self.now.label_bytes) self.now) result }
     {
         let target = Target {
             unit,
@@ -99,14 +91,12 @@ impl SystemBlocks {
     /// Takes no memory. At `Old` a part of the writes was made and nothing was synced since; at `Either` all of them were, with one
     /// sync, and perhaps the label was written.
     pub fn carry_out<W: World>(&self, world: &mut W, unit: u8) -> Result<(), Doubt>
-        requires blocks { ForSome (W.told world.old) (λ j. HasBlocks j.units unit self.now.label.blocks (length self.now.label_bytes)) }
-        requires writable { ForSome (W.told world.old) (λ j. IsWritable j.units unit) }
+        requires may { MayWrite (W.told world.old) (target_of unit self.now) }
         ensures done { OnOk result (W.told world.new ≡ plus (W.told world.old)
             (update unit (system_writes (length self.now.label_bytes) self.now) self.now.label_bytes)) }
         ensures cut_off { IfErr result (IsCutOff (W.told world.old) (W.told world.new) unit
             (system_writes (length self.now.label_bytes) self.now) self.now.label_bytes) }
-        ensures cause { HasCause (W.faults world.old) (W.faults world.new) result }
-        ensures edges { W.edges world.new ≡ W.edges world.old }
+        ensures counts { OnUnits (seen W.World world.old) (seen W.World world.new) result }
     {
         match self.write(world, unit) {
             Ok(()) => confirm(world, unit, self.bsize, &self.label_bytes),

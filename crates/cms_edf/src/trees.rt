@@ -1,10 +1,10 @@
 // Trees and the bytes of their data blocks, as opening reads them.
 ghost use Rattle.std.specs.Prelude.{◌≡◌, ◌⊎◌, ◌≤◌, ◌<◌, ◌+◌, ◌*◌, ◌++◌, ℕ, length, slice_index, IfOk, IfErr, OnOk};
 ghost use Rattle.std.specs.Option.{ForSome};
-ghost use Rattle.cms_journal.specs.Causes.{Rose};
 ghost use Rattle.cms_journal.specs.Journal.{HasBlock, HasBlocks, contents_of};
 ghost use Rattle.cms_model.specs.Trees.{image_of, bytes_at};
 ghost use Rattle.cms_model.specs.declared.fault.OpenFault.TheVariants.{Device, Memory};
+ghost use Rattle.cms_world.specs.Seen.{OnlyReads, seen};
 ghost use Rattle.cms_tree.specs.Walks.{IsWithin, image_at};
 ghost use Rattle.cms_edf.specs.OpeningSteps.{OfImage, ReadsTree, AreBlocks};
 
@@ -17,7 +17,7 @@ use cms_world::World;
 use std::alloc::Global;
 
 /// The bytes of a block of the unit.
-#[tactic(auto, using(crate::proofs::SmallSteps::block_in_image))]
+#[tactic(auto, using(cms_model::proofs::Images::block_in_image))]
 pub fn block_of<W: World>(
     alloc: Global,
     world: &mut W,
@@ -30,10 +30,7 @@ pub fn block_of<W: World>(
     ensures size { IfOk result (λ v. length v.items ≡ bsize) }
     ensures least { IfOk result (λ v. 512 ≤ length v.items) }
     ensures fault { IfErr result (λ e. (e ≡ Device) ⊎ (e ≡ Memory)) }
-    ensures cause { IfErr result (λ e. e ≡ Device → Rose (W.faults world.old) (W.faults world.new)) }
-    ensures told { W.told world.new ≡ W.told world.old }
-    ensures faults { W.faults world.old ≤ W.faults world.new }
-    ensures edges { W.edges world.new ≡ W.edges world.old }
+    ensures reads { OnlyReads (seen W.World world.old) (seen W.World world.new) Device result }
 {
     match read_block(alloc, world, unit, number, bsize.bytes()) {
         Ok(bytes) => Ok(bytes),
@@ -50,10 +47,7 @@ pub fn tree_of<W: World>(alloc: Global, world: &mut W, at: &TreeAt) -> Result<Wa
     ensures read { ForSome (W.told world.old) (λ j. ReadsTree (image_at j at.now) at.now result) }
     ensures count { IfOk result (λ walked. length walked.leaves.items ≡ at.now.count) }
     ensures within { IfOk result (IsWithin at.now.volume at.now.first) }
-    ensures cause { IfErr result (λ e. e ≡ Device → Rose (W.faults world.old) (W.faults world.new)) }
-    ensures told { W.told world.new ≡ W.told world.old }
-    ensures faults { W.faults world.old ≤ W.faults world.new }
-    ensures edges { W.edges world.new ≡ W.edges world.old }
+    ensures reads { OnlyReads (seen W.World world.old) (seen W.World world.new) Device result }
 {
     match walk(alloc, world, at) {
         Ok(walked) => Ok(walked),
@@ -86,10 +80,7 @@ pub fn bytes_of<W: World>(
     ensures bytes { IfOk result (λ v. OfImage (W.told world.old) unit (λ image. v.items ≡ bytes_at image blocks.now)) }
     ensures size { IfOk result (λ v. length v.items ≡ bsize * length blocks.now) }
     ensures fault { IfErr result (λ e. (e ≡ Device) ⊎ (e ≡ Memory)) }
-    ensures cause { IfErr result (λ e. e ≡ Device → Rose (W.faults world.old) (W.faults world.new)) }
-    ensures told { W.told world.new ≡ W.told world.old }
-    ensures faults { W.faults world.old ≤ W.faults world.new }
-    ensures edges { W.edges world.new ≡ W.edges world.old }
+    ensures reads { OnlyReads (seen W.World world.old) (seen W.World world.new) Device result }
 {
     let mut bytes = Vec::new(alloc);
     for place in 0..blocks.len() {
@@ -115,10 +106,7 @@ fn append_block<W: World>(
     ensures bytes { OnOk result (OfImage (W.told world.old) place.now.unit (λ image. into.new.items ≡ into.old.items ++ image number)) }
     ensures size { OnOk result (length into.new.items ≡ length into.old.items + place.now.bsize) }
     ensures fault { IfErr result (λ e. (e ≡ Device) ⊎ (e ≡ Memory)) }
-    ensures cause { IfErr result (λ e. e ≡ Device → Rose (W.faults world.old) (W.faults world.new)) }
-    ensures told { W.told world.new ≡ W.told world.old }
-    ensures faults { W.faults world.old ≤ W.faults world.new }
-    ensures edges { W.edges world.new ≡ W.edges world.old }
+    ensures reads { OnlyReads (seen W.World world.old) (seen W.World world.new) Device result }
 {
     if number == place.origin {
         return append(into, first);
@@ -142,10 +130,7 @@ pub fn directory_bytes<W: World>(
     ensures bytes { IfOk result (λ v. OfImage (W.told world.old) place.now.unit (λ image. v.items ≡ bytes_at image blocks.now)) }
     ensures size { IfOk result (λ v. length v.items ≡ place.now.bsize * length blocks.now) }
     ensures fault { IfErr result (λ e. (e ≡ Device) ⊎ (e ≡ Memory)) }
-    ensures cause { IfErr result (λ e. e ≡ Device → Rose (W.faults world.old) (W.faults world.new)) }
-    ensures told { W.told world.new ≡ W.told world.old }
-    ensures faults { W.faults world.old ≤ W.faults world.new }
-    ensures edges { W.edges world.new ≡ W.edges world.old }
+    ensures reads { OnlyReads (seen W.World world.old) (seen W.World world.new) Device result }
 {
     let mut bytes = Vec::new(alloc);
     for nth in 0..blocks.len() {

@@ -1,7 +1,6 @@
 // A whole volume, part by part.
 ghost use Rattle.std.specs.Prelude.{◌≡◌, ◌⊎◌, ◌≤◌, ◌<◌, ◌+◌, ◌*◌, ◌/◌, [], ℕ, List, All, length, map, Ok, IfOk, IfErr, Some, None};
 ghost use Rattle.std.specs.Option.{ForSome};
-ghost use Rattle.cms_journal.specs.Causes.{Rose};
 ghost use Rattle.cms_journal.specs.Journal.{HasBlocks, contents_of};
 ghost use Rattle.cms_model.specs.Sizes.{levels};
 ghost use Rattle.cms_model.specs.Trees.{image_of, bytes_at};
@@ -9,11 +8,12 @@ ghost use Rattle.cms_model.specs.Volumes.{tree_blocks};
 ghost use Rattle.cms_model.specs.declared.fault.OpenFault.TheVariants.{Device, Memory};
 ghost use Rattle.cms_map.specs.Bits.{bits_in};
 ghost use Rattle.cms_tree.specs.Walks.{IsWithin};
-ghost use Rattle.cms_edf.specs.Opening.{IsFaultOf};
+ghost use Rattle.cms_held.specs.Opening.{IsFaultOf};
 ghost use Rattle.cms_edf.specs.OpeningSteps.{OfImage, met_in, listed, trees_in, lost_in};
 ghost use Rattle.cms_edf.specs.EntryShapes.{HasShape};
 ghost use Rattle.cms_edf.specs.OpeningFiles.{HasTrees, HaveCounts};
 ghost use Rattle.cms_fields.specs.Limits.{most_files};
+ghost use Rattle.cms_world.specs.Seen.{OnlyReads, seen};
 
 use crate::files::{all_blocks, read_files};
 use crate::met::lost_of;
@@ -52,10 +52,7 @@ pub fn read_trees<W: World>(
     ensures files { IfOk result (λ t. (length t.files.items ≡ length listing.now.entries.items)
         × All (IsWithin place.now.total None) t.files.items) }
     ensures counts { IfOk result (λ t. HaveCounts listing.now.entries.items t.files.items) }
-    ensures cause { IfErr result (λ e. e ≡ Device → Rose (W.faults world.old) (W.faults world.new)) }
-    ensures told { W.told world.new ≡ W.told world.old }
-    ensures faults { W.faults world.old ≤ W.faults world.new }
-    ensures edges { W.edges world.new ≡ W.edges world.old }
+    ensures reads { OnlyReads (seen W.World world.old) (seen W.World world.new) Device result }
 {
     let map = read_map(alloc, world, place, &listing.map)?;
     let files = read_files(
@@ -112,10 +109,7 @@ pub fn read_marks<W: World>(
     ensures fault { IfErr result (λ why. OfImage (W.told world.old) place.now.unit (λ image. IsFaultOf (lost_in
         (bytes_at image trees.now.map.leaves.items) place.now.total
         (tree_blocks (met_in directory.now) (met_in trees.now.map) (map met_in trees.now.files.items))) why)) }
-    ensures cause { IfErr result (λ e. e ≡ Device → Rose (W.faults world.old) (W.faults world.new)) }
-    ensures told { W.told world.new ≡ W.told world.old }
-    ensures faults { W.faults world.old ≤ W.faults world.new }
-    ensures edges { W.edges world.new ≡ W.edges world.old }
+    ensures reads { OnlyReads (seen W.World world.old) (seen W.World world.new) Device result }
 {
     let bytes = bytes_of(alloc, world, place.unit, place.bsize, &trees.map.leaves)?;
     let map = map_of(alloc, &bytes, place.total)?;

@@ -1,15 +1,12 @@
 // Blocks written one after another.
-ghost use Rattle.std.specs.Prelude.{◌≡◌, ◌≤◌, ◌<◌, ◌+◌, ◌*◌, ◌/◌, ◌^◌, ◌++◌, All, length, OnOk, OnErr};
-ghost use Rattle.std.specs.Option.{ForSome};
-ghost use Rattle.cms_journal.specs.Causes.{HasCause};
-ghost use Rattle.cms_journal.specs.Journal.{HasBlocks, IsWritable};
-ghost use Rattle.cms_journal.specs.Told.{plus};
+ghost use Rattle.std.specs.Prelude.{◌≡◌, ◌≤◌, ◌<◌, ◌+◌, ◌*◌, ◌/◌, ◌^◌, ◌++◌, All, length};
 ghost use Rattle.cms_model.specs.Lists.{cut};
-ghost use Rattle.cms_model.specs.Settled.{writes};
 ghost use Rattle.cms_model.specs.Sizes.{pointer_count};
 ghost use Rattle.cms_map.specs.Bits.{bytes_from};
-ghost use Rattle.cms_edf.specs.Systems.{block_writes, node_writes};
-ghost use Rattle.cms_edf.specs.Doubts.{AddsFront, IsBlockOf, directory_writes, map_writes, first_writes};
+ghost use Rattle.cms_held.specs.Systems.{block_writes, node_writes};
+ghost use Rattle.cms_world.specs.Seen.{seen};
+ghost use Rattle.cms_edf.specs.Doubts.{directory_writes, map_writes, first_writes};
+ghost use Rattle.cms_edf.specs.Writing.{IsBlockOf, MayWrite, Writes};
 
 use crate::held::TreeBlocks;
 use cms_journal::BlockSize;
@@ -37,16 +34,9 @@ pub fn write_pieces<W: World>(
 ) -> Result<(), Failed>
     requires long { length bytes.now ≡ length blocks.now * target.now.bsize }
     requires within { All (IsBlockOf target.now.total) blocks.now }
-    requires blocks { ForSome (W.told world.old) (λ j. HasBlocks j.units target.now.unit target.now.total target.now.bsize) }
-    requires writable { ForSome (W.told world.old) (λ j. IsWritable j.units target.now.unit) }
-    ensures done { OnOk result (W.told world.new ≡ plus (W.told world.old)
-        (writes target.now.unit (block_writes blocks.now (cut (length blocks.now) target.now.bsize bytes.now)))) }
-    ensures failed { OnErr result (AddsFront (W.told world.old) (W.told world.new)
-        (writes target.now.unit (block_writes blocks.now (cut (length blocks.now) target.now.bsize bytes.now)))) }
-    ensures still { ForSome (W.told world.new) (λ j. HasBlocks j.units target.now.unit target.now.total target.now.bsize) }
-    ensures writable { ForSome (W.told world.new) (λ j. IsWritable j.units target.now.unit) }
-    ensures cause { HasCause (W.faults world.old) (W.faults world.new) result }
-    ensures edges { W.edges world.new ≡ W.edges world.old }
+    requires may { MayWrite (W.told world.old) target.now }
+    ensures writes { Writes (seen W.World world.old) (seen W.World world.new) target.now
+        (block_writes blocks.now (cut (length blocks.now) target.now.bsize bytes.now)) result }
 {
     let size = target.bsize.bytes() as usize;
     for place in 0..blocks.len() {
@@ -73,16 +63,9 @@ pub fn write_nodes<W: World>(
     requires few { length leaves.now < 2 ^ 32 }
     requires nodes { length pointers.now ≡ pointer_count (target.now.bsize / 4) (length leaves.now) }
     requires within { All (IsBlockOf target.now.total) pointers.now }
-    requires blocks { ForSome (W.told world.old) (λ j. HasBlocks j.units target.now.unit target.now.total target.now.bsize) }
-    requires writable { ForSome (W.told world.old) (λ j. IsWritable j.units target.now.unit) }
-    ensures done { OnOk result (W.told world.new ≡ plus (W.told world.old)
-        (writes target.now.unit (node_writes target.now.bsize (record { leaves = leaves.now; pointers = pointers.now })))) }
-    ensures failed { OnErr result (AddsFront (W.told world.old) (W.told world.new)
-        (writes target.now.unit (node_writes target.now.bsize (record { leaves = leaves.now; pointers = pointers.now })))) }
-    ensures still { ForSome (W.told world.new) (λ j. HasBlocks j.units target.now.unit target.now.total target.now.bsize) }
-    ensures writable { ForSome (W.told world.new) (λ j. IsWritable j.units target.now.unit) }
-    ensures cause { HasCause (W.faults world.old) (W.faults world.new) result }
-    ensures edges { W.edges world.new ≡ W.edges world.old }
+    requires may { MayWrite (W.told world.old) target.now }
+    ensures writes { Writes (seen W.World world.old) (seen W.World world.new) target.now
+        (node_writes target.now.bsize (record { leaves = leaves.now; pointers = pointers.now })) result }
 {
     for place in 0..pointers.len() {
         build(
@@ -113,18 +96,10 @@ pub fn write_map<W: World>(
     requires room { length block.old ≡ target.now.bsize }
     requires few { length blocks.now * target.now.bsize < 2 ^ 32 }
     requires within { All (IsBlockOf target.now.total) blocks.now }
-    requires blocks { ForSome (W.told world.old) (λ j. HasBlocks j.units target.now.unit target.now.total target.now.bsize) }
-    requires writable { ForSome (W.told world.old) (λ j. IsWritable j.units target.now.unit) }
-    ensures done { OnOk result (W.told world.new ≡ plus (W.told world.old) (writes target.now.unit
+    requires may { MayWrite (W.told world.old) target.now }
+    ensures writes { Writes (seen W.World world.old) (seen W.World world.new) target.now
         (block_writes blocks.now (cut (length blocks.now) target.now.bsize
-        (bytes_from 0 (length blocks.now * target.now.bsize) map.now))))) }
-    ensures failed { OnErr result (AddsFront (W.told world.old) (W.told world.new) (writes target.now.unit
-        (block_writes blocks.now (cut (length blocks.now) target.now.bsize
-        (bytes_from 0 (length blocks.now * target.now.bsize) map.now))))) }
-    ensures still { ForSome (W.told world.new) (λ j. HasBlocks j.units target.now.unit target.now.total target.now.bsize) }
-    ensures writable { ForSome (W.told world.new) (λ j. IsWritable j.units target.now.unit) }
-    ensures cause { HasCause (W.faults world.old) (W.faults world.new) result }
-    ensures edges { W.edges world.new ≡ W.edges world.old }
+        (bytes_from 0 (length blocks.now * target.now.bsize) map.now))) result }
 {
     let size = target.bsize.bytes();
     for place in 0..blocks.len() {
@@ -152,16 +127,9 @@ pub fn write_directory<W: World>(
     requires nodes { length tree.now.pointers ≡ pointer_count (target.now.bsize / 4) (length tree.now.leaves) }
     requires long { length bytes.now ≡ length tree.now.leaves * target.now.bsize }
     requires within { All (IsBlockOf target.now.total) (tree.now.leaves ++ tree.now.pointers) }
-    requires blocks { ForSome (W.told world.old) (λ j. HasBlocks j.units target.now.unit target.now.total target.now.bsize) }
-    requires writable { ForSome (W.told world.old) (λ j. IsWritable j.units target.now.unit) }
-    ensures done { OnOk result (W.told world.new ≡ plus (W.told world.old) (writes target.now.unit
-        (directory_writes target.now.bsize tree.now bytes.now))) }
-    ensures failed { OnErr result (AddsFront (W.told world.old) (W.told world.new) (writes target.now.unit
-        (directory_writes target.now.bsize tree.now bytes.now))) }
-    ensures still { ForSome (W.told world.new) (λ j. HasBlocks j.units target.now.unit target.now.total target.now.bsize) }
-    ensures writable { ForSome (W.told world.new) (λ j. IsWritable j.units target.now.unit) }
-    ensures cause { HasCause (W.faults world.old) (W.faults world.new) result }
-    ensures edges { W.edges world.new ≡ W.edges world.old }
+    requires may { MayWrite (W.told world.old) target.now }
+    ensures writes { Writes (seen W.World world.old) (seen W.World world.new) target.now
+        (directory_writes target.now.bsize tree.now bytes.now) result }
 {
     let (_, leaves) = tree.leaves().split_at(1);
     let (_, pieces) = bytes.split_at(target.bsize.bytes() as usize);
@@ -186,16 +154,9 @@ pub fn write_map_tree<W: World>(
     requires nodes { length tree.now.pointers ≡ pointer_count (target.now.bsize / 4) (length tree.now.leaves) }
     requires short { length tree.now.leaves * target.now.bsize < 2 ^ 32 }
     requires within { All (IsBlockOf target.now.total) (tree.now.leaves ++ tree.now.pointers) }
-    requires blocks { ForSome (W.told world.old) (λ j. HasBlocks j.units target.now.unit target.now.total target.now.bsize) }
-    requires writable { ForSome (W.told world.old) (λ j. IsWritable j.units target.now.unit) }
-    ensures done { OnOk result (W.told world.new ≡ plus (W.told world.old) (writes target.now.unit
-        (map_writes target.now.bsize tree.now map.now))) }
-    ensures failed { OnErr result (AddsFront (W.told world.old) (W.told world.new) (writes target.now.unit
-        (map_writes target.now.bsize tree.now map.now))) }
-    ensures still { ForSome (W.told world.new) (λ j. HasBlocks j.units target.now.unit target.now.total target.now.bsize) }
-    ensures writable { ForSome (W.told world.new) (λ j. IsWritable j.units target.now.unit) }
-    ensures cause { HasCause (W.faults world.old) (W.faults world.new) result }
-    ensures edges { W.edges world.new ≡ W.edges world.old }
+    requires may { MayWrite (W.told world.old) target.now }
+    ensures writes { Writes (seen W.World world.old) (seen W.World world.new) target.now
+        (map_writes target.now.bsize tree.now map.now) result }
 {
     match write_map(world, target, tree.leaves(), map, block) {
         Ok(()) => write_nodes(world, target, tree.leaves(), tree.pointers(), block),
@@ -213,16 +174,9 @@ pub fn write_first<W: World>(
     requires some { 1 ≤ length tree.now.leaves }
     requires long { length bytes.now ≡ length tree.now.leaves * target.now.bsize }
     requires within { All (IsBlockOf target.now.total) (tree.now.leaves ++ tree.now.pointers) }
-    requires blocks { ForSome (W.told world.old) (λ j. HasBlocks j.units target.now.unit target.now.total target.now.bsize) }
-    requires writable { ForSome (W.told world.old) (λ j. IsWritable j.units target.now.unit) }
-    ensures done { OnOk result (W.told world.new ≡ plus (W.told world.old) (writes target.now.unit
-        (first_writes target.now.bsize tree.now bytes.now))) }
-    ensures failed { OnErr result (AddsFront (W.told world.old) (W.told world.new) (writes target.now.unit
-        (first_writes target.now.bsize tree.now bytes.now))) }
-    ensures still { ForSome (W.told world.new) (λ j. HasBlocks j.units target.now.unit target.now.total target.now.bsize) }
-    ensures writable { ForSome (W.told world.new) (λ j. IsWritable j.units target.now.unit) }
-    ensures cause { HasCause (W.faults world.old) (W.faults world.new) result }
-    ensures edges { W.edges world.new ≡ W.edges world.old }
+    requires may { MayWrite (W.told world.old) target.now }
+    ensures writes { Writes (seen W.World world.old) (seen W.World world.new) target.now
+        (first_writes target.now.bsize tree.now bytes.now) result }
 {
     let (leaves, _) = tree.leaves().split_at(1);
     let (piece, _) = bytes.split_at(target.bsize.bytes() as usize);

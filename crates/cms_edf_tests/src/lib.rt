@@ -2,10 +2,8 @@
 #![tactic(auto)]
 
 #[cfg(test)]
-mod erase_tests;
-#[cfg(test)]
 mod held_tests;
 #[cfg(test)]
-mod opening_tests;
+mod making_tests;
 #[cfg(test)]
-mod small_tests;
+mod opening_tests;

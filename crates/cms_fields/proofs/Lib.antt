@@ -7,3 +7,4 @@ pub mod Parts
 pub mod Calendar
 pub mod Shown
 pub mod ReadEntry
+pub mod NewLabel

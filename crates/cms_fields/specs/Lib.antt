@@ -4,5 +4,6 @@ pub mod Stamps
 pub mod Moments
 pub mod Offsets
 pub mod Labels
+pub mod NewLabels
 pub mod Limits
 pub mod Entries

@@ -38,10 +38,10 @@ pub enum LabelFault {
 }
 
 /// CMS1.
-const IDENTIFIER: u32 = 0xC3D4_E2F1;
+pub const IDENTIFIER: u32 = 0xC3D4_E2F1;
 
 /// Bytes of an entry.
-const ENTRY_SIZE: u32 = 64;
+pub const ENTRY_SIZE: u32 = 64;
 
 #[tactic(auto, unfolding(crate::specs::Labels::has_identifier))]
 fn has_identifier(bytes: &[u8]) -> bool

@@ -6,6 +6,7 @@ mod entry;
 mod grammar;
 mod label;
 mod levels;
+mod new_label;
 mod packed;
 #[cfg(test)]
 mod tests;
@@ -13,5 +14,6 @@ mod time;
 
 pub use entry::{Entry, EntryFault, read_entry, write_entry};
 pub use label::{Label, LabelFault, read_label, write_label};
+pub use new_label::first_fields;
 pub use packed::put_stamp;
 pub use time::{Moment, Stamp};

@@ -5,6 +5,10 @@ mod edits;
 pub mod hello;
 pub mod known;
 mod many;
+mod new_volume;
+mod wide;
 
 pub use edits::{Edit, edited, put_edits};
 pub use many::many_files;
+pub use new_volume::{Made, formatted};
+pub use wide::wide_volume;

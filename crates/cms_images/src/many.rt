@@ -4,12 +4,13 @@ ghost use Rattle.std.specs.Prelude.{◌≤◌};
 use crate::edits::put_at;
 use std::alloc::{AllocError, Global};
 
-// The names of the directory and the allocation map, as they are written.
-const DIRECTORY: [u8; 16] = [
+/// The name of the directory, as it is written.
+pub const DIRECTORY: [u8; 16] = [
     0, 0, 0, 1, 0, 0, 0, 0, 0xC4, 0xC9, 0xD9, 0xC5, 0xC3, 0xE3, 0xD6, 0xD9,
 ];
 
-const MAP: [u8; 16] = [
+/// The name of the allocation map.
+pub const MAP: [u8; 16] = [
     0, 0, 0, 2, 0, 0, 0, 0, 0xC1, 0xD3, 0xD3, 0xD6, 0xC3, 0xD4, 0xC1, 0xD7,
 ];
 
@@ -18,18 +19,25 @@ const FILE: [u8; 16] = [
     0xC6, 0xC9, 0xD3, 0xC5, 0xF0, 0xF0, 0xF0, 0xF0, 0xE3, 0xC5, 0xE7, 0xE3, 0x40, 0x40, 0x40, 0x40,
 ];
 
-// Where a block begins.
-fn start_of(bsize: u32, block: u32) -> usize {
+/// Where a block begins.
+pub fn start_of(bsize: u32, block: u32) -> usize {
     block.saturating_sub(1) as usize * bsize as usize
 }
 
-// Puts a number of four bytes, the highest first.
-fn put_number(image: &mut [u8], start: usize, number: u32) {
+/// Puts a number of four bytes, the highest first.
+pub fn put_number(image: &mut [u8], start: usize, number: u32) {
     put_at(image, start, &number.to_be_bytes());
 }
 
 // Puts the entry of a file of one block: its name, the length and the count of its records, and its block.
-fn put_entry(image: &mut [u8], start: usize, name: &[u8; 16], length: u32, count: u32, root: u32) {
+pub fn put_entry(
+    image: &mut [u8],
+    start: usize,
+    name: &[u8; 16],
+    length: u32,
+    count: u32,
+    root: u32,
+) {
     put_at(image, start, name);
     put_at(image, start.saturating_add(24), &[0xC1, 0xF1]);
     put_at(image, start.saturating_add(30), &[0xC6]);
@@ -45,20 +53,20 @@ fn put_entry(image: &mut [u8], start: usize, name: &[u8; 16], length: u32, count
 }
 
 // The four digits of a number below 10,000, in EBCDIC.
-fn digits(number: u32) -> [u8; 4] {
+pub fn digits(number: u32) -> [u8; 4] {
     let digit = |power: u32| 0xF0 + (number / power % 10) as u8;
     [digit(1000), digit(100), digit(10), digit(1)]
 }
 
 // FILEnnnn TEXT, for a number.
-fn name_of(number: u32) -> [u8; 16] {
+pub fn name_of(number: u32) -> [u8; 16] {
     let mut name = FILE;
     put_at(&mut name, 4, &digits(number));
     name
 }
 
-// Marks blocks from the first to the last in the map that begins at a place.
-fn put_marks(image: &mut [u8], start: usize, last: u32) {
+/// Marks blocks from the first to the last in the map that begins at a place.
+pub fn put_marks(image: &mut [u8], start: usize, last: u32) {
     for place in 0..last {
         let at = start.saturating_add(place as usize / 8);
         if at < image.len() {
@@ -68,7 +76,7 @@ fn put_marks(image: &mut [u8], start: usize, last: u32) {
 }
 
 // Puts the label of TEST01 on so many blocks.
-fn put_label(image: &mut [u8], bsize: u32, blocks: u32) {
+pub fn put_label(image: &mut [u8], bsize: u32, blocks: u32) {
     let label = start_of(bsize, 3);
     put_at(
         image,

@@ -3,7 +3,7 @@ use Rattle.std.specs.Prelude.{◌≡◌, ◌≢◌, ◌⊎◌, ◌↔◌, ◌==�
 use Rattle.cms_journal.specs.declared.event.Event.{Event}
 use Rattle.cms_journal.specs.declared.event.Event.TheVariants.{Wrote, Synced}
 use Rattle.cms_journal.specs.Journal.{Journal, IsUntouched, contents_of, start_of}
-use Rattle.cms_journal.specs.Told.{plus, back, syncs}
+use Rattle.cms_journal.specs.Told.{Told, plus, back, syncs}
 use Rattle.cms_fields.specs.Labels.{label_of, has_identifier}
 use Rattle.cms_fields.specs.declared.label.Label.{Label}
 use Rattle.cms_model.specs.Trees.{Image, image_of}
@@ -27,6 +27,12 @@ now j u = image_of (contents_of j u)
 pub record IsFront (front whole : List Event) : Type 0 where
   pub rest : List Event
   pub is : front ++ rest ≡ whole
+
+-- of these events the first were added, as many as were made
+pub record AddsFront (old new : Told) (events : List Event) : Type 0 where
+  pub front : List Event
+  pub told : new ≡ plus old front
+  pub is : IsFront front events
 
 -- ---- a settled unit
 

@@ -1,5 +1,5 @@
 -- Calls join, with no knowledge of what a command is.
-use Rattle.std.proofs.Common.{◌≡◌, ◌≤◌, ℕ, ℤ, List, Result, Ok, Err, IfOk, refl, ap, sym, subst, arith}
+use Rattle.std.proofs.Common.{◌≡◌, ◌≤◌, ℕ, ℤ, List, Result, Ok, Err, IfOk, refl, ap, sym, ◌∙◌, subst, arith}
 use Rattle.cms_journal.specs.Causes.{Rose}
 use Rattle.cms_journal.proofs.Pieces.{grown_same, grown_idle, grown_then}
 use Rattle.cms_machine.specs.Slots.{Slot}
@@ -15,7 +15,8 @@ use Rattle.cms_search.specs.declared.state.State.{State}
 use Rattle.cms_search.specs.declared.state.Course as declared
 use Rattle.cms_search.specs.declared.state.Course.TheVariants as course
 use Rattle.cms_search.specs.Machine.{Went}
-use Rattle.cms_search.specs.Calls.{Seen, Spot, IsLater, IsUsable, Meaning, at, holds, Plays, Does, Acts, Comes, after_world, plain, said, machine_of, course_of, refusal_tree}
+use Rattle.cms_search.specs.Calls.{Spot, IsLater, IsUsable, Meaning, at, holds, Plays, Does, Acts, Comes, after_world, plain, said, machine_of, course_of, refusal_tree}
+use Rattle.cms_world.specs.Seen.{Seen}
 use Rattle.cms_search.proofs.Holding.{holds_idle, usable_grown}
 
 -- ---- counts and journals
@@ -51,9 +52,11 @@ usable_later old new later same usable = rw same (usable_grown old.world.told ne
 -- ---- a call of the console or the clock alone
 
 -- where the console is kept a point is as that call made it
-pub at_kept : (old new : Spot) (units : List Slot) → new.state.console ≡ old.state.console → at new units ≡ after_world (at old units) new.world
-at_kept old new units same =
+pub at_kept : (old new : Spot) (units : List Slot) → new.world.faults ≡ old.world.faults → new.state.console ≡ old.state.console
+    → at new units ≡ after_world (at old units) new.world
+at_kept old new units faults same =
     ap (λ (c : ConsoleState). record { journal = new.world.told; faults = new.world.faults; units = units; unread = c.unread; ended = c.ended }) same
+    ∙ ap (λ (n : ℕ). record (after_world (at old units) new.world) { faults = n }) faults
 
 -- what it makes of the machine's units
 pub holds_does : {R T : Type 0} (old new : Spot) (t : Act R) (r : Result T End) (d : T → R) (units : List Slot) → Does old.world new.world t r d
@@ -62,7 +65,7 @@ holds_does old new t r d units does same h = rw same (holds_idle old.world.told 
 
 plays_does : {R T : Type 0} (old new : Spot) (t : Act R) (r : Result T End) (d : T → R) (units : List Slot) → Does old.world new.world t r d
     → new.state ≡ old.state → Plays (at old units) (at new units) t r d
-plays_does old new t r d units does same = rw same (does.each (at old units) refl refl)
+plays_does old new t r d units does same = let faults = does.faults in rw (same, faults) (does.each (at old units) refl)
 
 -- ---- parts of a call
 

@@ -1,12 +1,12 @@
 -- What an ask does, computed.
 use Rattle.std.proofs.Common.{◌≡◌, ℕ, List, [], ◌∷◌, refl}
 use Rattle.std.specs.Prelude.{Some, None}
-use Rattle.cms_machine.specs.Items.{Text, Bad}
-use Rattle.cms_machine.specs.Acts.{Act, Done, Out, Take, Turn, typed_line}
+use Rattle.cms_machine.specs.Items.{Bad}
+use Rattle.cms_machine.specs.Acts.{Done, Out, Take, Turn, typed_line}
 use Rattle.cms_line.specs.declared.message.Message.TheVariants.{M010}
 use Rattle.cms_line.specs.Messages.{message_text}
 use Rattle.cms_search.specs.Machine.{Machine}
-use Rattle.cms_search.specs.Asking.{Asked, Given, Spent, ask, asking, on_item}
+use Rattle.cms_search.specs.Asking.{Given, Spent, ask, asking, on_item}
 
 -- a stacked line is given, and the script isn't read
 pub stacked : (s : Machine) (line : List ℕ) (lines : List (List ℕ)) → ask (record s { stack = line ∷ lines }) ≡ Done (Given (record s { stack = lines }) line)

@@ -1,19 +1,19 @@
 -- A call that touches one unit leaves the lines of the others.
-use Rattle.std.proofs.Common.{◌≡◌, ◌≢◌, ◌∙◌, ℕ, List, Option, Some, None, Bool, true, false, refl, sym, ap, subst, inl, inr, ⊎_elim}
-use Rattle.std.specs.Prelude.{Ok, slice_get}
+use Rattle.std.proofs.Common.{◌≡◌, ◌≢◌, ◌∙◌, ℕ, List, Option, Some, None, Bool, true, false, sym, ap, subst, inl, inr, ⊎_elim}
+use Rattle.std.specs.Prelude.{Ok}
 use Rattle.cms_journal.specs.declared.event.Event.{Event}
 use Rattle.cms_journal.specs.Journal.{Journal, IsUntouched}
 use Rattle.cms_journal.specs.Told.{OnlyOf}
 use Rattle.cms_journal.proofs.Events.{of_aside}
 use Rattle.cms_model.specs.Trees.{Image, image_of}
-use Rattle.cms_model.specs.Minidisks.{Minidisk, State, Not}
+use Rattle.cms_model.specs.Minidisks.{Minidisk, Not}
 use Rattle.cms_model.specs.Volumes.{Disk, Opened, open_of}
 use Rattle.cms_model.specs.Settled.{IsSettled, IsFirm}
 use Rattle.cms_model.specs.LawsSizes.{IsWhole}
 use Rattle.cms_model.specs.LawsUpdates.{AsBefore, after, now}
 use Rattle.cms_model.proofs.Settling.{aside_is_as_before}
 use Rattle.cms_machine.specs.Slots.{Slot}
-use Rattle.cms_edf.specs.HeldAs.{IsHeldAs}
+use Rattle.cms_held.specs.HeldAs.{IsHeldAs}
 use Rattle.cms_disk.specs.Disks.{Accessed, IsMinidisk, IsQuiet, disk_on}
 use Rattle.cms_disk.specs.declared.unit.UnitInfo.{UnitInfo}
 use Rattle.cms_search.specs.Tables.{Accesses, Seated}

@@ -1,38 +1,18 @@
 -- What a journal holds, after events that leave every unit alone.
-use Rattle.std.proofs.Common.{◌≡◌, ℕ, List, Option, Some, None, refl, ap, sym, ◌∙◌, subst}
+use Rattle.std.proofs.Common.{◌≡◌, ℕ, List, Option, Some, None, refl, sym, ◌∙◌, subst}
 use Rattle.cms_journal.specs.declared.event.Event.{Event}
 use Rattle.cms_journal.specs.Journal.{Journal, IsUntouched}
 use Rattle.cms_journal.specs.Told.{Told, NoDisk, Idle, Grown}
 use Rattle.cms_journal.proofs.Pieces.{plus-some, plus-none}
-use Rattle.cms_model.specs.Trees.{Image, image_of}
-use Rattle.cms_model.specs.Minidisks.{Minidisk, State}
-use Rattle.cms_model.specs.Settled.{IsSettled}
-use Rattle.cms_model.specs.Volumes.{minidisk_of}
-use Rattle.cms_model.specs.LawsSizes.{IsWhole}
+use Rattle.cms_model.specs.Minidisks.{State}
 use Rattle.cms_model.specs.LawsUpdates.{after}
-use Rattle.cms_model.proofs.Settling.{aside_is_as_before}
 use Rattle.cms_machine.specs.Slots.{Slot}
 use Rattle.cms_machine.specs.Points.{LeavesIn, Leaves, HasNowIn, HasNow}
 use Rattle.cms_journal.proofs.Events.{no_disk_aside}
 use Rattle.cms_machine.proofs.Aside.{leaves_aside, now_aside}
-use Rattle.cms_edf.specs.Small.{SmallVolume, StandsIn, IsMinidisk, contents_image, volume_of}
+use Rattle.cms_disk.proofs.Standing.{minidisk_aside}
 use Rattle.cms_search.specs.declared.state.Disk.{Disk}
 use Rattle.cms_search.specs.Calls.{HoldsIn, Holds, Usable}
-
--- a minidisk is still one
-minidisk_idle : (j : Journal) (piece : List Event) (s : SmallVolume) (m : Minidisk) → NoDisk piece → IsMinidisk j s m → IsMinidisk (after j piece) s m
-minidisk_idle j piece s m none h =
-    let before = aside_is_as_before j piece s.unit (no_disk_aside piece s.unit none) in
-    let same : contents_image (after j piece) s ≡ contents_image j s = ap image_of before.contents_same in
-    record {
-      attached = h.attached;
-      has = h.has;
-      looked = h.looked;
-      whole = subst (λ (i : Image). IsWhole s.disk i) (sym same) h.whole;
-      stands = subst (λ (i : Image). StandsIn s i) (sym same) h.stands;
-      settled = subst (λ (i : Image). IsSettled s.disk (after j piece) s.unit (volume_of s i)) (sym same) (before.settled_same s.disk (volume_of s (contents_image j s)) h.settled);
-      minidisk = h.minidisk ∙ ap (λ (i : Image). minidisk_of s.disk (volume_of s i)) (sym same);
-    }
 
 -- what a crash leaves of a unit, where a piece left the unit alone
 pub left_before : (j : Journal) (piece : List Event) (u : ℕ) (x : State) → IsUntouched piece u → LeavesIn (after j piece) u x → LeavesIn j u x
@@ -46,7 +26,12 @@ now_before j piece u x aside h = now_aside (Some j) piece u x aside (subst (λ (
 held_idle : (j : Journal) (piece : List Event) (disk : Option Disk) (units : List Slot) → NoDisk piece → HoldsIn j disk units → HoldsIn (after j piece) disk units
 held_idle j piece disk units none h = record {
   same = h.same;
-  disk_a = λ d is. let held = h.disk_a d is in record { minidisk = held.minidisk; slot = held.slot; is = minidisk_idle j piece d.small held.minidisk none held.is };
+  disk_a = λ d is. let held = h.disk_a d is in record {
+    minidisk = held.minidisk;
+    slot = held.slot;
+    looked = held.looked;
+    is = minidisk_aside j piece d.minidisk held.minidisk (no_disk_aside piece d.minidisk.volume.unit none) held.is;
+  };
   others = λ u unit has other.
       let held = h.others u unit has other in
       let aside = no_disk_aside piece u none in

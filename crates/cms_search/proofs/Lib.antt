@@ -7,4 +7,7 @@ pub mod Shown
 pub mod Ready
 pub mod Reading
 pub mod Asks
+pub mod Talking
 pub mod Frames
+pub mod Handing
+pub mod Changing

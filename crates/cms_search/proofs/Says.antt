@@ -1,5 +1,5 @@
 -- Lines that are typed.
-use Rattle.std.proofs.Common.{◌≡◌, ◌≤◌, ℕ, List, [], ◌∷◌, Result, Ok, Err, IfErr, OnOk, OnErr, append-nil, refl, sym, ap, ◌∙◌, arith}
+use Rattle.std.proofs.Common.{◌≡◌, ◌≤◌, ℕ, List, [], Result, Ok, Err, IfErr, OnOk, OnErr, append-nil, refl, sym, ap, ◌∙◌, arith}
 use Rattle.cms_journal.specs.declared.event.Event.{Event}
 use Rattle.cms_journal.specs.declared.event.Event.TheVariants.{Read, Now, Typed, Wrote, Synced, Missed}
 use Rattle.cms_journal.specs.Told.{Told, plus, TouchesNone, NoDisk, typed}
@@ -13,7 +13,8 @@ use Rattle.cms_journal.specs.Causes.{Rose}
 use Rattle.cms_search.specs.declared.state.End.{End}
 use Rattle.cms_search.specs.declared.state.End.TheVariants.{Memory, Edge}
 use Rattle.cms_search.specs.declared.state.Course.{Course}
-use Rattle.cms_search.specs.Calls.{Seen, Does, after_world, itself, said}
+use Rattle.cms_search.specs.Calls.{Does, after_world, itself, said}
+use Rattle.cms_world.specs.Seen.{Seen}
 
 typed_touches_none : (e : Event) → IsTyped e → TouchesNone e
 typed_touches_none (Typed b) is = tt
@@ -31,9 +32,9 @@ pub said_line : (before now : Seen) (text : List ℕ) (r : Result (Unit {0}) End
     → OnErr r (TypedPart before.told now.told (typed_line text)) → now.faults ≡ before.faults → before.edges ≤ now.edges
     → IfErr r (λ e. e ≡ Edge → Rose before.edges now.edges) → Does before now (saying (typed_line text)) r itself
 said_line before now text (Ok x) ok err faults edges cause = record {
-  each = λ p journal same.
+  each = λ p journal.
       ran_out p (after_world p now) (typed_line text) (Done x) ok.events (ok.told ∙ ap (λ (t : Told). plus t ok.events) (sym journal))
-      ok.only (sym (append-nil (typed ok.events)) ∙ ok.is) (omega (arith, faults, same)) refl (record { unread = refl; ended = refl });
+      ok.only (sym (append-nil (typed ok.events)) ∙ ok.is) (omega arith) refl (record { unread = refl; ended = refl });
   idle = record { events = ok.events; told = ok.told; none = typed_no_disk ok.events ok.only };
   faults = faults;
   edges = edges;
@@ -43,9 +44,9 @@ said_line before now text (Err e) ok err faults edges cause =
     let rest = err.0 in
     let part = err.1 in
     record {
-      each = λ p journal same.
+      each = λ p journal.
           broke_out p (after_world p now) (typed_line text) (Done tt) part.events rest
-          (part.told ∙ ap (λ (t : Told). plus t part.events) (sym journal)) part.only part.is (omega (arith, faults, same)) refl;
+          (part.told ∙ ap (λ (t : Told). plus t part.events) (sym journal)) part.only part.is (omega arith) refl;
       idle = record { events = part.events; told = part.told; none = typed_no_disk part.events part.only };
       faults = faults;
       edges = edges;
@@ -55,7 +56,7 @@ said_line before now text (Err e) ok err faults edges cause =
 -- there was no memory, and nothing was done
 pub not_done : {R T : Type 0} (before : Seen) (t : Act R) (d : T → R) → Does {T = T} before before t (Err Memory) d
 not_done before t d = record {
-  each = λ p journal same. broke_before p (after_world p before) t (sym journal) (omega (arith, same)) refl;
+  each = λ p journal. broke_before p (after_world p before) t (sym journal) (omega arith) refl;
   idle = idle_same before.told before.told refl;
   faults = refl;
   edges = omega arith;
@@ -65,9 +66,9 @@ not_done before t d = record {
 -- a message was typed, as a refusal's
 pub refused_so : (before now : Seen) (t : Act (Unit {0})) (x : Unit {0}) (c : Course) → Does before now t (Ok x) itself → Does before now t (Ok c) said
 refused_so before now t x c d =
-    record { each = λ p journal same. d.each p journal same; idle = d.idle; faults = d.faults; edges = d.edges; cause = tt }
+    record { each = λ p journal. d.each p journal; idle = d.idle; faults = d.faults; edges = d.edges; cause = tt }
 
 pub refused_stops : {T : Type 0} (before now : Seen) (t : Act (Unit {0})) (e : End) → Does {T = Unit {0}} before now t (Err e) itself
     → Does {T = T} before now t (Err e) said
 refused_stops before now t e d =
-    record { each = λ p journal same. d.each p journal same; idle = d.idle; faults = d.faults; edges = d.edges; cause = d.cause }
+    record { each = λ p journal. d.each p journal; idle = d.idle; faults = d.faults; edges = d.edges; cause = d.cause }

@@ -1,19 +1,15 @@
 -- Places in lists, and what searches find.
-use Rattle.std.proofs.Common.{◌≡◌, ◌≢◌, ◌⊎◌, ⊎_elim, ℕ, zero, suc, ◌+◌, ◌<◌, ◌≤◌, List, [], ◌∷◌, ◌++◌, length, map, take, drop, append_assoc, refl, sym, ap, subst, ◌∙◌, arith, append-nil}
-use Rattle.std.specs.Prelude.{Bool, true, false, cond, ◌&&◌, not, Option, Some, None, Result, Ok, Err, slice_get, slice_index_or}
+use Rattle.std.proofs.Common.{◌≡◌, ℕ, zero, suc, ◌+◌, ◌<◌, ◌≤◌, List, [], ◌∷◌, ◌++◌, length, map, take, drop, append_assoc, refl, sym, ap, subst, ◌∙◌, arith, append-nil}
+use Rattle.std.specs.Prelude.{Bool, true, false, cond, Option, Some, None, Ok, Err, slice_get}
 use Rattle.std.specs.List.{flat_map}
-use Rattle.std.specs.Option.{option_map, option_map_or, option_and_then}
-use Rattle.std.proofs.lemmas.Bool.{cases_Bool}
-use Rattle.cms_names.specs.declared.name.Name.{Name}
-use Rattle.cms_model.specs.Minidisks.{File, same_name}
-use Rattle.cms_model.specs.LawsChanges.{NoneNamed, AreDistinct, IsPlace}
-use Rattle.cms_model.proofs.Changing.{names_told}
+use Rattle.std.specs.Option.{option_map}
 use Rattle.std.proofs.lemmas.List.{map-append}
-use Rattle.cms_search.specs.Searches.{Listed, Shelf, Shelves, item_at, has, places_from, places_where, found_at, base_of, searched, with_extensions, letters_of_mode, first_placed}
+use Rattle.cms_operands.specs.ReadModes.{base_of}
+use Rattle.cms_search.specs.Searches.{Listed, Shelf, Shelves, item_at, has, places_from, places_where, found_at, searched, with_extensions, letters_of_mode, first_placed}
 use Rattle.cms_search.specs.declared.fault.SearchFault.TheVariants.{NotAccessed, NotFound}
 use Rattle.cms_search.specs.declared.search.Found.{Found}
-use Rattle.cms_search.specs.declared.search.ReadMode.{ReadMode}
-use Rattle.cms_search.specs.declared.search.ReadMode.TheVariants as way
+use Rattle.cms_operands.specs.declared.mode.ReadMode.{ReadMode}
+use Rattle.cms_operands.specs.declared.mode.ReadMode.TheVariants as way
 
 -- ---- lists with empty places
 

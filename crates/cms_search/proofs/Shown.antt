@@ -1,31 +1,27 @@
 -- What a table finds is what the machine finds.
-use Rattle.std.proofs.Common.{◌≡◌, ◌≢◌, ⊎_elim, ℕ, zero, suc, ◌+◌, ◌<◌, ◌≤◌, List, [], ◌∷◌, ◌++◌, length, map, take, refl, sym, ap, subst, ◌∙◌, arith, true≢false}
-use Rattle.std.specs.Prelude.{Bool, true, false, cond, not, nat_lt, ◌&&◌, if◌then◌else◌, Option, Some, None, Result, Ok, Err, slice_get, slice_index_or, position}
+use Rattle.std.proofs.Common.{◌≡◌, ◌≢◌, ℕ, zero, suc, ◌+◌, ◌<◌, List, [], ◌∷◌, ◌++◌, length, map, refl, sym, ap, subst, ◌∙◌, arith}
+use Rattle.std.specs.Prelude.{Bool, true, false, cond, not, Option, Some, None, Result, Ok, Err, slice_get, slice_index_or, position}
 use Rattle.std.specs.List.{flat_map, prefix_len}
 use Rattle.std.specs.Option.{option_map, option_map_or, option_and_then}
-use Rattle.std.proofs.lemmas.Bool.{cases_Bool}
 use Rattle.cms_names.specs.declared.name.Name.{Name}
 use Rattle.cms_model.specs.Minidisks.{File, Minidisk, same_name}
 use Rattle.cms_model.specs.Trees.{Image}
-use Rattle.cms_model.specs.Volumes.{minidisk_of}
 use Rattle.cms_model.specs.LawsChanges.{NoneNamed, AreDistinct, IsPlace}
 use Rattle.cms_model.proofs.Changing.{names_told, name_other}
 use Rattle.cms_model.proofs.OpenedNames.{opened_distinct}
 use Rattle.cms_machine.specs.Slots.{Slot}
-use Rattle.cms_edf.specs.Opening.{HeldFile, HeldVolume, names_in}
+use Rattle.cms_held.specs.Opening.{HeldFile, HeldVolume, names_in}
 use Rattle.cms_edf.specs.Asking.{info_of, infos_in}
-use Rattle.cms_edf.specs.LawsHeld.{IsFileOf, IsFound, IsMinidiskOf}
+use Rattle.cms_held.specs.LawsHeld.{IsFound}
 use Rattle.cms_edf.specs.declared.held.FileInfo.{FileInfo}
 use Rattle.cms_disk.specs.Disks.{Accessed, StandsIn, place_of}
 use Rattle.cms_disk.proofs.Finding.{stands_tells}
 use Rattle.cms_search.specs.Machine.{Letter, Machine, minidisk_in}
-use Rattle.cms_search.specs.Searches.{Listed, Shelf, Shelves, item_at, has, places_from, places_where, listed, files_in, shelf_in, shelves_in, may_find, is_found, found_at, found_in, found_on, found_among, first_found, look_up, placed_in, placed_on, first_placed, first_among, find_first, letters_of_mode}
-use Rattle.cms_search.specs.Tables.{Accesses, Seated, listed_held, told_of, shelf_of, shelves_of, letters_of, letters_in}
+use Rattle.cms_search.specs.Searches.{Listed, Shelf, Shelves, item_at, places_from, places_where, listed, shelf_in, shelves_in, may_find, is_found, found_at, found_in, found_on, found_among, first_found, look_up, placed_in, placed_on, first_placed, first_among, find_first, letters_of_mode}
+use Rattle.cms_search.specs.Tables.{Accesses, Seated, listed_held, told_of, shelf_of, shelves_of, letters_in}
 use Rattle.cms_search.specs.Shows.{Shows}
 use Rattle.cms_search.specs.declared.fault.SearchFault.{SearchFault}
-use Rattle.cms_search.specs.declared.fault.SearchFault.TheVariants.{NotFound}
-use Rattle.cms_search.specs.declared.search.Found.{Found}
-use Rattle.cms_search.specs.declared.search.ReadMode.{ReadMode}
+use Rattle.cms_operands.specs.declared.mode.ReadMode.{ReadMode}
 use Rattle.cms_search.proofs.Searching.{item_at_map}
 
 some_same : {A : Type 0} (a b : A) → Some a ≡ Some b → a ≡ b

@@ -1,16 +1,16 @@
 -- What calls make of a table is a table.
-use Rattle.std.proofs.Common.{◌≡◌, ◌≢◌, ◌⊎◌, ⊎_elim, inl, inr, ℕ, zero, suc, ◌+◌, ◌<◌, ◌≤◌, List, [], ◌∷◌, ◌++◌, length, map, take, drop, replicate, get_or, refl, sym, ap, subst, ◌∙◌, arith, true≢false}
-use Rattle.std.specs.Prelude.{Bool, true, false, cond, ◌==◌, if◌then◌else◌, Option, Some, None, slice_get, slice_set, is_some, not, ◌||◌, slice_index_or, Result, Ok, Err, OnOk, IfErr}
-use Rattle.std.specs.Option.{option_map, option_map_or, option_and_then}
-use Rattle.std.proofs.lemmas.Option.{slice_get-get_or, slice_get_read, get_or_from_slice_get}
-use Rattle.std.proofs.lemmas.Bool.{cases_Bool, eq-eqb}
+use Rattle.std.proofs.Common.{◌≡◌, ◌≢◌, ◌⊎◌, ⊎_elim, inl, inr, ℕ, zero, suc, ◌+◌, ◌<◌, List, [], ◌∷◌, ◌++◌, length, map, take, drop, replicate, get_or, refl, sym, ap, subst, ◌∙◌, arith, true≢false}
+use Rattle.std.specs.Prelude.{Bool, true, false, cond, ◌==◌, if◌then◌else◌, Option, Some, None, slice_get, slice_set, is_some, not, ◌||◌, Result, Ok, Err, OnOk, IfErr}
+use Rattle.std.specs.Option.{option_and_then}
+use Rattle.std.proofs.lemmas.Option.{slice_get_read, get_or_from_slice_get}
+use Rattle.std.proofs.lemmas.Bool.{eq-eqb}
 use Rattle.cms_journal.specs.Told.{Told}
 use Rattle.cms_disk.specs.Disks.{Accessed, synced, told_with}
 use Rattle.cms_disk.specs.declared.fault.AccessFault.{AccessFault}
 use Rattle.cms_disk.specs.declared.unit.UnitInfo.{UnitInfo}
 use Rattle.cms_search.specs.Machine.{Letter}
 use Rattle.cms_search.specs.Searches.{item_at, has}
-use Rattle.cms_search.specs.Tables.{Accesses, Seated, HaveDistinctDevices, IsTable, IsSure, StandOnce, without, put_on, cleared, new_table, released, marked, seated, shelves_of, table_after, told_after, letter_for, parent_of, wanted_unit}
+use Rattle.cms_search.specs.Tables.{Accesses, Seated, HaveDistinctDevices, IsTable, IsSure, without, put_on, cleared, new_table, released, marked, seated, shelves_of, table_after, told_after, letter_for, parent_of, wanted_unit}
 
 -- ---- lists with empty places
 

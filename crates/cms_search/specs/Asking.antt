@@ -19,9 +19,13 @@ complaint Bad = Some M010
 complaint Long = Some M011
 complaint Rest = None
 
-abbrev pub complaining : Option Message → Act Asked → Act Asked
+abbrev pub complaining : {R : Type 0} → Option Message → Act R → Act R
 complaining None next = next
 complaining (Some message) next = Out (typed_line (message_text message)) next
+
+-- an item is dropped: a turn is spent, and its message is typed
+abbrev pub dropping : Option Message → Act (Unit {0})
+dropping message = Turn (λ seconds. complaining message (Done tt))
 
 -- an item that is no line is dropped: it costs a turn, its message is typed, and the next one is asked for; the command that asks keeps
 -- its own moment

@@ -1,10 +1,10 @@
 -- What a call does, as a part of the machine's run.
-use Rattle.std.specs.Prelude.{⊤, ◌≡◌, ◌≤◌, ℕ, ℤ, false, List, [], ◌∷◌, Option, Some, None, Result, Ok, Err, IfOk, IfErr, OnOk, length, replicate, slice_get}
+use Rattle.std.specs.Prelude.{⊤, ◌≡◌, ◌≤◌, ℕ, ℤ, true, false, List, [], ◌∷◌, Option, Some, None, Result, Ok, Err, IfOk, IfErr, OnOk, length, replicate, slice_get}
 use Rattle.std.specs.Option.{ForSome, option_map}
 use Rattle.std.specs.FinMap.{empty}
 use Rattle.cms_journal.specs.declared.event.Attached.{Attached}
 use Rattle.cms_journal.specs.Causes.{Rose}
-use Rattle.cms_journal.specs.Journal.{Journal, HasBlocks, IsWritable}
+use Rattle.cms_journal.specs.Journal.{Journal, IsWritable}
 use Rattle.cms_journal.specs.Told.{Told, Idle, Grown}
 use Rattle.cms_model.specs.Minidisks.{Minidisk, State, Volume}
 use Rattle.cms_machine.specs.Slots.{Slot, Settled, state_in, set_of, IsAmong}
@@ -12,10 +12,11 @@ use Rattle.cms_machine.specs.Acts.{Act, Done, Out, typed_line}
 use Rattle.cms_machine.specs.Points.{Point, LeavesIn, HasNowIn}
 use Rattle.cms_machine.specs.Runs.{Ran, Broke}
 use Rattle.cms_world.specs.declared.world.World.{Ghosts}
+use Rattle.cms_world.specs.Seen.{Seen, seen}
 use Rattle.cms_line.specs.declared.message.Message.{Message}
 use Rattle.cms_line.specs.Messages.{message_text}
-use Rattle.cms_edf.specs.Small.{IsMinidisk}
-use Rattle.cms_search.specs.Machine.{Letter, Machine, Course, Went, DeviceFault}
+use Rattle.cms_disk.specs.Disks.{Accessed, IsLookedAt, IsMinidisk, IsReadable}
+use Rattle.cms_search.specs.Machine.{Letter, Machine, Course, Went, DeviceFault, OutOfTurns}
 use Rattle.cms_search.specs.declared.state as declared
 use Rattle.cms_search.specs.declared.state.Course.TheVariants as course
 use Rattle.cms_search.specs.declared.state.Disk.{Disk}
@@ -26,7 +27,7 @@ use Rattle.cms_search.specs.declared.state.End.TheVariants.{Edge}
 
 -- disk A as the machine has it
 abbrev pub letter_of : Disk → Letter
-letter_of d = record { unit = d.small.unit; parent = None; read_only = d.read_only }
+letter_of d = record { unit = d.minidisk.volume.unit; parent = None; read_only = d.read_only }
 
 abbrev pub letters_of : Option Disk → List (Option Letter)
 letters_of disk = option_map letter_of disk ∷ replicate 25 None
@@ -56,13 +57,14 @@ pub record IsCovered (j : Journal) (units : List Slot) (u : ℕ) : Type 0 where
 -- the unit is that of disk A
 abbrev pub IsDiskA : Option Disk → ℕ → Type 0
 IsDiskA None u = ⊥
-IsDiskA (Some d) u = d.small.unit ≡ u
+IsDiskA (Some d) u = d.minidisk.volume.unit ≡ u
 
 -- the unit of disk A is settled at the minidisk that disk A is
 pub record IsSeated (j : Journal) (units : List Slot) (d : Disk) : Type 0 where
   pub minidisk : Minidisk
-  pub slot : slice_get units d.small.unit ≡ Some (Settled (Volume minidisk))
-  pub is : IsMinidisk j d.small minidisk
+  pub slot : slice_get units d.minidisk.volume.unit ≡ Some (Settled (Volume minidisk))
+  pub looked : IsLookedAt j d.minidisk
+  pub is : IsMinidisk j d.minidisk minidisk
 
 -- the machine's units are those of this journal: the unit of disk A is settled at it, and every other unit is as its slot says
 pub record HoldsIn (j : Journal) (disk : Option Disk) (units : List Slot) : Type 0 where
@@ -75,24 +77,18 @@ abbrev pub Holds : Told → Option Disk → List Slot → Type 0
 Holds None disk units = ⊥
 Holds (Some j) disk units = HoldsIn j disk units
 
--- the blocks of disk A may be read, and written unless it is read-only
+-- the blocks of a minidisk may be read, and written where it may be written
+abbrev pub IsUsableMinidisk : Journal → Accessed → Type 0
+IsUsableMinidisk j d = IsReadable j d × (d.writable ≡ true → IsWritable j.units d.volume.unit)
+
+-- so may those of disk A, which may be written unless it is read-only
 abbrev pub IsUsableDisk : Journal → Disk → Type 0
-IsUsableDisk j d = HasBlocks j.units d.small.unit d.small.disk.count d.small.disk.bsize × (d.read_only ≡ false
-    → IsWritable j.units d.small.unit)
+IsUsableDisk j d = IsUsableMinidisk j d.minidisk × (d.read_only ≡ false → d.minidisk.writable ≡ true)
 
 abbrev pub Usable : Told → Option Disk → Type 0
 Usable told disk = ForSome told (λ j. ForSome disk (λ d. IsUsableDisk j d))
 
 -- ---- what a world shows
-
--- what a world shows of itself: its journal, how often a call on a unit failed, and how often another call did
-pub record Seen : Type 0 where
-  pub told : Told
-  pub faults : ℕ
-  pub edges : ℕ
-
-abbrev pub seen : {W : Type 0} → Ghosts W → W → Seen
-seen shows w = record { told = shows.told w; faults = shows.faults w; edges = shows.edges w }
 
 -- later on its journal has grown, and no count has fallen
 pub record IsLater (before now : Seen) : Type 0 where
@@ -143,6 +139,7 @@ beside s part = plain (λ units x. (machine_of s units, part x))
 abbrev pub course_in : declared.State.State → List Slot → declared.Course.Course → Course
 course_in s units (course.Went code) = Went (machine_of s units) code
 course_in s units course.DeviceFault = DeviceFault
+course_in s units course.OutOfTurns = OutOfTurns
 
 abbrev pub course_of : declared.State.State → Meaning declared.Course.Course Course
 course_of s = record { value = course_in s; fault = λ c. c ≡ course.DeviceFault }
@@ -156,12 +153,12 @@ Plays p q t (Err e) done = Broke p q t
 
 -- what a call of the console or the clock makes of a point: all else stays
 abbrev pub after_world : Point → Seen → Point
-after_world p now = record p { journal = now.told; faults = now.faults }
+after_world p now = record p { journal = now.told }
 
 -- what is said of every call of the console or the clock alone
 pub record Does {R T : Type 0} (before now : Seen) (t : Act R) (result : Result T End) (done : T → R) : Type 0 where
-  -- from whichever point the world has come to it did its tree, or was cut off in it
-  pub each : (p : Point) → p.journal ≡ before.told → p.faults ≡ before.faults → Plays p (after_world p now) t result done
+  -- from each point of the journal, whichever its count, it did its tree, or was cut off in it
+  pub each : (p : Point) → p.journal ≡ before.told → Plays p (after_world p now) t result done
   -- nothing happened to any unit
   pub idle : Idle before.told now.told
   pub faults : now.faults ≡ before.faults

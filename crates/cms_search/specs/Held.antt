@@ -4,7 +4,7 @@ use Rattle.cms_journal.specs.Journal.{Journal, HasBlocks, IsWritable}
 use Rattle.cms_model.specs.Minidisks.{Minidisk, State, Volume}
 use Rattle.cms_model.specs.LawsSizes.{IsWhole}
 use Rattle.cms_model.specs.LawsUpdates.{now}
-use Rattle.cms_machine.specs.Slots.{Slot, Side, Settled, Doubt, IsAmong, set_of, state_in}
+use Rattle.cms_machine.specs.Slots.{Slot, Settled, Doubt, IsAmong, set_of, state_in}
 use Rattle.cms_machine.specs.Points.{LeavesIn, HasNowIn}
 use Rattle.cms_disk.specs.Disks.{IsMinidisk, IsOn, IsQuiet, disk_on}
 use Rattle.cms_disk.specs.declared.unit.UnitInfo.{UnitInfo}

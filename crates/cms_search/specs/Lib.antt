@@ -1,6 +1,5 @@
 pub mod Machine
 pub mod Ready
-pub mod Texts
 pub mod Calls
 pub mod Reading
 pub mod Searches
@@ -8,3 +7,7 @@ pub mod Tables
 pub mod Shows
 pub mod Asking
 pub mod Held
+pub mod Telling
+pub mod Releasing
+pub mod Refusing
+pub mod Talks

@@ -1,17 +1,18 @@
 -- Searches: which disks are looked at, and which of their files are found.
-use Rattle.std.specs.Prelude.{◌≡◌, ℕ, suc, Bool, true, false, not, ◌==◌, ◌&&◌, if◌then◌else◌, List, [], ◌∷◌, map, position, slice_get, Option, Some, None, is_some, Result, Ok, Err}
+use Rattle.std.specs.Prelude.{ℕ, suc, Bool, true, false, not, ◌==◌, ◌&&◌, if◌then◌else◌, List, [], ◌∷◌, map, position, slice_get, Option, Some, None, is_some, Result, Ok, Err}
 use Rattle.std.specs.List.{flat_map}
 use Rattle.std.specs.Option.{option_map, option_map_or, option_and_then}
 use Rattle.cms_names.specs.declared.name.Name.{Name}
 use Rattle.cms_names.specs.Patterns.{fits}
 use Rattle.cms_model.specs.Minidisks.{File, Minidisk, same_name}
 use Rattle.cms_machine.specs.Slots.{Slot}
+use Rattle.cms_operands.specs.ReadModes.{admits}
 use Rattle.cms_search.specs.Machine.{Letter, Machine, minidisk_in}
 use Rattle.cms_search.specs.declared.fault.SearchFault.{SearchFault}
 use Rattle.cms_search.specs.declared.fault.SearchFault.TheVariants.{NotAccessed, NotFound}
 use Rattle.cms_search.specs.declared.search.Found.{Found}
-use Rattle.cms_search.specs.declared.search.ReadMode.{ReadMode}
-use Rattle.cms_search.specs.declared.search.ReadMode.TheVariants as mode
+use Rattle.cms_operands.specs.declared.mode.ReadMode.{ReadMode}
+use Rattle.cms_operands.specs.declared.mode.ReadMode.TheVariants as mode
 
 -- ---- places in lists
 
@@ -75,12 +76,6 @@ searched base shelves = places_where (has (is_searched base)) shelves
 abbrev pub with_extensions : Shelves → ℕ → Result (List ℕ) SearchFault
 with_extensions shelves n = if is_some (item_at shelves n) then Ok (n ∷ searched (Some n) shelves) else Err (NotAccessed n)
 
--- the letter that a mode searches first, where there is one
-abbrev pub base_of : ReadMode → Option ℕ
-base_of mode.Any = None
-base_of (mode.Letter n) = Some n
-base_of (mode.Numbered n k) = Some n
-
 -- the letters that a mode searches, in their order
 abbrev pub letters_of_mode : Shelves → ReadMode → Result (List ℕ) SearchFault
 letters_of_mode shelves mode.Any = Ok (searched None shelves)
@@ -88,12 +83,6 @@ letters_of_mode shelves (mode.Letter n) = with_extensions shelves n
 letters_of_mode shelves (mode.Numbered n k) = with_extensions shelves n
 
 -- ---- the files of a search
-
--- a mode with a number admits the files of that number alone
-abbrev pub admits : ReadMode → ℕ → Bool
-admits mode.Any number = true
-admits (mode.Letter n) number = true
-admits (mode.Numbered n k) number = number == k
 
 -- a file of mode number 0 isn't seen on a read-only disk
 abbrev pub shows : Letter → ℕ → Bool

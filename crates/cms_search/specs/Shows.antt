@@ -11,7 +11,7 @@ use Rattle.cms_search.specs.declared.state.Device.{Device}
 
 -- the device of a unit
 abbrev pub device_of : UnitInfo → Device
-device_of unit = record { vdev = unit.vdev; bsize = unit.bsize; writable = unit.writable }
+device_of unit = record { vdev = unit.vdev; bsize = unit.bsize; blocks = unit.unit.blocks; writable = unit.writable }
 
 abbrev pub devices_of : Accesses → List Device
 devices_of t = map device_of t.units

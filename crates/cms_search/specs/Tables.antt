@@ -1,12 +1,11 @@
 -- The access table: the units, and the letters as which their disks are accessed.
-use Rattle.std.specs.Prelude.{◌≡◌, ◌<◌, ℕ, Bool, true, false, not, ◌==◌, ◌||◌, if◌then◌else◌, List, length, map, position, replicate, slice_get, slice_set, Option, Some, None, is_some, IfSome, IfOk, Result, Ok, Err, ⊤}
+use Rattle.std.specs.Prelude.{◌≡◌, ℕ, Bool, false, not, ◌==◌, ◌||◌, if◌then◌else◌, List, length, map, position, replicate, slice_get, slice_set, Option, Some, None, is_some, IfOk, Result, Ok, Err, ⊤}
 use Rattle.std.specs.Option.{ForSome, option_map, option_and_then}
-use Rattle.cms_journal.specs.Journal.{Journal, HasBlocks}
 use Rattle.cms_journal.specs.Told.{Told}
 use Rattle.cms_model.specs.LawsSizes.{IsWhole}
 use Rattle.cms_model.specs.LawsUpdates.{now}
 use Rattle.cms_model.specs.declared.fault.OpenFault.TheVariants as failed
-use Rattle.cms_edf.specs.Opening.{HeldFile}
+use Rattle.cms_held.specs.Opening.{HeldFile}
 use Rattle.cms_edf.specs.OpeningSteps.{OfImage}
 use Rattle.cms_edf.specs.declared.held.FileInfo.{FileInfo}
 use Rattle.cms_disk.specs.Disks.{Accessed, AnswersAccess, IsLeft, IsOn, IsQuiet, disk_on, synced, told_with}

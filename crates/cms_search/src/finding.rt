@@ -1,6 +1,6 @@
 // Searches of a table.
 ghost use Rattle.std.specs.Prelude.{◌≡◌, ◌⊎◌, ◌≤◌, ◌++◌, ◌+◌, Ok, Err, length, IfOk, IfErr, OnOk};
-ghost use Rattle.cms_search.specs.Searches.{base_of, find_first, fitting, found_in, found_on, has, is_found, is_searched, item_at, letters_of_mode, look_up, placed_on, search, searched, shelves_in};
+ghost use Rattle.cms_search.specs.Searches.{find_first, fitting, found_in, found_on, has, is_found, is_searched, item_at, letters_of_mode, look_up, placed_on, search, searched, shelves_in};
 ghost use Rattle.cms_search.specs.Machine.{Machine};
 ghost use Rattle.cms_search.specs.Tables.{shelf_of, shelves_of, told_of};
 ghost use Rattle.cms_search.specs.Shows.{Shows};
@@ -8,24 +8,13 @@ ghost use Rattle.cms_search.specs.declared.fault.SearchFault.TheVariants.{Memory
 
 use crate::fault::SearchFault;
 use crate::order::SearchOrder;
-use crate::search::{Found, FoundList, ReadMode};
+use crate::search::{Found, FoundList};
 use crate::seated::Seated;
 use crate::table::Table;
 use cms_disk::FileInfo;
 use cms_names::{Name, Pattern};
+use cms_operands::ReadMode;
 use std::alloc::{AllocError, Global};
-
-impl ReadMode {
-    // The letter that is searched first, where one is.
-    fn base(&self) -> Option<u8>
-        ensures { result ≡ base_of self.now }
-    {
-        match self {
-            ReadMode::Any => None,
-            ReadMode::Letter(letter) | ReadMode::Numbered(letter, _) => Some(*letter),
-        }
-    }
-}
 
 // Whether two patterns fit the name of a file, and it is found.
 fn is_found(seat: &Seated, info: &FileInfo, file: &Pattern, kind: &Pattern, mode: &ReadMode) -> bool

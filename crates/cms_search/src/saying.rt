@@ -3,7 +3,8 @@ ghost use Rattle.std.specs.Prelude.{◌≡◌, ◌<◌, ◌+◌, ◌/◌, ◌%�
 ghost use Rattle.cms_machine.specs.Acts.{saying, typed_line};
 ghost use Rattle.cms_line.specs.Messages.{message_text};
 ghost use Rattle.cms_search.specs.Ready.{ready_line, ready_with};
-ghost use Rattle.cms_search.specs.Calls.{Does, seen, itself, said};
+ghost use Rattle.cms_search.specs.Calls.{Does, itself, said};
+ghost use Rattle.cms_world.specs.Seen.{seen};
 ghost use Rattle.cms_search.specs.declared.state.Course.TheVariants.{Went};
 
 use crate::state::{Course, End};

@@ -4,8 +4,8 @@ ghost use Rattle.std.specs.Option.{option_copied};
 ghost use Rattle.cms_search.specs.Searches.{has, item_at, may_find};
 ghost use Rattle.cms_search.specs.Tables.{cleared, put_on, without};
 
-use crate::search::ReadMode;
 use cms_disk::Minidisk;
+use cms_operands::ReadMode;
 use std::marker::Model;
 
 /// The disk of a letter.

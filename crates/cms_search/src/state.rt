@@ -2,7 +2,7 @@
 ghost use Rattle.std.specs.Prelude.{◌≡◌};
 ghost use Rattle.cms_search.specs.declared.state.End.TheVariants.{Memory};
 
-use cms_edf::Small;
+use cms_disk::Minidisk;
 use cms_fields::Moment;
 use cms_line::Console;
 use std::alloc::{AllocError, AllocFailed};
@@ -14,14 +14,16 @@ pub struct Device {
     pub vdev: u16,
     /// its block size in bytes: 512, 1024, 2048 or 4096
     pub bsize: u32,
+    /// how many blocks it has
+    pub blocks: u32,
     /// it may be written
     pub writable: bool,
 }
 
-/// Disk A: its volume, and whether it may only be read.
+/// Disk A: its minidisk, and whether it may only be read.
 #[derive(Drop)]
 pub struct Disk {
-    pub small: Small,
+    pub minidisk: Minidisk,
     pub read_only: bool,
 }
 
@@ -71,4 +73,6 @@ pub enum Course {
     Went(i32),
     /// by a fault of a device
     DeviceFault,
+    /// no turn is left for a line that it asks for
+    OutOfTurns,
 }

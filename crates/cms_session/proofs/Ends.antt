@@ -1,5 +1,5 @@
 -- How a session ends: its parts joined, and the headline.
-use Rattle.std.proofs.Common.{◌≡◌, inl, inr, ⊎_elim, ℕ, ◌≤◌, min, List, [], ◌∷◌, ◌++◌, Option, Some, Result, Ok, Err, pos, refl, ap, sym, subst, ◌∙◌, arith, append-nil, slice_get, length}
+use Rattle.std.proofs.Common.{◌≡◌, inl, inr, ℕ, ◌≤◌, min, List, [], ◌∷◌, ◌++◌, Option, Some, Result, Ok, Err, pos, refl, ap, sym, subst, ◌∙◌, arith, append-nil, slice_get, length}
 use Rattle.cms_journal.specs.Limits.{most_blocks}
 use Rattle.cms_journal.specs.declared.event.Event.{Event}
 use Rattle.cms_journal.specs.declared.event.Event.TheVariants.{Missed}
@@ -13,6 +13,7 @@ use Rattle.cms_search.proofs.Holding.{some_same}
 use Rattle.cms_session.proofs.Starts.{first_state, settled_at, left_first, now_first}
 use Rattle.cms_journal.specs.Told.{Told, typed, moments}
 use Rattle.cms_model.specs.Minidisks.{State}
+use Rattle.cms_model.specs.Volumes.{disk_of}
 use Rattle.cms_machine.specs.Slots.{Slot, Settled, state_in, set_of, unit_set, unit_state, IsAmong}
 use Rattle.cms_machine.specs.Steps.{faults_in}
 use Rattle.cms_machine.specs.Acts.{Act}
@@ -33,10 +34,11 @@ use Rattle.cms_line.specs.ConsoleState as consoles
 use Rattle.cms_search.specs.declared.state.Device.{Device}
 use Rattle.cms_search.specs.declared.state.End.{End}
 use Rattle.cms_search.specs.declared.state.State as declared
-use Rattle.cms_search.specs.Calls.{Seen, Spot, Holds, Acts, at}
+use Rattle.cms_search.specs.Calls.{Spot, Holds, Acts, at}
+use Rattle.cms_world.specs.Seen.{Seen}
 use Rattle.cms_session.specs.Calls.{session_tree, finished}
 use Rattle.cms_session.specs.Headline.{Start, Headline, Came, Begins, EndsAs, IsAs, fresh, settled, first_point, start_point, start_tree, run_on}
-use Rattle.cms_session.specs.Sessions.{IsAsSeen, CameTo, WasCut, EndedAs, RanOn, NotAttached, OnUnit, IsAlone, FoundAs, start_on, device_of, lines_tree, status_of}
+use Rattle.cms_session.specs.Sessions.{IsAsSeen, CameTo, WasCut, EndedAs, NotAttached, OnUnit, IsAlone, FoundAs, start_on, device_of, lines_tree, status_of}
 use Rattle.std.specs.Prelude.{Vec}
 use Rattle.std.specs.declared.alloc.Global.{Global}
 use Rattle.cms_words.specs.declared.unit.UnitWord.{UnitWord}
@@ -79,34 +81,34 @@ first_state_of device terms disk console moment = record {
 }
 
 -- where it starts, with the device of its word and the script of its terms
-abbrev first_spot : Seen → UnitWord → Terms → Option Disk → ConsoleState → Spot
-first_spot before word terms disk console = record {
+abbrev first_spot : Seen → UnitWord → ℕ → Terms → Option Disk → ConsoleState → Spot
+first_spot before word blocks terms disk console = record {
   world = before;
-  state = first_state_of (device_of word) terms disk console (moment_of (pos 0) terms.offset);
+  state = first_state_of (device_of word blocks) terms disk console (moment_of (pos 0) terms.offset);
 }
 
 -- what the lines of a session did from there
-abbrev LinesDid : Seen → Seen → UnitWord → Terms → Option Disk → ConsoleState → declared.State → Result Finish End → Type 0
-LinesDid before now word terms disk console new r =
-    Acts (first_spot before word terms disk console) (record { world = now; state = new })
-    (session_tree (first_spot before word terms disk console).state) r finished
+abbrev LinesDid : Seen → Seen → UnitWord → ℕ → Terms → Option Disk → ConsoleState → declared.State → Result Finish End → Type 0
+LinesDid before now word blocks terms disk console new r =
+    Acts (first_spot before word blocks terms disk console) (record { world = now; state = new })
+    (session_tree (first_spot before word blocks terms disk console).state) r finished
 
 -- the lines of a session were cut off
-pub lines_cut : (before now : Seen) (device : Device) (word : UnitWord) (terms : Terms) (disk : Option Disk) (console : ConsoleState) (moment : Moment)
-    (new : declared.State) (e : End) (units : List Slot) → device ≡ device_of word → console ≡ consoles.fresh terms.given → moment ≡ moment_of (pos 0) terms.offset
+pub lines_cut : (before now : Seen) (device : Device) (word : UnitWord) (blocks : ℕ) (terms : Terms) (disk : Option Disk) (console : ConsoleState) (moment : Moment)
+    (new : declared.State) (e : End) (units : List Slot) → device ≡ device_of word blocks → console ≡ consoles.fresh terms.given → moment ≡ moment_of (pos 0) terms.offset
     → Acts {T = Finish} (record { world = before; state = first_state_of device terms disk console moment }) (record { world = now; state = new })
     (session_tree (first_state_of device terms disk console moment)) (Err e) finished
     → Holds before.told disk units
-    → WasCut (first_point before.told before.faults units (given_in terms.given)) now (lines_tree (asked word terms) disk units)
-lines_cut before now device word terms disk console moment new e units is_device is_console is_moment did h =
-    let there : LinesDid before now word terms disk console new (Err e) = rw (is_device, is_moment) at did in
+    → WasCut (first_point before.told before.faults units (given_in terms.given)) now (lines_tree (asked word terms) blocks disk units)
+lines_cut before now device word blocks terms disk console moment new e units is_device is_console is_moment did h =
+    let there : LinesDid before now word blocks terms disk console new (Err e) = rw (is_device, is_moment) at did in
     let x = there.each units h in
     let q = at (record { world = now; state = new }) x.0 in
-    let from = at_start before units (first_spot before word terms disk console).state terms.given is_console in
+    let from = at_start before units (first_spot before word blocks terms disk console).state terms.given is_console in
     record {
       point = q;
       shown = record { told = refl; faults = refl };
-      broke = subst (λ (p : Point). Broke p q (lines_tree (asked word terms) disk units)) from x.1;
+      broke = subst (λ (p : Point). Broke p q (lines_tree (asked word terms) blocks disk units)) from x.1;
     }
 
 -- a tree that came to an end ended as its status says
@@ -117,18 +119,18 @@ ended_as p edges now t finish.NotBuilt came = came
 ended_as p edges now t finish.DeviceFault came = inl came
 
 -- or came to an end
-pub lines_came : (before now : Seen) (device : Device) (word : UnitWord) (terms : Terms) (disk : Option Disk) (console : ConsoleState) (moment : Moment)
-    (new : declared.State) (end : Finish) (units : List Slot) → device ≡ device_of word → console ≡ consoles.fresh terms.given → moment ≡ moment_of (pos 0) terms.offset
+pub lines_came : (before now : Seen) (device : Device) (word : UnitWord) (blocks : ℕ) (terms : Terms) (disk : Option Disk) (console : ConsoleState) (moment : Moment)
+    (new : declared.State) (end : Finish) (units : List Slot) → device ≡ device_of word blocks → console ≡ consoles.fresh terms.given → moment ≡ moment_of (pos 0) terms.offset
     → Acts {T = Finish} (record { world = before; state = first_state_of device terms disk console moment }) (record { world = now; state = new })
     (session_tree (first_state_of device terms disk console moment)) (Ok end) finished
     → Holds before.told disk units
-    → EndedAs (first_point before.told before.faults units (given_in terms.given)) before.edges now (lines_tree (asked word terms) disk units) (status_of end)
-lines_came before now device word terms disk console moment new end units is_device is_console is_moment did h =
-    let there : LinesDid before now word terms disk console new (Ok end) = rw (is_device, is_moment) at did in
+    → EndedAs (first_point before.told before.faults units (given_in terms.given)) before.edges now (lines_tree (asked word terms) blocks disk units) (status_of end)
+lines_came before now device word blocks terms disk console moment new end units is_device is_console is_moment did h =
+    let there : LinesDid before now word blocks terms disk console new (Ok end) = rw (is_device, is_moment) at did in
     let x = there.each units h in
     let q = at (record { world = now; state = new }) x.0 in
-    let tree = lines_tree (asked word terms) disk units in
-    let from = at_start before units (first_spot before word terms disk console).state terms.given is_console in
+    let tree = lines_tree (asked word terms) blocks disk units in
+    let from = at_start before units (first_spot before word blocks terms disk console).state terms.given is_console in
     ended_as (first_point before.told before.faults units (given_in terms.given)) before.edges now tree end (record {
       point = q;
       shown = record { told = refl; faults = refl };
@@ -251,24 +253,22 @@ headline s before now (Usage fault) faults e = absurd e
 -- the session went on from what was found
 pub ran_on : (spec : Asked) (unit : Attached) (before now : Seen) (told : Told) (edges mid : ℕ) (disk : Option Disk) (status : Status)
     → told ≡ Some (fresh (unit ∷ [])) → edges ≡ before.edges → FoundAs spec unit before.faults mid (Ok disk)
-    → ((units : List Slot) → Holds told disk units → EndedAs (first_point told mid units spec.given) edges now (lines_tree spec disk units) status)
-    → RanOn spec unit before now status
+    → ((units : List Slot) → Holds told disk units → EndedAs (first_point told mid units spec.given) edges now (lines_tree spec (disk_of unit).count disk units) status)
+    → Headline (start_on spec unit before.faults) before now status
 ran_on spec unit before now told edges mid disk status is same found ended =
     let s = start_on spec unit before.faults in
     let units = settled (unit ∷ []) in
-    let tree = lines_tree spec disk units in
+    let tree = lines_tree spec (disk_of unit).count disk units in
     let held : Holds told disk units = subst (λ (t : Told). Holds t disk units) (sym is) found.holds in
     let there : EndedAs (first_point (Some (fresh (unit ∷ []))) mid units spec.given) before.edges now tree status =
     subst (λ (t : Told). EndedAs (first_point t mid units spec.given) before.edges now tree status) is
     (subst (λ (n : ℕ). EndedAs (first_point told mid units spec.given) n now tree status) same (ended units held)) in
-    let all = ended_then (start_point s) (start_point (start_on spec unit mid)) before.edges now (start_tree s) tree status found.ran there in
-    record { ran = inr (headline s before now status refl all); unbuilt = λ u. absurd (found.built u) }
+    headline s before now status refl
+    (ended_then (start_point s) (start_point (start_on spec unit mid)) before.edges now (start_tree s) tree status found.ran there)
 
 -- or it ended there
 pub ended_on : (spec : Asked) (unit : Attached) (before now : Seen) (status : Status) → now.told ≡ Some (fresh (unit ∷ [])) → before.faults ≤ now.faults
-    → FoundAs spec unit before.faults now.faults (Err status) → RanOn spec unit before now status
-ended_on spec unit before now NotBuilt told later found =
-    record { ran = inl (record { status_is = refl; told = told; volume = found }); unbuilt = λ u. told }
+    → FoundAs spec unit before.faults now.faults (Err status) → Headline (start_on spec unit before.faults) before now status
 ended_on spec unit before now World told later found =
     let s = start_on spec unit before.faults in
     let came : CameTo (start_point s) now (start_tree s) finish.DeviceFault = record {
@@ -276,11 +276,11 @@ ended_on spec unit before now World told later found =
       shown = record { told = sym told; faults = refl };
       ran = found;
     } in
-    record { ran = inr (headline s before now World refl (inl came)); unbuilt = λ u. told }
+    headline s before now World refl (inl came)
 ended_on spec unit before now Memory told later found =
     let s = start_on spec unit before.faults in
-    let cut = cut_before (start_point s) now (start_tree s) told later in
-    record { ran = inr (headline s before now Memory refl cut); unbuilt = λ u. told }
+    headline s before now Memory refl (cut_before (start_point s) now (start_tree s) told later)
+ended_on spec unit before now NotBuilt told later found = absurd found
 ended_on spec unit before now Done told later found = absurd found
 ended_on spec unit before now Turns told later found = absurd found
 ended_on spec unit before now (Usage fault) told later found = absurd found
@@ -316,19 +316,12 @@ headline_from s told edges mid now status earlier h = record {
   waits_before = h.waits_before;
 }
 
--- what holds from an earlier count of edges
-ran_from : (spec : Asked) (unit : Attached) (told : Told) (edges : ℕ) (mid now : Seen) (status : Status) → edges ≤ mid.edges → RanOn spec unit mid now status
-    → RanOn spec unit (record { told = told; edges = edges; faults = mid.faults }) now status
-ran_from spec unit told edges mid now status earlier r = record {
-  ran = ⊎_elim inl (λ h. inr (headline_from (start_on spec unit mid.faults) told edges mid now status earlier h)) r.ran;
-  unbuilt = r.unbuilt;
-}
-
 pub on_unit : (spec : Asked) (before mid now : Seen) (name : List ℕ) (size : ℕ) (access : Access) (number blocks seen_number seen_blocks : ℕ)
     (status : Status) → name ≡ spec.unit.name → size ≡ spec.unit.bsize → access ≡ spec.unit.access
     → IsAttached (fresh []) mid.told name size access number blocks → seen_number ≡ number → seen_blocks ≡ min blocks most_blocks
     → before.faults ≡ mid.faults → before.edges ≤ mid.edges
-    → ((alone : Attached) → IsAlone mid.told (record { bsize = size; count = seen_blocks }) seen_number alone → RanOn spec alone mid now status) → OnUnit spec before now status
+    → ((alone : Attached) → IsAlone mid.told (record { bsize = size; count = seen_blocks }) seen_number alone → Headline (start_on spec alone mid.faults) mid now status)
+    → OnUnit spec before now status
 on_unit spec before mid now name size access number blocks seen_number seen_blocks status is_name is_size is_access attached is_number is_blocks same earlier ran =
     let unit : Attached = record { name = name; bsize = size; writable = may_write access; start = attached.start } in
     let alone : IsAlone mid.told (record { bsize = size; count = seen_blocks }) seen_number unit = record {
@@ -337,7 +330,7 @@ on_unit spec before mid now name size access number blocks seen_number seen_bloc
       disk_is = ap (λ (n : ℕ). record { bsize = size; count = n }) (ap (λ (n : ℕ). min n most_blocks) (sym attached.blocks_is) ∙ sym is_blocks);
       sizes = attached.sizes;
     } in
-    let from = ran_from spec unit before.told before.edges mid now status earlier (ran unit alone) in
+    let from = headline_from (start_on spec unit mid.faults) before.told before.edges mid now status earlier (ran unit alone) in
     let there : IsAttached (fresh []) (Some (fresh (unit ∷ []))) name size access 0 blocks = record {
       start = attached.start;
       told = refl;
@@ -355,7 +348,7 @@ on_unit spec before mid now name size access number blocks seen_number seen_bloc
           subst (λ (n : List ℕ). IsAttached (fresh []) (Some (fresh (unit ∷ []))) n spec.unit.bsize spec.unit.access 0 blocks) is_name
           (subst (λ (n : ℕ). IsAttached (fresh []) (Some (fresh (unit ∷ []))) name n spec.unit.access 0 blocks) is_size
           (subst (λ (a : Access). IsAttached (fresh []) (Some (fresh (unit ∷ []))) name size a 0 blocks) is_access there));
-      ran = subst (λ (n : ℕ). RanOn spec unit (record { told = before.told; edges = before.edges; faults = n }) now status) (sym same) from;
+      ran = subst (λ (n : ℕ). Headline (start_on spec unit n) (record { told = before.told; edges = before.edges; faults = n }) now status) (sym same) from;
     }
 
 pub not_attached : (spec : Asked) (before now : Seen) (name : List ℕ) (size : ℕ) (access : Access) → before.told ≡ Some (fresh [])

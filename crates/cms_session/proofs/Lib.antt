@@ -3,11 +3,8 @@ pub mod CommandWords
 pub mod Stars
 pub mod Starts
 pub mod Ends
-pub mod Records
 pub mod Seen
-pub mod Files
 pub mod Commands
-pub mod Drops
 pub mod Erasures
 pub mod Rounds
 pub mod Plays

@@ -6,7 +6,7 @@ use Rattle.cms_words.specs.Words.{words_of}
 use Rattle.cms_words.specs.declared.reading.Words.{Words}
 use Rattle.cms_words.specs.declared.fault.WordFault.{WordFault}
 use Rattle.cms_words.specs.declared.fault.WordFault.TheVariants as fault
-use Rattle.cms_search.specs.Calls.{Seen}
+use Rattle.cms_world.specs.Seen.{Seen}
 use Rattle.cms_session.specs.Sessions.{FitsWords, SessionIn, refusal_of}
 use Rattle.cms_session.specs.declared.status.Status.TheVariants.{Usage, Memory}
 use Rattle.cms_session.specs.Words.{Asked, Read, Refused, NotBuilt, Runs, asked_of, read_by, read_words}

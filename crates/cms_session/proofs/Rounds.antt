@@ -1,22 +1,21 @@
 -- The parts of a round.
 use Rattle.std.proofs.Common.{◌≡◌, ℕ, ℤ, ◌≤◌, suc, List, [], ◌∷◌, Option, Some, None, Result, Ok, Err, Bool, true, false, IfOk, codes, refl, ap, sym, ◌∙◌, subst, arith}
 use Rattle.std.specs.Prelude.{option_map}
-use Rattle.std.specs.Option.{is_some}
 use Rattle.cms_journal.specs.declared.event.Event.{Event}
 use Rattle.cms_journal.specs.declared.event.Event.TheVariants.{Read, Now, Typed, Wrote, Synced, Missed}
 use Rattle.cms_journal.specs.Causes.{Rose}
-use Rattle.cms_journal.specs.Journal.{Journal, adds}
+use Rattle.cms_journal.specs.Journal.{adds}
 use Rattle.cms_journal.specs.Told.{Told, TouchesNone, NoDisk, Idle}
 use Rattle.cms_journal.proofs.Events.{all_weaker}
 use Rattle.cms_journal.proofs.Pieces.{idle_same, grown_idle}
 use Rattle.cms_ebcdic.specs.CodePage.{code_of, code_page}
 use Rattle.cms_text.specs.Texts.{ebcdic}
 use Rattle.cms_names.specs.declared.name.Name.{Name}
-use Rattle.cms_names.specs.Names.{is_part, is_text_of, is_name_character, filled}
+use Rattle.cms_names.specs.Names.{is_part, is_text_of, is_name_character}
+use Rattle.cms_names.specs.declared.fault.NameFault.{NameFault}
 use Rattle.cms_fields.specs.declared.time.Moment.{Moment}
 use Rattle.cms_fields.specs.Moments.{moment_of}
-use Rattle.cms_model.specs.Minidisks.{Minidisk}
-use Rattle.cms_edf.specs.Small.{IsMinidisk, spelled}
+use Rattle.cms_model.specs.LawsUpdates.{now}
 use Rattle.cms_machine.specs.Slots.{Slot}
 use Rattle.cms_machine.specs.Items.{Item}
 use Rattle.cms_machine.specs.Acts.{Act, Done, bind, turning}
@@ -33,9 +32,10 @@ use Rattle.cms_search.specs.declared.state.End.TheVariants.{Memory, Edge}
 use Rattle.cms_search.specs.declared.state.State.{State}
 use Rattle.cms_search.specs.declared.state.Course as declared
 use Rattle.cms_search.specs.declared.state.Course.TheVariants as course
-use Rattle.cms_search.specs.Machine.{Machine, Course, turned, seen_file}
-use Rattle.cms_search.specs.Texts.{coded}
-use Rattle.cms_search.specs.Calls.{Seen, Spot, Meaning, IsLater, at, holds, Holds, Does, Acts, Comes, after_world, plain, beside, itself, said, letter_of, machine_of, course_of}
+use Rattle.cms_search.specs.Machine.{Machine, Course, turned}
+use Rattle.cms_operands.specs.Texts.{coded}
+use Rattle.cms_search.specs.Calls.{Spot, Meaning, IsLater, at, holds, Holds, Does, Acts, Comes, after_world, plain, beside, itself, said, letter_of, machine_of, course_of}
+use Rattle.cms_world.specs.Seen.{Seen}
 use Rattle.cms_search.proofs.Holding.{holds_some, holds_idle}
 use Rattle.cms_search.proofs.Acts.{rose_until, later_does, usable_later, at_kept, holds_does, comes_then, comes_in, comes_does, comes_same, acts_done, acts_after, acts_caused, acts_stop, does_stop, no_memory}
 use Rattle.cms_session.specs.Commands.{command_of, type_word, erase_word, exec_word}
@@ -44,8 +44,8 @@ use Rattle.cms_session.specs.declared.state.Round as rounds
 use Rattle.cms_session.specs.declared.state.Round.TheVariants as end
 use Rattle.cms_session.specs.declared.state.Finish.TheVariants as finish
 use Rattle.cms_session.specs.Machine.{Round, Ended, Ready, readied, is_procedure, is_procedure_on, unless_procedure, run_command, on_turn, on_command}
-use Rattle.cms_session.specs.Calls.{IsSeen, IsTest, procedure_name, machine_now, taking_tree, asking_tree, turning_tree, ready_text, round_after, round_in, round_of, ready_tree, command_tree, round_tree}
-use Rattle.cms_session.proofs.Seen.{HasParts, Shows, some_entry, seen_within, shows}
+use Rattle.cms_session.specs.Calls.{Sees, IsTest, procedure_name, machine_now, taking_tree, asking_tree, turning_tree, ready_text, round_after, round_in, round_of, ready_tree, command_tree, round_tree}
+use Rattle.cms_session.proofs.CommandWords.{IsRead as IsWord, type_coded, erase_coded}
 
 -- ---- the console and the clock
 
@@ -103,29 +103,6 @@ stayed old new e st faults edges cause =
       fault = tt;
     }
 
--- the clock told its seconds
-pub clock_told : (before now : Seen) (seconds : ℤ) → now.told ≡ adds (Now seconds) before.told → now.faults ≡ before.faults → before.edges ≤ now.edges
-    → Does before now turning (Ok seconds) itself
-clock_told before now seconds told faults edges = record {
-  each = λ p journal same.
-      ran_turn p (after_world p now) seconds (λ m. Done m) (told ∙ ap (λ (t : Told). adds (Now seconds) t) (sym journal)) (omega (arith, faults, same)) refl
-      (record { unread = refl; ended = refl });
-  idle = record { events = Now seconds ∷ []; told = told; none = (tt, tt) };
-  faults = faults;
-  edges = edges;
-  cause = tt;
-}
-
-pub clock_failed : (before now : Seen) (e : End) → now.told ≡ before.told → now.faults ≡ before.faults → before.edges ≤ now.edges
-    → Rose before.edges now.edges → Does {T = ℤ} before now turning (Err e) itself
-clock_failed before now e told faults edges rose = record {
-  each = λ p journal same. broke_before p (after_world p now) turning (told ∙ sym journal) (omega (arith, faults, same)) refl;
-  idle = idle_same before.told now.told told;
-  faults = faults;
-  edges = edges;
-  cause = λ edge. rose;
-}
-
 -- a turn was spent at this moment
 pub turned_so : (old new : Spot) (seconds : ℤ) (moment : Moment) (left : ℕ) (x : Unit {0}) → Does old.world new.world turning (Ok seconds) itself
     → moment ≡ moment_of seconds old.state.offset → new.state ≡ record old.state { moment = moment; left = left }
@@ -138,8 +115,8 @@ turned_so old new seconds moment left x d is kept =
           let machine : machine_of new.state units ≡ turned (machine_of old.state units) left seconds =
           ap (λ (s : State). machine_of s units) kept ∙ ap (λ (m : Moment). record (machine_of old.state units) { moment = m; left = left }) is in
           let ran : Ran (at old units) (after_world (at old units) new.world) (turning_tree old.state left units) (Done (turned (machine_of old.state units) left seconds)) =
-          ran_bind (λ m. Done (turned (machine_of old.state units) left m)) (d.each (at old units) refl refl) in
-          let point = at_kept old new units (ap (λ (s : State). s.console) kept) in
+          ran_bind (λ m. Done (turned (machine_of old.state units) left m)) (d.each (at old units) refl) in
+          let point = at_kept old new units d.faults (ap (λ (s : State). s.console) kept) in
           let there : Ran (at old units) (at new units) (turning_tree old.state left units) (Done (turned (machine_of old.state units) left seconds)) =
           subst (λ (q : Point). Ran (at old units) q (turning_tree old.state left units) (Done (turned (machine_of old.state units) left seconds))) (sym point) ran in
           (units, (holds_does old new turning (Ok seconds) itself units d disk h, rw machine there));
@@ -154,8 +131,8 @@ pub not_turned : (old new : Spot) (left : ℕ) (e : End) → Does {T = ℤ} old.
 not_turned old new left e d console = record {
   each = λ units h.
       let broke : Broke (at old units) (after_world (at old units) new.world) (turning_tree old.state left units) =
-      broke_bind (λ m. Done (turned (machine_of old.state units) left m)) (d.each (at old units) refl refl) in
-      (units, subst (λ (q : Point). Broke (at old units) q (turning_tree old.state left units)) (sym (at_kept old new units console)) broke);
+      broke_bind (λ m. Done (turned (machine_of old.state units) left m)) (d.each (at old units) refl) in
+      (units, subst (λ (q : Point). Broke (at old units) q (turning_tree old.state left units)) (sym (at_kept old new units d.faults console)) broke);
   later = later_does {T = ℤ} old.world new.world turning (Err e) itself d;
   usable = λ u. tt;
   cause = d.cause;
@@ -167,12 +144,12 @@ not_turned old new left e d console = record {
 pub readied_so : (before now : Seen) (code : ℤ) (x : Unit {0}) (r : rounds.Round) → Does before now (ready_text (course.Went code)) (Ok x) itself
     → Does before now (ready_text (course.Went code)) (Ok r) said
 readied_so before now code x r d =
-    record { each = λ p journal same. d.each p journal same; idle = d.idle; faults = d.faults; edges = d.edges; cause = tt }
+    record { each = λ p journal. d.each p journal; idle = d.idle; faults = d.faults; edges = d.edges; cause = tt }
 
 pub ready_stops : (before now : Seen) (code : ℤ) (e : End) → Does {T = Unit {0}} before now (ready_text (course.Went code)) (Err e) itself
     → Does {T = rounds.Round} before now (ready_text (course.Went code)) (Err e) said
 ready_stops before now code e d =
-    record { each = λ p journal same. d.each p journal same; idle = d.idle; faults = d.faults; edges = d.edges; cause = d.cause }
+    record { each = λ p journal. d.each p journal; idle = d.idle; faults = d.faults; edges = d.edges; cause = d.cause }
 
 -- as the end of a round
 readies : (old new : Spot) (c : declared.Course) (r : Result rounds.Round End) → Does old.world new.world (ready_text c) r said
@@ -189,6 +166,12 @@ readies old new course.DeviceFault (Ok r) d after same =
     (comes_does old new (ready_text course.DeviceFault) (λ units y. Done (Ended finish.DeviceFault)) r said d same) (λ none. absurd none))
 readies old new course.DeviceFault (Err e) d after same =
     does_stop {T = rounds.Round} old new (ready_text course.DeviceFault) (λ units y. Done (Ended finish.DeviceFault)) e said (plain (round_in old.state)) d same
+readies old new course.OutOfTurns (Ok r) d after same =
+    rw after
+    (acts_done old new (ready_tree old.state course.OutOfTurns) (end.Ended finish.AtTurns) (plain (round_in old.state))
+    (comes_does old new (ready_text course.OutOfTurns) (λ units y. Done (Ended finish.AtTurns)) r said d same) (λ none. absurd none))
+readies old new course.OutOfTurns (Err e) d after same =
+    does_stop {T = rounds.Round} old new (ready_text course.OutOfTurns) (λ units y. Done (Ended finish.AtTurns)) e said (plain (round_in old.state)) d same
 
 -- a round ends by a fault where its command did
 ready_fault : (before mid now : ℕ) (c : declared.Course) (r : Result rounds.Round End) → (c ≡ course.DeviceFault → Rose before mid) → mid ≤ now
@@ -196,7 +179,10 @@ ready_fault : (before mid now : ℕ) (c : declared.Course) (r : Result rounds.Ro
 ready_fault before mid now (course.Went code) (Ok x) rose later after =
     λ stopped. let e : end.Ready ≡ end.Ended finish.DeviceFault = sym after ∙ stopped in absurd (cc)
 ready_fault before mid now course.DeviceFault (Ok x) rose later after = λ stopped. rose_until before mid now later (rose refl)
+ready_fault before mid now course.OutOfTurns (Ok x) rose later after =
+    λ stopped. let e : end.Ended finish.AtTurns ≡ end.Ended finish.DeviceFault = sym after ∙ stopped in absurd (cc)
 ready_fault before mid now (course.Went code) (Err e) rose later after = tt
+ready_fault before mid now course.OutOfTurns (Err e) rose later after = tt
 ready_fault before mid now course.DeviceFault (Err e) rose later after = tt
 
 -- ---- procedures
@@ -213,38 +199,46 @@ exec_part : is_part exec_word ≡ true
 unfolding is_text_of is_name_character ebcdic code_of code_page
 exec_part = refl
 
-pub type_exec_spelled : coded (codes "TYPE    EXEC    ") ≡ spelled (procedure_name type_word)
-unfolding filled ebcdic code_of code_page
-type_exec_spelled = refl
+exec_coded : coded (codes "EXEC") ≡ exec_word
+unfolding ebcdic code_of code_page
+exec_coded = refl
 
-pub erase_exec_spelled : coded (codes "ERASE   EXEC    ") ≡ spelled (procedure_name erase_word)
-unfolding filled ebcdic code_of code_page
-erase_exec_spelled = refl
+-- a word that is a part is read
+pub no_fault : (word : List ℕ) (e : NameFault) → is_part word ≡ true → IsWord word (Err e) → ⊥
+no_fault word e part is = let clash : true ≡ false = sym part ∙ is in absurd (cc)
 
-shown_test : (d : Disk) (name : Name) (place : Option ℕ) (j : Journal) (m : Minidisk) (bytes : List ℕ) → IsSeen d bytes place → Shows j d name place
-    → IsMinidisk j d.small m → is_some place ≡ is_some (seen_file (letter_of d) name m)
-shown_test d name None j m bytes seen shown is = ap (λ f. is_some f) (sym (shown m is))
-shown_test d name (Some k) j m bytes seen shown is =
-    ap (λ f. is_some f) (sym (shown m (some_entry d.small.files k (seen_within d bytes k seen)) is))
+pub exec_no_fault : (bytes : List ℕ) (e : NameFault) → bytes ≡ coded (codes "EXEC") → IsWord bytes (Err e) → ⊥
+exec_no_fault bytes e same is = no_fault bytes e (subst (λ (w : List ℕ). is_part w ≡ true) (sym (same ∙ exec_coded)) exec_part) is
+
+pub procedure_seen : (d : Disk) (word bytes file kind : List ℕ) (test : Bool) → bytes ≡ coded (codes "EXEC") → IsWord word (Ok file) → IsWord bytes (Ok kind)
+    → Sees d (record { file = file; kind = kind }) test → Sees d (procedure_name word) test
+procedure_seen d word bytes file kind test same f k sees =
+    subst (λ (n : Name). Sees d n test)
+    (ap (λ (w : List ℕ). record { file = w; kind = kind }) f.0 ∙ ap (λ (w : List ℕ). record { file = word; kind = w }) (k.0 ∙ (same ∙ exec_coded))) sees
+
+-- the words of commands are parts
+pub type_is_part : (bytes : List ℕ) → bytes ≡ coded (codes "TYPE") → is_part bytes ≡ true
+type_is_part bytes same = subst (λ (w : List ℕ). is_part w ≡ true) (sym (same ∙ type_coded)) type_part
+
+pub erase_is_part : (bytes : List ℕ) → bytes ≡ coded (codes "ERASE") → is_part bytes ≡ true
+erase_is_part bytes same = subst (λ (w : List ℕ). is_part w ≡ true) (sym (same ∙ erase_coded)) erase_part
 
 -- the test says whether a procedure has the name of a word
 pub record Tells (old : Spot) (word : List ℕ) (test : Bool) : Type 0 where
   pub each : (units : List Slot) → holds old units → test ≡ is_procedure_on units word (option_map letter_of old.state.disk_a)
 
-tells_on : (told : Told) (disk : Option Disk) (word bytes : List ℕ) (test : Bool) (units : List Slot) → HasParts (procedure_name word)
-    → bytes ≡ spelled (procedure_name word) → IsTest disk bytes test → Holds told disk units → test ≡ is_procedure_on units word (option_map letter_of disk)
-tells_on told None word bytes test units parts spelled_so is h = is
-tells_on told (Some d) word bytes test units parts spelled_so is h =
+tells_on : (told : Told) (disk : Option Disk) (word : List ℕ) (test : Bool) (units : List Slot) → IsTest disk word test → Holds told disk units
+    → test ≡ is_procedure_on units word (option_map letter_of disk)
+tells_on told None word test units is h = is
+tells_on told (Some d) word test units is h =
     let held = holds_some told (Some d) units h in
     let seat = held.2.disk_a d refl in
     let slot = seat.slot in
-    let shown = shows d (procedure_name word) bytes is.0 parts spelled_so is.1.0 held.0 in
-    rw slot (is.1.1 ∙ shown_test d (procedure_name word) is.0 held.0 seat.minidisk bytes is.1.0 shown seat.is)
+    rw slot (is (now held.0 d.minidisk.volume.unit) seat.minidisk seat.is.stands)
 
-pub tells : (old : Spot) (word bytes : List ℕ) (test : Bool) → is_part word ≡ true → bytes ≡ spelled (procedure_name word)
-    → IsTest old.state.disk_a bytes test → Tells old word test
-tells old word bytes test part spelled_so is =
-    record { each = λ units h. tells_on old.world.told old.state.disk_a word bytes test units (part, exec_part) spelled_so is h }
+pub tells : (old : Spot) (word bytes : List ℕ) (test : Bool) → bytes ≡ word → IsTest old.state.disk_a bytes test → Tells old word test
+tells old word bytes test same is =
+    record { each = λ units h. tells_on old.world.told old.state.disk_a word test units (subst (λ (w : List ℕ). IsTest old.state.disk_a w test) same is) h }
 
 -- ---- commands
 

@@ -1,23 +1,20 @@
 -- What a call of the session does, as a part of the machine's run.
-use Rattle.std.specs.Prelude.{◌≡◌, ◌⊎◌, ℕ, ℤ, Bool, true, false, ◌&&◌, ◌==◌, List, Option, Some, None, slice_index_or, is_some}
+use Rattle.std.specs.Prelude.{◌≡◌, ℕ, ◌+◌, ◌/◌, ◌%◌, Bool, true, false, nat_lt, if◌then◌else◌, List, [], ◌∷◌, Option, Some, None, is_some}
 use Rattle.std.specs.Option.{option_map}
-use Rattle.cms_journal.specs.Told.{Told}
 use Rattle.cms_names.specs.declared.name.Name.{Name}
-use Rattle.cms_fields.specs.Moments.{stamp_of}
-use Rattle.cms_fields.specs.declared.time.Stamp.{Stamp}
-use Rattle.cms_fields.specs.declared.entry.Entry.{Entry}
 use Rattle.cms_model.specs.Trees.{Image}
-use Rattle.cms_model.specs.Records.{length_of}
-use Rattle.cms_model.specs.Minidisks.{File}
+use Rattle.cms_model.specs.Minidisks.{File, Minidisk}
 use Rattle.cms_machine.specs.Slots.{Slot}
 use Rattle.cms_machine.specs.Acts as acts
 use Rattle.cms_machine.specs.Acts.{Act, Done, saying, typed_line}
 use Rattle.cms_machine.specs.Items.{Item}
-use Rattle.cms_edf.specs.Small.{IsPlaceOf, records_in}
-use Rattle.cms_edf.specs.Erase.{Updated}
-use Rattle.cms_search.specs.Machine.{Machine, turned, Course}
+use Rattle.cms_disk.specs.Cursors.{Reading, HasLeft}
+use Rattle.cms_disk.specs.Disks.{StandsIn}
+use Rattle.cms_disk.specs.declared.fault.DiskFault.{DiskFault}
+use Rattle.cms_disk.specs.declared.fault.DiskFault.TheVariants as failed
+use Rattle.cms_search.specs.Machine.{Machine, turned, Course, seen_file}
 use Rattle.cms_search.specs.Ready.{ready_line}
-use Rattle.cms_search.specs.Calls.{Spot, Meaning, plain, machine_of, course_in}
+use Rattle.cms_search.specs.Calls.{Meaning, plain, letter_of, machine_of, course_in}
 use Rattle.cms_search.specs.declared.state.Disk.{Disk}
 use Rattle.cms_search.specs.declared.state.State.{State}
 use Rattle.cms_search.specs.declared.state.Course as declared
@@ -32,45 +29,51 @@ use Rattle.cms_session.specs.declared.state.Finish.TheVariants as finish
 
 -- ---- files of disk A
 
--- a file with the fields of an entry, and its records in an image
-abbrev pub file_in : Image → Entry → File
-file_in image e = record {
-  name = e.name;
-  number = e.number;
-  format = e.format;
-  length = length_of e.format e.length (records_in image e);
-  stamp = e.stamp;
-  records = records_in image e;
-}
+-- the test says whether the disk shows a file of this name, in each image of its unit in which it is a minidisk
+abbrev pub Sees : Disk → Name → Bool → Type 0
+Sees d name test = (image : Image) (m : Minidisk) → StandsIn image d.minidisk m → test ≡ is_some (seen_file (letter_of d) name m)
 
--- a file of mode number 0 isn't seen on a read-only disk
-abbrev pub is_hidden : Disk → ℕ → Entry → Bool
-is_hidden d k e = d.read_only && ((slice_index_or d.small.files k e).number == 0)
+-- all records of the file that the disk shows of this name are left to read, or it shows none
+abbrev pub OpensSeen : Disk → Name → Option Reading → Type 0
+OpensSeen d name None = Sees d name false
+OpensSeen d name (Some c) =
+    (image : Image) (m : Minidisk) → StandsIn image d.minidisk m
+    → (f : File) × (seen_file (letter_of d) name m ≡ Some f) × HasLeft image c f.records
 
--- what a disk shows of a name that is spelled so: nothing, or the file at a place
-abbrev pub IsSeen : Disk → List ℕ → Option ℕ → Type 0
-IsSeen d name None =
-    IsPlaceOf name d.small.files None ⊎ ((k : ℕ) × (IsPlaceOf name d.small.files (Some k) × ((e : Entry) → is_hidden d k e ≡ true)))
-IsSeen d name (Some k) = IsPlaceOf name d.small.files (Some k) × ((e : Entry) → is_hidden d k e ≡ false)
-
--- the test says whether disk A shows a file of such a name
-abbrev pub IsTest : Option Disk → List ℕ → Bool → Type 0
-IsTest None name test = test ≡ false
-IsTest (Some d) name test = (place : Option ℕ) × (IsSeen d name place × (test ≡ is_some place))
+-- a file that is read lies on the unit of the disk
+pub record IsOnDisk (d : Disk) (c : Reading) : Type 0 where
+  pub unit : c.unit ≡ d.minidisk.volume.unit
+  pub total : c.total ≡ d.minidisk.volume.disk.count
+  pub bsize : c.bsize ≡ d.minidisk.volume.disk.bsize
 
 -- the name of the procedure that stands for a command's word
 abbrev pub procedure_name : List ℕ → Name
 procedure_name word = record { file = word; kind = exec_word }
 
--- a file of disk A went in an update with this stamp
-abbrev pub IsStamped : Told → Told → Option Disk → Option Disk → Stamp → Type 0
-IsStamped told now (Some d) (Some e) stamp = (nth : ℕ) × Updated told now d.small e.small nth stamp
-IsStamped told now (Some d) None stamp = ⊥
-IsStamped told now None disk stamp = ⊥
+-- the test says whether disk A shows the procedure of a word
+abbrev pub IsTest : Option Disk → List ℕ → Bool → Type 0
+IsTest None word test = test ≡ false
+IsTest (Some d) word test = Sees d (procedure_name word) test
 
--- with that of the turn's moment
-abbrev pub WentStamped : Spot → Spot → Type 0
-WentStamped old new = IsStamped old.world.told new.world.told old.state.disk_a new.state.disk_a (stamp_of old.state.moment)
+-- a device failed
+abbrev pub has_failed : DiskFault → Bool
+has_failed failed.Device = true
+has_failed failed.InDoubt = true
+has_failed failed.NotFound = false
+has_failed failed.Exists = false
+has_failed failed.ReadOnly = false
+has_failed failed.Altered = false
+has_failed (failed.Limit k) = false
+has_failed (failed.Full need free) = false
+has_failed failed.Memory = false
+
+-- a hexadecimal digit, in EBCDIC
+abbrev pub hex_code : ℕ → ℕ
+hex_code digit = if nat_lt digit 10 then 0xF0 + digit else 0xB7 + digit
+
+-- a device's number as it is shown
+abbrev pub device_word : ℕ → List ℕ
+device_word vdev = hex_code (vdev / 256 % 16) ∷ hex_code (vdev / 16 % 16) ∷ hex_code (vdev % 16) ∷ []
 
 -- ---- the trees of the parts of a session on the machine with these units
 
@@ -108,6 +111,7 @@ turning_tree s left units = acts.Turn (λ seconds. Done (turned (machine_of s un
 abbrev pub ready_text : declared.Course → Act (Unit {0})
 ready_text (course.Went code) = saying (typed_line (ready_line code))
 ready_text course.DeviceFault = Done tt
+ready_text course.OutOfTurns = Done tt
 
 -- ---- what their values mean
 
@@ -119,6 +123,7 @@ machine_now s = plain (λ units x. machine_of s units)
 abbrev pub round_after : declared.Course → rounds.Round
 round_after (course.Went code) = end.Ready
 round_after course.DeviceFault = end.Ended finish.DeviceFault
+round_after course.OutOfTurns = end.Ended finish.AtTurns
 
 -- how a round ends, with the state that it leaves
 abbrev pub round_in : State → List Slot → rounds.Round → Round

@@ -20,7 +20,7 @@ use Rattle.cms_machine.specs.Beats.{outcomes}
 use Rattle.cms_machine.specs.Runs.{Broke, events_of}
 use Rattle.cms_fields.specs.Moments.{moment_of}
 use Rattle.cms_search.specs.Machine.{Letter, Machine}
-use Rattle.cms_search.specs.Calls.{Seen}
+use Rattle.cms_world.specs.Seen.{Seen}
 use Rattle.cms_search.specs.declared.state.Device.{Device}
 use Rattle.cms_session.specs.Machine.{machine, started}
 use Rattle.cms_session.specs.declared.state.Finish.{Finish}

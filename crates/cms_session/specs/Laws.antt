@@ -6,7 +6,7 @@ use Rattle.cms_model.specs.Minidisks.{State}
 use Rattle.cms_machine.specs.Slots.{Settled}
 use Rattle.cms_machine.specs.Points.{Leaves}
 use Rattle.cms_machine.specs.Feeds.{Over}
-use Rattle.cms_search.specs.Calls.{Seen}
+use Rattle.cms_world.specs.Seen.{Seen}
 use Rattle.cms_session.specs.Headline.{Start, Headline, run_on}
 use Rattle.cms_session.specs.Sessions.{status_of}
 use Rattle.cms_session.specs.declared.state.Finish.{Finish}

@@ -13,7 +13,7 @@ use Rattle.cms_machine.specs.Acts.{Act, Done, Out, Take, Turn, Does, bind, typed
 use Rattle.cms_machine.specs.Feeds.{Fed, feed}
 use Rattle.cms_line.specs.declared.message.Message.TheVariants.{M002, M037, M069, M107}
 use Rattle.cms_text.specs.Numbers.{decimal_of}
-use Rattle.cms_search.specs.Machine.{Letter, Machine, turned, after_step, letter_at, minidisk_in, seen_file, Course, Went, DeviceFault, refusal, typing}
+use Rattle.cms_search.specs.Machine.{Letter, Machine, turned, after_step, letter_at, minidisk_in, seen_file, Course, Went, DeviceFault, OutOfTurns, refusal, typing}
 use Rattle.cms_search.specs.Ready.{ready_line}
 use Rattle.cms_search.specs.declared.state.Device.{Device}
 use Rattle.cms_session.specs.Commands.{command_of, type_word, erase_word, exec_word, letter_a}
@@ -127,6 +127,7 @@ is_procedure s word = is_procedure_on s.units word (letter_at s 0)
 abbrev pub readied : Course → Act Round
 readied (Went s code) = Out (typed_line (ready_line code)) (Done (Ready s))
 readied DeviceFault = Done (Ended finish.DeviceFault)
+readied OutOfTurns = Done (Ended finish.AtTurns)
 
 abbrev pub unless_procedure : Bool → Act Round → Act Round
 unless_procedure true next = Done (Ended finish.NotBuilt)

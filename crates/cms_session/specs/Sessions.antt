@@ -1,20 +1,21 @@
 -- What a call of the session's top does.
-use Rattle.std.specs.Prelude.{⊤, ◌≡◌, ◌≢◌, ◌⊎◌, ◌≤◌, ℕ, List, [], ◌∷◌, length, All, Option, Some, Result, Ok, Err}
+use Rattle.std.specs.Prelude.{⊤, ◌≡◌, ◌≢◌, ◌⊎◌, ◌≤◌, ℕ, List, [], ◌∷◌, length, All, Option, None, Some, Result, Ok, Err}
 use Rattle.std.specs.Option.{ForSome}
 use Rattle.cms_journal.specs.declared.event.Event.TheVariants.{Missed}
 use Rattle.cms_journal.specs.declared.event.Attached.{Attached}
 use Rattle.cms_journal.specs.Causes.{Rose}
 use Rattle.cms_journal.specs.Journal.{MayAdd, IsAttached, may_write}
 use Rattle.cms_journal.specs.Told.{Told}
-use Rattle.cms_model.specs.Trees.{image_of}
 use Rattle.cms_model.specs.Volumes.{disk_of}
 use Rattle.cms_model.specs.Volumes.{Disk as LookedAt}
+use Rattle.cms_model.specs.declared.fault.OpenFault.{OpenFault}
+use Rattle.cms_model.specs.declared.fault.OpenFault.TheVariants as failed
 use Rattle.cms_machine.specs.Acts.{Act}
 use Rattle.cms_machine.specs.Acts as acts
 use Rattle.cms_machine.specs.Points.{Point}
 use Rattle.cms_machine.specs.Runs.{Ran, Broke}
-use Rattle.cms_edf.specs.Small.{IsNotBuilt}
-use Rattle.cms_search.specs.Calls.{Seen, letters_of, Holds}
+use Rattle.cms_search.specs.Calls.{letters_of, Holds}
+use Rattle.cms_world.specs.Seen.{Seen}
 use Rattle.cms_search.specs.declared.state.Device.{Device}
 use Rattle.cms_search.specs.declared.state.Disk.{Disk}
 use Rattle.cms_machine.specs.Slots.{Slot}
@@ -61,28 +62,25 @@ HasRoom told = ForSome told (λ j. length j.units ≤ 240)
 
 -- ---- the unit
 
--- the device of a unit word
-abbrev pub device_of : UnitWord → Device
-device_of unit = record { vdev = unit.vdev; bsize = unit.bsize; writable = may_write unit.access }
+-- the device of a unit word, with so many blocks
+abbrev pub device_of : UnitWord → ℕ → Device
+device_of unit blocks = record { vdev = unit.vdev; bsize = unit.bsize; blocks = blocks; writable = may_write unit.access }
 
 -- how a session on a unit starts
 abbrev pub start_on : Asked → Attached → ℕ → Start
 start_on spec unit faults = record {
   units = unit ∷ [];
-  devices = device_of spec.unit ∷ [];
+  devices = device_of spec.unit (disk_of unit).count ∷ [];
   turns = spec.turns;
   offset = spec.offset;
   given = spec.given;
   faults = faults;
 }
 
--- lines are run, with this disk A
-abbrev pub lines_tree : Asked → Option Disk → List Slot → Act Finish
-lines_tree spec disk units = run_lines (first_machine units (device_of spec.unit ∷ []) (letters_of disk) spec.offset spec.turns)
-
--- the unit is device 191, and its volume isn't built yet
-abbrev pub IsUnbuilt : Asked → Attached → Type 0
-IsUnbuilt spec unit = (spec.unit.vdev ≡ 0x191) × IsNotBuilt (disk_of unit) (image_of unit.start)
+-- lines are run on a unit of so many blocks, with this disk A
+abbrev pub lines_tree : Asked → ℕ → Option Disk → List Slot → Act Finish
+lines_tree spec blocks disk units =
+    run_lines (first_machine units (device_of spec.unit blocks ∷ []) (letters_of disk) spec.offset spec.turns)
 
 -- nothing was attached: nothing happened, or the image was missed
 pub record NotAttached (spec : Asked) (before now : Seen) (status : Status) : Type 0 where
@@ -90,23 +88,12 @@ pub record NotAttached (spec : Asked) (before now : Seen) (status : Status) : Ty
   pub told : MayAdd (Missed spec.unit.name spec.unit.bsize spec.unit.access) (Some (fresh [])) now.told
   pub cause : Rose before.edges now.edges
 
--- the volume isn't built yet, which ended the session: nothing happened
-pub record NotStarted (spec : Asked) (unit : Attached) (now : Seen) (status : Status) : Type 0 where
-  pub status_is : status ≡ NotBuilt
-  pub told : now.told ≡ Some (fresh (unit ∷ []))
-  pub volume : IsUnbuilt spec unit
-
--- a session on a unit that was attached; where its volume isn't built yet nothing happened
-pub record RanOn (spec : Asked) (unit : Attached) (before now : Seen) (status : Status) : Type 0 where
-  pub ran : NotStarted spec unit now status ⊎ Headline (start_on spec unit before.faults) before now status
-  pub unbuilt : IsUnbuilt spec unit → now.told ≡ Some (fresh (unit ∷ []))
-
 -- one unit was attached, as its word says
 pub record OnUnit (spec : Asked) (before now : Seen) (status : Status) : Type 0 where
   pub unit : Attached
   pub blocks : ℕ
   pub attached : IsAttached (fresh []) (Some (fresh (unit ∷ []))) spec.unit.name spec.unit.bsize spec.unit.access 0 blocks
-  pub ran : RanOn spec unit before now status
+  pub ran : Headline (start_on spec unit before.faults) before now status
 
 -- there was no memory before a unit was attached: nothing happened
 pub record Unbegun (before now : Seen) (status : Status) : Type 0 where
@@ -157,6 +144,19 @@ EndedAs p edges now tree World = CameTo p now tree finish.DeviceFault ⊎ (WasCu
 EndedAs p edges now tree Memory = WasCut p now tree
 EndedAs p edges now tree (Usage why) = ⊥
 
+-- how the session ends where a volume couldn't be read; a unit that has none for a reason doesn't end it
+abbrev pub unread_status : OpenFault → Option Status
+unread_status failed.Device = Some World
+unread_status failed.Memory = Some Memory
+unread_status (failed.Label k) = None
+unread_status (failed.Entry n k) = None
+unread_status (failed.Pointer holder value) = None
+unread_status (failed.Crossed n) = None
+unread_status (failed.MapMissing n) = None
+unread_status (failed.Var n k) = None
+unread_status (failed.Twice n) = None
+unread_status (failed.System n) = None
+
 -- a unit whose blocks have its size stands alone in a journal in which nothing happened, and is looked at so
 pub record IsAlone (told : Told) (disk : LookedAt) (number : ℕ) (unit : Attached) : Type 0 where
   pub told_is : told ≡ Some (fresh (unit ∷ []))
@@ -167,15 +167,14 @@ pub record IsAlone (told : Told) (disk : LookedAt) (number : ℕ) (unit : Attach
 -- disk A or none was found on a unit, and the session goes on by that
 pub record Found (spec : Asked) (unit : Attached) (before now : ℕ) (disk : Option Disk) : Type 0 where
   pub holds : Holds (Some (fresh (unit ∷ []))) disk (settled (unit ∷ []))
-  pub built : IsUnbuilt spec unit → ⊥
   pub ran :
       Ran (start_point (start_on spec unit before)) (start_point (start_on spec unit now)) (start_tree (start_on spec unit before))
-      (lines_tree spec disk (settled (unit ∷ [])))
+      (lines_tree spec (disk_of unit).count disk (settled (unit ∷ [])))
 
 -- what was found on a unit; or why the session ends
 abbrev pub FoundAs : Asked → Attached → ℕ → ℕ → Result (Option Disk) Status → Type 0
 FoundAs spec unit before now (Ok disk) = Found spec unit before now disk
-FoundAs spec unit before now (Err NotBuilt) = IsUnbuilt spec unit
+FoundAs spec unit before now (Err NotBuilt) = ⊥
 FoundAs spec unit before now (Err World) =
     Ran (start_point (start_on spec unit before)) (start_point (start_on spec unit now)) (start_tree (start_on spec unit before))
     (acts.Done finish.DeviceFault)
@@ -194,11 +193,11 @@ FindsDisk word blocks number before now disk =
 abbrev pub RunsOn : UnitWord → Terms → ℕ → ℕ → Seen → Seen → Status → Type 0
 RunsOn word terms blocks number before now status =
     (unit : Attached) → IsAlone before.told (record { bsize = word.bsize; count = blocks }) number unit
-    → RanOn (words.asked word terms) unit before now status
+    → Headline (start_on (words.asked word terms) unit before.faults) before now status
 
 -- how the lines of a script ended with this disk A, from whatever is on the units
 abbrev pub LinesEnd : Device → Terms → Option Disk → Seen → Seen → Status → Type 0
 LinesEnd device terms disk before now status =
-    (word : UnitWord) (units : List Slot) → device ≡ device_of word → Holds before.told disk units
+    (word : UnitWord) (blocks : ℕ) (units : List Slot) → device ≡ device_of word blocks → Holds before.told disk units
     → EndedAs (first_point before.told before.faults units (words.given_in terms.given)) before.edges now
-    (lines_tree (words.asked word terms) disk units) status
+    (lines_tree (words.asked word terms) blocks disk units) status

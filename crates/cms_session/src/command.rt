@@ -7,7 +7,7 @@ ghost use Rattle.cms_machine.specs.Items.{Item};
 ghost use Rattle.cms_session.specs.Commands.{letter_a, is_comment, file_command, command_of_words, command_of_line};
 
 use cms_names::{Name, Part};
-use cms_search::coded;
+use cms_operands::coded;
 use cms_text::BLANK;
 use std::alloc::{AllocError, Global};
 

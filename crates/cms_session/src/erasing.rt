@@ -1,16 +1,15 @@
 // ERASE: a file of disk A goes.
-ghost use Rattle.std.specs.Prelude.{◌≡◌, pos, IfOk, true};
+ghost use Rattle.std.specs.Prelude.{◌≡◌, IfOk, true};
 ghost use Rattle.cms_fields.specs.Moments.{is_moment};
 ghost use Rattle.cms_line.specs.declared.message.Message.TheVariants.{M037, M107};
 ghost use Rattle.cms_session.specs.Commands.{letter_a};
 ghost use Rattle.cms_text.specs.Numbers.{decimal_of};
 ghost use Rattle.cms_search.specs.Calls.{spot, Acts, IsUsable, course_of};
-ghost use Rattle.cms_search.specs.declared.state.Course.TheVariants.{Went};
-ghost use Rattle.cms_session.specs.Calls.{WentStamped, erase_tree};
+ghost use Rattle.cms_session.specs.Calls.{erase_tree};
 
 use crate::command::letter_a;
-use crate::reading::{NOT_ACCESSED, NOT_FOUND, no_disk, no_file, seen_place, spelled};
-use cms_edf::SmallErase;
+use crate::reading::{NOT_ACCESSED, NOT_FOUND, has_failed, is_seen, no_disk, no_file};
+use cms_disk::DiskFault;
 use cms_fields::Stamp;
 use cms_line::{Message, Word};
 use cms_names::Name;
@@ -52,8 +51,6 @@ pub fn erase_file<W: World>(
     requires moment { is_moment state.old.moment ≡ true }
     ensures acts { Acts (spot W.World world.old state.old) (spot W.World world.new state.new)
         (erase_tree state.old name.now) result (course_of state.new) }
-    ensures stamped { IfOk result (λ course. course ≡ Went (pos 0)
-        → WentStamped (spot W.World world.old state.old) (spot W.World world.new state.new)) }
     ensures kept { state.new ≡ record state.old { disk_a = state.new.disk_a } }
 {
     let Some(mut disk) = state.disk_a.take() else {
@@ -63,23 +60,28 @@ pub fn erase_file<W: World>(
         state.disk_a = Some(disk);
         return refuse(alloc, world, no_writing(alloc)?, READ_ONLY);
     }
-    let Some(place) = seen_place(&disk, &spelled(name)) else {
+    if !is_seen(&disk, name) {
         state.disk_a = Some(disk);
         return refuse(alloc, world, no_file(alloc, name)?, NOT_FOUND);
-    };
+    }
     match disk
-        .small
-        .erase(alloc, world, place, &Stamp::of(&state.moment))
+        .minidisk
+        .erase(alloc, world, name, &Stamp::of(&state.moment))
     {
         Ok(()) => {
             state.disk_a = Some(disk);
             Ok(Course::Went(0))
         }
-        Err(SmallErase::Full { need, free }) => {
+        Err(DiskFault::Full { need, free }) => {
             state.disk_a = Some(disk);
             refuse(alloc, world, no_room(alloc, need, free)?, FULL)
         }
-        Err(SmallErase::Device) => Ok(Course::DeviceFault),
-        Err(SmallErase::Memory) => Err(End::Memory),
+        Err(fault) => {
+            if has_failed(fault) {
+                return Ok(Course::DeviceFault);
+            }
+            // a file that is there goes without passing a limit, so this is want of memory
+            Err(End::Memory)
+        }
     }
 }

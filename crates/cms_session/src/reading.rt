@@ -1,17 +1,13 @@
 // TYPE: the records of a file, typed.
-ghost use Rattle.std.specs.Prelude.{◌≡◌, ◌<◌, ◌&&◌, ◌==◌, IfOk, IfSome, length, true};
-ghost use Rattle.cms_names.specs.Names.{is_part};
-ghost use Rattle.cms_model.specs.Lists.{cut};
-ghost use Rattle.cms_machine.specs.Acts.{Done};
-ghost use Rattle.cms_line.specs.declared.message.Message.TheVariants.{M002, M069};
-ghost use Rattle.cms_edf.specs.Small.{spelled};
+ghost use Rattle.std.specs.Prelude.{◌≡◌, ◌<◌, ◌&&◌, ◌==◌, IfOk, IfErr, IfSome};
+ghost use Rattle.cms_line.specs.declared.message.Message.TheVariants.{M002, M069, M106};
 ghost use Rattle.cms_session.specs.Commands.{letter_a};
-ghost use Rattle.cms_search.specs.Machine.{typing};
-ghost use Rattle.cms_search.specs.Calls.{seen, spot, Does, Acts, IsUsable, itself, course_of};
-ghost use Rattle.cms_session.specs.Calls.{IsSeen, type_tree};
+ghost use Rattle.cms_search.specs.Calls.{spot, Acts, IsUsable, course_of};
+ghost use Rattle.cms_search.specs.declared.state.End.TheVariants.{Memory};
+ghost use Rattle.cms_session.specs.Calls.{IsOnDisk, OpensSeen, Sees, device_word, has_failed, hex_code, type_tree};
 
 use crate::command::letter_a;
-use cms_edf::SmallInfo;
+use cms_disk::{Cursor, DiskFault};
 use cms_line::{Message, Word};
 use cms_names::Name;
 use cms_search::{Course, Disk, End, State, refuse, say};
@@ -24,18 +20,8 @@ pub const NOT_ACCESSED: i32 = 36;
 /// The return code of a file that isn't there.
 pub const NOT_FOUND: i32 = 28;
 
-/// A name as directories spell it: each part filled with blanks.
-pub fn spelled(name: &Name) -> [u8; 16]
-    ensures bytes { result ≡ spelled name.now }
-    ensures file { is_part name.now.file ≡ true }
-    ensures kind { is_part name.now.kind ≡ true }
-{
-    let mut bytes = [0; 16];
-    let (file, kind) = bytes.split_at_mut(8);
-    file.copy_from_slice(name.file.padded());
-    kind.copy_from_slice(name.kind.padded());
-    bytes
-}
+// The return code of a file whose bytes aren't its records any more.
+const ALTERED: i32 = 104;
 
 // A file of mode number 0 isn't seen on a read-only disk.
 fn is_hidden(read_only: bool, number: u8) -> bool
@@ -44,31 +30,46 @@ fn is_hidden(read_only: bool, number: u8) -> bool
     read_only && number == 0
 }
 
-/// The place of the file of a name that is spelled so, where it is seen.
-pub fn seen_place(disk: &Disk, name: &[u8; 16]) -> Option<u32>
-    ensures seen { IsSeen disk.now name.now result }
-    ensures within { IfSome result (λ place. place < length disk.now.small.files) }
+/// A device failed.
+pub fn has_failed(fault: DiskFault) -> bool
+    ensures { result ≡ has_failed fault }
 {
-    let place = disk.small.find(name)?;
-    if is_hidden(disk.read_only, disk.small.number(place)) {
-        return None;
+    match fault {
+        DiskFault::Device | DiskFault::InDoubt => true,
+        DiskFault::NotFound
+        | DiskFault::Exists
+        | DiskFault::ReadOnly
+        | DiskFault::Altered
+        | DiskFault::Limit(_)
+        | DiskFault::Full { .. }
+        | DiskFault::Memory => false,
     }
-    Some(place)
 }
 
-// Types the records, one after another from the front.
-fn type_records<W: World>(world: &mut W, bytes: &[u8], info: &SmallInfo) -> Result<(), End>
-    ensures { Does (seen W.World world.old) (seen W.World world.new)
-        (typing (cut info.now.count info.now.length bytes.now) (Done tt)) result itself }
+/// A file of this name is seen on the disk.
+pub fn is_seen(disk: &Disk, name: &Name) -> bool
+    ensures { Sees disk.now name.now result }
 {
-    let size = info.length as usize;
-    let mut rest = bytes;
-    for _ in 0..info.count {
-        let (record, behind) = rest.split_at(size.min(rest.len()));
-        say(world, record)?;
-        rest = behind;
+    match disk.minidisk.find(name) {
+        Some(place) => !is_hidden(disk.read_only, disk.minidisk.info(place).number),
+        None => false,
     }
-    Ok(())
+}
+
+// Before the first record of the file of a name, where it is seen.
+fn open_seen(alloc: Global, disk: &Disk, name: &Name) -> Result<Option<Cursor>, End>
+    ensures opens { IfOk result (OpensSeen disk.now name.now) }
+    ensures unit { IfOk result (λ cursor. IfSome cursor (IsOnDisk disk.now)) }
+    ensures memory { IfErr result (λ e. e ≡ Memory) }
+{
+    if !is_seen(disk, name) {
+        return Ok(None);
+    }
+    match disk.minidisk.cursor(alloc, name) {
+        Ok(cursor) => Ok(Some(cursor)),
+        Err(DiskFault::NotFound) => Ok(None),
+        Err(_) => Err(End::Memory),
+    }
 }
 
 /// No disk is accessed as A.
@@ -89,7 +90,31 @@ pub fn no_file(alloc: Global, name: &Name) -> Result<Message, AllocError>
     ))
 }
 
-/// Types the records of a file of disk A, each as a line. The file's block is read once.
+// A hexadecimal digit, in EBCDIC.
+fn hex_code(digit: u8) -> u8
+    requires { digit < 16 }
+    ensures { result ≡ hex_code digit }
+{
+    if digit < 10 {
+        0xF0 + digit
+    } else {
+        0xB7 + digit
+    }
+}
+
+// The bytes of a file on this device aren't its records any more.
+fn altered(alloc: Global, vdev: u16) -> Result<Message, AllocError>
+    ensures { IfOk result (λ message. message ≡ M106 (device_word vdev)) }
+{
+    let digits = [
+        hex_code((vdev / 256 % 16) as u8),
+        hex_code((vdev / 16 % 16) as u8),
+        hex_code((vdev % 16) as u8),
+    ];
+    Ok(Message::M106(Word::of(alloc, &digits)?))
+}
+
+/// Types the records of a file of disk A, each as a line, as they are read.
 pub fn type_file<W: World>(
     alloc: Global,
     world: &mut W,
@@ -103,16 +128,20 @@ pub fn type_file<W: World>(
     let Some(disk) = &state.disk_a else {
         return refuse(alloc, world, no_disk(alloc)?, NOT_ACCESSED);
     };
-    let Some(place) = seen_place(disk, &spelled(name)) else {
+    let Some(mut cursor) = open_seen(alloc, disk, name)? else {
         return refuse(alloc, world, no_file(alloc, name)?, NOT_FOUND);
     };
-    let small = &disk.small;
-    let mut block = vec![in alloc; 0; small.block_size() as usize]?;
-    match small.get(world, place, block.as_mut_slice()) {
-        Ok(info) => {
-            type_records(world, block.as_slice(), &info)?;
-            Ok(Course::Went(0))
+    loop {
+        match cursor.next(world) {
+            Ok(true) => say(world, cursor.text())?,
+            Ok(false) => return Ok(Course::Went(0)),
+            Err(fault) => {
+                if has_failed(fault) {
+                    return Ok(Course::DeviceFault);
+                }
+                // never in a world that tells its journal
+                return refuse(alloc, world, altered(alloc, state.device.vdev)?, ALTERED);
+            }
         }
-        Err(_) => Ok(Course::DeviceFault),
     }
 }

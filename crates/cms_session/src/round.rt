@@ -1,22 +1,27 @@
 // A round of the session: a line is taken, and done.
 ghost use Rattle.std.specs.Prelude.{◌≡◌, ◌<◌, suc, true, Option, IfOk, OnOk, option_map};
+ghost use Rattle.cms_names.specs.Names.{is_part};
 ghost use Rattle.cms_fields.specs.Moments.{is_moment};
 ghost use Rattle.cms_machine.specs.Acts.{turning};
 ghost use Rattle.cms_line.specs.Consoles.{item_of};
-ghost use Rattle.cms_search.specs.Texts.{coded};
-ghost use Rattle.cms_search.specs.Calls.{seen, spot, Does, Acts, IsUsable, beside, itself, said};
+ghost use Rattle.cms_operands.specs.Texts.{coded};
+ghost use Rattle.cms_search.specs.Calls.{spot, Does, Acts, IsUsable, beside, itself, said};
+ghost use Rattle.cms_world.specs.Seen.{seen};
 ghost use Rattle.cms_session.specs.Commands.{command_of};
 ghost use Rattle.cms_session.specs.Calls.{IsTest, machine_now, round_of, ready_text, round_after, taking_tree, asking_tree, turning_tree, command_tree, round_tree};
 ghost use Rattle.cms_fields.specs.Offsets.{IsOffset};
+ghost use Rattle.cms_session.specs.declared.command.Command.TheVariants.{EraseFile, TypeFile};
 ghost use Rattle.cms_session.specs.declared.state.Round.TheVariants.{Ready};
 
 use crate::command::{Command, command_of_line};
 use crate::erasing::erase_file;
-use crate::reading::{seen_place, type_file};
+use crate::reading::{is_seen, type_file};
 use crate::state::{Finish, Round};
 use cms_fields::Moment;
 use cms_line::{ConsoleLine, LineFault};
-use cms_search::{Course, Disk, End, State, coded, say_ready};
+use cms_names::{Name, Part};
+use cms_operands::coded;
+use cms_search::{Course, Disk, End, State, clock, say_ready};
 use cms_world::World;
 use std::alloc::{AllocError, Global};
 
@@ -30,16 +35,6 @@ fn take<W: World>(world: &mut W, state: &mut State) -> Result<ConsoleLine, End>
         Ok(line) => Ok(line),
         Err(LineFault::World) => Err(End::Edge),
         Err(LineFault::Memory) => Err(End::Memory),
-    }
-}
-
-// The seconds of the clock.
-fn clock<W: World>(world: &mut W) -> Result<i64, End>
-    ensures { Does (seen W.World world.old) (seen W.World world.new) turning result itself }
-{
-    match world.now() {
-        Ok(seconds) => Ok(seconds),
-        Err(_) => Err(End::Edge),
     }
 }
 
@@ -86,14 +81,21 @@ fn take_command<W: World>(
     Ok(command_of(alloc, line)?)
 }
 
-// The procedure of this name, which is given in ASCII, is seen on disk A, so that it would be run in the command's place.
-fn is_procedure(disk_a: &Option<Disk>, name: &[u8; 16]) -> bool
-    ensures { IsTest disk_a.now (coded name.now) result }
+// A procedure of the name of a command's word is seen on disk A, so that it would be run in the command's place.
+fn is_procedure(disk_a: &Option<Disk>, word: &[u8]) -> bool
+    requires { is_part word.now ≡ true }
+    ensures { IsTest disk_a.now word.now result }
 {
-    match disk_a {
-        None => false,
-        Some(disk) => seen_place(disk, &coded(name)).is_some(),
-    }
+    let Some(disk) = disk_a else {
+        return false;
+    };
+    let Ok(file) = Part::read(word) else {
+        return false;
+    };
+    let Ok(kind) = Part::read(&coded(b"EXEC")) else {
+        return false;
+    };
+    is_seen(disk, &Name { file, kind })
 }
 
 // Ends a command: its ready line, unless a device failed.
@@ -107,7 +109,46 @@ fn ready<W: World>(world: &mut W, course: Course) -> Result<Round, End>
             Ok(Round::Ready)
         }
         Course::DeviceFault => Ok(Round::Ended(Finish::DeviceFault)),
+        Course::OutOfTurns => Ok(Round::Ended(Finish::AtTurns)),
     }
+}
+
+// Types a file, where no procedure stands in the command's place.
+fn run_type<W: World>(
+    alloc: Global,
+    world: &mut W,
+    state: &State,
+    name: &Name,
+) -> Result<Round, End>
+    requires usable { IsUsable (spot W.World world.old state.now) }
+    ensures { Acts (spot W.World world.old state.now) (spot W.World world.new state.now)
+        (command_tree state.now (TypeFile name.now)) result (round_of state.now) }
+{
+    if is_procedure(&state.disk_a, &coded(b"TYPE")) {
+        return Ok(Round::Ended(Finish::NotBuilt));
+    }
+    let course = type_file(alloc, world, state, name)?;
+    ready(world, course)
+}
+
+// Erases a file, where no procedure stands in the command's place.
+fn run_erase<W: World>(
+    alloc: Global,
+    world: &mut W,
+    state: &mut State,
+    name: &Name,
+) -> Result<Round, End>
+    requires usable { IsUsable (spot W.World world.old state.old) }
+    requires moment { is_moment state.old.moment ≡ true }
+    ensures acts { Acts (spot W.World world.old state.old) (spot W.World world.new state.new)
+        (command_tree state.old (EraseFile name.now)) result (round_of state.new) }
+    ensures kept { state.new ≡ record state.old { disk_a = state.new.disk_a } }
+{
+    if is_procedure(&state.disk_a, &coded(b"ERASE")) {
+        return Ok(Round::Ended(Finish::NotBuilt));
+    }
+    let course = erase_file(alloc, world, state, name)?;
+    ready(world, course)
 }
 
 // Does what a line asks for.
@@ -125,21 +166,9 @@ fn run_command<W: World>(
 {
     match command {
         Command::Nothing => Ok(Round::Ready),
+        Command::TypeFile(name) => run_type(alloc, world, state, &name),
+        Command::EraseFile(name) => run_erase(alloc, world, state, &name),
         Command::NotBuilt => Ok(Round::Ended(Finish::NotBuilt)),
-        Command::TypeFile(_) if is_procedure(&state.disk_a, b"TYPE    EXEC    ") => {
-            Ok(Round::Ended(Finish::NotBuilt))
-        }
-        Command::TypeFile(name) => {
-            let course = type_file(alloc, world, state, &name)?;
-            ready(world, course)
-        }
-        Command::EraseFile(_) if is_procedure(&state.disk_a, b"ERASE   EXEC    ") => {
-            Ok(Round::Ended(Finish::NotBuilt))
-        }
-        Command::EraseFile(name) => {
-            let course = erase_file(alloc, world, state, &name)?;
-            ready(world, course)
-        }
     }
 }
 

@@ -4,10 +4,11 @@ ghost use Rattle.std.specs.Option.{ForSome};
 ghost use Rattle.cms_journal.specs.Causes.{Rose};
 ghost use Rattle.cms_journal.specs.Limits.{most_blocks};
 ghost use Rattle.cms_journal.specs.Journal.{IsBlockSize, HasBlocks, IsWritable, may_write};
-ghost use Rattle.cms_search.specs.Calls.{Usable, seen};
+ghost use Rattle.cms_search.specs.Calls.{Usable};
+ghost use Rattle.cms_world.specs.Seen.{seen};
 ghost use Rattle.cms_fields.specs.Offsets.{IsOffset};
 ghost use Rattle.cms_session.specs.Headline.{fresh};
-ghost use Rattle.cms_session.specs.Sessions.{HasRoom, FitsWords, RunsNone, refusal_of, device_of, FindsDisk, RunsOn, LinesEnd, status_of, SessionIn, WorldCause};
+ghost use Rattle.cms_session.specs.Sessions.{HasRoom, FitsWords, RunsNone, refusal_of, device_of, FindsDisk, RunsOn, LinesEnd, status_of, SessionIn, WorldCause, unread_status};
 ghost use Rattle.cms_words.specs.declared.fault.WordFault.{WordFault};
 ghost use Rattle.cms_words.specs.declared.fault.WordFault.TheVariants.{Memory};
 ghost use Rattle.cms_words.specs.declared.unit.UnitWord.{UnitWord};
@@ -17,7 +18,7 @@ use crate::asked::{Terms, given, only_unit};
 use crate::session::play;
 use crate::state::Finish;
 use crate::status::Status;
-use cms_edf::{SmallFault, small_volume};
+use cms_disk::{AccessFault, Minidisk, OpenFault, UnitInfo};
 use cms_fields::Moment;
 use cms_journal::MOST_BLOCKS;
 use cms_line::Console;
@@ -50,6 +51,24 @@ fn is_read_only(access: Access) -> bool
     }
 }
 
+// How the session ends where the volume couldn't be read; a unit that has none for a reason doesn't end it.
+fn unread(why: OpenFault) -> Option<Status>
+    ensures { result ≡ unread_status why }
+{
+    match why {
+        OpenFault::Device => Some(Status::World),
+        OpenFault::Memory => Some(Status::Memory),
+        OpenFault::Label(_)
+        | OpenFault::System(_)
+        | OpenFault::Entry(_, _)
+        | OpenFault::Pointer { .. }
+        | OpenFault::Crossed(_)
+        | OpenFault::MapMissing(_)
+        | OpenFault::Twice(_)
+        | OpenFault::Var(_, _) => None,
+    }
+}
+
 // Disk A, where the unit is its device and has a volume.
 fn disk_a<W: World>(
     alloc: Global,
@@ -71,15 +90,22 @@ fn disk_a<W: World>(
     if word.vdev != DEVICE_A {
         return Ok(None);
     }
-    match small_volume(alloc, world, unit, word.bsize) {
-        Ok(small) => Ok(Some(Disk {
-            small,
+    let info = UnitInfo {
+        vdev: word.vdev,
+        unit: *unit,
+        bsize: word.bsize,
+        writable: !is_read_only(word.access),
+    };
+    match Minidisk::access(alloc, world, &info, false) {
+        Ok(minidisk) => Ok(Some(Disk {
+            minidisk,
             read_only: is_read_only(word.access),
         })),
-        Err(SmallFault::NoVolume) => Ok(None),
-        Err(SmallFault::NotBuilt) => Err(Status::NotBuilt),
-        Err(SmallFault::Device) => Err(Status::World),
-        Err(SmallFault::Memory) => Err(Status::Memory),
+        Err(AccessFault::Sync) => Err(Status::World),
+        Err(AccessFault::Open(why)) => match unread(why) {
+            None => Ok(None),
+            Some(status) => Err(status),
+        },
     }
 }
 
@@ -143,13 +169,14 @@ fn run_lines<W: World>(
     }
 }
 
-// The device of a unit word.
-fn device_of(word: &UnitWord) -> Device
-    ensures { result ≡ device_of word.now }
+// The device of a unit word, with so many blocks.
+fn device_of(word: &UnitWord, blocks: u32) -> Device
+    ensures { result ≡ device_of word.now blocks }
 {
     Device {
         vdev: word.vdev,
         bsize: word.bsize.bytes(),
+        blocks,
         writable: !is_read_only(word.access),
     }
 }
@@ -171,7 +198,7 @@ fn run_attached<W: World>(
     ensures cause { WorldCause (seen W.World world.old) (seen W.World world.new) result }
 {
     match disk_a(alloc, world, word, unit) {
-        Ok(disk) => run_lines(alloc, world, device_of(word), terms, disk),
+        Ok(disk) => run_lines(alloc, world, device_of(word, unit.blocks), terms, disk),
         Err(status) => status,
     }
 }
@@ -223,11 +250,10 @@ fn run_words<W: World>(alloc: Global, world: &mut W, words: &Words) -> Status
 ///
 /// The words are those of `cms [-t TURNS] [-z ZONE] [-g NUMBER] UNIT...`, the program's name first. Where they are refused, or ask for
 /// more than one unit or for a new image, which aren't built yet, the world isn't touched; else the unit is attached, and where it is
-/// device 191 and has a volume this is accessed as disk A, without a message. A volume behind a label that isn't built yet ends the
-/// session with `NotBuilt` before a line is read. Then the lines of the script are run, each for a turn, as many as `-t` says and else
-/// 1,000,000: `TYPE` and `ERASE` of a file of disk A. `ERASE` writes to the unit where it is attached so that it may be written, with
-/// the stamp of its turn in the zone of `-z`. With `-g` the script is the generated one of that number, and the world isn't read. A
-/// told journal must have at most 240 units.
+/// device 191 and has a volume this is accessed as disk A, without a message. Then the lines of the script are run, each for a turn,
+/// as many as `-t` says and else 1,000,000: `TYPE` and `ERASE` of a file of disk A. `ERASE` writes to the unit where it is attached so
+/// that it may be written, with the stamp of its turn in the zone of `-z`. With `-g` the script is the generated one of that number,
+/// and the world isn't read. A told journal must have at most 240 units.
 ///
 /// - In a world that tells its journal, with no unit and no event yet, the session is a run of the machine of minidisks as lists
 ///   of named record lists, and a crash at any moment leaves a state that the machine has there.

@@ -3,7 +3,8 @@ use crate::session_tests::{WORD as READ_ONLY, ended, world};
 use cms_images::hello::{
     ERASE_EXEC, MARKED, NEW_DIRECTORY, NEW_LABEL, NEW_MAP, NO_LABEL, TYPE_EXEC, hello, three,
 };
-use cms_images::{Edit, put_edits};
+use cms_images::known::long_directory;
+use cms_images::{Edit, put_edits, wide_volume};
 use cms_session::Status;
 use cms_world::MemWorld;
 use std::alloc::{AllocError, Global};
@@ -226,17 +227,18 @@ const SHOWN: [&str; 3] = [
     "CMS002E File HELLO TEXT A not found\nR(00028);\nCMS002E File HELLO LIST A not found\nR(00028);\nC\nR;\n",
 ];
 
-// The files of an image are those after so many erasures.
+// A script that looks at an image shows this after so many erasures.
 fn shows(
     rt: &impl Abort,
     alloc: Global,
     image: &[u8],
+    (look, shown): (&str, &[&str]),
     erasures: usize,
     moment: usize,
 ) -> Result<(), Fail> {
-    let mut looked = world(alloc, LOOK, image)?;
+    let mut looked = world(alloc, look, image)?;
     assert_eq!(rt; ended(alloc, READ_ONLY, &mut looked)?, Status::Done);
-    let wanted = SHOWN.get(erasures).copied().unwrap_or("");
+    let wanted = shown.get(erasures).copied().unwrap_or("");
     assert_eq!(rt; looked.typed(), wanted.as_bytes(), "at {moment}");
     Ok(())
 }
@@ -268,7 +270,14 @@ fn a_crash_leaves_the_old_or_the_new(rt: HostRuntime) -> Result<(), Fail> {
             let Some(left) = crashed(alloc, &world, at, choice)? else {
                 panic!(rt; "a unit");
             };
-            shows(&rt, alloc, &left, erasures_at(at, choice % 2 == 1), at)?;
+            shows(
+                &rt,
+                alloc,
+                &left,
+                (LOOK, &SHOWN),
+                erasures_at(at, choice % 2 == 1),
+                at,
+            )?;
         }
     }
     Ok(())
@@ -335,6 +344,7 @@ fn fails_at(rt: &impl Abort, alloc: Global, call: u32, lands: bool) -> Result<()
         rt,
         alloc,
         &left,
+        (LOOK, &SHOWN),
         erasures_before(call as usize, lands),
         call as usize,
     )
@@ -345,6 +355,93 @@ fn each_call_fails_in_turn(rt: HostRuntime) -> Result<(), Fail> {
     for call in 1..25u32 {
         fails_at(&rt, rt.alloc(), call, false)?;
         fails_at(&rt, rt.alloc(), call, true)?;
+    }
+    Ok(())
+}
+
+// Erases two of the twenty files, and types what is left beside them.
+const WIDE: &str =
+    "ERASE FILE0001 TEXT A\nTYPE FILE0001 TEXT A\nTYPE FILE0020 TEXT A\nERASE FILE0009 TEXT A\nTYPE FILE0019 TEXT A\n";
+
+const WIDE_TYPED: &str =
+    "R;\nCMS002E File FILE0001 TEXT A not found\nR(00028);\n0020\nR;\nR;\n0019\nR;\n";
+
+// The opening reads the label, three blocks of the directory, two of the map, and a pointer block of each. An update writes as many.
+const WIDE_CALLS: &[u8] = b"arrrrrrrrinwwwwwwwswsonoonroonwwwwwwwswsonrooi";
+
+const WIDE_LOOK: &str = "TYPE FILE0001 TEXT A\nTYPE FILE0009 TEXT A\nTYPE FILE0018 TEXT A\n";
+
+// What looking shows before the first erasure, between the two, and after the second.
+const WIDE_SHOWN: [&str; 3] = [
+    "0001\nR;\n0009\nR;\n0018\nR;\n",
+    "CMS002E File FILE0001 TEXT A not found\nR(00028);\n0009\nR;\n0018\nR;\n",
+    "CMS002E File FILE0001 TEXT A not found\nR(00028);\nCMS002E File FILE0009 TEXT A not found\nR(00028);\n0018\nR;\n",
+];
+
+// Moments, and the erasures that a crash leaves then without and with the blocks that aren't synced.
+//
+// The events are the script, a turn, seven blocks (9), a sync, the label, a sync, the ready line; a turn and two lines; a turn, a record
+// and the ready line; a turn, seven blocks (27), a sync, the label, a sync, the ready line; a turn, a record, the ready line and the
+// script's end (35).
+const WIDE_MOMENTS: [(usize, [usize; 2]); 4] = [
+    (9, [0, 0]),
+    (11, [0, 1]),
+    (27, [1, 1]),
+    (29, [1, 2]),
+];
+
+#[test]
+fn any_volume_is_erased_from(rt: HostRuntime) -> Result<(), Fail> {
+    let alloc = rt.alloc();
+    let mut erasing = world(alloc, WIDE, &wide_volume(alloc)?)?;
+    assert_eq!(rt; ended(alloc, WORD, &mut erasing)?, Status::Done);
+    assert_eq!(rt; erasing.typed(), WIDE_TYPED.as_bytes());
+    assert_eq!(rt; erasing.calls(), WIDE_CALLS);
+    assert_eq!(rt; erasing.events(), 35);
+    for (at, erasures) in WIDE_MOMENTS {
+        for (choice, erasures) in [(0, erasures[0]), (u64::MAX, erasures[1])] {
+            let Some(left) = crashed(alloc, &erasing, at, choice)? else {
+                panic!(rt; "a unit");
+            };
+            shows(&rt, alloc, &left, (WIDE_LOOK, &WIDE_SHOWN), erasures, at)?;
+        }
+    }
+    Ok(())
+}
+
+#[test]
+fn a_directory_gets_shorter(rt: HostRuntime) -> Result<(), Fail> {
+    let alloc = rt.alloc();
+    let script = "ERASE A FILE A\nTYPE A FILE A\nTYPE G FILE A\n";
+    let mut erasing = world(alloc, script, &long_directory(alloc)?)?;
+    assert_eq!(rt; ended(alloc, WORD, &mut erasing)?, Status::Done);
+    assert_eq!(rt;
+        erasing.typed(),
+        b"R;\nCMS002E File A FILE A not found\nR(00028);\nHELLO\nR;\n".as_slice()
+    );
+    // one block of the directory and one of the map are left
+    assert_eq!(rt;
+        erasing.calls(),
+        b"arrrrrrrrrrrrinwwswsonoonrooi".as_slice()
+    );
+    Ok(())
+}
+
+// All blocks but the last five, or the last six, are marked.
+const FIVE_FREE: &[Edit] = &[(6, 0, &[0xFF; 512]), (7, 0, &[0xE0])];
+
+const SIX_FREE: &[Edit] = &[(6, 0, &[0xFF; 512]), (7, 0, &[0xC0])];
+
+#[test]
+fn an_update_has_just_the_blocks_that_it_needs(rt: HostRuntime) -> Result<(), Fail> {
+    let alloc = rt.alloc();
+    let full = "CMS107E Disk A is full, 6 blocks needed, 5 free\nR(00100);\n";
+    for (edits, typed) in [(FIVE_FREE, full), (SIX_FREE, "R;\n")] {
+        let mut image = wide_volume(alloc)?;
+        put_edits(image.as_mut_slice(), edits);
+        let mut erasing = world(alloc, "ERASE FILE0020 TEXT A\n", &image)?;
+        assert_eq!(rt; ended(alloc, WORD, &mut erasing)?, Status::Done);
+        assert_eq!(rt; erasing.typed(), typed.as_bytes());
     }
     Ok(())
 }

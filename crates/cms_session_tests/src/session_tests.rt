@@ -1,9 +1,11 @@
 // Whole sessions on images in memory.
-use cms_images::hello::{NO_LABEL, TYPE_EXEC, hello};
-use cms_images::{Edit, many_files};
+use cms_images::hello::{HELLO, NO_LABEL, TYPE_EXEC, hello};
+use cms_images::known::{long_directory, spanning};
+use cms_images::{Edit, edited, many_files, put_edits, wide_volume};
 use cms_session::{Status, WordFault, run};
 use cms_world::{Argv, MemWorld};
 use std::alloc::{AllocError, Global};
+use std::process::Abort;
 use std::test::Fail;
 
 // The program's name and the words that blanks part.
@@ -34,6 +36,7 @@ pub fn ended(alloc: Global, words: &str, world: &mut MemWorld) -> Result<Status,
 
 pub const WORD: &str = "191,512,ro,disk.img";
 
+// The records of HELLO TEXT are told by their lengths, which they haven't: it is no volume.
 const FORMAT_V: &[Edit] = &[(4, 158, &[0xE5])];
 
 // The words, the edits of the image, the script, what is typed, and the status.
@@ -91,7 +94,13 @@ const ROWS: &[Row] = &[
         "CMS069E Disk A is not accessed\nR(00036);\n",
         Status::Done,
     ),
-    (WORD, FORMAT_V, "TYPE HELLO TEXT A\n", "", Status::NotBuilt),
+    (
+        WORD,
+        FORMAT_V,
+        "TYPE HELLO TEXT A\n",
+        "CMS069E Disk A is not accessed\nR(00036);\n",
+        Status::Done,
+    ),
     (WORD, TYPE_EXEC, "TYPE TYPE EXEC A\n", "", Status::NotBuilt),
     (
         "192,512,ro,disk.img",
@@ -254,6 +263,123 @@ fn each_call_fails_in_turn(rt: HostRuntime) -> Result<(), Fail> {
         calls = calls.saturating_add(1);
     }
     Ok(())
+}
+
+// The script types this on device 191 with an image, by these calls of the world.
+fn types(
+    rt: &impl Abort,
+    alloc: Global,
+    image: &[u8],
+    script: &str,
+    typed: &str,
+    calls: &[u8],
+) -> Result<(), Fail> {
+    let mut world = world(alloc, script, image)?;
+    assert_eq!(rt; ended(alloc, WORD, &mut world)?, Status::Done, "{script}");
+    assert_eq!(rt; world.typed(), typed.as_bytes(), "{script}");
+    assert_eq!(rt; world.calls(), calls, "{script}");
+    Ok(())
+}
+
+// L FILE in the place of HELLO TEXT, on eleven blocks: three records of 512 bytes in blocks 7 to 9 below the pointer block 10.
+const LONG: &[Edit] = &[
+    (3, 28, &[0, 0, 0, 11]),
+    (4, 128, &[0xD3, 0x40, 0x40, 0x40, 0x40, 0x40, 0x40, 0x40]),
+    (4, 136, &[0xC6, 0xC9, 0xD3, 0xC5, 0x40, 0x40, 0x40, 0x40]),
+    (4, 160, &[0, 0, 2, 0]),
+    (4, 168, &[0, 0, 0, 10]),
+    (4, 172, &[0, 0, 0, 3]),
+    (4, 176, &[0, 0, 0, 3]),
+    (4, 180, &[1, 4]),
+    (6, 0, &[0xFF, 0xC0]),
+    (7, 0, &[0xC1; 512]),
+    (8, 0, &[0xC2; 512]),
+    (9, 0, &[0xC3; 512]),
+    (10, 0, &[0, 0, 0, 7, 0, 0, 0, 8, 0, 0, 0, 9]),
+];
+
+// The first records of L FILE, as they are typed.
+fn long_lines(alloc: Global, records: usize) -> Result<String, AllocError> {
+    let mut typed = String::new(alloc);
+    for letter in ["A", "B", "C"].iter().take(records) {
+        typed.push_str(&repeated(alloc, letter, 512)?)?;
+        typed.push_str("\n")?;
+    }
+    Ok(typed)
+}
+
+#[test]
+fn records_are_typed_as_they_are_read(rt: HostRuntime) -> Result<(), Fail> {
+    let alloc = rt.alloc();
+    let typed = format!(in alloc; "{}R;\n", long_lines(alloc, 3)?)?;
+    let image = edited(alloc, 11, &[HELLO, LONG])?;
+    types(
+        &rt,
+        alloc,
+        &image,
+        "TYPE L FILE A\n",
+        &typed,
+        b"arrrrinrororooi",
+    )
+}
+
+// The calls at which a block of L FILE is read, and the records before it.
+const READS: [(u32, usize); 3] = [(8, 0), (10, 1), (12, 2)];
+
+#[test]
+fn a_failing_read_comes_behind_the_records_before_it(rt: HostRuntime) -> Result<(), Fail> {
+    let alloc = rt.alloc();
+    let image = edited(alloc, 11, &[HELLO, LONG])?;
+    for (call, records) in READS {
+        let mut failing = world(alloc, "TYPE L FILE A\nTYPE L FILE A\n", &image)?;
+        failing.fail_at(call, false)?;
+        assert_eq!(rt;
+            ended(alloc, WORD, &mut failing)?,
+            Status::World,
+            "call {call}"
+        );
+        let typed = long_lines(alloc, records)?;
+        assert_eq!(rt; failing.typed(), typed.as_bytes(), "call {call}");
+        assert_eq!(rt; failing.calls().len(), call as usize);
+    }
+    Ok(())
+}
+
+#[test]
+fn records_are_typed_that_span_blocks(rt: HostRuntime) -> Result<(), Fail> {
+    let alloc = rt.alloc();
+    let mut image = spanning(alloc)?;
+    put_edits(image.as_mut_slice(), &[(7, 2, &[0x5C; 508])]);
+    let typed = format!(in alloc; "{}A\nABC\nR;\n", repeated(alloc, "*", 508)?)?;
+    types(
+        &rt,
+        alloc,
+        &image,
+        "TYPE V FILE A\n",
+        &typed,
+        b"arrrrrrinrorooi",
+    )
+}
+
+#[test]
+fn files_are_typed_of_a_directory_of_many_blocks(rt: HostRuntime) -> Result<(), Fail> {
+    let alloc = rt.alloc();
+    types(
+        &rt,
+        alloc,
+        &long_directory(alloc)?,
+        "TYPE G FILE A\n",
+        "HELLO\nR;\n",
+        b"arrrrrrrrrrrrinrooi",
+    )?;
+    types(
+        &rt,
+        alloc,
+        &wide_volume(alloc)?,
+        "TYPE FILE0001 TEXT A\nTYPE FILE0020 TEXT A\n",
+        "0001\nR;\n0020\nR;\n",
+        b"arrrrrrrrinroonrooi",
+    )
 }
 
 // Volumes of each block size with a full directory block, two of them as large as one map block allows: size, blocks, files, the

@@ -21,7 +21,8 @@ use Rattle.cms_tree.specs.declared.climb.Child.{Child}
 use Rattle.cms_tree.specs.Builds as built
 use Rattle.cms_tree.specs.Builds.{level_over, parents, all_over, nodes_over, node_at, node_bytes, cell_of}
 use Rattle.cms_tree.specs.Levels.{mark_at, wide_mark, children_from, over_count}
-use Rattle.cms_tree.specs.Tiers.{Tier, tier_above, IsTier, IsOpen, IsChild, ends_group, node_write, AddsFront}
+use Rattle.cms_model.specs.LawsUpdates.{AddsFront}
+use Rattle.cms_tree.specs.Tiers.{Tier, tier_above, IsTier, IsOpen, IsChild, ends_group, node_write}
 use Rattle.cms_tree.proofs.Filling.{cells, length-cells, length-children, Filled, one_filled, all_filled, none_filled}
 use Rattle.cms_tree.proofs.Building.{fan_wide}
 use Rattle.cms_tree.proofs.Rising.{found, level_long, parents_rise}

@@ -14,7 +14,7 @@ use Rattle.cms_journal.proofs.Pieces.{plus_plus, plus-none, plus-some}
 use Rattle.cms_fields.specs.Numbers.{up}
 use Rattle.cms_model.specs.Sizes.{levels, pointer_count}
 use Rattle.cms_model.specs.Settled.{Write, writes}
-use Rattle.cms_model.specs.LawsUpdates.{IsFront}
+use Rattle.cms_model.specs.LawsUpdates.{AddsFront, IsFront}
 use Rattle.cms_model.proofs.Fronts.{cons_front}
 use Rattle.cms_tree.specs.declared.types.Mark.{Mark}
 use Rattle.cms_tree.specs.declared.climb.Level.{Level}
@@ -22,7 +22,7 @@ use Rattle.cms_tree.specs.declared.climb.Child.{Child}
 use Rattle.cms_tree.specs.Builds as built
 use Rattle.cms_tree.specs.Builds.{IsBuildable, all_over, nodes_over}
 use Rattle.cms_tree.specs.Levels.{mark_at, wide_mark, children_from, over_count}
-use Rattle.cms_tree.specs.Tiers.{Tier, lowest, tier_above, IsTier, IsOpen, IsChild, IsParent, Stand, Lifts, Rises, AddsFront, rise_writes, node_write, complete_from, ends_group}
+use Rattle.cms_tree.specs.Tiers.{Tier, lowest, tier_above, IsTier, IsOpen, IsChild, IsParent, Stand, Lifts, Rises, rise_writes, node_write, complete_from, ends_group}
 use Rattle.cms_tree.specs.Climbs.{Climbing, Climbs, IsNext, Adds, climb_writes}
 use Rattle.cms_tree.proofs.Lifting.{Ends, ends_is, ends_begins, Goes, goes_is, next_within, group_within, zeros_open, tier_next}
 use Rattle.cms_tree.proofs.Rising.{marked-is, up_one, all_count}

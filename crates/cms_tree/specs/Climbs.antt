@@ -8,12 +8,12 @@ use Rattle.cms_model.specs.Lists.{times}
 use Rattle.cms_model.specs.Trees.{Image}
 use Rattle.cms_model.specs.Sizes.{levels, pointer_count}
 use Rattle.cms_model.specs.Settled.{Write, writes}
-use Rattle.cms_model.specs.LawsUpdates.{put_blocks}
+use Rattle.cms_model.specs.LawsUpdates.{AddsFront, put_blocks}
 use Rattle.cms_tree.specs.declared.types.Mark.{Mark}
 use Rattle.cms_tree.specs.declared.climb.Level.{Level}
 use Rattle.cms_tree.specs.Builds.{IsBuildable, HasNodes}
 use Rattle.cms_tree.specs.Levels.{mark_at}
-use Rattle.cms_tree.specs.Tiers.{complete_from, node_write, lowest, Stand, AddsFront}
+use Rattle.cms_tree.specs.Tiers.{complete_from, node_write, lowest, Stand}
 
 -- a climb: the bytes of a block and of a pointer, how many leaves there are to be and how many were added, and the open pointer
 -- block of each level, bottom level first

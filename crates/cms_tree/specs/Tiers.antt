@@ -5,7 +5,7 @@ use Rattle.cms_journal.specs.declared.event.Event.{Event}
 use Rattle.cms_journal.specs.declared.event.Failed.{Failed}
 use Rattle.cms_fields.specs.Numbers.{up}
 use Rattle.cms_model.specs.Settled.{Write, writes}
-use Rattle.cms_model.specs.LawsUpdates.{IsFront}
+use Rattle.cms_model.specs.LawsUpdates.{AddsFront}
 use Rattle.cms_tree.specs.declared.types.Mark.{Mark}
 use Rattle.cms_tree.specs.declared.climb.Level.{Level}
 use Rattle.cms_tree.specs.declared.climb.Child.{Child}
@@ -90,12 +90,6 @@ pub record IsParent (fan : ℕ) (child parent : Child) : Type 0 where
   pub nth : parent.nth ≡ child.nth / fan
   pub count : parent.count ≡ up child.count fan
   pub within : parent.nth < parent.count
-
--- a front of these events was added
-pub record AddsFront (old new : Told) (events : List Event) : Type 0 where
-  pub front : List Event
-  pub told : new ≡ plus old front
-  pub is : IsFront front events
 
 -- the next block of a level was pointed to: the pointer block over it isn't complete, or it was written as it is built, and is the
 -- next block of its own level

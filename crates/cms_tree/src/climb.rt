@@ -1,7 +1,6 @@
 // Pointer blocks that are written while their leaves are.
 ghost use Rattle.std.specs.Prelude.{◌≡◌, ◌⊎◌, ℕ, List, ◌+◌, ◌*◌, ◌/◌, ◌%◌, ◌^◌, ◌<◌, ◌≤◌, length, suc, drop, replicate, All, IfOk, IfSome};
 ghost use Rattle.std.specs.Option.{ForSome};
-ghost use Rattle.cms_journal.specs.Causes.{HasCause};
 ghost use Rattle.cms_journal.specs.Journal.{IsBlockSize, IsWritable};
 ghost use Rattle.cms_journal.specs.Told.{Grown};
 ghost use Rattle.cms_text.specs.Bytes.{overwritten};
@@ -13,6 +12,7 @@ ghost use Rattle.cms_tree.specs.Builds.{cell_of};
 ghost use Rattle.cms_tree.specs.Levels.{over_count};
 ghost use Rattle.cms_tree.specs.Climbs.{HasEach, HasSize, HoldsLittle, IsNew, IsNext, Climbs, Adds, ClimbsAll};
 ghost use Rattle.cms_tree.specs.Tiers.{ends_group, Tier, IsTier, IsOpen, IsChild, IsParent, Stand, Lifts, Rises};
+ghost use Rattle.cms_world.specs.Seen.{OnUnits, seen};
 
 use crate::node::put_cell;
 use crate::{Mark, shape};
@@ -113,8 +113,7 @@ impl Climb {
         ensures added { self.new ≡ record self.old { added = self.old.added + 1; levels = self.new.levels } }
         ensures held { HoldsLittle self.new }
         ensures grown { Grown (W.told world.old) (W.told world.new) }
-        ensures cause { HasCause (W.faults world.old) (W.faults world.new) result }
-        ensures edges { W.edges world.new ≡ W.edges world.old }
+        ensures counts { OnUnits (seen W.World world.old) (seen W.World world.new) result }
     {
         let child = Child {
             block: leaf,
@@ -209,8 +208,7 @@ fn lift<W: World>(
     ensures parent { IfOk result (λ parent. IfSome parent (IsParent (bsize / psize) child.now)) }
     ensures size { HasSize bsize level.new }
     ensures grown { Grown (W.told world.old) (W.told world.new) }
-    ensures cause { HasCause (W.faults world.old) (W.faults world.new) result }
-    ensures edges { W.edges world.new ≡ W.edges world.old }
+    ensures counts { OnUnits (seen W.World world.old) (seen W.World world.new) result }
 {
     let fan = bsize.bytes() / u32::from(psize);
     level.point(psize, fan, child);
@@ -256,8 +254,7 @@ fn rise<W: World>(
         → Rises (W.told world.old) (W.told world.new) unit bsize psize leaves marks numbers tier child.now levels.old levels.new result }
     ensures sizes { All (HasSize bsize) levels.new }
     ensures grown { Grown (W.told world.old) (W.told world.new) }
-    ensures cause { HasCause (W.faults world.old) (W.faults world.new) result }
-    ensures edges { W.edges world.new ≡ W.edges world.old }
+    ensures counts { OnUnits (seen W.World world.old) (seen W.World world.new) result }
 {
     let Some((level, above)) = levels.split_first_mut() else {
         return Ok(());

@@ -1,12 +1,12 @@
 // Trees read from a unit.
 ghost use Rattle.std.specs.Prelude.{◌≡◌, ◌⊎◌, ℕ, ◌+◌, ◌-◌, ◌*◌, ◌/◌, ◌^◌, ◌<◌, ◌≤◌, ◌++◌, true, [], min, length, vec_len, None, Err, IfOk, IfErr, OnOk, OnErr, IsErrOf};
 ghost use Rattle.std.specs.Option.{ForSome};
-ghost use Rattle.cms_journal.specs.Causes.{Rose};
 ghost use Rattle.cms_journal.specs.Journal.{HasBlock, HasBlocks, contents_of};
 ghost use Rattle.cms_model.specs.Trees.{Image, image_of, is_allowed, tree};
 ghost use Rattle.cms_tree.specs.Walks.{Reads, Appends, IsWithin, AppendsWithin, form_at, image_at};
 ghost use Rattle.cms_tree.specs.Parts.{form_of, Joins, JoinsPart, IsPlain, IsRefusal, IsTaken, StaysWithin};
 ghost use Rattle.cms_tree.specs.declared.types.TreeFault.TheVariants.{Device};
+ghost use Rattle.cms_world.specs.Seen.{OnlyReads, seen};
 
 use crate::{TreeAt, TreeFault, Walked, shape};
 use cms_text::bytes::word_at;
@@ -56,10 +56,7 @@ fn read_block<W: World>(
     ensures bytes { IfOk result (λ v. ForSome (W.told world.old) (λ j. v.items ≡ image_of (contents_of j layout.now.unit) block)) }
     ensures len { IfOk result (λ v. vec_len v ≡ layout.now.bsize) }
     ensures plain { IfErr result IsPlain }
-    ensures told { W.told world.new ≡ W.told world.old }
-    ensures later { W.faults world.old ≤ W.faults world.new }
-    ensures device { IsErrOf result Device → Rose (W.faults world.old) (W.faults world.new) }
-    ensures edges { W.edges world.new ≡ W.edges world.old }
+    ensures reads { OnlyReads (seen W.World world.old) (seen W.World world.new) Device result }
 {
     match cms_world::read_block(alloc, world, layout.unit, block, layout.bsize) {
         Ok(bytes) => Ok(bytes),
@@ -160,10 +157,7 @@ pub fn walk<W: World>(alloc: Global, world: &mut W, at: &TreeAt) -> Result<Walke
     // What holds of it in each world.
     ensures count { IfOk result (λ walked. vec_len walked.leaves ≡ at.now.count) }
     ensures within { IfOk result (IsWithin at.now.volume at.now.first) }
-    ensures told { W.told world.new ≡ W.told world.old }
-    ensures later { W.faults world.old ≤ W.faults world.new }
-    ensures device { IsErrOf result Device → Rose (W.faults world.old) (W.faults world.new) }
-    ensures edges { W.edges world.new ≡ W.edges world.old }
+    ensures reads { OnlyReads (seen W.World world.old) (seen W.World world.new) Device result }
 {
     let layout = layout_of(at);
     let levels = shape(at.count, layout.fan).levels;
@@ -202,10 +196,7 @@ pub fn leaves<W: World>(
     ensures count { OnOk result (vec_len leaves.new ≡ vec_len leaves.old + at.now.count) }
     ensures pointers_within { OnOk result (AppendsWithin at.now.volume None pointers.old.items pointers.new.items) }
     ensures leaves_within { OnOk result (AppendsWithin at.now.volume at.now.first leaves.old.items leaves.new.items) }
-    ensures told { W.told world.new ≡ W.told world.old }
-    ensures later { W.faults world.old ≤ W.faults world.new }
-    ensures device { IsErrOf result Device → Rose (W.faults world.old) (W.faults world.new) }
-    ensures edges { W.edges world.new ≡ W.edges world.old }
+    ensures reads { OnlyReads (seen W.World world.old) (seen W.World world.new) Device result }
 {
     let walked = walk(alloc, world, at)?;
     pointers.reserve(walked.pointers.len())?;
@@ -234,10 +225,7 @@ fn walk_from<W: World>(
         (contents_of j layout.now.unit)) layout.now levels part.now into.old into.new result) }
     ensures count { OnOk result (vec_len into.new.leaves ≡ vec_len into.old.leaves + part.now.count) }
     ensures within { OnOk result (StaysWithin layout.now.last part.now.first into.old into.new) }
-    ensures told { W.told world.new ≡ W.told world.old }
-    ensures later { W.faults world.old ≤ W.faults world.new }
-    ensures device { IsErrOf result Device → Rose (W.faults world.old) (W.faults world.new) }
-    ensures edges { W.edges world.new ≡ W.edges world.old }
+    ensures reads { OnlyReads (seen W.World world.old) (seen W.World world.new) Device result }
 {
     if levels == 0 {
         return take_leaf(layout, part, into);

@@ -4,3 +4,4 @@ pub mod Mem
 pub mod Plan
 pub mod Quiet
 pub mod Recorder
+pub mod Seen

@@ -1,9 +1,9 @@
 // The read of a block into memory of its own.
 ghost use Rattle.std.specs.Prelude.{◌≡◌, ◌≤◌, vec_len, IfOk, IfErr};
 ghost use Rattle.std.specs.Option.{ForSome};
-ghost use Rattle.cms_journal.specs.Causes.{Rose};
 ghost use Rattle.cms_journal.specs.Journal.{HasBlock, block_of};
 ghost use Rattle.cms_world.specs.declared.block.ReadFault.TheVariants.{Device};
+ghost use Rattle.cms_world.specs.Seen.{OnlyReads, seen};
 
 use crate::World;
 use std::alloc::Global;
@@ -28,10 +28,7 @@ pub fn read_block<W: World>(
     requires { ForSome (W.told world.old) (λ j. HasBlock j.units unit block bsize) }
     ensures bytes { IfOk result (λ v. ForSome (W.told world.old) (λ j. v.items ≡ block_of j unit block)) }
     ensures size { IfOk result (λ v. vec_len v ≡ bsize) }
-    ensures cause { IfErr result (λ e. e ≡ Device → Rose (W.faults world.old) (W.faults world.new)) }
-    ensures told { W.told world.new ≡ W.told world.old }
-    ensures faults { W.faults world.old ≤ W.faults world.new }
-    ensures edges { W.edges world.new ≡ W.edges world.old }
+    ensures reads { OnlyReads (seen W.World world.old) (seen W.World world.new) Device result }
 {
     let Ok(mut bytes) = vec![in alloc; 0; bsize as usize] else {
         return Err(ReadFault::Memory);

@@ -35,7 +35,7 @@ loop-bytes-preserved g c =
           (subst (λ (u : ℕ). HandsOut (image_of (contents_of j u)) next all (Ok c.in_ok-next.field-0)) at
           (n.records j (l.invariant.told ∙ is) all (subst (λ (u : ℕ). HasLeft (image_of (contents_of j u)) l.cursor all) (sym at) has))));
       file = record { unit = b.unit ∙ a.unit; total = b.total ∙ a.total; bsize = b.bsize ∙ a.bsize; leaves = b.leaves ∙ a.leaves; fixed = b.fixed ∙ a.fixed; longest = b.longest ∙ a.longest };
-      told = n.told ∙ l.invariant.told;
-      faults = omega (arith, n.faults, l.invariant.faults);
-      edges = n.edges ∙ l.invariant.edges;
+      told = n.reads.told ∙ l.invariant.told;
+      faults = omega (arith, n.reads.faults, l.invariant.faults);
+      edges = n.reads.edges ∙ l.invariant.edges;
     }

@@ -1,8 +1,8 @@
 -- What is needed, and whether it is there.
-use Rattle.std.proofs.Common.{◌≡◌, ◌+◌, ◌*◌, ◌/◌, ◌≤◌, ℕ, ◌∙◌, ap, length, arith}
+use Rattle.std.proofs.Common.{◌∙◌, ap, length, arith}
 use Rattle.cms_map.specs.Bits.{free_blocks}
-use Rattle.cms_edf.specs.Opening.{Holding}
-use Rattle.cms_edf.proofs.Allotting.{need_of}
+use Rattle.cms_held.specs.Opening.{Holding}
+use Rattle.cms_held.proofs.Allotting.{need_of}
 use Rattle.cms_edf.proofs.allotment.allot.Goals as goal
 
 pub returns-then-free-need-clause-full : goal.returns-then-free-need-clause-full

@@ -1,7 +1,7 @@
 -- The trees have few blocks.
 use Rattle.std.proofs.Common.{◌≡◌, ◌+◌, ◌*◌, ◌/◌, rules, arith}
 use Rattle.cms_fields.specs.Numbers.{up}
-use Rattle.cms_edf.proofs.Allotting.{directory_small, map_small, nodes_few}
+use Rattle.cms_held.proofs.Allotting.{directory_small, map_small, nodes_few}
 use Rattle.cms_edf.proofs.allotment.count_blocks.Goals as goal
 
 pub returns-clause-small : goal.returns-clause-small

@@ -1,8 +1,8 @@
 -- One list of blocks after another is freed.
-use Rattle.std.proofs.Common.{◌≡◌, List, ℕ, ◌∙◌, ap}
-use Rattle.cms_edf.specs.Opening.{Holding}
-use Rattle.cms_edf.specs.Renewing.{with_freed}
-use Rattle.cms_edf.proofs.Allotting.{freed_all}
+use Rattle.std.proofs.Common.{List, ℕ, ◌∙◌, ap}
+use Rattle.cms_held.specs.Opening.{Holding}
+use Rattle.cms_held.specs.Renewing.{with_freed}
+use Rattle.cms_held.proofs.Allotting.{freed_all}
 use Rattle.cms_edf.proofs.allotment.release_old.Goals as goal
 
 pub returns : goal.returns

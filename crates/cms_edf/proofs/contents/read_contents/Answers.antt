@@ -12,9 +12,9 @@ use Rattle.cms_fields.specs.declared.entry.Entry.{Entry}
 use Rattle.cms_model.specs.Trees.{image_of}
 use Rattle.cms_tree.specs.Walks.{IsWithin}
 use Rattle.cms_tree.specs.declared.types.Walked.{Walked}
-use Rattle.cms_edf.specs.Opening.{HeldFile}
+use Rattle.cms_held.specs.Opening.{HeldFile}
 use Rattle.cms_edf.specs.EntryShapes.{HasSize}
-use Rattle.cms_edf.specs.Kept.{IsKeptFile}
+use Rattle.cms_held.specs.Kept.{IsKeptFile}
 use Rattle.cms_edf.proofs.FilesNamed.{keys_named, values_next, named_next, file_kept}
 use Rattle.cms_edf.proofs.FileTrees.{taken_next}
 use Rattle.cms_edf.proofs.NamesMet.{name_is_new}
@@ -152,9 +152,9 @@ loop-tree-preserved g c =
           (subst (HasSize a.place.now.bsize) (sym at) (c.requires.sizes k c.index-entries-nth.result less))
           (count_at a.entries.now a.trees.items k c.index-entries-nth.result c.in-Some.tree c.requires.counts less item.0 at item.1) (subst (IsWithin a.place.now.total None) (sym item.1) (c.requires.within k c.in-Some.tree item.0)).leaves
           sizes.some sizes.longest sizes.fixed sizes.stored));
-      told = sizes.told ∙ l.invariant.told;
-      faults = omega (arith, sizes.faults, l.invariant.faults);
-      edges = sizes.edges ∙ l.invariant.edges;
+      told = sizes.reads.told ∙ l.invariant.told;
+      faults = omega (arith, sizes.reads.faults, l.invariant.faults);
+      edges = sizes.reads.edges ∙ l.invariant.edges;
     }
 
 pub returns-clause-read : goal.returns-clause-read

@@ -32,9 +32,9 @@ loop-nth-preserved g c =
       gathered = (l.invariant.gathered.0 ++ c.deref.result.now, c.in_ok-feed.ensures.fed a.count l.invariant.gathered.0 l.invariant.gathered.1);
       bsize = c.in_ok-feed.ensures.bsize ∙ l.invariant.bsize;
       fed = grind (arith, was, grown, long);
-      told = c.in_ok-block.ensures.told ∙ l.invariant.told;
-      faults = omega (arith, c.in_ok-block.ensures.faults, l.invariant.faults);
-      edges = c.in_ok-block.ensures.edges ∙ l.invariant.edges;
+      told = c.in_ok-block.ensures.reads.told ∙ l.invariant.told;
+      faults = omega (arith, c.in_ok-block.ensures.reads.faults, l.invariant.faults);
+      edges = c.in_ok-block.ensures.reads.edges ∙ l.invariant.edges;
     }
 
 pub returns-clause-read : goal.returns-clause-read

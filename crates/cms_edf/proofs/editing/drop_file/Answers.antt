@@ -1,4 +1,3 @@
-use Rattle.std.proofs.Common.{rules}
 use Rattle.cms_edf.proofs.Renaming.{drops, was_removed}
 use Rattle.cms_edf.proofs.editing.drop_file.Goals as goal
 

@@ -26,9 +26,9 @@ loop-nth-preserved g c =
       counts = rw grown (counts_next a.entries.now l.nth c.index-entries-nth.result l.trees.items c.in_ok-tree.tree (search rules) c.index-entries-nth.is c.in_ok-tree.ensures.count l.invariant.counts);
       many = rw grown (length_push l.trees.items c.in_ok-tree.tree ∙ ap (λ (n : ℕ). n + 1) l.invariant.many);
       within = rw grown (all_more (IsWithin a.place.now.total None) l.trees.items c.in_ok-tree.tree l.invariant.within c.in_ok-tree.ensures.within);
-      told = c.in_ok-tree.ensures.told ∙ l.invariant.told;
-      faults = omega (arith, c.in_ok-tree.ensures.faults, l.invariant.faults);
-      edges = c.in_ok-tree.ensures.edges ∙ l.invariant.edges;
+      told = c.in_ok-tree.ensures.reads.told ∙ l.invariant.told;
+      faults = omega (arith, c.in_ok-tree.ensures.reads.faults, l.invariant.faults);
+      edges = c.in_ok-tree.ensures.reads.edges ∙ l.invariant.edges;
     }
 
 pub returns-clause-read : goal.returns-clause-read

@@ -8,7 +8,7 @@ use Rattle.cms_model.specs.declared.fault.OpenFault.TheVariants as failed
 use Rattle.cms_model.specs.Systems.{directory_of, map_of}
 use Rattle.cms_tree.specs.Walks.{tree_at, nodes_at, IsWithin}
 use Rattle.cms_tree.specs.declared.types.TreeAt.{TreeAt}
-use Rattle.cms_edf.specs.Opening.{IsFaultOf}
+use Rattle.cms_held.specs.Opening.{IsFaultOf}
 use Rattle.cms_edf.specs.OpeningSteps.{met_in, system_at}
 use Rattle.cms_edf.proofs.Listings.{directory_fault, tree_fault, map_fault, entries_fault, names_fault, listed_so, tree_has, leaf_block, few_files}
 use Rattle.cms_edf.proofs.EntryTests.{entries_shaped, entries_small, entries_pass, entries_stand}
@@ -24,10 +24,15 @@ returns-in_err-directory-clause-read g c = λ j told.
     let bad : directory_of place.bsize place.origin c.in_ok-first.first.items ≡ Err c.in_err-directory.field-0.0 = search rules in
     rw (p.1, p.2) (directory_fault place.bsize place.total place.origin image c.in_err-directory.field-0.0 (rw first at bad))
 
-pub returns-in_err-directory-clause-cause : goal.returns-in_err-directory-clause-cause
-returns-in_err-directory-clause-cause g c =
+pub returns-in_err-directory-clause-reads : goal.returns-in_err-directory-clause-reads
+returns-in_err-directory-clause-reads g c =
     let p = err_from_is_err_and c.from_residual-in_err-directory.result c.from_residual-in_err-directory.ensures.1 in
-    rw (p.1, p.2) (λ is. absurd (c.in_err-directory.ensures.device is))
+    record {
+      told = c.in_ok-first.ensures.reads.told;
+      faults = c.in_ok-first.ensures.reads.faults;
+      edges = c.in_ok-first.ensures.reads.edges;
+      cause = rw (p.1, p.2) (λ is. absurd (c.in_err-directory.ensures.device is));
+    }
 
 pub returns-in_err-walked-clause-read : goal.returns-in_err-walked-clause-read
 returns-in_err-walked-clause-read g c = λ j told.
@@ -38,7 +43,7 @@ returns-in_err-walked-clause-read g c = λ j told.
     let first : c.in_ok-first.first.items ≡ image place.origin = c.in_ok-first.ensures.bytes j told in
     let is : directory_of place.bsize place.origin c.in_ok-first.first.items ≡ Ok c.in_ok-directory.directory = search rules in
     let at : c.system_at-at.result ≡ system_at place c.in_ok-directory.directory (Some place.origin) = search rules in
-    let bad = c.in_err-walked.ensures.read j (c.in_ok-first.ensures.told ∙ told) in
+    let bad = c.in_err-walked.ensures.read j (c.in_ok-first.ensures.reads.told ∙ told) in
     rw (p.1, p.2) (tree_fault place image c.in_ok-directory.directory why (rw first at is) (c.in_ok-directory.ensures.shape.1)
     (subst (λ (x : TreeAt). IsFaultOf (tree_at (image_of (contents_of j x.unit)) x) why) at bad))
 
@@ -50,7 +55,7 @@ returns-in_err-map-clause-read g c = λ j told.
     let first : c.in_ok-first.first.items ≡ image place.origin = c.in_ok-first.ensures.bytes j told in
     let is : directory_of place.bsize place.origin c.in_ok-first.first.items ≡ Ok c.in_ok-directory.directory = search rules in
     let at : c.system_at-at.result ≡ system_at place c.in_ok-directory.directory (Some place.origin) = search rules in
-    let read = c.in_ok-walked.ensures.read j (c.in_ok-first.ensures.told ∙ told) in
+    let read = c.in_ok-walked.ensures.read j (c.in_ok-first.ensures.reads.told ∙ told) in
     let bad : map_of place.bsize place.total (drop 64 c.in_ok-first.first.items) ≡ Err c.in_err-map.field-0.0 = search rules in
     rw (p.1, p.2) (map_fault place image c.in_ok-directory.directory (met_in c.in_ok-walked.walked) c.in_err-map.field-0.0
     (tree_has place j c.in_ok-directory.directory c.in_ok-walked.walked c.system_at-at.result (rw first at is) (c.in_ok-directory.ensures.shape.1) at read.0)
@@ -60,7 +65,7 @@ pub directory_bytes-requires-clause-blocks : goal.directory_bytes-requires-claus
 directory_bytes-requires-clause-blocks g c = λ j told k less.
     leaf_block j c.args.place.now.unit c.args.place.now.total c.args.place.now.origin c.args.place.now.bsize c.in_ok-walked.walked c.deref-3.result.now k
     (search rules) less c.requires.total c.requires.origin (search rules)
-    (c.requires.blocks j (sym c.in_ok-first.ensures.told ∙ (sym c.in_ok-walked.ensures.told ∙ told)))
+    (c.requires.blocks j (sym c.in_ok-first.ensures.reads.told ∙ (sym c.in_ok-walked.ensures.reads.told ∙ told)))
 
 pub returns-in_err-entries-clause-read : goal.returns-in_err-entries-clause-read
 returns-in_err-entries-clause-read g c = λ j told.
@@ -70,9 +75,9 @@ returns-in_err-entries-clause-read g c = λ j told.
     let first : c.in_ok-first.first.items ≡ image place.origin = c.in_ok-first.ensures.bytes j told in
     let is : directory_of place.bsize place.origin c.in_ok-first.first.items ≡ Ok c.in_ok-directory.directory = search rules in
     let at : c.system_at-at.result ≡ system_at place c.in_ok-directory.directory (Some place.origin) = search rules in
-    let read = c.in_ok-walked.ensures.read j (c.in_ok-first.ensures.told ∙ told) in
+    let read = c.in_ok-walked.ensures.read j (c.in_ok-first.ensures.reads.told ∙ told) in
     let map_is : map_of place.bsize place.total (drop 64 c.in_ok-first.first.items) ≡ Ok c.in_ok-map.map = search rules in
-    let bytes : c.in_ok-bytes.bytes.items ≡ bytes_at image c.in_ok-walked.walked.leaves.items = c.in_ok-bytes.ensures.bytes j (c.in_ok-walked.ensures.told ∙ (c.in_ok-first.ensures.told ∙ told)) ∙ ap (bytes_at image) c.deref-3.ensures.value in
+    let bytes : c.in_ok-bytes.bytes.items ≡ bytes_at image c.in_ok-walked.walked.leaves.items = c.in_ok-bytes.ensures.bytes j (c.in_ok-walked.ensures.reads.told ∙ (c.in_ok-first.ensures.reads.told ∙ told)) ∙ ap (bytes_at image) c.deref-3.ensures.value in
     let bad : IsFaultOf (entries_of place.bsize 2 (cut (c.in_ok-directory.directory.count - 2) 64 (drop 128 c.in_ok-bytes.bytes.items))) c.in_err-entries.field-0.0 = search rules in
     rw (p.1, p.2) (entries_fault place image c.in_ok-directory.directory c.in_ok-map.map (met_in c.in_ok-walked.walked) c.in_err-entries.field-0.0
     (tree_has place j c.in_ok-directory.directory c.in_ok-walked.walked c.system_at-at.result (rw first at is) (c.in_ok-directory.ensures.shape.1) at read.0)
@@ -90,9 +95,9 @@ returns-in_err-names_once-clause-read g c = λ j told.
     let first : c.in_ok-first.first.items ≡ image place.origin = c.in_ok-first.ensures.bytes j told in
     let is : directory_of place.bsize place.origin c.in_ok-first.first.items ≡ Ok c.in_ok-directory.directory = search rules in
     let at : c.system_at-at.result ≡ system_at place c.in_ok-directory.directory (Some place.origin) = search rules in
-    let read = c.in_ok-walked.ensures.read j (c.in_ok-first.ensures.told ∙ told) in
+    let read = c.in_ok-walked.ensures.read j (c.in_ok-first.ensures.reads.told ∙ told) in
     let map_is : map_of place.bsize place.total (drop 64 c.in_ok-first.first.items) ≡ Ok c.in_ok-map.map = search rules in
-    let bytes : c.in_ok-bytes.bytes.items ≡ bytes_at image c.in_ok-walked.walked.leaves.items = c.in_ok-bytes.ensures.bytes j (c.in_ok-walked.ensures.told ∙ (c.in_ok-first.ensures.told ∙ told)) ∙ ap (bytes_at image) c.deref-3.ensures.value in
+    let bytes : c.in_ok-bytes.bytes.items ≡ bytes_at image c.in_ok-walked.walked.leaves.items = c.in_ok-bytes.ensures.bytes j (c.in_ok-walked.ensures.reads.told ∙ (c.in_ok-first.ensures.reads.told ∙ told)) ∙ ap (bytes_at image) c.deref-3.ensures.value in
     let entries : entries_of place.bsize 2 (cut (c.in_ok-directory.directory.count - 2) 64 (drop 128 c.in_ok-bytes.bytes.items)) ≡ Ok c.in_ok-entries.entries.items = search rules in
     let bad : IsFaultOf (absent (first_twice 2 [] c.in_ok-entries.entries.items) failed.Twice) c.in_err-names_once.field-0.0 = search rules in
     rw (p.1, p.2) (names_fault place image c.in_ok-directory.directory c.in_ok-map.map (met_in c.in_ok-walked.walked) c.in_ok-entries.entries.items c.in_err-names_once.field-0.0 (
@@ -109,9 +114,9 @@ returns-clause-read g c = λ j told.
     let first : c.in_ok-first.first.items ≡ image place.origin = c.in_ok-first.ensures.bytes j told in
     let is : directory_of place.bsize place.origin c.in_ok-first.first.items ≡ Ok c.in_ok-directory.directory = search rules in
     let at : c.system_at-at.result ≡ system_at place c.in_ok-directory.directory (Some place.origin) = search rules in
-    let read = c.in_ok-walked.ensures.read j (c.in_ok-first.ensures.told ∙ told) in
+    let read = c.in_ok-walked.ensures.read j (c.in_ok-first.ensures.reads.told ∙ told) in
     let map_is : map_of place.bsize place.total (drop 64 c.in_ok-first.first.items) ≡ Ok c.in_ok-map.map = search rules in
-    let bytes : c.in_ok-bytes.bytes.items ≡ bytes_at image c.in_ok-walked.walked.leaves.items = c.in_ok-bytes.ensures.bytes j (c.in_ok-walked.ensures.told ∙ (c.in_ok-first.ensures.told ∙ told)) ∙ ap (bytes_at image) c.deref-3.ensures.value in
+    let bytes : c.in_ok-bytes.bytes.items ≡ bytes_at image c.in_ok-walked.walked.leaves.items = c.in_ok-bytes.ensures.bytes j (c.in_ok-walked.ensures.reads.told ∙ (c.in_ok-first.ensures.reads.told ∙ told)) ∙ ap (bytes_at image) c.deref-3.ensures.value in
     let entries : entries_of place.bsize 2 (cut (c.in_ok-directory.directory.count - 2) 64 (drop 128 c.in_ok-bytes.bytes.items)) ≡ Ok c.in_ok-entries.entries.items = search rules in
     let once : first_twice 2 [] c.in_ok-entries.entries.items ≡ None = search rules in (
       listed_so place image c.in_ok-directory.directory c.in_ok-map.map (met_in c.in_ok-walked.walked) c.in_ok-entries.entries.items (

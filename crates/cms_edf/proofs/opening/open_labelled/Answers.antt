@@ -7,7 +7,7 @@ use Rattle.cms_model.specs.Trees.{image_of, bytes_at}
 use Rattle.cms_model.specs.Volumes.{tree_blocks, contents_in}
 use Rattle.cms_tree.specs.Walks.{nodes_at}
 use Rattle.cms_edf.specs.declared.open.Place.{Place}
-use Rattle.cms_edf.specs.Opening.{IsFaultOf}
+use Rattle.cms_held.specs.Opening.{IsFaultOf}
 use Rattle.cms_model.specs.Sizes.{levels}
 use Rattle.cms_map.specs.Bits.{bits_in}
 use Rattle.cms_edf.specs.OpeningSteps.{system_at, listed, met_in, listed_in, trees_in, lost_in}
@@ -33,7 +33,7 @@ returns-in_err-trees-clause-fault g c =
     rw (p.1, p.2) (λ j told.
     trees_bad _ (image_of (contents_of j a.unit.now.number)) a.label (listed l) why
     (subst (λ (q : Place). listed_in q.bsize q.total q.origin (image_of (contents_of j q.unit)) ≡ Ok (listed l)) c.place_of-place.ensures (c.in_ok-listing.ensures.read j told).0)
-    (subst (λ (q : Place). IsFaultOf (trees_in q.bsize q.total q.origin (image_of (contents_of j q.unit)) (listed l)) why) c.place_of-place.ensures (c.in_err-trees.ensures.fault j (c.in_ok-listing.ensures.told ∙ told))))
+    (subst (λ (q : Place). IsFaultOf (trees_in q.bsize q.total q.origin (image_of (contents_of j q.unit)) (listed l)) why) c.place_of-place.ensures (c.in_err-trees.ensures.fault j (c.in_ok-listing.ensures.reads.told ∙ told))))
 
 pub returns-in_err-marks-clause-fault : goal.returns-in_err-marks-clause-fault
 returns-in_err-marks-clause-fault g c =
@@ -45,9 +45,9 @@ returns-in_err-marks-clause-fault g c =
     rw (p.1, p.2) (λ j told.
     marks_bad _ (image_of (contents_of j a.unit.now.number)) a.label (listed l) (read_trees t) why
     (subst (λ (q : Place). listed_in q.bsize q.total q.origin (image_of (contents_of j q.unit)) ≡ Ok (listed l)) c.place_of-place.ensures (c.in_ok-listing.ensures.read j told).0)
-    (subst (λ (q : Place). trees_in q.bsize q.total q.origin (image_of (contents_of j q.unit)) (listed l) ≡ Ok (read_trees t)) c.place_of-place.ensures (c.in_ok-trees.ensures.read j (c.in_ok-listing.ensures.told ∙ told)).trees)
+    (subst (λ (q : Place). trees_in q.bsize q.total q.origin (image_of (contents_of j q.unit)) (listed l) ≡ Ok (read_trees t)) c.place_of-place.ensures (c.in_ok-trees.ensures.read j (c.in_ok-listing.ensures.reads.told ∙ told)).trees)
     (subst (λ (q : Place). IsFaultOf (lost_in (bytes_at (image_of (contents_of j q.unit)) t.map.leaves.items) q.total (tree_blocks (met_in l.walked) (met_in t.map) (map met_in t.files.items))) why) c.place_of-place.ensures
-    (c.in_err-marks.ensures.fault j (c.in_ok-trees.ensures.told ∙ (c.in_ok-listing.ensures.told ∙ told)))))
+    (c.in_err-marks.ensures.fault j (c.in_ok-trees.ensures.reads.told ∙ (c.in_ok-listing.ensures.reads.told ∙ told)))))
 
 pub returns-in_err-files-clause-fault : goal.returns-in_err-files-clause-fault
 returns-in_err-files-clause-fault g c =
@@ -58,9 +58,9 @@ returns-in_err-files-clause-fault g c =
     let entries : c.deref.result.now ≡ l.entries.items = search rules in
     let p = err_from_is_err_and c.from_residual-in_err-files.result c.from_residual-in_err-files.ensures.1 in
     rw (p.1, p.2) (λ j told.
-    let to_trees = c.in_ok-listing.ensures.told ∙ told in
-    let to_marks = c.in_ok-trees.ensures.told ∙ to_trees in
-    let to_files = c.in_ok-marks.ensures.told ∙ to_marks in
+    let to_trees = c.in_ok-listing.ensures.reads.told ∙ told in
+    let to_marks = c.in_ok-trees.ensures.reads.told ∙ to_trees in
+    let to_files = c.in_ok-marks.ensures.reads.told ∙ to_marks in
     records_bad _ (image_of (contents_of j a.unit.now.number)) a.label (listed l) (read_trees t) c.in_ok-marks.marks.lost why
     (subst (λ (q : Place). listed_in q.bsize q.total q.origin (image_of (contents_of j q.unit)) ≡ Ok (listed l)) c.place_of-place.ensures (c.in_ok-listing.ensures.read j told).0)
     (subst (λ (q : Place). trees_in q.bsize q.total q.origin (image_of (contents_of j q.unit)) (listed l) ≡ Ok (read_trees t)) c.place_of-place.ensures (c.in_ok-trees.ensures.read j to_trees).trees)
@@ -81,9 +81,9 @@ returns-clause-read g c = λ j told.
     let image = image_of (contents_of j a.unit.now.number) in
     let there : Place = record { unit = a.unit.now.number; bsize = a.bsize; total = a.label.blocks; origin = a.label.origin } in
     let entries : c.deref.result.now ≡ l.entries.items = search rules in
-    let to_trees = c.in_ok-listing.ensures.told ∙ told in
-    let to_marks = c.in_ok-trees.ensures.told ∙ to_trees in
-    let to_files = c.in_ok-marks.ensures.told ∙ to_marks in
+    let to_trees = c.in_ok-listing.ensures.reads.told ∙ told in
+    let to_marks = c.in_ok-trees.ensures.reads.told ∙ to_trees in
+    let to_files = c.in_ok-marks.ensures.reads.told ∙ to_marks in
     let listing = c.in_ok-listing.ensures.read j told in
     let trees = c.in_ok-trees.ensures.read j to_trees in
     let bits = c.in_ok-marks.ensures.bits j to_marks in

@@ -11,9 +11,9 @@ loop-place-preserved g c =
     record {
       reads = λ j told. rw grown (reads_next (image_of (contents_of j c.args.unit)) c.args.blocks.now l.place l.bytes.items c.in_ok-block.block.items (search rules) (c.in_ok-block.ensures.bytes j (l.invariant.told ∙ told)) (l.invariant.reads j told));
       size = rw grown (size_next c.args.bsize l.place l.bytes.items c.in_ok-block.block.items l.invariant.size c.in_ok-block.ensures.size);
-      told = c.in_ok-block.ensures.told ∙ l.invariant.told;
-      faults = omega (arith, c.in_ok-block.ensures.faults, l.invariant.faults);
-      edges = c.in_ok-block.ensures.edges ∙ l.invariant.edges;
+      told = c.in_ok-block.ensures.reads.told ∙ l.invariant.told;
+      faults = omega (arith, c.in_ok-block.ensures.reads.faults, l.invariant.faults);
+      edges = c.in_ok-block.ensures.reads.edges ∙ l.invariant.edges;
     }
 
 pub returns-clause-bytes : goal.returns-clause-bytes

@@ -16,9 +16,9 @@ loop-nth-preserved g c =
           let image = image_of (contents_of j a.place.now.unit) in
           rw (c.in_ok-append_block.ensures.bytes j (l.invariant.told ∙ told)) (reads_next image a.blocks.now l.nth l.bytes.items (image (slice_index a.blocks.now l.nth)) (search rules) refl (l.invariant.reads j told));
       size = grind (arith, was, more);
-      told = c.in_ok-append_block.ensures.told ∙ l.invariant.told;
-      faults = omega (arith, c.in_ok-append_block.ensures.faults, l.invariant.faults);
-      edges = c.in_ok-append_block.ensures.edges ∙ l.invariant.edges;
+      told = c.in_ok-append_block.ensures.reads.told ∙ l.invariant.told;
+      faults = omega (arith, c.in_ok-append_block.ensures.reads.faults, l.invariant.faults);
+      edges = c.in_ok-append_block.ensures.reads.edges ∙ l.invariant.edges;
     }
 
 pub returns-clause-bytes : goal.returns-clause-bytes

@@ -1,8 +1,6 @@
-use Rattle.std.proofs.Common.{◌≡◌, ◌<◌, ◌∙◌, length, sym, ap, subst, arith, true, false}
-use Rattle.std.specs.Prelude.{Option, ◌==◌}
+use Rattle.std.proofs.Common.{◌<◌, ◌∙◌, length, sym, arith}
+use Rattle.std.specs.Prelude.{◌==◌}
 use Rattle.std.proofs.lemmas.Grind.{common_steps}
-use Rattle.cms_search.specs.Searches.{has, item_at}
-use Rattle.cms_search.specs.Tables.{Seated}
 use Rattle.cms_search.proofs.Tabling.{keeps, length_set, vacates}
 use Rattle.cms_search.proofs.seated.vacate.Goals.{then-is_of_unit, else-is_of_unit}
 use Rattle.cms_search.proofs.seated.vacate.Goals as goal

@@ -1,12 +1,12 @@
-use Rattle.std.proofs.Common.{◌≡◌, ◌∙◌, refl, sym, Ok, Err, Some, None, arith}
+use Rattle.std.proofs.Common.{◌≡◌, ◌∙◌, refl, sym, ap, subst, Some, None, Err, true, false, rules, arith}
 use Rattle.std.proofs.lemmas.Result.{err_from_is_err_and}
-use Rattle.cms_edf.specs.declared.erase.SmallErase.TheVariants as failed
-use Rattle.cms_fields.specs.Moments.{stamp_of}
+use Rattle.cms_disk.specs.Disks.{Accessed}
+use Rattle.cms_disk.specs.declared.fault.DiskFault.TheVariants as failed
 use Rattle.cms_search.specs.Calls.{spot}
+use Rattle.cms_search.specs.declared.state.Disk.{Disk}
 use Rattle.cms_search.proofs.Acts.{cut_off, refused}
-use Rattle.cms_session.specs.Calls.{erase_tree}
-use Rattle.cms_session.proofs.Seen.{shows}
-use Rattle.cms_session.proofs.Erasures.{erase_no_disk, erase_read_only, erase_missing, is_erasing, erased_so, erase_stopped, full_refused, state_with, small_kept, erased_place, stamped_on}
+use Rattle.cms_session.specs.Calls.{Sees, erase_tree}
+use Rattle.cms_session.proofs.Erasures.{erase_no_disk, erase_read_only, erase_missing, erased_so, erases_at, fails_so, is_device, erase_cut, erase_stopped, full_refused, state_with}
 use Rattle.cms_session.proofs.erasing.erase_file.Goals as goal
 
 pub returns-in_err-no_disk-clause-acts : goal.returns-in_err-no_disk-clause-acts
@@ -40,98 +40,108 @@ returns-in_err-no_file-clause-acts g c =
     let p = err_from_is_err_and c.from_residual-in_err-no_file.result c.from_residual-in_err-no_file.ensures.1 in
     rw (p.1, p.2) (cut_off _ _ (erase_tree c.args.state.now c.args.name.now) _ refl (omega arith) (omega arith))
 
-pub returns-in_default-seen_place-clause-acts : goal.returns-in_default-seen_place-clause-acts
-returns-in_default-seen_place-clause-acts g c =
+pub returns-then-not-is_seen-clause-acts : goal.returns-then-not-is_seen-clause-acts
+returns-then-not-is_seen-clause-acts g c =
     let d = c.in-Some.disk in
     let some : c.args.state.now.disk_a ≡ Some c.in-Some.disk = sym c.take.ensures.value ∙ c.in-Some.is in
-    let name = c.spelled.ensures in
     let message = c.in_ok-no_file.ensures in
-    let refuse = c.refuse-in_default-seen_place.ensures in
+    let refuse = c.refuse-then-not-is_seen.ensures in
     let does = rw message at refuse.does in
-    let is = c.in_default-seen_place.is in
-    let seen = rw is at c.seen_place.ensures.seen in
-    erase_missing _ _ d c.args.name.now _ _ some c.if-disk.false
-    (shows d c.args.name.now c.spelled.result None (name.file, name.kind) name.bytes seen)
+    let unseen : c.is_seen.result ≡ false = search rules in
+    erase_missing _ _ d c.args.name.now _ _ some c.if-disk.false (subst (Sees d c.args.name.now) unseen c.is_seen.ensures)
     (refused _ _ _ _ _ does refuse.went (state_with c.args.state.now _ _ (sym some)))
+
+pub erase-requires-clause-blocks : goal.erase-requires-clause-blocks
+erase-requires-clause-blocks g c =
+    let some : c.args.state.now.disk_a ≡ Some c.in-Some.disk = sym c.take.ensures.value ∙ c.in-Some.is in
+    λ j is. (c.requires.usable j is c.in-Some.disk some).0.0
+
+pub erase-requires-clause-writable : goal.erase-requires-clause-writable
+erase-requires-clause-writable g c =
+    let some : c.args.state.now.disk_a ≡ Some c.in-Some.disk = sym c.take.ensures.value ∙ c.in-Some.is in
+    λ writable j is. (c.requires.usable j is c.in-Some.disk some).0.1 writable
+
+pub returns-in-Ok-clause-acts : goal.returns-in-Ok-clause-acts
+returns-in-Ok-clause-acts g c =
+    let d = c.in-Some.disk in
+    let some : c.args.state.now.disk_a ≡ Some c.in-Some.disk = sym c.take.ensures.value ∙ c.in-Some.is in
+    let seen : c.is_seen.result ≡ true = search rules in
+    let erased = c.in-Ok.ensures in
+    let stamp = c.of.ensures.value in
+    erased_so _ _ d (record { minidisk = c.erase.new.self; read_only = d.read_only }) c.args.name.now tt
+    (record { disk_a = some; writable = c.if-disk.false; sees = subst (Sees d c.args.name.now) seen c.is_seen.ensures }) (rw stamp at erased.alters)
+    (record { on = erased.same; read_only = refl }) refl (record { grown = erased.grown; faults = erased.faults; edges = omega (arith, erased.edges) })
 
 pub returns-in_err-no_room-in-Err-Full-clause-acts : goal.returns-in_err-no_room-in-Err-Full-clause-acts
 returns-in_err-no_room-in-Err-Full-clause-acts g c =
     let p = err_from_is_err_and c.from_residual-in_err-no_room-in-Err-Full.result c.from_residual-in_err-no_room-in-Err-Full.ensures.1 in
-    let erased = c.in-Err-Full.ensures in
-    let is = c.in-Err-Full.field-0-is in
-    let nothing = rw is at erased.nothing in
-    rw (p.1, p.2) (cut_off _ _ (erase_tree c.args.state.now c.args.name.now) _ nothing.3 erased.faults (omega (arith, erased.edges)))
-
-pub returns-in-Ok-clause-acts : goal.returns-in-Ok-clause-acts
-returns-in-Ok-clause-acts g c =
-    let s = c.args.state.now in
     let d = c.in-Some.disk in
     let some : c.args.state.now.disk_a ≡ Some c.in-Some.disk = sym c.take.ensures.value ∙ c.in-Some.is in
-    let name = c.spelled.ensures in
-    let erased = c.in-Ok.ensures in
-    let place = c.in-Some-seen_place.place in
-    let within = c.in-Some-seen_place.ensures.within in
-    let is = c.in-Some-seen_place.is in
-    let seen = rw is at c.seen_place.ensures.seen in
-    let stamp = c.of.ensures.value in
-    let erases = rw stamp at erased.erases in
-    erased_so _ _ d c.erase.new.self c.args.name.now tt some refl c.if-disk.false
-    (erased_place _ _ d c.erase.new.self place _ within erased.updated)
-    (is_erasing _ _ d c.erase.new.self c.args.name.now _ place (Ok tt) c.if-disk.false within
-    (shows d c.args.name.now c.spelled.result (Some place) (name.file, name.kind) name.bytes seen) erases)
-    (record { grown = erased.grown; faults = erased.faults; edges = omega (arith, erased.edges) })
-
-pub returns-in-Ok-clause-stamped : goal.returns-in-Ok-clause-stamped
-returns-in-Ok-clause-stamped g c zero =
-    let some : c.args.state.now.disk_a ≡ Some c.in-Some.disk = sym c.take.ensures.value ∙ c.in-Some.is in
-    stamped_on _ _ c.args.state.now.disk_a c.in-Some.disk c.erase.new.self c.in-Some-seen_place.place _ _ some c.of.ensures.value c.in-Ok.ensures.updated
+    let seen : c.is_seen.result ≡ true = search rules in
+    let erased = c.in-Err-Full.ensures in
+    let full = c.in-Err-Full.field-0-is in
+    rw (p.1, p.2)
+    (erase_cut _ _ d (record { minidisk = c.erase.new.self; read_only = d.read_only }) c.args.name.now (failed.Full c.in-Err-Full.need c.in-Err-Full.free) _
+    (record { disk_a = some; writable = c.if-disk.false; sees = subst (Sees d c.args.name.now) seen c.is_seen.ensures }) c.requires.usable refl (rw full at erased.alters)
+    (record { grown = erased.grown; faults = erased.faults; edges = omega (arith, erased.edges) }))
 
 pub returns-in_ok-no_room-in-Err-Full-clause-acts : goal.returns-in_ok-no_room-in-Err-Full-clause-acts
 returns-in_ok-no_room-in-Err-Full-clause-acts g c =
-    let s = c.args.state.now in
     let d = c.in-Some.disk in
-    let t = c.erase.new.self in
     let some : c.args.state.now.disk_a ≡ Some c.in-Some.disk = sym c.take.ensures.value ∙ c.in-Some.is in
-    let name = c.spelled.ensures in
+    let seen : c.is_seen.result ≡ true = search rules in
     let erased = c.in-Err-Full.ensures in
     let full = c.in-Err-Full.field-0-is in
-    let nothing = rw full at erased.nothing in
+    let e : Disk = record { minidisk = c.erase.new.self; read_only = d.read_only } in
     let message = c.in_ok-no_room-in-Err-Full.ensures in
     let refuse = c.refuse-in-Err-Full.ensures in
     let does = rw message at refuse.does in
-    let place = c.in-Some-seen_place.place in
-    let within = c.in-Some-seen_place.ensures.within in
-    let is = c.in-Some-seen_place.is in
-    let seen = rw is at c.seen_place.ensures.seen in
-    let erases = rw full at erased.erases in
-    full_refused _ (spot g.W.World c.erase.new.world _) _ d t c.in-Err-Full.need c.in-Err-Full.free c.args.name.now _ _ some c.if-disk.false
-    (record { told = nothing.3; faults = erased.faults; edges = omega (arith, erased.edges); state = small_kept s d t some erased.kept })
-    (is_erasing (g.W.World.told c.args.world.now) (g.W.World.told c.erase.new.world) d t c.args.name.now (stamp_of s.moment) place
-    (Err (failed.Full c.in-Err-Full.need c.in-Err-Full.free)) c.if-disk.false within
-    (shows d c.args.name.now c.spelled.result (Some place) (name.file, name.kind) name.bytes seen) erases)
+    full_refused _ (spot g.W.World c.erase.new.world (record c.args.state.now { disk_a = Some e })) _ d e c.in-Err-Full.need c.in-Err-Full.free c.args.name.now _ _
+    (record { disk_a = some; writable = c.if-disk.false; sees = subst (Sees d c.args.name.now) seen c.is_seen.ensures }) (rw full at erased.alters)
+    (record { on = erased.same; read_only = refl })
+    (record {
+      later = record { grown = erased.grown; faults = erased.faults; edges = omega (arith, erased.edges) };
+      state = refl;
+      volume = ap (λ (a : Accessed). a.volume) (erased.kept (λ doubt. absurd (cc (sym full ∙ doubt))));
+    })
     (refused _ _ _ _ _ does refuse.went refl)
 
-pub returns-in-Err-Device-clause-acts : goal.returns-in-Err-Device-clause-acts
-returns-in-Err-Device-clause-acts g c =
+pub returns-then-has_failed : goal.returns-then-has_failed
+returns-then-has_failed g c =
     let s = c.args.state.now in
     let d = c.in-Some.disk in
     let some : c.args.state.now.disk_a ≡ Some c.in-Some.disk = sym c.take.ensures.value ∙ c.in-Some.is in
-    let name = c.spelled.ensures in
-    let erased = c.in-Err-Device.ensures in
-    let device = c.in-Err-Device.field-0-is in
-    let place = c.in-Some-seen_place.place in
-    let within = c.in-Some-seen_place.ensures.within in
-    let is = c.in-Some-seen_place.is in
-    let seen = rw is at c.seen_place.ensures.seen in
+    let seen : c.is_seen.result ≡ true = search rules in
+    let erased = c.in-Err.ensures in
     let stamp = c.of.ensures.value in
-    let erases = rw (device, stamp) at erased.erases in
-    erase_stopped _ _ d c.erase.new.self c.args.name.now some (state_with s _ None c.take.ensures.after) c.if-disk.false
-    (is_erasing _ _ d c.erase.new.self c.args.name.now _ place (Err failed.Device) c.if-disk.false within
-    (shows d c.args.name.now c.spelled.result (Some place) (name.file, name.kind) name.bytes seen) erases)
-    (record { grown = erased.grown; faults = erased.faults; edges = omega (arith, erased.edges) }) (erased.cause device)
+    let device = sym c.has_failed.ensures ∙ c.if-has_failed.true in
+    record {
+      acts =
+          erase_stopped _ _ d c.args.name.now
+          (record { disk_a = some; writable = c.if-disk.false; sees = subst (Sees d c.args.name.now) seen c.is_seen.ensures })
+          (fails_so _ _ d (record { minidisk = c.erase.new.self; read_only = d.read_only }) c.args.name.now c.in-Err.fault device
+          (record { on = erased.same; read_only = refl }) (erases_at (spot g.W.World c.args.world.now s) (spot g.W.World c.erase.new.world s) d
+          (record { minidisk = c.erase.new.self; read_only = d.read_only }) c.args.name.now _ (Err c.in-Err.fault) stamp erased.alters))
+          (state_with s _ None c.take.ensures.after) (record { grown = erased.grown; faults = erased.faults; edges = omega (arith, erased.edges) })
+          (erased.cause (is_device c.in-Err.fault device));
+      kept = refl;
+    }
 
-pub returns-in-Err-Memory-clause-acts : goal.returns-in-Err-Memory-clause-acts
-returns-in-Err-Memory-clause-acts g c =
-    let erased = c.in-Err-Memory.ensures in
-    let is = c.in-Err-Memory.field-0-is in
-    cut_off _ _ (erase_tree c.args.state.now c.args.name.now) _ (rw is at erased.nothing) erased.faults (omega (arith, erased.edges))
+pub returns-else-has_failed : goal.returns-else-has_failed
+returns-else-has_failed g c =
+    let s = c.args.state.now in
+    let d = c.in-Some.disk in
+    let some : c.args.state.now.disk_a ≡ Some c.in-Some.disk = sym c.take.ensures.value ∙ c.in-Some.is in
+    let seen : c.is_seen.result ≡ true = search rules in
+    let erased = c.in-Err.ensures in
+    let stamp = c.of.ensures.value in
+    record {
+      acts =
+          erase_cut _ _ d (record { minidisk = c.erase.new.self; read_only = d.read_only }) c.args.name.now c.in-Err.fault _
+          (record { disk_a = some; writable = c.if-disk.false; sees = subst (Sees d c.args.name.now) seen c.is_seen.ensures })
+          c.requires.usable (sym c.has_failed.ensures ∙ c.if-has_failed.false)
+          (erases_at (spot g.W.World c.args.world.now s) (spot g.W.World c.erase.new.world s) d
+          (record { minidisk = c.erase.new.self; read_only = d.read_only }) c.args.name.now _ (Err c.in-Err.fault) stamp erased.alters)
+          (record { grown = erased.grown; faults = erased.faults; edges = omega (arith, erased.edges) });
+      kept = refl;
+    }

@@ -1,5 +1,5 @@
 use Rattle.std.proofs.Common.{◌∙◌, sym}
-use Rattle.cms_search.specs.Calls.{seen}
+use Rattle.cms_world.specs.Seen.{seen}
 use Rattle.cms_session.proofs.ReadWords.{read_taken, refused_fits, no_usage_of_memory, unbegun}
 use Rattle.cms_session.proofs.top.run.Goals as goal
 

@@ -1,5 +1,5 @@
 use Rattle.std.proofs.Common.{inl, inr, [], refl, sym}
-use Rattle.cms_search.specs.Calls.{seen}
+use Rattle.cms_world.specs.Seen.{seen}
 use Rattle.cms_session.specs.Headline.{fresh}
 use Rattle.cms_session.specs.Words.{asked}
 use Rattle.cms_session.proofs.Ends.{on_unit, not_attached}

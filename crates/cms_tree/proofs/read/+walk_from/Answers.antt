@@ -46,9 +46,9 @@ loop-place-init g t c =
       room = room_first a.part.now.count a.layout.now.fan a.levels c.size_below-size.result (omega arith) c.requires.room c.size_below-size.ensures;
       within = taken_within a.layout.now.last a.part.now.first a.part.now.root a.into.now c.take_node.new.into c.in_ok-take_node.ensures.ok;
       next = inr refl;
-      told = c.in_ok-block.ensures.told;
+      told = c.in_ok-block.ensures.reads.told;
       later = omega arith;
-      edges = c.in_ok-block.ensures.edges;
+      edges = c.in_ok-block.ensures.reads.edges;
     }
 
 pub returns-then-left-eq0-clause-read : goal.returns-then-left-eq0-clause-read
@@ -98,9 +98,9 @@ loop-place-preserved g t c =
       room = room_left l.left c.part_of.result a.layout.now.fan l.place c.size_below-size.result l.invariant.room (omega arith) c.part_of.ensures;
       within = part_within a.layout.now.last a.part.now.first l.first a.into.now l.into c.walk_from.new.into l.invariant.next l.invariant.within c.in_ok-walk_from.ensures.within;
       next = inl refl;
-      told = c.in_ok-walk_from.ensures.told ∙ l.invariant.told;
-      later = omega (arith, c.in_ok-walk_from.ensures.later, l.invariant.later);
-      edges = c.in_ok-walk_from.ensures.edges ∙ l.invariant.edges;
+      told = c.in_ok-walk_from.ensures.reads.told ∙ l.invariant.told;
+      later = omega (arith, c.in_ok-walk_from.ensures.reads.faults, l.invariant.later);
+      edges = c.in_ok-walk_from.ensures.reads.edges ∙ l.invariant.edges;
     }
 
 pub returns-clause-read : goal.returns-clause-read

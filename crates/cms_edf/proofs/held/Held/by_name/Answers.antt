@@ -1,7 +1,7 @@
 use Rattle.std.proofs.Common.{◌∙◌, ap}
 use Rattle.std.specs.Map.{keys_of}
 use Rattle.indexmap.specs.IndexMap.{values}
-use Rattle.cms_edf.specs.Opening.{Holding, names_in}
+use Rattle.cms_held.specs.Opening.{Holding, names_in}
 use Rattle.cms_edf.proofs.FilesNamed.{keys_named}
 use Rattle.cms_edf.proofs.held.Held.by_name.Goals as goal
 

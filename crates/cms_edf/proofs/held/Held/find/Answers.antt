@@ -3,7 +3,7 @@ use Rattle.std.specs.Map.{keys_of}
 use Rattle.indexmap.specs.IndexMap.{keys, values}
 use Rattle.cms_names.specs.declared.name.Name.{Name}
 use Rattle.cms_model.specs.Minidisks.{same_name}
-use Rattle.cms_edf.specs.Opening.{Holding, names_in}
+use Rattle.cms_held.specs.Opening.{Holding, names_in}
 use Rattle.cms_edf.proofs.FilesNamed.{keys_named}
 use Rattle.cms_edf.proofs.NamesMet.{place_there}
 use Rattle.cms_edf.proofs.held.Held.find.Goals as goal

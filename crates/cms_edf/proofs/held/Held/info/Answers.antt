@@ -3,7 +3,7 @@ use Rattle.std.proofs.Common.{◌≡◌, List, Some, slice_get, sym, ◌∙◌, 
 use Rattle.std.specs.Prelude.{option_map}
 use Rattle.std.proofs.lemmas.Option.{slice_get-map}
 use Rattle.indexmap.specs.IndexMap.{values}
-use Rattle.cms_edf.specs.Opening.{HeldFile, Holding}
+use Rattle.cms_held.specs.Opening.{HeldFile, Holding}
 use Rattle.cms_edf.specs.Asking.{info_of}
 use Rattle.cms_edf.proofs.held.Held.info.Goals as goal
 

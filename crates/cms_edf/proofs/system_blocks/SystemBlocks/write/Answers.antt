@@ -1,83 +1,71 @@
-use Rattle.std.proofs.Common.{◌++◌, refl, ap, subst}
-use Rattle.cms_edf.specs.Systems.{Systems}
-use Rattle.cms_edf.specs.Doubts.{directory_writes, map_writes, first_writes}
-use Rattle.cms_edf.proofs.CutOff.{on_ok, on_err}
-use Rattle.cms_edf.proofs.SystemsWritten.{Wrote, Failed, failed_one, failed_two, wrote_two, seen}
+use Rattle.std.proofs.Common.{◌++◌, ap, subst}
+use Rattle.cms_world.specs.Seen.{seen}
+use Rattle.cms_held.specs.Systems.{Systems}
+use Rattle.cms_edf.specs.declared.writing.Target.{Target}
+use Rattle.cms_edf.specs.Doubts.{directory_writes, map_writes, first_writes, target_of}
+use Rattle.cms_edf.specs.Writing.{MayWrite}
+use Rattle.cms_edf.proofs.SystemsWritten.{held_made, target_held}
+use Rattle.cms_edf.proofs.WritesMade.{then_made, first_failed, same_made}
 use Rattle.cms_edf.proofs.system_blocks.SystemBlocks.write.Goals as goal
 
-pub returns-in-Err-clause-failed : goal.returns-in-Err-clause-failed
-returns-in-Err-clause-failed g c =
-    let told = g.W.World.told in
+pub write_directory-requires-clause-may : goal.write_directory-requires-clause-may
+write_directory-requires-clause-may g c =
     let i = c.self.inside in
     let v : Systems = record { label = i.label; label_bytes = i.label_bytes.items; directory = i.directory; directory_bytes = i.directory_bytes.items; map = i.map_tree; bits = i.map } in
-    let a = directory_writes i.bsize i.directory i.directory_bytes.items in
-    let m = map_writes i.bsize i.map_tree i.map in
-    let f = first_writes i.bsize i.directory i.directory_bytes.items in
-    let whole = seen v c.args.self.now i.bsize c.self.view_is c.self.invariant.label_long in
-    let old = told c.args.world.now in
-    let one = told c.write_directory.new.world in
-    let done = directory_writes i.bsize i.directory c.deref.result.now in
-    let is = ap (directory_writes i.bsize i.directory) c.deref.ensures.value in
-    subst (Failed old one c.args.unit) whole (failed_one old one c.args.unit a (m ++ f) done is c.in-Err.ensures.failed)
+    subst (λ (t : Target). MayWrite (g.W.World.told c.args.world.now) t) (target_held c.args.unit v c.args.self.now i.bsize c.self.view_is c.self.invariant.label_long) c.requires.may
 
-pub returns-in-Err-write_map_tree-clause-failed : goal.returns-in-Err-write_map_tree-clause-failed
-returns-in-Err-write_map_tree-clause-failed g c =
-    let told = g.W.World.told in
+pub returns-in-Err : goal.returns-in-Err
+returns-in-Err g c =
+    let show = seen g.W.World in
     let i = c.self.inside in
     let v : Systems = record { label = i.label; label_bytes = i.label_bytes.items; directory = i.directory; directory_bytes = i.directory_bytes.items; map = i.map_tree; bits = i.map } in
+    let t : Target = record { unit = c.args.unit; total = i.label.blocks; bsize = i.bsize } in
+    let old = show c.args.world.now in
+    let one = show c.write_directory.new.world in
     let a = directory_writes i.bsize i.directory i.directory_bytes.items in
     let m = map_writes i.bsize i.map_tree i.map in
     let f = first_writes i.bsize i.directory i.directory_bytes.items in
-    let whole = seen v c.args.self.now i.bsize c.self.view_is c.self.invariant.label_long in
-    let old = told c.args.world.now in
-    let one = told c.write_directory.new.world in
-    let done = directory_writes i.bsize i.directory c.deref.result.now in
     let is = ap (directory_writes i.bsize i.directory) c.deref.ensures.value in
-    let two = told c.write_map_tree.new.world in
-    subst (Failed old two c.args.unit) whole
-    (failed_two old one two c.args.unit a (m ++ f) done (m ++ f) is refl c.in-Ok.ensures.done (failed_one one two c.args.unit m f m refl c.in-Err-write_map_tree.ensures.failed))
+    record {
+      writes = held_made c.args.unit v c.args.self.now i.bsize old one _ c.self.view_is c.self.invariant.label_long
+          (first_failed old one t a (m ++ f) _ (same_made old one t _ _ _ is c.in-Err.ensures.writes));
+    }
 
-pub returns-in-Ok-write_map_tree-clause-failed : goal.returns-in-Ok-write_map_tree-clause-failed
-returns-in-Ok-write_map_tree-clause-failed g c =
-    let told = g.W.World.told in
+pub returns-in-Err-write_map_tree : goal.returns-in-Err-write_map_tree
+returns-in-Err-write_map_tree g c =
+    let show = seen g.W.World in
     let i = c.self.inside in
     let v : Systems = record { label = i.label; label_bytes = i.label_bytes.items; directory = i.directory; directory_bytes = i.directory_bytes.items; map = i.map_tree; bits = i.map } in
+    let t : Target = record { unit = c.args.unit; total = i.label.blocks; bsize = i.bsize } in
+    let old = show c.args.world.now in
+    let one = show c.write_directory.new.world in
+    let two = show c.write_map_tree.new.world in
     let a = directory_writes i.bsize i.directory i.directory_bytes.items in
     let m = map_writes i.bsize i.map_tree i.map in
     let f = first_writes i.bsize i.directory i.directory_bytes.items in
-    let whole = seen v c.args.self.now i.bsize c.self.view_is c.self.invariant.label_long in
-    let old = told c.args.world.now in
-    let one = told c.write_directory.new.world in
-    let done = directory_writes i.bsize i.directory c.deref.result.now in
     let is = ap (directory_writes i.bsize i.directory) c.deref.ensures.value in
-    let two = told c.write_map_tree.new.world in
-    let new = told c.write_first.new.world in
-    let last = first_writes i.bsize i.directory c.deref-in-Ok-write_map_tree.result.now in
+    record {
+      writes = held_made c.args.unit v c.args.self.now i.bsize old two _ c.self.view_is c.self.invariant.label_long
+          (then_made old one two t a (m ++ f) _ (same_made old one t _ _ _ is c.in-Ok.ensures.writes) (first_failed one two t m f _ c.in-Err-write_map_tree.ensures.writes));
+    }
+
+pub returns-in-Ok-write_map_tree : goal.returns-in-Ok-write_map_tree
+returns-in-Ok-write_map_tree g c =
+    let show = seen g.W.World in
+    let i = c.self.inside in
+    let v : Systems = record { label = i.label; label_bytes = i.label_bytes.items; directory = i.directory; directory_bytes = i.directory_bytes.items; map = i.map_tree; bits = i.map } in
+    let t : Target = record { unit = c.args.unit; total = i.label.blocks; bsize = i.bsize } in
+    let old = show c.args.world.now in
+    let one = show c.write_directory.new.world in
+    let two = show c.write_map_tree.new.world in
+    let new = show c.write_first.new.world in
+    let a = directory_writes i.bsize i.directory i.directory_bytes.items in
+    let m = map_writes i.bsize i.map_tree i.map in
+    let f = first_writes i.bsize i.directory i.directory_bytes.items in
+    let is = ap (directory_writes i.bsize i.directory) c.deref.ensures.value in
     let is_last = ap (first_writes i.bsize i.directory) c.deref-in-Ok-write_map_tree.ensures.value in
-    on_err c.write_first.result _ _
-    (λ failed. subst (Failed old new c.args.unit) whole
-    (failed_two old one new c.args.unit a (m ++ f) done (m ++ f) is refl c.in-Ok.ensures.done
-    (failed_two one two new c.args.unit m f m last refl is_last c.in-Ok-write_map_tree.ensures.done failed)))
-    c.write_first.ensures.failed
-
-pub returns-in-Ok-write_map_tree-clause-done : goal.returns-in-Ok-write_map_tree-clause-done
-returns-in-Ok-write_map_tree-clause-done g c =
-    let told = g.W.World.told in
-    let i = c.self.inside in
-    let v : Systems = record { label = i.label; label_bytes = i.label_bytes.items; directory = i.directory; directory_bytes = i.directory_bytes.items; map = i.map_tree; bits = i.map } in
-    let a = directory_writes i.bsize i.directory i.directory_bytes.items in
-    let m = map_writes i.bsize i.map_tree i.map in
-    let f = first_writes i.bsize i.directory i.directory_bytes.items in
-    let whole = seen v c.args.self.now i.bsize c.self.view_is c.self.invariant.label_long in
-    let old = told c.args.world.now in
-    let one = told c.write_directory.new.world in
-    let done = directory_writes i.bsize i.directory c.deref.result.now in
-    let is = ap (directory_writes i.bsize i.directory) c.deref.ensures.value in
-    let two = told c.write_map_tree.new.world in
-    let new = told c.write_first.new.world in
-    let last = first_writes i.bsize i.directory c.deref-in-Ok-write_map_tree.result.now in
-    let is_last = ap (first_writes i.bsize i.directory) c.deref-in-Ok-write_map_tree.ensures.value in
-    on_ok c.write_first.result _ _
-    (λ wrote. subst (Wrote old new c.args.unit) whole
-    (wrote_two old one new c.args.unit a (m ++ f) done (m ++ f) is refl c.in-Ok.ensures.done (wrote_two one two new c.args.unit m f m last refl is_last c.in-Ok-write_map_tree.ensures.done wrote)))
-    c.write_first.ensures.done
+    record {
+      writes = held_made c.args.unit v c.args.self.now i.bsize old new _ c.self.view_is c.self.invariant.label_long
+          (then_made old one new t a (m ++ f) _ (same_made old one t _ _ _ is c.in-Ok.ensures.writes)
+          (then_made one two new t m f _ c.in-Ok-write_map_tree.ensures.writes (same_made two new t _ _ _ is_last c.write_first.ensures.writes)));
+    }

@@ -1,4 +1,4 @@
-use Rattle.std.proofs.Common.{◌<◌, ◌≡◌, ℕ, length, subst, arith}
+use Rattle.std.proofs.Common.{◌<◌, ℕ, length, subst, arith}
 use Rattle.std.specs.Prelude.{Result}
 use Rattle.cms_search.specs.Tables.{EndsAccess}
 use Rattle.cms_search.specs.declared.fault.SearchFault.{SearchFault}

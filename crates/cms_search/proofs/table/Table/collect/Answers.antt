@@ -1,4 +1,4 @@
-use Rattle.std.proofs.Common.{◌≡◌, sym, append-nil}
+use Rattle.std.proofs.Common.{sym, append-nil}
 use Rattle.cms_search.proofs.Shown.{shelf_at, shelf_none}
 use Rattle.cms_search.proofs.table.Table.collect.Goals as goal
 

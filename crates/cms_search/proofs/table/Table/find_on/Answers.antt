@@ -1,4 +1,4 @@
-use Rattle.std.proofs.Common.{◌≡◌, ◌∙◌, sym, ap, subst, true, false}
+use Rattle.std.proofs.Common.{◌≡◌, ◌∙◌, sym, subst, true, false}
 use Rattle.std.specs.Prelude.{Some, None, slice_get}
 use Rattle.cms_edf.specs.Asking.{infos_in}
 use Rattle.cms_disk.specs.Disks.{place_of}

@@ -1,5 +1,5 @@
 use Rattle.std.proofs.Common.{◌≡◌, ◌∙◌, sym, ap}
-use Rattle.std.specs.Prelude.{List, Result, Ok, Err}
+use Rattle.std.specs.Prelude.{List, Ok}
 use Rattle.cms_disk.proofs.Finding.{ok_maps}
 use Rattle.cms_search.specs.Machine.{Machine}
 use Rattle.cms_search.specs.Searches.{Shelves, fitting, search, shelves_in}

@@ -1,8 +1,8 @@
-use Rattle.std.proofs.Common.{◌≡◌, ◌∙◌, ℕ, sym, ap, subst, arith}
+use Rattle.std.proofs.Common.{◌≡◌, ◌∙◌, ℕ, sym, ap, subst}
 use Rattle.std.specs.Prelude.{Some, None, slice_get}
 use Rattle.std.specs.Option.{option_copied}
 use Rattle.cms_search.specs.Searches.{item_at}
-use Rattle.cms_search.specs.Tables.{Accesses, IsTable, Seated}
+use Rattle.cms_search.specs.Tables.{Accesses, Seated}
 use Rattle.cms_search.proofs.Tabling.{has_unit}
 use Rattle.cms_search.proofs.table.Table.seat.Goals as goal
 

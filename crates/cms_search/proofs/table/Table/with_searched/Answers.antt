@@ -1,4 +1,4 @@
-use Rattle.std.proofs.Common.{◌≡◌, ◌≤◌, ◌<◌, ◌∙◌, ◌∷◌, [], length, length-append, sym, arith}
+use Rattle.std.proofs.Common.{◌<◌, ◌∙◌, ◌∷◌, [], length, length-append, sym, arith}
 use Rattle.cms_search.specs.Searches.{is_searched}
 use Rattle.cms_search.specs.Tables.{shelves_of}
 use Rattle.cms_search.proofs.Searching.{all_added, as_before, none_added, one_added}

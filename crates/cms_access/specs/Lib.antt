@@ -1,0 +1,4 @@
+pub mod Access
+pub mod Release
+pub mod Query
+pub mod Format

@@ -1,0 +1,60 @@
+// FORMAT.
+ghost use Rattle.cms_operands.specs.Choices.{AnswersLine};
+ghost use Rattle.std.specs.Prelude.{◌≡◌};
+ghost use Rattle.cms_access.specs.Format as spec;
+
+use cms_line::{Token, Tokens};
+use cms_operands::{
+    CommandFault, OptionForm, Parameter, Refusal, chosen_options, device, ended, last_among,
+    letter, needed,
+};
+use std::alloc::Global;
+
+/// The largest number that a word writes.
+const LARGEST: u32 = 999_999_999;
+
+/// What FORMAT's operands say: a device, and the letter as which its volume is accessed then, A is 0.
+#[derive(Clone, Copy, Debug, PartialEq, Eq)]
+pub struct FormatLine {
+    pub vdev: u16,
+    pub letter: u8,
+}
+
+/// What the operands of FORMAT's line say, the words in front of its options, or why the first of them is refused that is.
+#[tactic(auto, unfolding(crate::specs::Format::format_operands))]
+pub fn format_operands(operands: &[Token]) -> Result<FormatLine, Refusal>
+    ensures { result ≡ spec.format_operands operands.now }
+{
+    let vdev = device(1, needed(operands, 1)?)?;
+    let letter = letter(2, needed(operands, 2)?)?;
+    ended(operands, 3)?;
+    Ok(FormatLine { vdev, letter })
+}
+
+// What BLKSIZE takes: a number, and where a unit has the device its block size alone.
+fn block_size(bsize: Option<u32>) -> Parameter
+    ensures { result ≡ spec.block_size bsize }
+{
+    match bsize {
+        None => Parameter::Number(0, LARGEST),
+        Some(bsize) => Parameter::Number(bsize, bsize),
+    }
+}
+
+fn options(bsize: Option<u32>) -> [OptionForm; 2]
+    ensures { result ≡ spec.options bsize }
+{
+    [
+        OptionForm::new(b"LABEL   ", 5, Parameter::Nothing),
+        OptionForm::new(b"BLKSIZE ", 7, block_size(bsize)),
+    ]
+}
+
+/// Whether FORMAT's line asks that only the volume id is changed, or why an option is refused, where the device has this block size,
+/// or no unit has it.
+pub fn relabels(alloc: Global, bsize: Option<u32>, words: &Tokens) -> Result<bool, CommandFault>
+    ensures { AnswersLine (spec.relabels bsize words.now) result }
+{
+    let chosen = chosen_options(alloc, &options(bsize), words)?;
+    Ok(last_among(&[0], chosen.as_slice()).is_some())
+}

@@ -1,0 +1,104 @@
+-- The exits of a making: the wiping failed, all was done, the making failed before its first sync, and behind it.
+use Rattle.std.proofs.Common.{ap, ◌∙◌}
+use Rattle.cms_held.specs.Making.{made_writes}
+use Rattle.cms_held.specs.Opening.{HeldVolume}
+use Rattle.cms_edf.specs.Doubts.{IsCutOff}
+use Rattle.cms_edf.specs.declared.doubt.Doubt.TheVariants.{Old, Either}
+use Rattle.cms_disk.proofs.Formatting.{cut_grown, emptied, emptied_quiet, front_grown, grown_cut_wipe, make_doubted, made, made_grown, made_quiet, wipe_doubted}
+use Rattle.cms_disk.proofs.minidisk.Minidisk.make.Goals as goal
+
+pub returns-in-Err-clause-formats : goal.returns-in-Err-clause-formats
+returns-in-Err-clause-formats g c = λ j before is ready. wipe_doubted j _ _ c.args.unit.now before c.args.volid c.args.stamp.now is ready c.in-Err.ensures.cut_off
+
+pub returns-in-Err-clause-grown : goal.returns-in-Err-clause-grown
+returns-in-Err-clause-grown g c = grown_cut_wipe c.args.unit.now.unit.number c.args.unit.now.bsize _ _ c.in-Err.ensures.cut_off
+
+pub returns-in-Ok-make-clause-formats : goal.returns-in-Ok-make-clause-formats
+returns-in-Ok-make-clause-formats g c = λ j before is ready.
+    let unit = c.args.unit.now in
+    let held = c.in-Ok-make.held in
+    made j _ _ _ unit before c.args.volid c.args.stamp.now c.in_ok-plan.plan (record { vdev = unit.vdev; writable = unit.writable; volume = held.volume; spare = held.spare })
+    (record {
+      told_is = is;
+      ready = ready;
+      has = c.requires.blocks j is;
+      least = c.requires.least;
+      wiped_is = c.in-Ok.ensures.done;
+      unit_is = c.in_ok-plan.ensures.unit;
+      disk_is = c.in_ok-plan.ensures.disk;
+      empty = c.in_ok-plan.ensures.empty;
+    })
+    c.in-Ok-make.ensures.done c.in-Ok-make.ensures.held
+
+pub returns-in-Ok-make-clause-quiet : goal.returns-in-Ok-make-clause-quiet
+returns-in-Ok-make-clause-quiet g c = λ j before is ready.
+    made_quiet _ _ c.args.unit.now before c.args.volid c.args.stamp.now _ (ap (λ (v : HeldVolume). v.unit) c.in-Ok-make.ensures.held ∙ c.in_ok-plan.ensures.unit)
+    (ap (λ (v : HeldVolume). v.disk) c.in-Ok-make.ensures.held ∙ c.in_ok-plan.ensures.disk) (returns-in-Ok-make-clause-formats g c j before is ready)
+
+pub returns-in-Ok-make-clause-grown : goal.returns-in-Ok-make-clause-grown
+returns-in-Ok-make-clause-grown g c =
+    made_grown c.args.unit.now.unit.number c.in_ok-plan.plan.unit c.args.unit.now.bsize (made_writes c.in_ok-plan.plan) c.in_ok-plan.plan.systems.label_bytes _ _ _
+    c.in_ok-plan.ensures.unit c.in-Ok.ensures.done c.in-Ok-make.ensures.done
+
+pub returns-in-Err-Old-clause-formats : goal.returns-in-Err-Old-clause-formats
+returns-in-Err-Old-clause-formats g c = λ j before is ready.
+    let told = g.W.World.told in
+    let plan = c.in_ok-plan.plan in
+    let mid = told c.wipe.new.world in
+    let new = told c.make.new.world in
+    let cut : IsCutOff mid new plan.unit (made_writes plan) plan.systems.label_bytes Old = rw c.in-Err-Old.field-0-is at c.in-Err-Old.ensures.cut_off in
+    emptied j (told c.args.world.now) mid new c.args.unit.now before c.args.volid c.args.stamp.now plan
+    (record {
+      told_is = is;
+      ready = ready;
+      has = c.requires.blocks j is;
+      least = c.requires.least;
+      wiped_is = c.in-Ok.ensures.done;
+      unit_is = c.in_ok-plan.ensures.unit;
+      disk_is = c.in_ok-plan.ensures.disk;
+      empty = c.in_ok-plan.ensures.empty;
+    })
+    cut
+
+pub returns-in-Err-Old-clause-quiet : goal.returns-in-Err-Old-clause-quiet
+returns-in-Err-Old-clause-quiet g c = λ j before is ready.
+    emptied_quiet _ _ c.args.unit.now before c.args.volid c.args.stamp.now (returns-in-Err-Old-clause-formats g c j before is ready)
+
+pub returns-in-Err-Old-clause-grown : goal.returns-in-Err-Old-clause-grown
+returns-in-Err-Old-clause-grown g c =
+    let told = g.W.World.told in
+    let plan = c.in_ok-plan.plan in
+    let mid = told c.wipe.new.world in
+    let new = told c.make.new.world in
+    let cut : IsCutOff mid new plan.unit (made_writes plan) plan.systems.label_bytes Old = rw c.in-Err-Old.field-0-is at c.in-Err-Old.ensures.cut_off in
+    front_grown c.args.unit.now.unit.number plan.unit c.args.unit.now.bsize (made_writes plan) (told c.args.world.now) mid new c.in_ok-plan.ensures.unit c.in-Ok.ensures.done cut
+
+pub returns-in-Err-Either-clause-formats : goal.returns-in-Err-Either-clause-formats
+returns-in-Err-Either-clause-formats g c = λ j before is ready.
+    let told = g.W.World.told in
+    let plan = c.in_ok-plan.plan in
+    let mid = told c.wipe.new.world in
+    let new = told c.make.new.world in
+    let cut : IsCutOff mid new plan.unit (made_writes plan) plan.systems.label_bytes Either = rw c.in-Err-Either.field-0-is at c.in-Err-Either.ensures.cut_off in
+    make_doubted j (told c.args.world.now) mid new c.args.unit.now before c.args.volid c.args.stamp.now plan
+    (record {
+      told_is = is;
+      ready = ready;
+      has = c.requires.blocks j is;
+      least = c.requires.least;
+      wiped_is = c.in-Ok.ensures.done;
+      unit_is = c.in_ok-plan.ensures.unit;
+      disk_is = c.in_ok-plan.ensures.disk;
+      empty = c.in_ok-plan.ensures.empty;
+    })
+    cut
+
+pub returns-in-Err-Either-clause-grown : goal.returns-in-Err-Either-clause-grown
+returns-in-Err-Either-clause-grown g c =
+    let told = g.W.World.told in
+    let plan = c.in_ok-plan.plan in
+    let mid = told c.wipe.new.world in
+    let new = told c.make.new.world in
+    let cut : IsCutOff mid new plan.unit (made_writes plan) plan.systems.label_bytes Either = rw c.in-Err-Either.field-0-is at c.in-Err-Either.ensures.cut_off in
+    cut_grown c.args.unit.now.unit.number plan.unit c.args.unit.now.bsize (made_writes plan) plan.systems.label_bytes (told c.args.world.now) mid new
+    c.in_ok-plan.ensures.unit c.in-Ok.ensures.done cut

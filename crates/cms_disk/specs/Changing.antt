@@ -1,0 +1,118 @@
+-- A minidisk that is changed, as a device step of a machine.
+use Rattle.std.specs.Prelude.{◌≡◌, ℕ, false, List, [], ◌∷◌, None, Some, Result, Ok, Err, ⊤}
+use Rattle.cms_journal.specs.declared.event.Event.{Event}
+use Rattle.cms_journal.specs.Journal.{Journal}
+use Rattle.cms_journal.specs.Told.{Told, plus, OnlyOf}
+use Rattle.cms_fields.specs.declared.time.Stamp.{Stamp}
+use Rattle.cms_model.specs.Minidisks.{File, Minidisk, State, Volume}
+use Rattle.cms_model.specs.Changes.{Change, Put, Add, Drop, Rename, Relabel, Limited, Changed, answer_of, file_named}
+use Rattle.cms_model.specs.Changes as model
+use Rattle.cms_model.specs.Volumes.{Disk, state_of}
+use Rattle.cms_model.specs.LawsUpdates.{now}
+use Rattle.cms_machine.specs.Slots.{Side, Settled, set_of, named}
+use Rattle.cms_machine.specs.Steps as steps
+use Rattle.cms_machine.specs.Steps.{Outcome, Good, OldFault, EitherFault, slot_after}
+use Rattle.cms_machine.specs.Beats.{FitsStep, Covers}
+use Rattle.cms_edf.specs.declared.doubt.Doubt.{Doubt}
+use Rattle.cms_edf.specs.declared.doubt.Doubt.TheVariants.{Old, Either}
+use Rattle.cms_disk.specs.Disks.{Accessed, IsMinidisk}
+use Rattle.cms_disk.specs.declared.fault.DiskFault.{DiskFault}
+use Rattle.cms_disk.specs.declared.fault.DiskFault.TheVariants as failed
+
+-- ---- what is done to the unit
+
+-- the piece of the journal that a change of a unit's minidisk made, with its stamp and its outcome: it has the events of its unit and the
+-- syncs that the outcome has, a crash within it leaves the minidisk before or after, and a crash behind it what the unit then is
+pub record Changes (old new : Told) (u : ℕ) (m : Minidisk) (change : Change) (stamp : Stamp) (o : Outcome) : Type 0 where
+  pub events : List Event
+  pub told : new ≡ plus old events
+  pub of_unit : OnlyOf u events
+  pub fits : FitsStep (steps.Put u m change stamp) o events
+  pub covers : Covers old events u (Volume m ∷ []) (set_of (slot_after (Settled (Volume m)) (steps.Put u m change stamp) o))
+
+-- the contents of a unit have this state
+abbrev pub HasState : Told → Disk → ℕ → State → Type 0
+HasState None disk u state = ⊥
+HasState (Some j) disk u state = state_of disk (now j u) ≡ state
+
+-- the minidisk is changed; the disk d is the new one
+pub record Altered (old new : Told) (d : Accessed) (m : Minidisk) (change : Change) (stamp : Stamp) : Type 0 where
+  pub after : Minidisk
+  pub answer : answer_of m change ≡ Changed after
+  pub later : Journal
+  pub told : new ≡ Some later
+  pub minidisk : IsMinidisk later d after
+  pub changes : Changes old new d.volume.unit m change stamp Good
+
+-- the device failed before the label was written, and the minidisk is as before
+pub record Kept (old new : Told) (d : Accessed) (m : Minidisk) (change : Change) (stamp : Stamp) : Type 0 where
+  pub after : Minidisk
+  pub answer : answer_of m change ≡ Changed after
+  pub later : Journal
+  pub told : new ≡ Some later
+  pub minidisk : IsMinidisk later d m
+  pub changes : Changes old new d.volume.unit m change stamp OldFault
+
+-- the device failed then, and the contents have the minidisk of this side
+pub record Doubted (old new : Told) (d : Accessed) (m : Minidisk) (change : Change) (stamp : Stamp) : Type 0 where
+  pub after : Minidisk
+  pub answer : answer_of m change ≡ Changed after
+  pub side : Side
+  pub left : HasState new d.volume.disk d.volume.unit (named (Volume m) (Volume after) side)
+  pub changes : Changes old new d.volume.unit m change stamp (EitherFault side)
+
+-- ---- what a change comes to
+
+-- the file that is changed isn't there
+abbrev pub IsMissing : Minidisk → Change → Type 0
+IsMissing m (Drop name) = file_named name m.files ≡ None
+IsMissing m (Rename from to number) = file_named from m.files ≡ None
+IsMissing m (Put new) = ⊥
+IsMissing m (Add name more stamp) = ⊥
+IsMissing m (Relabel volid) = ⊥
+
+-- the new name is another file's
+abbrev pub IsTaken : Minidisk → Change → Type 0
+IsTaken m (Rename from to number) = (from ≡ to → ⊥) × ((f : File) × (file_named to m.files ≡ Some f))
+IsTaken m (Put new) = ⊥
+IsTaken m (Add name more stamp) = ⊥
+IsTaken m (Drop name) = ⊥
+IsTaken m (Relabel volid) = ⊥
+
+-- what a change of the minidisk m, with this stamp, comes to, where d is the disk before it and e the disk then
+abbrev pub Alters : Told → Told → Accessed → Accessed → Minidisk → Change → Stamp → Result ⊤ DiskFault → Type 0
+Alters old new d e m change stamp (Ok x) = Altered old new e m change stamp
+Alters old new d e m change stamp (Err failed.NotFound) = (new ≡ old) × IsMissing m change
+Alters old new d e m change stamp (Err failed.Exists) = (new ≡ old) × IsTaken m change
+Alters old new d e m change stamp (Err failed.ReadOnly) = (new ≡ old) × (d.writable ≡ false)
+Alters old new d e m change stamp (Err failed.Device) = Kept old new e m change stamp
+Alters old new d e m change stamp (Err failed.InDoubt) = Doubted old new d m change stamp
+Alters old new d e m change stamp (Err failed.Altered) = ⊥
+Alters old new d e m change stamp (Err (failed.Limit k)) = (new ≡ old) × (answer_of m change ≡ Limited k)
+Alters old new d e m change stamp (Err (failed.Full need free)) = (new ≡ old) × (answer_of m change ≡ model.Full need free)
+Alters old new d e m change stamp (Err failed.Memory) = new ≡ old
+
+-- it is on the same unit, and may be written as before
+pub record IsOnSame (d e : Accessed) : Type 0 where
+  pub vdev : e.vdev ≡ d.vdev
+  pub writable : e.writable ≡ d.writable
+  pub unit : e.volume.unit ≡ d.volume.unit
+  pub disk : e.volume.disk ≡ d.volume.disk
+
+-- what is answered where the device failed while a change was carried out
+abbrev pub fault_of : Doubt → DiskFault
+fault_of Old = failed.Device
+fault_of Either = failed.InDoubt
+
+-- ---- why a change of a writable minidisk whose file is there is refused
+
+abbrev pub IsChangeFault : DiskFault → Type 0
+IsChangeFault failed.NotFound = ⊥
+IsChangeFault failed.Exists = ⊥
+IsChangeFault failed.ReadOnly = ⊥
+IsChangeFault failed.Device = ⊤
+IsChangeFault failed.InDoubt = ⊤
+IsChangeFault failed.Altered = ⊥
+IsChangeFault (failed.Limit k) = ⊥
+IsChangeFault (failed.Full need free) = ⊤
+IsChangeFault failed.Memory = ⊤

@@ -1,0 +1,168 @@
+// Changes of a minidisk.
+ghost use Rattle.std.specs.Prelude.{◌≡◌, ◌⊎◌, ◌≤◌, true, false, None, Some, Err, IfErr};
+ghost use Rattle.std.specs.Option.{ForSome};
+ghost use Rattle.cms_journal.specs.Causes.{Rose};
+ghost use Rattle.cms_journal.specs.Journal.{Journal, IsWritable};
+ghost use Rattle.cms_journal.specs.Told.{Grown};
+ghost use Rattle.cms_fields.specs.Stamps.{is_stamp};
+ghost use Rattle.cms_model.specs.Minidisks as minidisks;
+ghost use Rattle.cms_model.specs.Changes.{Drop, Rename, Relabel};
+ghost use Rattle.cms_edf.specs.Planning.{CanChange, change_of};
+ghost use Rattle.cms_disk.specs.Changing.{Alters, IsChangeFault, IsOnSame};
+ghost use Rattle.cms_disk.specs.Disks.{IsLookedAt, IsMinidisk, IsOthers, IsReadable, place_of};
+ghost use Rattle.cms_disk.specs.declared.fault.DiskFault.TheVariants.{Device, Exists, InDoubt, NotFound, ReadOnly};
+
+use crate::fault::DiskFault;
+use crate::minidisk::Minidisk;
+use cms_edf::{Change, Doubt, PlanFault, carry_out, plan};
+use cms_fields::Stamp;
+use cms_names::Name;
+use cms_world::World;
+use std::alloc::Global;
+
+impl Minidisk {
+    /// Erases the file of a name. The new directory has this stamp. `NotFound` exactly where no file has the name, `ReadOnly` exactly
+    /// where the minidisk may not be written; `Full` tells the blocks that the new directory and the new map need, and those that are
+    /// free. `Device` says that the device failed and the minidisk is as before, `InDoubt` that it failed and the unit holds the
+    /// minidisk of before or the new one.
+    pub fn erase<W: World>(
+        &mut self,
+        alloc: Global,
+        world: &mut W,
+        name: &Name,
+        stamp: &Stamp,
+    ) -> Result<(), DiskFault>
+        requires stamp { is_stamp stamp.now ≡ true }
+        requires blocks { ForSome (W.told world.old) (λ j. IsReadable j self.old) }
+        requires writable { self.old.writable ≡ true → ForSome (W.told world.old) (λ j. IsWritable j.units self.old.volume.unit) }
+        ensures alters { (j : Journal) (m : minidisks.Minidisk) → W.told world.old ≡ Some j
+            → IsMinidisk j self.old m → IsLookedAt j self.old
+            → Alters (W.told world.old) (W.told world.new) self.old self.new m (Drop name.now) stamp.now result }
+        ensures missing { IfErr result (λ e. e ≡ NotFound → place_of name.now self.old.volume ≡ None) }
+        ensures absent { place_of name.now self.old.volume ≡ None → result ≡ Err NotFound }
+        ensures read_only { IfErr result (λ e. e ≡ ReadOnly → self.old.writable ≡ false) }
+        ensures locked { self.old.writable ≡ false → (result ≡ Err NotFound) ⊎ (result ≡ Err ReadOnly) }
+        ensures same { IsOnSame self.old self.new }
+        ensures kept { IfErr result (λ e. (e ≡ InDoubt → ⊥) → self.new ≡ record self.old { spare = self.new.spare }) }
+        ensures grown { Grown (W.told world.old) (W.told world.new) }
+        ensures cause { IfErr result (λ e. (e ≡ Device) ⊎ (e ≡ InDoubt) → Rose (W.faults world.old) (W.faults world.new)) }
+        ensures faults { W.faults world.old ≤ W.faults world.new }
+        ensures edges { W.edges world.new ≡ W.edges world.old }
+    {
+        if !self.has(name) {
+            return Err(DiskFault::NotFound);
+        }
+        if !self.is_writable() {
+            return Err(DiskFault::ReadOnly);
+        }
+        self.change(alloc, world, &Change::Drop { name }, stamp)
+    }
+
+    /// Gives the file of a name another name, which no other file has, and the mode number 0 to 6; it keeps its place. The refusals are
+    /// those of `erase`; behind `NotFound` comes `Exists`, exactly where the new name is another file's.
+    pub fn rename<W: World>(
+        &mut self,
+        alloc: Global,
+        world: &mut W,
+        from: &Name,
+        to: &Name,
+        number: u8,
+        stamp: &Stamp,
+    ) -> Result<(), DiskFault>
+        requires stamp { is_stamp stamp.now ≡ true }
+        requires number { number ≤ 6 }
+        requires blocks { ForSome (W.told world.old) (λ j. IsReadable j self.old) }
+        requires writable { self.old.writable ≡ true → ForSome (W.told world.old) (λ j. IsWritable j.units self.old.volume.unit) }
+        ensures alters { (j : Journal) (m : minidisks.Minidisk) → W.told world.old ≡ Some j
+            → IsMinidisk j self.old m → IsLookedAt j self.old
+            → Alters (W.told world.old) (W.told world.new) self.old self.new m (Rename from.now to.now number) stamp.now result }
+        ensures missing { IfErr result (λ e. e ≡ NotFound → place_of from.now self.old.volume ≡ None) }
+        ensures absent { place_of from.now self.old.volume ≡ None → result ≡ Err NotFound }
+        ensures exists { IfErr result (λ e. e ≡ Exists → IsOthers from.now to.now self.old.volume) }
+        ensures taken { IsOthers from.now to.now self.old.volume → (result ≡ Err NotFound) ⊎ (result ≡ Err Exists) }
+        ensures read_only { IfErr result (λ e. e ≡ ReadOnly → self.old.writable ≡ false) }
+        ensures locked { self.old.writable ≡ false → (result ≡ Err NotFound) ⊎ (result ≡ Err Exists) ⊎ (result ≡ Err ReadOnly) }
+        ensures same { IsOnSame self.old self.new }
+        ensures kept { IfErr result (λ e. (e ≡ InDoubt → ⊥) → self.new ≡ record self.old { spare = self.new.spare }) }
+        ensures grown { Grown (W.told world.old) (W.told world.new) }
+        ensures cause { IfErr result (λ e. (e ≡ Device) ⊎ (e ≡ InDoubt) → Rose (W.faults world.old) (W.faults world.new)) }
+        ensures faults { W.faults world.old ≤ W.faults world.new }
+        ensures edges { W.edges world.new ≡ W.edges world.old }
+    {
+        if !self.has(from) {
+            return Err(DiskFault::NotFound);
+        }
+        if from != to && self.has(to) {
+            return Err(DiskFault::Exists);
+        }
+        if !self.is_writable() {
+            return Err(DiskFault::ReadOnly);
+        }
+        self.change(alloc, world, &Change::Rename { from, to, number }, stamp)
+    }
+
+    /// Gives the minidisk another volume id, in EBCDIC. The refusals are those of `erase` but `NotFound` and `Full`.
+    pub fn relabel<W: World>(
+        &mut self,
+        alloc: Global,
+        world: &mut W,
+        volid: [u8; 6],
+        stamp: &Stamp,
+    ) -> Result<(), DiskFault>
+        requires stamp { is_stamp stamp.now ≡ true }
+        requires blocks { ForSome (W.told world.old) (λ j. IsReadable j self.old) }
+        requires writable { self.old.writable ≡ true → ForSome (W.told world.old) (λ j. IsWritable j.units self.old.volume.unit) }
+        ensures alters { (j : Journal) (m : minidisks.Minidisk) → W.told world.old ≡ Some j
+            → IsMinidisk j self.old m → IsLookedAt j self.old
+            → Alters (W.told world.old) (W.told world.new) self.old self.new m (Relabel volid) stamp.now result }
+        ensures read_only { IfErr result (λ e. e ≡ ReadOnly → self.old.writable ≡ false) }
+        ensures locked { self.old.writable ≡ false → result ≡ Err ReadOnly }
+        ensures same { IsOnSame self.old self.new }
+        ensures kept { IfErr result (λ e. (e ≡ InDoubt → ⊥) → self.new ≡ record self.old { spare = self.new.spare }) }
+        ensures grown { Grown (W.told world.old) (W.told world.new) }
+        ensures cause { IfErr result (λ e. (e ≡ Device) ⊎ (e ≡ InDoubt) → Rose (W.faults world.old) (W.faults world.new)) }
+        ensures faults { W.faults world.old ≤ W.faults world.new }
+        ensures edges { W.edges world.new ≡ W.edges world.old }
+    {
+        if !self.is_writable() {
+            return Err(DiskFault::ReadOnly);
+        }
+        self.change(alloc, world, &Change::Relabel { volid }, stamp)
+    }
+
+    // Makes a change.
+    fn change<W: World>(
+        &mut self,
+        alloc: Global,
+        world: &mut W,
+        change: &Change,
+        stamp: &Stamp,
+    ) -> Result<(), DiskFault>
+        requires stamp { is_stamp stamp.now ≡ true }
+        requires change { CanChange self.old.volume.files change.now }
+        requires blocks { ForSome (W.told world.old) (λ j. IsReadable j self.old) }
+        requires writable { ForSome (W.told world.old) (λ j. IsWritable j.units self.old.volume.unit) }
+        ensures alters { (j : Journal) (m : minidisks.Minidisk) → W.told world.old ≡ Some j
+            → IsMinidisk j self.old m → IsLookedAt j self.old
+            → Alters (W.told world.old) (W.told world.new) self.old self.new m (change_of change.now) stamp.now result }
+        ensures fault { IfErr result IsChangeFault }
+        ensures same { IsOnSame self.old self.new }
+        ensures kept { IfErr result (λ e. (e ≡ InDoubt → ⊥) → self.new ≡ record self.old { spare = self.new.spare }) }
+        ensures grown { Grown (W.told world.old) (W.told world.new) }
+        ensures cause { IfErr result (λ e. (e ≡ Device) ⊎ (e ≡ InDoubt) → Rose (W.faults world.old) (W.faults world.new)) }
+        ensures faults { W.faults world.old ≤ W.faults world.new }
+        ensures edges { W.edges world.new ≡ W.edges world.old }
+    {
+        let plan = match plan(alloc, &mut self.held, change, stamp) {
+            Ok(plan) => plan,
+            Err(PlanFault::Limit(which)) => return Err(DiskFault::Limit(which)),
+            Err(PlanFault::Full { need, free }) => return Err(DiskFault::Full { need, free }),
+            Err(PlanFault::Memory) => return Err(DiskFault::Memory),
+        };
+        match carry_out(world, &mut self.held, plan) {
+            Ok(()) => Ok(()),
+            Err(Doubt::Old) => Err(DiskFault::Device),
+            Err(Doubt::Either) => Err(DiskFault::InDoubt),
+        }
+    }
+}

@@ -1,0 +1,244 @@
+-- A change that was planned and is carried out.
+use Rattle.std.proofs.Common.{◌≡◌, inl, inr, ⊎_elim, ℕ, ◌+◌, ◌≤◌, List, [], ◌∷◌, ◌++◌, All, length, slice_get, Option, None, Some, Ok, Err, Result, OnOk, OnErr, Vec, Global, refl, sym, ◌∙◌, ap, subst, append_assoc, arith}
+use Rattle.std.specs.Prelude.{IfErr, IsSomeAnd, ⊤}
+use Rattle.std.specs.Option.{ForSome}
+use Rattle.cms_journal.specs.declared.event.Event.{Event}
+use Rattle.cms_journal.specs.declared.event.Event.TheVariants.{Wrote, Synced}
+use Rattle.cms_journal.specs.declared.event.Attached.{Attached}
+use Rattle.cms_journal.specs.Journal.{HasBlocks, Journal, MayAdd}
+use Rattle.cms_journal.specs.Told.{Told, plus}
+use Rattle.cms_fields.specs.declared.label.Label.{Label}
+use Rattle.cms_fields.specs.declared.time.Stamp.{Stamp}
+use Rattle.cms_model.specs.Changes.{Change, Changed, Relabel, answer_of, changed, need}
+use Rattle.cms_model.specs.Minidisks.{Minidisk, Volume}
+use Rattle.cms_model.specs.Volumes.{open_of}
+use Rattle.cms_model.specs.Trees.{image_of}
+use Rattle.cms_model.specs.Settled.{Write, update, writes}
+use Rattle.cms_model.specs.Stands.{Layout, minidisk_in, opened}
+use Rattle.cms_model.specs.LawsUpdates.{HasEither, IsFront, after, relabel, to_label, with_label}
+use Rattle.cms_model.proofs.Fronts.{after_is_told}
+use Rattle.cms_model.proofs.Opening.{state_opens}
+use Rattle.cms_model.proofs.Renewing.{minidisk_is}
+use Rattle.cms_held.specs.Opening.{HeldFile, HeldVolume}
+use Rattle.cms_held.specs.Kept.{IsKeptFile, Keeps}
+use Rattle.cms_held.specs.Carrying.{Carries, IsHeldMinidisk, written_count}
+use Rattle.cms_held.specs.LawsEdits.{relabelled, with_volid}
+use Rattle.cms_held.specs.LawsRenewing.{writes_of}
+use Rattle.cms_edf.specs.Planning.{IsEditFor, IsPlanFor, IsReadyLabel, edit_of, place_of}
+use Rattle.cms_edf.specs.Finishing.{CarriesOut, IsStopped, LeadsTo, Moves, step_events, with_label_bytes}
+use Rattle.cms_held.specs.Renewing.{renewed}
+use Rattle.cms_held.specs.Systems.{Systems, system_writes}
+use Rattle.cms_edf.specs.Doubts.{IsCutOff}
+use Rattle.cms_edf.proofs.Planned.{renewed_keeps}
+use Rattle.cms_edf.specs.declared.change.FileEdit.{FileEdit}
+use Rattle.cms_edf.specs.declared.doubt.Doubt.{Doubt}
+use Rattle.cms_edf.specs.declared.doubt.Doubt.TheVariants.{Old, Either}
+use Rattle.cms_edf.specs.declared.step.Step.{Step}
+use Rattle.cms_edf.specs.declared.step.Step.TheVariants as step
+use Rattle.cms_held.proofs.Carried.{planned_is_carried, update_is_small}
+use Rattle.cms_held.proofs.Relabelling.{changed_is, relabel_is_held}
+
+-- what holds of a told journal
+told_so : (j : Journal) (new : Told) (p : List Event) (P : Journal → Type 0) → new ≡ plus (Some j) p → P (after j p) → ForSome new P
+told_so j new p P is has = λ k told. subst P (same (after j p) k (sym (is ∙ after_is_told j p) ∙ told)) has
+  where
+    same : (a b : Journal) → Some a ≡ Some b → a ≡ b
+    same a b e = cc e
+
+-- ---- fronts
+
+pub writes_to : (u : ℕ) (ws : List Write) (p : List Event) → IsFront p (writes u ws) → IsFront p (to_label u ws)
+writes_to u ws p f = record { rest = f.rest ++ Synced u ∷ []; is = sym (append_assoc p f.rest (Synced u ∷ [])) ∙ ap (λ (l : List Event). l ++ Synced u ∷ []) f.is }
+
+pub to_front : (u : ℕ) (ws : List Write) (label : List ℕ) → IsFront (to_label u ws) (update u ws label)
+unfolding update
+to_front u ws label = record { rest = Wrote u 3 label ∷ Synced u ∷ []; is = append_assoc (writes u ws) (Synced u ∷ []) (Wrote u 3 label ∷ Synced u ∷ []) }
+
+pub with_front : (u : ℕ) (ws : List Write) (label : List ℕ) → IsFront (with_label u ws label) (update u ws label)
+unfolding update
+with_front u ws label = record { rest = Synced u ∷ []; is = append_assoc (writes u ws) (Synced u ∷ Wrote u 3 label ∷ []) (Synced u ∷ []) }
+
+-- ---- an edit
+
+carries : (j : Journal) (v : HeldVolume) (m : Minidisk) (change : Change) (stamp : Stamp) (e : FileEdit) (s : Systems) → IsHeldMinidisk j v m → (p : IsEditFor v change stamp e s)
+    → Carries j v (edit_of v.files e p.file) s m change
+carries j v m change stamp e s held p = planned_is_carried j v (edit_of v.files e p.file) stamp s m change held p.is p.ready
+
+-- ---- a relabelling
+
+record Relabelled (j : Journal) (v : HeldVolume) (m : Minidisk) (volid : List ℕ) : Type 0 where
+  answer : answer_of m (Relabel volid) ≡ Changed (changed m (Relabel volid))
+  either : (p : List Event) → IsFront p (relabel v.unit (relabelled v volid).label_bytes) → HasEither v.disk (after j p) v.unit (Volume m) (Volume (changed m (Relabel volid)))
+  done : IsHeldMinidisk (after j (relabel v.unit (relabelled v volid).label_bytes)) (relabelled v volid) (changed m (Relabel volid))
+
+relabels : (j : Journal) (v : HeldVolume) (m : Minidisk) (volid : List ℕ) (label : Label) (bytes : List ℕ) → Keeps v → IsHeldMinidisk j v m → IsReadyLabel v volid label bytes → Relabelled j v m volid
+relabels j v m volid label bytes kept held r =
+    let old = held.layout in
+    let h = relabel_is_held j v old volid held.at kept r.long r.small in
+    let new : Layout = record old { label = with_volid v.label volid } in
+    let before : minidisk_in v.disk (record old { label = v.label }) ≡ m = ap (λ (l : Label). minidisk_in v.disk (record old { label = l })) held.at.held.label_is ∙ sym held.minidisk_is in
+    let after_it : minidisk_in v.disk new ≡ changed m (Relabel volid) = changed_is v.disk old volid v.label ∙ ap (λ (k : Minidisk). changed k (Relabel volid)) before in
+    record {
+      answer = ap (λ (k : Minidisk). answer_of k (Relabel volid)) held.minidisk_is ∙ (h.answered ∙ ap Changed after_it);
+      either = λ p front image may. ⊎_elim
+          (λ (was : open_of v.disk (image_of image) ≡ Ok (opened old)). inl (state_opens v.disk (image_of image) (opened old) was ∙ ap Volume (minidisk_is v.disk old ∙ sym held.minidisk_is)))
+          (λ (is : open_of v.disk (image_of image) ≡ Ok (opened new)). inr (state_opens v.disk (image_of image) (opened new) is ∙ ap Volume (minidisk_is v.disk new ∙ after_it)))
+          (h.updates.either p front image may);
+      done = record { layout = new; at = h.at; minidisk_is = sym after_it };
+    }
+
+one_block : (u : ℕ) (label : List ℕ) (n : ℕ) → written_count (relabel u label) ≤ n + 2
+unfolding written_count
+one_block u label n = omega arith
+
+-- ---- both
+
+pub moves : (j : Journal) (v : HeldVolume) (m : Minidisk) (change : Change) (stamp : Stamp) (s : Step) → Keeps v → IsHeldMinidisk j v m → IsPlanFor v change stamp s → Moves j v s m change
+moves j v m change stamp (step.Edit e s) kept held p =
+    let c = carries j v m change stamp e s held p in
+    record { answer = c.answer; before = c.before; either = c.either; small = update_is_small j v (edit_of v.files e p.file) stamp s m change held p.is p.ready }
+moves j v m change stamp (step.Relabel label bytes) kept held (volid, is, r) =
+    let c = relabels j v m volid label bytes.items kept held r in
+    let same : bytes.items ≡ (relabelled v volid).label_bytes = r.bytes_are in
+    subst (λ (k : Change). Moves j v (step.Relabel label bytes) m k) (sym is)
+    (record { answer = c.answer; before = λ p front. unmoved p front.rest front.is; either = λ p front. c.either p (subst (λ (l : List ℕ). IsFront p (relabel v.unit l)) same front); small = one_block v.unit bytes.items (need m (Relabel volid)) })
+  where
+    unmoved : (p rest : List Event) → p ++ rest ≡ [] → IsHeldMinidisk (after j p) v m
+    unmoved [] rest none = held
+    unmoved (e ∷ p) rest none = absurd (cc none)
+
+-- all was done
+pub carried : (j : Journal) (new : Told) (v w : HeldVolume) (m : Minidisk) (change : Change) (stamp : Stamp) (s : Step) → Keeps v → IsHeldMinidisk j v m → IsPlanFor v change stamp s
+    → new ≡ plus (Some j) (step_events v s) → LeadsTo v s w → ForSome new (λ k. IsHeldMinidisk k w (changed m change))
+carried j new v w m change stamp (step.Edit e s) kept held p told leads =
+    let c = carries j v m change stamp e s held p in
+    told_so j new (step_events v (step.Edit e s)) (λ k. IsHeldMinidisk k w (changed m change)) told
+    (subst (λ (x : HeldVolume). IsHeldMinidisk (after j (step_events v (step.Edit e s))) x (changed m change)) (sym (leads p.file p.there)) c.done)
+carried j new v w m change stamp (step.Relabel label bytes) kept held (volid, is, r) told leads =
+    let c = relabels j v m volid label bytes.items kept held r in
+    let same : bytes.items ≡ (relabelled v volid).label_bytes = r.bytes_are in
+    let whole : w ≡ relabelled v volid = leads ∙ (ap (λ (l : Label). with_label_bytes v l bytes.items) r.label_is ∙ ap (λ (b : List ℕ). with_label_bytes v (relabelled v volid).label b) same) in
+    told_so j new (relabel v.unit bytes.items) (λ k. IsHeldMinidisk k w (changed m change)) told
+    (subst (λ (k : Change). IsHeldMinidisk (after j (relabel v.unit bytes.items)) w (changed m k)) (sym is)
+    (subst (λ (x : HeldVolume). IsHeldMinidisk (after j (relabel v.unit bytes.items)) x (changed m (Relabel volid))) (sym whole)
+    (subst (λ (b : List ℕ). IsHeldMinidisk (after j (relabel v.unit b)) (relabelled v volid) (changed m (Relabel volid))) (sym same) c.done)))
+
+-- it was cut off
+pub stopped : (j : Journal) (new : Told) (v w : HeldVolume) (m : Minidisk) (change : Change) (stamp : Stamp) (s : Step) (why : Doubt) → Keeps v → IsHeldMinidisk j v m → IsPlanFor v change stamp s
+    → IsStopped (Some j) new v s why → CarriesOut j new v w m change s (Err why)
+stopped j new v w m change stamp (step.Edit e s) Old kept held p f =
+    let c = carries j v m change stamp e s held p in (
+      moves j v m change stamp (step.Edit e s) kept held p,
+      told_so j new f.front (λ k. IsHeldMinidisk k v m) f.told (c.before f.front (writes_to v.unit (writes_of v s) f.front f.is)),
+    )
+stopped j new v w m change stamp (step.Edit e s) Either kept held p (inl told) =
+    let c = carries j v m change stamp e s held p in (
+      moves j v m change stamp (step.Edit e s) kept held p,
+      told_so j new (to_label v.unit (writes_of v s)) (λ k. HasEither v.disk k v.unit (Volume m) (Volume (changed m change))) told
+          (c.either (to_label v.unit (writes_of v s)) (to_front v.unit (writes_of v s) s.label_bytes)),
+    )
+stopped j new v w m change stamp (step.Edit e s) Either kept held p (inr told) =
+    let c = carries j v m change stamp e s held p in (
+      moves j v m change stamp (step.Edit e s) kept held p,
+      told_so j new (with_label v.unit (writes_of v s) s.label_bytes) (λ k. HasEither v.disk k v.unit (Volume m) (Volume (changed m change))) told
+          (c.either (with_label v.unit (writes_of v s) s.label_bytes) (with_front v.unit (writes_of v s) s.label_bytes)),
+    )
+stopped j new v w m change stamp (step.Relabel label bytes) Old kept held p (is, may) = absurd (cc is)
+stopped j new v w m change stamp (step.Relabel label bytes) Either kept held p (is, may) =
+    let c = moves j v m change stamp (step.Relabel label bytes) kept held p in
+    let P = λ (k : Journal). HasEither v.disk k v.unit (Volume m) (Volume (changed m change)) in (
+      c,
+      ⊎_elim
+          (λ same. told_so j new [] P same (c.either [] (record { rest = relabel v.unit bytes.items; is = refl })))
+          (λ more. told_so j new (Wrote v.unit 3 bytes.items ∷ []) P more (c.either (Wrote v.unit 3 bytes.items ∷ []) (record { rest = Synced v.unit ∷ []; is = refl })))
+          may,
+    )
+
+-- ---- what is known of a plan as it is carried out
+
+-- a volume that an edit or a label leaves is kept
+pub edit_keeps : (v : HeldVolume) (change : Change) (stamp : Stamp) (e e' : FileEdit) (s s' : Systems) → e' ≡ e → s' ≡ s → IsEditFor v change stamp e s → (f : HeldFile)
+    → slice_get v.files (place_of e') ≡ Some f → Keeps (renewed v (edit_of v.files e' f) s')
+edit_keeps v change stamp e e' s s' same_e same_s p f there =
+    let there' : slice_get v.files (place_of e) ≡ Some f = sym (ap (λ (x : FileEdit). slice_get v.files (place_of x)) same_e) ∙ there in
+    let has = renewed_keeps v e p.file stamp s p.may p.there p.ready p.label_long in
+    subst (λ (x : FileEdit). Keeps (renewed v (edit_of v.files x f) s')) (sym same_e)
+    (subst (λ (x : Systems). Keeps (renewed v (edit_of v.files e f) x)) (sym same_s) (subst (λ (g : HeldFile). Keeps (renewed v (edit_of v.files e g) s)) (one p.file f (sym p.there ∙ there')) has))
+  where
+    one : (a b : HeldFile) → Some a ≡ Some b → a ≡ b
+    one a b e = cc e
+
+pub label_keeps : (v : HeldVolume) (volid : List ℕ) (label : Label) (bytes bytes' : List ℕ) → bytes' ≡ bytes → IsReadyLabel v volid label bytes → Keeps (with_label_bytes v label bytes')
+label_keeps v volid label bytes bytes' same r =
+    let k = r.kept in
+    let at = k.within in let size = k.size in let low = k.origin_low in let high = k.origin_high in
+    let blocks = ap (λ (l : Label). l.blocks) r.label_is in
+    let origin = ap (λ (l : Label). l.origin) r.label_is in
+    record {
+      within = omega arith;
+      size = omega arith;
+      origin_low = omega arith;
+      origin_high = omega arith;
+      label_long = ap (λ (l : List ℕ). length l) same ∙ r.bytes_long;
+      bits_are = k.bits_are ∙ sym blocks;
+      few = k.few;
+      each = subst (λ (n : ℕ). All (IsKeptFile v.disk.bsize n) v.files) (sym blocks) k.each;
+    }
+
+-- and its block is one of the unit's
+pub label_blocks : (units : List Attached) (v : HeldVolume) (volid : List ℕ) (label : Label) (bytes bytes' : List ℕ) → bytes' ≡ bytes → IsReadyLabel v volid label bytes
+    → HasBlocks units v.unit v.disk.count v.disk.bsize → HasBlocks units v.unit 3 (length bytes')
+label_blocks units v volid label bytes bytes' same r has =
+    let k = r.kept in
+    let at = k.within in let size = k.size in
+    let long : length bytes' ≡ v.disk.bsize = ap (λ (l : List ℕ). length l) same ∙ r.bytes_long in
+    subst (λ (n : ℕ). HasBlocks units v.unit 3 n) (sym long) (fewer (slice_get units v.unit) 3 v.disk.count v.disk.bsize (omega arith) has)
+  where
+    fewer : (o : Option Attached) (few many size : ℕ) → few ≤ many → IsSomeAnd o (λ unit. (unit.bsize ≡ size) × (many ≤ length unit.start)) → IsSomeAnd o (λ unit. (unit.bsize ≡ size) × (few ≤ length unit.start))
+    fewer None few many size less has = has
+    fewer (Some unit) few many size less has = (has.0, omega (arith, has.1))
+
+-- the volume of a plan is kept
+pub plan_keeps : (v : HeldVolume) (change : Change) (stamp : Stamp) (s : Step) → IsPlanFor v change stamp s → Keeps v
+plan_keeps v change stamp (step.Edit e s) p = p.ready.kept
+plan_keeps v change stamp (step.Relabel label bytes) (volid, is, r) = r.kept
+
+-- what a plan that was carried out, or cut off, comes to
+pub carries_out : (j : Journal) (old new : Told) (v w : HeldVolume) (m : Minidisk) (change : Change) (stamp : Stamp) (s : Step) (r : Result ⊤ Doubt) → old ≡ Some j → IsHeldMinidisk j v m
+    → IsPlanFor v change stamp s → OnOk r (new ≡ plus old (step_events v s)) → OnOk r (LeadsTo v s w) → IfErr r (IsStopped old new v s) → CarriesOut j new v w m change s r
+carries_out j old new v w m change stamp s (Ok x) is held p done leads stop =
+    let kept = plan_keeps v change stamp s p in
+    (moves j v m change stamp s kept held p, carried j new v w m change stamp s kept held p (done ∙ ap (λ (t : Told). plus t (step_events v s)) is) leads)
+carries_out j old new v w m change stamp s (Err why) is held p done leads stop =
+    stopped j new v w m change stamp s why (plan_keeps v change stamp s p) held p (subst (λ (t : Told). IsStopped t new v s why) is stop)
+
+-- the same of an edit, and of a label, that were taken out of their plan
+pub edit_out : (j : Journal) (old new : Told) (v w : HeldVolume) (m : Minidisk) (change : Change) (stamp : Stamp) (plan : Step) (e e' : FileEdit) (s s' : Systems) (r : Result ⊤ Doubt) → old ≡ Some j
+    → IsHeldMinidisk j v m → IsPlanFor v change stamp plan → plan ≡ step.Edit e s → e' ≡ e → s' ≡ s
+    → OnOk r (new ≡ plus old (update v.unit (system_writes (length s'.label_bytes) s') s'.label_bytes)) → OnOk r ((f : HeldFile) → slice_get v.files (place_of e') ≡ Some f
+    → w ≡ renewed v (edit_of v.files e' f) s') → IfErr r (IsCutOff old new v.unit (system_writes (length s'.label_bytes) s') s'.label_bytes)
+    → CarriesOut j new v w m change plan r
+edit_out j old new v w m change stamp plan e e' s s' r is held p there same_e same_s done leads stop =
+    let q : IsEditFor v change stamp e s = subst (IsPlanFor v change stamp) there p in
+    let writes : List Write → Type 0 = λ ws. OnOk r (new ≡ plus old (update v.unit ws s.label_bytes)) in
+    let stops : List Write → Type 0 = λ ws. IfErr r (IsCutOff old new v.unit ws s.label_bytes) in
+    let size : system_writes (length s.label_bytes) s ≡ writes_of v s = ap (λ (n : ℕ). system_writes n s) q.label_long in
+    let done' = subst writes size (subst (λ (x : Systems). OnOk r (new ≡ plus old (update v.unit (system_writes (length x.label_bytes) x) x.label_bytes))) same_s done) in
+    let stop' = subst stops size (subst (λ (x : Systems). IfErr r (IsCutOff old new v.unit (system_writes (length x.label_bytes) x) x.label_bytes)) same_s stop) in
+    let leads' = subst (λ (x : FileEdit). OnOk r ((f : HeldFile) → slice_get v.files (place_of x) ≡ Some f → w ≡ renewed v (edit_of v.files x f) s)) same_e
+    (subst (λ (x : Systems). OnOk r ((f : HeldFile) → slice_get v.files (place_of e') ≡ Some f → w ≡ renewed v (edit_of v.files e' f) x)) same_s leads) in
+    subst (λ (x : Step). CarriesOut j new v w m change x r) (sym there) (carries_out j old new v w m change stamp (step.Edit e s) r is held q done' leads' stop')
+
+pub label_out : (j : Journal) (old new : Told) (v w : HeldVolume) (m : Minidisk) (change : Change) (stamp : Stamp) (plan : Step) (label : Label) (bytes : Vec ℕ Global) (bytes' : List ℕ) (r : Result ⊤ Doubt)
+    → old ≡ Some j → IsHeldMinidisk j v m → IsPlanFor v change stamp plan → plan ≡ step.Relabel label bytes → OnOk r (new ≡ plus old (relabel v.unit bytes'))
+    → OnOk r (w ≡ with_label_bytes v label bytes') → IfErr r (λ why. why ≡ Either) → OnErr r (MayAdd (Wrote v.unit 3 bytes') old new) → bytes' ≡ bytes.items → CarriesOut j new v w m change plan r
+label_out j old new v w m change stamp plan label bytes bytes' r is held p there done leads either may same =
+    let q = subst (IsPlanFor v change stamp) there p in
+    let done' = subst (λ (l : List ℕ). OnOk r (new ≡ plus old (relabel v.unit l))) same done in
+    let leads' = subst (λ (l : List ℕ). OnOk r (w ≡ with_label_bytes v label l)) same leads in
+    let may' = subst (λ (l : List ℕ). OnErr r (MayAdd (Wrote v.unit 3 l) old new)) same may in
+    subst (λ (x : Step). CarriesOut j new v w m change x r) (sym there) (carries_out j old new v w m change stamp (step.Relabel label bytes) r is held q done' leads' (both r either may'))
+  where
+    both : (r : Result ⊤ Doubt) → IfErr r (λ why. why ≡ Either) → OnErr r (MayAdd (Wrote v.unit 3 bytes.items) old new) → IfErr r (λ why. (why ≡ Either) × MayAdd (Wrote v.unit 3 bytes.items) old new)
+    both (Ok x) a b = tt
+    both (Err why) a b = (a, b)

@@ -1,0 +1,40 @@
+use Rattle.std.proofs.Common.{refl, sym, ◌∙◌, subst}
+use Rattle.cms_edf.specs.Planning.{IsPlanFor}
+use Rattle.cms_edf.proofs.Finished.{edit_keeps, edit_out, label_blocks, label_keeps, label_out}
+use Rattle.cms_edf.proofs.carrying.carry_out.Goals as goal
+
+pub carry_edit-requires-clause-kept : goal.carry_edit-requires-clause-kept
+carry_edit-requires-clause-kept g c =
+    let p = c.requires.plan in
+    let same = sym c.plan.view_is ∙ c.in-Edit.is in
+    edit_keeps c.args.held.now.volume p.change p.stamp c.in-Edit.edit _ c.in-Edit.systems _ c.in-Edit.edit-is c.in-Edit.systems-is (subst (IsPlanFor c.args.held.now.volume p.change p.stamp) same p.is)
+
+pub carry_label-requires-clause-kept : goal.carry_label-requires-clause-kept
+carry_label-requires-clause-kept g c =
+    let v = c.args.held.now.volume in
+    let p = c.requires.plan in
+    let same = sym c.plan.view_is ∙ c.in-Relabel.is in
+    let q = subst (IsPlanFor v p.change p.stamp) same p.is in
+    rw c.in-Relabel.is (label_keeps v q.0 c.in-Relabel.label c.in-Relabel.label_bytes.items c.in-Relabel.label_bytes.items refl q.2)
+
+pub carry_label-requires-clause-blocks : goal.carry_label-requires-clause-blocks
+carry_label-requires-clause-blocks g c = λ j told.
+    let v = c.args.held.now.volume in
+    let p = c.requires.plan in
+    let same = sym c.plan.view_is ∙ c.in-Relabel.is in
+    let q = subst (IsPlanFor v p.change p.stamp) same p.is in
+    rw c.in-Relabel.is (label_blocks j.units v q.0 c.in-Relabel.label c.in-Relabel.label_bytes.items c.in-Relabel.label_bytes.items refl q.2 (c.requires.blocks j told))
+
+pub returns-in-Edit-clause-carries : goal.returns-in-Edit-clause-carries
+returns-in-Edit-clause-carries g c = λ j m change stamp told held is.
+    let v = c.args.held.now.volume in
+    let same = sym c.plan.view_is ∙ c.in-Edit.is in
+    edit_out j (g.W.World.told c.args.world.now) (g.W.World.told c.carry_edit.new.world) v c.carry_edit.new.self.volume m change stamp c.args.plan c.in-Edit.edit _ c.in-Edit.systems _ c.carry_edit.result told held is
+    same c.in-Edit.edit-is c.in-Edit.systems-is c.carry_edit.ensures.done c.carry_edit.ensures.volume c.carry_edit.ensures.cut_off
+
+pub returns-in-Relabel-clause-carries : goal.returns-in-Relabel-clause-carries
+returns-in-Relabel-clause-carries g c = λ j m change stamp told held is.
+    let v = c.args.held.now.volume in
+    let same = sym c.plan.view_is ∙ c.in-Relabel.is in
+    label_out j (g.W.World.told c.args.world.now) (g.W.World.told c.carry_label.new.world) v c.carry_label.new.self.volume m change stamp c.args.plan c.in-Relabel.label c.in-Relabel.label_bytes _ c.carry_label.result told held is
+    same c.carry_label.ensures.done c.carry_label.ensures.volume c.carry_label.ensures.either c.carry_label.ensures.cut_off (rw c.in-Relabel.is refl)

@@ -1,0 +1,32 @@
+-- What is put together is an empty volume.
+use Rattle.std.proofs.Common.{[], refl, rules}
+use Rattle.cms_held.specs.Making.{Making, IsEmptyVolume}
+use Rattle.cms_held.proofs.Made.{made_kept}
+use Rattle.cms_edf.proofs.NewSystems.{made_ready}
+use Rattle.cms_edf.proofs.making.plan_make.Goals as goal
+
+made : goal.After-new → Making
+made c = record {
+  unit = c.args.unit.now.number;
+  disk = record { bsize = c.args.bsize; count = c.args.unit.now.blocks };
+  systems = record {
+    label = record { volid = c.args.volid; bsize = c.bytes.result; origin = 4; blocks = c.args.unit.now.blocks; in_use = c.in_ok-tree.field-0.used };
+    label_bytes = c.in_ok-label_bytes.label_bytes.items;
+    directory = c.in_ok-directory.directory;
+    directory_bytes = c.in_ok-directory_bytes.directory_bytes.items;
+    map = c.in_ok-tree.field-0.tree;
+    bits = c.in_ok-tree.field-0.map;
+  };
+}
+
+empty : (c : goal.After-new) → IsEmptyVolume (made c) c.args.volid c.args.stamp.now
+unfolding made
+empty c = search rules
+
+pub invariant_of-result : goal.invariant_of-result
+unfolding made
+invariant_of-result c = made_ready (made c) c.args.volid c.args.stamp.now (empty c)
+
+pub invariant_of-result-2 : goal.invariant_of-result-2
+unfolding made
+invariant_of-result-2 c = (made_kept (made c) [] (empty c) refl, search rules)

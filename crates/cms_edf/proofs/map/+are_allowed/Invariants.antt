@@ -1,5 +1,0 @@
-use Rattle.std.proofs.Common.{length}
-use Rattle.cms_edf.proofs.map.+are_allowed.Given as goal
-
-abbrev pub decreases-are_allowed : goal.decreases-are_allowed
-decreases-are_allowed l = length l.files.now

@@ -1,5 +1,0 @@
-use Rattle.std.proofs.Common.{length}
-use Rattle.cms_edf.proofs.map.+are_marked.Given as goal
-
-abbrev pub decreases-are_marked : goal.decreases-are_marked
-decreases-are_marked l = length l.files.now

@@ -1,0 +1,130 @@
+-- A change of a volume as it is held: what is asked for, and its plan.
+use Rattle.std.specs.Prelude.{◌≡◌, ◌⊎◌, ℕ, ◌-◌, ◌*◌, ◌^◌, ◌<◌, ◌≤◌, List, [], length, position, slice_get, slice_set, swap_remove, All, Option, None, Some, IsSome, ⊤}
+use Rattle.cms_names.specs.declared.name.Name.{Name}
+use Rattle.cms_fields.specs.declared.entry.Entry.{Entry}
+use Rattle.cms_fields.specs.declared.time.Stamp.{Stamp}
+use Rattle.cms_fields.specs.Labels.{with_label}
+use Rattle.cms_fields.specs.declared.label.Label.{Label}
+use Rattle.cms_model.specs.Minidisks.{same_name}
+use Rattle.cms_model.specs.Changes.{Change}
+use Rattle.cms_model.specs.Changes as model
+use Rattle.cms_held.specs.Kept.{Keeps}
+use Rattle.cms_held.specs.Opening.{HeldFile, HeldVolume, names_in}
+use Rattle.cms_held.specs.Renewing.{Edit, IsAllotted, dropping, label_for, needed, renaming}
+use Rattle.cms_edf.specs.Lacking.{LacksRoom}
+use Rattle.cms_held.specs.Systems.{Systems, directory_bytes_of}
+use Rattle.cms_held.specs.Written.{ReadsBack}
+use Rattle.cms_held.specs.Carrying.{IsEditOf, IsReadyFor}
+use Rattle.cms_held.specs.LawsEdits.{relabelled}
+use Rattle.cms_edf.specs.declared.allotment.PlanFault.{PlanFault}
+use Rattle.cms_edf.specs.declared.allotment.PlanFault.TheVariants as failed
+use Rattle.cms_edf.specs.declared.step.Step.{Step}
+use Rattle.cms_edf.specs.declared.step.Step.TheVariants as step
+use Rattle.cms_edf.specs.declared.change.Change as asked
+use Rattle.cms_edf.specs.declared.change.Change.TheVariants as ask
+use Rattle.cms_edf.specs.declared.change.FileEdit.{FileEdit}
+use Rattle.cms_edf.specs.declared.change.FileEdit.TheVariants as does
+
+-- ---- what is asked for
+
+abbrev pub change_of : asked.Change → Change
+change_of (ask.Drop name) = model.Drop name.now
+change_of (ask.Rename from to number) = model.Rename from.now to.now number
+change_of (ask.Relabel volid) = model.Relabel volid
+
+-- the place of the file of a name
+abbrev pub place_in : Name → List HeldFile → Option ℕ
+place_in name files = position (same_name name) (names_in files)
+
+-- the file that is to be changed is there, and its new name is no other file's
+abbrev pub CanChange : List HeldFile → asked.Change → Type 0
+CanChange files (ask.Drop name) = IsSome (place_in name.now files)
+CanChange files (ask.Rename from to number) = IsSome (place_in from.now files) × (number ≤ 6)
+    × ((place_in to.now files ≡ None) ⊎ (to.now ≡ from.now))
+CanChange files (ask.Relabel volid) = ⊤
+
+-- ---- the edit of files, by their places
+
+abbrev pub place_of : FileEdit → ℕ
+place_of (does.Drop place) = place
+place_of (does.Rename place to number) = place
+
+-- what it does, where f is the file at its place
+abbrev pub edit_of : List HeldFile → FileEdit → HeldFile → Edit
+edit_of files (does.Drop place) f = dropping files place f
+edit_of files (does.Rename place to number) f = renaming files place f to number
+
+-- and to the entries of the files, where e is that at its place
+abbrev pub edited : List Entry → FileEdit → Entry → List Entry
+edited entries (does.Drop place) e = swap_remove entries place e
+edited entries (does.Rename place to number) e = slice_set entries place (record e { name = to; number = number })
+
+-- a new name is no other file's
+abbrev pub IsFree : List HeldFile → ℕ → Name → Type 0
+IsFree files place to = (place_in to files ≡ None) ⊎ ((f : HeldFile) → slice_get files place ≡ Some f → to ≡ f.entry.name)
+
+-- its place is that of a file, its mode number is one, and its new name is free
+abbrev pub MayEdit : List HeldFile → FileEdit → Type 0
+MayEdit files (does.Drop place) = place < length files
+MayEdit files (does.Rename place to number) = (place < length files) × (number ≤ 6) × IsFree files place to
+
+-- how many files it leaves
+abbrev pub count_after : List HeldFile → FileEdit → ℕ
+count_after files (does.Drop place) = length files - 1
+count_after files (does.Rename place to number) = length files
+
+-- ---- what is planned
+
+-- what is written for files with these entries, where these blocks are given back
+pub record IsPrepared (v : HeldVolume) (entries : List Entry) (given : List ℕ) (stamp : Stamp) (s : Systems) : Type 0 where
+  pub blocks : IsAllotted v (length entries) given [] s.directory s.map s.bits
+  pub label : s.label ≡ label_for v.label s.bits
+  pub label_bytes : s.label_bytes ≡ with_label s.label v.label_bytes
+  pub label_long : length s.label_bytes ≡ v.disk.bsize
+  pub directory_bytes : s.directory_bytes ≡ directory_bytes_of v.disk.bsize s entries stamp
+  pub long : length s.directory_bytes ≡ length s.directory.leaves * v.disk.bsize
+  pub back : All ReadsBack entries
+
+-- what is written for an edit
+abbrev pub IsReadyAt : HeldVolume → FileEdit → Stamp → Systems → Type 0
+IsReadyAt v e stamp s = (length s.label_bytes ≡ v.disk.bsize)
+    × ((f : HeldFile) → slice_get v.files (place_of e) ≡ Some f → IsReadyFor v (edit_of v.files e f) stamp s)
+
+-- a step that does this edit
+abbrev pub IsStepOf : HeldVolume → FileEdit → Stamp → Step → Type 0
+IsStepOf v e stamp (step.Edit edit s) = (edit ≡ e) × IsReadyAt v e stamp s
+IsStepOf v e stamp (step.Relabel label bytes) = ⊥
+
+-- the label with another volume id, and its block's bytes
+pub record IsReadyLabel (v : HeldVolume) (volid : List ℕ) (label : Label) (bytes : List ℕ) : Type 0 where
+  pub kept : Keeps v
+  pub label_is : label ≡ (relabelled v volid).label
+  pub bytes_are : bytes ≡ (relabelled v volid).label_bytes
+  pub bytes_long : length bytes ≡ v.disk.bsize
+  pub long : length volid ≡ 6
+  pub small : v.label.in_use < 2 ^ 32
+
+abbrev pub IsRelabelOf : HeldVolume → List ℕ → Step → Type 0
+IsRelabelOf v volid (step.Edit e s) = ⊥
+IsRelabelOf v volid (step.Relabel label bytes) = IsReadyLabel v volid label bytes.items
+
+-- the edit is that of the change, and what it writes is ready
+pub record IsEditFor (v : HeldVolume) (change : Change) (stamp : Stamp) (e : FileEdit) (s : Systems) : Type 0 where
+  pub may : MayEdit v.files e
+  pub file : HeldFile
+  pub there : slice_get v.files (place_of e) ≡ Some file
+  pub is : IsEditOf v (edit_of v.files e file) change
+  pub ready : IsReadyFor v (edit_of v.files e file) stamp s
+  pub label_long : length s.label_bytes ≡ v.disk.bsize
+
+-- a step is planned for a change
+abbrev pub IsPlanFor : HeldVolume → Change → Stamp → Step → Type 0
+IsPlanFor v change stamp (step.Edit e s) = IsEditFor v change stamp e s
+IsPlanFor v change stamp (step.Relabel label bytes) = (volid : List ℕ) × (change ≡ model.Relabel volid)
+    × IsReadyLabel v volid label bytes.items
+
+-- why a change isn't planned: there is no room for the new directory and the new map, or no memory
+abbrev pub IsFullFor : HeldVolume → asked.Change → PlanFault → Type 0
+IsFullFor v (ask.Drop name) why = LacksRoom v (needed v (length v.files - 1)) why
+IsFullFor v (ask.Rename from to number) why = LacksRoom v (needed v (length v.files)) why
+IsFullFor v (ask.Relabel volid) why = why ≡ failed.Memory

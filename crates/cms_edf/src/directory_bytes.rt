@@ -1,0 +1,124 @@
+// The bytes of a directory, put together entry by entry.
+ghost use Rattle.std.specs.Prelude.{◌≡◌, ◌≤◌, ◌<◌, ◌+◌, ◌-◌, ◌*◌, ◌^◌, ◌++◌, true, length, replicate, IfOk, OnOk};
+ghost use Rattle.cms_fields.specs.Stamps.{is_stamp};
+ghost use Rattle.cms_fields.specs.Entries.{entry_bytes};
+ghost use Rattle.cms_tree.specs.Builds.{root_of};
+ghost use Rattle.cms_held.specs.Systems.{file_at, system_entry};
+ghost use Rattle.cms_held.specs.Written.{CanWrite, ReadsBack, directory_name, map_name};
+
+use crate::held::TreeBlocks;
+use crate::system::{ENTRY_SIZE, FIXED, System};
+use cms_fields::{Entry, Stamp, put_stamp, write_entry};
+use cms_journal::BlockSize;
+use cms_text::bytes::{put, put_word};
+use cms_tree::shape;
+use std::alloc::{AllocError, Global};
+
+/// The number 1 and DIRECTOR.
+const DIRECTORY: [u8; 16] = [
+    0, 0, 0, 1, 0, 0, 0, 0, 0xC4, 0xC9, 0xD9, 0xC5, 0xC3, 0xE3, 0xD6, 0xD9,
+];
+
+/// The number 2 and ALLOCMAP.
+const MAP: [u8; 16] = [
+    0, 0, 0, 2, 0, 0, 0, 0, 0xC1, 0xD3, 0xD3, 0xD6, 0xC3, 0xD4, 0xC1, 0xD7,
+];
+
+/// The mode A1.
+const MODE: [u8; 2] = [0xC1, 0xF1];
+
+/// Bytes of a pointer of fixed records.
+const POINTER_SIZE: u8 = 4;
+
+// The entry of a system file, with records of a length.
+fn system_entry(name: &[u8; 16], size: u32, file: &System, stamp: &Stamp) -> [u8; 64]
+    requires { is_stamp stamp.now ≡ true }
+    ensures { result ≡ system_entry name.now size file.now stamp.now }
+{
+    let mut date = [0; 6];
+    put_stamp(stamp, &mut date);
+    let mut entry = [0; 64];
+    put(&mut entry, 0, name);
+    put(&mut entry, 24, &MODE);
+    put(&mut entry, 30, &[FIXED]);
+    put_word(&mut entry, 32, size);
+    put_word(&mut entry, 40, file.root);
+    put_word(&mut entry, 44, file.blocks);
+    put_word(&mut entry, 48, file.count);
+    put(&mut entry, 52, &[file.levels, POINTER_SIZE]);
+    put(&mut entry, 54, &date);
+    entry
+}
+
+// The block at the root of a tree.
+fn root(leaves: &[u32], pointers: &[u32]) -> u32
+    requires { 1 ≤ length leaves.now }
+    ensures { result ≡ root_of leaves.now pointers.now }
+{
+    if pointers.is_empty() {
+        leaves[leaves.len() - 1]
+    } else {
+        pointers[pointers.len() - 1]
+    }
+}
+
+// Where the tree of a system file of so many records stands.
+fn file_at(bsize: BlockSize, tree: &TreeBlocks, count: u32) -> System
+    requires some { 1 ≤ length tree.now.leaves }
+    requires few { length tree.now.leaves < 2 ^ 32 }
+    ensures { result ≡ file_at bsize tree.now count }
+{
+    let blocks = tree.leaves().len() as u32;
+    System {
+        root: root(tree.leaves(), tree.pointers()),
+        blocks,
+        count,
+        levels: shape(blocks, bsize.bytes() / u32::from(POINTER_SIZE)).levels,
+    }
+}
+
+/// The bytes with which the directory of so many files begins: its own entry and the map's, with the stamp.
+pub fn system_entries(
+    alloc: Global,
+    bsize: BlockSize,
+    directory: &TreeBlocks,
+    map: &TreeBlocks,
+    files: u32,
+    stamp: &Stamp,
+) -> Result<Vec<u8>, AllocError>
+    requires stamp { is_stamp stamp.now ≡ true }
+    requires files { files ≤ 16384 }
+    requires directory { 1 ≤ length directory.now.leaves }
+    requires directory_few { length directory.now.leaves < 2 ^ 32 }
+    requires map { 1 ≤ length map.now.leaves }
+    requires map_few { length map.now.leaves < 2 ^ 32 }
+    ensures bytes { IfOk result (λ v. v.items ≡ system_entry directory_name 64 (file_at bsize directory.now (files + 2)) stamp.now
+        ++ system_entry map_name bsize (file_at bsize map.now (length map.now.leaves)) stamp.now) }
+    ensures size { IfOk result (λ v. length v.items ≡ 128) }
+{
+    let own = file_at(bsize, directory, files + 2);
+    let maps = file_at(bsize, map, map.leaves().len() as u32);
+    let mut bytes = Vec::new(alloc);
+    bytes.extend_from_slice(&system_entry(&DIRECTORY, ENTRY_SIZE, &own, stamp))?;
+    bytes.extend_from_slice(&system_entry(&MAP, bsize.bytes(), &maps, stamp))?;
+    Ok(bytes)
+}
+
+/// Appends the entry of a file.
+pub fn append_entry(entry: &Entry, into: &mut Vec<u8>) -> Result<(), AllocError>
+    requires { CanWrite entry.now }
+    ensures entry { OnOk result (into.new.items ≡ into.old.items ++ entry_bytes entry.now) }
+    ensures back { OnOk result (ReadsBack entry.now) }
+{
+    let mut bytes = [0; 64];
+    write_entry(entry, &mut bytes);
+    into.extend_from_slice(&bytes)
+}
+
+/// Appends zeros up to so many bytes.
+pub fn fill(bytes: &mut Vec<u8>, whole: usize) -> Result<(), AllocError>
+    requires { length bytes.old.items ≤ whole }
+    ensures { OnOk result (bytes.new.items ≡ bytes.old.items ++ replicate (whole - length bytes.old.items) 0) }
+{
+    bytes.resize(whole, 0)
+}

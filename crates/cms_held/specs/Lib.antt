@@ -1,0 +1,12 @@
+pub mod Written
+pub mod Opening
+pub mod Kept
+pub mod LawsHeld
+pub mod Drafts
+pub mod Systems
+pub mod HeldAs
+pub mod Renewing
+pub mod LawsRenewing
+pub mod LawsEdits
+pub mod Carrying
+pub mod Making

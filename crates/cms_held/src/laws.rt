@@ -1,0 +1,63 @@
+// What holds of every volume that is held.
+ghost use Rattle.cms_held.specs.Carrying.{LackingIsFull, PlannedIsCarried, UpdateIsSmall};
+ghost use Rattle.cms_held.specs.Drafts.{DraftHasAll, DraftHolds, DraftIsPut};
+ghost use Rattle.cms_held.specs.HeldAs.{OpenedHasHeld};
+ghost use Rattle.cms_held.specs.LawsEdits.{DropEdits, EditIsAnswered, RelabelIsHeld, RenameEdits, RenewedIsChanged};
+ghost use Rattle.cms_held.specs.LawsHeld.{OpenedHasRoom, OpenedIsHeld, PlaceIsTold};
+ghost use Rattle.cms_held.specs.LawsRenewing.{FrontKeepsHeld, UpdateRenews};
+ghost use Rattle.cms_held.specs.Making.{EmptyIsMade, EmptyIsPlaced};
+ghost use Rattle.cms_held.specs.Systems.{MapIsRead, WrittenIsRead};
+
+/// What opens is held with its trees, and what is held so is the minidisk that it is, with its files and their records in their order;
+/// where each block of its image has its size, it has as many free blocks, and its files are stored so. A name is found in the place
+/// of its file.
+pub fn held_laws()
+    ensures trees { OpenedHasHeld }
+    ensures held { OpenedIsHeld }
+    ensures room { OpenedHasRoom }
+    ensures place { PlaceIsTold }
+{}
+
+/// An update of a volume as it is held: a crash leaves the old volume or the new one at every moment, and in the end the new one, which is
+/// held as the renewed one. Where a file goes or has another name, that is the minidisk after the change, which is made exactly where
+/// the new directory and map have room.
+pub fn renewal_laws()
+    ensures kept { FrontKeepsHeld }
+    ensures renews { UpdateRenews }
+    ensures dropped { DropEdits }
+    ensures renamed { RenameEdits }
+    ensures changed { RenewedIsChanged }
+    ensures answered { EditIsAnswered }
+    ensures relabelled { RelabelIsHeld }
+{}
+
+/// The directory, the map and the label that an update writes are read again, and the map says what it said.
+pub fn systems_laws()
+    ensures written { WrittenIsRead }
+    ensures map { MapIsRead }
+{}
+
+/// An update that was planned for a held minidisk and a change, carried out, is the change: at every moment each crash image is the old
+/// minidisk or the new, up to the label's write the old is held, and in the end the new one is. Where there is no room, the change is full.
+/// An update writes at most two blocks more than the change needs.
+pub fn carrying_laws()
+    ensures carried { PlannedIsCarried }
+    ensures full { LackingIsFull }
+    ensures small { UpdateIsSmall }
+{}
+
+/// An image in which a draft's data blocks and the pointer blocks over them stand holds its file: the file's tree has these blocks, and
+/// its records are read from them. They stand where all that a draft writes is there, and what was written of it is there as soon as it is
+/// put, part by part.
+pub fn draft_laws()
+    ensures holds { DraftHolds }
+    ensures whole { DraftHasAll }
+    ensures put { DraftIsPut }
+{}
+
+/// An empty volume that is made on a wiped unit: it writes the blocks of its map and of its directory and no other, a crash leaves none or
+/// the empty minidisk at every moment, and in the end the unit is settled at that, as it is held.
+pub fn making_laws()
+    ensures placed { EmptyIsPlaced }
+    ensures made { EmptyIsMade }
+{}

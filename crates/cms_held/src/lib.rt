@@ -1,0 +1,7 @@
+//! Volumes as they are held in memory, and the laws of their updates: how a volume that opens is held, what an update of it takes and
+//! writes, and what it is afterwards.
+#![tactic(auto)]
+
+mod laws;
+
+pub use laws::{carrying_laws, draft_laws, held_laws, making_laws, renewal_laws, systems_laws};

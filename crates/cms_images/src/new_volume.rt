@@ -1,0 +1,92 @@
+// What a volume is that was made and not used yet.
+use crate::edits::put_at;
+use crate::many::{DIRECTORY, MAP, put_marks, put_number, start_of};
+use std::alloc::{AllocError, Global};
+
+/// The size of a volume that was made, and how many data blocks and pointer blocks its map has: one of these over more than one of those.
+#[derive(Clone, Copy, Debug, PartialEq, Eq)]
+pub struct Made {
+    /// the bytes of a block
+    pub bsize: u32,
+    /// the blocks of the volume
+    pub total: u32,
+    /// the data blocks of the map
+    pub map: u32,
+    /// its pointer blocks, none or one
+    pub pointers: u32,
+}
+
+/// The image of a volume TEST01 that was made at noon on 1 July 26 on blocks of zeros: the directory in block 4, the map from block 6 on.
+pub fn formatted(alloc: Global, made: &Made) -> Result<Vec<u8>, AllocError> {
+    let size = (made.bsize as usize).saturating_mul(made.total as usize);
+    let mut bytes = vec![in alloc; 0; size]?;
+    let image = bytes.as_mut_slice();
+    put_label(image, made);
+    put_directory(image, made);
+    put_map(image, made);
+    Ok(bytes)
+}
+
+// The blocks in use: the first five and those of the map.
+fn used(made: &Made) -> u32 {
+    made.map.saturating_add(made.pointers).saturating_add(5)
+}
+
+// Block 3.
+fn put_label(image: &mut [u8], made: &Made) {
+    let start = start_of(made.bsize, 3);
+    put_at(image, start, &[0xC3, 0xD4, 0xE2, 0xF1]);
+    let volid = [0xE3, 0xC5, 0xE2, 0xE3, 0xF0, 0xF1];
+    put_at(image, start.saturating_add(4), &volid);
+    let numbers = [
+        (12, made.bsize),
+        (16, 4),
+        (20, made.total),
+        (24, made.total),
+        (28, made.total),
+        (32, used(made)),
+        (36, 64),
+        (40, made.bsize / 64),
+    ];
+    for (at, number) in numbers {
+        put_number(image, start.saturating_add(at), number);
+    }
+    let noon = [0x26, 0x07, 0x01, 0x12, 0x00, 0x00];
+    put_at(image, start.saturating_add(44), &noon);
+}
+
+// Block 4: the entries of the directory and of the map.
+fn put_directory(image: &mut [u8], made: &Made) {
+    let start = start_of(made.bsize, 4);
+    put_entry(image, start, &DIRECTORY, [64, 4, 1, 2], 0);
+    let root = if made.pointers == 0 { 6 } else { used(made) };
+    let numbers = [made.bsize, root, made.map, made.map];
+    let levels = if made.pointers == 0 { 0 } else { 1 };
+    put_entry(image, start.saturating_add(64), &MAP, numbers, levels);
+}
+
+// The entry of a system file: the length of its records, its root, its data blocks and its records, and its levels.
+fn put_entry(image: &mut [u8], start: usize, name: &[u8; 16], numbers: [u32; 4], levels: u8) {
+    let [length, root, blocks, records] = numbers;
+    put_at(image, start, name);
+    put_at(image, start.saturating_add(24), &[0xC1, 0xF1]);
+    put_at(image, start.saturating_add(30), &[0xC6]);
+    put_number(image, start.saturating_add(32), length);
+    put_number(image, start.saturating_add(40), root);
+    put_number(image, start.saturating_add(44), blocks);
+    put_number(image, start.saturating_add(48), records);
+    let rest = [levels, 4, 0x26, 0x07, 0x01, 0x12, 0x00, 0x00];
+    put_at(image, start.saturating_add(52), &rest);
+}
+
+// The blocks from 6 on: a bit for each block in use, and the pointers to these blocks.
+fn put_map(image: &mut [u8], made: &Made) {
+    put_marks(image, start_of(made.bsize, 6), used(made));
+    if made.pointers > 0 {
+        let start = start_of(made.bsize, used(made));
+        for nth in 0..made.map {
+            let at = start.saturating_add((nth as usize).saturating_mul(4));
+            put_number(image, at, nth.saturating_add(6));
+        }
+    }
+}

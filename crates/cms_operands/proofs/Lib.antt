@@ -1,0 +1,3 @@
+pub mod OperandLemmas
+pub mod ChoiceLemmas
+pub mod Examples

@@ -1,0 +1,6 @@
+pub mod Texts
+pub mod Refusals
+pub mod ReadModes
+pub mod Operands
+pub mod Choices
+pub mod Spellings

@@ -1,0 +1,26 @@
+//! What a command's line says: its words by their kinds as operands, its options with their parameters, and the first refusal among
+//! them. Nothing here knows the machine or a disk.
+#![tactic(auto)]
+
+mod choosing;
+mod mode;
+mod operand;
+mod refusal;
+mod spelling;
+#[cfg(test)]
+mod tests;
+mod text;
+
+pub use choosing::{
+    ChosenOption, ChosenOptions, CommandFault, OptionForm, Parameter, Setting, chosen_options,
+    last_among, without_options,
+};
+pub use mode::ReadMode;
+pub use operand::{
+    AccessMode, Target, WriteMode, access_mode, device, device_or_letter, ended, given, given_or,
+    letter, letter_or_all, name, name_or_all, name_or_same, needed, number, number_or_all,
+    number_within, operands, output_mode, pattern, reading_mode, writing_mode,
+};
+pub use refusal::Refusal;
+pub use spelling::{CommandName, command_named};
+pub use text::coded;

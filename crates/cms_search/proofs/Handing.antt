@@ -1,0 +1,333 @@
+-- A file that is read record by record, as a device step: what is done with each record is done while they are handed out, and how the step
+-- ends is known at the end. No command is known here.
+use Rattle.std.proofs.Common.{◌≡◌, ◌+◌, ◌≤◌, ℕ, List, [], ◌∷◌, ◌++◌, take, length, slice_get, Bool, None, Some, Result, Ok, Err, true, false, append-nil, refl, ap, sym, ◌∙◌, subst, arith}
+use Rattle.std.proofs.Math.Seq.{take-append_seam}
+use Rattle.std.proofs.lemmas.List.{append_assoc, length-append}
+use Rattle.std.specs.Prelude.{IfOk, IfErr}
+use Rattle.std.specs.Option.{ForSome}
+use Rattle.cms_journal.specs.Causes.{Rose, Counted}
+use Rattle.cms_journal.specs.Journal.{Journal, HasBlocks, contents_of}
+use Rattle.cms_journal.specs.Told.{Told, Idle, plus}
+use Rattle.cms_journal.proofs.Counts.{counted_none, counted_one}
+use Rattle.cms_journal.proofs.Events.{no_disk_aside}
+use Rattle.cms_journal.proofs.Pieces.{plus-some, plus-none, idle_same, idle_then, grown_same}
+use Rattle.cms_model.specs.Trees.{Image, image_of}
+use Rattle.cms_model.specs.Minidisks.{File}
+use Rattle.cms_model.specs.LawsUpdates.{after}
+use Rattle.cms_model.proofs.Settling.{aside_is_as_before}
+use Rattle.cms_machine.specs.Slots.{Slot}
+use Rattle.cms_machine.specs.Steps.{Get, Outcome, Good, ReadFault, MayGet, Offers, faults_in}
+use Rattle.cms_machine.specs.Acts as acts
+use Rattle.cms_machine.specs.Acts.{Act, bind}
+use Rattle.cms_machine.specs.Points.{Point}
+use Rattle.cms_machine.specs.Runs.{Ran, Broke}
+use Rattle.cms_machine.proofs.Join.{ran_none, ran_then, broke_then}
+use Rattle.cms_machine.proofs.Single.{ran_still}
+use Rattle.cms_edf.specs.OpeningSteps.{OfImage}
+use Rattle.cms_disk.specs.Cursors.{Reading, HasLeft, HandsOut, SameFile, text_of}
+use Rattle.cms_disk.specs.declared.fault.DiskFault.{DiskFault}
+use Rattle.cms_disk.specs.declared.fault.DiskFault.TheVariants.{Altered}
+use Rattle.cms_search.specs.declared.state.End.{End}
+use Rattle.cms_search.specs.declared.state.End.TheVariants.{Edge}
+use Rattle.cms_search.specs.declared.state.State.{State}
+use Rattle.cms_search.specs.Calls.{Spot, Meaning, IsLater, IsUsable, Does, Acts, Comes, after_world, at, holds}
+use Rattle.cms_world.specs.Seen.{Seen}
+use Rattle.cms_search.proofs.Holding.{some_same, holds_idle}
+use Rattle.cms_search.proofs.Acts.{rose_from, later_none, later_then, later_does, usable_later}
+
+-- ---- a part of a call of the console or the clock, beside which units are read
+
+-- nothing happened to any unit, and no count has fallen
+pub record Passes (before now : Seen) : Type 0 where
+  pub idle : Idle before.told now.told
+  pub later : IsLater before now
+
+-- from each point of the journal, whichever its count, the tree came so far
+abbrev pub Goes : {R : Type 0} → Seen → Seen → Act R → Act R → Type 0
+Goes before now t u = (p : Point) → p.journal ≡ before.told → Ran p (after_world p now) t u
+
+pub passes_none : (s : Seen) → Passes s s
+passes_none s = record { idle = idle_same s.told s.told refl; later = later_none s }
+
+pub passes_then : (before mid now : Seen) → Passes before mid → Passes mid now → Passes before now
+passes_then before mid now a b = record {
+  idle = idle_then before.told mid.told now.told a.idle b.idle;
+  later = later_then before mid now a.later b.later;
+}
+
+pub passes_does : {R T : Type 0} (before now : Seen) (t : Act R) (r : Result T End) (d : T → R) → Does before now t r d → Passes before now
+passes_does before now t r d does = record { idle = does.idle; later = later_does before now t r d does }
+
+-- units were read alone: the journal is as before
+pub record IsRead (before now : Seen) : Type 0 where
+  pub told : now.told ≡ before.told
+  pub faults : before.faults ≤ now.faults
+  pub edges : now.edges ≡ before.edges
+
+pub passes_read : (before now : Seen) → IsRead before now → Passes before now
+passes_read before now r =
+    let same = r.edges in
+    record {
+      idle = idle_same before.told now.told r.told;
+      later = record { grown = grown_same before.told now.told r.told; faults = r.faults; edges = omega arith };
+    }
+
+-- ---- what is done with records
+
+-- it is done with one after another
+pub record IsEach {R : Type 0} (run : List (List ℕ) → Act R → Act R) (one : List ℕ → Act R → Act R) : Type 0 where
+  pub none : (next : Act R) → run [] next ≡ next
+  pub more : (text : List ℕ) (records : List (List ℕ)) (next : Act R) → run (text ∷ records) next ≡ one text (run records next)
+
+-- with some and then with others
+run_append : {R : Type 0} (run : List (List ℕ) → Act R → Act R) (one : List ℕ → Act R → Act R) → IsEach run one → (front rest : List (List ℕ)) (next : Act R)
+    → run (front ++ rest) next ≡ run front (run rest next)
+run_append run one each [] rest next = sym (each.none (run rest next))
+run_append run one each (text ∷ front) rest next =
+    each.more text (front ++ rest) next ∙ (ap (one text) (run_append run one each front rest next) ∙ sym (each.more text front (run rest next)))
+
+-- with some and then with one
+run_one : {R : Type 0} (run : List (List ℕ) → Act R → Act R) (one : List ℕ → Act R → Act R) → IsEach run one → (front : List (List ℕ)) (text : List ℕ) (next : Act R)
+    → run (front ++ text ∷ []) next ≡ run front (one text next)
+run_one run one each front text next =
+    run_append run one each front (text ∷ []) next ∙ ap (run front) (each.more text [] next ∙ ap (one text) (each.none next))
+
+-- ---- how far a file was read
+
+-- the image of a unit is the same after events that touch none
+image_idle : (old new : Told) (u : ℕ) (P : Image → Type 0) → Idle old new → OfImage new u P → OfImage old u P
+image_idle old new u P idle h j is =
+    let there : new ≡ Some (after j idle.events) = idle.told ∙ ap (λ (t : Told). plus t idle.events) is ∙ plus-some j idle.events in
+    let same = (aside_is_as_before j idle.events u (no_disk_aside idle.events u idle.none)).contents_same in
+    subst P (ap image_of same) (h (after j idle.events) there)
+
+-- the blocks of a file that is read may be read
+abbrev pub IsOpen : Told → Reading → Type 0
+IsOpen told c = ForSome told (λ j. HasBlocks j.units c.unit c.total c.bsize)
+
+open_idle : (old new : Told) (c : Reading) → Idle old new → IsOpen old c → IsOpen new c
+open_idle None new c idle has = let e : new ≡ None = idle.told ∙ plus-none idle.events in rw e (λ j f. absurd (cc))
+open_idle (Some i) new c idle has =
+    let e : new ≡ Some (after i idle.events) = idle.told ∙ plus-some i idle.events in
+    rw e (λ j f. let same : after i idle.events ≡ j = some_same _ _ f in rw (← same) (has i refl))
+
+open_same : (told : Told) (c d : Reading) → SameFile c d → IsOpen told c → IsOpen told d
+open_same told c d same has j is =
+    let unit = same.unit in
+    let total = same.total in
+    let bsize = same.bsize in
+    rw (unit, total, bsize) (has j is)
+
+same_then : (a b c : Reading) → SameFile a b → SameFile b c → SameFile a c
+same_then a b c x y = record {
+  unit = y.unit ∙ x.unit;
+  total = y.total ∙ x.total;
+  bsize = y.bsize ∙ x.bsize;
+  leaves = y.leaves ∙ x.leaves;
+  fixed = y.fixed ∙ x.fixed;
+  longest = y.longest ∙ x.longest;
+}
+
+-- the records that were left: those of the front, and those that are left still
+pub record Splits (image : Image) (c : Reading) (front all : List (List ℕ)) : Type 0 where
+  pub more : List (List ℕ)
+  pub is : all ≡ front ++ more
+  pub left : HasLeft image c more
+
+-- since a file was opened the records of the front were handed out, and it was done with each; the others are left
+pub record Handed {R : Type 0} (run : List (List ℕ) → Act R → Act R) (before now : Seen) (first c : Reading) : Type 0 where
+  pub front : List (List ℕ)
+  pub goes : (next : Act R) → Goes before now (run front next) next
+  pub passes : Passes before now
+  pub left : OfImage before.told first.unit (λ image. (all : List (List ℕ)) → HasLeft image first all → Splits image c front all)
+  pub file : SameFile first c
+  pub opened : IsOpen now.told c
+
+pub handed_none : {R : Type 0} (run : List (List ℕ) → Act R → Act R) (one : List ℕ → Act R → Act R) (s : Seen) (c : Reading) → IsEach run one → IsOpen s.told c
+    → Handed run s s c c
+handed_none run one s c each has = record {
+  front = [];
+  goes = λ next p journal. rw (each.none next) (subst (λ (told : Told). Ran p (record p { journal = told }) next next) journal (ran_none p next));
+  passes = passes_none s;
+  left = λ j is all left. record { more = all; is = refl; left = left };
+  file = record { unit = refl; total = refl; bsize = refl; leaves = refl; fixed = refl; longest = refl };
+  opened = has;
+}
+
+-- what the call that hands out the next record said
+abbrev pub Hands : Told → Reading → Reading → Result Bool DiskFault → Type 0
+Hands told c d r = OfImage told c.unit (λ image. (records : List (List ℕ)) → HasLeft image c records → HandsOut image d records r)
+
+-- the same of the image in which the file was opened
+hands_first : {R : Type 0} (run : List (List ℕ) → Act R → Act R) (before now : Seen) (first c d : Reading) (r : Result Bool DiskFault) → Handed run before now first c
+    → Hands now.told c d r → OfImage before.told first.unit (λ image. (records : List (List ℕ)) → HasLeft image c records → HandsOut image d records r)
+hands_first run before now first c d r h hands =
+    let P : Image → Type 0 = λ image. (records : List (List ℕ)) → HasLeft image c records → HandsOut image d records r in
+    image_idle before.told now.told first.unit P h.passes.idle (subst (λ (u : ℕ). OfImage now.told u P) h.file.unit hands)
+
+-- a further record was handed out, and it was done with it
+pub handed_more : {R : Type 0} (run : List (List ℕ) → Act R → Act R) (one : List ℕ → Act R → Act R) (before mid now : Seen) (first c d : Reading) → IsEach run one
+    → Handed run before mid first c → Hands mid.told c d (Ok true) → SameFile c d → Passes mid now
+    → ((next : Act R) → Goes mid now (one (text_of d) next) next) → Handed run before now first d
+handed_more run one before mid now first c d each h hands same passes goes = record {
+  front = h.front ++ text_of d ∷ [];
+  goes = λ next p journal. rw (run_one run one each h.front (text_of d) next)
+      (ran_then (h.goes (one (text_of d) next) p journal) (goes next (after_world p mid) refl));
+  passes = passes_then before mid now h.passes passes;
+  left = λ j is all left.
+      let s = h.left j is all left in
+      let out = hands_first run before mid first c d (Ok true) h hands j is s.more s.left in
+      record {
+        more = out.0;
+        is = s.is ∙ (ap (λ (rest : List (List ℕ)). h.front ++ rest) out.1 ∙ sym (append_assoc h.front (text_of d ∷ []) out.0));
+        left = out.2;
+      };
+  file = same_then first c d h.file same;
+  opened = open_idle mid.told now.told d passes.idle (open_same mid.told c d same h.opened);
+}
+
+-- ---- the step
+
+-- the step is done first, with this outcome, and then what was done while it went on
+get_first : {R : Type 0} (p q : Point) (before now : Seen) (u : ℕ) (f : File) (o : Outcome) (k : Outcome → Act R) (next : Act R)
+    → Offers (slice_get p.units u) f (length f.records) → MayGet (length f.records) o → Counted p.faults (faults_in (o ∷ [])) q.faults
+    → p.journal ≡ before.told → q ≡ record (after_world p now) { faults = q.faults } → Goes before now (k o) next
+    → Ran p q (acts.Does (Get u f (length f.records)) k) next
+get_first p q before now u f o k next offers may counted journal is goes =
+    let m : Point = record p { faults = q.faults } in
+    ran_then
+    (ran_still p m (Get u f (length f.records)) o k refl counted refl may offers refl refl (record { unread = refl; ended = refl }))
+    (subst (λ (z : Point). Ran m z (k o) next) (sym is) (goes m journal))
+
+-- on these units a tree reads the file of which these records are left, and goes on by the outcome
+pub record ReadsOn {R : Type 0} (old : Spot) (units : List Slot) (first : Reading) (t : Act R) (u : ℕ) (then' : File → Outcome → Act R) : Type 0 where
+  pub file : File
+  pub offers : Offers (slice_get units u) file (length file.records)
+  pub tree : t ≡ acts.Does (Get u file (length file.records)) (then' file)
+  pub journal : Journal
+  pub told : old.world.told ≡ Some journal
+  pub left : HasLeft (image_of (contents_of journal first.unit)) first file.records
+
+pub record Reads {R : Type 0} (old : Spot) (first : Reading) (t : List Slot → Act R) (u : ℕ) (then' : List Slot → File → Outcome → Act R) : Type 0 where
+  pub each : (units : List Slot) → holds old units → ReadsOn old units first (t units) u (then' units)
+
+-- where the state stays a point is the one before, with another journal and count
+at_same : (old new : Spot) (units : List Slot) → new.state ≡ old.state → at new units ≡ record (after_world (at old units) new.world) { faults = new.world.faults }
+at_same old new units same = rw same refl
+
+holds_same : (old new : Spot) (units : List Slot) → new.state ≡ old.state → Passes old.world new.world → holds old units → holds new units
+holds_same old new units same passes h = rw same (holds_idle old.world.told new.world.told old.state.disk_a units passes.idle h)
+
+read_on : {R : Type 0} (before mid now : Seen) (t u : Act R) → Goes before mid t u → IsRead mid now → Goes before now t u
+read_on before mid now t u goes read p journal = let told = read.told in rw told (goes p journal)
+
+-- all records were handed out
+pub read_all : {R : Type 0} (run : List (List ℕ) → Act R → Act R) (old mid new : Spot) (first c d : Reading) (t : List Slot → Act R) (u : ℕ)
+    (then' : List Slot → File → Outcome → Act R) (rest : List Slot → Act R) → Reads old first t u then' → Handed run old.world mid.world first c
+    → Hands mid.world.told c d (Ok false) → IsRead mid.world new.world → new.state ≡ old.state
+    → ((units : List Slot) (f : File) → then' units f Good ≡ run f.records (rest units)) → Comes old new t rest
+read_all run old mid new first c d t u then' rest reads h hands read same is =
+    let passes = passes_then old.world mid.world new.world h.passes (passes_read mid.world new.world read) in
+    record {
+      each = λ units held.
+          let r = reads.each units held in
+          let s = h.left r.journal r.told r.file.records r.left in
+          let none = hands_first run old.world mid.world first c d (Ok false) h hands r.journal r.told s.more s.left in
+          let all : r.file.records ≡ h.front = s.is ∙ (ap (λ (more : List (List ℕ)). h.front ++ more) none.0 ∙ append-nil h.front) in
+          let goes : Goes old.world new.world (then' units r.file Good) (rest units) =
+          subst (λ (z : Act _). Goes old.world new.world z (rest units)) (sym (is units r.file ∙ ap (λ (rs : List (List ℕ)). run rs (rest units)) all))
+          (read_on old.world mid.world new.world (run h.front (rest units)) (rest units) (h.goes (rest units)) read) in
+          let ran = get_first (at old units) (at new units) old.world new.world u r.file Good (then' units r.file) (rest units) r.offers tt
+          (counted_none old.world.faults new.world.faults passes.later.faults) refl (at_same old new units same) goes in
+          (units, (holds_same old new units same passes held, subst (λ (z : Act _). Ran (at old units) (at new units) z (rest units)) (sym r.tree) ran));
+      later = passes.later;
+      usable = usable_later old new passes.later (ap (λ (s : State). s.disk_a) same);
+    }
+
+-- the device failed after some of them
+pub read_fault : {R : Type 0} (run : List (List ℕ) → Act R → Act R) (old mid new : Spot) (first c : Reading) (t : List Slot → Act R) (u : ℕ)
+    (then' : List Slot → File → Outcome → Act R) (rest : List Slot → Act R) → Reads old first t u then' → Handed run old.world mid.world first c
+    → IsRead mid.world new.world → Rose mid.world.faults new.world.faults → new.state ≡ old.state
+    → ((units : List Slot) (f : File) (k : ℕ) → then' units f (ReadFault k) ≡ run (take k f.records) (rest units)) → Comes old new t rest
+read_fault run old mid new first c t u then' rest reads h read rose same is =
+    let passes = passes_then old.world mid.world new.world h.passes (passes_read mid.world new.world read) in
+    let k = length h.front in
+    record {
+      each = λ units held.
+          let r = reads.each units held in
+          let s = h.left r.journal r.told r.file.records r.left in
+          let some : take k r.file.records ≡ h.front = ap (take k) s.is ∙ take-append_seam h.front s.more in
+          let long : length r.file.records ≡ k + length s.more = ap length s.is ∙ length-append h.front s.more in
+          let goes : Goes old.world new.world (then' units r.file (ReadFault k)) (rest units) =
+          subst (λ (z : Act _). Goes old.world new.world z (rest units)) (sym (is units r.file k ∙ ap (λ (rs : List (List ℕ)). run rs (rest units)) some))
+          (read_on old.world mid.world new.world (run h.front (rest units)) (rest units) (h.goes (rest units)) read) in
+          let ran = get_first (at old units) (at new units) old.world new.world u r.file (ReadFault k) (then' units r.file) (rest units) r.offers (omega (arith, long))
+          (counted_one old.world.faults new.world.faults passes.later.faults (rose_from old.world.faults mid.world.faults new.world.faults h.passes.later.faults rose)) refl
+          (at_same old new units same) goes in
+          (units, (holds_same old new units same passes held, subst (λ (z : Act _). Ran (at old units) (at new units) z (rest units)) (sym r.tree) ran));
+      later = passes.later;
+      usable = usable_later old new passes.later (ap (λ (s : State). s.disk_a) same);
+    }
+
+-- it was cut off in what is done with a record
+pub read_stops : {R T : Type 0} (run : List (List ℕ) → Act R → Act R) (one : List ℕ → Act R → Act R) (old mid new : Spot) (first c d : Reading) (t : List Slot → Act R)
+    (u : ℕ) (then' : List Slot → File → Outcome → Act R) (rest : List Slot → Act R) (e : End) (done : Meaning T R) → IsEach run one → Reads old first t u then'
+    → Handed run old.world mid.world first c → Hands mid.world.told c d (Ok true) → IsLater mid.world new.world → new.state ≡ old.state
+    → ((units : List Slot) (f : File) → then' units f Good ≡ run f.records (rest units))
+    → ((next : Act R) (p : Point) → p.journal ≡ mid.world.told → Broke p (after_world p new.world) (one (text_of d) next))
+    → (e ≡ Edge → Rose mid.world.edges new.world.edges) → Acts {T = T} old new t (Err e) done
+read_stops run one old mid new first c d t u then' rest e done each reads h hands later same is stops cause =
+    let all_later = later_then old.world mid.world new.world h.passes.later later in
+    record {
+      each = λ units held.
+          let r = reads.each units held in
+          let s = h.left r.journal r.told r.file.records r.left in
+          let out = hands_first run old.world mid.world first c d (Ok true) h hands r.journal r.told s.more s.left in
+          let text = text_of d in
+          let all : r.file.records ≡ h.front ++ text ∷ out.0 = s.is ∙ ap (λ (more : List (List ℕ)). h.front ++ more) out.1 in
+          let left = run out.0 (rest units) in
+          let good : then' units r.file Good ≡ run h.front (one text left) =
+          is units r.file ∙ (ap (λ (rs : List (List ℕ)). run rs (rest units)) all
+          ∙ (run_append run one each h.front (text ∷ out.0) (rest units) ∙ ap (run h.front) (each.more text out.0 (rest units)))) in
+          let p : Point = record (at old units) { journal = mid.world.told; faults = new.world.faults } in
+          let goes : Goes old.world mid.world (then' units r.file Good) (one text left) =
+          subst (λ (z : Act _). Goes old.world mid.world z (one text left)) (sym good) (h.goes (one text left)) in
+          let begun = get_first (at old units) p old.world mid.world u r.file Good (then' units r.file) (one text left) r.offers tt
+          (counted_none old.world.faults new.world.faults all_later.faults) refl refl goes in
+          let broke : Broke p (at new units) (one text left) =
+          subst (λ (z : Point). Broke p z (one text left)) (sym (at_same old new units same)) (stops left p refl) in
+          (units, subst (λ (z : Act _). Broke (at old units) (at new units) z) (sym r.tree) (broke_then begun broke));
+      later = all_later;
+      usable = λ usable. tt;
+      cause = λ edge. rose_from old.world.edges mid.world.edges new.world.edges h.passes.later.edges (cause edge);
+      fault = tt;
+    }
+
+-- the records are never found altered
+pub never_altered : {R : Type 0} (run : List (List ℕ) → Act R → Act R) (old mid : Spot) (first c d : Reading) (t : List Slot → Act R) (u : ℕ)
+    (then' : List Slot → File → Outcome → Act R) → Reads old first t u then' → Handed run old.world mid.world first c → Hands mid.world.told c d (Err Altered)
+    → (units : List Slot) → holds old units → ⊥
+never_altered run old mid first c d t u then' reads h hands units held =
+    let r = reads.each units held in
+    let s = h.left r.journal r.told r.file.records r.left in
+    hands_first run old.world mid.world first c d (Err Altered) h hands r.journal r.told s.more s.left
+
+-- ---- calls that no journal that is told allows
+
+pub acts_never : {R T : Type 0} (old new : Spot) (t : List Slot → Act R) (r : Result T End) (d : Meaning T R) → ((units : List Slot) → holds old units → ⊥)
+    → IsLater old.world new.world → (IsUsable old → IsUsable new) → IfErr r (λ e. e ≡ Edge → Rose old.world.edges new.world.edges)
+    → IfOk r (λ x. d.fault x → Rose old.world.faults new.world.faults) → Acts old new t r d
+acts_never old new t (Ok x) d never later usable cause fault = record {
+  each = λ units held. absurd (never units held);
+  later = later;
+  usable = usable;
+  cause = tt;
+  fault = fault;
+}
+acts_never old new t (Err e) d never later usable cause fault = record {
+  each = λ units held. absurd (never units held);
+  later = later;
+  usable = λ u. tt;
+  cause = cause;
+  fault = tt;
+}

@@ -1,0 +1,56 @@
+-- What a call does that only talks: it takes lines of the console, types and asks the clock.
+use Rattle.std.specs.Prelude.{◌≡◌, ℕ, ◌≤◌, List, Result, IfErr}
+use Rattle.cms_journal.specs.Causes.{Rose}
+use Rattle.cms_journal.specs.Told.{Told, Idle}
+use Rattle.cms_machine.specs.Slots.{Slot}
+use Rattle.cms_machine.specs.Items.{Item, Bad, Long, Rest}
+use Rattle.cms_machine.specs.Acts.{Act}
+use Rattle.cms_machine.specs.Points.{Point}
+use Rattle.cms_line.specs.ConsoleState.{ConsoleState}
+use Rattle.cms_search.specs.Asking as asking
+use Rattle.cms_world.specs.Seen.{Seen}
+use Rattle.cms_search.specs.Calls.{Plays}
+use Rattle.cms_search.specs.Machine.{Machine}
+use Rattle.cms_search.specs.declared.asking.Asked.{Asked}
+use Rattle.cms_search.specs.declared.asking.Asked.TheVariants.{Given, Spent}
+use Rattle.cms_search.specs.declared.asking.NoLine.{NoLine}
+use Rattle.cms_search.specs.declared.asking.NoLine.TheVariants as no
+use Rattle.cms_search.specs.declared.state.End.{End}
+use Rattle.cms_search.specs.declared.state.End.TheVariants.{Edge}
+
+-- where a run stands with this journal, this console, so many device faults and these units
+abbrev pub standing : Told → ConsoleState → ℕ → List Slot → Point
+standing told console faults units = record {
+  journal = told;
+  faults = faults;
+  units = units;
+  unread = console.unread;
+  ended = console.ended;
+}
+
+pub record Talks {R T : Type 0} (before now : Seen) (was is : ConsoleState) (t : Act R) (r : Result T End) (done : T → R) : Type 0 where
+  -- on whichever units, and whichever their count of faults, it did its tree, or was cut off in it
+  pub each : (faults : ℕ) (units : List Slot) → Plays (standing before.told was faults units) (standing now.told is faults units) t r done
+  -- nothing happened to any unit
+  pub idle : Idle before.told now.told
+  pub faults : now.faults ≡ before.faults
+  -- the other count hasn't fallen, and rose where the call was cut off at an edge
+  pub edges : before.edges ≤ now.edges
+  pub cause : IfErr r (λ e. e ≡ Edge → Rose before.edges now.edges)
+
+-- ---- an ask
+
+-- the item of the console that isn't a line
+abbrev pub item_in : NoLine → Item
+item_in no.Bad = Bad
+item_in no.Long = Long
+item_in no.Rest = Rest
+
+-- the machine with these stacked lines, and so many turns left
+abbrev pub with_lines : Machine → List (List ℕ) → ℕ → Machine
+with_lines s stack left = record s { stack = stack; left = left }
+
+-- what an ask came to, with the machine that is left
+abbrev pub asked_in : Machine → Asked → asking.Asked
+asked_in s (Given line) = asking.Given s line
+asked_in s Spent = asking.Spent
