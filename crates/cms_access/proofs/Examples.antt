@@ -6,7 +6,7 @@ use Rattle.cms_ebcdic.specs.CodePage.{character_of, code_of, code_page, host_of,
 use Rattle.cms_names.specs.Modes.{letter_of, mode_number_of, mode_word_of, short_mode_of}
 use Rattle.cms_names.specs.Names.{is_name_character}
 use Rattle.cms_fields.specs.declared.time.Moment.{Moment}
-use Rattle.cms_text.specs.Numbers.{decimal_of, written}
+use Rattle.cms_text.specs.Numbers.{decimal_of, written, magnitude_of}
 use Rattle.cms_text.specs.Texts.{ebcdic, is_keyword}
 use Rattle.cms_model.specs.Changes.{answer_of, changed, changed_files, is_full, limit, need, written_file}
 use Rattle.cms_model.specs.Minidisks.{State, Volume, Not}
@@ -22,7 +22,7 @@ use Rattle.cms_line.specs.Options.{options_from, options_of}
 use Rattle.cms_line.specs.Tokens.{tokens_from, tokens_of}
 use Rattle.cms_line.specs.declared.token.Token.{Token}
 use Rattle.cms_operands.specs.Choices.{all_valued, chosen_of, last_among, setting_in, valued}
-use Rattle.cms_operands.specs.Operands.{access_mode, access_mode_in, device, device_of, device_or_letter, ended, given, given_or, hexadecimal_of, letter, letter_or_all, needed, number_in, number_within, operands_of}
+use Rattle.cms_operands.specs.Operands.{access_mode, access_mode_in, device, device_of, device_or_letter, ended, given, given_or, hexadecimal_of, letter, letter_or_all, needed, number_within, operands_of}
 use Rattle.cms_operands.specs.Refusals.{message_of}
 use Rattle.cms_search.specs.Asking.{asking}
 use Rattle.cms_search.specs.Machine.{Letter, Machine, Course, Went, DeviceFault, OutOfTurns, typing}
@@ -167,7 +167,7 @@ refused_words : refuses new_machine (codes "FORMAT 19 *") (codes "CMS070E Operan
     × refuses new_machine (codes "FORMAT 199 A (BLKSIZE X") (codes "CMS029E Parameter X of option BLKSIZE is not valid") 24
     × refuses new_machine (codes "FORMAT 191 A (BLKSIZE 1024") (codes "CMS029E Parameter 1024 of option BLKSIZE is not valid") 24
 unfolding format_operands operands_of needed given device device_of hexadecimal_of letter mode_word_of short_mode_of letter_of ended chosen_of options_of options_from all_valued valued
-    setting_in number_within number_in last_among message_of ebcdic code_of code_page host_of upper_of character_of message_text typed_line tokens_of tokens_from
+    setting_in number_within magnitude_of last_among message_of ebcdic code_of code_page host_of upper_of character_of message_text typed_line tokens_of tokens_from
 refused_words = (refl, refl, refl, refl, refl)
 
 refused_disks : refuses new_machine (codes "FORMAT 199 A (BLKSIZE 512") (codes "CMS113E Device 199 does not exist") 36
@@ -177,7 +177,7 @@ refused_disks : refuses new_machine (codes "FORMAT 199 A (BLKSIZE 512") (codes "
     × refuses (of_unit in_doubt (unit 0x191)) (codes "FORMAT 191 A (LABEL") (codes "CMS115E Device 191 is in doubt") 36
     × refuses new_machine (codes "FORMAT 191 A (LABEL") (codes "CMS069E Disk A is not accessed") 36
 unfolding format_operands operands_of needed given device device_of hexadecimal_of letter mode_word_of short_mode_of letter_of ended chosen_of options_of options_from all_valued valued
-    setting_in number_within number_in last_among ebcdic code_of code_page host_of upper_of character_of message_text typed_line tokens_of tokens_from
+    setting_in number_within magnitude_of last_among ebcdic code_of code_page host_of upper_of character_of message_text typed_line tokens_of tokens_from
 refused_disks = (refl, refl, refl, refl, refl, refl)
 
 -- the volume id is changed, and nothing is typed then but the ready line; in doubt the letter is released

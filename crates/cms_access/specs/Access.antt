@@ -11,7 +11,7 @@ use Rattle.cms_line.specs.Messages.{message_text}
 use Rattle.cms_line.specs.declared.message.Message.TheVariants.{M112, M723}
 use Rattle.cms_line.specs.declared.token.Token.{Token}
 use Rattle.cms_operands.specs.Choices.{without_options}
-use Rattle.cms_operands.specs.Texts.{coded}
+use Rattle.cms_text.specs.Texts.{coded}
 use Rattle.cms_access.specs.declared.access.AccessLine.{AccessLine}
 use Rattle.cms_search.specs.Machine.{Letter, Machine, Course, Went, after_step, refusal}
 use Rattle.cms_operands.specs.Operands.{access_mode, device, ended, given_or, operands_of}

@@ -15,7 +15,7 @@ use Rattle.cms_access.specs.declared.query.Question.TheVariants.{Disks, Search}
 use Rattle.cms_search.specs.Machine.{Letter, Machine, Course, Went, is_seen, letter_at, minidisk_in, typing}
 use Rattle.cms_operands.specs.Operands.{ended, given_or, letter_or_all, needed, operands_of}
 use Rattle.cms_search.specs.Searches.{places_where}
-use Rattle.cms_operands.specs.Texts.{coded}
+use Rattle.cms_text.specs.Texts.{coded}
 use Rattle.cms_operands.specs.declared.refusal.Refusal.{Refusal}
 use Rattle.cms_operands.specs.declared.refusal.Refusal.TheVariants.{BadOperand}
 use Rattle.cms_search.specs.Refusing.{not_accessed, on_line}

@@ -1,5 +1,5 @@
 -- The making of an empty minidisk is two device steps of a machine.
-use Rattle.std.proofs.Common.{◌≡◌, ◌≢◌, ◌⊎◌, inl, inr, ⊎_elim, ℕ, ◌+◌, ◌≤◌, List, [], ◌∷◌, length, take, drop, replicate, append-nil, append_assoc, slice_get, Some, None, Result, Ok, Err, refl, sym, ◌∙◌, ap, subst, arith}
+use Rattle.std.proofs.Common.{◌≡◌, ◌≢◌, ◌⊎◌, inl, inr, ⊎_elim, ℕ, ◌+◌, ◌≤◌, List, [], ◌∷◌, length, take, drop, replicate, append_assoc, slice_get, Some, None, Result, Ok, Err, refl, sym, ◌∙◌, ap, subst, arith}
 use Rattle.std.proofs.lemmas.Bool.{cases_eq}
 use Rattle.std.proofs.lemmas.List.{length-replicate}
 use Rattle.cms_journal.specs.declared.event.Event.{Event}
@@ -33,14 +33,16 @@ use Rattle.cms_held.specs.Carrying.{IsHeldMinidisk}
 use Rattle.cms_held.specs.Making.{Making, IsEmptyVolume, IsReadyUnit, MakesEmpty, made_volume, made_writes}
 use Rattle.cms_held.specs.Opening.{HeldVolume}
 use Rattle.cms_held.specs.Systems.{Systems, block_writes, directory_pieces, map_pieces, node_writes}
-use Rattle.cms_held.proofs.Made.{facts, made_empty, map_times}
+use Rattle.cms_held.proofs.Made.{directory_long, facts, laid_out, made_empty, map_times}
 use Rattle.cms_held.proofs.NewMap.{row_within}
-use Rattle.cms_disk.specs.Disks.{Accessed, IsMinidisk, IsQuiet, disk_on}
+use Rattle.cms_held.proofs.WritesLong.{system_blocks}
+use Rattle.cms_disk.specs.Disks.{Accessed, IsQuiet, disk_on}
 use Rattle.cms_disk.specs.Making.{DoesBoth, DoesWipe, Doubted, Emptied, GrownOf, IsReady, LeavesQuiet, Made, empty_on}
 use Rattle.cms_disk.specs.declared.fault.DiskFault.{DiskFault}
 use Rattle.cms_disk.specs.declared.fault.DiskFault.TheVariants as failed
 use Rattle.cms_disk.specs.declared.unit.UnitInfo.{UnitInfo}
-use Rattle.cms_disk.proofs.StepPieces.{covered, first_stamped, front_has_stamp, grown_front, grown_of, grown_then, has_state, high_stamped, label_aside, only_update, only_writes, stamped_behind, start_has, told_after, update_stamped}
+use Rattle.cms_disk.proofs.Standing.{is_minidisk}
+use Rattle.cms_disk.proofs.StepPieces.{AreWhole, covered, first_stamped, front_has_stamp, front_whole, grown_front, grown_of, grown_then, has_state, has_whole, high_stamped, label_aside, only_update, only_writes, stamped_behind, start_has, told_after, update_stamped, update_whole, whole_after, whole_front}
 
 -- ---- the wiping
 
@@ -63,6 +65,9 @@ only_wipe u size = (refl, (refl, tt))
 stamped_wipe : (u size : ℕ) → AreStamped u None (wipe u size)
 stamped_wipe u size = ((λ same at. label_aside at), (tt, tt))
 
+wipe_whole : (u size : ℕ) → AreWhole u size (wipe u size)
+wipe_whole u size = ((refl, length-replicate {A = ℕ} size 0), (refl, tt))
+
 -- it was whole
 pub wiped : (j : Journal) (old mid : Told) (unit : UnitInfo) (before : State) → old ≡ Some j → IsReady j unit before → mid ≡ plus old (wipe unit.unit.number unit.bsize)
     → DoesWipe old mid unit before Good
@@ -81,6 +86,7 @@ wiped j old mid unit before is r told =
           (λ p front image left. ⊎_elim (λ (a : state_of disk (image_of image) ≡ before). inl (inl a)) (λ (b : state_of disk (image_of image) ≡ Not 2). inr (inl b)) (z.either p front image left))
           (λ image left. inl (none image left));
       left = has_state j old mid events disk u (Not 2) is told (contents_have (after j events) u (λ image. state_of disk image ≡ Not 2) none);
+      whole = has_whole j old mid events disk u is told (whole_after j u disk events (wipe_whole u unit.bsize) r.whole);
     }
 
 -- it was cut off
@@ -108,6 +114,7 @@ cut_wipe j old new unit before side p is r told front none state =
           (z.either q (front_of_front q p events inner front) image left))
           (λ image left. ⊎_elim (λ (a : state_of disk (image_of image) ≡ before). inl a) (λ (b : state_of disk (image_of image) ≡ Not 2). inr (inl b)) (z.either p front image left));
       left = has_state j old new p disk u (named before (Not 2) side) is told state;
+      whole = has_whole j old new p disk u is told (whole_after j u disk p (front_whole u unit.bsize p events front (wipe_whole u unit.bsize)) r.whole);
     }
 
 pub wipe_doubted : (j : Journal) (old new : Told) (unit : UnitInfo) (before : State) (volid : List ℕ) (stamp : Stamp) → old ≡ Some j → IsReady j unit before
@@ -174,9 +181,6 @@ unfolding writes
 one_sync u [] = refl
 one_sync u (w ∷ ws) = one_sync u ws
 
-whole_front : (p : List Event) → IsFront p p
-whole_front p = record { rest = []; is = append-nil p }
-
 label_front : (u : ℕ) (ws : List Write) (label : List ℕ) → IsFront (to_label u ws) (update u ws label)
 unfolding update
 label_front u ws label = record { rest = Wrote u 3 label ∷ Synced u ∷ []; is = append_assoc (writes u ws) (Synced u ∷ []) (Wrote u 3 label ∷ Synced u ∷ []) }
@@ -227,6 +231,10 @@ moves : (j : Journal) (old mid : Told) (unit : UnitInfo) (before : State) (volid
 moves j old mid unit before volid stamp s x =
     made_empty (after j (wipe unit.unit.number unit.bsize)) (made_on unit s) volid stamp x.empty (ready_unit j unit before s x.ready x.has x.least)
 
+made_whole : {volid : List ℕ} {stamp : Stamp} (unit : UnitInfo) (s : Systems) → IsEmptyVolume (made_on unit s) volid stamp → AreWhole unit.unit.number unit.bsize (made_events unit s)
+made_whole unit s e =
+    update_whole unit.unit.number unit.bsize (made_writes (made_on unit s)) s.label_bytes (system_blocks unit.bsize s (directory_long (made_on unit s) e)) (laid_out (made_on unit s) e).label_long
+
 -- the piece that it made, with its outcome
 making : (j : Journal) (old mid new : Told) (unit : UnitInfo) (before : State) (volid : List ℕ) (stamp : Stamp) (s : Systems) → Setting j old mid unit before volid stamp s
     → (o : Outcome) (p : List Event) → new ≡ plus mid p → IsFront p (made_events unit s) → syncs p ≡ update_syncs o → MayMake o
@@ -255,6 +263,9 @@ making j old mid new unit before volid stamp s x o p told front synced may cover
         covers = covers;
         left = has_state later mid new p (disk_on unit) u (state_in (slot_after (Settled (Not 2)) (Make u (Not 2) (empty_on unit volid) stamp) o))
             (told_after j old mid (wipe u unit.bsize) x.told_is x.wiped_is) told state;
+        whole = has_whole later mid new p (disk_on unit) u (told_after j old mid (wipe u unit.bsize) x.told_is x.wiped_is) told
+            (whole_after later u (disk_on unit) p (front_whole u unit.bsize p events front (made_whole unit s x.empty))
+            (whole_after j u (disk_on unit) (wipe u unit.bsize) (wipe_whole u unit.bsize) x.ready.whole));
       };
     }
 
@@ -262,18 +273,6 @@ making j old mid new unit before volid stamp s x o p told front synced may cover
 held_firm : (j : Journal) (v : HeldVolume) (m : Minidisk) → IsHeldMinidisk j v m → IsFirm v.disk j v.unit (Volume m)
 held_firm j v m h image left =
     (settled_is_firm v.disk j v.unit (opened h.layout) h.at.settled).1 image left ∙ ap Volume (minidisk_is v.disk h.layout ∙ sym h.minidisk_is)
-
-is_minidisk : (j : Journal) (d : Accessed) (m : Minidisk) → IsHeldMinidisk j d.volume m → IsMinidisk j d m
-is_minidisk j d m h = record {
-  stands = record {
-    whole = h.at.whole;
-    opened = opened h.layout;
-    opens = h.at.settled.opens;
-    volume_is = h.at.held;
-    minidisk_is = h.minidisk_is ∙ sym (minidisk_is d.volume.disk h.layout);
-  };
-  settled = h.at.settled;
-}
 
 -- all was done
 made_at : (j : Journal) (old mid new : Told) (unit : UnitInfo) (before : State) (volid : List ℕ) (stamp : Stamp) (s : Systems) (d : Accessed) → Setting j old mid unit before volid stamp s

@@ -1,7 +1,7 @@
 -- The records that are left, one after another.
 use Rattle.std.proofs.Common.{◌≡◌, ℕ, ◌+◌, ◌≤◌, true, List, [], ◌∷◌, ◌++◌, length, Option, Ok, refl, sym, ◌∙◌, ap, subst, arith, append_assoc, append-nil}
 use Rattle.std.specs.Prelude.{max, IfSome}
-use Rattle.std.specs.List.{All, concat}
+use Rattle.std.specs.List.{All}
 use Rattle.std.proofs.lemmas.List.{length_push}
 use Rattle.std.proofs.lemmas.List.Elements.{All-append, All-cons, All-nil}
 use Rattle.cms_journal.specs.Journal.{contents_of}
@@ -9,17 +9,12 @@ use Rattle.cms_journal.specs.Told.{Told}
 use Rattle.cms_names.specs.declared.name.Format.{Format}
 use Rattle.cms_names.specs.declared.name.Format.TheVariants.{F, V}
 use Rattle.cms_model.specs.Trees.{image_of}
-use Rattle.cms_model.specs.Records.{Fits, longest, stored, with_length}
+use Rattle.cms_model.specs.Records.{Fits, longest, stored}
 use Rattle.cms_edf.specs.OpeningSteps.{OfImage}
 use Rattle.cms_disk.specs.Cursors.{Reading, HandsOut, HasLeft, TextFits, fixed_of, text_of}
 use Rattle.cms_disk.specs.Getting.{Gathers}
+use Rattle.cms_model.proofs.Records.{stored_append}
 use Rattle.cms_disk.proofs.Moving.{none_more}
-
-stored_append : (format : Format) (a b : List (List ℕ)) → stored format (a ++ b) ≡ stored format a ++ stored format b
-stored_append F [] b = refl
-stored_append F (x ∷ xs) b = ap (λ (l : List ℕ). x ++ l) (stored_append F xs b) ∙ sym (append_assoc x (concat xs) (concat b))
-stored_append V [] b = refl
-stored_append V (x ∷ xs) b = ap (λ (l : List ℕ). with_length x ++ l) (stored_append V xs b) ∙ sym (append_assoc (with_length x) (stored V xs) (stored V b))
 
 longest_append : (a : List (List ℕ)) (text : List ℕ) → longest (a ++ (text ∷ [])) ≡ max (longest a) (length text)
 unfolding longest

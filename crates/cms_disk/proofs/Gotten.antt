@@ -158,3 +158,8 @@ fixed_is v k info c at first =
     let is = info_at v.files k info h at first.1 in
     let format : h.entry.format ≡ info.format = ap (λ (i : FileInfo). i.format) (sym is) in
     ap (λ (b : Begun). b.fixed) first.2.begun ∙ (ap (λ (f : Format). fixed_of f h.length) format ∙ ap (fixed_of info.format) (sym (ap (λ (b : Begun). b.longest) first.2.begun)))
+
+-- where all have one length, it is the one given
+pub fixed_length : (format : Format) (size most : ℕ) → format ≡ F → data_length format size most ≡ size
+fixed_length F size most is = refl
+fixed_length V size most is = absurd (cc)

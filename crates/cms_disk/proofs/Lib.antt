@@ -5,6 +5,13 @@ pub mod Finding
 pub mod Gathering
 pub mod Gotten
 pub mod Standing
+pub mod Courses
+pub mod Beside
+pub mod DraftSteps
+pub mod Filling
+pub mod Answering
+pub mod FilePut
+pub mod Adding
 pub mod Altering
 pub mod StepPieces
 pub mod Formatting

@@ -14,13 +14,16 @@ use Rattle.cms_model.specs.Volumes.{files_of, minidisk_of, state_of}
 use Rattle.cms_model.specs.Changes.{Drop, Limited, behind_first, last_first, drop_file, changed_files, written_file, limit, is_full, answer_of, file_named}
 use Rattle.cms_model.specs.LawsChanges.{IsPlace}
 use Rattle.cms_model.specs.Settled.{IsSettled}
+use Rattle.cms_model.specs.Stands.{opened}
 use Rattle.cms_model.specs.LawsUpdates.{after, now}
 use Rattle.cms_model.proofs.Changing.{place_changed}
 use Rattle.cms_model.proofs.Cuts.{length_cut}
 use Rattle.cms_model.proofs.FileSizes.{entries_fit}
 use Rattle.cms_model.proofs.MinidiskSizes.{directory_fits}
 use Rattle.cms_model.proofs.Opening.{open_ok, state_opens}
+use Rattle.cms_model.proofs.Renewing.{minidisk_is}
 use Rattle.cms_model.proofs.Settling.{aside_is_as_before}
+use Rattle.cms_held.specs.Carrying.{IsHeldMinidisk}
 use Rattle.cms_held.specs.Opening.{HeldFile, HeldVolume}
 use Rattle.cms_held.specs.LawsHeld.{IsFileOf, IsFound}
 use Rattle.cms_disk.specs.Disks.{Accessed, IsMinidisk, StandsIn, place_of}
@@ -129,3 +132,17 @@ minidisk_aside j piece d m aside is =
       stands = there.0;
       settled = subst (IsSettled d.volume.disk (after j piece) u) (sym there.1) (before.settled_same d.volume.disk is.stands.opened is.settled);
     }
+
+-- ---- a minidisk, as the volume below is held
+
+pub is_minidisk : (j : Journal) (d : Accessed) (m : Minidisk) → IsHeldMinidisk j d.volume m → IsMinidisk j d m
+is_minidisk j d m h = record {
+  stands = record {
+    whole = h.at.whole;
+    opened = opened h.layout;
+    opens = h.at.settled.opens;
+    volume_is = h.at.held;
+    minidisk_is = h.minidisk_is ∙ sym (minidisk_is d.volume.disk h.layout);
+  };
+  settled = h.at.settled;
+}

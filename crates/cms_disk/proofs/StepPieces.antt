@@ -1,33 +1,42 @@
 -- The pieces of a journal that device steps make: what a crash leaves of them, and the stamps of what they write.
-use Rattle.std.proofs.Common.{◌≡◌, ◌⊎◌, inl, inr, ℕ, zero, suc, ◌+◌, ◌-◌, ◌≤◌, List, [], ◌∷◌, ◌++◌, length, take, drop, slice_get, Option, Some, None, refl, sym, ◌∙◌, ap, subst, arith}
-use Rattle.std.specs.Prelude.{IsSomeAnd, ◌==◌}
+use Rattle.std.proofs.Common.{◌≡◌, ◌≢◌, ◌⊎◌, ⊎_elim, inl, inr, ℕ, zero, suc, ◌+◌, ◌-◌, ◌<◌, ◌≤◌, List, [], ◌∷◌, ◌++◌, length, take, drop, slice_get, get_or-set_same, append-nil, Option, Some, None, refl, sym, ◌∙◌, ap, subst, arith}
+use Rattle.std.specs.Prelude.{IsSomeAnd, ◌==◌, slice_set}
 use Rattle.std.specs.Option.{option_map_or}
-use Rattle.std.proofs.lemmas.Bool.{eq-eqb}
+use Rattle.std.specs.List.{AllByRecursion}
+use Rattle.std.proofs.lemmas.Bool.{cases_eq, cases_lt, eq-eqb}
 use Rattle.std.proofs.lemmas.List.{drop-take, take-take}
 use Rattle.cms_journal.specs.declared.event.Attached.{Attached}
 use Rattle.cms_journal.specs.declared.event.Event.{Event}
-use Rattle.cms_journal.specs.declared.event.Event.TheVariants.{Wrote, Synced}
-use Rattle.cms_journal.specs.Journal.{Journal, start_of}
-use Rattle.cms_journal.specs.Told.{Told, plus, IsOfUnit, OnlyOf}
+use Rattle.cms_journal.specs.declared.event.Event.TheVariants.{Read, Now, Typed, Wrote, Synced, Missed}
+use Rattle.cms_journal.specs.Journal.{Journal, contents, start_of}
+use Rattle.cms_journal.specs.Told.{Grown, Told, plus, IsOfUnit, OnlyOf}
+use Rattle.cms_journal.proofs.Crashes.{length-contents}
 use Rattle.cms_journal.proofs.Events.{all_front, all_join}
 use Rattle.cms_journal.proofs.Pieces.{plus_plus}
+use Rattle.cms_journal.proofs.Sizes.{block_bounds}
+use Rattle.cms_journal.proofs.Steps.{contents_wrote}
 use Rattle.cms_fields.specs.Stamps.{stamp_bytes}
 use Rattle.cms_fields.specs.declared.entry.Entry.{Entry}
 use Rattle.cms_fields.specs.declared.time.Stamp.{Stamp}
 use Rattle.cms_model.specs.Lists.{cut, times}
+use Rattle.cms_model.specs.LawsSizes.{IsWhole}
 use Rattle.cms_model.specs.LawsUpdates.{AddsFront, IsFront, after, now}
 use Rattle.cms_model.specs.Minidisks.{State}
 use Rattle.cms_model.specs.Settled.{EachCrash, MayLeave, Write, update, writes}
 use Rattle.cms_model.specs.Trees.{image_of}
 use Rattle.cms_model.specs.Volumes.{Disk, disk_of, state_of}
 use Rattle.cms_model.proofs.Fronts.{after_is_told}
+use Rattle.cms_model.proofs.Images.{image_past, synced_contents, wrote_other}
 use Rattle.cms_model.proofs.Repeats.{bit, hit}
+use Rattle.cms_tree.specs.Climbs.{AreOwn}
 use Rattle.cms_machine.specs.Beats.{AreStamped, Covers, HasStamp, IsStamped}
 use Rattle.cms_machine.specs.Points.{Leaves, LeavesIn}
 use Rattle.cms_machine.specs.Slots.{IsAmong}
+use Rattle.cms_held.specs.LawsRenewing.{AreBlocks}
 use Rattle.cms_held.specs.Systems.{Systems, block_writes, directory_bytes_of, system_entry}
 use Rattle.cms_held.proofs.Fronts.{writes_append}
-use Rattle.cms_disk.specs.Making.{GrownOf, HasState}
+use Rattle.cms_disk.specs.Changing.{HasState, IsWholeAt}
+use Rattle.cms_disk.specs.Making.{GrownOf}
 
 -- ---- the journal then
 
@@ -49,7 +58,7 @@ abbrev pub Shows : Journal → ℕ → Disk → Type 0
 Shows j u disk = (at : Attached) → slice_get j.units u ≡ Some at → disk_of at ≡ disk
 
 -- a state that a crash may leave is that of such an image
-leaves_state : (j : Journal) (u : ℕ) (disk : Disk) → Shows j u disk → (p : List Event) (P : State → Type 0) → EachCrash (after j p) u (λ image. P (state_of disk image))
+pub leaves_state : (j : Journal) (u : ℕ) (disk : Disk) → Shows j u disk → (p : List Event) (P : State → Type 0) → EachCrash (after j p) u (λ image. P (state_of disk image))
     → (x : State) → Leaves (plus (Some j) p) u x → P x
 leaves_state j u disk shows p P each x leaves =
     let l : LeavesIn (after j p) u x = subst (λ (t : Told). Leaves t u x) (after_is_told j p) leaves in
@@ -68,6 +77,9 @@ covered j old u disk is shows es before later inside whole = subst (λ (t : Told
 
 -- ---- events of one unit
 
+pub whole_front : (p : List Event) → IsFront p p
+whole_front p = record { rest = []; is = append-nil p }
+
 pub only_writes : (u : ℕ) (ws : List Write) → OnlyOf u (writes u ws)
 unfolding writes
 only_writes u [] = tt
@@ -80,7 +92,7 @@ only_update u ws label = all_join (IsOfUnit u) (writes u ws) (Synced u ∷ Wrote
 -- ---- the stamps of what is written
 
 -- no block from 6 on begins a directory, nor does the label
-no_directory : (n : ℕ) → 6 ≤ n → (n ≡ 4) ⊎ (n ≡ 5) → ⊥
+pub no_directory : (n : ℕ) → 6 ≤ n → (n ≡ 4) ⊎ (n ≡ 5) → ⊥
 no_directory n low (inl is) = omega (arith, low, is)
 no_directory n low (inr is) = omega (arith, low, is)
 
@@ -153,3 +165,92 @@ grown_then u old mid new a b = record {
 pub grown_front : (u : ℕ) (old new : Told) (events : List Event) → OnlyOf u events → AddsFront old new events → GrownOf u old new
 grown_front u old new events only f =
     record { events = f.front; told = f.told; of_unit = all_front (IsOfUnit u) f.front f.is.rest (subst (OnlyOf u) (sym f.is.is) only) }
+
+pub grown_some : {u : ℕ} {old new : Told} → GrownOf u old new → Grown old new
+grown_some g = record { events = g.events; told = g.told }
+
+-- ---- the size of each block
+
+-- the event writes a whole block of this unit, or syncs it
+abbrev pub IsWholeOf : ℕ → ℕ → Event → Type 0
+IsWholeOf u size (Wrote v k bytes) = (v ≡ u) × (length bytes ≡ size)
+IsWholeOf u size (Synced v) = v ≡ u
+IsWholeOf u size e = ⊥
+
+abbrev pub AreWhole : ℕ → ℕ → List Event → Type 0
+AreWhole u size es = AllByRecursion (IsWholeOf u size) es
+
+put_there : (blocks : List (List ℕ)) (k : ℕ) (bytes : List ℕ) → 1 ≤ k → k ≤ length blocks → image_of (slice_set blocks (k - 1) bytes) k ≡ bytes
+unfolding image_of
+put_there blocks k bytes some within = get_or-set_same blocks (k - 1) bytes [] (omega arith)
+
+written_there : (j : Journal) (u k : ℕ) (bytes : List ℕ) → 1 ≤ k → k ≤ length (start_of j.units u) → now (after j (Wrote u k bytes ∷ [])) u k ≡ bytes
+written_there j u k bytes some within =
+    let start = start_of j.units u in
+    let long = length-contents j.events u start in
+    ap (λ (blocks : List (List ℕ)). image_of blocks k) (contents_wrote j.events u k bytes start some) ∙ put_there (contents j.events u start) k bytes some (omega arith)
+
+-- a block that isn't empty is one of the contents
+has_room : (j : Journal) (u n size : ℕ) → 1 ≤ size → length (now j u n) ≡ size → n ≤ length (start_of j.units u)
+has_room j u n size some long = ⊎_elim
+    (λ (past : length (start_of j.units u) < n).
+    let none : now j u n ≡ [] = image_past (contents j.events u (start_of j.units u)) n (omega (arith, length-contents j.events u (start_of j.units u))) in
+    absurd (let zero : length (now j u n) ≡ 0 = ap (λ (l : List ℕ). length l) none in omega (arith, zero, long, some)))
+    (λ (within : n ≤ length (start_of j.units u)). within)
+    (cases_lt (length (start_of j.units u)) n)
+
+long_wrote : (j : Journal) (u k size count : ℕ) (bytes : List ℕ) → 1 ≤ size → length bytes ≡ size → ((n : ℕ) → 1 ≤ n → n ≤ count → length (now j u n) ≡ size)
+    → (n : ℕ) → 1 ≤ n → n ≤ count → length (now (after j (Wrote u k bytes ∷ [])) u n) ≡ size
+long_wrote j u k size count bytes some sized long n from to = ⊎_elim
+    (λ (is : n ≡ k).
+    let room = has_room j u n size some (long n from to) in
+    ap (λ (m : ℕ). length (now (after j (Wrote u k bytes ∷ [])) u m)) is
+    ∙ (ap (λ (l : List ℕ). length l) (written_there j u k bytes (omega (arith, is, from)) (omega (arith, is, room))) ∙ sized))
+    (λ (other : n ≢ k). ap (λ (l : List ℕ). length l) (wrote_other j.events u k n bytes (start_of j.units u) from (λ same. other (sym same))) ∙ long n from to)
+    (cases_eq n k)
+
+long_after : (j : Journal) (u size count : ℕ) (p : List Event) → 1 ≤ size → AreWhole u size p → ((n : ℕ) → 1 ≤ n → n ≤ count → length (now j u n) ≡ size)
+    → (n : ℕ) → 1 ≤ n → n ≤ count → length (now (after j p) u n) ≡ size
+long_after j u size count [] some all long n from to = long n from to
+long_after j u size count (Wrote v k bytes ∷ p) some all long n from to =
+    let later = after j (Wrote v k bytes ∷ []) in
+    long_after later u size count p some all.1
+    (subst (λ (w : ℕ). (m : ℕ) → 1 ≤ m → m ≤ count → length (now (after j (Wrote w k bytes ∷ [])) u m) ≡ size) (sym all.0.0) (long_wrote j u k size count bytes some all.0.1 long)) n from to
+long_after j u size count (Synced v ∷ p) some all long n from to =
+    let later = after j (Synced v ∷ []) in
+    long_after later u size count p some all.1
+    (λ m low high. ap (λ (blocks : List (List ℕ)). length (image_of blocks m)) (synced_contents v j.events u (start_of j.units u)) ∙ long m low high) n from to
+long_after j u size count (Read bytes ∷ p) some all long n from to = absurd all.0
+long_after j u size count (Now seconds ∷ p) some all long n from to = absurd all.0
+long_after j u size count (Typed bytes ∷ p) some all long n from to = absurd all.0
+long_after j u size count (Missed name bsize access ∷ p) some all long n from to = absurd all.0
+
+pub whole_after : (j : Journal) (u : ℕ) (disk : Disk) (p : List Event) → AreWhole u disk.bsize p → IsWhole disk (now j u) → IsWhole disk (now (after j p) u)
+whole_after j u disk p all whole = record {
+  size = whole.size;
+  small = whole.small;
+  each = (let low = (block_bounds disk.bsize whole.size).0 in long_after j u disk.bsize disk.count p (omega (arith, low)) all whole.each);
+}
+
+pub has_whole : (j : Journal) (old new : Told) (p : List Event) (disk : Disk) (u : ℕ) → old ≡ Some j → new ≡ plus old p → IsWhole disk (now (after j p) u) → IsWholeAt new disk u
+has_whole j old new p disk u is told whole = subst (λ (t : Told). IsWholeAt t disk u) (sym (told_after j old new p is told)) whole
+
+pub front_whole : (u size : ℕ) (p whole : List Event) → IsFront p whole → AreWhole u size whole → AreWhole u size p
+front_whole u size p whole front all = all_front (IsWholeOf u size) p front.rest (subst (AreWhole u size) (sym front.is) all)
+
+writes_whole : (u size : ℕ) (ws : List Write) → AreBlocks size ws → AreWhole u size (writes u ws)
+unfolding writes
+writes_whole u size [] blocks = tt
+writes_whole u size (w ∷ ws) blocks = ((refl, blocks.0), writes_whole u size ws blocks.1)
+
+pub own_blocks : (size : ℕ) (blocks : List ℕ) (ws : List Write) → AreOwn size blocks ws → AreBlocks size ws
+own_blocks size blocks [] own = tt
+own_blocks size blocks (w ∷ ws) own = (own.1, own_blocks size blocks ws own.2)
+
+pub both_blocks : (size : ℕ) (ws more : List Write) → AreBlocks size ws → AreBlocks size more → AreBlocks size (ws ++ more)
+both_blocks size [] more one two = two
+both_blocks size (w ∷ ws) more one two = (one.0, both_blocks size ws more one.1 two)
+
+pub update_whole : (u size : ℕ) (ws : List Write) (label : List ℕ) → AreBlocks size ws → length label ≡ size → AreWhole u size (update u ws label)
+unfolding update
+update_whole u size ws label blocks long = all_join (IsWholeOf u size) (writes u ws) (Synced u ∷ Wrote u 3 label ∷ Synced u ∷ []) (writes_whole u size ws blocks) (refl, ((refl, long), (refl, tt)))

@@ -1,5 +1,5 @@
 -- A minidisk that is changed, as a device step of a machine.
-use Rattle.std.specs.Prelude.{◌≡◌, ℕ, false, List, [], ◌∷◌, None, Some, Result, Ok, Err, ⊤}
+use Rattle.std.specs.Prelude.{◌≡◌, ◌⊎◌, ℕ, false, List, [], ◌∷◌, None, Some, Result, Ok, Err, IfErr, ⊤}
 use Rattle.cms_journal.specs.declared.event.Event.{Event}
 use Rattle.cms_journal.specs.Journal.{Journal}
 use Rattle.cms_journal.specs.Told.{Told, plus, OnlyOf}
@@ -8,13 +8,15 @@ use Rattle.cms_model.specs.Minidisks.{File, Minidisk, State, Volume}
 use Rattle.cms_model.specs.Changes.{Change, Put, Add, Drop, Rename, Relabel, Limited, Changed, answer_of, file_named}
 use Rattle.cms_model.specs.Changes as model
 use Rattle.cms_model.specs.Volumes.{Disk, state_of}
+use Rattle.cms_model.specs.LawsSizes.{IsWhole}
 use Rattle.cms_model.specs.LawsUpdates.{now}
 use Rattle.cms_machine.specs.Slots.{Side, Settled, set_of, named}
 use Rattle.cms_machine.specs.Steps as steps
-use Rattle.cms_machine.specs.Steps.{Outcome, Good, OldFault, EitherFault, slot_after}
+use Rattle.cms_machine.specs.Steps.{Outcome, Good, ReadFault, OldFault, EitherFault, slot_after}
 use Rattle.cms_machine.specs.Beats.{FitsStep, Covers}
 use Rattle.cms_edf.specs.declared.doubt.Doubt.{Doubt}
 use Rattle.cms_edf.specs.declared.doubt.Doubt.TheVariants.{Old, Either}
+use Rattle.cms_world.specs.Seen.{Seen, ChangesUnits}
 use Rattle.cms_disk.specs.Disks.{Accessed, IsMinidisk}
 use Rattle.cms_disk.specs.declared.fault.DiskFault.{DiskFault}
 use Rattle.cms_disk.specs.declared.fault.DiskFault.TheVariants as failed
@@ -34,6 +36,11 @@ pub record Changes (old new : Told) (u : ℕ) (m : Minidisk) (change : Change) (
 abbrev pub HasState : Told → Disk → ℕ → State → Type 0
 HasState None disk u state = ⊥
 HasState (Some j) disk u state = state_of disk (now j u) ≡ state
+
+-- each of its blocks has its size
+abbrev pub IsWholeAt : Told → Disk → ℕ → Type 0
+IsWholeAt None disk u = ⊥
+IsWholeAt (Some j) disk u = IsWhole disk (now j u)
 
 -- the minidisk is changed; the disk d is the new one
 pub record Altered (old new : Told) (d : Accessed) (m : Minidisk) (change : Change) (stamp : Stamp) : Type 0 where
@@ -59,6 +66,7 @@ pub record Doubted (old new : Told) (d : Accessed) (m : Minidisk) (change : Chan
   pub answer : answer_of m change ≡ Changed after
   pub side : Side
   pub left : HasState new d.volume.disk d.volume.unit (named (Volume m) (Volume after) side)
+  pub whole : IsWholeAt new d.volume.disk d.volume.unit
   pub changes : Changes old new d.volume.unit m change stamp (EitherFault side)
 
 -- ---- what a change comes to
@@ -68,7 +76,7 @@ abbrev pub IsMissing : Minidisk → Change → Type 0
 IsMissing m (Drop name) = file_named name m.files ≡ None
 IsMissing m (Rename from to number) = file_named from m.files ≡ None
 IsMissing m (Put new) = ⊥
-IsMissing m (Add name more stamp) = ⊥
+IsMissing m (Add name more stamp) = file_named name m.files ≡ None
 IsMissing m (Relabel volid) = ⊥
 
 -- the new name is another file's
@@ -92,12 +100,33 @@ Alters old new d e m change stamp (Err (failed.Limit k)) = (new ≡ old) × (ans
 Alters old new d e m change stamp (Err (failed.Full need free)) = (new ≡ old) × (answer_of m change ≡ model.Full need free)
 Alters old new d e m change stamp (Err failed.Memory) = new ≡ old
 
+-- a read of the file failed before anything was written
+pub record Unread (old new : Told) (d : Accessed) (m : Minidisk) (change : Change) (stamp : Stamp) : Type 0 where
+  pub same : new ≡ old
+  pub changes : Changes old new d.volume.unit m change stamp (ReadFault 0)
+
+-- what it comes to that records are added to a file, which is read first
+abbrev pub Appends : Told → Told → Accessed → Accessed → Minidisk → Change → Stamp → Result ⊤ DiskFault → Type 0
+Appends old new d e m change stamp (Err failed.Device) = Unread old new d m change stamp ⊎ Kept old new e m change stamp
+Appends old new d e m change stamp result = Alters old new d e m change stamp result
+
 -- it is on the same unit, and may be written as before
 pub record IsOnSame (d e : Accessed) : Type 0 where
   pub vdev : e.vdev ≡ d.vdev
   pub writable : e.writable ≡ d.writable
   pub unit : e.volume.unit ≡ d.volume.unit
   pub disk : e.volume.disk ≡ d.volume.disk
+
+-- the device failed
+abbrev pub IsDevices : DiskFault → Type 0
+IsDevices e = (e ≡ failed.Device) ⊎ (e ≡ failed.InDoubt)
+
+-- a call that changes a minidisk: units were changed and nothing else was done; it is on the same unit, and unless it is in doubt a refusal
+-- leaves it as before but for its spare places
+pub record ChangesDisk (before now : Seen) (d e : Accessed) (result : Result ⊤ DiskFault) : Type 0 where
+  pub units : ChangesUnits before now IsDevices result
+  pub same : IsOnSame d e
+  pub kept : IfErr result (λ why. (why ≡ failed.InDoubt → ⊥) → e ≡ record d { spare = e.spare })
 
 -- what is answered where the device failed while a change was carried out
 abbrev pub fault_of : Doubt → DiskFault

@@ -67,7 +67,16 @@ pub record IsMinidisk (j : Journal) (d : Accessed) (m : Minidisk) : Type 0 where
 abbrev pub IsQuiet : Disk → Journal → ℕ → Type 0
 IsQuiet disk j u = ((v : Opened) × IsSettled disk j u v) ⊎ ((k : ℕ) × IsFirm disk j u (Not k))
 
+-- what always holds of one: it is the volume of its unit
+pub record IsVolumeOf (unit : UnitInfo) (v : HeldVolume) : Type 0 where
+  pub number : v.unit ≡ unit.unit.number
+  pub disk : v.disk ≡ disk_on unit
+
 -- ---- an access
+
+-- the device failed: with the sync, or with a read
+abbrev pub IsDevices : AccessFault → Type 0
+IsDevices e = (e ≡ Sync) ⊎ (e ≡ Open failed.Device)
 
 -- the volume that opens in this image, or the first test that fails
 abbrev pub AnswersAccess : UnitInfo → Image → Result Accessed AccessFault → Type 0

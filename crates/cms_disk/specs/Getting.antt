@@ -1,5 +1,5 @@
 -- A file that is read whole.
-use Rattle.std.specs.Prelude.{◌≡◌, ℕ, List, length, All, None, Some, Result, Ok, Err, ⊤}
+use Rattle.std.specs.Prelude.{◌≡◌, ℕ, List, length, slice_get, All, None, Some, Result, Ok, Err, ⊤}
 use Rattle.cms_names.specs.declared.name.Name.{Name}
 use Rattle.cms_names.specs.declared.name.Format.{Format}
 use Rattle.cms_names.specs.declared.name.Format.TheVariants.{F, V}
@@ -9,7 +9,10 @@ use Rattle.cms_model.specs.Records.{Fits, StandsFor, longest, stored}
 use Rattle.cms_model.specs.Changes.{file_named}
 use Rattle.cms_model.specs.declared.file.FileData.{FileData}
 use Rattle.cms_disk.specs.Cursors.{Reading}
-use Rattle.cms_disk.specs.Disks.{Accessed, StandsIn}
+use Rattle.cms_held.specs.Opening.{HeldVolume}
+use Rattle.cms_edf.specs.Asking.{infos_in}
+use Rattle.cms_edf.specs.declared.held.FileInfo.{FileInfo}
+use Rattle.cms_disk.specs.Disks.{Accessed, StandsIn, place_of}
 use Rattle.cms_disk.specs.declared.fault.DiskFault.{DiskFault}
 use Rattle.cms_disk.specs.declared.fault.DiskFault.TheVariants as failed
 
@@ -48,3 +51,12 @@ GetsFile name m (Err (failed.Full need free)) = ⊥
 
 abbrev pub GetsIn : Image → Accessed → Name → Result FileData DiskFault → Type 0
 GetsIn image d name result = (m : Minidisk) → StandsIn image d m → GetsFile name m result
+
+-- in every world the data have the format that is told of the file of a name, and where all records have one length, that
+pub record IsLike (v : HeldVolume) (name : Name) (d : FileData) : Type 0 where
+  pub place : ℕ
+  pub place_is : place_of name v ≡ Some place
+  pub info : FileInfo
+  pub info_is : slice_get (infos_in v) place ≡ Some info
+  pub format : d.format ≡ info.format
+  pub fixed : info.format ≡ F → d.length ≡ info.length

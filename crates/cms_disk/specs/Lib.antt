@@ -5,3 +5,4 @@ pub mod Getting
 pub mod LawsDisks
 pub mod Changing
 pub mod Making
+pub mod Drafts

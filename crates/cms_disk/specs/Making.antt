@@ -15,6 +15,7 @@ use Rattle.cms_machine.specs.Slots.{Side, Settled, set_of, state_in}
 use Rattle.cms_machine.specs.Steps.{Step, Wipe, Make, Outcome, Good, OldFault, EitherFault, slot_after, unit_of}
 use Rattle.cms_machine.specs.Beats.{FitsStep, Covers}
 use Rattle.cms_held.specs.Making.{empty_label}
+use Rattle.cms_disk.specs.Changing.{HasState, IsWholeAt}
 use Rattle.cms_disk.specs.Disks.{Accessed, IsMinidisk, IsQuiet, disk_on}
 use Rattle.cms_disk.specs.declared.fault.DiskFault.{DiskFault}
 use Rattle.cms_disk.specs.declared.fault.DiskFault.TheVariants as failed
@@ -22,14 +23,9 @@ use Rattle.cms_disk.specs.declared.unit.UnitInfo.{UnitInfo}
 
 -- ---- a device step
 
--- the contents of a unit have this state
-abbrev pub HasState : Told → Disk → ℕ → State → Type 0
-HasState None disk u state = ⊥
-HasState (Some j) disk u state = state_of disk (now j u) ≡ state
-
 -- the piece of the journal that a step made on a unit in this state, with its outcome: it has the events of its unit and the syncs that
 -- the outcome has, a crash within it leaves the state before or one of those after it, a crash behind it one of those after it; and
--- then the contents have the state that the machine knows
+-- then the contents have the state that the machine knows, each block with its size
 pub record Does (old new : Told) (disk : Disk) (before : State) (s : Step) (o : Outcome) : Type 0 where
   pub events : List Event
   pub told : new ≡ plus old events
@@ -37,6 +33,7 @@ pub record Does (old new : Told) (disk : Disk) (before : State) (s : Step) (o : 
   pub fits : FitsStep s o events
   pub covers : Covers old events (unit_of s) (set_of (Settled before)) (set_of (slot_after (Settled before) s o))
   pub left : HasState new disk (unit_of s) (state_in (slot_after (Settled before) s o))
+  pub whole : IsWholeAt new disk (unit_of s)
 
 -- ---- the two steps
 

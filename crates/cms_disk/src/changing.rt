@@ -1,16 +1,15 @@
 // Changes of a minidisk.
 ghost use Rattle.std.specs.Prelude.{◌≡◌, ◌⊎◌, ◌≤◌, true, false, None, Some, Err, IfErr};
+ghost use Rattle.cms_world.specs.Seen.{seen};
 ghost use Rattle.std.specs.Option.{ForSome};
-ghost use Rattle.cms_journal.specs.Causes.{Rose};
 ghost use Rattle.cms_journal.specs.Journal.{Journal, IsWritable};
-ghost use Rattle.cms_journal.specs.Told.{Grown};
 ghost use Rattle.cms_fields.specs.Stamps.{is_stamp};
 ghost use Rattle.cms_model.specs.Minidisks as minidisks;
 ghost use Rattle.cms_model.specs.Changes.{Drop, Rename, Relabel};
 ghost use Rattle.cms_edf.specs.Planning.{CanChange, change_of};
-ghost use Rattle.cms_disk.specs.Changing.{Alters, IsChangeFault, IsOnSame};
+ghost use Rattle.cms_disk.specs.Changing.{Alters, ChangesDisk, IsChangeFault};
 ghost use Rattle.cms_disk.specs.Disks.{IsLookedAt, IsMinidisk, IsOthers, IsReadable, place_of};
-ghost use Rattle.cms_disk.specs.declared.fault.DiskFault.TheVariants.{Device, Exists, InDoubt, NotFound, ReadOnly};
+ghost use Rattle.cms_disk.specs.declared.fault.DiskFault.TheVariants.{Exists, NotFound, ReadOnly};
 
 use crate::fault::DiskFault;
 use crate::minidisk::Minidisk;
@@ -42,12 +41,7 @@ impl Minidisk {
         ensures absent { place_of name.now self.old.volume ≡ None → result ≡ Err NotFound }
         ensures read_only { IfErr result (λ e. e ≡ ReadOnly → self.old.writable ≡ false) }
         ensures locked { self.old.writable ≡ false → (result ≡ Err NotFound) ⊎ (result ≡ Err ReadOnly) }
-        ensures same { IsOnSame self.old self.new }
-        ensures kept { IfErr result (λ e. (e ≡ InDoubt → ⊥) → self.new ≡ record self.old { spare = self.new.spare }) }
-        ensures grown { Grown (W.told world.old) (W.told world.new) }
-        ensures cause { IfErr result (λ e. (e ≡ Device) ⊎ (e ≡ InDoubt) → Rose (W.faults world.old) (W.faults world.new)) }
-        ensures faults { W.faults world.old ≤ W.faults world.new }
-        ensures edges { W.edges world.new ≡ W.edges world.old }
+        ensures changes { ChangesDisk (seen W.World world.old) (seen W.World world.new) self.old self.new result }
     {
         if !self.has(name) {
             return Err(DiskFault::NotFound);
@@ -82,12 +76,7 @@ impl Minidisk {
         ensures taken { IsOthers from.now to.now self.old.volume → (result ≡ Err NotFound) ⊎ (result ≡ Err Exists) }
         ensures read_only { IfErr result (λ e. e ≡ ReadOnly → self.old.writable ≡ false) }
         ensures locked { self.old.writable ≡ false → (result ≡ Err NotFound) ⊎ (result ≡ Err Exists) ⊎ (result ≡ Err ReadOnly) }
-        ensures same { IsOnSame self.old self.new }
-        ensures kept { IfErr result (λ e. (e ≡ InDoubt → ⊥) → self.new ≡ record self.old { spare = self.new.spare }) }
-        ensures grown { Grown (W.told world.old) (W.told world.new) }
-        ensures cause { IfErr result (λ e. (e ≡ Device) ⊎ (e ≡ InDoubt) → Rose (W.faults world.old) (W.faults world.new)) }
-        ensures faults { W.faults world.old ≤ W.faults world.new }
-        ensures edges { W.edges world.new ≡ W.edges world.old }
+        ensures changes { ChangesDisk (seen W.World world.old) (seen W.World world.new) self.old self.new result }
     {
         if !self.has(from) {
             return Err(DiskFault::NotFound);
@@ -117,12 +106,7 @@ impl Minidisk {
             → Alters (W.told world.old) (W.told world.new) self.old self.new m (Relabel volid) stamp.now result }
         ensures read_only { IfErr result (λ e. e ≡ ReadOnly → self.old.writable ≡ false) }
         ensures locked { self.old.writable ≡ false → result ≡ Err ReadOnly }
-        ensures same { IsOnSame self.old self.new }
-        ensures kept { IfErr result (λ e. (e ≡ InDoubt → ⊥) → self.new ≡ record self.old { spare = self.new.spare }) }
-        ensures grown { Grown (W.told world.old) (W.told world.new) }
-        ensures cause { IfErr result (λ e. (e ≡ Device) ⊎ (e ≡ InDoubt) → Rose (W.faults world.old) (W.faults world.new)) }
-        ensures faults { W.faults world.old ≤ W.faults world.new }
-        ensures edges { W.edges world.new ≡ W.edges world.old }
+        ensures changes { ChangesDisk (seen W.World world.old) (seen W.World world.new) self.old self.new result }
     {
         if !self.is_writable() {
             return Err(DiskFault::ReadOnly);
@@ -146,12 +130,7 @@ impl Minidisk {
             → IsMinidisk j self.old m → IsLookedAt j self.old
             → Alters (W.told world.old) (W.told world.new) self.old self.new m (change_of change.now) stamp.now result }
         ensures fault { IfErr result IsChangeFault }
-        ensures same { IsOnSame self.old self.new }
-        ensures kept { IfErr result (λ e. (e ≡ InDoubt → ⊥) → self.new ≡ record self.old { spare = self.new.spare }) }
-        ensures grown { Grown (W.told world.old) (W.told world.new) }
-        ensures cause { IfErr result (λ e. (e ≡ Device) ⊎ (e ≡ InDoubt) → Rose (W.faults world.old) (W.faults world.new)) }
-        ensures faults { W.faults world.old ≤ W.faults world.new }
-        ensures edges { W.edges world.new ≡ W.edges world.old }
+        ensures changes { ChangesDisk (seen W.World world.old) (seen W.World world.new) self.old self.new result }
     {
         let plan = match plan(alloc, &mut self.held, change, stamp) {
             Ok(plan) => plan,

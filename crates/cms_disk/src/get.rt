@@ -8,7 +8,7 @@ ghost use Rattle.cms_model.specs.Trees.{image_of};
 ghost use Rattle.cms_edf.specs.OpeningSteps.{OfImage};
 ghost use Rattle.cms_disk.specs.Cursors.{HasLeft, fixed_of};
 ghost use Rattle.cms_disk.specs.Disks.{IsReadable, place_of};
-ghost use Rattle.cms_disk.specs.Getting.{Gathers, GetsIn, data_length};
+ghost use Rattle.cms_disk.specs.Getting.{Gathers, GetsIn, IsLike, data_length};
 ghost use Rattle.cms_disk.specs.declared.fault.DiskFault.TheVariants.{Altered, Device, Memory, NotFound};
 ghost use Rattle.cms_world.specs.Seen.{OnlyReads, seen};
 
@@ -89,6 +89,7 @@ impl Minidisk {
     ) -> Result<FileData, DiskFault>
         requires blocks { ForSome (W.told world.old) (λ j. IsReadable j self.now) }
         ensures valid { IfOk result IsValid }
+        ensures like { IfOk result (IsLike self.now.volume name.now) }
         ensures file { OfImage (W.told world.old) self.now.volume.unit (λ image. GetsIn image self.now name.now result) }
         ensures found { OnOk result (IsSome (place_of name.now self.now.volume)) }
         ensures missing { IfErr result (λ e. e ≡ NotFound → place_of name.now self.now.volume ≡ None) }

@@ -1,13 +1,14 @@
 // An empty minidisk is made.
-ghost use Rattle.std.specs.Prelude.{◌≡◌, ◌⊎◌, ◌≤◌, true, Some, IfOk, IfErr};
+ghost use Rattle.std.specs.Prelude.{◌≡◌, ◌≤◌, true, Some, IfOk, IfErr};
 ghost use Rattle.std.specs.Option.{ForSome};
-ghost use Rattle.cms_journal.specs.Causes.{Rose};
 ghost use Rattle.cms_journal.specs.Journal.{Journal, HasBlocks, IsWritable};
 ghost use Rattle.cms_fields.specs.Stamps.{is_stamp};
 ghost use Rattle.cms_model.specs.Minidisks.{State};
+ghost use Rattle.cms_world.specs.Seen.{ChangesUnits, seen};
+ghost use Rattle.cms_disk.specs.Changing.{IsDevices};
 ghost use Rattle.cms_disk.specs.Disks.{IsOn};
 ghost use Rattle.cms_disk.specs.Making.{Formats, GrownOf, IsEmptyOn, IsMakeFault, IsReady, LeavesQuiet};
-ghost use Rattle.cms_disk.specs.declared.fault.DiskFault.TheVariants.{Device, InDoubt, Memory};
+ghost use Rattle.cms_disk.specs.declared.fault.DiskFault.TheVariants.{Memory};
 
 use crate::fault::DiskFault;
 use crate::minidisk::Minidisk;
@@ -43,10 +44,8 @@ impl Minidisk {
             → LeavesQuiet (W.told world.new) unit.now result }
         ensures fault { IfErr result IsMakeFault }
         ensures nothing { IfErr result (λ e. e ≡ Memory → W.told world.new ≡ W.told world.old) }
-        ensures grown { GrownOf unit.now.unit.number (W.told world.old) (W.told world.new) }
-        ensures cause { IfErr result (λ e. (e ≡ Device) ⊎ (e ≡ InDoubt) → Rose (W.faults world.old) (W.faults world.new)) }
-        ensures faults { W.faults world.old ≤ W.faults world.new }
-        ensures edges { W.edges world.new ≡ W.edges world.old }
+        ensures of_unit { GrownOf unit.now.unit.number (W.told world.old) (W.told world.new) }
+        ensures changes { ChangesUnits (seen W.World world.old) (seen W.World world.new) IsDevices result }
     {
         let plan = plan_make(alloc, &unit.unit, unit.bsize, volid, stamp)?;
         match wipe(world, unit.unit.number, unit.bsize) {

@@ -1,7 +1,7 @@
 // A volume that is accessed.
 ghost use Rattle.std.specs.Prelude.{◌≡◌, ◌↔◌, ◌⊎◌, ◌<◌, ◌≤◌, true, false, length, slice_get, Some, None, IsSome, IsTrue, IfOk, IfErr, OnOk, OnErr};
 ghost use Rattle.std.specs.Option.{ForSome};
-ghost use Rattle.cms_journal.specs.Causes.{Rose};
+ghost use Rattle.cms_world.specs.Seen.{ChangesUnits, OnlyReads, seen};
 ghost use Rattle.cms_journal.specs.Journal.{HasBlocks, contents_of};
 ghost use Rattle.cms_model.specs.LawsSizes.{IsWhole};
 ghost use Rattle.cms_model.specs.LawsUpdates.{now};
@@ -12,7 +12,7 @@ ghost use Rattle.cms_held.specs.Kept.{Keeps};
 ghost use Rattle.cms_held.specs.Opening.{HeldFile};
 ghost use Rattle.cms_edf.specs.OpeningSteps.{OfImage};
 ghost use Rattle.cms_disk.specs.Cursors.{IsFirst};
-ghost use Rattle.cms_disk.specs.Disks.{AnswersAccess, HasNone, IsLeft, IsOn, IsQuiet, OpensIn, StartsAt, disk_on, place_of, synced, told_with};
+ghost use Rattle.cms_disk.specs.Disks.{AnswersAccess, HasNone, IsDevices, IsLeft, IsOn, IsQuiet, OpensIn, StartsAt, disk_on, place_of, synced, told_with};
 ghost use Rattle.cms_disk.specs.declared.fault.AccessFault.TheVariants.{Open, Sync};
 ghost use Rattle.cms_disk.specs.declared.fault.DiskFault.TheVariants.{Memory, NotFound};
 
@@ -33,14 +33,13 @@ pub struct Minidisk {
 }
 
 impl Model for Minidisk {
-    ghost use Rattle.std.specs.Prelude.{◌≡◌};
-    ghost use Rattle.cms_disk.specs.Disks.{Accessed, disk_on};
+    ghost use Rattle.cms_disk.specs.Disks.{Accessed, IsVolumeOf};
 
     ghost Value = { Accessed };
 
     ghost view = { λ d. record { vdev = d.unit.vdev; writable = d.unit.writable; volume = d.held.volume; spare = d.held.spare } };
 
-    ghost invariant = { λ d. (d.held.volume.unit ≡ d.unit.unit.number) × (d.held.volume.disk ≡ disk_on d.unit) };
+    ghost invariant = { λ d. IsVolumeOf d.unit d.held.volume };
 }
 
 impl Minidisk {
@@ -60,10 +59,8 @@ impl Minidisk {
             → IsLeft (disk_on unit.now) j unit.now.unit.number result) }
         ensures synced { OnOk result (W.told world.new ≡ synced doubt unit.now.unit.number (W.told world.old)) }
         ensures refused { IfErr result (λ e. W.told world.new ≡ told_with e doubt unit.now.unit.number (W.told world.old)) }
-        ensures doubt { IfErr result (λ e. e ≡ Sync → (doubt ≡ true) × Rose (W.faults world.old) (W.faults world.new)) }
-        ensures cause { IfErr result (λ e. e ≡ Open failed.Device → Rose (W.faults world.old) (W.faults world.new)) }
-        ensures faults { W.faults world.old ≤ W.faults world.new }
-        ensures edges { W.edges world.new ≡ W.edges world.old }
+        ensures doubt { IfErr result (λ e. e ≡ Sync → doubt ≡ true) }
+        ensures changes { ChangesUnits (seen W.World world.old) (seen W.World world.new) IsDevices result }
     {
         settle(world, unit, doubt)?;
         Minidisk::read(alloc, world, unit)
@@ -81,10 +78,7 @@ impl Minidisk {
         ensures left { ForSome (W.told world.old) (λ j. IsWhole (disk_on unit.now) (now j unit.now.unit.number)
             → IsQuiet (disk_on unit.now) j unit.now.unit.number → IsLeft (disk_on unit.now) j unit.now.unit.number result) }
         ensures opened { IfErr result (λ e. e ≡ Sync → ⊥) }
-        ensures cause { IfErr result (λ e. e ≡ Open failed.Device → Rose (W.faults world.old) (W.faults world.new)) }
-        ensures told { W.told world.new ≡ W.told world.old }
-        ensures faults { W.faults world.old ≤ W.faults world.new }
-        ensures edges { W.edges world.new ≡ W.edges world.old }
+        ensures reads { OnlyReads (seen W.World world.old) (seen W.World world.new) (Open failed.Device) result }
     {
         match open_volume(alloc, world, &unit.unit, unit.bsize) {
             Ok(held) => Ok(Minidisk { unit: *unit, held }),
@@ -183,10 +177,8 @@ fn settle<W: World>(world: &mut W, unit: &UnitInfo, doubt: bool) -> Result<(), A
         → IsQuiet (disk_on unit.now) j unit.now.unit.number)) }
     ensures blocks { ForSome (W.told world.new) (λ j. HasBlocks j.units unit.now.unit.number unit.now.unit.blocks unit.now.bsize) }
     ensures synced { OnOk result (W.told world.new ≡ synced doubt unit.now.unit.number (W.told world.old)) }
-    ensures failed { IfErr result (λ e. (e ≡ Sync) × (doubt ≡ true) × (W.told world.new ≡ W.told world.old)
-        × Rose (W.faults world.old) (W.faults world.new)) }
-    ensures faults { W.faults world.old ≤ W.faults world.new }
-    ensures edges { W.edges world.new ≡ W.edges world.old }
+    ensures failed { IfErr result (λ e. (e ≡ Sync) × (doubt ≡ true) × (W.told world.new ≡ W.told world.old)) }
+    ensures changes { ChangesUnits (seen W.World world.old) (seen W.World world.new) IsDevices result }
 {
     if !doubt {
         return Ok(());

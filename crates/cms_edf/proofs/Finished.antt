@@ -39,7 +39,7 @@ use Rattle.cms_held.proofs.Carried.{planned_is_carried, update_is_small}
 use Rattle.cms_held.proofs.Relabelling.{changed_is, relabel_is_held}
 
 -- what holds of a told journal
-told_so : (j : Journal) (new : Told) (p : List Event) (P : Journal → Type 0) → new ≡ plus (Some j) p → P (after j p) → ForSome new P
+pub told_so : (j : Journal) (new : Told) (p : List Event) (P : Journal → Type 0) → new ≡ plus (Some j) p → P (after j p) → ForSome new P
 told_so j new p P is has = λ k told. subst P (same (after j p) k (sym (is ∙ after_is_told j p) ∙ told)) has
   where
     same : (a b : Journal) → Some a ≡ Some b → a ≡ b

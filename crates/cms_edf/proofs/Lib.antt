@@ -21,4 +21,8 @@ pub mod Finished
 pub mod WritesMade
 pub mod CutOff
 pub mod SystemsWritten
+pub mod DraftPlanned
+pub mod DraftPut
+pub mod FilesPut
+pub mod Committed
 pub mod NewSystems

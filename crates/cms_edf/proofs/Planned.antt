@@ -30,7 +30,7 @@ use Rattle.cms_edf.specs.Doubts.{IsReady}
 use Rattle.cms_edf.specs.Writing.{IsBlockOf}
 use Rattle.cms_held.specs.Renewing.{Edit, IsAllotted, blocks_in, dropping, entries_held, fresh, released, renamed, renaming, renewed}
 use Rattle.cms_held.specs.Carrying.{IsEditOf, IsReadyFor, drops, renames}
-use Rattle.cms_edf.specs.Planning.{IsEditFor, IsPlanFor, IsPrepared, IsReadyAt, IsRelabelOf, IsStepOf, MayEdit, count_after, edit_of, edited, place_in, place_of}
+use Rattle.cms_edf.specs.Planning.{Edited, IsEditFor, IsPlanFor, IsPrepared, IsReadyAt, IsRelabelOf, IsStepOf, MayEdit, count_after, edit_of, edited, place_in, place_of}
 use Rattle.cms_edf.specs.declared.change.FileEdit.{FileEdit}
 use Rattle.cms_edf.specs.declared.change.FileEdit.TheVariants as does
 use Rattle.cms_edf.specs.declared.step.Step.{Step}
@@ -184,15 +184,6 @@ count_few : (fs : List HeldFile) (e : FileEdit) → length fs ≤ 16384 → coun
 count_few fs (does.Drop place) few = omega arith
 count_few fs (does.Rename place to number) few = few
 
--- these are the entries after an edit of the files that are held
-pub record Edited (v : HeldVolume) (e : FileEdit) (entries : List Entry) : Type 0 where
-  pub file : HeldFile
-  pub there : slice_get v.files (place_of e) ≡ Some file
-  pub are : entries_held (edit_of v.files e file).files ≡ entries
-  pub count : length entries ≡ count_after v.files e
-  pub few : length entries ≤ 16384
-  pub each : All CanWrite entries
-
 pub edited_of : (v : HeldVolume) (e : FileEdit) (before entries : List Entry) → Keeps v → MayEdit v.files e → before ≡ entries_held v.files
     → ((x : Entry) → slice_get before (place_of e) ≡ Some x → entries ≡ edited before e x) → Edited v e entries
 edited_of v e before entries kept may had edits =
@@ -300,14 +291,14 @@ ready_at v e stamp s entries given kept stamped x gives p = (
 
 -- ---- what is prepared can be written
 
-free_within : (bits : List Bool) → All (IsBlockOf (length bits)) (free_blocks bits)
+pub free_within : (bits : List Bool) → All (IsBlockOf (length bits)) (free_blocks bits)
 free_within bits = each (free_blocks bits) (λ n met. let f = (free_are_unused bits n).0 met in (f.0, f.1))
   where
     each : (ns : List ℕ) → ((n : ℕ) → In n ns → IsBlockOf (length bits) n) → All (IsBlockOf (length bits)) ns
     each [] has = All-nil (IsBlockOf (length bits))
     each (n ∷ ns) has = All-cons (IsBlockOf (length bits)) n ns (has n (inl refl)) (each ns (λ k met. has k (inr met)))
 
-left_of : (P : ℕ → Type 0) (xs ys : List ℕ) → All P (xs ++ ys) → All P xs
+pub left_of : (P : ℕ → Type 0) (xs ys : List ℕ) → All P (xs ++ ys) → All P xs
 left_of P [] ys all = All-nil P
 left_of P (x ∷ xs) ys all = All-cons P x xs (All-head P x (xs ++ ys) all) (left_of P xs ys (All-tail P x (xs ++ ys) all))
 
@@ -316,18 +307,18 @@ right_of P [] ys all = all
 right_of P (x ∷ xs) ys all = right_of P xs ys (All-tail P x (xs ++ ys) all)
 
 -- a volume of so many blocks of this size, with what is allotted for so many files
-pub record Fills (v : HeldVolume) (files : ℕ) (given : List ℕ) (s : Systems) : Type 0 where
+pub record Fills (v : HeldVolume) (files : ℕ) (given taken : List ℕ) (s : Systems) : Type 0 where
   pub kept : Keeps v
   pub bsize : IsBlockSize v.disk.bsize
   pub small : v.label.blocks < 2 ^ 32
   pub few : files ≤ 16384
-  pub blocks : IsAllotted v files given [] s.directory s.map s.bits
+  pub blocks : IsAllotted v files given taken s.directory s.map s.bits
   pub label : s.label.blocks ≡ v.label.blocks
   pub label_long : length s.label_bytes ≡ v.disk.bsize
   pub directory_long : length s.directory_bytes ≡ length s.directory.leaves * v.disk.bsize
 
-pub is_ready : (v : HeldVolume) (files : ℕ) (given : List ℕ) (s : Systems) → Fills v files given s → IsReady v.disk.bsize s
-is_ready v files given s x =
+pub is_ready : (v : HeldVolume) (files : ℕ) (given taken : List ℕ) (s : Systems) → Fills v files given taken s → IsReady v.disk.bsize s
+is_ready v files given taken s x =
     let a = x.blocks in
     let k = x.kept in
     let b = block_bounds v.disk.bsize x.bsize in
@@ -338,7 +329,8 @@ is_ready v files given s x =
     let origin_low = k.origin_low in let origin_high = k.origin_high in
     let small = x.small in
     let free : All P (free_blocks v.bits) = subst (λ (n : ℕ). All (IsBlockOf n) (free_blocks v.bits)) count (free_within v.bits) in
-    let all : All P (fresh [] s.directory s.map) = subst (All P) (sym a.lowest) (All-take P (length (fresh [] s.directory s.map)) (free_blocks v.bits) free) in
+    let own : All P (fresh taken s.directory s.map) = subst (All P) (sym a.lowest) (All-take P (length (fresh taken s.directory s.map)) (free_blocks v.bits) free) in
+    let all : All P (fresh [] s.directory s.map) = right_of P taken (fresh [] s.directory s.map) own in
     let more = left_of P (drop 1 s.directory.leaves) (s.directory.pointers ++ (s.map.leaves ++ s.map.pointers)) all in
     let rest = right_of P (drop 1 s.directory.leaves) (s.directory.pointers ++ (s.map.leaves ++ s.map.pointers)) all in
     let nodes = left_of P s.directory.pointers (s.map.leaves ++ s.map.pointers) rest in

@@ -2,8 +2,10 @@ pub mod OpeningSteps
 pub mod EntryShapes
 pub mod OpeningFiles
 pub mod Asking
+pub mod Keeping
 pub mod Writing
 pub mod Doubts
 pub mod Lacking
 pub mod Planning
 pub mod Finishing
+pub mod FileDrafts

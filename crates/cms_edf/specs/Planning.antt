@@ -10,10 +10,10 @@ use Rattle.cms_model.specs.Changes.{Change}
 use Rattle.cms_model.specs.Changes as model
 use Rattle.cms_held.specs.Kept.{Keeps}
 use Rattle.cms_held.specs.Opening.{HeldFile, HeldVolume, names_in}
-use Rattle.cms_held.specs.Renewing.{Edit, IsAllotted, dropping, label_for, needed, renaming}
+use Rattle.cms_held.specs.Renewing.{Edit, IsAllotted, dropping, entries_held, label_for, needed, renaming}
 use Rattle.cms_edf.specs.Lacking.{LacksRoom}
 use Rattle.cms_held.specs.Systems.{Systems, directory_bytes_of}
-use Rattle.cms_held.specs.Written.{ReadsBack}
+use Rattle.cms_held.specs.Written.{CanWrite, ReadsBack}
 use Rattle.cms_held.specs.Carrying.{IsEditOf, IsReadyFor}
 use Rattle.cms_held.specs.LawsEdits.{relabelled}
 use Rattle.cms_edf.specs.declared.allotment.PlanFault.{PlanFault}
@@ -72,6 +72,15 @@ MayEdit files (does.Rename place to number) = (place < length files) × (number 
 abbrev pub count_after : List HeldFile → FileEdit → ℕ
 count_after files (does.Drop place) = length files - 1
 count_after files (does.Rename place to number) = length files
+
+-- these are the entries after an edit of the files that are held
+pub record Edited (v : HeldVolume) (e : FileEdit) (entries : List Entry) : Type 0 where
+  pub file : HeldFile
+  pub there : slice_get v.files (place_of e) ≡ Some file
+  pub are : entries_held (edit_of v.files e file).files ≡ entries
+  pub count : length entries ≡ count_after v.files e
+  pub few : length entries ≤ 16384
+  pub each : All CanWrite entries
 
 -- ---- what is planned
 

@@ -2,7 +2,7 @@
 ghost use Rattle.std.specs.Prelude.{◌≡◌, ◌≤◌, ◌<◌, ◌+◌, ◌-◌, ◌/◌, ◌*◌, ◌^◌, ◌∷◌, ◌++◌, length, take, drop, nat_le, ◌&&◌, IfOk, IfErr, OnOk};
 ghost use Rattle.cms_fields.specs.Numbers.{up};
 ghost use Rattle.cms_model.specs.Sizes.{pointer_count};
-ghost use Rattle.cms_map.specs.Bits.{free_blocks, with_marked};
+ghost use Rattle.cms_map.specs.Bits.{HasFixed, free_blocks, with_marked};
 ghost use Rattle.cms_held.specs.Renewing.{IsAllotted, fresh, needed, released, with_freed};
 ghost use Rattle.cms_edf.specs.Lacking.{LacksRoom};
 
@@ -233,6 +233,7 @@ pub fn allot(
     ensures file { IfOk result (λ a. length a.file.items ≡ file) }
     ensures map_few { IfOk result (λ a. length a.map_tree.leaves < 2 ^ 32) }
     ensures room { OnOk result (file + needed held.now.volume files ≤ length (free_blocks held.now.volume.bits)) }
+    ensures fixed { HasFixed held.now.volume.bits }
     ensures full { IfErr result (LacksRoom held.now.volume (file + needed held.now.volume files)) }
 {
     let counts = count_blocks(held.bsize, held.label.blocks, files);

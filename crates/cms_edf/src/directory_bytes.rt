@@ -4,31 +4,32 @@ ghost use Rattle.cms_fields.specs.Stamps.{is_stamp};
 ghost use Rattle.cms_fields.specs.Entries.{entry_bytes};
 ghost use Rattle.cms_tree.specs.Builds.{root_of};
 ghost use Rattle.cms_held.specs.Systems.{file_at, system_entry};
-ghost use Rattle.cms_held.specs.Written.{CanWrite, ReadsBack, directory_name, map_name};
+ghost use Rattle.cms_held.specs.Written.{CanWrite, ReadsBack, directory_name, map_name, system_name};
 
 use crate::held::TreeBlocks;
 use crate::system::{ENTRY_SIZE, FIXED, System};
 use cms_fields::{Entry, Stamp, put_stamp, write_entry};
 use cms_journal::BlockSize;
 use cms_text::bytes::{put, put_word};
+use cms_text::coded;
 use cms_tree::shape;
 use std::alloc::{AllocError, Global};
-
-/// The number 1 and DIRECTOR.
-const DIRECTORY: [u8; 16] = [
-    0, 0, 0, 1, 0, 0, 0, 0, 0xC4, 0xC9, 0xD9, 0xC5, 0xC3, 0xE3, 0xD6, 0xD9,
-];
-
-/// The number 2 and ALLOCMAP.
-const MAP: [u8; 16] = [
-    0, 0, 0, 2, 0, 0, 0, 0, 0xC1, 0xD3, 0xD3, 0xD6, 0xC3, 0xD4, 0xC1, 0xD7,
-];
 
 /// The mode A1.
 const MODE: [u8; 2] = [0xC1, 0xF1];
 
 /// Bytes of a pointer of fixed records.
 const POINTER_SIZE: u8 = 4;
+
+// The name of a system file of this number.
+fn system_name(number: u32, letters: &[u8; 8]) -> [u8; 16]
+    ensures { result ≡ system_name number letters.now }
+{
+    let mut name = [0; 16];
+    put_word(&mut name, 0, number);
+    put(&mut name, 8, &coded(letters));
+    name
+}
 
 // The entry of a system file, with records of a length.
 fn system_entry(name: &[u8; 16], size: u32, file: &System, stamp: &Stamp) -> [u8; 64]
@@ -50,8 +51,8 @@ fn system_entry(name: &[u8; 16], size: u32, file: &System, stamp: &Stamp) -> [u8
     entry
 }
 
-// The block at the root of a tree.
-fn root(leaves: &[u32], pointers: &[u32]) -> u32
+/// The block at the root of a tree.
+pub fn root(leaves: &[u32], pointers: &[u32]) -> u32
     requires { 1 ≤ length leaves.now }
     ensures { result ≡ root_of leaves.now pointers.now }
 {
@@ -98,9 +99,11 @@ pub fn system_entries(
 {
     let own = file_at(bsize, directory, files + 2);
     let maps = file_at(bsize, map, map.leaves().len() as u32);
+    let own_name = system_name(1, b"DIRECTOR");
+    let map_name = system_name(2, b"ALLOCMAP");
     let mut bytes = Vec::new(alloc);
-    bytes.extend_from_slice(&system_entry(&DIRECTORY, ENTRY_SIZE, &own, stamp))?;
-    bytes.extend_from_slice(&system_entry(&MAP, bsize.bytes(), &maps, stamp))?;
+    bytes.extend_from_slice(&system_entry(&own_name, ENTRY_SIZE, &own, stamp))?;
+    bytes.extend_from_slice(&system_entry(&map_name, bsize.bytes(), &maps, stamp))?;
     Ok(bytes)
 }
 

@@ -2,7 +2,6 @@
 ghost use Rattle.std.specs.Prelude.{◌≡◌, ◌⊎◌, ◌≤◌, ◌<◌, ◌+◌, ◌*◌, ◌++◌, ◌∷◌, [], ℕ, List, All, length, map, Ok, IfOk, IfErr, OnOk, None};
 ghost use Rattle.std.specs.Option.{ForSome};
 ghost use Rattle.cms_journal.specs.Journal.{HasBlocks, contents_of};
-ghost use Rattle.cms_fields.specs.Entries.{pointer_size};
 ghost use Rattle.cms_model.specs.Trees.{image_of};
 ghost use Rattle.cms_model.specs.Volumes.{holder_of, file_trees, tree_blocks};
 ghost use Rattle.cms_model.specs.declared.fault.OpenFault.TheVariants.{Device, Memory};
@@ -18,22 +17,12 @@ use crate::open::Place;
 use crate::system::ENTRY_SIZE;
 use crate::trees::tree_of;
 use cms_fields::Entry;
+use cms_held::pointer_size;
 use cms_journal::BlockSize;
 use cms_model::OpenFault;
-use cms_names::Format;
 use cms_tree::{TreeAt, Walked};
 use cms_world::World;
 use std::alloc::Global;
-
-// The bytes of a pointer.
-fn pointer_size(format: Format) -> u8
-    ensures { result ≡ pointer_size format }
-{
-    match format {
-        Format::F => 4,
-        Format::V => 12,
-    }
-}
 
 // Where a file's tree stands, whose root's number is in the block `holder`.
 fn file_at(place: &Place, holder: u32, entry: &Entry) -> TreeAt

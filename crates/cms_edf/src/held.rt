@@ -7,43 +7,13 @@ ghost use Rattle.cms_held.specs.Kept.{Keeps};
 ghost use Rattle.cms_edf.specs.Asking.{info_of, infos_in, leaves_in, space_of};
 
 use cms_fields::{Entry, Label, Stamp};
+pub use cms_held::TreeBlocks;
 use cms_journal::BlockSize;
 use cms_map::Map;
 use cms_names::{Format, Name};
 use indexmap::IndexMap;
 use std::alloc::AllocError;
 use std::marker::Model;
-
-/// The blocks of a tree: its data blocks in order, and its pointer blocks.
-#[derive(Drop)]
-pub struct TreeBlocks {
-    pub leaves: Vec<u32>,
-    pub pointers: Vec<u32>,
-}
-
-impl Model for TreeBlocks {
-    ghost use Rattle.cms_held.specs.Opening.{HeldTree};
-
-    ghost Value = { HeldTree };
-
-    ghost view = { λ t. record { leaves = t.leaves.items; pointers = t.pointers.items } };
-}
-
-impl TreeBlocks {
-    /// Its data blocks, in order.
-    pub fn leaves(&self) -> &[u32]
-        ensures { result.now ≡ self.now.leaves }
-    {
-        &self.leaves
-    }
-
-    /// Its pointer blocks.
-    pub fn pointers(&self) -> &[u32]
-        ensures { result.now ≡ self.now.pointers }
-    {
-        &self.pointers
-    }
-}
 
 /// A file of an open volume: all of it but its data.
 #[derive(Drop)]
@@ -162,8 +132,8 @@ pub struct Held {
 impl Model for Held {
     ghost use Rattle.std.specs.Prelude.{◌≡◌, length};
     ghost use Rattle.indexmap.specs.IndexMap.{values, spare};
-    ghost use Rattle.cms_held.specs.Opening.{Holding, by_name};
-    ghost use Rattle.cms_held.specs.Kept.{IsKept};
+    ghost use Rattle.cms_held.specs.Opening.{Holding};
+    ghost use Rattle.cms_edf.specs.Keeping.{IsSound};
 
     ghost Value = { Holding };
 
@@ -182,8 +152,7 @@ impl Model for Held {
       spare = spare h.files;
     } };
 
-    ghost invariant = { λ h. (h.files.entries ≡ by_name (values h.files))
-        × IsKept h.bsize h.blocks h.label (length h.label_bytes.items) h.map (values h.files) };
+    ghost invariant = { λ h. IsSound h.bsize h.blocks h.label (length h.label_bytes.items) h.map h.files.entries (values h.files) };
 }
 
 impl Held {

@@ -5,9 +5,11 @@ mod allotment;
 mod blocks;
 mod carrying;
 mod change;
+mod committing;
 mod contents;
 mod directory_bytes;
 mod doubt;
+mod draft;
 mod editing;
 mod entries;
 mod files;
@@ -27,9 +29,14 @@ mod writing;
 pub use allotment::PlanFault;
 pub use carrying::carry_out;
 pub use change::Change;
-pub use cms_held::{carrying_laws, draft_laws, held_laws, making_laws, renewal_laws, systems_laws};
+pub use cms_draft::DraftShape;
+pub use cms_held::{
+    carrying_laws, draft_laws, held_laws, making_laws, put_laws, renewal_laws, systems_laws,
+};
 pub use cms_model::{FileData, OpenFault, Stored, VarFault};
+pub use committing::commit;
 pub use doubt::Doubt;
+pub use draft::{Draft, plan_draft};
 pub use held::{FileHeld, FileInfo, Held, Space};
 pub use making::{MakePlan, make, plan_make, wipe};
 pub use opening::open_volume;

@@ -4,7 +4,8 @@ ghost use Rattle.cms_journal.specs.Journal.{IsBlockSize};
 ghost use Rattle.cms_fields.specs.Labels.{with_label};
 ghost use Rattle.cms_fields.specs.Numbers.{up};
 ghost use Rattle.cms_fields.specs.Stamps.{is_stamp};
-ghost use Rattle.cms_edf.specs.Planning.{CanChange, IsFullFor, IsPlanFor, IsPrepared, IsReadyAt, IsRelabelOf, IsStepOf, MayEdit, change_of, count_after};
+ghost use Rattle.cms_edf.specs.Planning.{CanChange, Edited, IsFullFor, IsPlanFor, IsPrepared, IsReadyAt, IsRelabelOf, IsStepOf, MayEdit, change_of, count_after};
+ghost use Rattle.cms_edf.specs.FileDrafts.{IsAllottedSo, IsFilled};
 ghost use Rattle.cms_edf.specs.Lacking.{LacksRoom};
 ghost use Rattle.cms_held.specs.Kept.{Keeps};
 ghost use Rattle.cms_held.specs.Renewing.{label_for, needed};
@@ -12,7 +13,7 @@ ghost use Rattle.cms_held.specs.Systems.{Systems, directory_bytes_of};
 ghost use Rattle.cms_edf.specs.declared.allotment.PlanFault.TheVariants.{Memory};
 ghost use Rattle.cms_held.specs.Written.{CanWrite, ReadsBack, file_entries};
 
-use crate::allotment::{PlanFault, allot};
+use crate::allotment::{Allotment, PlanFault, allot};
 use crate::change::{Change, FileEdit, entries_held};
 use crate::directory_bytes::{append_entry, fill, system_entries};
 use crate::held::{Held, TreeBlocks};
@@ -97,6 +98,35 @@ fn label_for(label: Label, map: &Map) -> Label
     }
 }
 
+/// What is written for files with these entries, in the blocks that are allotted.
+pub fn fill_systems(
+    alloc: Global,
+    held: &Held,
+    entries: &[Entry],
+    allotment: Allotment,
+    stamp: &Stamp,
+) -> Result<SystemBlocks, AllocError>
+    requires stamp { is_stamp stamp.now ≡ true }
+    requires few { length entries.now ≤ 16384 }
+    requires each { All CanWrite entries.now }
+    requires allotted { IsAllottedSo held.now.volume (length entries.now) allotment }
+    requires map_few { length allotment.map_tree.leaves < 2 ^ 32 }
+    ensures { IfOk result (IsFilled held.now.volume entries.now allotment stamp.now) }
+{
+    let (directory, map_tree) = (allotment.directory, allotment.map_tree);
+    let bytes = directory_bytes(alloc, held.bsize, &directory, &map_tree, entries, stamp)?;
+    let new = relabel(alloc, held, label_for(held.label, &allotment.map))?;
+    Ok(SystemBlocks {
+        bsize: held.bsize,
+        label: new.label,
+        label_bytes: new.bytes,
+        directory,
+        directory_bytes: bytes,
+        map_tree,
+        map: allotment.map,
+    })
+}
+
 // What is written for files with these entries, where the blocks of these trees are given back.
 fn plan_systems(
     alloc: Global,
@@ -112,24 +142,22 @@ fn plan_systems(
     ensures prepared { IfOk result (IsPrepared held.now.volume entries.now (leaves.now ++ pointers.now) stamp.now) }
     ensures full { IfErr result (LacksRoom held.now.volume (needed held.now.volume (length entries.now))) }
 {
-    let files = entries.len() as u32;
-    let allotment = allot(alloc, held, files, 0, leaves, pointers)?;
-    let (directory, map_tree) = (allotment.directory, allotment.map_tree);
-    let Ok(bytes) = directory_bytes(alloc, held.bsize, &directory, &map_tree, entries, stamp) else {
-        return Err(PlanFault::Memory);
-    };
-    let Ok(new) = relabel(alloc, held, label_for(held.label, &allotment.map)) else {
-        return Err(PlanFault::Memory);
-    };
-    Ok(SystemBlocks {
-        bsize: held.bsize,
-        label: new.label,
-        label_bytes: new.bytes,
-        directory,
-        directory_bytes: bytes,
-        map_tree,
-        map: allotment.map,
-    })
+    let allotment = allot(alloc, held, entries.len() as u32, 0, leaves, pointers)?;
+    match fill_systems(alloc, held, entries, allotment, stamp) {
+        Ok(systems) => Ok(systems),
+        Err(_) => Err(PlanFault::Memory),
+    }
+}
+
+// The entries of the files after an edit.
+fn edited_entries(alloc: Global, held: &Held, edit: &FileEdit) -> Result<Vec<Entry>, AllocError>
+    requires { MayEdit held.now.volume.files edit.now }
+    ensures edited { IfOk result (λ v. Edited held.now.volume edit.now v.items) }
+    ensures kept { Keeps held.now.volume }
+{
+    let mut entries = entries_held(alloc, &held.files)?;
+    edit.edit_entries(&mut entries);
+    Ok(entries)
 }
 
 // What is written for an edit of the files.
@@ -144,10 +172,9 @@ fn plan_edit(
     ensures ready { IfOk result (IsReadyAt held.now.volume edit.now stamp.now) }
     ensures full { IfErr result (LacksRoom held.now.volume (needed held.now.volume (count_after held.now.volume.files edit.now))) }
 {
-    let Ok(mut entries) = entries_held(alloc, &held.files) else {
+    let Ok(entries) = edited_entries(alloc, held, edit) else {
         return Err(PlanFault::Memory);
     };
-    edit.edit_entries(&mut entries);
     match edit {
         FileEdit::Drop { place } => {
             let tree = held.files[*place as usize].tree();

@@ -13,8 +13,8 @@ const FILE: &[u8] = &[0xC6, 0xC9, 0xD3, 0xC5];
 // TEST01, in EBCDIC.
 const TEST01: [u8; 6] = [0xE3, 0xC5, 0xE2, 0xE3, 0xF0, 0xF1];
 
-// The volume that an image holds.
-fn volume_of(alloc: Global, image: &[u8]) -> Result<Option<Held>, AllocError> {
+/// The volume that an image holds.
+pub fn volume_of(alloc: Global, image: &[u8]) -> Result<Option<Held>, AllocError> {
     let mut world = world_of(alloc, image, 1000)?;
     match open(alloc, &mut world) {
         Some(Ok(held)) => Ok(Some(held)),
@@ -22,8 +22,8 @@ fn volume_of(alloc: Global, image: &[u8]) -> Result<Option<Held>, AllocError> {
     }
 }
 
-// The name of type FILE with one letter.
-fn name_of(letter: u8) -> Option<Name> {
+/// The name of type FILE with one letter.
+pub fn name_of(letter: u8) -> Option<Name> {
     match (Part::read(&[letter]), Part::read(FILE)) {
         (Ok(file), Ok(kind)) => Some(Name { file, kind }),
         _ => None,

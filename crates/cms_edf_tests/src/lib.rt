@@ -2,8 +2,14 @@
 #![tactic(auto)]
 
 #[cfg(test)]
+mod disk;
+#[cfg(test)]
+mod draft_tests;
+#[cfg(test)]
 mod held_tests;
 #[cfg(test)]
 mod making_tests;
 #[cfg(test)]
 mod opening_tests;
+#[cfg(test)]
+mod write_tests;

@@ -1,6 +1,8 @@
 -- The minidisk after an update, the room that it needs, and another volume id.
 use Rattle.std.proofs.Common.{◌≡◌, ℕ, List, length, map, Some, refl, sym, ◌∙◌, ap, arith}
+use Rattle.cms_journal.specs.Journal.{Journal}
 use Rattle.cms_fields.specs.declared.label.Label.{Label}
+use Rattle.cms_model.specs.Trees.{Image}
 use Rattle.cms_model.specs.Minidisks.{File, Minidisk}
 use Rattle.cms_model.specs.Sizes.{free_count}
 use Rattle.cms_model.specs.Changes.{Change, Put, Add, Drop, Rename, Relabel, changed, changed_files, changed_volid, need, written_file}
@@ -11,26 +13,32 @@ use Rattle.cms_model.proofs.Needing.{changed_where_made, full_where_lacking}
 use Rattle.cms_model.proofs.Renewing.{minidisk_is}
 use Rattle.cms_map.specs.Bits.{free_blocks}
 use Rattle.cms_held.specs.Opening.{HeldVolume}
-use Rattle.cms_held.specs.Renewing.{needed}
-use Rattle.cms_held.specs.LawsEdits.{EditIsAnswered, IsEdit, RenewedIsChanged}
+use Rattle.cms_held.specs.Renewing.{Edit, needed}
+use Rattle.cms_held.specs.Systems.{Systems}
+use Rattle.cms_held.specs.LawsRenewing.{Renews}
+use Rattle.cms_held.specs.LawsEdits.{EditIsAnswered, Edits, IsEdit, RenewedIsChanged}
 use Rattle.cms_held.proofs.HeldFiles.{opened_has_room}
 use Rattle.cms_held.proofs.OldBlocks.{old_opens}
 
 -- ---- the minidisk
 
-same_volid : (volid : List ℕ) (change : Change) → IsEdit change → changed_volid volid change ≡ volid
+pub same_volid : (volid : List ℕ) (change : Change) → IsEdit change → changed_volid volid change ≡ volid
 same_volid volid (Drop name) is = refl
 same_volid volid (Rename from to number) is = refl
 same_volid volid (Put new) is = absurd is
 same_volid volid (Add name more stamp) is = absurd is
 same_volid volid (Relabel new) is = absurd is
 
-pub renewed_is_changed : RenewedIsChanged
+pub renewed_changed : (j : Journal) (before later : Image) (v : HeldVolume) (edit : Edit) (s : Systems) (old : Layout) (change : Change) → (e : Edits before later v edit old change)
+    → changed_volid old.label.volid change ≡ old.label.volid → (r : Renews j v edit s old e.files) → minidisk_in v.disk r.new ≡ changed (minidisk_in v.disk old) change
 unfolding changed
-renewed_is_changed j before later v edit s old change e is r =
+renewed_changed j before later v edit s old change e same r =
     let files : map file_of r.new.files ≡ changed_files (map file_of old.files) change = ap (λ (fs : List Kept). map file_of fs) r.files_are ∙ e.files_are in
-    let volid : r.new.label.volid ≡ changed_volid old.label.volid change = r.volid_is ∙ sym (same_volid old.label.volid change is) in
+    let volid : r.new.label.volid ≡ changed_volid old.label.volid change = r.volid_is ∙ sym same in
     λ i. record { volid = volid i; bsize = v.disk.bsize; total = r.blocks_are i; lost = r.lost_is i; files = files i }
+
+pub renewed_is_changed : RenewedIsChanged
+renewed_is_changed j before later v edit s old change e is r = renewed_changed j before later v edit s old change e (same_volid old.label.volid change is) r
 
 -- ---- room
 

@@ -3,13 +3,14 @@ use Rattle.std.proofs.Common.{◌≡◌, inl, inr, ⊎_elim, ℕ, suc, ◌+◌, 
 use Rattle.std.proofs.lemmas.List.{length-map, length-set}
 use Rattle.std.proofs.Math.Nat.{suc-add}
 use Rattle.cms_fields.specs.declared.label.Label.{Label}
+use Rattle.cms_fields.specs.declared.time.Stamp.{Stamp}
 use Rattle.cms_journal.specs.declared.event.Event.{Event}
 use Rattle.cms_journal.specs.declared.event.Event.TheVariants.{Synced, Wrote}
 use Rattle.cms_journal.specs.Journal.{Journal}
 use Rattle.cms_names.specs.declared.name.Name.{Name}
 use Rattle.cms_model.specs.Trees.{Image, image_of}
 use Rattle.cms_model.specs.Minidisks.{File, Minidisk, Volume, same_name}
-use Rattle.cms_model.specs.Changes.{Change, Changed, Full, answer_of, changed, changed_files, need}
+use Rattle.cms_model.specs.Changes.{Change, Changed, Full, answer_of, changed, changed_files, changed_volid, need}
 use Rattle.cms_model.specs.Volumes.{open_of}
 use Rattle.cms_model.specs.Stands.{Layout, file_of, minidisk_in, opened}
 use Rattle.cms_model.specs.LawsChanges.{NoneNamed}
@@ -25,16 +26,16 @@ use Rattle.cms_held.specs.LawsHeld.{IsFound}
 use Rattle.cms_held.specs.Renewing.{Edit, IsAllotted, fresh, needed, renamed}
 use Rattle.cms_held.specs.LawsRenewing.{IsHeldAt, IsRenewal, later_of, writes_of}
 use Rattle.cms_held.specs.LawsEdits.{Edits, IsEdit, IsAnswered}
-use Rattle.cms_held.specs.Carrying.{IsEditOf, LackingIsFull, PlannedIsCarried, UpdateIsSmall, drops, renames, written_count}
+use Rattle.cms_held.specs.Carrying.{Carries, IsEditOf, IsHeldMinidisk, IsReadyFor, LackingIsFull, PlannedIsCarried, UpdateIsSmall, drops, renames, written_count}
 use Rattle.cms_held.specs.Systems.{Systems, block_writes, directory_pieces, map_pieces, node_writes, system_writes}
 use Rattle.cms_held.proofs.Allotting.{need_is}
-use Rattle.cms_held.proofs.Answering.{edit_is_answered, needs_so, renewed_is_changed}
+use Rattle.cms_held.proofs.Answering.{edit_is_answered, needs_so, renewed_changed, same_volid}
 use Rattle.cms_held.proofs.Edits.{Moved, beside_count, drop_moves, rename_moves}
 use Rattle.cms_held.proofs.HeldFiles.{opened_is_held, place_is_told}
 use Rattle.cms_held.proofs.Keeping.{front_keeps_held}
 use Rattle.cms_held.proofs.OldBlocks.{old_opens}
 use Rattle.cms_held.proofs.Removing.{length-removed}
-use Rattle.cms_held.proofs.Renewals.{update_renews, write_within}
+use Rattle.cms_held.proofs.Renewals.{taking, update_renews, write_within}
 use Rattle.cms_held.proofs.WritesLong.{system_blocks}
 
 -- ---- the edit of a change
@@ -57,7 +58,7 @@ moved_of j v old later edit change x kept (renames place f to number there small
     rename_moves j v old later place f to number x kept there small (⊎_elim (λ none. inl (none_named j v old to x none)) (λ own. inr own) free)
 
 -- as many files as the change leaves
-same_count : (before later : Image) (v : HeldVolume) (old : Layout) (edit : Edit) (change : Change) → (e : Moved before later v edit old change)
+pub same_count : (before later : Image) (v : HeldVolume) (old : Layout) (edit : Edit) (change : Change) → (e : Moved before later v edit old change)
     → length (changed_files (map file_of old.files) change) ≡ length edit.files
 same_count before later v old edit change e =
     ap (λ (l : List File). length l) (sym e.files_are) ∙ (length-map e.files file_of ∙ beside_count e.files edit.files e.held)
@@ -93,34 +94,43 @@ answered j v old later edit change x kept is =
 
 -- ---- the whole
 
-pub planned_is_carried : PlannedIsCarried
-planned_is_carried j v edit stamp s m change held is ready =
+-- an update that was planned for an edit that is the change, and is made
+pub carries_of : (j : Journal) (v : HeldVolume) (edit : Edit) (stamp : Stamp) (s : Systems) (m : Minidisk) (change : Change) → (held : IsHeldMinidisk j v m) → IsReadyFor v edit stamp s
+    → Moved (now j v.unit) (now (later_of j v s) v.unit) v edit held.layout change → changed_volid held.layout.label.volid change ≡ held.layout.label.volid
+    → answer_of m change ≡ Changed (changed m change) → Carries j v edit s m change
+carries_of j v edit stamp s m change held ready e volid answer =
     let old = held.layout in
     let x = held.at in
     let same = held.minidisk_is in
     let before = now j v.unit in
     let later = now (later_of j v s) v.unit in
-    let e = moved_of j v old later edit change x ready.kept is in
     let ren : IsRenewal j v edit stamp s old e.files = record { at = x; stamped = ready.stamped; planned = ready.planned; long = system_blocks v.disk.bsize s ready.long; leaves = e.leaves ready.back } in
     let r = update_renews j v edit stamp s old e.files ren in
     let edits : Edits before later v edit old change = record { files = e.files; files_are = e.files_are; leaves = e.leaves ready.back } in
     let changes : minidisk_in v.disk r.new ≡ changed m change =
-    renewed_is_changed j before later v edit s old change edits (is_edit v edit change is) r ∙ ap (λ (k : Minidisk). changed k change) (sym same) in
-    let room = taken_count v (length edit.files) edit.given edit.taken s.directory s.map s.bits ready.planned.blocks in
-    let a = answered j v old later edit change x ready.kept is in
+    renewed_changed j before later v edit s old change edits volid r ∙ ap (λ (k : Minidisk). changed k change) (sym same) in
     record {
-      answer = subst (λ (k : Minidisk). answer_of k change ≡ Changed (changed k change)) (sym same) (a.made room);
+      answer = answer;
       either = λ p front image may. ⊎_elim
           (λ (was : open_of v.disk (image_of image) ≡ Ok (opened old)). inl (state_opens v.disk (image_of image) (opened old) was ∙ ap Volume (minidisk_is v.disk old ∙ sym same)))
           (λ (is' : open_of v.disk (image_of image) ≡ Ok (opened r.new)). inr (state_opens v.disk (image_of image) (opened r.new) is' ∙ ap Volume (minidisk_is v.disk r.new ∙ changes)))
           (r.updates.either p front image may);
       before = λ p front. record {
         layout = old;
-        at = front_keeps_held j v old (writes_of v s) p x (system_blocks v.disk.bsize s ready.long) (write_within j v edit stamp s old e.files ren) r.apart front;
+        at = front_keeps_held j v old (writes_of v s) p x (system_blocks v.disk.bsize s ready.long) (write_within j v edit stamp s old e.files (taking j v edit stamp s old e.files ren)) r.apart front;
         minidisk_is = same;
       };
       done = record { layout = r.new; at = r.at; minidisk_is = sym changes };
     }
+
+pub planned_is_carried : PlannedIsCarried
+planned_is_carried j v edit stamp s m change held is ready =
+    let old = held.layout in
+    let e = moved_of j v old (now (later_of j v s) v.unit) edit change held.at ready.kept is in
+    let room = taken_count v (length edit.files) edit.given edit.taken s.directory s.map s.bits ready.planned.blocks in
+    let a = answered j v old (now (later_of j v s) v.unit) edit change held.at ready.kept is in
+    carries_of j v edit stamp s m change held ready e (same_volid old.label.volid change (is_edit v edit change is))
+    (subst (λ (k : Minidisk). answer_of k change ≡ Changed (changed k change)) (sym held.minidisk_is) (a.made room))
 
 pub lacking_is_full : LackingIsFull
 lacking_is_full j v edit m change held is kept short =
@@ -134,7 +144,7 @@ unfolding writes written_count
 writes_counted u [] more = sym (zero-add (written_count more))
 writes_counted u (w ∷ ws) more = ap suc (writes_counted u ws more) ∙ sym (suc-add (length ws) (written_count more))
 
-update_counted : (u : ℕ) (ws : List Write) (label : List ℕ) → written_count (update u ws label) ≡ length ws + 1
+pub update_counted : (u : ℕ) (ws : List Write) (label : List ℕ) → written_count (update u ws label) ≡ length ws + 1
 unfolding update written_count
 update_counted u ws label = writes_counted u ws (Synced u ∷ Wrote u 3 label ∷ Synced u ∷ [])
 
@@ -175,7 +185,7 @@ system_writes_few bsize s =
           length-append m.leaves m.pointers,
         )
 
-fresh_count : (v : HeldVolume) (files : ℕ) (given taken : List ℕ) (directory map : HeldTree) (bits : List Bool) → IsAllotted v files given taken directory map bits
+pub fresh_count : (v : HeldVolume) (files : ℕ) (given taken : List ℕ) (directory map : HeldTree) (bits : List Bool) → IsAllotted v files given taken directory map bits
     → length (fresh [] directory map) ≡ needed v files
 fresh_count v files given taken directory map bits a =
     let one : 1 ≤ length directory.leaves = (let e = ap length a.origin in omega arith) in

@@ -75,7 +75,7 @@ records_back bsize V size count records rest each short is = rw is (read_stored 
 some_size : (bsize : ℕ) → IsBlockSize bsize → 0 < bsize
 some_size bsize size = omega (arith, size)
 
-fan_is : (bsize : ℕ) (f : Format) → bsize / pointer_size f ≡ fan_of bsize f
+pub fan_is : (bsize : ℕ) (f : Format) → bsize / pointer_size f ≡ fan_of bsize f
 fan_is bsize F = refl
 fan_is bsize V = refl
 

@@ -13,23 +13,23 @@ use Rattle.cms_tree.specs.Tiers.{node_write}
 use Rattle.cms_tree.specs.Climbs.{climb_writes, climbed}
 use Rattle.cms_tree.proofs.Totals.{climbs_all, one_place, in_times}
 use Rattle.cms_held.specs.Systems.{HasWritten}
-use Rattle.cms_held.specs.Drafts.{data_block, data_write, draft_writes, DraftHasAll, DraftIsPut}
+use Rattle.cms_held.specs.Drafts.{data_block, data_write, draft_writes, DraftHasAll, DraftIsPut, DraftStays}
 
 -- a write is one of these
-abbrev Among : Write → List Write → Type 0
+abbrev pub Among : Write → List Write → Type 0
 Among w [] = ⊥
 Among w (v ∷ vs) = (w ≡ v) ⊎ Among w vs
 
-among_left : (w : Write) (xs ys : List Write) → Among w xs → Among w (xs ++ ys)
+pub among_left : (w : Write) (xs ys : List Write) → Among w xs → Among w (xs ++ ys)
 among_left w [] ys there = elim there [ ]
 among_left w (x ∷ xs) ys (inl is) = inl is
 among_left w (x ∷ xs) ys (inr more) = inr (among_left w xs ys more)
 
-among_right : (w : Write) (xs ys : List Write) → Among w ys → Among w (xs ++ ys)
+pub among_right : (w : Write) (xs ys : List Write) → Among w ys → Among w (xs ++ ys)
 among_right w [] ys there = there
 among_right w (x ∷ xs) ys there = inr (among_right w xs ys there)
 
-among_either : (w : Write) (xs ys : List Write) → Among w (xs ++ ys) → Among w xs ⊎ Among w ys
+pub among_either : (w : Write) (xs ys : List Write) → Among w (xs ++ ys) → Among w xs ⊎ Among w ys
 among_either w [] ys there = inr there
 among_either w (x ∷ xs) ys (inl is) = inl (inl is)
 among_either w (x ∷ xs) ys (inr more) = ⊎_elim (λ (l : Among w xs). inl (inr l)) (λ (r : Among w ys). inr r) (among_either w xs ys more)
@@ -85,10 +85,10 @@ node_among bsize psize leaves marks fresh bytes (suc n) w there =
     (among_either w (climbed bsize psize leaves marks fresh n) more there)
 
 -- a write is that of a data block or of a pointer block
-record IsData (bsize : ℕ) (leaves bytes : List ℕ) (n : ℕ) (w : Write) : Type 0 where
-  k : ℕ
-  less : k < n
-  is : w ≡ data_write bsize leaves bytes k
+pub record IsData (bsize : ℕ) (leaves bytes : List ℕ) (n : ℕ) (w : Write) : Type 0 where
+  pub k : ℕ
+  pub less : k < n
+  pub is : w ≡ data_write bsize leaves bytes k
 
 only_these : (bsize psize : ℕ) (leaves : List ℕ) (marks : List Mark) (fresh bytes : List ℕ) (n : ℕ) (w : Write) → Among w (draft_writes bsize psize leaves marks fresh bytes n)
     → IsData bsize leaves bytes n w ⊎ Among w (climbed bsize psize leaves marks fresh n)
@@ -109,10 +109,10 @@ only_these bsize psize leaves marks fresh bytes (suc n) w there =
     r)
     (among_either w front (data_write bsize leaves bytes n ∷ more) there)
 
-record IsNode (bsize psize : ℕ) (leaves : List ℕ) (marks : List Mark) (fresh : List ℕ) (w : Write) : Type 0 where
-  nth : ℕ
-  less : nth < length fresh
-  is : w ≡ node_write bsize psize leaves marks fresh nth
+pub record IsNode (bsize psize : ℕ) (leaves : List ℕ) (marks : List Mark) (fresh : List ℕ) (w : Write) : Type 0 where
+  pub nth : ℕ
+  pub less : nth < length fresh
+  pub is : w ≡ node_write bsize psize leaves marks fresh nth
 
 mapped : (bsize psize : ℕ) (leaves : List ℕ) (marks : List Mark) (fresh places : List ℕ) (w : Write) → All (λ nth. nth < length fresh) places
     → Among w (map (node_write bsize psize leaves marks fresh) places) → IsNode bsize psize leaves marks fresh w
@@ -141,12 +141,12 @@ among_more bsize psize leaves marks fresh k (suc more) w there =
 
 -- ---- what an image has
 
-has_among : (image : Image) (ws : List Write) (w : Write) → HasWritten image ws → Among w ws → image w.block ≡ w.bytes
+pub has_among : (image : Image) (ws : List Write) (w : Write) → HasWritten image ws → Among w ws → image w.block ≡ w.bytes
 has_among image [] w has there = elim there [ ]
 has_among image (v ∷ vs) w has (inl is) = ap (λ (x : Write). image x.block) is ∙ has.0 ∙ ap (λ (x : Write). x.bytes) (sym is)
 has_among image (v ∷ vs) w has (inr more) = has_among image vs w has.1 more
 
-each_written : (image : Image) (ws : List Write) → ((w : Write) → Among w ws → image w.block ≡ w.bytes) → HasWritten image ws
+pub each_written : (image : Image) (ws : List Write) → ((w : Write) → Among w ws → image w.block ≡ w.bytes) → HasWritten image ws
 each_written image [] each = tt
 each_written image (w ∷ ws) each = (each w (inl refl), each_written image ws (λ v there. each v (inr there)))
 
@@ -213,3 +213,43 @@ draft_is_put image bsize psize leaves marks fresh bytes from to part plan once w
     (λ (l : Among w front). kept image w part (same w there) (has_among image front w has l))
     (λ (r : Among w part). lands image w part (same w there) r)
     (among_either w front part (subst (Among w) (sym is) there)))
+
+pub draft_stays : DraftStays
+draft_stays image bsize psize leaves marks fresh bytes from to part rest plan once within is has =
+    let front = draft_writes bsize psize leaves marks fresh bytes from in
+    let whole = draft_writes bsize psize leaves marks fresh bytes to in
+    let same : (w : Write) → Among w front → SameThere w part = (λ w there v in_part.
+    same_there bsize psize leaves marks fresh bytes to plan once within w (subst (Among w) is (among_left w front (part ++ rest) there)) v
+    (subst (Among v) is (among_right v front (part ++ rest) (among_left v part rest in_part)))) in
+    each_written (put_blocks image part) front (λ w there. kept image w part (same w there) (has_among image front w has there))
+
+-- each is of a data block or of a pointer block
+pub kind_of : (bsize psize : ℕ) (leaves : List ℕ) (marks : List Mark) (fresh bytes : List ℕ) (to : ℕ) → IsBuildable bsize psize leaves marks fresh → to ≤ length leaves
+    → (w : Write) → Among w (draft_writes bsize psize leaves marks fresh bytes to) → IsData bsize leaves bytes to w ⊎ IsNode bsize psize leaves marks fresh w
+kind_of bsize psize leaves marks fresh bytes to plan within w there =
+    let n = length leaves in
+    let all = climbs_all bsize psize leaves marks fresh plan in
+    let whole : to + (n - to) ≡ n = omega arith in
+    ⊎_elim
+    (λ (d : IsData bsize leaves bytes to w). inl d)
+    (λ (p : Among w (climbed bsize psize leaves marks fresh to)).
+    inr (mapped bsize psize leaves marks fresh all.places w all.within (subst (Among w) all.writes_are
+    (subst (λ (k : ℕ). Among w (climbed bsize psize leaves marks fresh k)) whole (among_more bsize psize leaves marks fresh to (n - to) w p)))))
+    (only_these bsize psize leaves marks fresh bytes to w there)
+
+-- each is to one of its blocks
+pub in_draft : (bsize psize : ℕ) (leaves : List ℕ) (marks : List Mark) (fresh bytes : List ℕ) (to : ℕ) → IsBuildable bsize psize leaves marks fresh → to ≤ length leaves
+    → (w : Write) → Among w (draft_writes bsize psize leaves marks fresh bytes to) → 1 ≤ times w.block (leaves ++ fresh)
+in_draft bsize psize leaves marks fresh bytes to plan within w there =
+    let both = times_append w.block leaves fresh in
+    ⊎_elim
+    (λ (d : IsData bsize leaves bytes to w).
+    let less = d.less in
+    let at : w.block ≡ get_or leaves d.k 0 = ap (λ (x : Write). x.block) d.is in
+    let some : 1 ≤ times w.block leaves = subst (λ (b : ℕ). 1 ≤ times b leaves) (sym at) (in_times leaves d.k (omega arith)) in
+    omega arith)
+    (λ (m : IsNode bsize psize leaves marks fresh w).
+    let at : w.block ≡ get_or fresh m.nth 0 = ap (λ (x : Write). x.block) m.is in
+    let some : 1 ≤ times w.block fresh = subst (λ (b : ℕ). 1 ≤ times b fresh) (sym at) (in_times fresh m.nth m.less) in
+    omega arith)
+    (kind_of bsize psize leaves marks fresh bytes to plan within w there)

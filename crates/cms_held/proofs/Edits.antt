@@ -56,7 +56,7 @@ abbrev pub Beside : List Kept → List HeldFile → Type 0
 Beside fs hs = AreHeld (entries_in fs) (mets_in fs) (records_in fs) hs
 
 -- a file is held so
-abbrev Is : Kept → HeldFile → Type 0
+abbrev pub Is : Kept → HeldFile → Type 0
 Is f h = IsHeldFile f.entry f.met f.records h
 
 pub beside_count : (fs : List Kept) (hs : List HeldFile) → Beside fs hs → length fs ≡ length hs
@@ -72,7 +72,7 @@ beside_take (suc n) [] (h ∷ hs) b = absurd b
 beside_take (suc n) (f ∷ fs) [] b = absurd b
 beside_take (suc n) (f ∷ fs) (h ∷ hs) b = (b.0, beside_take n fs hs b.1)
 
-beside_set : (fs : List Kept) (hs : List HeldFile) (i : ℕ) (g : Kept) (k : HeldFile) → Beside fs hs → Is g k → Beside (set fs i g) (set hs i k)
+pub beside_set : (fs : List Kept) (hs : List HeldFile) (i : ℕ) (g : Kept) (k : HeldFile) → Beside fs hs → Is g k → Beside (set fs i g) (set hs i k)
 beside_set [] [] i g k b is = tt
 beside_set [] (h ∷ hs) i g k b is = absurd b
 beside_set (f ∷ fs) [] i g k b is = absurd b
@@ -94,13 +94,13 @@ beside_removed fs hs i d e b within =
     subst (λ (m : ℕ). Beside (swap_remove fs i d) (take (m - 1) (set hs i (get_or hs (m - 1) e)))) same moved
 
 -- the file at a place
-record AtPlace (fs : List Kept) (k : ℕ) (h : HeldFile) : Type 0 where
-  file : Kept
-  is : (d : Kept) → get_or fs k d ≡ file
-  within : k < length fs
-  held : Is file h
+pub record AtPlace (fs : List Kept) (k : ℕ) (h : HeldFile) : Type 0 where
+  pub file : Kept
+  pub is : (d : Kept) → get_or fs k d ≡ file
+  pub within : k < length fs
+  pub held : Is file h
 
-at_place : (fs : List Kept) (hs : List HeldFile) → Beside fs hs → (k : ℕ) (h : HeldFile) → slice_get hs k ≡ Some h → AtPlace fs k h
+pub at_place : (fs : List Kept) (hs : List HeldFile) → Beside fs hs → (k : ℕ) (h : HeldFile) → slice_get hs k ≡ Some h → AtPlace fs k h
 at_place fs [] b k h is = absurd (cc is)
 at_place [] (x ∷ hs) b k h is = absurd b
 at_place (f ∷ fs) (x ∷ hs) b zero h is = record { file = f; is = λ d. refl; within = omega arith; held = subst (Is f) (some_same x h is) b.0 }
@@ -130,7 +130,7 @@ come_all disk total before later blocks [] all = tt
 come_all disk total before later blocks (f ∷ fs) all =
     (inl (All-head (Old disk total before blocks) f fs all), come_all disk total before later blocks fs (All-tail (Old disk total before blocks) f fs all))
 
-pass_all : (bsize total : ℕ) (fs : List Kept) (hs : List HeldFile) → Beside fs hs → All (IsKeptFile bsize total) hs → All (λ f. passes bsize f.entry ≡ true) fs
+pub pass_all : (bsize total : ℕ) (fs : List Kept) (hs : List HeldFile) → Beside fs hs → All (IsKeptFile bsize total) hs → All (λ f. passes bsize f.entry ≡ true) fs
 pass_all bsize total [] hs b all = All-nil (λ (f : Kept). passes bsize f.entry ≡ true)
 pass_all bsize total (f ∷ fs) [] b all = absurd b
 pass_all bsize total (f ∷ fs) (h ∷ hs) b all =
@@ -147,7 +147,7 @@ none_named : (name : Name) (fs : List Kept) → NoEntryNamed name fs → NoneNam
 none_named name [] none = tt
 none_named name (f ∷ fs) none = (none.0, none_named name fs none.1)
 
-names_from : (fs : List Kept) → AreDistinct (map file_of fs) → HaveNames fs
+pub names_from : (fs : List Kept) → AreDistinct (map file_of fs) → HaveNames fs
 names_from [] d = tt
 names_from (f ∷ fs) d = (none_from f.entry.name fs d.0, names_from fs d.1)
 
@@ -157,14 +157,14 @@ names_distinct (f ∷ fs) d = (none_named f.entry.name fs d.0, names_distinct fs
 
 -- ---- blocks
 
-file_times : (n : ℕ) (fs : List Kept) → times n (file_blocks fs) ≡ sum_by (λ f. times n f.met.blocks) fs
+pub file_times : (n : ℕ) (fs : List Kept) → times n (file_blocks fs) ≡ sum_by (λ f. times n f.met.blocks) fs
 unfolding file_blocks times
 file_times n [] = refl
 file_times n (f ∷ fs) =
     times_append n f.met.blocks (file_blocks fs) ∙ (ap (λ (k : ℕ). times n f.met.blocks + k) (file_times n fs) ∙ sym (sum_by-cons (λ (f : Kept). times n f.met.blocks) f fs))
 
 -- a tree's blocks as they are held
-tree_times : (n : ℕ) (f : Kept) (h : HeldFile) → Is f h → times n (blocks_in h.tree) ≡ times n f.met.blocks
+pub tree_times : (n : ℕ) (f : Kept) (h : HeldFile) → Is f h → times n (blocks_in h.tree) ≡ times n f.met.blocks
 tree_times n f h is =
     let b = is.tree_is.blocks n in
     let l : times n h.tree.leaves ≡ times n f.met.leaves = ap (times n) is.tree_is.leaves in
@@ -182,7 +182,7 @@ same_trees [] k g d less is = absurd (omega arith)
 same_trees (f ∷ fs) zero g d less is = ap (λ (m : Met). m.blocks ++ file_blocks fs) is
 same_trees (f ∷ fs) (suc k) g d less is = ap (λ (l : List ℕ). f.met.blocks ++ l) (same_trees fs k g d (omega arith) is)
 
-no_times : (n : ℕ) → times n [] ≡ 0
+pub no_times : (n : ℕ) → times n [] ≡ 0
 unfolding times
 no_times n = refl
 

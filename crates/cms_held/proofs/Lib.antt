@@ -21,5 +21,10 @@ pub mod WritesLong
 pub mod EntryBytes
 pub mod MapBytes
 pub mod Fronts
+pub mod PutAsides
+pub mod PutMoves
+pub mod PutCarried
+pub mod PutSmall
+pub mod DraftOwn
 pub mod NewMap
 pub mod Made

@@ -157,7 +157,7 @@ free_early k (false ∷ bits) n less =
     differs true no' = absurd (no' refl)
     differs false no' = refl
 
-free_once : (k : ℕ) (bits : List Bool) (n : ℕ) → times n (free_from k bits) ≤ 1
+pub free_once : (k : ℕ) (bits : List Bool) (n : ℕ) → times n (free_from k bits) ≤ 1
 unfolding free_from times
 free_once k [] n = omega arith
 free_once k (true ∷ bits) n = free_once (k + 1) bits n
@@ -166,7 +166,7 @@ free_once k (false ∷ bits) n = ⊎_elim
     (λ (other : (n == k) ≡ false). let none : bit (n == k) ≡ 0 = miss (n == k) other in omega (arith, free_once (k + 1) bits n))
     (cases_Bool (n == k))
 
-take_fewer : (k : ℕ) (xs : List ℕ) (n : ℕ) → times n (take k xs) ≤ times n xs
+pub take_fewer : (k : ℕ) (xs : List ℕ) (n : ℕ) → times n (take k xs) ≤ times n xs
 unfolding times
 take_fewer zero xs n = omega arith
 take_fewer (suc k) [] n = omega arith

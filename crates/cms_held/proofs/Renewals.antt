@@ -26,8 +26,8 @@ use Rattle.cms_map.specs.Bits.{bits_in, free_blocks, with_marked, HasFixed}
 use Rattle.cms_held.specs.Opening.{HeldFile, HeldVolume}
 use Rattle.cms_held.specs.Systems.{Systems, HasWritten, IsLaidOut, IsTree, ReadsSystems, directory_bytes_of, directory_file, map_file}
 use Rattle.cms_held.specs.HeldAs.{AreHeld}
-use Rattle.cms_held.specs.Renewing.{Edit, entries_held, fresh, label_for, released, with_freed}
-use Rattle.cms_held.specs.LawsRenewing.{ComesFrom, IsRenewal, UpdateRenews, later_of, writes_of}
+use Rattle.cms_held.specs.Renewing.{Edit, IsPlanned, entries_held, fresh, label_for, released, with_freed}
+use Rattle.cms_held.specs.LawsRenewing.{AreBlocks, ComesFrom, IsHeldAt, IsRenewal, UpdateRenews, later_of, writes_of}
 use Rattle.cms_held.proofs.MapMarks.{AreUnmarked, length_freed, length_marked, length_read, new_fixed}
 use Rattle.cms_held.proofs.NewLabel.{label_length, new_label, other_origin, volid_long}
 use Rattle.cms_held.proofs.SystemsRead.{map_is_read, written_is_read}
@@ -54,7 +54,7 @@ comes_from disk total before later blocks (f ∷ fs) same come =
     (⊎_elim (λ (old : HoldsFile disk total before f × ((n : ℕ) → In n f.met.blocks → In n blocks)). inl (old.0, λ n in'. same n (old.1 n in'))) (λ new. inr new) come.0, comes_from disk total before later blocks fs same come.1)
 
 -- what holds of each number of a list
-all_of : (P : ℕ → Type 0) (ns : List ℕ) → ((n : ℕ) → 1 ≤ times n ns → P n) → All P ns
+pub all_of : (P : ℕ → Type 0) (ns : List ℕ) → ((n : ℕ) → 1 ≤ times n ns → P n) → All P ns
 unfolding times
 all_of P [] each = All-nil P
 all_of P (x ∷ ns) each =
@@ -69,14 +69,26 @@ map_of j v old = bytes_at (now j v.unit) old.map_met.leaves
 abbrev Set : Journal → HeldVolume → Edit → Systems → Layout → List Kept → Type 0
 Set j v edit s old files = Setting v.disk.count (map_of j v old) v edit s old files
 
-setting : (j : Journal) (v : HeldVolume) (edit : Edit) (stamp : Stamp) (s : Systems) (old : Layout) (files : List Kept) → IsRenewal j v edit stamp s old files → Set j v edit s old files
+-- what is known of an update before its files are
+pub record IsTaking (j : Journal) (v : HeldVolume) (edit : Edit) (stamp : Stamp) (s : Systems) (old : Layout) (files : List Kept) : Type 0 where
+  pub at : IsHeldAt j v old
+  pub planned : IsPlanned v edit stamp s
+  pub long : AreBlocks v.disk.bsize (writes_of v s)
+  pub balance : (n : ℕ) → times n (file_blocks files) + times n edit.given ≡ times n (file_blocks old.files) + times n edit.taken
+  pub had : (n : ℕ) → times n edit.given ≤ times n (file_blocks old.files)
+
+pub taking : (j : Journal) (v : HeldVolume) (edit : Edit) (stamp : Stamp) (s : Systems) (old : Layout) (files : List Kept) → IsRenewal j v edit stamp s old files
+    → IsTaking j v edit stamp s old files
+taking j v edit stamp s old files x = record { at = x.at; planned = x.planned; long = x.long; balance = x.leaves.balance; had = x.leaves.had }
+
+setting : (j : Journal) (v : HeldVolume) (edit : Edit) (stamp : Stamp) (s : Systems) (old : Layout) (files : List Kept) → IsTaking j v edit stamp s old files → Set j v edit s old files
 setting j v edit stamp s old files x = record {
   old_has = old_blocks j v old x.at;
   first = x.planned.blocks.origin;
   lowest = x.planned.blocks.lowest;
   bits = x.planned.blocks.marks;
-  balance = x.leaves.balance;
-  had = x.leaves.had;
+  balance = x.balance;
+  had = x.had;
 }
 
 -- the fields of the new label
@@ -103,7 +115,7 @@ record LabelFacts (v : HeldVolume) (s : Systems) : Type 0 where
   spells : label_of v.disk.bsize v.disk.count s.label_bytes ≡ Ok s.label
   long : length s.label_bytes ≡ v.disk.bsize
 
-label_facts : (j : Journal) (v : HeldVolume) (edit : Edit) (stamp : Stamp) (s : Systems) (old : Layout) (files : List Kept) → IsRenewal j v edit stamp s old files → LabelFacts v s
+label_facts : (j : Journal) (v : HeldVolume) (edit : Edit) (stamp : Stamp) (s : Systems) (old : Layout) (files : List Kept) → IsTaking j v edit stamp s old files → LabelFacts v s
 label_facts j v edit stamp s old files x =
     let image = now j v.unit in
     let f = fields v s old x.planned.label x.at.held.label_is in
@@ -130,7 +142,7 @@ label_facts j v edit stamp s old files x =
     }
 
 -- each block that is taken lies from 6 to the last
-taken_in : (j : Journal) (v : HeldVolume) (edit : Edit) (stamp : Stamp) (s : Systems) (old : Layout) (files : List Kept) → IsRenewal j v edit stamp s old files
+taken_in : (j : Journal) (v : HeldVolume) (edit : Edit) (stamp : Stamp) (s : Systems) (old : Layout) (files : List Kept) → IsTaking j v edit stamp s old files
     → (n : ℕ) → 1 ≤ times n (fresh edit.taken s.directory s.map) → (6 ≤ n) × (n ≤ s.label.blocks)
 taken_in j v edit stamp s old files x n some =
     let f = fields v s old x.planned.label x.at.held.label_is in
@@ -139,14 +151,14 @@ taken_in j v edit stamp s old files x n some =
     let high = u.1 in
     (u.0, omega arith)
 
-new_map_long : (j : Journal) (v : HeldVolume) (edit : Edit) (stamp : Stamp) (s : Systems) (old : Layout) (files : List Kept) → IsRenewal j v edit stamp s old files → length s.bits ≡ old.label.blocks
+new_map_long : (j : Journal) (v : HeldVolume) (edit : Edit) (stamp : Stamp) (s : Systems) (old : Layout) (files : List Kept) → IsTaking j v edit stamp s old files → length s.bits ≡ old.label.blocks
 new_map_long j v edit stamp s old files x =
     let h = old_blocks j v old x.at in
     ap (λ (l : List Bool). length l) x.planned.blocks.marks
     ∙ (length_freed (released v edit.given) (with_marked (fresh edit.taken s.directory s.map) v.bits) ∙ (length_marked (fresh edit.taken s.directory s.map) v.bits
     ∙ (ap (λ (l : List Bool). length l) h.bits ∙ length_read old.label.blocks (map_of j v old))))
 
-new_map_fixed : (j : Journal) (v : HeldVolume) (edit : Edit) (stamp : Stamp) (s : Systems) (old : Layout) (files : List Kept) → IsRenewal j v edit stamp s old files → HasFixed s.bits
+new_map_fixed : (j : Journal) (v : HeldVolume) (edit : Edit) (stamp : Stamp) (s : Systems) (old : Layout) (files : List Kept) → IsTaking j v edit stamp s old files → HasFixed s.bits
 new_map_fixed j v edit stamp s old files x =
     let h = old_blocks j v old x.at in
     let q = setting j v edit stamp s old files x in
@@ -159,9 +171,9 @@ new_map_fixed j v edit stamp s old files x =
 laid_out : (j : Journal) (v : HeldVolume) (edit : Edit) (stamp : Stamp) (s : Systems) (old : Layout) (files : List Kept) → IsRenewal j v edit stamp s old files → IsLaidOut v.disk s (entries_in files)
 laid_out j v edit stamp s old files x =
     let f = fields v s old x.planned.label x.at.held.label_is in
-    let l = label_facts j v edit stamp s old files x in
+    let l = label_facts j v edit stamp s old files (taking j v edit stamp s old files x) in
     let blocks = f.blocks in let old_count = f.old_blocks in let few = x.at.whole.small in let top = (old_blocks j v old x.at).top in
-    let into = taken_in j v edit stamp s old files x in
+    let into = taken_in j v edit stamp s old files (taking j v edit stamp s old files x) in
     let p = x.planned in
     let count : length edit.files ≡ length (entries_in files) = sym (held_count edit.files) ∙ ap (λ (l : List Entry). length l) (same_entries files edit.files x.leaves.held) in
     record {
@@ -184,8 +196,8 @@ laid_out j v edit stamp s old files x =
       map_nodes = p.blocks.map_nodes;
       map_within = all_of (λ n. (6 ≤ n) × (n ≤ s.label.blocks)) (s.map.leaves ++ s.map.pointers)
           (λ n some. into n (let t = fresh_times edit s n in omega (arith, times_append n s.map.leaves s.map.pointers)));
-      bits_count = new_map_long j v edit stamp s old files x ∙ sym blocks;
-      fixed = new_map_fixed j v edit stamp s old files x;
+      bits_count = new_map_long j v edit stamp s old files (taking j v edit stamp s old files x) ∙ sym blocks;
+      fixed = new_map_fixed j v edit stamp s old files (taking j v edit stamp s old files x);
     }
   where
     kept_count : (fs : List Kept) → length (entries_in fs) ≡ length fs
@@ -210,7 +222,7 @@ record WriteFacts (j : Journal) (v : HeldVolume) (edit : Edit) (s : Systems) (ol
   none : (n : ℕ) → 1 ≤ times n (layout_blocks old) → times n (blocks_written (writes_of v s)) ≡ 0
   origin : times old.label.origin (blocks_written (writes_of v s)) ≡ 0
 
-write_facts : (j : Journal) (v : HeldVolume) (edit : Edit) (stamp : Stamp) (s : Systems) (old : Layout) (files : List Kept) → IsRenewal j v edit stamp s old files → WriteFacts j v edit s old
+write_facts : (j : Journal) (v : HeldVolume) (edit : Edit) (stamp : Stamp) (s : Systems) (old : Layout) (files : List Kept) → IsTaking j v edit stamp s old files → WriteFacts j v edit s old
 write_facts j v edit stamp s old files x = record {
   once = λ n. (let t = times_of n in let m = u.once n in ⊎_elim
       (λ (at : (n == (9 - v.label.origin)) ≡ true). let none = early n (at_low n at) in let one = hit (n == (9 - v.label.origin)) at in omega arith)
@@ -280,7 +292,7 @@ writes_apart j v edit s old w = apart_of (writes_of v s) (frame (opened old)) (�
         (cases_lt (times n (blocks_written (writes_of v s))) 1)
 
 -- they are to blocks of the unit
-pub write_within : (j : Journal) (v : HeldVolume) (edit : Edit) (stamp : Stamp) (s : Systems) (old : Layout) (files : List Kept) → IsRenewal j v edit stamp s old files
+pub write_within : (j : Journal) (v : HeldVolume) (edit : Edit) (stamp : Stamp) (s : Systems) (old : Layout) (files : List Kept) → IsTaking j v edit stamp s old files
     → AreWithin (length (start_of j.units v.unit)) (writes_of v s)
 write_within j v edit stamp s old files x =
     let w = write_facts j v edit stamp s old files x in
@@ -295,8 +307,9 @@ record Later (j : Journal) (v : HeldVolume) (s : Systems) (old : Layout) : Type 
   has : HasWritten (now (later_of j v s) v.unit) (writes_of v s)
   same : (n : ℕ) → In n (layout_blocks old) → now j v.unit n ≡ now (later_of j v s) v.unit n
   whole : IsWhole v.disk (now (later_of j v s) v.unit)
+  stay : (n : ℕ) → 4 ≤ n → times n (blocks_written (writes_of v s)) ≡ 0 → now (later_of j v s) v.unit n ≡ now j v.unit n
 
-later_image : (j : Journal) (v : HeldVolume) (edit : Edit) (stamp : Stamp) (s : Systems) (old : Layout) (files : List Kept) → IsRenewal j v edit stamp s old files → Later j v s old
+later_image : (j : Journal) (v : HeldVolume) (edit : Edit) (stamp : Stamp) (s : Systems) (old : Layout) (files : List Kept) → IsTaking j v edit stamp s old files → Later j v s old
 later_image j v edit stamp s old files x = record {
   label = put.whole 3 (omega arith);
   has = written_same (put_blocks (now j v.unit) ws) (now (later_of j v s) v.unit) ws
@@ -305,6 +318,7 @@ later_image j v edit stamp s old files x = record {
       let low = least n there in
       sym (elsewhere n (omega arith) (λ is. omega (arith, is)) ∙ put_aside (now j v.unit) ws n (w.none n there)));
   whole = record { size = x.at.whole.size; small = x.at.whole.small; each = λ n from to. long n from to (cases_eq n 3) };
+  stay = λ n low none. elsewhere n (omega arith) (λ is. omega (arith, is)) ∙ put_aside (now j v.unit) ws n none;
 }
   where
     ws : List Write
@@ -342,6 +356,41 @@ later_image j v edit stamp s old files x = record {
         ap (λ (k : ℕ). length (now (later_of j v s) v.unit k)) is ∙ (ap (λ (l : List ℕ). length l) (put.whole 3 (omega arith)) ∙ (label_facts j v edit stamp s old files x).long)
     long n from to (inr ne) = ap (λ (l : List ℕ). length l) (elsewhere n from ne) ∙ put_long v.disk.bsize (now j v.unit) (writes_of v s) n x.long (x.at.whole.each n from to)
 
+-- the blocks that are taken for a file stay
+pub taken_stay : (j : Journal) (v : HeldVolume) (edit : Edit) (stamp : Stamp) (s : Systems) (old : Layout) (files : List Kept) → IsTaking j v edit stamp s old files
+    → (n : ℕ) → 1 ≤ times n edit.taken → now (later_of j v s) v.unit n ≡ now j v.unit n
+unfolding times
+taken_stay j v edit stamp s old files x n some =
+    let q = setting j v edit stamp s old files x in
+    let u = unmarked v.disk.count (map_of j v old) v edit s old files q in
+    let none : Edit = record edit { taken = [] } in
+    let t = write_times v none s x.planned.blocks.origin n in
+    let f = fresh_times edit s n in
+    let f0 = fresh_times none s n in
+    let once = u.once n in
+    let six = (u.each n (omega arith)).0 in
+    let h = old_blocks j v old x.at in
+    let o = other old.label.origin h.origin in
+    let high = o.high in
+    let same : 9 - v.label.origin ≡ 9 - old.label.origin = ap (λ (l : Label). 9 - l.origin) h.label in
+    (later_image j v edit stamp s old files x).stay n (omega arith) (⊎_elim
+    (λ (at : (n == (9 - v.label.origin)) ≡ true). let is = eqb-true n (9 - v.label.origin) at in absurd (omega arith))
+    (λ (aside : (n == (9 - v.label.origin)) ≡ false). let zero' = miss (n == (9 - v.label.origin)) aside in omega arith)
+    (cases_Bool (n == (9 - v.label.origin))))
+
+-- and lie from 6 to the last, none twice
+pub record TakenOf (old : Layout) (edit : Edit) : Type 0 where
+  pub each : (n : ℕ) → 1 ≤ times n edit.taken → (6 ≤ n) × (n ≤ old.label.blocks)
+  pub once : (n : ℕ) → times n edit.taken ≤ 1
+
+pub taken_of : (j : Journal) (v : HeldVolume) (edit : Edit) (stamp : Stamp) (s : Systems) (old : Layout) (files : List Kept) → IsTaking j v edit stamp s old files → TakenOf old edit
+taken_of j v edit stamp s old files x =
+    let u = unmarked v.disk.count (map_of j v old) v edit s old files (setting j v edit stamp s old files x) in
+    record {
+      each = λ n some. (let f = fresh_times edit s n in let e = u.each n (omega arith) in (e.0, e.1));
+      once = λ n. (let f = fresh_times edit s n in let o = u.once n in omega arith);
+    }
+
 -- ---- the new volume
 
 abbrev later_at : Journal → HeldVolume → Systems → Image
@@ -350,7 +399,7 @@ later_at j v s = now (later_of j v s) v.unit
 reads_of : (j : Journal) (v : HeldVolume) (edit : Edit) (stamp : Stamp) (s : Systems) (old : Layout) (files : List Kept) → IsRenewal j v edit stamp s old files
     → ReadsSystems v.disk (later_at j v s) s (entries_in files)
 reads_of j v edit stamp s old files x =
-    let i = later_image j v edit stamp s old files x in
+    let i = later_image j v edit stamp s old files (taking j v edit stamp s old files x) in
     written_is_read v.disk (later_at j v s) s (entries_in files) stamp (laid_out j v edit stamp s old files x) x.stamped
     (x.planned.directory_bytes ∙ ap (λ (es : List Entry). directory_bytes_of v.disk.bsize s es stamp) (same_entries files edit.files x.leaves.held))
     i.label i.has
@@ -383,8 +432,8 @@ new_stands : (j : Journal) (v : HeldVolume) (edit : Edit) (stamp : Stamp) (s : S
 new_stands j v edit stamp s old files x r =
     let before = now j v.unit in
     let new = new_of v s old files r.directory r.map in
-    let q = setting j v edit stamp s old files x in
-    let i = later_image j v edit stamp s old files x in
+    let q = setting j v edit stamp s old files (taking j v edit stamp s old files x) in
+    let i = later_image j v edit stamp s old files (taking j v edit stamp s old files x) in
     let f = fields v s old x.planned.label x.at.held.label_is in
     let u = unmarked v.disk.count (map_of j v old) v edit s old files q in
     let bits : bits_in old.label.blocks (bytes_at (later_at j v s) r.map.leaves) ≡ s.bits = ap (λ (n : ℕ). bits_in n (bytes_at (later_at j v s) r.map.leaves)) (sym f.blocks) ∙ new_bits j v edit stamp s old files x r in
@@ -411,7 +460,7 @@ new_stands j v edit stamp s old files x r =
 
     counts : (n : ℕ) → 6 ≤ n → Counts (layout_blocks old) (layout_blocks (new_of v s old files r.directory r.map)) (released v edit.given) (fresh edit.taken s.directory s.map) n
     counts n late =
-        let c = late_counts v.disk.count (map_of j v old) v edit s old files (setting j v edit stamp s old files x) n late in
+        let c = late_counts v.disk.count (map_of j v old) v edit s old files (setting j v edit stamp s old files (taking j v edit stamp s old files x)) n late in
         let sum = c.sum in
         let e = total_times n in
         record { sum = omega arith; part = c.part; once = c.once; apart = c.apart }
@@ -421,11 +470,11 @@ new_stands j v edit stamp s old files x r =
 pub update_renews : UpdateRenews
 update_renews j v edit stamp s old files x =
     let r = reads_of j v edit stamp s old files x in
-    let i = later_image j v edit stamp s old files x in
+    let i = later_image j v edit stamp s old files (taking j v edit stamp s old files x) in
     let f = fields v s old x.planned.label x.at.held.label_is in
     let new = new_of v s old files r.directory r.map in
     let stands = new_stands j v edit stamp s old files x r in
-    let apart = writes_apart j v edit s old (write_facts j v edit stamp s old files x) in
+    let apart = writes_apart j v edit s old (write_facts j v edit stamp s old files (taking j v edit stamp s old files x)) in
     let ups = update_is_whole v.disk j v.unit (writes_of v s) s.label_bytes (opened old) (opened new) (record {
       settled = x.at.settled;
       apart = apart;

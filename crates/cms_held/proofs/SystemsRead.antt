@@ -1,6 +1,6 @@
 -- The directory, the map and the label that are written are read again.
 use Rattle.std.proofs.Common.{◌≡◌, inl, ⊎_elim, ℕ, suc, ◌+◌, ◌-◌, ◌*◌, ◌/◌, ◌^◌, ◌<◌, ◌≤◌, Bool, true, false, List, [], ◌∷◌, ◌++◌, length, take, drop, get_or, replicate, All, Option, None, Some, Ok, refl, sym, ◌∙◌, ap, subst, arith, append_assoc, length-append}
-use Rattle.std.specs.Prelude.{nat_le, ◌==◌, ◌&&◌, ◌||◌}
+use Rattle.std.specs.Prelude.{nat_le, ◌==◌, ◌&&◌, ◌||◌, codes}
 use Rattle.std.proofs.lemmas.Bool.{and_from, le-leb, eq-eqb, cases_lt}
 use Rattle.std.proofs.lemmas.List.{take_all, length-replicate, drop-drop}
 use Rattle.std.proofs.lemmas.List.Elements.{All-head, All-tail, All-nil, All-cons, All-weaker, All-append, All-get_or}
@@ -34,7 +34,7 @@ use Rattle.cms_map.proofs.Packed.{marked_bit, reads_back}
 use Rattle.cms_tree.specs.Builds.{root_of}
 use Rattle.cms_tree.proofs.Building.{built_is_tree}
 use Rattle.cms_held.specs.Opening.{HeldTree}
-use Rattle.cms_held.specs.Written.{ReadsBack, directory_name, map_name, file_entries}
+use Rattle.cms_held.specs.Written.{ReadsBack, directory_name, map_name, system_name, file_entries}
 use Rattle.cms_held.specs.Systems.{Systems, directory_file, map_file, system_entry, directory_bytes_of, block_writes, directory_pieces, map_pieces, node_writes, HasWritten, WrittenIsRead, MapIsRead}
 use Rattle.cms_held.proofs.EntryBytes.{length_entries}
 use Rattle.cms_held.proofs.PiecesWritten.{has_front, has_behind, pieces_joined, nodes_written}
@@ -73,9 +73,18 @@ record Fits (file : SystemFile) : Type 0 where
   blocks : file.blocks < 2 ^ 32
   count : file.count < 2 ^ 32
 
-directory_says : (size : ℕ) (file : SystemFile) (stamp : Stamp) (rest : List ℕ) → size < 2 ^ 32 → Fits file → Says size file (system_entry directory_name size file stamp ++ rest)
+-- the first eight of these letters
+abbrev eight : List ℕ → List ℕ
+eight xs = get_or xs 0 0 ∷ get_or xs 1 0 ∷ get_or xs 2 0 ∷ get_or xs 3 0 ∷ get_or xs 4 0 ∷ get_or xs 5 0 ∷ get_or xs 6 0 ∷ get_or xs 7 0 ∷ []
+
+-- the entry of a system file with these letters
+abbrev entry_with : ℕ → List ℕ → ℕ → SystemFile → Stamp → List ℕ
+entry_with number letters size file stamp = system_entry (system_name number (eight letters)) size file stamp
+
+entry_says : (number : ℕ) (letters : List ℕ) (size : ℕ) (file : SystemFile) (stamp : Stamp) (rest : List ℕ) → size < 2 ^ 32 → Fits file
+    → Says size file (entry_with number letters size file stamp ++ rest)
 unfolding system_entry stamp_bytes word
-directory_says size file stamp rest small fits = record {
+entry_says number letters size file stamp rest small fits = record {
   form = refl;
   size_is = big_number-reads_back 4 size [] small;
   root_is = big_number-reads_back 4 file.root [] fits.root;
@@ -84,24 +93,9 @@ directory_says size file stamp rest small fits = record {
   levels_is = refl;
 }
 
-map_says : (size : ℕ) (file : SystemFile) (stamp : Stamp) (rest : List ℕ) → size < 2 ^ 32 → Fits file → Says size file (system_entry map_name size file stamp ++ rest)
-unfolding system_entry stamp_bytes word
-map_says size file stamp rest small fits = record {
-  form = refl;
-  size_is = big_number-reads_back 4 size [] small;
-  root_is = big_number-reads_back 4 file.root [] fits.root;
-  blocks_is = big_number-reads_back 4 file.blocks [] fits.blocks;
-  count_is = big_number-reads_back 4 file.count [] fits.count;
-  levels_is = refl;
-}
-
-directory_entry_long : (size : ℕ) (file : SystemFile) (stamp : Stamp) → length (system_entry directory_name size file stamp) ≡ 64
+entry_long : (number : ℕ) (letters : List ℕ) (size : ℕ) (file : SystemFile) (stamp : Stamp) → length (entry_with number letters size file stamp) ≡ 64
 unfolding system_entry stamp_bytes
-directory_entry_long size file stamp = refl
-
-map_entry_long : (size : ℕ) (file : SystemFile) (stamp : Stamp) → length (system_entry map_name size file stamp) ≡ 64
-unfolding system_entry stamp_bytes
-map_entry_long size file stamp = refl
+entry_long number letters size file stamp = refl
 
 fields_are : (size : ℕ) (file : SystemFile) (bytes : List ℕ) → Says size file bytes → system_fields bytes ≡ file
 unfolding system_fields
@@ -296,8 +290,8 @@ written_is_read disk image s entries stamp l ok bytes_is label_is has =
     let own = system_entry directory_name 64 (directory_file bsize s count) stamp in
     let map' = system_entry map_name bsize (map_file bsize s) stamp in
     let tail = file_entries entries ++ replicate (length leaves * bsize - 64 * (count + 2)) 0 in
-    let own_long = directory_entry_long 64 (directory_file bsize s count) stamp in
-    let map_long = map_entry_long bsize (map_file bsize s) stamp in
+    let own_long = entry_long 1 (codes "DIRECTOR") 64 (directory_file bsize s count) stamp in
+    let map_long = entry_long 2 (codes "ALLOCMAP") bsize (map_file bsize s) stamp in
     let whole : s.directory_bytes ≡ own ++ (map' ++ tail) = bytes_is in
     let long : length s.directory_bytes ≡ length leaves * bsize = ap length whole ∙ directory_long own map' (file_entries entries) count (length leaves * bsize) own_long map_long
     (length_entries entries l.back) held in
@@ -311,9 +305,9 @@ written_is_read disk image s entries stamp l ok bytes_is label_is has =
     let own_fits : Fits (directory_file bsize s count) = record { root = root_word leaves s.directory.pointers some words pointers_words; blocks = leaves_few; count = omega arith } in
     let map_fits : Fits (map_file bsize s) = record { root = root_word s.map.leaves s.map.pointers map_some map_words map_pointers_words; blocks = map_few; count = map_few } in
     let own_says : Says 64 (directory_file bsize s count) (image origin) = subst (Says 64 (directory_file bsize s count)) (sym first)
-    (directory_says 64 (directory_file bsize s count) stamp (map' ++ take (bsize - 128) tail) (omega arith) own_fits) in
+    (entry_says 1 (codes "DIRECTOR") 64 (directory_file bsize s count) stamp (map' ++ take (bsize - 128) tail) (omega arith) own_fits) in
     let map_says' : Says bsize (map_file bsize s) (drop 64 (image origin)) = subst (Says bsize (map_file bsize s)) (sym second)
-    (map_says bsize (map_file bsize s) stamp (take (bsize - 128) tail) (omega arith) map_fits) in
+    (entry_says 2 (codes "ALLOCMAP") bsize (map_file bsize s) stamp (take (bsize - 128) tail) (omega arith) map_fits) in
     let turned : (count + 2) * 64 ≡ 64 * (count + 2) = omega arith in
     let own_blocks : length leaves ≡ up ((count + 2) * 64) bsize = l.directory_count ∙ ap (λ (n : ℕ). up n bsize) (sym turned) in
     let map_blocks : length s.map.leaves ≡ up (length s.map.leaves * bsize) bsize = up_unique (length s.map.leaves * bsize) bsize (length s.map.leaves) (omega arith) (omega arith) (omega arith) in
@@ -349,7 +343,7 @@ pub directory_fills : (bsize : ℕ) (s : Systems) (entries : List Entry) (stamp 
 unfolding directory_bytes_of
 directory_fills bsize s entries stamp back room =
     directory_long (system_entry directory_name 64 (directory_file bsize s (length entries)) stamp) (system_entry map_name bsize (map_file bsize s) stamp) (file_entries entries)
-    (length entries) (length s.directory.leaves * bsize) (directory_entry_long 64 (directory_file bsize s (length entries)) stamp) (map_entry_long bsize (map_file bsize s) stamp)
+    (length entries) (length s.directory.leaves * bsize) (entry_long 1 (codes "DIRECTOR") 64 (directory_file bsize s (length entries)) stamp) (entry_long 2 (codes "ALLOCMAP") bsize (map_file bsize s) stamp)
     (length_entries entries back) room
 
 -- a directory whose parts were joined
@@ -360,8 +354,8 @@ unfolding directory_bytes_of
 directory_is bsize s entries stamp files all back is_files is =
     let own : List ℕ = system_entry directory_name 64 (directory_file bsize s (length entries)) stamp in
     let map' : List ℕ = system_entry map_name bsize (map_file bsize s) stamp in
-    let own_long : length own ≡ 64 = directory_entry_long 64 (directory_file bsize s (length entries)) stamp in
-    let map_long : length map' ≡ 64 = map_entry_long bsize (map_file bsize s) stamp in
+    let own_long : length own ≡ 64 = entry_long 1 (codes "DIRECTOR") 64 (directory_file bsize s (length entries)) stamp in
+    let map_long : length map' ≡ 64 = entry_long 2 (codes "ALLOCMAP") bsize (map_file bsize s) stamp in
     let a = length-append (own ++ map') (file_entries entries) in
     let b = length-append own map' in
     let c = length_entries entries back in

@@ -1,5 +1,5 @@
 -- Each write of an update has the bytes of a block.
-use Rattle.std.proofs.Common.{◌≡◌, inl, ℕ, zero, suc, ◌-◌, ◌*◌, ◌/◌, ◌≤◌, List, [], ◌∷◌, ◌++◌, length, map, take, drop, refl, arith, length-append, length-drop, length-take-le, length-take}
+use Rattle.std.proofs.Common.{◌≡◌, ◌⊎◌, inl, ℕ, zero, suc, ◌-◌, ◌*◌, ◌/◌, ◌≤◌, List, [], ◌∷◌, ◌++◌, length, map, take, drop, refl, arith, length-append, length-drop, length-take-le, length-take}
 use Rattle.std.specs.Prelude.{replicate}
 use Rattle.std.specs.List.{concat}
 use Rattle.std.proofs.lemmas.List.{length-replicate}
@@ -47,14 +47,14 @@ both_blocks size (w ∷ xs) ys a b = (a.0, both_blocks size xs ys a.1 b)
 
 -- ---- pointer blocks
 
-length_node : (bsize : ℕ) (group : List Child) → length group * 4 ≤ bsize → length (node_bytes bsize 4 group) ≡ bsize
+pub length_node : (bsize psize : ℕ) (group : List Child) → (psize ≡ 4) ⊎ (psize ≡ 12) → length group * psize ≤ bsize → length (node_bytes bsize psize group) ≡ bsize
 unfolding node_bytes
-length_node bsize group few =
-    let many = length-cells 4 group (inl refl) in
-    omega (arith, length-append (concat (map (λ child. cell_bytes (cell_of 4 child)) group)) (replicate (bsize - length group * 4) 0), length-replicate {A = ℕ} (bsize - length group * 4) 0)
+length_node bsize psize group kind few =
+    let many = length-cells psize group kind in
+    omega (arith, length-append (concat (map (λ child. cell_bytes (cell_of psize child)) group)) (replicate (bsize - length group * psize) 0), length-replicate {A = ℕ} (bsize - length group * psize) 0)
 
 -- no block has more children than it has room for
-abbrev AreFew : ℕ → List (List Child) → Type 0
+abbrev pub AreFew : ℕ → List (List Child) → Type 0
 AreFew fan [] = Unit {0}
 AreFew fan (g ∷ gs) = (length g ≤ fan) × AreFew fan gs
 
@@ -67,7 +67,7 @@ both_few : (fan : ℕ) (gs hs : List (List Child)) → AreFew fan gs → AreFew 
 both_few fan [] hs a b = b
 both_few fan (g ∷ gs) hs a b = (a.0, both_few fan gs hs a.1 b)
 
-over_few : (fan k : ℕ) (below : List Child) (fresh : List ℕ) → AreFew fan (all_over fan k below fresh)
+pub over_few : (fan k : ℕ) (below : List Child) (fresh : List ℕ) → AreFew fan (all_over fan k below fresh)
 unfolding all_over
 over_few fan zero below fresh = tt
 over_few fan (suc k) below fresh =
@@ -75,7 +75,7 @@ over_few fan (suc k) below fresh =
 
 nodes_long : (bsize : ℕ) (gs : List (List Child)) → AreFew (bsize / 4) gs → AreLong bsize (map (node_bytes bsize 4) gs)
 nodes_long bsize [] few = tt
-nodes_long bsize (g ∷ gs) few = (length_node bsize g (let l = few.0 in omega arith), nodes_long bsize gs few.1)
+nodes_long bsize (g ∷ gs) few = (length_node bsize 4 g (inl refl) (let l = few.0 in omega arith), nodes_long bsize gs few.1)
 
 node_blocks : (bsize : ℕ) (t : HeldTree) → AreBlocks bsize (node_writes bsize t)
 node_blocks bsize t = are_blocks bsize t.pointers (map (node_bytes bsize 4) (nodes_over (bsize / 4) t.leaves [] t.pointers)) (nodes_long bsize (nodes_over (bsize / 4) t.leaves [] t.pointers) (over_few (bsize / 4) _ _ t.pointers))

@@ -115,3 +115,12 @@ DraftIsPut =
     → draft_writes bsize psize leaves marks fresh bytes from ++ part ≡ draft_writes bsize psize leaves marks fresh bytes to
     → HasDraft image bsize psize leaves marks fresh bytes from
     → HasDraft (put_blocks image part) bsize psize leaves marks fresh bytes to
+
+-- what stands of a draft stays where a part of what is written next is put
+abbrev pub DraftStays : Type 0
+DraftStays =
+    (image : Image) (bsize psize : ℕ) (leaves : List ℕ) (marks : List Mark) (fresh bytes : List ℕ) (from to : ℕ) (part rest : List Write)
+    → IsBuildable bsize psize leaves marks fresh → ((n : ℕ) → times n (leaves ++ fresh) ≤ 1) → to ≤ length leaves
+    → draft_writes bsize psize leaves marks fresh bytes from ++ (part ++ rest) ≡ draft_writes bsize psize leaves marks fresh bytes to
+    → HasDraft image bsize psize leaves marks fresh bytes from
+    → HasDraft (put_blocks image part) bsize psize leaves marks fresh bytes from

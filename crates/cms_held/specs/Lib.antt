@@ -9,4 +9,5 @@ pub mod Renewing
 pub mod LawsRenewing
 pub mod LawsEdits
 pub mod Carrying
+pub mod Putting
 pub mod Making

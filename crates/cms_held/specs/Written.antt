@@ -1,16 +1,20 @@
 -- The entries that are written for a directory.
-use Rattle.std.specs.Prelude.{◌≡◌, ◌≤◌, true, ℕ, List, [], ◌∷◌, ◌++◌, length, Ok}
+use Rattle.std.specs.Prelude.{◌≡◌, ◌≤◌, true, ℕ, List, [], ◌∷◌, ◌++◌, codes, length, Ok}
+use Rattle.byteorder.specs.Endian.{big_bytes}
+use Rattle.cms_text.specs.Texts.{coded}
 use Rattle.cms_fields.specs.Stamps.{is_stamp}
 use Rattle.cms_fields.specs.Entries.{entry_of, passes, entry_bytes}
 use Rattle.cms_fields.specs.declared.entry.Entry.{Entry}
 
--- the number 1 in four bytes, four zeros, and DIRECTOR
-abbrev pub directory_name : List ℕ
-directory_name = 0 ∷ 0 ∷ 0 ∷ 1 ∷ 0 ∷ 0 ∷ 0 ∷ 0 ∷ 0xC4 ∷ 0xC9 ∷ 0xD9 ∷ 0xC5 ∷ 0xC3 ∷ 0xE3 ∷ 0xD6 ∷ 0xD9 ∷ []
+-- the name of a system file: its number in four bytes, four zeros, and eight letters
+abbrev pub system_name : ℕ → List ℕ → List ℕ
+system_name number letters = big_bytes 4 number ++ (0 ∷ 0 ∷ 0 ∷ 0 ∷ coded letters)
 
--- the number 2 in four bytes, four zeros, and ALLOCMAP
+abbrev pub directory_name : List ℕ
+directory_name = system_name 1 (codes "DIRECTOR")
+
 abbrev pub map_name : List ℕ
-map_name = 0 ∷ 0 ∷ 0 ∷ 2 ∷ 0 ∷ 0 ∷ 0 ∷ 0 ∷ 0xC1 ∷ 0xD3 ∷ 0xD3 ∷ 0xD6 ∷ 0xC3 ∷ 0xD4 ∷ 0xC1 ∷ 0xD7 ∷ []
+map_name = system_name 2 (codes "ALLOCMAP")
 
 -- the entries of files
 unfoldable pub file_entries : List Entry → List ℕ

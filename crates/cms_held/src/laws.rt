@@ -1,9 +1,10 @@
 // What holds of every volume that is held.
 ghost use Rattle.cms_held.specs.Carrying.{LackingIsFull, PlannedIsCarried, UpdateIsSmall};
-ghost use Rattle.cms_held.specs.Drafts.{DraftHasAll, DraftHolds, DraftIsPut};
+ghost use Rattle.cms_held.specs.Drafts.{DraftHasAll, DraftHolds, DraftIsPut, DraftStays};
 ghost use Rattle.cms_held.specs.HeldAs.{OpenedHasHeld};
 ghost use Rattle.cms_held.specs.LawsEdits.{DropEdits, EditIsAnswered, RelabelIsHeld, RenameEdits, RenewedIsChanged};
 ghost use Rattle.cms_held.specs.LawsHeld.{OpenedHasRoom, OpenedIsHeld, PlaceIsTold};
+ghost use Rattle.cms_held.specs.Putting.{DraftGoesOn, FreeIsAside, PutIsAnswered, PutIsCarried, PutIsSmall};
 ghost use Rattle.cms_held.specs.LawsRenewing.{FrontKeepsHeld, UpdateRenews};
 ghost use Rattle.cms_held.specs.Making.{EmptyIsMade, EmptyIsPlaced};
 ghost use Rattle.cms_held.specs.Systems.{MapIsRead, WrittenIsRead};
@@ -48,11 +49,23 @@ pub fn carrying_laws()
 
 /// An image in which a draft's data blocks and the pointer blocks over them stand holds its file: the file's tree has these blocks, and
 /// its records are read from them. They stand where all that a draft writes is there, and what was written of it is there as soon as it is
-/// put, part by part.
+/// put, part by part; what stood before stays.
 pub fn draft_laws()
     ensures holds { DraftHolds }
     ensures whole { DraftHasAll }
     ensures put { DraftIsPut }
+    ensures stays { DraftStays }
+{}
+
+/// A file that is put into a volume as it is held: as long as it is drafted on free blocks the volume is held as it is; it is refused
+/// exactly where it passes a limit or needs more blocks than are free; and where its blocks stand, the update that was planned for it puts
+/// it. All that is written for it, with its data blocks and its pointer blocks, are at most two blocks more than it needs.
+pub fn put_laws()
+    ensures answered { PutIsAnswered }
+    ensures aside { FreeIsAside }
+    ensures goes_on { DraftGoesOn }
+    ensures carried { PutIsCarried }
+    ensures small { PutIsSmall }
 {}
 
 /// An empty volume that is made on a wiped unit: it writes the blocks of its map and of its directory and no other, a crash leaves none or

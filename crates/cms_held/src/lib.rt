@@ -3,5 +3,9 @@
 #![tactic(auto)]
 
 mod laws;
+mod tree;
 
-pub use laws::{carrying_laws, draft_laws, held_laws, making_laws, renewal_laws, systems_laws};
+pub use laws::{
+    carrying_laws, draft_laws, held_laws, making_laws, put_laws, renewal_laws, systems_laws,
+};
+pub use tree::{TreeBlocks, pointer_size};

@@ -259,3 +259,25 @@ pub fn long_directory(alloc: Global) -> Result<Vec<u8>, AllocError>
     }
     Ok(volume)
 }
+
+/// A volume of 4,112 blocks with A FILE in block 9: the directory in block 4, the map in blocks 6 and 7 below the pointer block 8.
+pub fn wide_map(alloc: Global) -> Result<Vec<u8>, AllocError> {
+    let mut volume = zeros(alloc, 4112)?;
+    let image = volume.as_mut_slice();
+    put_label(image, 4, 4112, 9);
+    put_entry(image, 4, 0, &directory(4, 3, 0));
+    let map = Row {
+        root: 8,
+        blocks: 2,
+        records: 2,
+        levels: 1,
+        ..map(8, 0)
+    };
+    put_entry(image, 4, 1, &map);
+    put_entry(image, 4, 2, &file(0xC1, 9, 0));
+    put(image, 6, 0, &[0xFF, 0x80]);
+    put_number(image, 8, 0, 6);
+    put_number(image, 8, 4, 7);
+    put(image, 9, 0, &[0x00, 0x05, 0xC8, 0xC5, 0xD3, 0xD3, 0xD6]);
+    Ok(volume)
+}

@@ -1,7 +1,7 @@
 // A map of so many blocks, one bit a block, with the count of those that are free.
 ghost use Rattle.std.specs.Prelude.{◌≡◌, ◌==◌, ◌&&◌, ℕ, ◌+◌, ◌-◌, ◌*◌, ◌^◌, ◌≤◌, ◌<◌, ◌++◌, ◌∷◌, true, false, length, take, drop, nat_le, if◌then◌else◌, IfOk, ◌/◌, ◌%◌, slice_index_or, slice_set, vec_len, vec_capacity};
 ghost use Rattle.cms_model.specs.Maps.{is_marked};
-ghost use Rattle.cms_map.specs.Bits.{bits_in, free_from, free_blocks, with_marked, number_of, byte_at, bytes_from};
+ghost use Rattle.cms_map.specs.Bits.{HasFixed, bits_in, free_from, free_blocks, with_marked, number_of, byte_at, bytes_from};
 
 use std::alloc::{AllocError, Global};
 use std::marker::Model;
@@ -58,9 +58,10 @@ impl Map {
         is_marked(&self.bytes, block)
     }
 
-    /// How many blocks are free.
+    /// How many blocks are free, of which blocks 1 to 5 never are.
     pub fn free_count(&self) -> u32
-        ensures { result ≡ length (free_blocks self.now) }
+        ensures count { result ≡ length (free_blocks self.now) }
+        ensures fixed { HasFixed self.now }
     {
         self.free
     }

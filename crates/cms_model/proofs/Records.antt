@@ -18,6 +18,14 @@ use Rattle.cms_model.specs.declared.fault.VarFault.TheVariants.{Zero, PastEnd, L
 use Rattle.cms_model.specs.declared.file.FileData.{FileData}
 use Rattle.cms_model.proofs.Results.{ok_same, want_ok, bind_then}
 
+-- ---- records one after another
+
+pub stored_append : (format : Format) (a b : List (List ℕ)) → stored format (a ++ b) ≡ stored format a ++ stored format b
+stored_append F [] b = refl
+stored_append F (x ∷ xs) b = ap (λ (l : List ℕ). x ++ l) (stored_append F xs b) ∙ sym (append_assoc x (concat xs) (concat b))
+stored_append V [] b = refl
+stored_append V (x ∷ xs) b = ap (λ (l : List ℕ). with_length x ++ l) (stored_append V xs b) ∙ sym (append_assoc (with_length x) (stored V xs) (stored V b))
+
 -- ---- records of one length
 
 -- what stands in front is cut again

@@ -5,12 +5,13 @@ use Rattle.cms_fields.specs.Steps.{◌>>=◌, ◌>>◌}
 use Rattle.cms_names.specs.Names.{is_name_character, is_text_of, text_of}
 use Rattle.cms_names.specs.Modes.{letter_of, mode_number_of, mode_word_of, short_mode_of}
 use Rattle.cms_names.specs.declared.name.Format.TheVariants as format
+use Rattle.cms_text.specs.Numbers.{magnitude_of}
 use Rattle.cms_text.specs.Texts.{ebcdic}
 use Rattle.cms_line.specs.Options.{options_from, options_of}
 use Rattle.cms_line.specs.declared.token.Token.{Token}
 use Rattle.cms_line.specs.Tokens.{tokens_from, tokens_of}
 use Rattle.cms_operands.specs.Choices.{all_valued, chosen_of, columns_in, fill_in, form, format_in, valued, setting_in}
-use Rattle.cms_operands.specs.Operands.{access_mode, access_mode_in, device, device_of, device_or_letter, ended, given, given_or, hexadecimal_of, name, needed, number, number_in, number_within, operands_of, reading_mode}
+use Rattle.cms_operands.specs.Operands.{access_mode, access_mode_in, device, device_of, device_or_letter, ended, given, given_or, hexadecimal_of, name, needed, number, number_within, operands_of, reading_mode}
 use Rattle.cms_operands.specs.Spellings.{command_named, spellings}
 use Rattle.cms_operands.specs.declared.choosing.ChosenOption.{ChosenOption}
 use Rattle.cms_operands.specs.declared.choosing.OptionForm.{OptionForm}
@@ -60,7 +61,7 @@ read line = chosen_of forms (tokens_of (ebcdic line))
 
 chosen : read (codes "X (TY LR 080 REC V FI 40 COL 2-14)") ≡ Ok (record { nth = 0; setting = setting.Nothing } ∷ record { nth = 1; setting = setting.Number 80 }
     ∷ record { nth = 2; setting = setting.Format format.V } ∷ record { nth = 3; setting = setting.Byte 0x40 } ∷ record { nth = 4; setting = setting.Columns 2 14 } ∷ [])
-unfolding chosen_of options_of options_from all_valued valued setting_in fill_in format_in number_within number_in columns_in hexadecimal_of tokens_of tokens_from ebcdic code_of
+unfolding chosen_of options_of options_from all_valued valued setting_in fill_in format_in number_within magnitude_of columns_in hexadecimal_of tokens_of tokens_from ebcdic code_of
     code_page character_of upper_of
 chosen = refl
 
@@ -68,7 +69,7 @@ chosen = refl
 refused : (read (codes "X (LRECL 0 BLUE") ≡ Err (BadParameter 3)) × (read (codes "X (BLUE LRECL 0") ≡ Err (UnknownOption 2))
     × (read (codes "X (COL 3-2") ≡ Err (BadParameter 3)) × (read (codes "X (TYPE LRECL") ≡ Err Missing)
     × (read (codes "X (LRECL )") ≡ Err Missing) × (read (codes "X (TYPE) A") ≡ Err (BadOperand 4))
-unfolding chosen_of options_of options_from all_valued valued setting_in fill_in format_in number_within number_in columns_in hexadecimal_of tokens_of tokens_from ebcdic code_of
+unfolding chosen_of options_of options_from all_valued valued setting_in fill_in format_in number_within magnitude_of columns_in hexadecimal_of tokens_of tokens_from ebcdic code_of
     code_page character_of upper_of
 refused = (refl, refl, refl, refl, refl, refl)
 
@@ -93,5 +94,5 @@ in_order : (lined (codes "X A! B9 0") ≡ Err (BadName 1)) × (lined (codes "X A
     × (lined (codes "X A B 1 C (BLUE") ≡ Err (BadOperand 4)) × (lined (codes "X A B9 (BLUE") ≡ Err (BadMode 2)) × (lined (codes "X A (BLUE") ≡ Err Missing)
     × (lined (codes "X A ) 1") ≡ Err (BadMode 2)) × (lined (codes "X A B 1 (BLUE") ≡ Err (UnknownOption 5)) × (lined (codes "X A B 1") ≡ Ok [])
 unfolding operands_of needed name given given_or ended number text_of is_text_of is_name_character reading_mode mode_word_of short_mode_of letter_of mode_number_of chosen_of
-    options_of options_from all_valued valued setting_in number_within number_in tokens_of tokens_from ebcdic code_of code_page character_of upper_of
+    options_of options_from all_valued valued setting_in number_within magnitude_of tokens_of tokens_from ebcdic code_of code_page character_of upper_of
 in_order = (refl, refl, refl, refl, refl, refl, refl, refl, refl)

@@ -13,7 +13,7 @@ use Rattle.cms_line.specs.declared.choices.OptionRule.{OptionRule}
 use Rattle.cms_line.specs.declared.token.Token.{Token}
 use Rattle.cms_operands.specs.Operands.{hexadecimal_of, number_in, number_within, or_refused}
 use Rattle.cms_operands.specs.Refusals.{text_at}
-use Rattle.cms_operands.specs.Texts.{coded}
+use Rattle.cms_text.specs.Texts.{coded}
 use Rattle.cms_operands.specs.declared.choosing.ChosenOption.{ChosenOption}
 use Rattle.cms_operands.specs.declared.choosing.CommandFault.{CommandFault}
 use Rattle.cms_operands.specs.declared.choosing.CommandFault.TheVariants as line

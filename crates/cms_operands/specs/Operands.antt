@@ -9,7 +9,7 @@ use Rattle.cms_names.specs.Names.{is_between, part_of, pattern_of}
 use Rattle.cms_names.specs.declared.fault.NameFault.{NameFault}
 use Rattle.cms_names.specs.declared.mode.ModeWord.{ModeWord}
 use Rattle.cms_names.specs.declared.mode.ModeWord.TheVariants as mode
-use Rattle.cms_text.specs.Numbers.{is_digit, value_of}
+use Rattle.cms_text.specs.Numbers.{magnitude_of}
 use Rattle.cms_line.specs.Options.{is_left}
 use Rattle.cms_line.specs.declared.token.Token.{Token}
 use Rattle.cms_operands.specs.declared.operand.AccessMode.{AccessMode}
@@ -190,8 +190,8 @@ device_or_letter place text = target_of place text (length text)
 -- ---- numbers
 
 -- the number that 1 to 9 decimal digits write
-unfoldable pub number_in : List ℕ → Option ℕ
-number_in text = if (nat_le 1 (length text) && nat_le (length text) 9) && list_all is_digit text then Some (value_of text) else None
+abbrev pub number_in : List ℕ → Option ℕ
+number_in text = magnitude_of 9 text
 
 -- such a number, from one to another, both included
 unfoldable pub number_within : ℕ → ℕ → List ℕ → Option ℕ

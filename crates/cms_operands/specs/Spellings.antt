@@ -2,7 +2,7 @@
 use Rattle.std.specs.Prelude.{ℕ, List, [], ◌∷◌, codes, find, Option}
 use Rattle.std.specs.Option.{option_map}
 use Rattle.cms_line.specs.Options.{is_named}
-use Rattle.cms_operands.specs.Texts.{coded}
+use Rattle.cms_text.specs.Texts.{coded}
 use Rattle.cms_operands.specs.declared.spelling.CommandName.{CommandName}
 use Rattle.cms_operands.specs.declared.spelling.CommandName.TheVariants.{Access, Release, Format, Query, Listfile, Copyfile, Rename, Erase, TypeFile, State, Execio, Exec}
 use Rattle.cms_operands.specs.declared.spelling.Spelling.{Spelling}

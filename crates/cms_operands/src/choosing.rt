@@ -6,10 +6,9 @@ ghost use Rattle.cms_operands.specs.declared.choosing.CommandFault.TheVariants a
 
 use crate::operand::{hexadecimal, number_in, number_within};
 use crate::refusal::Refusal;
-use crate::text::coded;
 use cms_line::{Accepted, Choice, OptionFault, OptionRule, Token, Tokens, accepted_options};
 use cms_names::Format;
-use cms_text::Series;
+use cms_text::{Series, coded};
 use std::alloc::{AllocError, Global};
 
 const HYPHEN: u8 = 0x60;

@@ -9,12 +9,12 @@ mod refusal;
 mod spelling;
 #[cfg(test)]
 mod tests;
-mod text;
 
 pub use choosing::{
     ChosenOption, ChosenOptions, CommandFault, OptionForm, Parameter, Setting, chosen_options,
     last_among, without_options,
 };
+pub use cms_text::coded;
 pub use mode::ReadMode;
 pub use operand::{
     AccessMode, Target, WriteMode, access_mode, device, device_or_letter, ended, given, given_or,
@@ -23,4 +23,3 @@ pub use operand::{
 };
 pub use refusal::Refusal;
 pub use spelling::{CommandName, command_named};
-pub use text::coded;

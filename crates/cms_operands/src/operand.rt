@@ -2,7 +2,6 @@
 ghost use Rattle.std.specs.Prelude.{◌≡◌, ◌<◌, IfOk, IfErr, IfSome, Ok, Err, length, position};
 ghost use Rattle.std.specs.Option.{option_copied};
 ghost use Rattle.cms_names.specs.Names.{is_between};
-ghost use Rattle.cms_text.specs.Numbers.{is_digit};
 ghost use Rattle.cms_line.specs.Options.{is_left};
 ghost use Rattle.cms_operands.specs.Operands as spec;
 
@@ -10,6 +9,7 @@ use crate::mode::ReadMode;
 use crate::refusal::Refusal;
 use cms_line::Token;
 use cms_names::{ModeWord, Part, Pattern};
+use cms_text::magnitude;
 
 const LEFT: u8 = 0x4D;
 
@@ -18,10 +18,6 @@ const ASTERISK: u8 = 0x5C;
 const EQUAL_SIGN: u8 = 0x7E;
 
 const STROKE: u8 = 0x61;
-
-const ZERO: u8 = 0xF0;
-
-const NINE: u8 = 0xF9;
 
 /// The most digits of a number.
 const MOST_DIGITS: usize = 9;
@@ -348,27 +344,14 @@ pub fn device_or_letter(place: usize, text: &[u8]) -> Result<Target, Refusal>
     }
 }
 
-fn is_digit(byte: u8) -> bool
-    ensures { result ≡ is_digit byte }
-{
-    (ZERO..=NINE).contains(&byte)
-}
-
 // The number that 1 to 9 decimal digits write.
 pub(crate) fn number_in(text: &[u8]) -> Option<u32>
     ensures { result ≡ spec.number_in text.now }
 {
-    if !(1..=MOST_DIGITS).contains(&text.len()) {
-        return None;
+    match magnitude(MOST_DIGITS, text) {
+        Some(value) => Some(value as u32),
+        None => None,
     }
-    let mut value = 0;
-    for digit in text {
-        if !is_digit(*digit) {
-            return None;
-        }
-        value = value * 10 + u32::from(*digit - ZERO);
-    }
-    Some(value)
 }
 
 fn is_between(from: u32, to: u32, value: u32) -> bool

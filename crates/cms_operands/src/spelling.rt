@@ -3,8 +3,8 @@ ghost use Rattle.std.specs.Prelude.{◌≡◌};
 ghost use Rattle.cms_line.specs.Options.{is_named};
 ghost use Rattle.cms_operands.specs.Spellings as spec;
 
-use crate::text::coded;
 use cms_line::OptionRule;
+use cms_text::coded;
 
 /// A command.
 #[derive(Clone, Copy, Debug, PartialEq, Eq)]

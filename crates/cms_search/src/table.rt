@@ -1,10 +1,10 @@
 // The access table.
 ghost use Rattle.std.specs.Prelude.{Bool, not, is_some, ◌||◌, ◌≡◌, ◌⊎◌, ◌<◌, ◌≤◌, ◌↔◌, true, false, length, slice_get, Some, None, unwrap_or, IfSome, IfOk, IfErr, OnOk, IsSome, IsTrue};
 ghost use Rattle.std.specs.Option.{ForSome, option_copied, option_map, option_and_then};
-ghost use Rattle.cms_journal.specs.Causes.{Rose};
+ghost use Rattle.cms_world.specs.Seen.{ChangesUnits, seen};
 ghost use Rattle.cms_journal.specs.Journal.{HasBlocks};
 ghost use Rattle.cms_model.specs.declared.fault.OpenFault.TheVariants as failed;
-ghost use Rattle.cms_disk.specs.declared.fault.AccessFault.TheVariants.{Open, Sync};
+ghost use Rattle.cms_disk.specs.Disks.{IsDevices};
 ghost use Rattle.cms_disk.specs.declared.unit.UnitInfo.{UnitInfo};
 ghost use Rattle.cms_search.specs.Searches.{item_at};
 ghost use Rattle.cms_search.specs.Tables.{EndsAccess, HaveDistinctDevices, IsTable, LooksAt, answer_for, table_after, letter_for, letters_of, marked, missing_parent, new_table, parent_of, place_of_device, released, seated, unit_of_device, wanted_unit, writing};
@@ -206,9 +206,7 @@ impl Table {
         ensures opens { (unit : UnitInfo) (doubt : Bool) → slice_get self.now.units place ≡ Some unit
             → slice_get self.now.doubts place ≡ Some doubt → LooksAt (W.told world.old) (W.told world.new) unit doubt result }
         ensures table { IsTable self.now }
-        ensures cause { IfErr result (λ e. (e ≡ Sync) ⊎ (e ≡ Open failed.Device) → Rose (W.faults world.old) (W.faults world.new)) }
-        ensures faults { W.faults world.old ≤ W.faults world.new }
-        ensures edges { W.edges world.new ≡ W.edges world.old }
+        ensures changes { ChangesUnits (seen W.World world.old) (seen W.World world.new) IsDevices result }
     {
         let unit = self.units.as_slice()[place];
         let doubt = self.is_marked(place);
@@ -267,9 +265,7 @@ impl Table {
             (λ unit. HasBlocks j.units unit.unit.number unit.unit.blocks unit.bsize)) }
         ensures access { EndsAccess (W.told world.old) (W.told world.new) self.old self.new letter parent result
             (wanted_unit vdev (place_of_device vdev self.old.units) (missing_parent self.old.seats letter parent)) }
-        ensures cause { IfErr result (λ e. e ≡ Volume failed.Device → Rose (W.faults world.old) (W.faults world.new)) }
-        ensures faults { W.faults world.old ≤ W.faults world.new }
-        ensures edges { W.edges world.new ≡ W.edges world.old }
+        ensures changes { ChangesUnits (seen W.World world.old) (seen W.World world.new) (λ e. e ≡ Volume failed.Device) result }
     {
         let place = self.wanted(vdev, letter, parent)?;
         let found = self.open(alloc, world, place);

@@ -11,7 +11,7 @@ use Rattle.cms_names.specs.declared.fault.NameFault.TheVariants.{Empty, TooLong,
 use Rattle.cms_model.specs.Lists.{same}
 use Rattle.cms_ebcdic.specs.CodePage.{code_of, code_page}
 use Rattle.cms_text.specs.Texts.{ebcdic}
-use Rattle.cms_operands.specs.Texts.{coded}
+use Rattle.cms_text.specs.Texts.{coded}
 use Rattle.cms_session.specs.Commands.{type_word, erase_word, letter_a, file_command, command_of_words, command_of_line, is_comment}
 use Rattle.cms_session.specs.declared.command.Command.TheVariants.{Nothing, NotBuilt}
 

@@ -33,7 +33,7 @@ use Rattle.cms_search.specs.declared.state.State.{State}
 use Rattle.cms_search.specs.declared.state.Course as declared
 use Rattle.cms_search.specs.declared.state.Course.TheVariants as course
 use Rattle.cms_search.specs.Machine.{Machine, Course, turned}
-use Rattle.cms_operands.specs.Texts.{coded}
+use Rattle.cms_text.specs.Texts.{coded}
 use Rattle.cms_search.specs.Calls.{Spot, Meaning, IsLater, at, holds, Holds, Does, Acts, Comes, after_world, plain, beside, itself, said, letter_of, machine_of, course_of}
 use Rattle.cms_world.specs.Seen.{Seen}
 use Rattle.cms_search.proofs.Holding.{holds_some, holds_idle}

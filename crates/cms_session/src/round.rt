@@ -4,7 +4,7 @@ ghost use Rattle.cms_names.specs.Names.{is_part};
 ghost use Rattle.cms_fields.specs.Moments.{is_moment};
 ghost use Rattle.cms_machine.specs.Acts.{turning};
 ghost use Rattle.cms_line.specs.Consoles.{item_of};
-ghost use Rattle.cms_operands.specs.Texts.{coded};
+ghost use Rattle.cms_text.specs.Texts.{coded};
 ghost use Rattle.cms_search.specs.Calls.{spot, Does, Acts, IsUsable, beside, itself, said};
 ghost use Rattle.cms_world.specs.Seen.{seen};
 ghost use Rattle.cms_session.specs.Commands.{command_of};

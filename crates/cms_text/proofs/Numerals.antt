@@ -15,22 +15,22 @@ use lib.Signed.{mag}
 use Rattle.cms_text.specs.Texts.{Text, ebcdic}
 use Rattle.cms_text.specs.Numbers.{fits, is_digit, magnitude_of, negative_of, number_of, positive_of, value_of, written}
 
-pub wrong_length : (digits : Text) → (nat_le 1 (length digits) && nat_le (length digits) 19) ≡ false → magnitude_of digits ≡ None
+pub wrong_length : (most : ℕ) (digits : Text) → (nat_le 1 (length digits) && nat_le (length digits) most) ≡ false → magnitude_of most digits ≡ None
 unfolding magnitude_of
-wrong_length digits wrong = rw wrong refl
+wrong_length most digits wrong = rw wrong refl
 
 no_digit : (b : Bool) (x : Option ℕ) → cond (b && false) x None ≡ None
 no_digit true x = refl
 no_digit false x = refl
 
-pub not_digits : (digits : Text) (i : ℕ) → i < length digits → is_digit (get_or digits i 0) ≡ false → magnitude_of digits ≡ None
+pub not_digits : (most : ℕ) (digits : Text) (i : ℕ) → i < length digits → is_digit (get_or digits i 0) ≡ false → magnitude_of most digits ≡ None
 unfolding magnitude_of
-not_digits digits i here other = rw (list_all_at is_digit digits i 0 here other) (no_digit (nat_le 1 (length digits) && nat_le (length digits) 19) (Some (value_of digits)))
+not_digits most digits i here other = rw (list_all_at is_digit digits i 0 here other) (no_digit (nat_le 1 (length digits) && nat_le (length digits) most) (Some (value_of digits)))
 
-pub digits_read : (digits : Text) (i value : ℕ) → (nat_le 1 (length digits) && nat_le (length digits) 19) ≡ true → length digits ≤ i
-    → list_all is_digit (take i digits) ≡ true → value ≡ value_of (take i digits) → magnitude_of digits ≡ Some value
+pub digits_read : (most : ℕ) (digits : Text) (i value : ℕ) → (nat_le 1 (length digits) && nat_le (length digits) most) ≡ true → length digits ≤ i
+    → list_all is_digit (take i digits) ≡ true → value ≡ value_of (take i digits) → magnitude_of most digits ≡ Some value
 unfolding magnitude_of
-digits_read digits i value right past each is =
+digits_read most digits i value right past each is =
     let e : take i digits ≡ digits = take_all i digits past in
     let each' : list_all is_digit digits ≡ true = subst (λ (ds : Text). list_all is_digit ds ≡ true) e each in
     rw (right, each') (ap Some (sym (is ∙ ap value_of e)))
@@ -42,6 +42,10 @@ digit_fits value i digit small few low =
     let few' : i ≤ 18 = omega arith in
     let bound : 10 ^ i ≤ 10 ^ 18 = pow-le-pow_right ten few' in
     omega (arith, bound)
+
+-- so many digits write a number below that power of ten
+pub few_small : (most i value : ℕ) → value < 10 ^ i → i ≤ most → value < 10 ^ most
+few_small most i value small few = let ten : zero < 10 = omega arith in omega (arith, small, pow-le-pow_right ten few)
 
 -- ---- signs
 

@@ -13,9 +13,9 @@ is_digit byte = nat_le 0xF0 byte && nat_le byte 0xF9
 abbrev pub value_of : Text → ℕ
 value_of digits = fold (λ n byte. n * 10 + (byte - 0xF0)) 0 digits
 
--- the same of 1 to 19 digits
-unfoldable pub magnitude_of : Text → Option ℕ
-magnitude_of digits = if (nat_le 1 (length digits) && nat_le (length digits) 19)
+-- the same of 1 to so many digits
+unfoldable pub magnitude_of : ℕ → Text → Option ℕ
+magnitude_of most digits = if (nat_le 1 (length digits) && nat_le (length digits) most)
     && list_all is_digit digits then Some (value_of digits) else None
 
 -- whether a number is one of signed 64 bits
@@ -28,10 +28,10 @@ within z = if fits z then Some z else None
 
 -- digits with a minus before them, and with a plus or no sign
 abbrev pub negative_of : Text → Option ℤ
-negative_of digits = option_and_then (λ n. within (neg_ℤ (pos n))) (magnitude_of digits)
+negative_of digits = option_and_then (λ n. within (neg_ℤ (pos n))) (magnitude_of 19 digits)
 
 abbrev pub positive_of : Text → Option ℤ
-positive_of digits = option_and_then (λ n. within (pos n)) (magnitude_of digits)
+positive_of digits = option_and_then (λ n. within (pos n)) (magnitude_of 19 digits)
 
 -- the number that a word stands for, if it does: an optional sign and 1 to 19 digits
 unfoldable pub number_of : Text → Option ℤ

@@ -1,5 +1,5 @@
 -- Texts in EBCDIC: blanks and words.
-use Rattle.std.specs.Prelude.{ℕ, ◌==◌, ◌-◌, Bool, List, map, take, drop, length}
+use Rattle.std.specs.Prelude.{ℕ, ◌==◌, ◌-◌, Bool, List, map, take, drop, length, unwrap_or}
 use Rattle.std.specs.List.{before_first, filter_map, prefix_len, suffix_len}
 use Rattle.std.specs.Str.{bytes_eq}
 use Rattle.cms_ebcdic.specs.CodePage.{code_of, upper_of}
@@ -30,6 +30,10 @@ first_word text = before_blank (without_leading_blanks text)
 -- an ASCII text in EBCDIC, without what code page 037 doesn't have
 unfoldable pub ebcdic : List ℕ → Text
 ebcdic = filter_map code_of
+
+-- the same with a blank for what code page 037 doesn't have
+abbrev pub coded : List ℕ → Text
+coded text = map (λ c. unwrap_or (code_of c) 0x40) text
 
 -- the word is this keyword, which is given in ASCII capitals, in capital or small letters
 unfoldable pub is_keyword : List ℕ → Text → Bool

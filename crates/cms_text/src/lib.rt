@@ -8,9 +8,9 @@ mod text;
 mod words;
 
 pub use list::Series;
-pub use numbers::{decimal, number, written};
+pub use numbers::{decimal, magnitude, number, written};
 pub use text::{LONGEST_TEXT, Line, ShortText, Word};
-pub use words::{BLANK, ebcdic, first_word, is_keyword, without_trailing_blanks};
+pub use words::{BLANK, coded, ebcdic, first_word, is_keyword, without_trailing_blanks};
 
 /// A list of lines.
 pub type Lines = Series<Line>;

@@ -1,5 +1,5 @@
 // Decimal numbers in EBCDIC, as they are read and written.
-ghost use Rattle.std.specs.Prelude.{◌≡◌, IfOk};
+ghost use Rattle.std.specs.Prelude.{◌≡◌, ◌≤◌, ◌<◌, ◌^◌, IfOk, IfSome};
 ghost use Rattle.cms_text.specs.Numbers as spec;
 
 use crate::text::Word;
@@ -33,7 +33,7 @@ pub fn number(word: &[u8]) -> Option<i64>
 fn negative(digits: &[u8]) -> Option<i64>
     ensures { result ≡ spec.negative_of digits.now }
 {
-    match magnitude(digits) {
+    match magnitude(MOST_DIGITS, digits) {
         Some(size) => 0i64.checked_sub_unsigned(size),
         None => None,
     }
@@ -42,17 +42,20 @@ fn negative(digits: &[u8]) -> Option<i64>
 fn positive(digits: &[u8]) -> Option<i64>
     ensures { result ≡ spec.positive_of digits.now }
 {
-    match magnitude(digits) {
+    match magnitude(MOST_DIGITS, digits) {
         Some(size) => 0i64.checked_add_unsigned(size),
         None => None,
     }
 }
 
-/// The number that 1 to 19 digits write.
-fn magnitude(digits: &[u8]) -> Option<u64>
-    ensures { result ≡ spec.magnitude_of digits.now }
+/// The number that decimal digits write, from 1 to `most` of them, of which there are at most 19. None exactly where there are no such
+/// digits.
+pub fn magnitude(most: usize, digits: &[u8]) -> Option<u64>
+    requires { most ≤ 19 }
+    ensures value { result ≡ spec.magnitude_of most digits.now }
+    ensures small { IfSome result (λ value. value < 10 ^ most) }
 {
-    if !(1..=MOST_DIGITS).contains(&digits.len()) {
+    if !(1..=most).contains(&digits.len()) {
         return None;
     }
     let mut value = 0;

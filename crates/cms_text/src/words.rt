@@ -18,6 +18,17 @@ pub fn ebcdic(alloc: Global, text: &str) -> Result<Vec<u8>, AllocError>
     text.bytes().filter_map(from_host).collect(alloc)
 }
 
+/// The same of a text of the program, with a blank for what code page 037 doesn't have.
+pub fn coded<const N: usize>(text: &[u8; N]) -> [u8; N]
+    ensures { result ≡ texts.coded text.now }
+{
+    let mut codes = [BLANK; N];
+    for (place, letter) in text.iter().enumerate() {
+        codes[place] = from_host(*letter).unwrap_or(BLANK);
+    }
+    codes
+}
+
 /// The text without the blanks at its end.
 pub fn without_trailing_blanks(text: &[u8]) -> &[u8]
     ensures { result.now ≡ texts.without_trailing_blanks text.now }

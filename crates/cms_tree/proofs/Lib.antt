@@ -8,3 +8,4 @@ pub mod Building
 pub mod Lifting
 pub mod Stepping
 pub mod Totals
+pub mod Own

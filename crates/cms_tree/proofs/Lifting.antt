@@ -8,7 +8,7 @@ use Rattle.std.proofs.Math.Seq.{drop-append_seam}
 use Rattle.cms_journal.specs.declared.event.Event.{Event}
 use Rattle.cms_journal.specs.declared.event.Event.TheVariants.{Wrote}
 use Rattle.cms_journal.specs.Journal.{IsBlockSize, MayAdd}
-use Rattle.cms_journal.specs.Told.{Told, plus, Grown}
+use Rattle.cms_journal.specs.Told.{Told, plus}
 use Rattle.cms_text.specs.Bytes.{overwritten}
 use Rattle.cms_fields.specs.Numbers.{up}
 use Rattle.cms_model.specs.Lists.{cut}
@@ -341,7 +341,3 @@ stands_ends bsize psize fan child fan_is is = subst (λ (n : ℕ). ends_group n 
 pub may_add_front : (event : Event) (old new : Told) (events : List Event) → event ∷ [] ≡ events → MayAdd event old new → AddsFront old new events
 may_add_front event old new events is (inl same) = record { front = []; told = same; is = record { rest = events; is = refl } }
 may_add_front event old new events is (inr more) = record { front = event ∷ []; told = more; is = record { rest = []; is = is } }
-
-pub may_add_grown : (event : Event) (old new : Told) → MayAdd event old new → Grown old new
-may_add_grown event old new (inl same) = record { events = []; told = same }
-may_add_grown event old new (inr more) = record { events = event ∷ []; told = more }

@@ -118,12 +118,6 @@ units_kept P (Some i) new g has j is =
     let same : record { units = i.units; events = back g.events i.events } ≡ j = cc in
     subst P (ap (λ (k : Journal). k.units) same) (has i refl)
 
-pub grown_twice : (old mid new : Told) → Grown old mid → Grown mid new → Grown old new
-grown_twice old mid new a b = record { events = a.events ++ b.events; told = b.told ∙ ap (λ (t : Told). plus t b.events) a.told ∙ plus_plus old a.events b.events }
-
-pub grown_same : (old : Told) → Grown old old
-grown_same old = record { events = []; told = refl }
-
 -- ---- the lowest level
 
 pub over_all : (fan n : ℕ) → 1 ≤ fan → over_count fan (levels fan n) n ≡ pointer_count fan n

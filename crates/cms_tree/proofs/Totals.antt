@@ -176,15 +176,15 @@ climbed_places bsize psize leaves marks fresh (suc k) =
 
 -- ---- the image
 
-times_here : (n x : ℕ) (xs : List ℕ) → n ≡ x → times n (x ∷ xs) ≡ suc (times n xs)
+pub times_here : (n x : ℕ) (xs : List ℕ) → n ≡ x → times n (x ∷ xs) ≡ suc (times n xs)
 unfolding times
 times_here n x xs is = ap (λ (b : Bool). cond b 1 0 + times n xs) (eq-eqb n x is) ∙ (omega arith)
 
-times_there : (n x : ℕ) (xs : List ℕ) → (n ≡ x → ⊥) → times n (x ∷ xs) ≡ times n xs
+pub times_there : (n x : ℕ) (xs : List ℕ) → (n ≡ x → ⊥) → times n (x ∷ xs) ≡ times n xs
 unfolding times
 times_there n x xs other = ap (λ (b : Bool). cond b 1 0 + times n xs) (ne_eqb n x other) ∙ (omega arith)
 
-times_more : (n x : ℕ) (xs : List ℕ) → times n xs ≤ times n (x ∷ xs)
+pub times_more : (n x : ℕ) (xs : List ℕ) → times n xs ≤ times n (x ∷ xs)
 times_more n x xs = ⊎_elim (λ (is : n ≡ x). let e = times_here n x xs is in omega arith) (λ (other : n ≡ x → ⊥). let e = times_there n x xs other in omega arith) (cases_eq n x)
 
 pub in_times : (xs : List ℕ) (i : ℕ) → i < length xs → 1 ≤ times (get_or xs i 0) xs

@@ -1,10 +1,10 @@
 -- A tree whose pointer blocks are written while its leaves are.
-use Rattle.std.specs.Prelude.{◌≡◌, ◌⊎◌, ℕ, zero, suc, ◌+◌, ◌/◌, ◌^◌, ◌<◌, ◌≤◌, List, [], ◌++◌, length, slice_index, map, All, Result, Ok, Err, ⊤}
+use Rattle.std.specs.Prelude.{◌≡◌, ◌⊎◌, ℕ, zero, suc, ◌+◌, ◌/◌, ◌^◌, ◌<◌, ◌≤◌, List, [], ◌∷◌, ◌++◌, length, slice_index, map, All, Result, Ok, Err, ⊤}
 use Rattle.cms_journal.specs.Journal.{HasBlock, IsBlockSize}
 use Rattle.cms_journal.specs.Told.{Told, plus}
 use Rattle.cms_journal.specs.declared.event.Attached.{Attached}
 use Rattle.cms_journal.specs.declared.event.Failed.{Failed}
-use Rattle.cms_model.specs.Lists.{times}
+use Rattle.cms_model.specs.Lists.{In, times}
 use Rattle.cms_model.specs.Trees.{Image}
 use Rattle.cms_model.specs.Sizes.{levels, pointer_count}
 use Rattle.cms_model.specs.Settled.{Write, writes}
@@ -43,6 +43,17 @@ pub record IsClimbing (c : Climbing) : Type 0 where
   pub held : HoldsLittle c
 
 -- ---- what is written
+
+-- each is a write to one of these blocks, of so many bytes
+abbrev pub AreOwn : ℕ → List ℕ → List Write → Type 0
+AreOwn size blocks [] = ⊤
+AreOwn size blocks (w ∷ ws) = In w.block blocks × (length w.bytes ≡ size) × AreOwn size blocks ws
+
+-- such writes were added, and nothing else
+pub record AddsOwn (old new : Told) (u size : ℕ) (blocks : List ℕ) : Type 0 where
+  pub part : List Write
+  pub told : new ≡ plus old (writes u part)
+  pub own : AreOwn size blocks part
 
 -- the pointer blocks that leaf i completes, from 0, bottom level first, as they are written
 abbrev pub climb_writes : ℕ → ℕ → List ℕ → List Mark → List ℕ → ℕ → List Write

@@ -2,7 +2,6 @@
 ghost use Rattle.std.specs.Prelude.{◌≡◌, ◌⊎◌, ℕ, List, ◌+◌, ◌*◌, ◌/◌, ◌%◌, ◌^◌, ◌<◌, ◌≤◌, length, suc, drop, replicate, All, IfOk, IfSome};
 ghost use Rattle.std.specs.Option.{ForSome};
 ghost use Rattle.cms_journal.specs.Journal.{IsBlockSize, IsWritable};
-ghost use Rattle.cms_journal.specs.Told.{Grown};
 ghost use Rattle.cms_text.specs.Bytes.{overwritten};
 ghost use Rattle.cms_fields.specs.Numbers.{up};
 ghost use Rattle.cms_model.specs.LawsTrees.{cell_bytes};
@@ -10,7 +9,7 @@ ghost use Rattle.cms_model.specs.Sizes.{levels, pointer_count};
 ghost use Rattle.cms_tree.specs.declared.types.Mark.{Mark};
 ghost use Rattle.cms_tree.specs.Builds.{cell_of};
 ghost use Rattle.cms_tree.specs.Levels.{over_count};
-ghost use Rattle.cms_tree.specs.Climbs.{HasEach, HasSize, HoldsLittle, IsNew, IsNext, Climbs, Adds, ClimbsAll};
+ghost use Rattle.cms_tree.specs.Climbs.{AddsOwn, HasEach, HasSize, HoldsLittle, IsNew, IsNext, Climbs, Adds, ClimbsAll};
 ghost use Rattle.cms_tree.specs.Tiers.{ends_group, Tier, IsTier, IsOpen, IsChild, IsParent, Stand, Lifts, Rises};
 ghost use Rattle.cms_world.specs.Seen.{OnUnits, seen};
 
@@ -112,7 +111,7 @@ impl Climb {
             → Adds (W.told world.old) (W.told world.new) unit self.old self.new leaves marks fresh.now result }
         ensures added { self.new ≡ record self.old { added = self.old.added + 1; levels = self.new.levels } }
         ensures held { HoldsLittle self.new }
-        ensures grown { Grown (W.told world.old) (W.told world.new) }
+        ensures own { AddsOwn (W.told world.old) (W.told world.new) unit self.old.bsize fresh.now }
         ensures counts { OnUnits (seen W.World world.old) (seen W.World world.new) result }
     {
         let child = Child {
@@ -207,7 +206,7 @@ fn lift<W: World>(
         → Lifts (W.told world.old) (W.told world.new) unit bsize psize leaves marks numbers tier child.now level.new result }
     ensures parent { IfOk result (λ parent. IfSome parent (IsParent (bsize / psize) child.now)) }
     ensures size { HasSize bsize level.new }
-    ensures grown { Grown (W.told world.old) (W.told world.new) }
+    ensures own { AddsOwn (W.told world.old) (W.told world.new) unit bsize fresh.now }
     ensures counts { OnUnits (seen W.World world.old) (seen W.World world.new) result }
 {
     let fan = bsize.bytes() / u32::from(psize);
@@ -253,7 +252,7 @@ fn rise<W: World>(
         → IsChild psize marks (length leaves) tier child.now
         → Rises (W.told world.old) (W.told world.new) unit bsize psize leaves marks numbers tier child.now levels.old levels.new result }
     ensures sizes { All (HasSize bsize) levels.new }
-    ensures grown { Grown (W.told world.old) (W.told world.new) }
+    ensures own { AddsOwn (W.told world.old) (W.told world.new) unit bsize fresh.now }
     ensures counts { OnUnits (seen W.World world.old) (seen W.World world.new) result }
 {
     let Some((level, above)) = levels.split_first_mut() else {

@@ -1,7 +1,7 @@
 -- What a world shows of itself, and what is said of every call on units.
 use Rattle.std.specs.Prelude.{◌≡◌, ◌≤◌, ℕ, Result, IfErr}
 use Rattle.cms_journal.specs.Causes.{Rose, HasCause}
-use Rattle.cms_journal.specs.Told.{Told}
+use Rattle.cms_journal.specs.Told.{Told, Grown}
 use Rattle.cms_world.specs.declared.world.World.{Ghosts}
 
 -- its journal, how often a call on a unit failed, and how often another call did
@@ -24,3 +24,11 @@ pub record OnlyReads {T E : Type 0} (before now : Seen) (device : E) (result : R
 pub record OnUnits {T E : Type 0} (before now : Seen) (result : Result T E) : Type 0 where
   pub cause : HasCause before.faults now.faults result
   pub edges : now.edges ≡ before.edges
+
+-- units were changed, and nothing else was done: a piece was added to what is told, and the count of faults rose where the answer is one of
+-- the device's
+pub record ChangesUnits {T E : Type 0} (before now : Seen) (IsDevices : E → Type 0) (result : Result T E) : Type 0 where
+  pub grown : Grown before.told now.told
+  pub faults : before.faults ≤ now.faults
+  pub edges : now.edges ≡ before.edges
+  pub cause : IfErr result (λ e. IsDevices e → Rose before.faults now.faults)

@@ -1,4 +1,5 @@
-use Rattle.std.proofs.Common.{sym, ◌∙◌}
+use Rattle.std.proofs.Common.{[], ◌∷◌, sym, ◌∙◌}
+use Rattle.cms_journal.specs.declared.event.Event.TheVariants.{Synced}
 use Rattle.cms_disk.specs.Disks.{disk_on}
 use Rattle.cms_disk.proofs.Quieting.{synced_told}
 use Rattle.cms_disk.proofs.minidisk.settle.Goals as goal
@@ -6,3 +7,11 @@ use Rattle.cms_disk.proofs.minidisk.settle.Goals as goal
 pub returns-in-Ok-clause-quiet : goal.returns-in-Ok-clause-quiet
 returns-in-Ok-clause-quiet g c = λ j told quiet.
     synced_told (disk_on c.args.unit.now) c.args.unit.now.unit.number (g.W.World.told c.args.world.now) j (sym c.in-Ok.ensures.synced ∙ told)
+
+pub returns-in-Ok-clause-changes : goal.returns-in-Ok-clause-changes
+returns-in-Ok-clause-changes g c = record {
+  grown = record { events = Synced c.args.unit.now.unit.number ∷ []; told = c.in-Ok.ensures.synced };
+  faults = c.in-Ok.ensures.cause.later;
+  edges = c.in-Ok.ensures.edges;
+  cause = tt;
+}

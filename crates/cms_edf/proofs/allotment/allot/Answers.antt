@@ -13,7 +13,7 @@ returns-then-free-need-clause-full c =
     let size = ap (λ (h : Holding). h.volume.disk.bsize) c.held.view_is in
     let total = ap (λ (h : Holding). h.volume.label.blocks) c.held.view_is in (
       need_of v c.held.inside.bsize c.held.inside.label.blocks c.args.files r.directory r.directory_nodes r.map r.map_nodes c.args.file size total k.first k.directory k.directory_nodes k.map k.map_nodes,
-      c.free_count-free.ensures ∙ ap (λ (h : Holding). length (free_blocks h.volume.bits)) c.held.view_is,
+      c.free_count-free.ensures.count ∙ ap (λ (h : Holding). length (free_blocks h.volume.bits)) c.held.view_is,
       c.if-free-need.true,
     )
 
@@ -25,6 +25,6 @@ returns-in-Ok-clause-room c =
     let size = ap (λ (h : Holding). h.volume.disk.bsize) c.held.view_is in
     let total = ap (λ (h : Holding). h.volume.label.blocks) c.held.view_is in
     let need = need_of v c.held.inside.bsize c.held.inside.label.blocks c.args.files r.directory r.directory_nodes r.map r.map_nodes c.args.file size total k.first k.directory k.directory_nodes k.map k.map_nodes in
-    let free = c.free_count-free.ensures ∙ ap (λ (h : Holding). length (free_blocks h.volume.bits)) c.held.view_is in
+    let free = c.free_count-free.ensures.count ∙ ap (λ (h : Holding). length (free_blocks h.volume.bits)) c.held.view_is in
     let enough = c.if-free-need.false in
     omega arith

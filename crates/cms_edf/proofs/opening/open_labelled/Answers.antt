@@ -104,3 +104,6 @@ returns-clause-read g c = λ j told.
           (subst (λ (q : Place). m.map ≡ bits_in q.total (bytes_at (image_of (contents_of j q.unit)) t.map.leaves.items)) at bits)
           has.files_are);
     }
+
+pub invariant_of-result : goal.invariant_of-result
+invariant_of-result g c = record { named = search rules; kept = search rules }

@@ -70,7 +70,7 @@ returns-in-Ok-clause-acts g c =
     let stamp = c.of.ensures.value in
     erased_so _ _ d (record { minidisk = c.erase.new.self; read_only = d.read_only }) c.args.name.now tt
     (record { disk_a = some; writable = c.if-disk.false; sees = subst (Sees d c.args.name.now) seen c.is_seen.ensures }) (rw stamp at erased.alters)
-    (record { on = erased.same; read_only = refl }) refl (record { grown = erased.grown; faults = erased.faults; edges = omega (arith, erased.edges) })
+    (record { on = erased.changes.same; read_only = refl }) refl (record { grown = erased.changes.units.grown; faults = erased.changes.units.faults; edges = omega (arith, erased.changes.units.edges) })
 
 pub returns-in_err-no_room-in-Err-Full-clause-acts : goal.returns-in_err-no_room-in-Err-Full-clause-acts
 returns-in_err-no_room-in-Err-Full-clause-acts g c =
@@ -83,7 +83,7 @@ returns-in_err-no_room-in-Err-Full-clause-acts g c =
     rw (p.1, p.2)
     (erase_cut _ _ d (record { minidisk = c.erase.new.self; read_only = d.read_only }) c.args.name.now (failed.Full c.in-Err-Full.need c.in-Err-Full.free) _
     (record { disk_a = some; writable = c.if-disk.false; sees = subst (Sees d c.args.name.now) seen c.is_seen.ensures }) c.requires.usable refl (rw full at erased.alters)
-    (record { grown = erased.grown; faults = erased.faults; edges = omega (arith, erased.edges) }))
+    (record { grown = erased.changes.units.grown; faults = erased.changes.units.faults; edges = omega (arith, erased.changes.units.edges) }))
 
 pub returns-in_ok-no_room-in-Err-Full-clause-acts : goal.returns-in_ok-no_room-in-Err-Full-clause-acts
 returns-in_ok-no_room-in-Err-Full-clause-acts g c =
@@ -98,11 +98,11 @@ returns-in_ok-no_room-in-Err-Full-clause-acts g c =
     let does = rw message at refuse.does in
     full_refused _ (spot g.W.World c.erase.new.world (record c.args.state.now { disk_a = Some e })) _ d e c.in-Err-Full.need c.in-Err-Full.free c.args.name.now _ _
     (record { disk_a = some; writable = c.if-disk.false; sees = subst (Sees d c.args.name.now) seen c.is_seen.ensures }) (rw full at erased.alters)
-    (record { on = erased.same; read_only = refl })
+    (record { on = erased.changes.same; read_only = refl })
     (record {
-      later = record { grown = erased.grown; faults = erased.faults; edges = omega (arith, erased.edges) };
+      later = record { grown = erased.changes.units.grown; faults = erased.changes.units.faults; edges = omega (arith, erased.changes.units.edges) };
       state = refl;
-      volume = ap (λ (a : Accessed). a.volume) (erased.kept (λ doubt. absurd (cc (sym full ∙ doubt))));
+      volume = ap (λ (a : Accessed). a.volume) (erased.changes.kept (λ doubt. absurd (cc (sym full ∙ doubt))));
     })
     (refused _ _ _ _ _ does refuse.went refl)
 
@@ -120,10 +120,10 @@ returns-then-has_failed g c =
           erase_stopped _ _ d c.args.name.now
           (record { disk_a = some; writable = c.if-disk.false; sees = subst (Sees d c.args.name.now) seen c.is_seen.ensures })
           (fails_so _ _ d (record { minidisk = c.erase.new.self; read_only = d.read_only }) c.args.name.now c.in-Err.fault device
-          (record { on = erased.same; read_only = refl }) (erases_at (spot g.W.World c.args.world.now s) (spot g.W.World c.erase.new.world s) d
+          (record { on = erased.changes.same; read_only = refl }) (erases_at (spot g.W.World c.args.world.now s) (spot g.W.World c.erase.new.world s) d
           (record { minidisk = c.erase.new.self; read_only = d.read_only }) c.args.name.now _ (Err c.in-Err.fault) stamp erased.alters))
-          (state_with s _ None c.take.ensures.after) (record { grown = erased.grown; faults = erased.faults; edges = omega (arith, erased.edges) })
-          (erased.cause (is_device c.in-Err.fault device));
+          (state_with s _ None c.take.ensures.after) (record { grown = erased.changes.units.grown; faults = erased.changes.units.faults; edges = omega (arith, erased.changes.units.edges) })
+          (erased.changes.units.cause (is_device c.in-Err.fault device));
       kept = refl;
     }
 
@@ -142,6 +142,6 @@ returns-else-has_failed g c =
           c.requires.usable (sym c.has_failed.ensures ∙ c.if-has_failed.false)
           (erases_at (spot g.W.World c.args.world.now s) (spot g.W.World c.erase.new.world s) d
           (record { minidisk = c.erase.new.self; read_only = d.read_only }) c.args.name.now _ (Err c.in-Err.fault) stamp erased.alters)
-          (record { grown = erased.grown; faults = erased.faults; edges = omega (arith, erased.edges) });
+          (record { grown = erased.changes.units.grown; faults = erased.changes.units.faults; edges = omega (arith, erased.changes.units.edges) });
       kept = refl;
     }

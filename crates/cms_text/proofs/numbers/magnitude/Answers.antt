@@ -1,12 +1,15 @@
 use Rattle.std.proofs.Common.{◌≤◌, length, arith, rules, sym}
-use Rattle.cms_text.proofs.Numerals.{digit_fits, digits_read, not_digits, wrong_length}
+use Rattle.cms_text.proofs.Numerals.{digit_fits, digits_read, few_small, not_digits, wrong_length}
 use Rattle.cms_text.proofs.numbers.magnitude.Goals as goal
 
 pub returns-then-not-contains : goal.returns-then-not-contains
-returns-then-not-contains c = sym (wrong_length c.args.digits.now (search rules))
+returns-then-not-contains c = record { value = sym (wrong_length c.args.most c.args.digits.now (search rules)); small = tt }
 
 pub returns-then-not-is_digit : goal.returns-then-not-is_digit
-returns-then-not-is_digit c = sym (not_digits c.args.digits.now c.loop-digit.digit-index (search rules) (search rules))
+returns-then-not-is_digit c = record {
+  value = sym (not_digits c.args.most c.args.digits.now c.loop-digit.digit-index (search rules) (search rules));
+  small = tt;
+}
 
 pub overflow_mul-value : goal.overflow_mul-value
 overflow_mul-value c =
@@ -20,4 +23,11 @@ overflow_add-value c =
     omega (arith, digit_fits c.loop-digit.value c.loop-digit.digit-index c.from.result c.loop-digit.invariant.2 (omega arith) low)
 
 pub returns : goal.returns
-returns c = sym (digits_read c.args.digits.now c.loop-digit.digit-index c.loop-digit.value (search rules) (omega arith) c.loop-digit.invariant.0 c.loop-digit.invariant.1)
+returns c =
+    let few : length c.args.digits.now ≤ c.args.most = search rules in
+    let value = c.loop-digit.value in
+    let here = c.loop-digit.digit-index in
+    record {
+      value = sym (digits_read c.args.most c.args.digits.now here value (search rules) (omega arith) c.loop-digit.invariant.0 c.loop-digit.invariant.1);
+      small = few_small c.args.most here value c.loop-digit.invariant.2 (omega (arith, few));
+    }

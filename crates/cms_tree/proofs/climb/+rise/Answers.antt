@@ -12,7 +12,8 @@ use Rattle.cms_tree.specs.Levels.{over_count}
 use Rattle.cms_tree.specs.Tiers.{Tier, tier_above, IsTier, IsParent, Stand, Lifts, Rises}
 use Rattle.cms_tree.specs.Climbs.{HasSize, HasEach}
 use Rattle.cms_tree.proofs.Lifting.{some_fan, tier_next}
-use Rattle.cms_tree.proofs.Stepping.{rises_nothing, rises_no_more, rises_on, rises_failed, units_kept, grown_twice}
+use Rattle.cms_tree.proofs.Stepping.{rises_nothing, rises_no_more, rises_on, rises_failed, units_kept}
+use Rattle.cms_tree.proofs.Own.{own_none, own_twice, own_grown, in_drop, in_take}
 use Rattle.cms_tree.proofs.climb.+rise.Goals as goal
 
 pub returns-in_default-clause-rises : goal.returns-in_default-clause-rises
@@ -25,6 +26,9 @@ returns-in_default-clause-rises g t c = λ leaves marks numbers tier fresh_is is
     empty : (l : List Level) → length l ≡ 0 → l ≡ []
     empty [] is = refl
     empty (x ∷ l) is = absurd (omega arith)
+
+pub returns-in_default-clause-own : goal.returns-in_default-clause-own
+returns-in_default-clause-own g t c = own_none (g.W.World.told c.args.world.now) c.args.unit c.args.bsize c.args.fresh.now
 
 pub lift-requires-clause-level : goal.lift-requires-clause-level
 lift-requires-clause-level g t c = All-head (HasSize c.args.bsize) c.in-Some.level.now c.in-Some.above.now (subst (All (HasSize c.args.bsize)) c.in-Some.ensures.cases.0 c.requires.levels)
@@ -62,7 +66,8 @@ rise-requires g t c κs within =
     let all : over_count fan (suc (length above)) a.child.now.count ≤ length a.fresh.now = subst (λ (l : List Level). over_count fan (length l) a.child.now.count ≤ length a.fresh.now) whole c.requires.fresh in
     let same : over_count fan (length above) parent.count ≡ over_count fan (length above) (up a.child.now.count fan) = ap (over_count fan (length above)) p.count in
     let rest = drop parent.count a.fresh.now in
-    let kept = units_kept (λ units. HasEach units a.unit a.bsize a.fresh.now) (g.W.World.told a.world.now) (g.W.World.told c.lift.new.world) c.lift.ensures.grown c.requires.blocks in (
+    let grown = own_grown (g.W.World.told a.world.now) (g.W.World.told c.lift.new.world) a.unit a.bsize a.fresh.now c.lift.ensures.own in
+    let kept = units_kept (λ units. HasEach units a.unit a.bsize a.fresh.now) (g.W.World.told a.world.now) (g.W.World.told c.lift.new.world) grown c.requires.blocks in (
       omega arith,
       (
         within,
@@ -78,7 +83,7 @@ rise-requires g t c κs within =
                   (let long = length-take (length a.fresh.now - parent.count) rest in let long' = length-drop parent.count a.fresh.now in omega arith),
                   (
                     (λ j told. All-take (λ n. HasBlock j.units a.unit n a.bsize) (length a.fresh.now - parent.count) rest (All-drop (λ n. HasBlock j.units a.unit n a.bsize) parent.count a.fresh.now (kept j told))),
-                    (λ j told. units_kept (λ units. IsWritable units a.unit) (g.W.World.told a.world.now) (g.W.World.told c.lift.new.world) c.lift.ensures.grown c.requires.writable j told),
+                    (λ j told. units_kept (λ units. IsWritable units a.unit) (g.W.World.told a.world.now) (g.W.World.told c.lift.new.world) grown c.requires.writable j told),
                   ),
                 ),
               ),
@@ -88,8 +93,12 @@ rise-requires g t c κs within =
       ),
     )
 
-pub returns-in-Some-2-clause-grown : goal.returns-in-Some-2-clause-grown
-returns-in-Some-2-clause-grown g t c = grown_twice (g.W.World.told c.args.world.now) (g.W.World.told c.lift.new.world) (g.W.World.told c.rise.new.world) c.lift.ensures.grown c.rise.ensures.grown
+pub returns-in-Some-2-clause-own : goal.returns-in-Some-2-clause-own
+returns-in-Some-2-clause-own g t c =
+    let a = c.args in
+    let count = c.in-Some-2.parent.count in
+    own_twice (g.W.World.told a.world.now) (g.W.World.told c.lift.new.world) (g.W.World.told c.rise.new.world) a.unit a.bsize (take (length a.fresh.now - count) (drop count a.fresh.now)) a.fresh.now
+    (λ n is_in. in_drop n count a.fresh.now (in_take n (length a.fresh.now - count) (drop count a.fresh.now) is_in)) c.lift.ensures.own c.rise.ensures.own
 
 pub returns-in-Some-2-clause-rises : goal.returns-in-Some-2-clause-rises
 returns-in-Some-2-clause-rises g t c = λ leaves marks numbers tier fresh_is is_tier stand is_child.

@@ -6,7 +6,8 @@ use Rattle.cms_journal.specs.Journal.{HasBlock, MayAdd}
 use Rattle.cms_journal.specs.Told.{plus, Grown}
 use Rattle.cms_fields.specs.Numbers.{up}
 use Rattle.cms_tree.specs.Tiers.{Tier, IsTier, ends_group}
-use Rattle.cms_tree.proofs.Lifting.{Pointed, Stands, some_fan, stands_on, stands_whole, stands_parent, stands_next, stands_ends, may_add_front, may_add_grown, group_within}
+use Rattle.cms_tree.proofs.Lifting.{Pointed, Stands, some_fan, stands_on, stands_whole, stands_parent, stands_next, stands_ends, may_add_front, group_within}
+use Rattle.cms_tree.proofs.Own.{may_add_own, own_none, in_at}
 use Rattle.cms_tree.proofs.Sums.{div_ceil_is}
 use Rattle.cms_tree.proofs.climb.lift.Goals as goal
 
@@ -19,6 +20,9 @@ returns-then-not-ends_group-clause-lifts g c = λ leaves marks numbers tier leve
     record { size = c.requires.size; kind = c.requires.psize; fan_is = fan_is; within = c.requires.within; tier = is_tier; is_open = is_open; is_child = is_child } in
     let p : Pointed a.psize fan a.child.now a.level.now c.point.new.self = record { bytes = c.point.ensures.bytes; first = c.point.ensures.first; later = c.point.ensures.later } in
     stands_on (g.W.World.told a.world.now) a.bsize a.psize fan leaves marks numbers tier levels a.child.now a.level.now c.point.new.self s p (sym c.ends_group.ensures ∙ c.if-not-ends_group.true)
+
+pub returns-then-not-ends_group-clause-own : goal.returns-then-not-ends_group-clause-own
+returns-then-not-ends_group-clause-own g c = own_none (g.W.World.told c.args.world.now) c.args.unit c.args.bsize c.args.fresh.now
 
 pub write_block-requires-clause-block : goal.write_block-requires-clause-block
 write_block-requires-clause-block g c = λ j told.
@@ -48,8 +52,17 @@ returns-in_err-write_block-clause-lifts g c = λ leaves marks numbers tier level
           (stands_whole a.unit a.bsize a.psize fan leaves marks numbers a.fresh.now tier levels a.child.now a.level.now c.point.new.self c.deref.result.now s q is fresh_is c.deref.ensures.value) c.in_err-write_block.ensures.failed,
     )
 
-pub returns-in_err-write_block-clause-grown : goal.returns-in_err-write_block-clause-grown
-returns-in_err-write_block-clause-grown g c = may_add_grown _ (g.W.World.told c.args.world.now) (g.W.World.told c.write_block.new.self) c.in_err-write_block.ensures.failed
+pub returns-in_err-write_block-clause-own : goal.returns-in_err-write_block-clause-own
+returns-in_err-write_block-clause-own g c =
+    let a = c.args in
+    let fan = c.bytes.result / c.from.result in
+    let fan_is : fan ≡ a.bsize / a.psize = rw (c.bytes.ensures.value, c.from.ensures) refl in
+    let some : 1 ≤ fan = rw fan_is (some_fan a.bsize a.psize c.requires.size c.requires.psize) in
+    let low = group_within fan a.child.now.count a.child.now.nth some c.requires.within in
+    let enough : up a.child.now.count fan ≤ length a.fresh.now = rw fan_is c.requires.fresh in
+    let size : length c.deref.result.now ≡ a.bsize = ap (λ (l : List ℕ). length l) c.deref.ensures.value ∙ c.point.ensures.size ∙ c.requires.level in
+    may_add_own (g.W.World.told a.world.now) (g.W.World.told c.write_block.new.self) a.unit a.bsize (record { block = get_or a.fresh.now (a.child.now.nth / fan) 0; bytes = c.deref.result.now }) a.fresh.now
+    (in_at a.fresh.now (a.child.now.nth / fan) (omega arith)) size c.in_err-write_block.ensures.failed
 
 pub returns-clause-parent : goal.returns-clause-parent
 returns-clause-parent g c =
@@ -65,8 +78,17 @@ returns-clause-parent g c =
       within = omega arith;
     }
 
-pub returns-clause-grown : goal.returns-clause-grown
-returns-clause-grown g c = may_add_grown _ (g.W.World.told c.args.world.now) (g.W.World.told c.write_block.new.self) (inr c.in_ok-write_block.ensures.wrote)
+pub returns-clause-own : goal.returns-clause-own
+returns-clause-own g c =
+    let a = c.args in
+    let fan = c.bytes.result / c.from.result in
+    let fan_is : fan ≡ a.bsize / a.psize = rw (c.bytes.ensures.value, c.from.ensures) refl in
+    let some : 1 ≤ fan = rw fan_is (some_fan a.bsize a.psize c.requires.size c.requires.psize) in
+    let low = group_within fan a.child.now.count a.child.now.nth some c.requires.within in
+    let enough : up a.child.now.count fan ≤ length a.fresh.now = rw fan_is c.requires.fresh in
+    let size : length c.deref.result.now ≡ a.bsize = ap (λ (l : List ℕ). length l) c.deref.ensures.value ∙ c.point.ensures.size ∙ c.requires.level in
+    may_add_own (g.W.World.told a.world.now) (g.W.World.told c.write_block.new.self) a.unit a.bsize (record { block = get_or a.fresh.now (a.child.now.nth / fan) 0; bytes = c.deref.result.now }) a.fresh.now
+    (in_at a.fresh.now (a.child.now.nth / fan) (omega arith)) size (inr c.in_ok-write_block.ensures.wrote)
 
 pub returns-clause-lifts : goal.returns-clause-lifts
 returns-clause-lifts g c = λ leaves marks numbers tier levels fresh_is is_tier is_open is_child.

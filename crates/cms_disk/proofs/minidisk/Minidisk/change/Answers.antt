@@ -1,13 +1,14 @@
-use Rattle.std.proofs.Common.{◌≡◌, refl, sym, ◌∙◌, ap, subst}
+use Rattle.std.proofs.Common.{rules, ◌≡◌, refl, sym, ◌∙◌, ap, subst}
 use Rattle.cms_held.specs.Kept.{Keeps}
 use Rattle.cms_held.specs.Opening.{HeldVolume, Holding}
 use Rattle.cms_journal.specs.Told.{plus}
 use Rattle.cms_edf.specs.Finishing.{IsStopped, LeadsTo, step_events}
 use Rattle.cms_edf.specs.Planning.{IsFullFor, IsPlanFor, change_of}
 use Rattle.cms_edf.specs.declared.doubt.Doubt.TheVariants.{Old, Either}
-use Rattle.cms_disk.specs.Changing.{Alters}
+use Rattle.cms_world.specs.Seen.{seen}
+use Rattle.cms_disk.specs.Changing.{Alters, ChangesDisk}
 use Rattle.cms_disk.specs.Disks.{Accessed}
-use Rattle.cms_disk.proofs.Altering.{Setting, altered, alters_by, full_is, grown_so}
+use Rattle.cms_disk.proofs.Altering.{Setting, altered, alters_by, full_is, grown_so, leads_same, on_same}
 use Rattle.cms_disk.proofs.minidisk.Minidisk.change.Goals as goal
 use Rattle.cms_disk.proofs.minidisk.Minidisk.change.Goals.{in-Ok-carry_out, in-Err-Old, in-Err-Either}
 
@@ -64,6 +65,38 @@ returns-clause-alters g c = λ j m told is looked.
           )
     ]
 
-pub returns-clause-grown : goal.returns-clause-grown
-returns-clause-grown g c =
-    grown_so (g.W.World.told c.args.world.now) (g.W.World.told c.carry_out.new.world) c.plan.new.held.volume c.in-Ok.plan c.carry_out.result c.carry_out.ensures.done c.carry_out.ensures.cut_off
+pub returns-clause-changes : goal.returns-clause-changes
+returns-clause-changes g c =
+    let shows = g.W.World in
+    let grown = grown_so (shows.told c.args.world.now) (shows.told c.carry_out.new.world) c.plan.new.held.volume c.in-Ok.plan c.carry_out.result c.carry_out.ensures.done c.carry_out.ensures.cut_off in
+    let counts = c.carry_out.ensures.counts in
+    let d = c.args.self.now in
+    let e : Accessed = record { vdev = c.self.inside.unit.vdev; writable = c.self.inside.unit.writable; volume = c.carry_out.new.held.volume; spare = c.carry_out.new.held.spare } in
+    let vdev = ap (λ (a : Accessed). a.vdev) c.self.view_is in
+    let writable = ap (λ (a : Accessed). a.writable) c.self.view_is in
+    let volume = c.plan.ensures.volume ∙ ap (λ (a : Accessed). a.volume) c.self.view_is in
+    let unit = ap (λ (v : HeldVolume). v.unit) volume in
+    let disk = ap (λ (v : HeldVolume). v.disk) volume in
+    let before = c.plan.new.held.volume in
+    elim c.match-carry_out.branch [
+      | in-Ok-carry_out w ↦ (
+          subst (ChangesDisk (seen shows c.args.world.now) (seen shows c.carry_out.new.world) c.args.self.now _) (sym w.result-is)
+          (record { units = record { grown = grown; faults = counts.cause.later; edges = counts.edges; cause = tt }; same = (let on = leads_same before e.volume (change_of c.args.change.now) c.args.stamp.now c.in-Ok.plan (subst (λ (v : HeldVolume). IsPlanFor v (change_of c.args.change.now) c.args.stamp.now c.in-Ok.plan) (sym c.plan.ensures.volume) c.in-Ok.ensures.planned) w.in-Ok-carry_out.ensures.volume in on_same d e vdev writable (on.0 ∙ unit) (on.1 ∙ disk)); kept = tt })
+          )
+      | in-Err-Old w ↦ (
+          subst (ChangesDisk (seen shows c.args.world.now) (seen shows c.carry_out.new.world) c.args.self.now _) (sym w.result-is)
+          (record {
+            units = record { grown = grown; faults = counts.cause.later; edges = counts.edges; cause = λ device. w.in-Err-Old.ensures.counts.cause.failed };
+            same = (let kept = ap (λ (h : Holding). h.volume) w.in-Err-Old.ensures.kept in on_same d e vdev writable (ap (λ (v : HeldVolume). v.unit) kept ∙ unit) (ap (λ (v : HeldVolume). v.disk) kept ∙ disk));
+            kept = λ sure. search rules;
+          })
+          )
+      | in-Err-Either w ↦ (
+          subst (ChangesDisk (seen shows c.args.world.now) (seen shows c.carry_out.new.world) c.args.self.now _) (sym w.result-is)
+          (record {
+            units = record { grown = grown; faults = counts.cause.later; edges = counts.edges; cause = λ device. w.in-Err-Either.ensures.counts.cause.failed };
+            same = (let kept = ap (λ (h : Holding). h.volume) w.in-Err-Either.ensures.kept in on_same d e vdev writable (ap (λ (v : HeldVolume). v.unit) kept ∙ unit) (ap (λ (v : HeldVolume). v.disk) kept ∙ disk));
+            kept = λ sure. absurd (sure refl);
+          })
+          )
+    ]

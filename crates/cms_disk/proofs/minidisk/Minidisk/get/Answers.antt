@@ -1,9 +1,9 @@
-use Rattle.std.proofs.Common.{◌≡◌, ℕ, sym, subst}
+use Rattle.std.proofs.Common.{◌≡◌, ◌∙◌, ℕ, refl, sym, subst}
 use Rattle.std.proofs.lemmas.Result.{err_from_is_err_and}
 use Rattle.cms_journal.specs.Journal.{contents_of}
 use Rattle.cms_model.specs.Trees.{image_of}
 use Rattle.cms_disk.specs.Cursors.{HasLeft}
-use Rattle.cms_disk.proofs.Gotten.{data_stands, fixed_is, gets_err, gets_none, gets_not_altered, gets_ok}
+use Rattle.cms_disk.proofs.Gotten.{data_stands, fixed_is, fixed_length, gets_err, gets_none, gets_not_altered, gets_ok}
 use Rattle.cms_disk.proofs.minidisk.Minidisk.get.Goals as goal
 
 pub returns-in_err-place-clause-file : goal.returns-in_err-place-clause-file
@@ -52,3 +52,15 @@ returns-clause-file g c = λ j told m stands.
     (gets_ok (image_of (contents_of j d.volume.unit)) c.args.name.now d m c.in_ok-place.place info cursor bytes most read.0 stands c.in_ok-place.ensures.place
     (record { keeps = c.in_ok-place.ensures.kept; info_is = c.info-info.ensures; first = first; gathers = read.1 })
     (λ all has. read.2 j told all (subst (λ (u : ℕ). HasLeft (image_of (contents_of j u)) cursor all) (sym at) has)))
+
+pub returns-clause-like : goal.returns-clause-like
+returns-clause-like g c =
+    let info = c.info-info.result in
+    record {
+      place = c.in_ok-place.place;
+      place_is = c.in_ok-place.ensures.place;
+      info = info;
+      info_is = c.info-info.ensures;
+      format = refl;
+      fixed = λ at. c.length_of.ensures ∙ fixed_length info.format info.length c.in_ok-gathered.gathered.longest at;
+    }

@@ -1,17 +1,18 @@
 -- The exits of a making: the wiping failed, all was done, the making failed before its first sync, and behind it.
-use Rattle.std.proofs.Common.{ap, ◌∙◌}
+use Rattle.std.proofs.Common.{ap, ◌∙◌, arith}
 use Rattle.cms_held.specs.Making.{made_writes}
 use Rattle.cms_held.specs.Opening.{HeldVolume}
 use Rattle.cms_edf.specs.Doubts.{IsCutOff}
 use Rattle.cms_edf.specs.declared.doubt.Doubt.TheVariants.{Old, Either}
 use Rattle.cms_disk.proofs.Formatting.{cut_grown, emptied, emptied_quiet, front_grown, grown_cut_wipe, make_doubted, made, made_grown, made_quiet, wipe_doubted}
+use Rattle.cms_disk.proofs.StepPieces.{grown_some}
 use Rattle.cms_disk.proofs.minidisk.Minidisk.make.Goals as goal
 
 pub returns-in-Err-clause-formats : goal.returns-in-Err-clause-formats
 returns-in-Err-clause-formats g c = λ j before is ready. wipe_doubted j _ _ c.args.unit.now before c.args.volid c.args.stamp.now is ready c.in-Err.ensures.cut_off
 
-pub returns-in-Err-clause-grown : goal.returns-in-Err-clause-grown
-returns-in-Err-clause-grown g c = grown_cut_wipe c.args.unit.now.unit.number c.args.unit.now.bsize _ _ c.in-Err.ensures.cut_off
+pub returns-in-Err-clause-of_unit : goal.returns-in-Err-clause-of_unit
+returns-in-Err-clause-of_unit g c = grown_cut_wipe c.args.unit.now.unit.number c.args.unit.now.bsize _ _ c.in-Err.ensures.cut_off
 
 pub returns-in-Ok-make-clause-formats : goal.returns-in-Ok-make-clause-formats
 returns-in-Ok-make-clause-formats g c = λ j before is ready.
@@ -35,8 +36,8 @@ returns-in-Ok-make-clause-quiet g c = λ j before is ready.
     made_quiet _ _ c.args.unit.now before c.args.volid c.args.stamp.now _ (ap (λ (v : HeldVolume). v.unit) c.in-Ok-make.ensures.held ∙ c.in_ok-plan.ensures.unit)
     (ap (λ (v : HeldVolume). v.disk) c.in-Ok-make.ensures.held ∙ c.in_ok-plan.ensures.disk) (returns-in-Ok-make-clause-formats g c j before is ready)
 
-pub returns-in-Ok-make-clause-grown : goal.returns-in-Ok-make-clause-grown
-returns-in-Ok-make-clause-grown g c =
+pub returns-in-Ok-make-clause-of_unit : goal.returns-in-Ok-make-clause-of_unit
+returns-in-Ok-make-clause-of_unit g c =
     made_grown c.args.unit.now.unit.number c.in_ok-plan.plan.unit c.args.unit.now.bsize (made_writes c.in_ok-plan.plan) c.in_ok-plan.plan.systems.label_bytes _ _ _
     c.in_ok-plan.ensures.unit c.in-Ok.ensures.done c.in-Ok-make.ensures.done
 
@@ -64,8 +65,8 @@ pub returns-in-Err-Old-clause-quiet : goal.returns-in-Err-Old-clause-quiet
 returns-in-Err-Old-clause-quiet g c = λ j before is ready.
     emptied_quiet _ _ c.args.unit.now before c.args.volid c.args.stamp.now (returns-in-Err-Old-clause-formats g c j before is ready)
 
-pub returns-in-Err-Old-clause-grown : goal.returns-in-Err-Old-clause-grown
-returns-in-Err-Old-clause-grown g c =
+pub returns-in-Err-Old-clause-of_unit : goal.returns-in-Err-Old-clause-of_unit
+returns-in-Err-Old-clause-of_unit g c =
     let told = g.W.World.told in
     let plan = c.in_ok-plan.plan in
     let mid = told c.wipe.new.world in
@@ -93,8 +94,8 @@ returns-in-Err-Either-clause-formats g c = λ j before is ready.
     })
     cut
 
-pub returns-in-Err-Either-clause-grown : goal.returns-in-Err-Either-clause-grown
-returns-in-Err-Either-clause-grown g c =
+pub returns-in-Err-Either-clause-of_unit : goal.returns-in-Err-Either-clause-of_unit
+returns-in-Err-Either-clause-of_unit g c =
     let told = g.W.World.told in
     let plan = c.in_ok-plan.plan in
     let mid = told c.wipe.new.world in
@@ -102,3 +103,36 @@ returns-in-Err-Either-clause-grown g c =
     let cut : IsCutOff mid new plan.unit (made_writes plan) plan.systems.label_bytes Either = rw c.in-Err-Either.field-0-is at c.in-Err-Either.ensures.cut_off in
     cut_grown c.args.unit.now.unit.number plan.unit c.args.unit.now.bsize (made_writes plan) plan.systems.label_bytes (told c.args.world.now) mid new
     c.in_ok-plan.ensures.unit c.in-Ok.ensures.done cut
+
+-- ---- the counts
+
+pub returns-in-Err-clause-changes : goal.returns-in-Err-clause-changes
+returns-in-Err-clause-changes g c =
+    let counts = c.in-Err.ensures.counts in
+    record { grown = grown_some (returns-in-Err-clause-of_unit g c); faults = counts.cause.later; edges = counts.edges; cause = λ device. counts.cause.failed }
+
+pub returns-in-Ok-make-clause-changes : goal.returns-in-Ok-make-clause-changes
+returns-in-Ok-make-clause-changes g c =
+    let wiped = c.wipe.ensures.counts in
+    let first = wiped.cause.later in
+    let made = c.make.ensures.counts in
+    let second = made.cause.later in
+    record { grown = grown_some (returns-in-Ok-make-clause-of_unit g c); faults = omega (arith, first, second); edges = made.edges ∙ wiped.edges; cause = tt }
+
+pub returns-in-Err-Old-clause-changes : goal.returns-in-Err-Old-clause-changes
+returns-in-Err-Old-clause-changes g c =
+    let wiped = c.wipe.ensures.counts in
+    let first = wiped.cause.later in
+    let made = c.in-Err-Old.ensures.counts in
+    let second = made.cause.later in
+    let rose = made.cause.failed in
+    record { grown = grown_some (returns-in-Err-Old-clause-of_unit g c); faults = omega (arith, first, second); edges = made.edges ∙ wiped.edges; cause = λ device. omega (arith, first, rose) }
+
+pub returns-in-Err-Either-clause-changes : goal.returns-in-Err-Either-clause-changes
+returns-in-Err-Either-clause-changes g c =
+    let wiped = c.wipe.ensures.counts in
+    let first = wiped.cause.later in
+    let made = c.in-Err-Either.ensures.counts in
+    let second = made.cause.later in
+    let rose = made.cause.failed in
+    record { grown = grown_some (returns-in-Err-Either-clause-of_unit g c); faults = omega (arith, first, second); edges = made.edges ∙ wiped.edges; cause = λ device. omega (arith, first, rose) }

@@ -6,4 +6,4 @@ use Rattle.cms_edf.proofs.FilesNamed.{keys_named}
 use Rattle.cms_edf.proofs.held.Held.by_name.Goals as goal
 
 pub returns-clause-names : goal.returns-clause-names
-returns-clause-names c = ap keys_of c.self.invariant.0 ∙ (keys_named (values c.self.inside.files) ∙ ap (λ (h : Holding). names_in h.volume.files) c.self.view_is)
+returns-clause-names c = ap keys_of c.self.invariant.named ∙ (keys_named (values c.self.inside.files) ∙ ap (λ (h : Holding). names_in h.volume.files) c.self.view_is)

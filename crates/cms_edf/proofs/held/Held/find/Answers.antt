@@ -10,10 +10,10 @@ use Rattle.cms_edf.proofs.held.Held.find.Goals as goal
 
 pub returns-in-Some-clause-place : goal.returns-in-Some-clause-place
 returns-in-Some-clause-place c =
-    let keys_are = ap keys_of c.self.invariant.0 ∙ (keys_named (values c.self.inside.files) ∙ ap (λ (h : Holding). names_in h.volume.files) c.self.view_is) in
+    let keys_are = ap keys_of c.self.invariant.named ∙ (keys_named (values c.self.inside.files) ∙ ap (λ (h : Holding). names_in h.volume.files) c.self.view_is) in
     c.in-Some.ensures.index ∙ (place_there c.args.name.now (keys c.self.inside.files) ∙ ap (λ (names : List Name). position (same_name c.args.name.now) names) keys_are)
 
 pub returns-in-None-clause-place : goal.returns-in-None-clause-place
 returns-in-None-clause-place c =
-    let keys_are = ap keys_of c.self.invariant.0 ∙ (keys_named (values c.self.inside.files) ∙ ap (λ (h : Holding). names_in h.volume.files) c.self.view_is) in
+    let keys_are = ap keys_of c.self.invariant.named ∙ (keys_named (values c.self.inside.files) ∙ ap (λ (h : Holding). names_in h.volume.files) c.self.view_is) in
     c.in-None.ensures.index ∙ (place_there c.args.name.now (keys c.self.inside.files) ∙ ap (λ (names : List Name). position (same_name c.args.name.now) names) keys_are)

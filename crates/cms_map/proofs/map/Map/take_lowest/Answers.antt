@@ -6,7 +6,7 @@ use Rattle.cms_map.proofs.map.Map.take_lowest.Goals as goal
 pub next_free-block-requires : goal.next_free-block-requires
 next_free-block-requires c =
     let l = c.loop-taken in
-    let some : l._taken < length (free_blocks c.args.self.now) = omega (arith, c.free_count.ensures) in
+    let some : l._taken < length (free_blocks c.args.self.now) = omega (arith, c.free_count.ensures.count) in
     record { some = one_left _ _ _ _ _ _ l.invariant.marking some }
 
 pub loop-taken-init : goal.loop-taken-init
@@ -15,7 +15,7 @@ loop-taken-init c = record { marking = starts c.args.self.now c.args.into.now.it
 pub loop-taken-preserved : goal.loop-taken-preserved
 loop-taken-preserved c =
     let l = c.loop-taken in
-    let some : l._taken < length (free_blocks c.args.self.now) = omega (arith, c.free_count.ensures) in
+    let some : l._taken < length (free_blocks c.args.self.now) = omega (arith, c.free_count.ensures.count) in
     let items = rw c.unwrap.ensures at c.push.ensures.items in
     let longer = rw c.unwrap.ensures at c.push.ensures.len in
     record {

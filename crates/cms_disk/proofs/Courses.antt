@@ -1,0 +1,232 @@
+-- A change of a minidisk whose events are known is a device step of a machine.
+use Rattle.std.proofs.Common.{◌≡◌, ◌⊎◌, inl, inr, ⊎_elim, ℕ, ◌-◌, ◌≤◌, Bool, List, [], ◌∷◌, ◌++◌, length, map, take, drop, Some, refl, sym, ◌∙◌, ap, subst, arith}
+use Rattle.std.specs.Prelude.{unwrap_or}
+use Rattle.cms_journal.specs.declared.event.Event.{Event}
+use Rattle.cms_journal.specs.Journal.{Journal, contents_of, start_of}
+use Rattle.cms_journal.specs.Told.{Told, plus, syncs, IsOfUnit, OnlyOf}
+use Rattle.cms_journal.proofs.Events.{all_front}
+use Rattle.cms_fields.specs.declared.time.Stamp.{Stamp}
+use Rattle.cms_model.specs.Lists.{times}
+use Rattle.cms_model.specs.Trees.{bytes_at}
+use Rattle.cms_model.specs.Minidisks.{Minidisk, State, Volume}
+use Rattle.cms_model.specs.Volumes.{Disk, Opened, minidisk_of, state_of}
+use Rattle.cms_model.specs.Changes.{Change, Changed, Answer, answer_of, changed}
+use Rattle.cms_model.specs.Stands.{Layout, opened}
+use Rattle.cms_model.specs.Settled.{IsSettled, writes, MayLeave, Write, update}
+use Rattle.cms_model.specs.LawsUpdates.{HasEither, IsFront, after, now, relabel, to_label, with_label}
+use Rattle.cms_model.proofs.Fronts.{front_of_front, after_is_told, none_front}
+use Rattle.cms_model.proofs.Images.{crash_now}
+use Rattle.cms_model.proofs.Renewing.{minidisk_is}
+use Rattle.cms_model.proofs.Settling.{settled_is_firm}
+use Rattle.cms_model.proofs.Standing.{opened_stands}
+use Rattle.cms_machine.specs.Slots.{Side, Before, After, Settled, set_of, named}
+use Rattle.cms_machine.specs.Points.{Leaves}
+use Rattle.cms_machine.specs.Steps.{Put, Outcome, Good, OldFault, EitherFault, MayPut, after_put, put_stamp, put_syncs, slot_after}
+use Rattle.cms_machine.specs.Beats.{AreStamped, Covers, HasStamp, IsStamped}
+use Rattle.cms_machine.proofs.Aside.{of_disk}
+use Rattle.cms_journal.proofs.Sizes.{block_bounds}
+use Rattle.cms_model.proofs.Repeats.{times_append}
+use Rattle.cms_map.specs.Bits.{bits_in, free_blocks}
+use Rattle.cms_held.specs.Opening.{HeldTree}
+use Rattle.cms_held.specs.Carrying.{IsReadyFor}
+use Rattle.cms_held.specs.LawsRenewing.{writes_of}
+use Rattle.cms_held.specs.Renewing.{Edit, IsAllotted, entries_held, fresh}
+use Rattle.cms_held.specs.Systems.{Systems, block_writes, directory_pieces, map_pieces, node_writes}
+use Rattle.cms_held.proofs.MapMarks.{lowest_free}
+use Rattle.cms_held.specs.Opening.{HeldVolume}
+use Rattle.cms_held.specs.Carrying.{IsHeldMinidisk}
+use Rattle.cms_held.specs.HeldAs.{IsHeldAs}
+use Rattle.cms_held.specs.LawsRenewing.{IsHeldAt}
+use Rattle.cms_disk.specs.Changing.{Altered, Changes, Doubted, HasState, Kept}
+use Rattle.cms_disk.specs.Disks.{Accessed, IsLookedAt, IsMinidisk, IsReadable}
+use Rattle.cms_disk.proofs.Standing.{is_minidisk, named_at}
+use Rattle.cms_disk.proofs.StepPieces.{first_stamped, front_has_stamp, high_stamped, leaves_state, stamped_behind, start_has, told_after, whole_front, AreWhole, front_whole, has_whole, label_aside, only_update, whole_after}
+use Rattle.cms_disk.specs.Disks.{place_of as place_named}
+use Rattle.cms_disk.proofs.Finding.{none_found}
+
+-- ---- a minidisk, as the volume below is held
+
+pub held_minidisk : (j : Journal) (d : Accessed) (m : Minidisk) → IsMinidisk j d m → IsReadable j d → IsHeldMinidisk j d.volume m
+held_minidisk j d m is has =
+    let v = d.volume in
+    let s = is.stands in
+    let o = opened_stands v.disk (now j v.unit) s.opened s.opens in
+    let layout = o.0 in
+    let same : opened layout ≡ s.opened = o.2 in
+    record {
+      layout = layout;
+      at = record {
+        whole = s.whole;
+        attached = start_has v.disk.count v.disk.bsize _ has;
+        settled = subst (IsSettled v.disk j v.unit) (sym same) is.settled;
+        stands = o.1;
+        held = subst (λ (x : Opened). IsHeldAs v.unit v.disk (now j v.unit) x v) (sym same) s.volume_is;
+      };
+      minidisk_is = s.minidisk_is ∙ (ap (minidisk_of v.disk) (sym same) ∙ minidisk_is v.disk layout);
+    }
+
+-- ---- what a crash leaves
+
+-- where the unit is settled at a minidisk, only that
+pub held_leaves : (j : Journal) (d : Accessed) (v : HeldVolume) (m : Minidisk) (p : List Event) → IsLookedAt j d → v.unit ≡ d.volume.unit → v.disk ≡ d.volume.disk → IsHeldMinidisk (after j p) v m
+    → (x : State) → Leaves (plus (Some j) p) d.volume.unit x → x ≡ Volume m
+held_leaves j d v m p looked unit disk h =
+    let settled : IsSettled d.volume.disk (after j p) d.volume.unit (opened h.layout) =
+    subst (λ (k : Disk). IsSettled k (after j p) d.volume.unit (opened h.layout)) disk (subst (λ (u : ℕ). IsSettled v.disk (after j p) u (opened h.layout)) unit h.at.settled) in
+    let same : Volume (minidisk_of d.volume.disk (opened h.layout)) ≡ Volume m =
+    ap (λ (k : Disk). Volume (minidisk_of k (opened h.layout))) (sym disk) ∙ ap Volume (minidisk_is v.disk h.layout ∙ sym h.minidisk_is) in
+    leaves_state j d.volume.unit d.volume.disk looked p (λ (y : State). y ≡ Volume m) (λ image left. (settled_is_firm d.volume.disk (after j p) d.volume.unit (opened h.layout) settled).1 image left ∙ same)
+
+pub either_leaves : (j : Journal) (d : Accessed) (a b : State) (p : List Event) → IsLookedAt j d → HasEither d.volume.disk (after j p) d.volume.unit a b
+    → (x : State) → Leaves (plus (Some j) p) d.volume.unit x → (x ≡ a) ⊎ (x ≡ b)
+either_leaves j d a b p looked each = leaves_state j d.volume.unit d.volume.disk looked p (λ (y : State). (y ≡ a) ⊎ (y ≡ b)) each
+
+-- ---- a change whose events are known
+
+-- its events, and those before the write of its label: it is made; up to there the minidisk is held as before, and at every moment each
+-- crash image is the old minidisk or the new
+pub record Course (j : Journal) (d : Accessed) (m : Minidisk) (change : Change) (stamp : Stamp) (safe whole : List Event) : Type 0 where
+  pub looked : IsLookedAt j d
+  pub answer : answer_of m change ≡ Changed (changed m change)
+  pub before : (p : List Event) → IsFront p safe → IsHeldMinidisk (after j p) d.volume m
+  pub either : (p : List Event) → IsFront p whole → HasEither d.volume.disk (after j p) d.volume.unit (Volume m) (Volume (changed m change))
+  pub only : OnlyOf d.volume.unit whole
+  pub stamped : AreStamped d.volume.unit (put_stamp change stamp) whole
+  pub front : IsFront safe whole
+  pub sized : AreWhole d.volume.unit d.volume.disk.bsize whole
+
+covers_good : (j : Journal) (d : Accessed) (m : Minidisk) (change : Change) (stamp : Stamp) (safe whole : List Event) (w : HeldVolume) → Course j d m change stamp safe whole → w.unit ≡ d.volume.unit
+    → w.disk ≡ d.volume.disk → IsHeldMinidisk (after j whole) w (changed m change) → Covers (Some j) whole d.volume.unit (Volume m ∷ []) (Volume (changed m change) ∷ [])
+covers_good j d m change stamp safe whole w x unit disk done = record {
+  inside = λ front rest e y leaves. ⊎_elim (λ a. inl (inl a)) (λ b. inr (inl b))
+      (either_leaves j d (Volume m) (Volume (changed m change)) front x.looked (x.either front (record { rest = rest; is = e })) y leaves);
+  whole = λ y leaves. inl (held_leaves j d w (changed m change) whole x.looked unit disk done y leaves);
+}
+
+-- events whose every front leaves the minidisk
+pub covers_old : (j : Journal) (d : Accessed) (m : Minidisk) (p : List Event) → IsLookedAt j d → ((q : List Event) → IsFront q p → IsHeldMinidisk (after j q) d.volume m)
+    → Covers (Some j) p d.volume.unit (Volume m ∷ []) (Volume m ∷ [])
+covers_old j d m p looked before = record {
+  inside = λ q rest e y leaves. inl (inl (held_leaves j d d.volume m q looked refl refl (before q (record { rest = rest; is = e })) y leaves));
+  whole = λ y leaves. inl (held_leaves j d d.volume m p looked refl refl (before p (whole_front p)) y leaves);
+}
+
+covers_either : (j : Journal) (d : Accessed) (m : Minidisk) (change : Change) (stamp : Stamp) (safe whole p : List Event) → Course j d m change stamp safe whole → IsFront p whole
+    → Covers (Some j) p d.volume.unit (Volume m ∷ []) (Volume m ∷ Volume (changed m change) ∷ [])
+covers_either j d m change stamp safe whole p x front = record {
+  inside = λ q rest e y leaves. ⊎_elim (λ a. inl (inl a)) (λ b. inr (inr (inl b)))
+      (either_leaves j d (Volume m) (Volume (changed m change)) q x.looked (x.either q (front_of_front q p whole (record { rest = rest; is = e }) front)) y leaves);
+  whole = λ y leaves. ⊎_elim (λ a. inl a) (λ b. inr (inl b)) (either_leaves j d (Volume m) (Volume (changed m change)) p x.looked (x.either p front) y leaves);
+}
+
+-- a front of its events, with an outcome
+changes_from : (j : Journal) (old new : Told) (d : Accessed) (m : Minidisk) (change : Change) (stamp : Stamp) (safe whole : List Event) → old ≡ Some j → Course j d m change stamp safe whole
+    → (p : List Event) (o : Outcome) → new ≡ plus old p → IsFront p whole → syncs p ≡ put_syncs change (Changed (changed m change)) o → MayPut change (Changed (changed m change)) o
+    → Covers (Some j) p d.volume.unit (Volume m ∷ []) (set_of (unwrap_or (after_put m (Changed (changed m change)) o) (Settled (Volume m)))) → Changes old new d.volume.unit m change stamp o
+changes_from j old new d m change stamp safe whole is x p o told front synced may covers =
+    let u = d.volume.unit in
+    let answer = sym x.answer in
+    let only = all_front (IsOfUnit u) p front.rest (subst (OnlyOf u) (sym front.is) x.only) in
+    record {
+      events = p;
+      told = told;
+      of_unit = only;
+      fits = record {
+        disk = of_disk u p only;
+        synced = subst (λ (a : Answer). syncs p ≡ put_syncs change a o) answer synced;
+        stamped = all_front (IsStamped u (put_stamp change stamp)) p front.rest (subst (AreStamped u (put_stamp change stamp)) (sym front.is) x.stamped);
+        outcome = subst (λ (a : Answer). MayPut change a o) answer may;
+      };
+      covers = subst (λ (k : Told). Covers k p u (Volume m ∷ []) (set_of (slot_after (Settled (Volume m)) (Put u m change stamp) o))) (sym is)
+          (subst (λ (a : Answer). Covers (Some j) p u (Volume m ∷ []) (set_of (unwrap_or (after_put m a o) (Settled (Volume m))))) answer covers);
+    }
+
+-- all of them were added
+pub made : (j : Journal) (old new : Told) (d e : Accessed) (m : Minidisk) (change : Change) (stamp : Stamp) (safe whole : List Event) → old ≡ Some j → Course j d m change stamp safe whole
+    → new ≡ plus old whole → syncs whole ≡ put_syncs change (Changed (changed m change)) Good → e.volume.unit ≡ d.volume.unit → e.volume.disk ≡ d.volume.disk
+    → IsHeldMinidisk (after j whole) e.volume (changed m change) → Altered old new e m change stamp
+made j old new d e m change stamp safe whole is x told synced unit disk done = record {
+  after = changed m change;
+  answer = x.answer;
+  later = after j whole;
+  told = told_after j old new whole is told;
+  minidisk = is_minidisk (after j whole) e (changed m change) done;
+  changes = subst (λ (u : ℕ). Changes old new u m change stamp Good) (sym unit)
+      (changes_from j old new d m change stamp safe whole is x whole Good told (whole_front whole) synced tt (covers_good j d m change stamp safe whole e.volume x unit disk done));
+}
+
+-- they were cut off before the first sync
+pub unmade : (j : Journal) (old new : Told) (d e : Accessed) (m : Minidisk) (change : Change) (stamp : Stamp) (safe whole p : List Event) → old ≡ Some j → Course j d m change stamp safe whole
+    → new ≡ plus old p → IsFront p safe → syncs p ≡ put_syncs change (Changed (changed m change)) OldFault → MayPut change (Changed (changed m change)) OldFault → e.volume ≡ d.volume
+    → Kept old new e m change stamp
+unmade j old new d e m change stamp safe whole p is x told front synced may same = record {
+  after = changed m change;
+  answer = x.answer;
+  later = after j p;
+  told = told_after j old new p is told;
+  minidisk = is_minidisk (after j p) e m (subst (λ (w : HeldVolume). IsHeldMinidisk (after j p) w m) (sym same) (x.before p front));
+  changes = subst (λ (w : HeldVolume). Changes old new w.unit m change stamp OldFault) (sym same)
+      (changes_from j old new d m change stamp safe whole is x p OldFault told (front_of_front p safe whole front x.front) synced may
+      (covers_old j d m p x.looked (λ q inside. x.before q (front_of_front q p safe inside front))));
+}
+
+-- they were cut off then
+pub in_doubt : (j : Journal) (old new : Told) (d : Accessed) (m : Minidisk) (change : Change) (stamp : Stamp) (safe whole p : List Event) → old ≡ Some j → Course j d m change stamp safe whole
+    → new ≡ plus old p → IsFront p whole → ((side : Side) → syncs p ≡ put_syncs change (Changed (changed m change)) (EitherFault side)) → Doubted old new d m change stamp
+in_doubt j old new d m change stamp safe whole p is x told front synced =
+    let u = d.volume.unit in
+    let here = x.either p front (contents_of (after j p) u) (crash_now (after j p).events u (start_of j.units u)) in
+    ⊎_elim
+    (λ (was : state_of d.volume.disk (now (after j p) u) ≡ Volume m). side_of Before was)
+    (λ (new_is : state_of d.volume.disk (now (after j p) u) ≡ Volume (changed m change)). side_of After new_is)
+    here
+  where
+    held : IsHeldMinidisk j d.volume m
+    held = x.before [] (none_front safe)
+
+    side_of : (side : Side) → state_of d.volume.disk (now (after j p) d.volume.unit) ≡ named (Volume m) (Volume (changed m change)) side → Doubted old new d m change stamp
+    side_of side state = record {
+      after = changed m change;
+      answer = x.answer;
+      side = side;
+      left = subst (λ (t : Told). HasState t d.volume.disk d.volume.unit (named (Volume m) (Volume (changed m change)) side)) (sym (told_after j old new p is told)) state;
+      whole = has_whole j old new p d.volume.disk d.volume.unit is told
+          (whole_after j d.volume.unit d.volume.disk p (front_whole d.volume.unit d.volume.disk.bsize p whole front x.sized) held.at.whole);
+      changes = changes_from j old new d m change stamp safe whole is x p (EitherFault side) told front (synced side) refl (covers_either j d m change stamp safe whole p x front);
+    }
+
+-- ---- an update: the events of its unit alone, with its stamp
+
+-- the blocks that are taken lie from 6 on
+taken_high : (j : Journal) (v : HeldVolume) (old : Layout) (files : ℕ) (given taken : List ℕ) (directory map : HeldTree) (bits : List Bool) → IsHeldAt j v old
+    → IsAllotted v files given taken directory map bits → (n : ℕ) → 1 ≤ times n (fresh taken directory map) → 6 ≤ n
+taken_high j v old files given taken directory map bits x a n some =
+    let total = old.label.blocks in
+    let bytes = bytes_at (now j v.unit) old.map_met.leaves in
+    let is : fresh taken directory map ≡ take (length (fresh taken directory map)) (free_blocks (bits_in total bytes)) =
+    a.lowest ∙ ap (λ (b : List Bool). take (length (fresh taken directory map)) (free_blocks b)) x.held.bits_are in
+    ((lowest_free total bytes (fresh taken directory map) is).each n some).0
+
+pub stamped_writes : (j : Journal) (v : HeldVolume) (old : Layout) (edit : Edit) (stamp : Stamp) (s : Systems) → IsHeldAt j v old → IsReadyFor v edit stamp s
+    → AreStamped v.unit (Some stamp) (writes v.unit (writes_of v s))
+stamped_writes j v old edit stamp s x r =
+    let u = v.unit in
+    let b = v.disk.bsize in
+    let a = r.planned.blocks in
+    let low = (block_bounds b x.whole.size).0 in
+    let high = taken_high j v old (length edit.files) edit.given edit.taken s.directory s.map s.bits x a in
+    let more = drop 1 s.directory.leaves in
+    let t0 = λ (n : ℕ). times_append n edit.taken (more ++ (s.directory.pointers ++ (s.map.leaves ++ s.map.pointers))) in
+    let t1 = λ (n : ℕ). times_append n more (s.directory.pointers ++ (s.map.leaves ++ s.map.pointers)) in
+    let t2 = λ (n : ℕ). times_append n s.directory.pointers (s.map.leaves ++ s.map.pointers) in
+    let t3 = λ (n : ℕ). times_append n s.map.leaves s.map.pointers in
+    let pieces = directory_pieces b s in
+    let stamps : HasStamp (take b s.directory_bytes) stamp =
+    subst (λ (l : List ℕ). HasStamp (take b l) stamp) (sym r.planned.directory_bytes) (front_has_stamp b s (entries_held edit.files) stamp low) in
+    let first : take 1 s.directory.leaves ≡ (9 - v.label.origin) ∷ [] = ap (take 1) a.origin in
+    stamped_behind u stamp (block_writes more (drop 1 pieces)) _ (high_stamped u stamp more (drop 1 pieces) (λ n some. high n (omega (arith, some, t0 n, t1 n))))
+    (stamped_behind u stamp (node_writes b s.directory) _ (high_stamped u stamp s.directory.pointers _ (λ n some. high n (omega (arith, some, t0 n, t1 n, t2 n))))
+    (stamped_behind u stamp (block_writes s.map.leaves (map_pieces b s)) _ (high_stamped u stamp s.map.leaves _ (λ n some. high n (omega (arith, some, t0 n, t1 n, t2 n, t3 n))))
+    (stamped_behind u stamp (node_writes b s.map) _ (high_stamped u stamp s.map.pointers _ (λ n some. high n (omega (arith, some, t0 n, t1 n, t2 n, t3 n))))
+    (subst (λ (ns : List ℕ). AreStamped u (Some stamp) (writes u (block_writes ns (take 1 pieces)))) (sym first)
+    (first_stamped u stamp b (9 - v.label.origin) (length s.directory.leaves) s.directory_bytes stamps)))))

@@ -1,0 +1,208 @@
+-- What putting a file comes to.
+use Rattle.std.proofs.Common.{◌≡◌, inl, inr, ℕ, ◌+◌, ◌*◌, ◌≤◌, List, [], ◌∷◌, length, Some, Result, Ok, Err, refl, sym, ◌∙◌, ap, subst, arith, length-append, mul_comm}
+use Rattle.std.specs.Prelude.{All, slice_get, unwrap_or, ⊤}
+use Rattle.std.proofs.lemmas.List.Elements.{All-head, All-tail}
+use Rattle.cms_names.specs.declared.name.Format.{Format}
+use Rattle.cms_names.specs.declared.name.Format.TheVariants.{F, V}
+use Rattle.cms_journal.specs.Journal.{HasBlocks, Journal}
+use Rattle.cms_journal.specs.Told.{Grown, Told, syncs}
+use Rattle.cms_names.specs.declared.name.Name.{Name}
+use Rattle.cms_fields.specs.declared.time.Stamp.{Stamp}
+use Rattle.cms_model.specs.Minidisks.{File, Minidisk, Volume}
+use Rattle.cms_model.specs.Records.{Fits, IsValid, StandsFor, length_of, stored, with_length}
+use Rattle.cms_model.proofs.Records.{length-with_length, length_stored_fixed}
+use Rattle.cms_edf.specs.FileDrafts.{FileDraft, IsDraftFor, IsSized, tree_of}
+use Rattle.cms_model.specs.Changes.{Answer, Change, Changed, Put, answer_of, changed}
+use Rattle.cms_model.specs.declared.file.FileData.{FileData}
+use Rattle.cms_machine.specs.Beats.{Covers}
+use Rattle.cms_machine.specs.Slots.{Settled, named, set_of}
+use Rattle.cms_machine.specs.Steps.{EitherFault, MayPut, OldFault, after_put, put_syncs}
+use Rattle.cms_machine.proofs.Aside.{of_disk}
+use Rattle.cms_held.specs.Opening.{HeldTree, HeldVolume}
+use Rattle.cms_held.proofs.Fronts.{if_err}
+use Rattle.cms_journal.specs.declared.event.Attached.{Attached}
+use Rattle.cms_world.specs.Seen.{Seen}
+use Rattle.cms_model.specs.Volumes.{disk_of}
+use Rattle.cms_draft.specs.Drafting.{Drafting, HaveShape, IsFresh}
+use Rattle.cms_draft.specs.declared.shape.DraftShape.{DraftShape}
+use Rattle.cms_disk.specs.Changing.{Alters, Changes, ChangesDisk, HasState, IsWholeAt, IsDevices, Kept}
+use Rattle.cms_disk.specs.Disks.{Accessed, IsLookedAt, IsMinidisk, IsReadable}
+use Rattle.cms_disk.specs.Drafts.{AreLast, GoesOn, HaveCounts, IsAnsweredBy, IsDraftFault, IsGivenUp, IsPutFault, file_with, shape_of}
+use Rattle.cms_disk.specs.declared.fault.DiskFault.{DiskFault}
+use Rattle.cms_disk.specs.declared.fault.DiskFault.TheVariants as failed
+use Rattle.cms_disk.proofs.Beside.{stamped_any}
+use Rattle.cms_disk.proofs.DraftSteps.{starts}
+use Rattle.cms_disk.proofs.Filling.{changes_then}
+use Rattle.cms_disk.proofs.Standing.{minidisk_same}
+
+-- ---- a draft that was refused
+
+pub refused_so : (T : Type 0) (told : Told) (d e : Accessed) (m : Minidisk) (name : Name) (shape : DraftShape) (records : List (List ℕ)) (stamp : Stamp) (why : DiskFault)
+    → IsDraftFault d name shape why
+    → IsAnsweredBy {T = T} (answer_of m (Put (file_with name shape records))) (changed m (Put (file_with name shape records))) (Err why)
+    → Alters told told d e m (Put (file_with name shape records)) stamp (Err why)
+refused_so T told d e m name shape records stamp failed.ReadOnly fault answer = (refl, fault)
+refused_so T told d e m name shape records stamp (failed.Limit k) fault answer = (refl, answer)
+refused_so T told d e m name shape records stamp (failed.Full needs free) fault answer = (refl, answer)
+refused_so T told d e m name shape records stamp failed.Memory fault answer = refl
+refused_so T told d e m name shape records stamp failed.NotFound fault answer = absurd fault
+refused_so T told d e m name shape records stamp failed.Exists fault answer = absurd fault
+refused_so T told d e m name shape records stamp failed.Device fault answer = absurd fault
+refused_so T told d e m name shape records stamp failed.InDoubt fault answer = absurd fault
+refused_so T told d e m name shape records stamp failed.Altered fault answer = absurd fault
+
+-- ---- a draft that was given up
+
+pub given_up : (start new : Told) (d e : Accessed) (m : Minidisk) (f : File) (stamp : Stamp) (after : Minidisk) → IsGivenUp start new d m → answer_of m (Put f) ≡ Changed after → e.volume ≡ d.volume
+    → Kept start new e m (Put f) stamp
+given_up start new d e m f stamp after g answer same =
+    let a = g.aside in
+    let s = g.stands in
+    record {
+      after = after;
+      answer = answer;
+      later = s.at;
+      told = s.told_is;
+      minidisk = minidisk_same s.at d e m same s.minidisk;
+      changes = subst (λ (v : HeldVolume). Changes start new v.unit m (Put f) stamp OldFault) (sym same) (record {
+        events = a.events;
+        told = a.told;
+        of_unit = a.of_unit;
+        fits = record {
+          disk = of_disk d.volume.unit a.events a.of_unit;
+          synced = subst (λ (x : Answer). syncs a.events ≡ put_syncs (Put f) x OldFault) (sym answer) a.unsynced;
+          stamped = stamped_any d.volume.unit (Some stamp) a.events a.aside;
+          outcome = subst (λ (x : Answer). MayPut (Put f) x OldFault) (sym answer) (refl, refl);
+        };
+        covers = subst (λ (x : Answer). Covers start a.events d.volume.unit (Volume m ∷ []) (set_of (unwrap_or (after_put m x OldFault) (Settled (Volume m))))) (sym answer) a.covers;
+      });
+    }
+
+-- ---- it is the same disk but for its spare places
+
+pub alters_same : (old new : Told) (d d' e : Accessed) (m : Minidisk) (change : Change) (stamp : Stamp) (r : Result ⊤ DiskFault) → d'.volume ≡ d.volume → d'.writable ≡ d.writable
+    → Alters old new d' e m change stamp r → Alters old new d e m change stamp r
+alters_same old new d d' e m change stamp (Ok x) volume writable a = a
+alters_same old new d d' e m change stamp (Err failed.NotFound) volume writable a = a
+alters_same old new d d' e m change stamp (Err failed.Exists) volume writable a = a
+alters_same old new d d' e m change stamp (Err failed.ReadOnly) volume writable a = (a.0, sym writable ∙ a.1)
+alters_same old new d d' e m change stamp (Err failed.Device) volume writable a = a
+alters_same old new d d' e m change stamp (Err failed.InDoubt) volume writable a = record {
+  after = a.after;
+  answer = a.answer;
+  side = a.side;
+  left = subst (λ (v : HeldVolume). HasState new v.disk v.unit (named (Volume m) (Volume a.after) a.side)) volume a.left;
+  whole = subst (λ (v : HeldVolume). IsWholeAt new v.disk v.unit) volume a.whole;
+  changes = subst (λ (v : HeldVolume). Changes old new v.unit m change stamp (EitherFault a.side)) volume a.changes;
+}
+alters_same old new d d' e m change stamp (Err failed.Altered) volume writable a = a
+alters_same old new d d' e m change stamp (Err (failed.Limit k)) volume writable a = a
+alters_same old new d d' e m change stamp (Err (failed.Full needs free)) volume writable a = a
+alters_same old new d d' e m change stamp (Err failed.Memory) volume writable a = a
+
+-- ---- the records of a file have its shape
+
+pub has_shape : (f : FileData) (records : List (List ℕ)) → StandsFor f records → HaveShape (shape_of f) records
+has_shape f records s = record { count = sym s.count_is; bytes = ap length (sym s.bytes_are); each = s.each }
+
+pub has_counts : (f : FileData) (records : List (List ℕ)) → StandsFor f records → HaveCounts (shape_of f) records
+has_counts f records s = record { count = sym s.count_is; bytes = ap length (sym s.bytes_are) }
+
+-- each record at V takes three bytes at least
+var_long : (size : ℕ) (rs : List (List ℕ)) → All (Fits V size) rs → 3 * length rs ≤ length (stored V rs)
+var_long size [] each = omega arith
+var_long size (r ∷ rs) each =
+    let here = (All-head (Fits V size) r rs each).0 in
+    let rest = var_long size rs (All-tail (Fits V size) r rs each) in
+    let long = length-append (with_length r) (stored V rs) in
+    let one : length (with_length r) ≡ 2 + length r = length-with_length r in
+    omega (arith, here, rest, long, one)
+
+sized_at : (format : Format) (size count bytes : ℕ) (rs : List (List ℕ)) → All (Fits format size) rs → count ≡ length rs → bytes ≡ length (stored format rs) → IsSized format size count bytes
+sized_at F size count bytes rs each count_is bytes_is =
+    bytes_is ∙ (length_stored_fixed size rs each ∙ (ap (λ (n : ℕ). n * size) (sym count_is) ∙ mul_comm count size))
+sized_at V size count bytes rs each count_is bytes_is = let low = var_long size rs each in omega (arith, low, count_is, bytes_is)
+
+pub sized_so : (f : FileData) (records : List (List ℕ)) → StandsFor f records → IsSized f.format f.length f.count (length f.bytes)
+sized_so f records s = sized_at f.format f.length f.count (length f.bytes) records s.each s.count_is (ap length s.bytes_are)
+
+-- ---- the start
+
+-- a file that is put, once its draft is planned
+pub record Start (j : Journal) (old : Told) (d e : Accessed) (m : Minidisk) (draft : FileDraft) (name : Name) (shape : DraftShape) (stamp : Stamp) (f : FileData) (records : List (List ℕ)) :
+    Type 0 where
+  pub told_is : old ≡ Some j
+  pub is : IsMinidisk j d m
+  pub readable : IsReadable j d
+  pub looked : IsLookedAt j d
+  pub volume : e.volume ≡ d.volume
+  pub planned : IsDraftFor d.volume name shape stamp draft
+  pub fresh : IsFresh d.volume.unit d.volume.disk.bsize shape (tree_of draft) draft.writer
+  pub stands : StandsFor f records
+  pub shape_is : shape ≡ shape_of f
+
+pub begins : (j : Journal) (old : Told) (d e : Accessed) (m : Minidisk) (draft : FileDraft) (name : Name) (shape : DraftShape) (stamp : Stamp) (f : FileData) (records : List (List ℕ))
+    → Start j old d e m draft name shape stamp f records → GoesOn old old e m draft [] records
+begins j old d e m draft name shape stamp f records x =
+    let back = sym x.volume in
+    starts j old e m draft shape records x.told_is (minidisk_same j d e m x.volume x.is) (subst (λ (v : HeldVolume). HasBlocks j.units v.unit v.disk.count v.disk.bsize) back x.readable)
+    (subst (λ (v : HeldVolume). (unit : Attached) → slice_get j.units v.unit ≡ Some unit → disk_of unit ≡ v.disk) back x.looked)
+    (subst (λ (v : HeldVolume). IsFresh v.unit v.disk.bsize shape (tree_of draft) draft.writer) back x.fresh)
+    (subst (λ (s : DraftShape). HaveShape s records) (sym x.shape_is) (has_shape f records x.stands))
+
+-- its records are all that the draft has
+pub are_last : (f : FileData) (valid : IsValid f) (unit bsize : ℕ) (shape : DraftShape) (tree : HeldTree) (d : Drafting) → shape ≡ shape_of f → IsFresh unit bsize shape tree d → AreLast d f
+are_last f valid unit bsize shape tree d is fresh =
+    let s = valid.stands in
+    let same : d.shape ≡ shape_of f = fresh.shape_is ∙ is in
+    let format : d.shape.format ≡ f.format = ap (λ (x : DraftShape). x.format) same in
+    let count : d.shape.count ≡ f.count = ap (λ (x : DraftShape). x.count) same in
+    let put = fresh.put in
+    let came_none = fresh.came_is in
+    let drafts = fresh.drafts valid.records (subst (λ (x : DraftShape). HaveShape x valid.records) (sym is) (has_shape f valid.records s)) in
+    let size : length (stored d.shape.format valid.records) ≡ d.writer.size = drafts.streams.size in
+    let bytes : length f.bytes ≡ d.writer.size = ap length s.bytes_are ∙ (ap (λ (k : Format). length (stored k valid.records)) (sym format) ∙ size) in
+    record {
+      format = sym format;
+      fixed = λ at. ap (λ (x : DraftShape). x.length) (sym same);
+      count = omega (arith, put, count);
+      bytes = omega (arith, came_none, bytes);
+    }
+
+-- the longest of them has its length
+pub long_so : (f : FileData) (shape : DraftShape) (records : List (List ℕ)) → shape ≡ shape_of f → StandsFor f records → length_of shape.format shape.length records ≡ shape.length
+long_so f shape records is s = subst (λ (x : DraftShape). length_of x.format x.length records ≡ x.length) (sym is) (sym s.length_is)
+
+-- ---- the faults
+
+pub device_is_fault : (e : DiskFault) → IsDevices e → IsPutFault e
+device_is_fault e (inl is) = subst IsPutFault (sym is) tt
+device_is_fault e (inr is) = subst IsPutFault (sym is) tt
+
+pub not_read_only : (e : DiskFault) → IsDevices e → e ≡ failed.ReadOnly → ⊥
+not_read_only e (inl is) same = clash (sym is ∙ same)
+  where
+    clash : failed.Device ≡ failed.ReadOnly → ⊥
+    clash at = cc
+not_read_only e (inr is) same = clash (sym is ∙ same)
+  where
+    clash : failed.InDoubt ≡ failed.ReadOnly → ⊥
+    clash at = cc
+
+-- ---- a changed minidisk, behind a call that changed units, where it has other spare places
+
+pub changed_behind : (a b c : Seen) (d e f : Accessed) (r : Result ⊤ DiskFault) → Grown a.told b.told → a.faults ≤ b.faults → b.edges ≡ a.edges → e ≡ record d { spare = e.spare } → ChangesDisk b c e f r
+    → ChangesDisk a c d f r
+changed_behind a b c d e f r grown faults edges kept two =
+    let s = two.same in
+    record {
+      units = changes_then a b c IsDevices r grown faults edges two.units;
+      same = record {
+        vdev = s.vdev ∙ ap (λ (x : Accessed). x.vdev) kept;
+        writable = s.writable ∙ ap (λ (x : Accessed). x.writable) kept;
+        unit = s.unit ∙ ap (λ (x : Accessed). x.volume.unit) kept;
+        disk = s.disk ∙ ap (λ (x : Accessed). x.volume.disk) kept;
+      };
+      kept = if_err r (λ (why : DiskFault). (why ≡ failed.InDoubt → ⊥) → f ≡ record e { spare = f.spare }) (λ (why : DiskFault). (why ≡ failed.InDoubt → ⊥) → f ≡ record d { spare = f.spare })
+          (λ why same sure. same sure ∙ ap (λ (x : Accessed). record x { spare = f.spare }) kept) two.kept;
+    }

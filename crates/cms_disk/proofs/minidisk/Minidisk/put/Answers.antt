@@ -1,0 +1,119 @@
+use Rattle.std.proofs.Common.{◌≡◌, Err, false, List, [], refl, sym, ◌∙◌, ap, subst}
+use Rattle.std.proofs.lemmas.Result.{err_from_is_err_and}
+use Rattle.cms_journal.specs.Journal.{HasBlocks, IsWritable}
+use Rattle.cms_world.specs.Seen.{seen}
+use Rattle.cms_journal.specs.declared.event.Attached.{Attached}
+use Rattle.cms_model.specs.Changes.{Put}
+use Rattle.cms_tree.proofs.Stepping.{units_kept}
+use Rattle.cms_held.proofs.Fronts.{if_err}
+use Rattle.cms_held.specs.Opening.{HeldVolume}
+use Rattle.cms_edf.proofs.Committed.{can_write}
+use Rattle.cms_edf.specs.FileDrafts.{IsDraftFor}
+use Rattle.cms_edf.specs.declared.draft.Draft.{Draft}
+use Rattle.cms_draft.specs.declared.shape.DraftShape.{DraftShape}
+use Rattle.cms_disk.specs.Changing.{Alters, IsDevices}
+use Rattle.cms_disk.specs.Disks.{Accessed}
+use Rattle.cms_disk.specs.Drafts.{HaveCounts, IsPutFault, file_with}
+use Rattle.cms_disk.specs.declared.fault.DiskFault.{DiskFault}
+use Rattle.cms_disk.specs.declared.fault.DiskFault.TheVariants.{ReadOnly}
+use Rattle.cms_disk.proofs.DraftSteps.{some_draft}
+use Rattle.cms_disk.proofs.Filling.{same_draft}
+use Rattle.cms_disk.proofs.FilePut.{Start, alters_same, are_last, begins, changed_behind, device_is_fault, given_up, has_counts, long_so, not_read_only, refused_so}
+use Rattle.cms_disk.proofs.minidisk.Minidisk.put.Goals as goal
+
+pub returns-in_err-draft-clause-alters : goal.returns-in_err-draft-clause-alters
+returns-in_err-draft-clause-alters g c = λ j m records told is looked stands.
+    let p = err_from_is_err_and c.from_residual.result c.from_residual.ensures.1 in
+    let old = g.W.World.told c.args.world.now in
+    let d = c.args.self.now in
+    let e = c.draft.new.self in
+    let name = c.args.name.now in
+    let shape = c.shape_of-shape.result in
+    let stamp = c.args.stamp.now in
+    let why = c.in_err-draft.field-0.0 in
+    let eq = c.shape_of-shape.ensures.shape in
+    let counts = subst (λ (s : DraftShape). HaveCounts s records) (sym eq) (has_counts c.args.file.now records stands) in
+    subst (λ (s : DraftShape). Alters old old d e m (Put (file_with name s records)) stamp c.from_residual.result) eq
+    (subst (Alters old old d e m (Put (file_with name shape records)) stamp) (sym (p.1 ∙ ap Err p.2))
+    (refused_so Draft old d e m name shape records stamp why c.in_err-draft.ensures.fault (c.in_err-draft.ensures.answers j m records is (c.requires.blocks j told) counts)))
+
+pub put_records-requires-clause-last : goal.put_records-requires-clause-last
+put_records-requires-clause-last g c = are_last c.args.file.now c.requires.file _ _ _ _ c.in_ok-draft.draft.writer c.shape_of-shape.ensures.shape c.in_ok-draft.ensures.fresh
+
+pub put_records-requires-clause-ready : goal.put_records-requires-clause-ready
+put_records-requires-clause-ready g c = λ j told.
+    let v = c.args.self.now.volume in
+    let some = some_draft v c.args.name.now c.shape_of-shape.result c.args.stamp.now c.in_ok-draft.draft c.in_ok-draft.ensures.planned in
+    can_write j.units v c.in_ok-draft.draft some (c.requires.blocks j told) (c.requires.writable c.in_ok-draft.ensures.writable j told)
+
+pub returns-in_err-put_records-clause-alters : goal.returns-in_err-put_records-clause-alters
+returns-in_err-put_records-clause-alters g c = λ j m records told is looked stands.
+    let p = err_from_is_err_and c.from_residual-in_err-put_records.result c.from_residual-in_err-put_records.ensures.1 in
+    let old = g.W.World.told c.args.world.now in
+    let new = g.W.World.told c.put_records.new.world in
+    let d = c.args.self.now in
+    let e = c.draft.new.self in
+    let name = c.args.name.now in
+    let shape = c.shape_of-shape.result in
+    let stamp = c.args.stamp.now in
+    let draft = c.in_ok-draft.draft in
+    let made = c.in_ok-draft.ensures in
+    let eq = c.shape_of-shape.ensures.shape in
+    let volume = ap (λ (a : Accessed). a.volume) made.kept in
+    let x : Start j old d e m draft name shape stamp c.args.file.now records =
+    record { told_is = told; is = is; readable = c.requires.blocks j told; looked = looked; volume = volume; planned = made.planned; fresh = made.fresh; stands = stands; shape_is = eq } in
+    let some = some_draft e.volume name shape stamp draft (subst (λ (v : HeldVolume). IsDraftFor v name shape stamp draft) (sym volume) made.planned) in
+    let g' = c.in_err-put_records.ensures.puts old e m [] records some stands (begins j old d e m draft name shape stamp c.args.file.now records x) in
+    let counts = subst (λ (s : DraftShape). HaveCounts s records) (sym eq) (has_counts c.args.file.now records stands) in
+    subst (λ (s : DraftShape). Alters old new d e m (Put (file_with name s records)) stamp c.from_residual-in_err-put_records.result) eq
+    (subst (Alters old new d e m (Put (file_with name shape records)) stamp) (sym (p.1 ∙ ap Err (p.2 ∙ c.in_err-put_records.ensures.fault)))
+    (given_up old new e e m (file_with name shape records) stamp _ g' (made.answers j m records is (c.requires.blocks j told) counts) refl))
+
+pub commit-requires-clause-blocks : goal.commit-requires-clause-blocks
+commit-requires-clause-blocks g c = λ k told.
+    let volume = ap (λ (a : Accessed). a.volume) c.in_ok-draft.ensures.kept in
+    subst (λ (v : HeldVolume). HasBlocks k.units v.unit v.disk.count v.disk.bsize) (sym volume)
+    (units_kept (λ (units : List Attached). HasBlocks units c.args.self.now.volume.unit c.args.self.now.volume.disk.count c.args.self.now.volume.disk.bsize) _ _ c.in_ok-put_records.ensures.changes.grown c.requires.blocks k told)
+
+pub commit-requires-clause-writable : goal.commit-requires-clause-writable
+commit-requires-clause-writable g c = λ k told.
+    let volume = ap (λ (a : Accessed). a.volume) c.in_ok-draft.ensures.kept in
+    subst (λ (v : HeldVolume). IsWritable k.units v.unit) (sym volume)
+    (units_kept (λ (units : List Attached). IsWritable units c.args.self.now.volume.unit) _ _ c.in_ok-put_records.ensures.changes.grown (c.requires.writable c.in_ok-draft.ensures.writable) k told)
+
+pub returns-clause-alters : goal.returns-clause-alters
+returns-clause-alters g c = λ j m records told is looked stands.
+    let old = g.W.World.told c.args.world.now in
+    let new = g.W.World.told c.commit.new.world in
+    let d = c.args.self.now in
+    let e = c.draft.new.self in
+    let name = c.args.name.now in
+    let shape = c.shape_of-shape.result in
+    let stamp = c.args.stamp.now in
+    let draft = c.in_ok-draft.draft in
+    let full = c.put_records.new.draft in
+    let made = c.in_ok-draft.ensures in
+    let put = c.in_ok-put_records.ensures in
+    let eq = c.shape_of-shape.ensures.shape in
+    let volume = ap (λ (a : Accessed). a.volume) made.kept in
+    let writable = ap (λ (a : Accessed). a.writable) made.kept in
+    let x : Start j old d e m draft name shape stamp c.args.file.now records =
+    record { told_is = told; is = is; readable = c.requires.blocks j told; looked = looked; volume = volume; planned = made.planned; fresh = made.fresh; stands = stands; shape_is = eq } in
+    let planned = subst (λ (v : HeldVolume). IsDraftFor v name shape stamp draft) (sym volume) made.planned in
+    let some = some_draft e.volume name shape stamp draft planned in
+    let goes = put.puts old e m [] records some stands (begins j old d e m draft name shape stamp c.args.file.now records x) in
+    subst (λ (s : DraftShape). Alters old new d c.commit.new.self m (Put (file_with name s records)) stamp c.commit.result) eq
+    (alters_same old new d e c.commit.new.self m (Put (file_with name shape records)) stamp c.commit.result volume writable
+    (c.commit.ensures.alters old m name shape stamp records goes (same_draft e.volume name shape stamp draft full put.same planned) (long_so c.args.file.now shape records eq stands)))
+
+pub returns-clause-fault : goal.returns-clause-fault
+returns-clause-fault g c = if_err c.commit.result IsDevices IsPutFault device_is_fault c.commit.ensures.fault
+
+pub returns-clause-read_only : goal.returns-clause-read_only
+returns-clause-read_only g c = if_err c.commit.result IsDevices (λ (e : DiskFault). e ≡ ReadOnly → c.args.self.now.writable ≡ false) (λ e device same. absurd (not_read_only e device same)) c.commit.ensures.fault
+
+pub returns-clause-changes : goal.returns-clause-changes
+returns-clause-changes g c =
+    let put = c.in_ok-put_records.ensures.changes in
+    changed_behind (seen g.W.World c.args.world.now) (seen g.W.World c.put_records.new.world) (seen g.W.World c.commit.new.world) c.args.self.now c.draft.new.self c.commit.new.self c.commit.result
+    put.grown put.faults put.edges c.in_ok-draft.ensures.kept c.commit.ensures.changes

@@ -1,0 +1,185 @@
+-- A file that is drafted for a minidisk, while its records are put.
+use Rattle.std.specs.Prelude.{◌≡◌, ℕ, ◌+◌, ◌<◌, false, List, [], ◌∷◌, ◌++◌, length, slice_get, Some, None, Result, Ok, Err, ⊤}
+use Rattle.cms_journal.specs.declared.event.Event.{Event}
+use Rattle.cms_journal.specs.Journal.{Journal}
+use Rattle.cms_journal.specs.Told.{Told, plus, syncs, OnlyOf}
+use Rattle.cms_names.specs.declared.name.Name.{Name}
+use Rattle.cms_names.specs.declared.name.Format.TheVariants.{F}
+use Rattle.cms_model.specs.Minidisks.{File, Minidisk, Volume}
+use Rattle.cms_model.specs.Records.{StandsFor, stored}
+use Rattle.cms_model.specs.Changes.{Answer, Changed, Limited, Put, answer_of, changed}
+use Rattle.cms_model.specs.Changes as model
+use Rattle.cms_model.specs.declared.file.FileData.{FileData}
+use Rattle.cms_map.specs.Bits.{free_blocks}
+use Rattle.cms_machine.specs.Beats.{AreStamped, Covers}
+use Rattle.cms_held.specs.Opening.{HeldVolume}
+use Rattle.cms_held.specs.Putting.{count_put, limit_put, need_put}
+use Rattle.cms_draft.specs.BlockWriting.{IsSame, came}
+use Rattle.cms_draft.specs.Drafting.{Drafting, Drafts}
+use Rattle.cms_draft.specs.declared.shape.DraftShape.{DraftShape}
+use Rattle.cms_edf.specs.FileDrafts.{DraftStands, FileDraft}
+use Rattle.cms_edf.specs.Asking.{infos_in}
+use Rattle.cms_edf.specs.declared.held.FileInfo.{FileInfo}
+use Rattle.cms_disk.specs.Disks.{Accessed, IsLookedAt, IsMinidisk, IsReadable, place_of}
+use Rattle.cms_disk.specs.declared.fault.DiskFault.{DiskFault}
+use Rattle.cms_disk.specs.declared.fault.DiskFault.TheVariants as failed
+
+-- ---- what was written
+
+-- what was written beside the minidisk of a unit: writes of that unit which begin no directory, and no sync; a crash within them or behind
+-- them leaves the minidisk
+pub record WritesAside (old new : Told) (u : ℕ) (m : Minidisk) : Type 0 where
+  pub events : List Event
+  pub told : new ≡ plus old events
+  pub of_unit : OnlyOf u events
+  pub unsynced : syncs events ≡ 0
+  pub aside : AreStamped u None events
+  pub covers : Covers old events u (Volume m ∷ []) (Volume m ∷ [])
+
+-- the minidisk stands: its unit is settled at it, and may be read
+pub record Stands (told : Told) (d : Accessed) (m : Minidisk) : Type 0 where
+  pub at : Journal
+  pub told_is : told ≡ Some at
+  pub minidisk : IsMinidisk at d m
+  pub readable : IsReadable at d
+  pub looked : IsLookedAt at d
+
+-- a draft goes on: the minidisk stands, from the start on only the draft was written, of its records the first were put and the others are
+-- to come, and what was written of it stands
+pub record GoesOn (start now : Told) (d : Accessed) (m : Minidisk) (draft : FileDraft) (done more : List (List ℕ)) : Type 0 where
+  pub stands : Stands now d m
+  pub aside : WritesAside start now d.volume.unit m
+  pub drafts : Drafts draft.writer done more
+  pub written : DraftStands stands.at draft.writer (done ++ more)
+
+-- it is given up: the minidisk stands
+pub record IsGivenUp (start now : Told) (d : Accessed) (m : Minidisk) : Type 0 where
+  pub stands : Stands now d m
+  pub aside : WritesAside start now d.volume.unit m
+
+-- ---- the draft
+
+-- it is the draft of the same file
+pub record IsSameDraft (old new : FileDraft) : Type 0 where
+  pub entry : new.entry ≡ old.entry
+  pub systems : new.systems ≡ old.systems
+  pub shape : new.writer.shape ≡ old.writer.shape
+  pub writer : IsSame old.writer.writer new.writer.writer
+
+-- it has as many records and bytes as it is to have
+pub record IsFull (d : Drafting) : Type 0 where
+  pub records : d.put ≡ d.shape.count
+  pub bytes : came d.writer ≡ d.writer.size
+
+-- a record was put
+pub record HasMore (old new : Drafting) (text : List ℕ) : Type 0 where
+  pub records : new.put ≡ old.put + 1
+  pub bytes : came new.writer ≡ came old.writer + length (stored old.shape.format (text ∷ []))
+
+-- ---- what is answered
+
+-- the file of a name and a shape, with these records
+abbrev pub file_with : Name → DraftShape → List (List ℕ) → File
+file_with name shape records = record {
+  name = name;
+  number = shape.number;
+  format = shape.format;
+  length = shape.length;
+  stamp = shape.stamp;
+  records = records;
+}
+
+-- why no file of this name and shape is drafted: the minidisk may not be written, or else the file passes a limit, or else it needs more
+-- blocks than are free, or there is no memory
+abbrev pub IsDraftFault : Accessed → Name → DraftShape → DiskFault → Type 0
+IsDraftFault d name shape failed.ReadOnly = d.writable ≡ false
+IsDraftFault d name shape (failed.Limit which) = limit_put (count_put d.volume name) shape.count shape.bytes ≡ Some which
+IsDraftFault d name shape (failed.Full needs free) = (limit_put (count_put d.volume name) shape.count shape.bytes ≡ None)
+    × (needs ≡ need_put d.volume name shape.format shape.bytes) × (free ≡ length (free_blocks d.volume.bits)) × (free < needs)
+IsDraftFault d name shape failed.Memory = ⊤
+IsDraftFault d name shape failed.NotFound = ⊥
+IsDraftFault d name shape failed.Exists = ⊥
+IsDraftFault d name shape failed.Device = ⊥
+IsDraftFault d name shape failed.InDoubt = ⊥
+IsDraftFault d name shape failed.Altered = ⊥
+
+-- so is the change answered
+abbrev pub IsAnsweredBy : {T : Type 0} → Answer → Minidisk → Result T DiskFault → Type 0
+IsAnsweredBy answer after (Ok x) = answer ≡ Changed after
+IsAnsweredBy answer after (Err (failed.Limit which)) = answer ≡ Limited which
+IsAnsweredBy answer after (Err (failed.Full needs free)) = answer ≡ model.Full needs free
+IsAnsweredBy answer after (Err failed.ReadOnly) = ⊤
+IsAnsweredBy answer after (Err failed.Memory) = ⊤
+IsAnsweredBy answer after (Err failed.NotFound) = ⊥
+IsAnsweredBy answer after (Err failed.Exists) = ⊥
+IsAnsweredBy answer after (Err failed.Device) = ⊥
+IsAnsweredBy answer after (Err failed.InDoubt) = ⊥
+IsAnsweredBy answer after (Err failed.Altered) = ⊥
+
+-- records of so many bytes, as a file of this shape has them
+pub record HaveCounts (shape : DraftShape) (records : List (List ℕ)) : Type 0 where
+  pub count : length records ≡ shape.count
+  pub bytes : length (stored shape.format records) ≡ shape.bytes
+
+-- a draft of such a file is answered as the change is that puts the file
+abbrev pub AnswersDraft : {T : Type 0} → Accessed → Name → DraftShape → Result T DiskFault → Type 0
+AnswersDraft d name shape result =
+    (j : Journal) (m : Minidisk) (records : List (List ℕ)) → IsMinidisk j d m → IsReadable j d → HaveCounts shape records
+    → IsAnsweredBy (answer_of m (Put (file_with name shape records))) (changed m (Put (file_with name shape records))) result
+
+-- what putting a record comes to: the draft goes on, or it is given up
+abbrev pub PutsRecord : Told → Told → Accessed → Minidisk → FileDraft → List (List ℕ) → List (List ℕ) → Result ⊤ DiskFault → Type 0
+PutsRecord start now d m draft done more (Ok x) = GoesOn start now d m draft done more
+PutsRecord start now d m draft done more (Err e) = IsGivenUp start now d m
+
+-- ---- a file that is put whole
+
+-- the shape of a file with these data
+abbrev pub shape_of : FileData → DraftShape
+shape_of f = record {
+  format = f.format;
+  length = f.length;
+  number = f.number;
+  stamp = f.stamp;
+  count = f.count;
+  bytes = length f.bytes;
+}
+
+-- the records of a file are the last of a draft
+pub record AreLast (d : Drafting) (f : FileData) : Type 0 where
+  pub format : f.format ≡ d.shape.format
+  pub fixed : d.shape.format ≡ F → f.length ≡ d.shape.length
+  pub count : d.put + f.count ≡ d.shape.count
+  pub bytes : came d.writer + length f.bytes ≡ d.writer.size
+
+-- why a file isn't put that may be: the device failed, it passes a limit, there is no room, or there is no memory
+abbrev pub IsPutFault : DiskFault → Type 0
+IsPutFault failed.ReadOnly = ⊤
+IsPutFault failed.Device = ⊤
+IsPutFault failed.InDoubt = ⊤
+IsPutFault (failed.Limit which) = ⊤
+IsPutFault (failed.Full needs free) = ⊤
+IsPutFault failed.Memory = ⊤
+IsPutFault failed.NotFound = ⊥
+IsPutFault failed.Exists = ⊥
+IsPutFault failed.Altered = ⊥
+
+-- ---- records that are added to a file
+
+-- they have the format of the file of a name, and where all have one length, its
+abbrev pub FitsFile : HeldVolume → Name → FileData → Type 0
+FitsFile v name more = (k : ℕ) (info : FileInfo) → place_of name v ≡ Some k → slice_get (infos_in v) k ≡ Some info
+    → (more.format ≡ info.format) × (info.format ≡ F → more.length ≡ info.length)
+
+-- the records of one file behind those of another, with the stamp of the one behind
+pub record IsJoined (front behind f : FileData) : Type 0 where
+  pub format : f.format ≡ front.format
+  pub number : f.number ≡ front.number
+  pub stamp : f.stamp ≡ behind.stamp
+  pub fixed : f.format ≡ F → f.length ≡ front.length
+  pub stands : (records more : List (List ℕ)) → StandsFor front records → StandsFor behind more → StandsFor f (records ++ more)
+
+-- why records aren't added to a file that is there
+abbrev pub IsAddFault : DiskFault → Type 0
+IsAddFault failed.Exists = ⊥
+IsAddFault e = ⊤

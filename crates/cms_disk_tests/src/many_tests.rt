@@ -1,0 +1,193 @@
+// A minidisk of many files, beside a plain list of them.
+ghost use Rattle.std.specs.Prelude.{◌≡◌, ◌<◌, true, IfOk};
+ghost use Rattle.cms_model.specs.Records.{IsValid};
+
+use crate::disk::START;
+use cms_disk::{FileData, Minidisk, Stored, UnitInfo};
+use cms_journal::BlockSize;
+use cms_names::{Format, Name, Part};
+use cms_world::{ImageList, QuietWorld, Unit};
+use std::alloc::{AllocError, Global};
+use std::test::Fail;
+
+const FILES: u16 = 2_000;
+
+const VOLID: [u8; 6] = [0xD4, 0xC1, 0xD5, 0xE8, 0xF0, 0xF1];
+
+const OLD: u8 = 0xD6;
+
+const NEW: u8 = 0xD5;
+
+// A file by the letter and the number of its name, with its mode number.
+#[derive(Clone, Copy, Debug, PartialEq, Eq)]
+struct Listed {
+    letter: u8,
+    number: u16,
+    mode: u8,
+}
+
+// A device of 4,000 blocks of 4,096 bytes.
+fn device() -> UnitInfo
+    ensures blocks { result.unit.blocks ≡ 4000 }
+    ensures writable { result.writable ≡ true }
+{
+    UnitInfo {
+        vdev: 0x191,
+        unit: Unit {
+            number: 0,
+            blocks: 4_000,
+        },
+        bsize: BlockSize::new(4_096),
+        writable: true,
+    }
+}
+
+fn digit(number: u16, unit: u16) -> u8
+    requires { 0 < unit }
+{
+    0xF0 + (number / unit % 10) as u8
+}
+
+// A letter and four digits.
+fn name_of(letter: u8, number: u16) -> Option<Name> {
+    let digits = [
+        letter,
+        digit(number, 1_000),
+        digit(number, 100),
+        digit(number, 10),
+        digit(number, 1),
+    ];
+    let file = Part::read(&digits).ok()?;
+    let kind = Part::read(&[letter]).ok()?;
+    Some(Name { file, kind })
+}
+
+// One record of a byte.
+#[tactic(auto, using(crate::proofs::Blanks::one_byte), unfolding(cms_fields::specs::Stamps::is_stamp, cms_fields::specs::Stamps::days_of_month))]
+fn byte(alloc: Global) -> Result<FileData, AllocError>
+    ensures valid { IfOk result IsValid }
+{
+    Ok(FileData {
+        format: Format::F,
+        length: 1,
+        number: 1,
+        stamp: START,
+        count: 1,
+        bytes: Stored::take(vec![in alloc; 0x40; 1]?),
+    })
+}
+
+// A new minidisk with all of the files.
+#[tactic(auto, unfolding(cms_fields::specs::Stamps::is_stamp, cms_fields::specs::Stamps::days_of_month))]
+fn filled(alloc: Global, world: &mut QuietWorld) -> Option<Minidisk> {
+    let mut disk = Minidisk::make(alloc, world, &device(), VOLID, &START).ok()?;
+    let file = byte(alloc).ok()?;
+    for number in 0..FILES {
+        let name = name_of(OLD, number)?;
+        disk.put(alloc, world, &name, &file, &START).ok()?;
+    }
+    Some(disk)
+}
+
+// Erases every third file, in the order of their numbers.
+#[tactic(auto, unfolding(cms_fields::specs::Stamps::is_stamp, cms_fields::specs::Stamps::days_of_month))]
+fn erase_thirds(alloc: Global, world: &mut QuietWorld, disk: &mut Minidisk) -> Option<()> {
+    for number in 0..FILES {
+        if number % 3 == 2 {
+            let name = name_of(OLD, number)?;
+            disk.erase(alloc, world, &name, &START).ok()?;
+        }
+    }
+    Some(())
+}
+
+// Gives every fifth file of the list another name and mode number.
+#[tactic(auto, unfolding(cms_fields::specs::Stamps::is_stamp, cms_fields::specs::Stamps::days_of_month))]
+fn rename_fifths(
+    alloc: Global,
+    world: &mut QuietWorld,
+    disk: &mut Minidisk,
+    list: &[Listed],
+) -> Option<()> {
+    for (place, file) in list.iter().enumerate() {
+        if place % 5 == 4 {
+            let from = name_of(OLD, file.number)?;
+            let to = name_of(NEW, file.number)?;
+            disk.rename(alloc, world, &from, &to, 2, &START).ok()?;
+        }
+    }
+    Some(())
+}
+
+// All of the files.
+fn all(alloc: Global) -> Result<Vec<Listed>, AllocError> {
+    let mut list = Vec::new(alloc);
+    for number in 0..FILES {
+        list.push(Listed {
+            letter: OLD,
+            number,
+            mode: 1,
+        })?;
+    }
+    Ok(list)
+}
+
+// The list without every third file: the last takes its place.
+fn without_thirds(list: &mut Vec<Listed>) {
+    for number in 0..FILES {
+        if number % 3 == 2 {
+            if let Some(place) = list.iter().position(|file| file.number == number) {
+                list.swap_remove(place);
+            }
+        }
+    }
+}
+
+// Whether these are the minidisk's files, in their order.
+fn holds(disk: &Minidisk, list: &[Listed]) -> bool {
+    if disk.count() as usize != list.len() {
+        return false;
+    }
+    for (place, file) in list.iter().enumerate() {
+        if place as u32 >= disk.count() {
+            return false;
+        }
+        let info = disk.info(place as u32);
+        let Some(name) = name_of(file.letter, file.number) else {
+            return false;
+        };
+        if info.name != name || info.number != file.mode {
+            return false;
+        }
+    }
+    true
+}
+
+// The list with every fifth file renamed.
+fn with_new_names(list: &mut Vec<Listed>) {
+    for place in 0..list.len() {
+        if place % 5 == 4 {
+            list[place].letter = NEW;
+            list[place].mode = 2;
+        }
+    }
+}
+
+#[test]
+fn many_files_keep_the_order_of_a_plain_list(rt: HostRuntime) -> Result<(), Fail> {
+    let alloc = rt.alloc();
+    let mut world = QuietWorld::new(ImageList::new(alloc), Vec::new(alloc));
+    let mut list = all(alloc)?;
+    let Some(mut disk) = filled(alloc, &mut world) else {
+        panic!(rt; "no minidisk");
+    };
+    assert!(rt; holds(&disk, &list));
+    assert!(rt; erase_thirds(alloc, &mut world, &mut disk).is_some());
+    without_thirds(&mut list);
+    assert!(rt; holds(&disk, &list));
+    assert!(rt; rename_fifths(alloc, &mut world, &mut disk, &list).is_some());
+    with_new_names(&mut list);
+    assert!(rt; holds(&disk, &list));
+    assert_eq!(rt; list.len(), 1_334);
+    Ok(())
+}

@@ -1,0 +1,464 @@
+-- A record that is put, of either format.
+use Rattle.std.proofs.Common.{◌≡◌, ◌⊎◌, inl, inr, ⊎_elim, ℕ, ◌+◌, ◌*◌, ◌<◌, ◌≤◌, List, [], ◌∷◌, ◌++◌, length, drop, All, Result, Ok, Err, OnOk, refl, sym, ◌∙◌, ap, subst, arith, append_assoc, append-nil, length-append, drop_at, mul-le-mul_right}
+use Rattle.std.specs.Prelude.{⊤, if◌then◌else◌, ◌==◌}
+use Rattle.std.specs.List.{range_with_len}
+use Rattle.std.proofs.lemmas.Bool.{cases_eq, cases_lt}
+use Rattle.byteorder.specs.Endian.{big_bytes}
+use Rattle.byteorder.specs.Numbers.{length-bytes_high_first}
+use Rattle.cms_journal.specs.Told.{Told}
+use Rattle.cms_journal.specs.declared.event.Failed.{Failed}
+use Rattle.cms_journal.specs.Journal.{IsBlockSize}
+use Rattle.cms_names.specs.declared.name.Format.{Format}
+use Rattle.cms_names.specs.declared.name.Format.TheVariants.{F, V}
+use Rattle.cms_fields.specs.Entries.{pointer_size}
+use Rattle.cms_fields.specs.Numbers.{up}
+use Rattle.cms_model.specs.Records.{Fits, stored, with_length}
+use Rattle.cms_model.proofs.Records.{length-with_length, stored_append}
+use Rattle.cms_model.proofs.Quotients.{up_some}
+use Rattle.cms_tree.specs.declared.types.Mark.{Mark}
+use Rattle.cms_tree.specs.Builds.{IsBuildable}
+use Rattle.cms_held.specs.Opening.{HeldTree}
+use Rattle.cms_fields.specs.Limits.{most_bytes}
+use Rattle.cms_draft.specs.declared.shape.DraftShape.{DraftShape}
+use Rattle.std.proofs.lemmas.List.{length-map}
+use Rattle.std.proofs.lemmas.List.FromFn.{length-range_with_len}
+use Rattle.cms_held.specs.Drafts.{mark_of, starts_from}
+use Rattle.cms_draft.specs.BlockWriting.{Finishes, IsNewWriter, IsWriter, IsSame, came, AreMarked, ComesNext, Stops, Streams, Writes, Wrote, mark_on, with_start}
+use Rattle.cms_draft.specs.Drafting.{Drafting, Drafts, IsDrafting, IsFresh, IsMarkedSo, Puts, marks_in, marks_of}
+use Rattle.cms_draft.specs.declared.block_writer.BlockWriter.{BlockWriter}
+use Rattle.cms_draft.proofs.BlockWritten.{block_there, few_leaves, mark_here, mark_behind, mark_later, marked_later, next_later, next_multiple, same_twice, stops_on, wrote_none, wrote_on}
+use Rattle.cms_draft.proofs.DraftMarks.{mark_end, mark_is, mark_whole, place_none, place_past, started_place}
+
+-- ---- the bytes that come next
+
+next_fixed : (at : ℕ) (records more : List (List ℕ)) (text : List ℕ) → at ≡ length (stored F records) → ComesNext at text (stored F (records ++ (text ∷ more)))
+next_fixed at records more text is = record {
+  more = stored F more;
+  is = ap (drop at) (stored_append F records (text ∷ more)) ∙ drop_at (stored F records) (text ++ stored F more) at (sym is);
+}
+
+next_stored : (at : ℕ) (records more : List (List ℕ)) (text : List ℕ) → at ≡ length (stored V records) → ComesNext at (with_length text) (stored V (records ++ (text ∷ more)))
+next_stored at records more text is = record {
+  more = stored V more;
+  is = ap (drop at) (stored_append V records (text ∷ more)) ∙ drop_at (stored V records) (with_length text ++ stored V more) at (sym is);
+}
+
+next_size : (at : ℕ) (text bytes : List ℕ) → ComesNext at (with_length text) bytes → ComesNext at (big_bytes 2 (length text)) bytes
+next_size at text bytes next = record { more = text ++ next.more; is = next.is ∙ append_assoc (big_bytes 2 (length text)) text next.more }
+
+next_text : (at : ℕ) (text bytes : List ℕ) → ComesNext at (with_length text) bytes → ComesNext (at + 2) text bytes
+next_text at text bytes next =
+    let size = length-bytes_high_first 2 (length text) in
+    let long = length-with_length text in
+    subst (λ (l : List ℕ). ComesNext (at + 2) l bytes) (drop_at (big_bytes 2 (length text)) text 2 size) (next_later at 2 (with_length text) bytes (omega arith) next)
+
+-- ---- the marks at V
+
+short_blocks : (size : ℕ) → IsBlockSize size → (1 ≤ size) × (size ≤ 4096)
+short_blocks size is = (omega arith, omega arith)
+
+-- the mark that a data block has as soon as the next record begins
+begun_mark : (w : BlockWriter) (records : List (List ℕ)) (text : List ℕ) (k : ℕ) → IsMarkedSo V w records → came w ≡ length (stored V records) → w.filled < w.bsize → w.bsize ≤ 4096 → w.whole ≤ k
+    → mark_on (record w { mark = with_start w }) k ≡ record { last = length records + 1; place = (mark_of w.bsize (starts_from 0 (records ++ text ∷ [])) k).place }
+begun_mark w records text k mark at unfilled short low = ⊎_elim here behind (cases_eq k w.whole)
+  where
+    next : BlockWriter
+    next = record w { mark = with_start w }
+
+    at' : 0 + length (stored V records) ≡ w.whole * w.bsize + w.filled
+    at' = omega arith
+
+    last : w.mark.last + 1 ≡ length records + 1
+    last = ap (λ (m : Mark). m.last + 1) mark
+
+    place : (if w.mark.place == 0xFFFFFFFF then w.filled else w.mark.place) ≡ (mark_of w.bsize (starts_from 0 (records ++ text ∷ [])) w.whole).place
+    place = ap (λ (n : ℕ). if n == 0xFFFFFFFF then w.filled else n) (ap (λ (m : Mark). m.place) mark) ∙ started_place w.bsize w.whole w.filled records text unfilled short at'
+
+    here : k ≡ w.whole → mark_on next k ≡ record { last = length records + 1; place = (mark_of w.bsize (starts_from 0 (records ++ text ∷ [])) k).place }
+    here is = mark_here next k is ∙ ap (λ (n : ℕ). record { last = n; place = (with_start w).place }) last
+        ∙ ap (λ (n : ℕ). record { last = length records + 1; place = n }) (place ∙ ap (λ (n : ℕ). (mark_of w.bsize (starts_from 0 (records ++ text ∷ [])) n).place) (sym is))
+
+    past : (k ≡ w.whole → ⊥) → w.whole + 1 ≤ k
+    past other = omega arith
+
+    past' : (k ≡ w.whole → ⊥) → w.whole < k
+    past' other = omega arith
+
+    behind : (k ≡ w.whole → ⊥) → mark_on next k ≡ record { last = length records + 1; place = (mark_of w.bsize (starts_from 0 (records ++ text ∷ [])) k).place }
+    behind other =
+        let more = next_multiple w.whole w.bsize in
+        let wide = mul-le-mul_right w.bsize (past other) in
+        mark_behind next k (past' other) ∙ ap (λ (n : ℕ). record { last = n; place = 0xFFFFFFFF }) last
+        ∙ ap (λ (n : ℕ). record { last = length records + 1; place = n }) (sym (place_none w.bsize k records text (omega arith)))
+
+-- and it is the mark that it is to have, where it is whole with that record
+begun_marked : (w : BlockWriter) (records more : List (List ℕ)) (text : List ℕ) → IsWriter w → IsMarkedSo V w records → came w ≡ length (stored V records) → w.filled < w.bsize
+    → came w + (2 + length text) ≤ w.size
+    → AreMarked (record w { mark = with_start w }) (came w + (2 + length text)) (marks_of V w.bsize (records ++ (text ∷ more)) (length w.tree.leaves))
+begun_marked w records more text is mark at unfilled room wide k low end =
+    let sizes = short_blocks w.bsize is.size in
+    let some = sizes.0 in
+    let count = is.count in
+    let one = next_multiple k w.bsize in
+    let there : k < length w.tree.leaves = subst (λ (n : ℕ). k < n) (sym is.count) (block_there w.size w.bsize k w.bsize sizes.0 sizes.0 (omega arith)) in
+    let first = next_multiple w.whole w.bsize in
+    let wider = mul-le-mul_right w.bsize low' in
+    begun_mark w records text k mark at unfilled sizes.1 low ∙ sym (mark_whole w.bsize k records more text (omega arith) (omega arith))
+    ∙ sym (mark_is w.bsize (length w.tree.leaves) k (records ++ (text ∷ more)) there)
+  where
+    low' : w.whole + 1 ≤ k + 1
+    low' = omega arith
+
+-- ---- a record was put
+
+-- how long a record is as it is stored
+pub stored_long : (format : Format) (records : List (List ℕ)) (text : List ℕ) (at : ℕ) → at ≡ length (stored format records)
+    → at + length (stored format (text ∷ [])) ≡ length (stored format (records ++ text ∷ []))
+stored_long format records text at is = ap (λ (n : ℕ). n + length (stored format (text ∷ []))) is
+    ∙ sym (length-append (stored format records) (stored format (text ∷ []))) ∙ ap (λ (l : List ℕ). length l) (sym (stored_append format records (text ∷ [])))
+
+long_fixed : (text : List ℕ) → length (stored F (text ∷ [])) ≡ length text
+long_fixed text = ap (λ (l : List ℕ). length l) (append-nil text)
+
+long_varying : (text : List ℕ) → length (stored V (text ∷ [])) ≡ 2 + length text
+long_varying text = ap (λ (l : List ℕ). length l) (append-nil (with_length text)) ∙ length-with_length text
+
+regroup : (records more : List (List ℕ)) (text : List ℕ) → (records ++ text ∷ []) ++ more ≡ records ++ (text ∷ more)
+regroup records more text = append_assoc records (text ∷ []) more
+
+put_done : (old new : Told) (d : Drafting) (w : BlockWriter) (records more : List (List ℕ)) (text : List ℕ) (x : ⊤) → Drafts d records (text ∷ more) → IsSame d.writer w
+    → came w ≡ came d.writer + length (stored d.shape.format (text ∷ [])) → IsMarkedSo d.shape.format w (records ++ text ∷ [])
+    → Wrote old new d.writer w (stored d.shape.format (records ++ (text ∷ more))) (marks_in d (records ++ (text ∷ more)))
+    → Puts old new d (record d { put = d.put + 1; writer = w }) records text more (Ok x)
+put_done old new d w records more text x h same came_is mark wrote = (
+  wrote,
+  record {
+    put = ap (λ (n : ℕ). n + 1) h.put ∙ sym (length-append records (text ∷ []));
+    count = h.count ∙ ap (λ (l : List (List ℕ)). length l) (sym (regroup records more text));
+    streams = subst (λ (l : List (List ℕ)). Streams w (stored d.shape.format l) (marks_of d.shape.format w.bsize l (length w.tree.leaves))) (sym (regroup records more text))
+        (subst (λ (m : List Mark). Streams w (stored d.shape.format (records ++ (text ∷ more))) m) marks wrote.streams);
+    came_is = came_is ∙ stored_long d.shape.format records text (came d.writer) h.came_is;
+    mark = mark;
+    each = subst (All (Fits d.shape.format d.shape.length)) (sym (regroup records more text)) h.each;
+  },
+)
+  where
+    marks : marks_in d (records ++ (text ∷ more)) ≡ marks_of d.shape.format w.bsize (records ++ (text ∷ more)) (length w.tree.leaves)
+    marks = rw (same.bsize, same.tree) refl
+
+-- ---- at F
+
+pub put_fixed : (old new : Told) (d : Drafting) (w : BlockWriter) (records more : List (List ℕ)) (text : List ℕ) (r : Result ⊤ Failed) → d.shape.format ≡ F → IsDrafting d
+    → Drafts d records (text ∷ more)
+    → IsSame d.writer w → OnOk r (came w ≡ came d.writer + length text)
+    → ((bytes : List ℕ) (marks : List Mark) → Streams d.writer bytes marks → ComesNext (came d.writer) text bytes → AreMarked d.writer (came d.writer + length text) marks
+    → Writes old new d.writer w bytes marks (came d.writer + length text) r)
+    → Puts old new d (record d { put = d.put + 1; writer = w }) records text more r
+put_fixed old new d w records more text r is i h same all writes =
+    answer r all (writes (stored d.shape.format (records ++ (text ∷ more))) (marks_in d (records ++ (text ∷ more))) h.streams next (λ wide. absurd (none wide)))
+  where
+    at : came d.writer ≡ length (stored F records)
+    at = h.came_is ∙ ap (λ (f : Format). length (stored f records)) is
+
+    next : ComesNext (came d.writer) text (stored d.shape.format (records ++ (text ∷ more)))
+    next = subst (λ (f : Format). ComesNext (came d.writer) text (stored f (records ++ (text ∷ more)))) (sym is) (next_fixed (came d.writer) records more text at)
+
+    four : d.writer.psize ≡ 4
+    four = i.pointer ∙ ap pointer_size is
+
+    none : d.writer.psize ≡ 12 → ⊥
+    none wide = absurd (omega (arith, four))
+
+    long : length text ≡ length (stored d.shape.format (text ∷ []))
+    long = sym (ap (λ (f : Format). length (stored f (text ∷ []))) is ∙ long_fixed text)
+
+    answer : (r : Result ⊤ Failed) → OnOk r (came w ≡ came d.writer + length text)
+        → Writes old new d.writer w (stored d.shape.format (records ++ (text ∷ more))) (marks_in d (records ++ (text ∷ more))) (came d.writer + length text) r
+        → Puts old new d (record d { put = d.put + 1; writer = w }) records text more r
+    answer (Ok x) all wrote =
+        put_done old new d w records more text x h same (all ∙ ap (λ (n : ℕ). came d.writer + n) long)
+        (subst (λ (f : Format). IsMarkedSo f w (records ++ text ∷ [])) (sym is) tt) wrote
+    answer (Err e) all stops =
+        subst (Stops old new d.writer (stored d.shape.format (records ++ (text ∷ more))) (marks_in d (records ++ (text ∷ more))))
+        (ap (λ (n : ℕ). came d.writer + n) long ∙ stored_long d.shape.format records text (came d.writer) h.came_is) stops
+
+-- ---- at V
+
+-- a record begins
+abbrev pub begun : BlockWriter → BlockWriter
+begun w = record w { mark = with_start w }
+
+pub same_begun : (w : BlockWriter) → IsSame w (begun w)
+same_begun w = record { unit = refl; bsize = refl; psize = refl; tree = refl; size = refl }
+
+streams_begun : (w : BlockWriter) (bytes : List ℕ) (marks : List Mark) → Streams w bytes marks → Streams (begun w) bytes marks
+streams_begun w bytes marks s = record { climbs = s.climbs; added = s.added; size = s.size; block = s.block }
+
+-- marks up to a place are those up to every place before it
+fewer_marked : (w : BlockWriter) (less upto : ℕ) (marks : List Mark) → less ≤ upto → AreMarked w upto marks → AreMarked w less marks
+fewer_marked w less upto marks low are wide k from end = are wide k from (omega arith)
+
+stops_more : (old new : Told) (w : BlockWriter) (bytes : List ℕ) (marks : List Mark) (less upto : ℕ) → less ≤ upto → Stops old new w bytes marks less → Stops old new w bytes marks upto
+stops_more old new w bytes marks less upto low s = let within = s.within in record { to = s.to; within = omega arith; part = s.part; is = s.is; front = s.front }
+
+-- the length of a record came
+pub record Sized (old mid : Told) (w w2 : BlockWriter) (size : List ℕ) (r : Result ⊤ Failed) : Type 0 where
+  pub same : IsSame (begun w) w2
+  pub all : OnOk r (came w2 ≡ came w + length size)
+  pub mark : OnOk r (w2.mark ≡ mark_on (begun w) w2.whole)
+  pub later : w.whole ≤ w2.whole
+  pub writes : (bytes : List ℕ) (marks : List Mark) → Streams (begun w) bytes marks → ComesNext (came w) size bytes → AreMarked (begun w) (came w + length size) marks
+      → Writes old mid (begun w) w2 bytes marks (came w + length size) r
+
+pub sized : (old mid : Told) (w w1 w2 : BlockWriter) (size : List ℕ) (r : Result ⊤ Failed) → w1 ≡ begun w → IsSame w1 w2 → OnOk r (came w2 ≡ came w1 + length size)
+    → OnOk r (w2.mark ≡ mark_on w1 w2.whole)
+    → w1.whole ≤ w2.whole
+    → ((bytes : List ℕ) (marks : List Mark) → Streams w1 bytes marks → ComesNext (came w1) size bytes → AreMarked w1 (came w1 + length size) marks
+    → Writes old mid w1 w2 bytes marks (came w1 + length size) r)
+    → Sized old mid w w2 size r
+sized old mid w w1 w2 size r is =
+    subst (λ (x : BlockWriter). IsSame x w2 → OnOk r (came w2 ≡ came x + length size) → OnOk r (w2.mark ≡ mark_on x w2.whole) → x.whole ≤ w2.whole
+    → ((bytes : List ℕ) (marks : List Mark) → Streams x bytes marks → ComesNext (came x) size bytes → AreMarked x (came x + length size) marks
+    → Writes old mid x w2 bytes marks (came x + length size) r)
+    → Sized old mid w w2 size r) (sym is)
+    (λ same all mark later writes. record { same = same; all = all; mark = mark; later = later; writes = writes })
+
+-- what is known of a record that is put
+pub record Putting (d : Drafting) (records more : List (List ℕ)) (text size : List ℕ) : Type 0 where
+  pub is : d.shape.format ≡ V
+  pub drafting : IsDrafting d
+  pub drafts : Drafts d records (text ∷ more)
+  pub room : came d.writer + length (stored d.shape.format (text ∷ [])) ≤ d.writer.size
+  pub size_is : size ≡ big_bytes 2 (length text)
+
+abbrev bytes_of : Drafting → List (List ℕ) → List (List ℕ) → List ℕ → List ℕ
+bytes_of d records more text = stored d.shape.format (records ++ (text ∷ more))
+
+abbrev all_marks : Drafting → List (List ℕ) → List (List ℕ) → List ℕ → List Mark
+all_marks d records more text = marks_in d (records ++ (text ∷ more))
+
+at_V : (d : Drafting) (records more : List (List ℕ)) (text size : List ℕ) → Putting d records more text size → came d.writer ≡ length (stored V records)
+at_V d records more text size p = p.drafts.came_is ∙ ap (λ (f : Format). length (stored f records)) p.is
+
+marked_V : (d : Drafting) (records more : List (List ℕ)) (text size : List ℕ) → Putting d records more text size → IsMarkedSo V d.writer records
+marked_V d records more text size p = subst (λ (f : Format). IsMarkedSo f d.writer records) p.is p.drafts.mark
+
+long_V : (d : Drafting) (records more : List (List ℕ)) (text size : List ℕ) → Putting d records more text size → length (stored d.shape.format (text ∷ [])) ≡ 2 + length text
+long_V d records more text size p = ap (λ (f : Format). length (stored f (text ∷ []))) p.is ∙ long_varying text
+
+stored_next : (d : Drafting) (records more : List (List ℕ)) (text size : List ℕ) → Putting d records more text size → ComesNext (came d.writer) (with_length text) (bytes_of d records more text)
+stored_next d records more text size p =
+    subst (λ (f : Format). ComesNext (came d.writer) (with_length text) (stored f (records ++ (text ∷ more)))) (sym p.is)
+    (next_stored (came d.writer) records more text (at_V d records more text size p))
+
+two : (size text : List ℕ) → size ≡ big_bytes 2 (length text) → length size ≡ 2
+two size text is = ap (λ (l : List ℕ). length l) is ∙ length-bytes_high_first 2 (length text)
+
+all_marked : (d : Drafting) (records more : List (List ℕ)) (text size : List ℕ) → Putting d records more text size
+    → AreMarked (begun d.writer) (came d.writer + (2 + length text)) (all_marks d records more text)
+all_marked d records more text size p =
+    let room = p.room in
+    let long = long_V d records more text size p in
+    subst (λ (f : Format). AreMarked (begun d.writer) (came d.writer + (2 + length text)) (marks_of f d.writer.bsize (records ++ (text ∷ more)) (length d.writer.tree.leaves))) (sym p.is)
+    (begun_marked d.writer records more text p.drafting.writer (marked_V d records more text size p) (at_V d records more text size p) p.drafting.unfilled (omega arith))
+
+size_writes : (old mid : Told) (d : Drafting) (w2 : BlockWriter) (records more : List (List ℕ)) (text size : List ℕ) (r : Result ⊤ Failed) → Putting d records more text size
+    → Sized old mid d.writer w2 size r
+    → Writes old mid (begun d.writer) w2 (bytes_of d records more text) (all_marks d records more text) (came d.writer + length size) r
+size_writes old mid d w2 records more text size r p z =
+    let long = two size text p.size_is in
+    z.writes (bytes_of d records more text) (all_marks d records more text) (streams_begun d.writer (bytes_of d records more text) (all_marks d records more text) p.drafts.streams)
+    (subst (λ (l : List ℕ). ComesNext (came d.writer) l (bytes_of d records more text)) (sym p.size_is)
+    (next_size (came d.writer) text (bytes_of d records more text) (stored_next d records more text size p)))
+    (fewer_marked (begun d.writer) (came d.writer + length size) (came d.writer + (2 + length text)) (all_marks d records more text) (omega arith) (all_marked d records more text size p))
+
+-- the length of a record failed to be written
+pub put_size_fails : (old mid : Told) (d : Drafting) (w2 : BlockWriter) (records more : List (List ℕ)) (text size : List ℕ) (e : Failed) → Putting d records more text size
+    → Sized old mid d.writer w2 size (Err e)
+    → Stops old mid d.writer (bytes_of d records more text) (all_marks d records more text) (length (stored d.shape.format (records ++ text ∷ [])))
+put_size_fails old mid d w2 records more text size e p z =
+    let long = two size text p.size_is in
+    let whole = long_V d records more text size p in
+    let upto = stored_long d.shape.format records text (came d.writer) p.drafts.came_is in
+    let s = p.drafts.streams in
+    let none = wrote_none old d.writer (begun d.writer) (bytes_of d records more text) (all_marks d records more text) refl
+    (streams_begun d.writer (bytes_of d records more text) (all_marks d records more text) s) in
+    stops_on old old mid d.writer (begun d.writer) (bytes_of d records more text) (all_marks d records more text) (length (stored d.shape.format (records ++ text ∷ []))) (same_begun d.writer) none
+    (stops_more old mid (begun d.writer) (bytes_of d records more text) (all_marks d records more text) (came d.writer + length size) (length (stored d.shape.format (records ++ text ∷ [])))
+    (omega arith)
+    (size_writes old mid d w2 records more text size (Err e) p z))
+
+pub put_varying : (old mid new : Told) (d : Drafting) (w2 w : BlockWriter) (records more : List (List ℕ)) (text size : List ℕ) (x : ⊤) (r : Result ⊤ Failed) → Putting d records more text size
+    → Sized old mid d.writer w2 size (Ok x) → IsSame w2 w → OnOk r (came w ≡ came w2 + length text) → OnOk r (w.mark ≡ mark_on w2 w.whole) → w2.whole ≤ w.whole
+    → ((bytes : List ℕ) (marks : List Mark) → Streams w2 bytes marks → ComesNext (came w2) text bytes → AreMarked w2 (came w2 + length text) marks
+    → Writes mid new w2 w bytes marks (came w2 + length text) r)
+    → Puts old new d (record d { put = d.put + 1; writer = w }) records text more r
+put_varying old mid new d w2 w records more text size x r p z same all mark later writes =
+    answer r all mark (writes bytes marks wrote.streams next (marked_later (begun d.writer) w2 (came w2 + length text) marks z.same z.mark z.later
+    (subst (λ (n : ℕ). AreMarked (begun d.writer) n marks) (sym upto) (all_marked d records more text size p))))
+  where
+    bytes : List ℕ
+    bytes = bytes_of d records more text
+
+    marks : List Mark
+    marks = all_marks d records more text
+
+    first : Wrote old mid (begun d.writer) w2 bytes marks
+    first = size_writes old mid d w2 records more text size (Ok x) p z
+
+    both : IsSame d.writer w2
+    both = same_twice d.writer (begun d.writer) w2 (same_begun d.writer) z.same
+
+    wrote : Wrote old mid d.writer w2 bytes marks
+    wrote = wrote_on old old mid d.writer (begun d.writer) w2 bytes marks (same_begun d.writer)
+        (wrote_none old d.writer (begun d.writer) bytes marks refl (streams_begun d.writer bytes marks p.drafts.streams)) first
+
+    at : came w2 ≡ came d.writer + 2
+    at = z.all ∙ ap (λ (n : ℕ). came d.writer + n) (two size text p.size_is)
+
+    upto : came w2 + length text ≡ came d.writer + (2 + length text)
+    upto = omega (arith, at)
+
+    next : ComesNext (came w2) text bytes
+    next = subst (λ (n : ℕ). ComesNext n text bytes) (sym at) (next_text (came d.writer) text bytes (stored_next d records more text size p))
+
+    long : came d.writer + (2 + length text) ≡ came d.writer + length (stored d.shape.format (text ∷ []))
+    long = ap (λ (n : ℕ). came d.writer + n) (sym (long_V d records more text size p))
+
+    sizes : d.writer.bsize ≤ 4096
+    sizes = (short_blocks d.writer.bsize p.drafting.writer.size).1
+
+    low : d.writer.whole ≤ w.whole
+    low = let first = z.later in omega arith
+
+    marked : w.mark ≡ mark_on w2 w.whole → w.mark ≡ record { last = length records + 1; place = (mark_of d.writer.bsize (starts_from 0 (records ++ text ∷ [])) w.whole).place }
+    marked m = m ∙ mark_later (begun d.writer) w2 w.whole z.mark z.later later
+        ∙ begun_mark d.writer records text w.whole (marked_V d records more text size p) (at_V d records more text size p) p.drafting.unfilled sizes low
+
+    so : w.mark ≡ mark_on w2 w.whole → IsMarkedSo d.shape.format w (records ++ text ∷ [])
+    so m = subst (λ (f : Format). IsMarkedSo f w (records ++ text ∷ [])) (sym p.is)
+        (marked m ∙ ap (λ (n : ℕ). record { last = n; place = (mark_of d.writer.bsize (starts_from 0 (records ++ text ∷ [])) w.whole).place }) (sym (length-append records (text ∷ [])))
+        ∙ ap (λ (n : ℕ). record { last = length (records ++ text ∷ []); place = (mark_of n (starts_from 0 (records ++ text ∷ [])) w.whole).place }) (sym (same.bsize ∙ both.bsize)))
+
+    answer : (r : Result ⊤ Failed) → OnOk r (came w ≡ came w2 + length text) → OnOk r (w.mark ≡ mark_on w2 w.whole) → Writes mid new w2 w bytes marks (came w2 + length text) r
+        → Puts old new d (record d { put = d.put + 1; writer = w }) records text more r
+    answer (Ok y) all mark more' = put_done old new d w records more text y p.drafts (same_twice d.writer w2 w both same) (all ∙ upto ∙ long) (so mark)
+        (wrote_on old mid new d.writer w2 w bytes marks both wrote more')
+    answer (Err e) all mark stops =
+        subst (Stops old new d.writer bytes marks) (upto ∙ long ∙ stored_long d.shape.format records text (came d.writer) p.drafts.came_is)
+        (stops_on old mid new d.writer w2 bytes marks (came w2 + length text) both wrote stops)
+
+-- ---- a file of which no record is put
+
+marks_long : (format : Format) (bsize : ℕ) (records : List (List ℕ)) (n : ℕ) → pointer_size format ≡ 12 → length (marks_of format bsize records n) ≡ n
+marks_long F bsize records n wide = absurd (omega arith)
+marks_long V bsize records n wide = length-map (range_with_len 0 n) (mark_of bsize (starts_from 0 records)) ∙ length-range_with_len 0 n
+
+stored_none : (format : Format) → 0 ≡ length (stored format [])
+stored_none F = refl
+stored_none V = refl
+
+first_mark : (format : Format) (w : BlockWriter) → w.mark ≡ record { last = 0; place = 0xFFFFFFFF } → IsMarkedSo format w []
+first_mark F w is = tt
+first_mark V w is = is
+
+both_sizes : (format : Format) → (pointer_size format ≡ 4) ⊎ (pointer_size format ≡ 12)
+both_sizes F = inl refl
+both_sizes V = inr refl
+
+pub fresh_new : (unit bsize psize : ℕ) (shape : DraftShape) (tree : HeldTree) (w : BlockWriter) → psize ≡ pointer_size shape.format → 1 ≤ shape.bytes → IsNewWriter unit bsize psize shape.bytes tree w
+    → IsFresh unit bsize shape tree (record { shape = shape; put = 0; writer = w })
+fresh_new unit bsize psize shape tree w psize_is some n = record {
+  shape_is = refl;
+  unit_is = n.unit_is;
+  bsize_is = n.bsize_is;
+  tree_is = n.tree_is;
+  put = refl;
+  came_is = came_none;
+  drafts = λ records h. record {
+    put = refl;
+    count = sym h.count;
+    streams = n.streams (stored shape.format records) (marks_in (record { shape = shape; put = 0; writer = w }) records) (plan records) h.bytes;
+    came_is = came_none ∙ stored_none shape.format;
+    mark = first_mark shape.format w n.mark;
+    each = h.each;
+  };
+}
+  where
+    came_none : came w ≡ 0
+    came_none = rw (n.whole, n.filled) (omega arith)
+
+    size : IsBlockSize bsize
+    size = rw (← n.bsize_is) n.is.size
+
+    count : length tree.leaves ≡ up shape.bytes bsize
+    count = sym (ap (λ (t : HeldTree). length t.leaves) n.tree_is) ∙ n.is.count ∙ (rw (n.size_is, n.bsize_is) refl)
+
+    sizes : (1 ≤ bsize) × (bsize ≤ 4096)
+    sizes = short_blocks bsize size
+
+    few : length tree.leaves ≤ most_bytes
+    few = subst (λ (t : HeldTree). length t.leaves ≤ most_bytes) n.tree_is (few_leaves w n.is)
+
+    plan : (records : List (List ℕ)) → IsBuildable bsize psize tree.leaves (marks_in (record { shape = shape; put = 0; writer = w }) records) tree.pointers
+    plan records = record {
+      size = size;
+      pointer = rw psize_is (both_sizes shape.format);
+      some = subst (λ (m : ℕ). 0 < m) (sym count) (up_some shape.bytes bsize sizes.0 some);
+      few = let short = few in omega arith;
+      each = λ wide. marks_long shape.format w.bsize records (length w.tree.leaves) (sym psize_is ∙ wide) ∙ ap (λ (t : HeldTree). length t.leaves) n.tree_is;
+      numbers = ap (λ (t : HeldTree). length t.pointers) (sym n.tree_is) ∙ n.is.nodes ∙ (rw (n.bsize_is, n.psize_is, n.tree_is) refl);
+    }
+
+-- ---- a file of which all records are put
+
+end_marks : (w : BlockWriter) (records : List (List ℕ)) → IsWriter w → IsMarkedSo V w records → came w ≡ length (stored V records) → w.filled < w.bsize
+    → AreMarked w (length w.tree.leaves * w.bsize) (marks_of V w.bsize records (length w.tree.leaves))
+end_marks w records is mark at unfilled wide k low end = the_mark ∙ sym (mark_is w.bsize (length w.tree.leaves) k records there)
+  where
+    there : k < length w.tree.leaves
+    there = ⊎_elim (λ (less : k < length w.tree.leaves). less)
+        (λ (past : length w.tree.leaves ≤ k). let more = next_multiple k w.bsize in let less = mul-le-mul_right w.bsize past in absurd (omega arith))
+        (cases_lt k (length w.tree.leaves))
+
+    before : w.whole * w.bsize + w.filled ≤ (k + 1) * w.bsize
+    before =
+        let one = next_multiple w.whole w.bsize in
+        let low' : w.whole + 1 ≤ k + 1 = omega arith in
+        let wider = mul-le-mul_right w.bsize low' in omega arith
+
+    ends : mark_of w.bsize (starts_from 0 records) k ≡ record { last = length records; place = (mark_of w.bsize (starts_from 0 records) k).place }
+    ends = mark_end w.bsize k records (let b = before in omega arith)
+
+    here : k ≡ w.whole → mark_on w k ≡ mark_of w.bsize (starts_from 0 records) k
+    here is = mark_here w k is ∙ mark ∙ ap (λ (n : ℕ). record { last = length records; place = (mark_of w.bsize (starts_from 0 records) n).place }) (sym is) ∙ sym ends
+
+    past : (k ≡ w.whole → ⊥) → w.whole < k
+    past other = omega arith
+
+    behind : (k ≡ w.whole → ⊥) → mark_on w k ≡ mark_of w.bsize (starts_from 0 records) k
+    behind other =
+        let one = next_multiple w.whole w.bsize in
+        let before : w.whole < k = past other in
+        let low' : w.whole + 1 ≤ k = omega arith in
+        let wider = mul-le-mul_right w.bsize low' in
+        mark_behind w k (past other) ∙ ap (λ (m : Mark). record { last = m.last; place = 0xFFFFFFFF }) mark
+        ∙ ap (λ (n : ℕ). record { last = length records; place = n }) (sym (place_past w.bsize k records (omega arith))) ∙ sym ends
+
+    the_mark : mark_on w k ≡ mark_of w.bsize (starts_from 0 records) k
+    the_mark = ⊎_elim here behind (cases_eq k w.whole)
+
+-- by the format
+all_end_marks : (format : Format) (w : BlockWriter) (records : List (List ℕ)) → w.psize ≡ pointer_size format → IsWriter w → IsMarkedSo format w records → came w ≡ length (stored format records)
+    → w.filled < w.bsize
+    → AreMarked w (length w.tree.leaves * w.bsize) (marks_of format w.bsize records (length w.tree.leaves))
+all_end_marks F w records four is mark at unfilled wide = let none : 4 ≡ 12 = sym four ∙ wide in absurd (omega arith)
+all_end_marks V w records twelve is mark at unfilled wide = end_marks w records is mark at unfilled wide
+
+pub file_finishes : {A : Type 0} (old new : Told) (d : Drafting) (records : List (List ℕ)) (r : Result A Failed) → IsDrafting d → Drafts d records []
+    → ((bytes : List ℕ) (marks : List Mark) → Streams d.writer bytes marks → AreMarked d.writer (length d.writer.tree.leaves * d.writer.bsize) marks → Finishes old new d.writer bytes marks r)
+    → Finishes old new d.writer (stored d.shape.format records) (marks_in d records) r
+file_finishes old new d records r i h writes =
+    writes (stored d.shape.format records) (marks_in d records)
+    (subst (λ (l : List (List ℕ)). Streams d.writer (stored d.shape.format l) (marks_in d l)) (append-nil records) h.streams)
+    (all_end_marks d.shape.format d.writer records i.pointer i.writer h.mark h.came_is i.unfilled)

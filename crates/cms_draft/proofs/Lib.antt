@@ -1,0 +1,3 @@
+pub mod BlockWritten
+pub mod DraftMarks
+pub mod FilePuts

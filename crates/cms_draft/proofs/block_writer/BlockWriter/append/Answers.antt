@@ -1,0 +1,57 @@
+use Rattle.std.proofs.Common.{◌≡◌, ◌-◌, ℕ, drop, refl, sym, ◌∙◌, ap, arith}
+use Rattle.cms_draft.specs.BlockWriting.{came}
+use Rattle.cms_draft.proofs.BlockWritten.{begun_more, appended_on, appended_stops, own_kept, own_on, same_none, mark_here, wrote_none}
+use Rattle.cms_draft.proofs.block_writer.BlockWriter.append.Goals as goal
+
+pub append-init : goal.append-init
+append-init g c =
+    let w = c.args.self.now in
+    let text = c.args.bytes.now in
+    let told = g.W.World.told c.args.world.now in
+    let none : came w - came w ≡ 0 = omega arith in
+    record {
+      is = c.requires.is;
+      unfilled = c.requires.unfilled;
+      last = refl;
+      begun = record { at = refl; before = omega arith; rest_is = ap (λ (n : ℕ). drop n text) (sym none); same = same_none w; mark = sym (mark_here w w.whole refl); later = omega arith };
+      writes = λ bytes marks s next are. wrote_none told w w bytes marks refl s;
+      own = own_kept told w;
+      ready = c.requires.ready;
+      faults = omega arith;
+      edges = refl;
+    }
+
+pub append-preserved : goal.append-preserved
+append-preserved g c =
+    let w = c.args.self.now in
+    let w1 = c.append.self in
+    let w2 = c.take.new.self in
+    let text = c.args.bytes.now in
+    let rest = c.append.rest.now in
+    let old = g.W.World.told c.args.world.now in
+    let mid = g.W.World.told c.append.world in
+    let new = g.W.World.told c.take.new.world in
+    let i = c.append.invariant in
+    let e = c.in-Ok.ensures in
+    record {
+      is = e.is;
+      unfilled = e.unfilled;
+      last = e.last ∙ i.last;
+      begun = begun_more w w1 w2 c.in-Ok.taken text rest c.behind-rest.result.now i.begun e.taken.1 e.taken.2 c.behind-rest.ensures.bytes e.same e.mark e.later;
+      writes = λ bytes marks s next are. appended_on old mid new w w1 w2 text rest bytes marks i.begun next are (i.writes bytes marks s next are) (e.writes bytes marks);
+      own = own_on old mid new w w1 i.begun.same i.own e.own;
+      ready = e.still;
+      faults = let faults = i.faults in let cause = e.counts.cause in omega arith;
+      edges = e.counts.edges ∙ i.edges;
+    }
+
+pub returns-in-Err-clause-writes : goal.returns-in-Err-clause-writes
+returns-in-Err-clause-writes g c = λ bytes marks s next are.
+    let i = c.append.invariant in
+    appended_stops (g.W.World.told c.args.world.now) (g.W.World.told c.append.world) (g.W.World.told c.take.new.world) c.args.self.now c.append.self c.args.bytes.now c.append.rest.now bytes marks
+    i.begun next are (i.writes bytes marks s next are) (c.in-Err.ensures.writes bytes marks)
+
+pub returns-in-Err-clause-own : goal.returns-in-Err-clause-own
+returns-in-Err-clause-own g c =
+    own_on (g.W.World.told c.args.world.now) (g.W.World.told c.append.world)
+    (g.W.World.told c.take.new.world) c.args.self.now c.append.self c.append.invariant.begun.same c.append.invariant.own c.in-Err.ensures.own

@@ -1,0 +1,2 @@
+pub mod BlockWriting
+pub mod Drafting

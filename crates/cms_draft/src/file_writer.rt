@@ -1,0 +1,152 @@
+// A file of which records are put one after another.
+ghost use Rattle.std.specs.Prelude.{◌≡◌, ℕ, List, ◌+◌, ◌<◌, ◌≤◌, ◌∷◌, [], length, IfOk, OnOk};
+ghost use Rattle.std.specs.Option.{ForSome};
+ghost use Rattle.cms_world.specs.Seen.{OnUnits, seen};
+ghost use Rattle.cms_fields.specs.Entries.{fan_of};
+ghost use Rattle.cms_fields.specs.Limits.{most_bytes, most_records};
+ghost use Rattle.cms_fields.specs.Numbers.{up};
+ghost use Rattle.cms_model.specs.Records.{Fits, stored};
+ghost use Rattle.cms_model.specs.Sizes.{pointer_count};
+ghost use Rattle.cms_draft.specs.BlockWriting.{AddsOwnBlocks, CanWrite, Finishes, IsSame, came};
+ghost use Rattle.cms_draft.specs.Drafting.{Drafts, IsDrafting, IsFresh, Puts, marks_in};
+
+use crate::block_writer::BlockWriter;
+use crate::shape::DraftShape;
+use byteorder::{BigEndian, ByteOrder};
+use cms_held::{TreeBlocks, pointer_size};
+use cms_journal::BlockSize;
+use cms_names::Format;
+use cms_world::{Failed, World};
+use std::alloc::{AllocError, Global};
+use std::marker::Model;
+
+/// A file of which records are put one after another, each data block written as soon as it is whole. It holds the numbers of its blocks,
+/// one data block, and a pointer block for each level.
+#[derive(Drop)]
+pub struct FileWriter {
+    shape: DraftShape,
+    // the records that were put
+    put: u32,
+    writer: BlockWriter,
+}
+
+impl Model for FileWriter {
+    ghost use Rattle.cms_draft.specs.Drafting.{Drafting, IsDrafting};
+
+    ghost Value = { Drafting };
+
+    ghost view = { λ d. record { shape = d.shape; put = d.put; writer = d.writer } };
+
+    ghost invariant = { λ d. IsDrafting (record { shape = d.shape; put = d.put; writer = d.writer }) };
+}
+
+impl FileWriter {
+    /// A file of which no record is put yet, on a unit with blocks of `bsize` bytes, in these blocks: the data
+    /// blocks for its bytes, and the pointer blocks over them. It takes all the memory that writing the file needs.
+    pub fn new(
+        alloc: Global,
+        unit: u8,
+        bsize: BlockSize,
+        shape: &DraftShape,
+        tree: TreeBlocks,
+    ) -> Result<FileWriter, AllocError>
+        requires some { 1 ≤ shape.now.bytes }
+        requires bytes { shape.now.bytes ≤ most_bytes }
+        requires records { shape.now.count ≤ most_records }
+        requires leaves { length tree.leaves ≡ up shape.now.bytes bsize }
+        requires pointers { length tree.pointers ≡ pointer_count (fan_of bsize shape.now.format) (length tree.leaves) }
+        ensures { IfOk result (IsFresh unit bsize shape.now tree) }
+    {
+        let writer = BlockWriter::new(
+            alloc,
+            unit,
+            bsize,
+            pointer_size(shape.format),
+            shape.bytes as u32,
+            tree,
+        )?;
+        Ok(FileWriter {
+            shape: *shape,
+            put: 0,
+            writer,
+        })
+    }
+
+    /// What the file is to be.
+    pub fn shape(&self) -> &DraftShape
+        ensures shape { result.now ≡ self.now.shape }
+        ensures kept { IsDrafting self.now }
+    {
+        &self.shape
+    }
+
+    /// How many records are still to be put.
+    pub fn records_left(&self) -> u32
+        ensures { self.now.put + result ≡ self.now.shape.count }
+    {
+        self.shape.count - self.put
+    }
+
+    /// How many bytes are still to be stored: at V with the two of each record's length.
+    pub fn bytes_left(&self) -> u32
+        ensures { came self.now.writer + result ≡ self.now.writer.size }
+    {
+        self.writer.size - self.writer.came()
+    }
+
+    /// Puts the next record: writes each data block that is whole with it, and the pointer blocks that are complete with that.
+    ///
+    /// It takes no memory. `Failed` where the device did; the file is of no more use then.
+    pub fn put<W: World>(&mut self, world: &mut W, text: &[u8]) -> Result<(), Failed>
+        requires fewer { self.old.put < self.old.shape.count }
+        requires fits { Fits self.old.shape.format self.old.shape.length text.now }
+        requires room { came self.old.writer + length (stored self.old.shape.format (text.now ∷ [])) ≤ self.old.writer.size }
+        requires ready { ForSome (W.told world.old) (λ j. CanWrite j.units self.old.writer) }
+        ensures puts { (records more : List (List ℕ)) → Drafts self.old records (text.now ∷ more)
+            → Puts (W.told world.old) (W.told world.new) self.old self.new records text.now more result }
+        ensures all { OnOk result (came self.new.writer ≡ came self.old.writer + length (stored self.old.shape.format (text.now ∷ []))) }
+        ensures same { IsSame self.old.writer self.new.writer }
+        ensures shape { self.new ≡ record self.old { put = self.old.put + 1; writer = self.new.writer } }
+        ensures own { AddsOwnBlocks (W.told world.old) (W.told world.new) self.old.writer }
+        ensures kept { IsDrafting self.old }
+        ensures is { IsDrafting self.new }
+        ensures still { ForSome (W.told world.new) (λ j. CanWrite j.units self.new.writer) }
+        ensures counts { OnUnits (seen W.World world.old) (seen W.World world.new) result }
+    {
+        self.put += 1;
+        match self.shape.format {
+            Format::F => self.writer.append(world, text),
+            Format::V => {
+                self.writer.begin();
+                let mut size = [0; 2];
+                BigEndian::write_u16(&mut size, text.len() as u16);
+                match self.writer.append(world, &size) {
+                    Ok(()) => self.writer.append(world, text),
+                    Err(Failed) => Err(Failed),
+                }
+            }
+        }
+    }
+
+    /// Writes what is left behind the last record: the last data block, with zeros behind its bytes, and the pointer blocks that are
+    /// complete with it.
+    ///
+    /// It takes no memory. `Failed` where the device did.
+    pub fn finish<W: World>(self, world: &mut W) -> Result<TreeBlocks, Failed>
+        requires records { self.put ≡ self.shape.count }
+        requires bytes { came self.writer ≡ self.writer.size }
+        requires ready { ForSome (W.told world.old) (λ j. CanWrite j.units self.writer) }
+        ensures finishes { (records : List (List ℕ)) → Drafts self records []
+            → Finishes (W.told world.old) (W.told world.new) self.writer (stored self.shape.format records) (marks_in self records) result }
+        ensures tree { IfOk result (λ tree. tree ≡ self.writer.tree) }
+        ensures kept { IsDrafting self }
+        ensures own { AddsOwnBlocks (W.told world.old) (W.told world.new) self.writer }
+        ensures counts { OnUnits (seen W.World world.old) (seen W.World world.new) result }
+    {
+        let mut writer = self.writer;
+        match writer.finish(world) {
+            Ok(()) => Ok(writer.tree),
+            Err(Failed) => Err(Failed),
+        }
+    }
+}

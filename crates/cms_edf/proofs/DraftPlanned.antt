@@ -1,0 +1,288 @@
+-- A file that is planned for a volume fits in.
+use Rattle.std.proofs.Common.{◌≡◌, ◌⊎◌, inl, inr, ⊎_elim, ℕ, zero, suc, get_or, ◌+◌, ◌-◌, ◌*◌, ◌/◌, ◌^◌, ◌<◌, ◌≤◌, Bool, true, false, not, List, [], ◌∷◌, ◌++◌, length, map, take, set, position, slice_get, All, Option, None, Some, refl, sym, ◌∙◌, ap, subst, arith, length-append, mul-pos, mul_comm}
+use Rattle.std.specs.Prelude.{nat_le, nat_lt, ◌&&◌, ◌||◌, ◌==◌, if◌then◌else◌}
+use Rattle.std.proofs.lemmas.Bool.{and_from, le-leb, eq-eqb, cases_Bool, cases_lt, ltb-true, ltb-false}
+use Rattle.std.proofs.lemmas.List.{length-map, length-set, map-append, map-set}
+use Rattle.std.proofs.lemmas.List.Elements.{All-nil, All-cons, All-set, All-append, All-take}
+use Rattle.cms_journal.specs.Journal.{IsBlockSize}
+use Rattle.cms_names.specs.declared.name.Name.{Name}
+use Rattle.cms_names.specs.declared.name.Format.{Format}
+use Rattle.cms_names.specs.declared.name.Format.TheVariants.{F, V}
+use Rattle.cms_names.specs.Names.{is_between}
+use Rattle.cms_fields.specs.Entries.{counts_fit, fan_of, length_fits, levels_fit, passes}
+use Rattle.cms_fields.specs.Limits.{longest_record, most_bytes, most_files, most_records}
+use Rattle.cms_fields.specs.Numbers.{up}
+use Rattle.cms_fields.specs.Stamps.{is_stamp}
+use Rattle.cms_fields.specs.declared.entry.Entry.{Entry}
+use Rattle.cms_fields.specs.declared.time.Stamp.{Stamp}
+use Rattle.cms_model.specs.Lists.{In, times}
+use Rattle.cms_model.specs.Minidisks.{same_name}
+use Rattle.cms_model.specs.Sizes.{levels, pointer_count, tree_size}
+use Rattle.cms_model.proofs.Quotients.{up_below, up_some, up_spec}
+use Rattle.cms_model.proofs.Repeats.{held_from, in_from, times_append}
+use Rattle.cms_model.proofs.Shapes.{shape_least}
+use Rattle.cms_map.specs.Bits.{HasFixed, free_blocks}
+use Rattle.cms_map.proofs.Free.{free_are_unused}
+use Rattle.cms_held.proofs.Renewals.{all_of}
+use Rattle.cms_held.specs.Kept.{Keeps}
+use Rattle.cms_held.specs.Opening.{HeldFile, HeldTree, HeldVolume, names_in}
+use Rattle.cms_held.specs.Systems.{Systems}
+use Rattle.cms_held.specs.Written.{CanWrite}
+use Rattle.cms_held.specs.Renewing.{Edit, IsAllotted, blocks_in, entries_held, fresh, needed}
+use Rattle.cms_held.specs.Carrying.{IsReadyFor}
+use Rattle.cms_held.specs.Putting.{AreFree, IsPutOf, adding, adds, count_put, count_with, limit_put, need_put, replaces, replacing}
+use Rattle.cms_held.proofs.MapMarks.{take_fewer}
+use Rattle.cms_draft.specs.declared.shape.DraftShape.{DraftShape}
+use Rattle.cms_edf.specs.declared.allotment.Allotment.{Allotment}
+use Rattle.cms_edf.specs.FileDrafts.{CanDraft, GivenAt, IsAllottedSo, IsFilePlanned, IsFilled, IsPlaceIn, IsSized, entries_with, entry_for, file_for, files_with}
+use Rattle.cms_edf.proofs.Planned.{can_write_all, entries_count, named_at}
+
+-- ---- the entries
+
+pub each_with : (es : List Entry) (place : Option ℕ) (e : Entry) → All CanWrite es → CanWrite e → All CanWrite (entries_with es place e)
+each_with es None e all own = All-append CanWrite es (e ∷ []) all (All-cons CanWrite e [] own (All-nil CanWrite))
+each_with es (Some place) e all own = All-set CanWrite es place e own all
+
+count_entries : (es : List Entry) (place : Option ℕ) (e : Entry) → length (entries_with es place e) ≡ count_with place (length es)
+count_entries es None e = length-append es (e ∷ [])
+count_entries es (Some place) e = length-set es place e
+
+pub count_held : (fs : List HeldFile) (place : Option ℕ) (e : Entry) → length (entries_with (entries_held fs) place e) ≡ count_with place (length fs)
+count_held fs place e = count_entries (entries_held fs) place e ∙ ap (count_with place) (entries_count fs)
+
+-- ---- an entry passes its tests
+
+pub limits : (files records bytes : ℕ) → limit_put files records bytes ≡ None → (files ≤ most_files) × (records ≤ most_records) × (bytes ≤ most_bytes)
+limits files records bytes none = first (nat_lt most_files files) (nat_lt most_records records) (nat_lt most_bytes bytes) refl refl refl none
+  where
+    first : (a b c : Bool) → nat_lt most_files files ≡ a → nat_lt most_records records ≡ b → nat_lt most_bytes bytes ≡ c
+        → (let o : Option ℕ = if a then Some 1 else if b then Some 2 else if c then Some 3 else None in o ≡ None) → (files ≤ most_files) × (records ≤ most_records) × (bytes ≤ most_bytes)
+    first true b c is is' is'' e = absurd (cc)
+    first false true c is is' is'' e = absurd (cc)
+    first false false true is is' is'' e = absurd (cc)
+    first false false false is is' is'' e = (ltb-false most_files files is, ltb-false most_records records is', ltb-false most_bytes bytes is'')
+
+between : (low high n : ℕ) → low ≤ n → n ≤ high → is_between low high n ≡ true
+between low high n small large = and_from (nat_le low n) (nat_le n high) (le-leb low n small) (le-leb n high large)
+
+few_blocks : (size bytes : ℕ) → IsBlockSize size → bytes ≤ most_bytes → up bytes size ≤ most_bytes / size
+few_blocks size bytes (inl is) low = subst (λ (b : ℕ). up bytes b ≤ most_bytes / b) (sym is) (let s = (up_spec bytes 512 (omega arith)).1 in omega arith)
+few_blocks size bytes (inr (inl is)) low = subst (λ (b : ℕ). up bytes b ≤ most_bytes / b) (sym is) (let s = (up_spec bytes 1024 (omega arith)).1 in omega arith)
+few_blocks size bytes (inr (inr (inl is))) low = subst (λ (b : ℕ). up bytes b ≤ most_bytes / b) (sym is) (let s = (up_spec bytes 2048 (omega arith)).1 in omega arith)
+few_blocks size bytes (inr (inr (inr is))) low = subst (λ (b : ℕ). up bytes b ≤ most_bytes / b) (sym is) (let s = (up_spec bytes 4096 (omega arith)).1 in omega arith)
+
+wide_fan : (size : ℕ) (format : Format) → IsBlockSize size → 2 ≤ fan_of size format
+wide_fan size F is = omega (arith, is)
+wide_fan size V is = omega (arith, is)
+
+some_bytes : (format : Format) (size count bytes : ℕ) → IsSized format size count bytes → 1 ≤ size → 1 ≤ count → 1 ≤ bytes
+some_bytes F size count bytes is low some = subst (λ (n : ℕ). 1 ≤ n) (sym is) (mul-pos low some)
+some_bytes V size count bytes is low some = omega arith
+
+pub some_stored : (shape : DraftShape) → CanDraft shape → 1 ≤ shape.bytes
+some_stored shape can = some_bytes shape.format shape.length shape.count shape.bytes can.sized can.low can.some
+
+lengths : (format : Format) (e : Entry) → e.format ≡ format → 1 ≤ e.length → e.length ≤ longest_record → length_fits e ≡ true
+unfolding length_fits
+lengths F e is low high = rw is (between 1 longest_record e.length low high)
+lengths V e is low high = rw is refl
+
+counts : (bsize : ℕ) (format : Format) (e : Entry) (bytes : ℕ) → IsBlockSize bsize → e.format ≡ format → IsSized format e.length e.count bytes → 1 ≤ e.count → e.count ≤ most_records → 1 ≤ bytes
+    → bytes ≤ most_bytes → e.blocks ≡ up bytes bsize → counts_fit bsize e ≡ true
+unfolding counts_fit
+counts bsize F e bytes size is sized some many low high blocks =
+    let product : e.count * e.length ≡ bytes = mul_comm e.count e.length ∙ sym sized in
+    rw (is, product) (and_from (is_between 1 most_records e.count) (nat_le bytes most_bytes && (e.blocks == up bytes bsize)) (between 1 most_records e.count some many)
+    (and_from (nat_le bytes most_bytes) (e.blocks == up bytes bsize) (le-leb bytes most_bytes high) (eq-eqb e.blocks (up bytes bsize) blocks)))
+counts bsize V e bytes size is sized some many low high blocks =
+    let least : 1 ≤ e.blocks = subst (λ (n : ℕ). 1 ≤ n) (sym blocks) (up_some bytes bsize (omega (arith, size)) low) in
+    let most : e.blocks ≤ most_bytes / bsize = subst (λ (n : ℕ). n ≤ most_bytes / bsize) (sym blocks) (few_blocks bsize bytes size high) in
+    rw is (and_from (is_between 1 most_records e.count) (is_between 1 (most_bytes / bsize) e.blocks) (between 1 most_records e.count some many) (between 1 (most_bytes / bsize) e.blocks least most))
+
+shapes : (bsize : ℕ) (e : Entry) → 2 ≤ fan_of bsize e.format → e.blocks < 2 ^ 32 → e.levels ≡ levels (fan_of bsize e.format) e.blocks → levels_fit bsize e ≡ true
+unfolding levels_fit
+shapes bsize e wide few is = (shape_least (fan_of bsize e.format) e.blocks e.levels wide few).1 is
+
+all_pass : (bsize : ℕ) (e : Entry) → nat_le e.number 6 ≡ true → length_fits e ≡ true → counts_fit bsize e ≡ true → levels_fit bsize e ≡ true → is_stamp e.stamp ≡ true → passes bsize e ≡ true
+unfolding passes
+all_pass bsize e number length' count level stamp =
+    and_from (nat_le e.number 6 && length_fits e && counts_fit bsize e && levels_fit bsize e) (is_stamp e.stamp)
+    (and_from (nat_le e.number 6 && length_fits e && counts_fit bsize e) (levels_fit bsize e)
+    (and_from (nat_le e.number 6 && length_fits e) (counts_fit bsize e) (and_from (nat_le e.number 6) (length_fits e) number length') count) level) stamp
+
+pub entry_passes : (bsize : ℕ) (name : Name) (shape : DraftShape) (tree : HeldTree) → IsBlockSize bsize → CanDraft shape → shape.count ≤ most_records → shape.bytes ≤ most_bytes
+    → length tree.leaves ≡ up shape.bytes bsize → passes bsize (entry_for bsize name shape tree) ≡ true
+entry_passes bsize name shape tree size can many high leaves =
+    let e = entry_for bsize name shape tree in
+    let some = some_stored shape can in
+    let low : 1 ≤ bsize = omega (arith, size) in
+    let tight = (up_spec shape.bytes bsize low).1 in
+    let few : up shape.bytes bsize ≤ shape.bytes = up_below shape.bytes bsize low in
+    all_pass bsize e (le-leb shape.number 6 can.number) (lengths shape.format e refl can.low can.high)
+    (counts bsize shape.format e shape.bytes size refl can.sized can.some many some high leaves)
+    (shapes bsize e (wide_fan bsize shape.format size) (omega arith) refl) can.stamp
+
+-- ---- the blocks
+
+-- what is taken was free
+taken_free : (v : HeldVolume) (files : ℕ) (given taken : List ℕ) (directory map : HeldTree) (bits : List Bool) → IsAllotted v files given taken directory map bits → AreFree v taken
+taken_free v files given taken directory map bits a n =
+    let all : times n (fresh taken directory map) ≡ times n (take (length (fresh taken directory map)) (free_blocks v.bits)) = ap (times n) a.lowest in
+    let fewer = take_fewer (length (fresh taken directory map)) (free_blocks v.bits) n in
+    let both = times_append n taken (fresh [] directory map) in
+    omega arith
+
+free_late : (v : HeldVolume) → Keeps v → HasFixed v.bits → (n : ℕ) → In n (free_blocks v.bits) → (6 ≤ n) × (n ≤ v.label.blocks)
+free_late v kept fixed n is_free =
+    let f = (free_are_unused v.bits n).0 is_free in
+    let low = f.0 in
+    let high = f.1 in
+    let count = kept.bits_are in (
+      ⊎_elim
+          (λ (early : n < 6). absurd (clash (get_or v.bits (n - 1) true) (get_or v.bits (n - 1) false) (same_bit v.bits (n - 1) (omega arith)) f.2 (fixed n f.0 (omega arith) f.1)))
+          (λ (late : 6 ≤ n). late)
+          (cases_lt n 6),
+      omega arith,
+    )
+  where
+    clash : (a b : Bool) → a ≡ b → a ≡ false → b ≡ true → ⊥
+    clash a b same is is' = let e : false ≡ true = sym is ∙ same ∙ is' in absurd (cc)
+
+    same_bit : (bits : List Bool) (k : ℕ) → k < length bits → get_or bits k true ≡ get_or bits k false
+    same_bit [] k less = absurd (omega arith)
+    same_bit (b ∷ bits) zero less = refl
+    same_bit (b ∷ bits) (suc k) less = same_bit bits k (omega arith)
+
+taken_within : (v : HeldVolume) (files : ℕ) (given taken : List ℕ) (directory map : HeldTree) (bits : List Bool) → Keeps v → HasFixed v.bits → IsAllotted v files given taken directory map bits
+    → All (λ n. (6 ≤ n) × (n ≤ v.label.blocks)) taken
+taken_within v files given taken directory map bits kept fixed a = all_of (λ n. (6 ≤ n) × (n ≤ v.label.blocks)) taken (λ n some.
+    let fewer = taken_free v files given taken directory map bits a n in
+    free_late v kept fixed n (in_from n (free_blocks v.bits) (held_from n (free_blocks v.bits) (omega arith))))
+
+-- ---- what is planned
+
+pub record Parts (v : HeldVolume) (name : Name) (asked : DraftShape) (stamp : Stamp) (place : Option ℕ) (tree : HeldTree) (a : Allotment) (e : Entry) (s : Systems) : Type 0 where
+  pub kept : Keeps v
+  pub size : IsBlockSize v.disk.bsize
+  pub stamped : is_stamp stamp ≡ true
+  pub can : CanDraft asked
+  pub at : place ≡ position (same_name name) (names_in v.files)
+  pub fixed : HasFixed v.bits
+  pub unlimited : limit_put (count_put v name) asked.count asked.bytes ≡ None
+  pub blocks : tree.leaves ++ tree.pointers ≡ a.file.items
+  pub leaves : length tree.leaves ≡ up asked.bytes v.disk.bsize
+  pub count : length a.file.items ≡ length tree.leaves + pointer_count (fan_of v.disk.bsize asked.format) (length tree.leaves)
+  pub entry : e ≡ entry_for v.disk.bsize name asked tree
+  pub allotted : (given : List ℕ) → GivenAt v.files place given → IsAllotted v (count_with place (length v.files)) given a.file.items a.directory a.map_tree a.map
+  pub room : length a.file.items + needed v (count_with place (length v.files)) ≤ length (free_blocks v.bits)
+  pub filled : IsFilled v (entries_with (entries_held v.files) place e) a stamp s
+
+-- an edit of the files that puts the new one in the place
+record Edits (v : HeldVolume) (g : HeldFile) (place : Option ℕ) : Type 0 where
+  edit : Edit
+  put : IsPutOf v g edit
+  given : GivenAt v.files place edit.given
+  taken : edit.taken ≡ blocks_in g.tree
+  files : edit.files ≡ files_with v.files place g
+  entries : entries_held edit.files ≡ entries_with (entries_held v.files) place g.entry
+  count : length edit.files ≡ count_with place (length v.files)
+
+same_some : (a b : HeldFile) → Some a ≡ Some b → a ≡ b
+same_some a b e = cc e
+
+edits : (v : HeldVolume) (g : HeldFile) (place : Option ℕ) → place ≡ position (same_name g.entry.name) (names_in v.files) → Edits v g place
+edits v g None at = record {
+  edit = adding v.files g;
+  put = adds (sym at);
+  given = refl;
+  taken = refl;
+  files = refl;
+  entries = map-append (λ (f : HeldFile). f.entry) v.files (g ∷ []);
+  count = length-append v.files (g ∷ []);
+}
+edits v g (Some k) at =
+    let n = named_at v.files g.entry.name k (sym at) in
+    record {
+      edit = replacing v.files k n.file g;
+      put = replaces k n.file n.there n.named;
+      given = λ f there. ap (λ (x : HeldFile). blocks_in x.tree) (same_some n.file f (sym n.there ∙ there));
+      taken = refl;
+      files = refl;
+      entries = map-set (λ (f : HeldFile). f.entry) v.files k g;
+      count = length-set v.files k g;
+    }
+
+pub planned_parts : (v : HeldVolume) (name : Name) (asked : DraftShape) (stamp : Stamp) (place : Option ℕ) (tree : HeldTree) (a : Allotment) (e : Entry) (s : Systems)
+    → Parts v name asked stamp place tree a e s → IsFilePlanned v name asked stamp tree s
+unfolding tree_size
+planned_parts v name asked stamp place tree a e s p =
+    let g = file_for v.disk.bsize name asked tree in
+    let d = edits v g place p.at in
+    let l = limits (count_put v name) asked.count asked.bytes p.unlimited in
+    let files : count_put v name ≡ count_with place (length v.files) = ap (λ (o : Option ℕ). count_with o (length v.files)) (sym p.at) in
+    let few = l.0 in
+    let count = d.count in
+    let all = p.allotted d.edit.given d.given in
+    let f = p.filled in
+    let same : a.file.items ≡ d.edit.taken = sym p.blocks ∙ sym d.taken in
+    let allotted : IsAllotted v (length d.edit.files) d.edit.given d.edit.taken s.directory s.map s.bits =
+    rw (d.count, f.directory_is, f.map_is, f.bits_are) (subst (λ (t : List ℕ). IsAllotted v (count_with place (length v.files)) d.edit.given t a.directory a.map_tree a.map) same all) in
+    let entries : entries_held d.edit.files ≡ entries_with (entries_held v.files) place e = d.entries ∙ ap (entries_with (entries_held v.files) place) (sym p.entry) in
+    let long = length-append tree.leaves tree.pointers in
+    let whole : length (tree.leaves ++ tree.pointers) ≡ length a.file.items = ap (λ (t : List ℕ). length t) p.blocks in
+    let number = p.count in
+    let more : needed v (count_put v name) ≡ needed v (count_with place (length v.files)) = ap (needed v) files in
+    let leaves = p.leaves in
+    let nodes : pointer_count (fan_of v.disk.bsize asked.format) (length tree.leaves) ≡ pointer_count (fan_of v.disk.bsize asked.format) (up asked.bytes v.disk.bsize) =
+    ap (pointer_count (fan_of v.disk.bsize asked.format)) p.leaves in
+    let room = p.room in
+    record {
+      asked = p.can;
+      edit = d.edit;
+      put = d.put;
+      files_are = d.files ∙ ap (λ (o : Option ℕ). files_with v.files o g) p.at;
+      few = omega arith;
+      ready = record {
+        kept = p.kept;
+        stamped = p.stamped;
+        planned = record {
+          blocks = allotted;
+          label = f.label;
+          label_bytes = f.label_bytes;
+          directory_bytes = rw entries f.directory_bytes;
+        };
+        long = f.long;
+        back = rw entries f.back;
+      };
+      label_long = f.label_long;
+      passes_all = entry_passes v.disk.bsize name asked tree p.size p.can l.1 l.2 p.leaves;
+      leaves_are = p.leaves;
+      pointers_are = omega arith;
+      free = subst (AreFree v) (sym p.blocks) (taken_free v (count_with place (length v.files)) d.edit.given a.file.items a.directory a.map_tree a.map all);
+      within = subst (All (λ n. (6 ≤ n) × (n ≤ v.label.blocks))) (sym p.blocks)
+          (taken_within v (count_with place (length v.files)) d.edit.given a.file.items a.directory a.map_tree a.map p.kept p.fixed all);
+      unlimited = p.unlimited;
+      room = omega arith;
+    }
+
+-- ---- for the code
+
+pub need_is : (v : HeldVolume) (name : Name) (format : Format) (bytes bsize count nodes : ℕ) (place : Option ℕ) → bsize ≡ v.disk.bsize → count ≡ up bytes bsize → nodes ≡ pointer_count (fan_of bsize format) count
+    → place ≡ position (same_name name) (names_in v.files) → count + nodes + needed v (count_with place (length v.files)) ≡ need_put v name format bytes
+unfolding tree_size
+need_is v name format bytes bsize count nodes place size is pointers at =
+    let more : needed v (count_with place (length v.files)) ≡ needed v (count_put v name) = ap (λ (o : Option ℕ). needed v (count_with o (length v.files))) at in
+    let leaves : count ≡ up bytes v.disk.bsize = is ∙ ap (up bytes) size in
+    let above : nodes ≡ pointer_count (fan_of v.disk.bsize format) (up bytes v.disk.bsize) =
+    pointers ∙ ap (λ (b : ℕ). pointer_count (fan_of b format) count) size ∙ ap (pointer_count (fan_of v.disk.bsize format)) leaves in
+    omega arith
+
+pub some_given : (v : HeldVolume) (name : Name) (place : Option ℕ) → place ≡ position (same_name name) (names_in v.files) → (given : List ℕ) × GivenAt v.files place given
+some_given v name None at = ([], refl)
+some_given v name (Some k) at =
+    let n = named_at v.files name k (sym at) in
+    (blocks_in n.file.tree, λ f there. ap (λ (x : HeldFile). blocks_in x.tree) (same_some n.file f (sym n.there ∙ there)))
+
+-- a limit that is passed, or none
+pub count_files : (v : HeldVolume) (name : Name) (place : Option ℕ) (files : ℕ) → place ≡ position (same_name name) (names_in v.files) → files ≡ count_with place (length v.files) → files ≡ count_put v name
+count_files v name place files at is = is ∙ ap (λ (o : Option ℕ). count_with o (length v.files)) at

@@ -1,0 +1,140 @@
+use Rattle.std.proofs.Common.{◌≡◌, ◌++◌, ℕ, List, [], length, position, Ok, Err, OnOk, refl, sym, ◌∙◌, ap, subst}
+use Rattle.std.specs.Prelude.{⊤}
+use Rattle.cms_journal.specs.Journal.{HasBlocks, IsBlockSize, IsWritable}
+use Rattle.cms_journal.specs.declared.event.Attached.{Attached}
+use Rattle.cms_tree.proofs.Own.{own_grown}
+use Rattle.cms_tree.proofs.Stepping.{units_kept}
+use Rattle.cms_held.specs.Opening.{HeldVolume}
+use Rattle.cms_held.specs.Renewing.{Edit, renewed}
+use Rattle.cms_held.specs.Systems.{system_writes}
+use Rattle.cms_model.specs.Settled.{writes}
+use Rattle.cms_held.proofs.Fronts.{on_ok}
+use Rattle.cms_draft.specs.declared.shape.DraftShape.{DraftShape}
+use Rattle.cms_edf.specs.FileDrafts.{FileDraft, IsCommitted, IsSomeDraft, LeadsToFile, files_with, tree_of}
+use Rattle.cms_edf.specs.declared.doubt.Doubt.{Doubt}
+use Rattle.cms_edf.specs.declared.doubt.Doubt.TheVariants.{Old}
+use Rattle.cms_edf.proofs.Committed.{both_cause, can_write, commit_keeps, committed_at, events_behind, events_failed, grown_behind, same_files, system_there}
+use Rattle.cms_edf.proofs.committing.commit.Goals as goal
+
+pub finish-requires-clause-ready : goal.finish-requires-clause-ready
+finish-requires-clause-ready g c = λ j told.
+    let v = c.args.held.now.volume in
+    let s = c.draft.inside in
+    let d : FileDraft = record { entry = s.entry; writer = s.writer; systems = s.systems } in
+    let some : IsSomeDraft v d = subst (IsSomeDraft v) (sym c.draft.view_is) c.requires.plan in
+    can_write j.units v d some (c.requires.blocks j told) (c.requires.writable j told)
+
+pub carry_file-requires-clause-kept : goal.carry_file-requires-clause-kept
+carry_file-requires-clause-kept g c = λ edit files.
+    let v = c.args.held.now.volume in
+    let s = c.draft.inside in
+    let d : FileDraft = record { entry = s.entry; writer = s.writer; systems = s.systems } in
+    let some : IsSomeDraft v d = subst (IsSomeDraft v) (sym c.draft.view_is) c.requires.plan in
+    let size : IsBlockSize v.disk.bsize = subst IsBlockSize some.is.bsize_is c.shape.ensures.kept.writer.size in
+    commit_keeps v d some edit size (files ∙ same_files v d some c.in-Ok.tree c.shape.result.now.length c.shape-2.result.now.bytes c.in-Ok.ensures.tree
+    (ap (λ (x : DraftShape). x.length) c.shape.ensures.shape) (ap (λ (x : DraftShape). x.bytes) c.shape-2.ensures.shape))
+
+pub carry_file-requires-clause-blocks : goal.carry_file-requires-clause-blocks
+carry_file-requires-clause-blocks g c = λ j told.
+    let v = c.args.held.now.volume in
+    let s = c.draft.inside in
+    let d : FileDraft = record { entry = s.entry; writer = s.writer; systems = s.systems } in
+    let some : IsSomeDraft v d = subst (IsSomeDraft v) (sym c.draft.view_is) c.requires.plan in
+    let old = g.W.World.told c.args.world.now in
+    let mid = g.W.World.told c.finish.new.world in
+    let grown = own_grown old mid s.writer.writer.unit s.writer.writer.bsize (s.writer.writer.tree.leaves ++ s.writer.writer.tree.pointers) c.finish.ensures.own in
+    system_there j.units v d some (units_kept (λ (units : List Attached). HasBlocks units v.unit v.disk.count v.disk.bsize) old mid grown c.requires.blocks j told)
+
+pub carry_file-requires-clause-writable : goal.carry_file-requires-clause-writable
+carry_file-requires-clause-writable g c = λ j told.
+    let v = c.args.held.now.volume in
+    let s = c.draft.inside in
+    let old = g.W.World.told c.args.world.now in
+    let mid = g.W.World.told c.finish.new.world in
+    let grown = own_grown old mid s.writer.writer.unit s.writer.writer.bsize (s.writer.writer.tree.leaves ++ s.writer.writer.tree.pointers) c.finish.ensures.own in
+    units_kept (λ (units : List Attached). IsWritable units v.unit) old mid grown c.requires.writable j told
+
+pub returns-in-Ok-clause-events : goal.returns-in-Ok-clause-events
+returns-in-Ok-clause-events g c =
+    let v = c.args.held.now.volume in
+    let s = c.draft.inside in
+    let d : FileDraft = record { entry = s.entry; writer = s.writer; systems = s.systems } in
+    let some : IsSomeDraft v d = subst (IsSomeDraft v) (sym c.draft.view_is) c.requires.plan in
+    let old = g.W.World.told c.args.world.now in
+    let mid = g.W.World.told c.finish.new.world in
+    rw (← c.draft.view_is) (λ records h.
+    let f = c.in-Ok.ensures.finishes records h in
+    record { rest = f.0; left = record { is = f.2 }; events = events_behind old mid (g.W.World.told c.carry_file.new.world) v d f.0 c.carry_file.result some f.1 c.carry_file.ensures.done c.carry_file.ensures.cut_off })
+
+pub returns-in-Ok-clause-volume : goal.returns-in-Ok-clause-volume
+returns-in-Ok-clause-volume g c =
+    let v = c.args.held.now.volume in
+    let s = c.draft.inside in
+    let d : FileDraft = record { entry = s.entry; writer = s.writer; systems = s.systems } in
+    let w = c.carry_file.new.self.volume in
+    rw (← c.draft.view_is) (on_ok c.carry_file.result _ (LeadsToFile v d w) (λ leads name shape stamp p.
+    leads p.file.edit (p.file.files_are ∙ sym (same_files v d (record { name = name; shape = shape; stamp = stamp; is = p }) c.in-Ok.tree c.shape.result.now.length c.shape-2.result.now.bytes c.in-Ok.ensures.tree
+    (ap (λ (x : DraftShape). x.length) c.shape.ensures.shape) (ap (λ (x : DraftShape). x.bytes) c.shape-2.ensures.shape)))) c.carry_file.ensures.volume)
+
+pub returns-in-Ok-clause-commits : goal.returns-in-Ok-clause-commits
+returns-in-Ok-clause-commits g c =
+    let v = c.args.held.now.volume in
+    let s = c.draft.inside in
+    let d : FileDraft = record { entry = s.entry; writer = s.writer; systems = s.systems } in
+    let some : IsSomeDraft v d = subst (IsSomeDraft v) (sym c.draft.view_is) c.requires.plan in
+    let old = g.W.World.told c.args.world.now in
+    let mid = g.W.World.told c.finish.new.world in
+    let new = g.W.World.told c.carry_file.new.world in
+    let w = c.carry_file.new.self.volume in
+    let r = c.carry_file.result in
+    let leads : OnOk r (w ≡ renewed v some.is.file.edit d.systems) = on_ok r _ (w ≡ renewed v some.is.file.edit d.systems) (λ leads.
+    leads some.is.file.edit (some.is.file.files_are ∙ sym (same_files v d some c.in-Ok.tree c.shape.result.now.length c.shape-2.result.now.bytes c.in-Ok.ensures.tree
+    (ap (λ (x : DraftShape). x.length) c.shape.ensures.shape) (ap (λ (x : DraftShape). x.bytes) c.shape-2.ensures.shape)))) c.carry_file.ensures.volume in
+    rw (← c.draft.view_is) (λ j m records told held h longest stands.
+    let f = c.in-Ok.ensures.finishes records h in
+    let events : IsCommitted old new v d records r =
+    record { rest = f.0; left = record { is = f.2 }; events = events_behind old mid new v d f.0 r some f.1 c.carry_file.ensures.done c.carry_file.ensures.cut_off } in
+    committed_at j old new v w m d some records r told held c.shape.ensures.kept h longest stands events leads)
+
+pub returns-in-Ok-clause-counts : goal.returns-in-Ok-clause-counts
+returns-in-Ok-clause-counts g c = record {
+  cause = both_cause (g.W.World.faults c.args.world.now) (g.W.World.faults c.finish.new.world) (g.W.World.faults c.carry_file.new.world) c.in-Ok.tree c.finish.result c.carry_file.result
+      c.finish.ensures.counts.cause c.carry_file.ensures.counts.cause;
+  edges = c.carry_file.ensures.counts.edges ∙ c.finish.ensures.counts.edges;
+}
+
+pub returns-in-Err-clause-events : goal.returns-in-Err-clause-events
+returns-in-Err-clause-events g c =
+    let v = c.args.held.now.volume in
+    let s = c.draft.inside in
+    let d : FileDraft = record { entry = s.entry; writer = s.writer; systems = s.systems } in
+    let some : IsSomeDraft v d = subst (IsSomeDraft v) (sym c.draft.view_is) c.requires.plan in
+    let old = g.W.World.told c.args.world.now in
+    let mid = g.W.World.told c.finish.new.world in
+    rw (← c.draft.view_is) (λ records h.
+    let f = c.in-Err.ensures.finishes records h in
+    record { rest = f.0; left = record { is = f.2 }; events = events_failed old mid v d f.0 some f.1 })
+
+pub returns-in-Err-clause-commits : goal.returns-in-Err-clause-commits
+returns-in-Err-clause-commits g c =
+    let v = c.args.held.now.volume in
+    let s = c.draft.inside in
+    let d : FileDraft = record { entry = s.entry; writer = s.writer; systems = s.systems } in
+    let some : IsSomeDraft v d = subst (IsSomeDraft v) (sym c.draft.view_is) c.requires.plan in
+    let old = g.W.World.told c.args.world.now in
+    let mid = g.W.World.told c.finish.new.world in
+    rw (← c.draft.view_is) (λ j m records told held h longest stands.
+    let f = c.in-Err.ensures.finishes records h in
+    let events : IsCommitted old mid v d records (Err Old) = record { rest = f.0; left = record { is = f.2 }; events = events_failed old mid v d f.0 some f.1 } in
+    committed_at j old mid v v m d some records (Err Old) told held c.shape.ensures.kept h longest stands events tt)
+
+pub returns-in-Ok-clause-grown : goal.returns-in-Ok-clause-grown
+returns-in-Ok-clause-grown g c =
+    let own = c.finish.ensures.own in
+    let told = g.W.World.told in
+    grown_behind (told c.args.world.now) (told c.finish.new.world) (told c.carry_file.new.world) (writes c.draft.inside.writer.writer.unit own.part) c.args.held.now.volume.unit
+    (system_writes (length c.draft.inside.systems.label_bytes) c.draft.inside.systems) c.draft.inside.systems.label_bytes c.carry_file.result own.told c.carry_file.ensures.done
+    c.carry_file.ensures.cut_off
+
+pub returns-in-Err-clause-grown : goal.returns-in-Err-clause-grown
+returns-in-Err-clause-grown g c = let own = c.finish.ensures.own in record { events = writes c.draft.inside.writer.writer.unit own.part; told = own.told }

@@ -1,0 +1,31 @@
+use Rattle.std.proofs.Common.{◌≡◌, ◌+◌, ◌++◌, ◌∷◌, [], ℕ, List, length, refl, sym, ◌∙◌, ap}
+use Rattle.cms_draft.specs.BlockWriting.{came}
+use Rattle.cms_draft.specs.Drafting.{Drafting}
+use Rattle.cms_draft.proofs.FilePuts.{stored_long}
+use Rattle.cms_edf.specs.FileDrafts.{FileDraft}
+use Rattle.cms_edf.proofs.DraftPut.{planned_still, stands_then, stays_held}
+use Rattle.cms_edf.proofs.draft.Draft.put.Goals as goal
+
+pub returns-clause-aside : goal.returns-clause-aside
+returns-clause-aside g c =
+    let s = c.self.inside in
+    let d : FileDraft = record { entry = s.entry; writer = s.writer; systems = s.systems } in
+    rw (← c.self.view_is) (λ j v m told held some. stays_held j (g.W.World.told c.args.world.now) (g.W.World.told c.put.new.world) v m d told held some c.put.ensures.own)
+
+pub returns-clause-stands : goal.returns-clause-stands
+returns-clause-stands g c =
+    let s = c.self.inside in
+    let d : FileDraft = record { entry = s.entry; writer = s.writer; systems = s.systems } in
+    let e = c.put.ensures in
+    let room = rw (← c.self.view_is) at c.requires.room in
+    rw (← c.self.view_is) (λ j v m records more told held some drafts stands.
+    stands_then j (g.W.World.told c.args.world.now) (g.W.World.told c.put.new.world) v m d c.put.new.self records more c.args.text.now c.put.result told held some e.kept e.is e.same
+    (ap (λ (x : Drafting). x.shape) e.shape) room
+    (sym (stored_long d.writer.shape.format records c.args.text.now (came d.writer.writer) drafts.came_is)) drafts (e.puts records more drafts) stands)
+
+pub returns-clause-planned : goal.returns-clause-planned
+returns-clause-planned g c =
+    let s = c.self.inside in
+    let d : FileDraft = record { entry = s.entry; writer = s.writer; systems = s.systems } in
+    let e = c.put.ensures in
+    rw (← c.self.view_is) (λ v some. planned_still v d c.put.new.self e.same (ap (λ (x : Drafting). x.shape) e.shape) some)

@@ -1,0 +1,348 @@
+// A file that is put into a volume while its records come.
+ghost use Rattle.std.specs.Prelude.{◌≡◌, ℕ, List, ◌≤◌, ◌<◌, ◌+◌, ◌^◌, ◌++◌, ◌∷◌, [], true, None, Some, length, position, IfOk, IfErr, OnOk};
+ghost use Rattle.cms_journal.specs.Journal.{IsBlockSize};
+ghost use Rattle.cms_fields.specs.Entries.{fan_of};
+ghost use Rattle.cms_fields.specs.Limits.{most_bytes, most_files, most_records};
+ghost use Rattle.cms_fields.specs.Numbers.{up};
+ghost use Rattle.cms_fields.specs.Stamps.{is_stamp};
+ghost use Rattle.cms_model.specs.Sizes.{levels, pointer_count};
+ghost use Rattle.cms_map.specs.Bits.{HasFixed, free_blocks};
+ghost use Rattle.cms_held.specs.Kept.{Keeps};
+ghost use Rattle.cms_held.specs.Putting.{count_put, count_with, limit_put, need_put};
+ghost use Rattle.cms_held.specs.Renewing.{IsAllotted, entries_held, needed};
+ghost use Rattle.cms_held.specs.Written.{CanWrite};
+ghost use Rattle.cms_edf.specs.FileDrafts.{CanDraft, DraftStands, GivenAt, IsSomeDraft, StandsThen, StaysHeld, IsAllottedSo, IsDraftFor, IsFilled, IsPlaceIn, IsRefused, entries_with, entry_for, tree_of};
+ghost use Rattle.std.specs.Option.{ForSome};
+ghost use Rattle.cms_world.specs.Seen.{OnUnits, seen};
+ghost use Rattle.cms_journal.specs.Journal.{Journal};
+ghost use Rattle.cms_model.specs.Minidisks.{Minidisk};
+ghost use Rattle.cms_model.specs.Records.{Fits, stored};
+ghost use Rattle.cms_held.specs.Carrying.{IsHeldMinidisk};
+ghost use Rattle.cms_draft.specs.BlockWriting.{AddsOwnBlocks, CanWrite as CanWriteBlocks, IsSame, came};
+ghost use Rattle.cms_draft.specs.Drafting.{Drafts, IsFresh, Puts};
+ghost use Rattle.cms_model.specs.Minidisks.{same_name};
+ghost use Rattle.cms_held.specs.Opening.{HeldVolume, names_in};
+ghost use Rattle.cms_edf.specs.Lacking.{LacksRoom};
+
+use crate::allotment::{Allotment, PlanFault, allot};
+use crate::blocks::copied;
+use crate::change::entries_held;
+use crate::directory_bytes::root;
+use crate::held::{Held, TreeBlocks};
+use crate::planning::fill_systems;
+use crate::system_blocks::SystemBlocks;
+use cms_draft::{DraftShape, FileWriter};
+use cms_fields::{Entry, Stamp};
+use cms_held::pointer_size;
+use cms_journal::BlockSize;
+use cms_names::Name;
+use cms_tree::shape;
+use cms_world::{Failed, World};
+use std::alloc::{AllocError, Global};
+use std::marker::Model;
+
+const MOST_FILES: u32 = 16_384;
+
+const MOST_RECORDS: u32 = 1_048_576;
+
+const MOST_BYTES: u64 = 67_108_864;
+
+/// A file that is put into a volume while its records come. It holds the numbers of the file's blocks, one of its data blocks, one block
+/// for each level over them, and all that is written then for the volume.
+#[derive(Drop)]
+pub struct Draft {
+    pub(crate) entry: Entry,
+    pub(crate) writer: FileWriter,
+    pub(crate) systems: SystemBlocks,
+}
+
+impl Model for Draft {
+    ghost use Rattle.cms_edf.specs.FileDrafts.{FileDraft};
+
+    ghost Value = { FileDraft };
+
+    ghost view = { λ d. record { entry = d.entry; writer = d.writer; systems = d.systems } };
+}
+
+// How many blocks a file takes, and its levels.
+#[derive(Clone, Copy)]
+struct FileCounts {
+    data: u32,
+    pointers: u32,
+    levels: u8,
+}
+
+fn count_blocks(bsize: BlockSize, asked: &DraftShape) -> FileCounts
+    requires some { 1 ≤ asked.now.bytes }
+    requires few { asked.now.bytes ≤ most_bytes }
+    ensures size { IsBlockSize bsize }
+    ensures data { result.data ≡ up asked.now.bytes bsize }
+    ensures pointers { result.pointers ≡ pointer_count (fan_of bsize asked.now.format) result.data }
+    ensures levels { result.levels ≡ levels (fan_of bsize asked.now.format) result.data }
+    ensures some { 1 ≤ result.data }
+    ensures small { result.data + result.pointers < 2 ^ 31 }
+{
+    let data = (asked.bytes as u32).div_ceil(bsize.bytes());
+    let tree = shape(data, bsize.bytes() / u32::from(pointer_size(asked.format)));
+    FileCounts {
+        data,
+        pointers: tree.pointers,
+        levels: tree.levels,
+    }
+}
+
+// The lowest limit that is passed: 1 by the files, 2 by the file's records, 3 by its bytes.
+fn passed_limit(files: u32, asked: &DraftShape) -> Option<u32>
+    ensures { result ≡ limit_put files asked.now.count asked.now.bytes }
+{
+    if files > MOST_FILES {
+        Some(1)
+    } else if asked.count > MOST_RECORDS {
+        Some(2)
+    } else if asked.bytes > MOST_BYTES {
+        Some(3)
+    } else {
+        None
+    }
+}
+
+// Blocks for a file, in the place of one or as the last, and for the directory and the map.
+fn allot_file(
+    alloc: Global,
+    held: &Held,
+    place: Option<u32>,
+    blocks: u32,
+) -> Result<Allotment, PlanFault>
+    requires place { IsPlaceIn held.now.volume.files place }
+    requires few { count_with place (length held.now.volume.files) ≤ 16384 }
+    requires small { blocks < 2 ^ 31 }
+    ensures allotted { IfOk result (λ a. (given : List ℕ) → GivenAt held.now.volume.files place given
+        → IsAllotted held.now.volume (count_with place (length held.now.volume.files)) given a.file.items a.directory a.map_tree a.map) }
+    ensures file { IfOk result (λ a. length a.file.items ≡ blocks) }
+    ensures map_few { IfOk result (λ a. length a.map_tree.leaves < 2 ^ 32) }
+    ensures room { OnOk result (blocks + needed held.now.volume (count_with place (length held.now.volume.files))
+        ≤ length (free_blocks held.now.volume.bits)) }
+    ensures fixed { HasFixed held.now.volume.bits }
+    ensures full { IfErr result (LacksRoom held.now.volume
+        (blocks + needed held.now.volume (count_with place (length held.now.volume.files)))) }
+{
+    match place {
+        Some(place) => {
+            let tree = held.files[place as usize].tree();
+            allot(
+                alloc,
+                held,
+                held.count(),
+                blocks,
+                tree.leaves(),
+                tree.pointers(),
+            )
+        }
+        None => allot(alloc, held, held.count() + 1, blocks, &[], &[]),
+    }
+}
+
+// A tree of these blocks, of which the first so many are its data blocks.
+fn tree_in(alloc: Global, blocks: &[u32], count: u32) -> Result<TreeBlocks, AllocError>
+    requires { count ≤ length blocks.now }
+    ensures blocks { IfOk result (λ t. t.leaves ++ t.pointers ≡ blocks.now) }
+    ensures count { IfOk result (λ t. length t.leaves ≡ count) }
+{
+    let (leaves, pointers) = blocks.split_at(count as usize);
+    Ok(TreeBlocks {
+        leaves: copied(alloc, leaves)?,
+        pointers: copied(alloc, pointers)?,
+    })
+}
+
+// The entry of a file over a tree of so many levels.
+fn entry_for(name: &Name, asked: &DraftShape, tree: &TreeBlocks, height: u8) -> Entry
+    requires some { 1 ≤ length tree.now.leaves }
+    requires few { length tree.now.leaves < 2 ^ 32 }
+    ensures { (bsize : ℕ) → height ≡ levels (fan_of bsize asked.now.format) (length tree.now.leaves)
+        → result ≡ entry_for bsize name.now asked.now tree.now }
+{
+    Entry {
+        name: *name,
+        number: asked.number,
+        format: asked.format,
+        length: asked.length,
+        root: root(tree.leaves(), tree.pointers()),
+        blocks: tree.leaves().len() as u32,
+        count: asked.count,
+        levels: height,
+        stamp: asked.stamp,
+    }
+}
+
+// The entries of the files with another in a place, or behind them.
+fn entries_with(
+    alloc: Global,
+    held: &Held,
+    place: Option<u32>,
+    entry: &Entry,
+) -> Result<Vec<Entry>, AllocError>
+    requires { IsPlaceIn held.now.volume.files place }
+    ensures entries { IfOk result (λ v. v.items ≡ entries_with (entries_held held.now.volume.files) place entry.now) }
+    ensures kept { Keeps held.now.volume }
+{
+    let mut entries = entries_held(alloc, &held.files)?;
+    match place {
+        Some(place) => entries[place as usize] = *entry,
+        None => entries.push(*entry)?,
+    }
+    Ok(entries)
+}
+
+// What is written for the files with this one in a place, or as the last, in the blocks that are allotted.
+fn plan_entry(
+    alloc: Global,
+    held: &Held,
+    place: Option<u32>,
+    entry: &Entry,
+    allotment: Allotment,
+    stamp: &Stamp,
+) -> Result<SystemBlocks, AllocError>
+    requires stamp { is_stamp stamp.now ≡ true }
+    requires place { IsPlaceIn held.now.volume.files place }
+    requires few { count_with place (length held.now.volume.files) ≤ 16384 }
+    requires entry { CanWrite entry.now }
+    requires allotted { IsAllottedSo held.now.volume (count_with place (length held.now.volume.files)) allotment }
+    requires map_few { length allotment.map_tree.leaves < 2 ^ 32 }
+    ensures { IfOk result (IsFilled held.now.volume (entries_with (entries_held held.now.volume.files) place entry.now)
+        allotment stamp.now) }
+{
+    let entries = entries_with(alloc, held, place, entry)?;
+    fill_systems(alloc, held, &entries, allotment, stamp)
+}
+
+// Plans a file that passes no limit, in the place of one or as the last.
+fn plan_file(
+    alloc: Global,
+    held: &Held,
+    place: Option<u32>,
+    name: &Name,
+    asked: &DraftShape,
+    stamp: &Stamp,
+) -> Result<Draft, PlanFault>
+    requires stamp { is_stamp stamp.now ≡ true }
+    requires asked { CanDraft asked.now }
+    requires place { place ≡ position (same_name name.now) (names_in held.now.volume.files) }
+    requires unlimited { limit_put (count_put held.now.volume name.now) asked.now.count asked.now.bytes ≡ None }
+    ensures planned { IfOk result (IsDraftFor held.now.volume name.now asked.now stamp.now) }
+    ensures fresh { IfOk result (λ d. IsFresh held.now.volume.unit held.now.volume.disk.bsize asked.now (tree_of d) d.writer) }
+    ensures full { IfErr result (LacksRoom held.now.volume
+        (need_put held.now.volume name.now asked.now.format asked.now.bytes)) }
+{
+    let counts = count_blocks(held.bsize, asked);
+    let allotment = match allot_file(alloc, held, place, counts.data + counts.pointers) {
+        Ok(allotment) => allotment,
+        Err(why) => return Err(why),
+    };
+    let Ok(tree) = tree_in(alloc, &allotment.file, counts.data) else {
+        return Err(PlanFault::Memory);
+    };
+    let entry = entry_for(name, asked, &tree, counts.levels);
+    let Ok(systems) = plan_entry(alloc, held, place, &entry, allotment, stamp) else {
+        return Err(PlanFault::Memory);
+    };
+    let Ok(writer) = FileWriter::new(alloc, held.unit, held.bsize, asked, tree) else {
+        return Err(PlanFault::Memory);
+    };
+    Ok(Draft {
+        entry,
+        writer,
+        systems,
+    })
+}
+
+/// Plans a file of a name that is to have so many records and stored bytes: all that it writes but its own blocks, and all memory that the
+/// update needs. It takes the place of the file of that name, or stands last. Nothing is written, and the volume stays as it is held.
+///
+/// `Limit` comes exactly where the file would pass one, the lowest of them; else `Full` exactly where it needs more blocks than are free.
+pub fn plan_draft(
+    alloc: Global,
+    held: &mut Held,
+    name: &Name,
+    asked: &DraftShape,
+    stamp: &Stamp,
+) -> Result<Draft, PlanFault>
+    requires stamp { is_stamp stamp.now ≡ true }
+    requires asked { CanDraft asked.now }
+    ensures planned { IfOk result (IsDraftFor held.old.volume name.now asked.now stamp.now) }
+    ensures some { IfOk result (IsSomeDraft held.new.volume) }
+    ensures fresh { IfOk result (λ d. IsFresh held.old.volume.unit held.old.volume.disk.bsize asked.now (tree_of d) d.writer) }
+    ensures refused { IfErr result (IsRefused held.old.volume name.now asked.now) }
+    ensures kept { Keeps held.old.volume }
+    ensures volume { held.new.volume ≡ held.old.volume }
+    ensures spare { OnOk result (1 ≤ held.new.spare) }
+    ensures places { held.old.spare ≤ held.new.spare }
+{
+    let place = held.find(name);
+    let files = match place {
+        Some(_) => held.count(),
+        None => held.count() + 1,
+    };
+    if let Some(which) = passed_limit(files, asked) {
+        return Err(PlanFault::Limit(which));
+    }
+    let Ok(()) = held.reserve() else {
+        return Err(PlanFault::Memory);
+    };
+    plan_file(alloc, held, place, name, asked, stamp)
+}
+
+impl Draft {
+    /// What the file is to be.
+    pub fn shape(&self) -> &DraftShape
+        ensures { result.now ≡ self.now.writer.shape }
+    {
+        self.writer.shape()
+    }
+
+    /// How many records are still to be put.
+    pub fn records_left(&self) -> u32
+        ensures { self.now.writer.put + result ≡ self.now.writer.shape.count }
+    {
+        self.writer.records_left()
+    }
+
+    /// How many bytes are still to be stored: at V with the two of each record's length.
+    pub fn bytes_left(&self) -> u32
+        ensures { came self.now.writer.writer + result ≡ self.now.writer.writer.size }
+    {
+        self.writer.bytes_left()
+    }
+
+    /// Puts the next record: writes each data block that is whole with it, and the pointer blocks that are complete with that. These were
+    /// free, so the minidisk stays as it is.
+    ///
+    /// It takes no memory. `Failed` where the device did; the draft is of no more use then.
+    pub fn put<W: World>(&mut self, world: &mut W, text: &[u8]) -> Result<(), Failed>
+        requires fewer { self.old.writer.put < self.old.writer.shape.count }
+        requires fits { Fits self.old.writer.shape.format self.old.writer.shape.length text.now }
+        requires room { came self.old.writer.writer + length (stored self.old.writer.shape.format (text.now ∷ []))
+            ≤ self.old.writer.writer.size }
+        requires ready { ForSome (W.told world.old) (λ j. CanWriteBlocks j.units self.old.writer.writer) }
+        ensures puts { (records more : List (List ℕ)) → Drafts self.old.writer records (text.now ∷ more)
+            → Puts (W.told world.old) (W.told world.new) self.old.writer self.new.writer records text.now more result }
+        ensures own { AddsOwnBlocks (W.told world.old) (W.told world.new) self.old.writer.writer }
+        ensures aside { (j : Journal) (v : HeldVolume) (m : Minidisk) → W.told world.old ≡ Some j → IsHeldMinidisk j v m
+            → IsSomeDraft v self.old → StaysHeld j (W.told world.new) v m }
+        ensures stands { (j : Journal) (v : HeldVolume) (m : Minidisk) (records more : List (List ℕ)) → W.told world.old ≡ Some j
+            → IsHeldMinidisk j v m → IsSomeDraft v self.old → Drafts self.old.writer records (text.now ∷ more)
+            → DraftStands j self.old.writer (records ++ (text.now ∷ more))
+            → StandsThen (W.told world.new) self.old.writer self.new.writer (records ++ (text.now ∷ more)) result }
+        ensures all { OnOk result (came self.new.writer.writer
+            ≡ came self.old.writer.writer + length (stored self.old.writer.shape.format (text.now ∷ []))) }
+        ensures same { IsSame self.old.writer.writer self.new.writer.writer }
+        ensures draft { self.new ≡ record self.old {
+          writer = record self.old.writer { put = self.old.writer.put + 1; writer = self.new.writer.writer };
+        } }
+        ensures planned { (v : HeldVolume) → IsSomeDraft v self.old → IsSomeDraft v self.new }
+        ensures still { ForSome (W.told world.new) (λ j. CanWriteBlocks j.units self.new.writer.writer) }
+        ensures counts { OnUnits (seen W.World world.old) (seen W.World world.new) result }
+    {
+        self.writer.put(world, text)
+    }
+}

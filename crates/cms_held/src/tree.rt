@@ -1,0 +1,47 @@
+// The blocks of a tree as they are held.
+ghost use Rattle.std.specs.Prelude.{◌≡◌};
+ghost use Rattle.cms_fields.specs.Entries.{pointer_size};
+
+use cms_names::Format;
+use std::marker::Model;
+
+/// The blocks of a tree: its data blocks in order, and its pointer blocks.
+#[derive(Drop)]
+pub struct TreeBlocks {
+    pub leaves: Vec<u32>,
+    pub pointers: Vec<u32>,
+}
+
+impl Model for TreeBlocks {
+    ghost use Rattle.cms_held.specs.Opening.{HeldTree};
+
+    ghost Value = { HeldTree };
+
+    ghost view = { λ t. record { leaves = t.leaves.items; pointers = t.pointers.items } };
+}
+
+impl TreeBlocks {
+    /// Its data blocks, in order.
+    pub fn leaves(&self) -> &[u32]
+        ensures { result.now ≡ self.now.leaves }
+    {
+        &self.leaves
+    }
+
+    /// Its pointer blocks.
+    pub fn pointers(&self) -> &[u32]
+        ensures { result.now ≡ self.now.pointers }
+    {
+        &self.pointers
+    }
+}
+
+/// The bytes of a pointer to a block of a file of this format.
+pub fn pointer_size(format: Format) -> u8
+    ensures { result ≡ pointer_size format }
+{
+    match format {
+        Format::F => 4,
+        Format::V => 12,
+    }
+}
