@@ -50,7 +50,7 @@ expect 'no turns' 2 output 'cms: words refused, reason 3' -t 0 191,512,ro,disk.i
 expect 'no zone' 2 output 'cms: words refused, reason 4' -z E1500 191,512,ro,disk.img
 expect 'a device twice' 2 error 'device 191' 191,512,ro,disk.img 191,512,ro,disk.img
 expect 'no seed' 2 output 'cms: words refused, reason 6' -g x 191,512,ro,disk.img
-expect 'two units' 6 error '' 191,512,ro,disk.img 192,512,ro,disk.img
+expect 'two units' 0 output '' 191,512,ro,disk.img 192,512,ro,disk.img
 expect 'a generated script' 6 error '' -g 1 191,512,ro,disk.img
 expect 'a missing image' 4 error 'missing.img' 191,512,rw,missing.img
 same 'nothing is typed without an image' ''
@@ -60,7 +60,14 @@ expect 'a device file' 4 error 'plain file' 191,512,ro,/dev/null
 printf 'TYPE HELLO TEXT A\n' >script
 expect 'a file is typed' 0 output 'HELLO' 191,512,ro,disk.img
 same 'a file is typed whole' "$(printf 'HELLO\nWORLD\nR;')"
-printf 'FROB\nTYPE HELLO TEXT A\n' >script
+printf 'FROB\n' >script
+expect 'an unknown command' 0 output 'CMS001E Unknown command FROB' 191,512,ro,disk.img
+cp "$home/examples/format.txt" script
+expect 'an image is made' 0 output 'CMS733I 60 blocks formatted on B (192)' 191,512,ro,disk.img 192,1024,n60,work.img
+printf 'ACCESS 192 B\nQUERY DISK B\n' >script
+expect 'it is found again' 0 output 'WORK01 192 B R/W  1024      0        6       54       60' 191,512,ro,disk.img 192,1024,rw,work.img
+expect 'an image that is there is no new one' 4 error 'work.img' 192,1024,n60,work.img
+printf 'LISTFILE\nTYPE HELLO TEXT A\n' >script
 expect 'a line that is not built' 6 error '' 191,512,ro,disk.img
 same 'nothing runs behind an ended session' ''
 printf '\n\n\nTYPE HELLO TEXT A\n' >script

@@ -25,11 +25,11 @@ use Rattle.cms_operands.specs.Choices.{all_valued, chosen_of, last_among, settin
 use Rattle.cms_operands.specs.Operands.{access_mode, access_mode_in, device, device_of, device_or_letter, ended, given, given_or, hexadecimal_of, letter, letter_or_all, needed, number_within, operands_of}
 use Rattle.cms_operands.specs.Refusals.{message_of}
 use Rattle.cms_search.specs.Asking.{asking}
-use Rattle.cms_search.specs.Machine.{Letter, Machine, Course, Went, DeviceFault, OutOfTurns, typing}
+use Rattle.cms_search.specs.Machine.{Letter, Machine, Course, Went, OutOfTurns, typing}
 use Rattle.cms_search.specs.Searches.{places_from}
 use Rattle.cms_search.specs.declared.state.Device.{Device}
 use Rattle.cms_access.specs.Access.{access, access_operands}
-use Rattle.cms_access.specs.Format.{format, format_operands}
+use Rattle.cms_access.specs.Format.{format, format_operands, goes_on, is_label}
 use Rattle.cms_access.specs.Query.{query, query_operands}
 use Rattle.cms_access.specs.Release.{release, release_operands}
 
@@ -81,7 +81,6 @@ pub record Answer : Type 0 where
 
 abbrev code_in : Close Course → Option ℤ
 code_in (Over (Went s code)) = Some code
-code_in (Over DeviceFault) = None
 code_in (Over OutOfTurns) = None
 code_in WaitsForScript = None
 code_in WaitsForMoment = None
@@ -121,13 +120,13 @@ second_question = codes "CMS605R Enter disk label"
 formatted : formats new_machine (codes "FORMAT 191 A") (text (codes "YES") ∷ text (codes "TEST01") ∷ []) []
     ≡ types (first_question ∷ second_question ∷ codes "CMS733I 9 blocks formatted on A (191)" ∷ []) 0
 unfolding format_operands operands_of needed given device device_of hexadecimal_of letter mode_word_of short_mode_of letter_of ended chosen_of options_of all_valued last_among asking
-    is_keyword ebcdic code_of code_page host_of upper_of character_of is_name_character message_text typed_line tokens_of tokens_from decimal_of written digits moment
+    is_keyword ebcdic code_of code_page host_of upper_of character_of is_name_character goes_on is_label message_text typed_line tokens_of tokens_from decimal_of written digits moment
 formatted = refl
 
 -- the first line that is asked for isn't yes
 refused_to_go_on : formats new_machine (codes "FORMAT 191 A") (text (codes "NO") ∷ []) [] ≡ types (first_question ∷ []) 8
 unfolding format_operands operands_of needed given device device_of hexadecimal_of letter mode_word_of short_mode_of letter_of ended chosen_of options_of all_valued last_among asking
-    is_keyword ebcdic code_of code_page host_of upper_of character_of is_name_character message_text typed_line tokens_of tokens_from
+    is_keyword ebcdic code_of code_page host_of upper_of character_of is_name_character goes_on is_label message_text typed_line tokens_of tokens_from
 refused_to_go_on = refl
 
 -- a line that isn't printable or is too long is dropped, and so is each further piece; small letters and blanks around are taken
@@ -135,20 +134,20 @@ dropped : formats new_machine (codes "FORMAT 191 A") (Bad ∷ Long ∷ Rest ∷ 
     ≡ types (first_question ∷ codes "CMS010E Line has an invalid character" ∷ codes "CMS011E Line is longer than 255 bytes"
     ∷ second_question ∷ codes "CMS062E Name A LABEL is not valid" ∷ []) 20
 unfolding format_operands operands_of needed given device device_of hexadecimal_of letter mode_word_of short_mode_of letter_of ended chosen_of options_of all_valued last_among asking
-    is_keyword ebcdic code_of code_page host_of upper_of character_of is_name_character message_text typed_line tokens_of tokens_from
+    is_keyword ebcdic code_of code_page host_of upper_of character_of is_name_character goes_on is_label message_text typed_line tokens_of tokens_from
 dropped = refl
 
 -- the device fails at the wiping, and at the making
 wiping_failed : formats new_machine (codes "FORMAT 191 A") (text (codes "1") ∷ text (codes "TEST01") ∷ []) (EitherFault After ∷ [])
     ≡ types (first_question ∷ second_question ∷ codes "CMS105E Device fault on 191" ∷ []) 100
 unfolding format_operands operands_of needed given device device_of hexadecimal_of letter mode_word_of short_mode_of letter_of ended chosen_of options_of all_valued last_among asking
-    is_keyword ebcdic code_of code_page host_of upper_of character_of is_name_character message_text typed_line tokens_of tokens_from
+    is_keyword ebcdic code_of code_page host_of upper_of character_of is_name_character goes_on is_label message_text typed_line tokens_of tokens_from
 wiping_failed = refl
 
 making_failed : formats new_machine (codes "FORMAT 191 A") (text (codes "1") ∷ text (codes "TEST01") ∷ []) (Good ∷ OldFault ∷ [])
     ≡ types (first_question ∷ second_question ∷ codes "CMS105E Device fault on 191" ∷ []) 100
 unfolding format_operands operands_of needed given device device_of hexadecimal_of letter mode_word_of short_mode_of letter_of ended chosen_of options_of all_valued last_among asking
-    is_keyword ebcdic code_of code_page host_of upper_of character_of is_name_character message_text typed_line tokens_of tokens_from moment
+    is_keyword ebcdic code_of code_page host_of upper_of character_of is_name_character goes_on is_label message_text typed_line tokens_of tokens_from moment
 making_failed = refl
 
 -- refusals, in their order
@@ -200,7 +199,6 @@ pub record Left : Type 0 where
 
 abbrev left_in : Close Course → Left
 left_in (Over (Went s code)) = record { volid = volid_in (slice_get s.units 0); letters = s.letters }
-left_in (Over DeviceFault) = record { volid = []; letters = [] }
 left_in (Over OutOfTurns) = record { volid = []; letters = [] }
 left_in WaitsForScript = record { volid = []; letters = [] }
 left_in WaitsForMoment = record { volid = []; letters = [] }
@@ -211,7 +209,7 @@ relabelled : (formats (labelled (as_a 0)) (codes "FORMAT 191 A (LABEL") (text (c
     × (left_in (course_of (format (labelled (as_a 0)) (words (codes "FORMAT 191 A (LABEL"))) (text (codes "new") ∷ []) (EitherFault Before ∷ []))
     ≡ record { volid = []; letters = no_letters })
 unfolding format_operands operands_of needed given device device_of hexadecimal_of letter mode_word_of short_mode_of letter_of ended chosen_of options_of options_from all_valued valued
-    setting_in last_among asking is_keyword ebcdic code_of code_page host_of upper_of character_of is_name_character message_text typed_line tokens_of tokens_from moment answer_of
+    setting_in last_among asking is_keyword ebcdic code_of code_page host_of upper_of character_of is_name_character goes_on is_label message_text typed_line tokens_of tokens_from moment answer_of
     limit changed_files written_file is_full free_count used_count directory_more tree_size pointer_count pointers_to levels levels_from map_size need changed
 relabelled = (refl, refl, refl)
 

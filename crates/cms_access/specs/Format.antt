@@ -1,24 +1,25 @@
 -- FORMAT vdev mode [(LABEL] [BLKSIZE n]
-use Rattle.std.specs.Prelude.{ℕ, pos, ◌==◌, ◌&&◌, ◌||◌, Bool, true, nat_lt, if◌then◌else◌, List, [], ◌∷◌, codes, find, length, is_some, map, slice_get, Option, Some, None, Result, Ok}
+use Rattle.std.specs.Prelude.{ℕ, pos, ◌==◌, ◌&&◌, ◌||◌, Bool, true, nat_lt, if◌then◌else◌, List, [], ◌∷◌, codes, length, is_some, map, slice_get, slice_set, Option, Some, None, Result, Ok}
 use Rattle.std.specs.List.{list_all}
-use Rattle.std.specs.Option.{option_map}
+use Rattle.std.specs.Option.{option_and_then, option_map}
 use Rattle.cms_ebcdic.specs.CodePage.{upper_of}
 use Rattle.cms_names.specs.Names.{is_between, is_name_character}
 use Rattle.cms_fields.specs.Moments.{stamp_of}
 use Rattle.cms_fields.specs.Steps.{◌>>=◌, ◌>>◌}
 use Rattle.cms_text.specs.Numbers.{decimal_of}
 use Rattle.cms_text.specs.Texts.{is_keyword, without_leading_blanks, without_trailing_blanks}
-use Rattle.cms_model.specs.Changes.{Relabel, Answer, Limited, Full, Changed, answer_of, empty_minidisk}
-use Rattle.cms_model.specs.Minidisks.{Minidisk, State, Not}
+use Rattle.cms_model.specs.Changes.{Relabel, empty_minidisk}
+use Rattle.cms_model.specs.Minidisks.{Minidisk, Not}
 use Rattle.cms_machine.specs.Acts.{Act, Done, Out, Does, bind, typed_line}
 use Rattle.cms_machine.specs.Slots.{Slot, state_in}
-use Rattle.cms_machine.specs.Steps.{Step, Put, Wipe, Make, Outcome, is_doubt}
+use Rattle.cms_machine.specs.Steps.{Step, Wipe, Make, Outcome, is_doubt}
 use Rattle.cms_line.specs.Messages.{message_text}
-use Rattle.cms_line.specs.declared.message.Message.TheVariants.{M062, M107, M114, M115, M120, M603, M605, M733}
+use Rattle.cms_line.specs.declared.message.Message.TheVariants.{M062, M114, M115, M603, M605, M733}
 use Rattle.cms_line.specs.declared.token.Token.{Token}
 use Rattle.cms_search.specs.Asking.{Asked, Given, Spent, ask}
+use Rattle.cms_search.specs.ChangeTold.{change_told}
 use Rattle.cms_operands.specs.Choices.{chosen_of, form, last_among}
-use Rattle.cms_search.specs.Machine.{Letter, Machine, Course, Went, OutOfTurns, after_step, letter_at, minidisk_in, refusal}
+use Rattle.cms_search.specs.Machine.{Letter, Machine, Course, Went, OutOfTurns, after_step, letter_at, refusal}
 use Rattle.cms_operands.specs.Operands.{device, ended, letter, needed, operands_of}
 use Rattle.cms_search.specs.Tables.{letter_for}
 use Rattle.cms_operands.specs.declared.choosing.OptionForm.{OptionForm}
@@ -27,8 +28,10 @@ use Rattle.cms_operands.specs.declared.choosing.Parameter.TheVariants as takes
 use Rattle.cms_operands.specs.declared.refusal.Refusal.{Refusal}
 use Rattle.cms_search.specs.declared.state.Device.{Device}
 use Rattle.cms_access.specs.declared.format.FormatLine.{FormatLine}
-use Rattle.cms_search.specs.Refusing.{fault, no_device, no_disk, not_accessed, on_line, read_only, unless_fault}
-use Rattle.cms_search.specs.Releasing.{left_by, released, seated, unit_with}
+use Rattle.cms_access.specs.declared.format.Formatting.{Formatting}
+use Rattle.cms_search.specs.Refusing.{no_device, no_disk, not_accessed, on_line, read_only, unless_fault}
+use Rattle.cms_search.specs.Releasing.{left_by, released, unit_with, vdev_of}
+use Rattle.cms_search.specs.Stepping.{changing}
 use Rattle.cms_search.specs.Telling.{device_text, left_in, letter_text}
 
 -- ---- the line
@@ -59,17 +62,12 @@ relabels bsize words = do
 
 -- the block size of a device, where a unit has it
 abbrev pub size_of : List Device → ℕ → Option ℕ
-size_of devices vdev = option_map (λ d. d.bsize) (find (λ d. d.vdev == vdev) devices)
+size_of devices vdev = option_map (λ d. d.bsize) (option_and_then (λ u. slice_get devices u) (unit_with vdev devices))
 
--- a line with what its options say
-pub record Formatting : Type 0 where
-  pub line : FormatLine
-  pub relabels : Bool
-
-abbrev pub format_line : Machine → List Token → Result Formatting Refusal
-format_line s words = do
+abbrev pub format_line : List Device → List Token → Result Formatting Refusal
+format_line devices words = do
   line ← format_operands (operands_of words)
-  label ← relabels (size_of s.devices line.vdev) words
+  label ← relabels (size_of devices line.vdev) words
   Ok (record { line = line; relabels = label })
 
 -- ---- the two questions
@@ -78,119 +76,137 @@ format_line s words = do
 abbrev pub reply : List ℕ → List ℕ
 reply line = without_leading_blanks (without_trailing_blanks (map upper_of line))
 
-abbrev pub goes_on : List ℕ → Bool
+unfoldable pub goes_on : List ℕ → Bool
 goes_on text = is_keyword (codes "YES") text || is_keyword (codes "1") text
 
 -- 1 to 6 name characters
-abbrev pub is_label : List ℕ → Bool
+unfoldable pub is_label : List ℕ → Bool
 is_label text = is_between 1 6 (length text) && list_all is_name_character text
 
-abbrev pub with_label : (Machine → List ℕ → Act Course) → Machine → List ℕ → Act Course
-with_label next s text = if is_label text then next s (left_in 6 text) else refusal s (M062 text) 20
+-- what the question for the volume id comes to: one of 6 places, with the machine that is left; or the command ends so
+pub data Labelling : Type 0 where
+  Labelled : Machine → List ℕ → Labelling
+  Ended : Course → Labelling
 
-abbrev pub on_label : (Machine → List ℕ → Act Course) → Asked → Act Course
-on_label next (Given s line) = with_label next s (reply line)
-on_label next Spent = Done OutOfTurns
+abbrev pub labelled : Machine → List ℕ → Act Labelling
+labelled s text =
+    if is_label text then Done (Labelled s (left_in 6 text))
+    else bind (refusal s (M062 text) 20) (λ course. Done (Ended course))
 
--- the volume id is asked for, in 6 places
-abbrev pub asking_label : Machine → (Machine → List ℕ → Act Course) → Act Course
-asking_label s next = Out (typed_line (message_text M605)) (bind (ask s) (on_label next))
+abbrev pub on_label : Asked → Act Labelling
+on_label (Given s line) = labelled s (reply line)
+on_label Spent = Done (Ended OutOfTurns)
 
-abbrev pub on_reply : (Machine → List ℕ → Act Course) → Asked → Act Course
-on_reply next (Given s line) = if goes_on (reply line) then asking_label s next else Done (Went s (pos 8))
+-- the volume id is asked for
+abbrev pub asking_label : Machine → Act Labelling
+asking_label s = Out (typed_line (message_text M605)) (bind (ask s) on_label)
+
+abbrev pub with_label : (Machine → List ℕ → Act Course) → Labelling → Act Course
+with_label next (Labelled s volid) = next s volid
+with_label next (Ended course) = Done course
+
+abbrev pub on_reply : (Machine → Act Course) → Asked → Act Course
+on_reply next (Given s line) = if goes_on (reply line) then next s else Done (Went s (pos 8))
 on_reply next Spent = Done OutOfTurns
 
-abbrev pub asking_first : Machine → ℕ → ℕ → (Machine → List ℕ → Act Course) → Act Course
-asking_first s n vdev next = Out (typed_line (message_text (M603 (letter_text n) (device_text vdev)))) (bind (ask s) (on_reply next))
+-- whether all files are to be erased is asked for
+abbrev pub asking_first : Machine → FormatLine → (Machine → Act Course) → Act Course
+asking_first s line next =
+    Out (typed_line (message_text (M603 (letter_text line.letter) (device_text line.vdev)))) (bind (ask s) (on_reply next))
+
+-- ---- the unit of a device
+
+abbrev pub in_slot : Machine → ℕ → (ℕ → Device → Slot → Act Course) → ℕ → Option Device → Option Slot → Act Course
+in_slot s vdev next u (Some d) (Some slot) = next u d slot
+in_slot s vdev next u (Some d) None = no_device s vdev
+in_slot s vdev next u None slot = no_device s vdev
+
+abbrev pub in_place : Machine → ℕ → (ℕ → Device → Slot → Act Course) → Option ℕ → Act Course
+in_place s vdev next None = no_device s vdev
+in_place s vdev next (Some u) = in_slot s vdev next u (slice_get s.devices u) (slice_get s.units u)
+
+-- goes on with the unit that has a device: its place, its device and what is on it
+abbrev pub on_device : Machine → ℕ → (ℕ → Device → Slot → Act Course) → Act Course
+on_device s vdev next = in_place s vdev next (unit_with vdev s.devices)
 
 -- ---- an empty volume is made
 
--- the new disk is accessed as the letter
-abbrev pub finished : Machine → ℕ → ℕ → ℕ → ℕ → Act Course
-finished s u n vdev blocks =
-    Out (typed_line (message_text (M733 (decimal_of blocks) (letter_text n) (device_text vdev))))
-    (Done (Went (seated n (letter_for u true n None) s) (pos 0)))
+-- the new disk is accessed as the letter, which has none
+abbrev pub accessed : ℕ → ℕ → Machine → Machine
+accessed u n s = record s { letters = slice_set s.letters n (Some (letter_for u true n None)) }
 
-abbrev pub made : Machine → ℕ → ℕ → ℕ → ℕ → Outcome → Act Course
-made s u n vdev blocks o = unless_fault s n vdev o (finished s u n vdev blocks)
+abbrev pub finished : Machine → ℕ → FormatLine → ℕ → Act Course
+finished s u line blocks =
+    Out (typed_line (message_text (M733 (decimal_of blocks) (letter_text line.letter) (device_text line.vdev))))
+    (Done (Went (accessed u line.letter s) (pos 0)))
 
-abbrev pub making : Machine → ℕ → ℕ → ℕ → Minidisk → Step → Act Course
-making s u n vdev m step = Does step (λ o. made (after_step s step o) u n vdev m.total o)
+abbrev pub made : Machine → ℕ → FormatLine → ℕ → Outcome → Act Course
+made s u line blocks o = unless_fault s line.letter line.vdev o (finished s u line blocks)
+
+abbrev pub making : Machine → ℕ → FormatLine → Minidisk → Step → Act Course
+making s u line m step = Does step (λ o. made (after_step s step o) u line m.total o)
 
 -- a wiped unit is no volume for the second reason, its label
-abbrev pub wiped : Machine → ℕ → ℕ → ℕ → Minidisk → Outcome → Act Course
-wiped s u n vdev m o = unless_fault s n vdev o (making s u n vdev m (Make u (Not 2) m (stamp_of s.moment)))
+abbrev pub wiped : Machine → ℕ → FormatLine → Minidisk → Outcome → Act Course
+wiped s u line m o = unless_fault s line.letter line.vdev o (making s u line m (Make u (Not 2) m (stamp_of s.moment)))
 
-abbrev pub wiping : Machine → ℕ → ℕ → ℕ → Minidisk → Step → Act Course
-wiping s u n vdev m step = Does step (λ o. wiped (after_step s step o) u n vdev m o)
+abbrev pub wiping : Machine → ℕ → FormatLine → Minidisk → Step → Act Course
+wiping s u line m step = Does step (λ o. wiped (after_step s step o) u line m o)
 
 -- the unit and the letter are released first
-abbrev pub remaking : ℕ → ℕ → ℕ → State → Minidisk → Machine → Act Course
-remaking u n vdev old m s = wiping (released n (left_by u s)) u n vdev m (Wipe u old)
+abbrev pub vacated : ℕ → ℕ → Machine → Machine
+vacated u n s = left_by u (released n s)
+
+abbrev pub remaking_in : Machine → FormatLine → List ℕ → ℕ → Device → Slot → Act Course
+remaking_in s line volid u d slot =
+    wiping (vacated u line.letter s) u line (empty_minidisk volid d.bsize d.blocks) (Wipe u (state_in slot))
+
+abbrev pub remaking : FormatLine → Machine → List ℕ → Act Course
+remaking line s volid = on_device s line.vdev (remaking_in s line volid)
+
+-- the volume id is asked for, and the empty volume is made
+abbrev pub erasing : FormatLine → Machine → Act Course
+erasing line s = bind (asking_label s) (with_label (remaking line))
 
 abbrev pub too_small : Machine → ℕ → Act Course
 too_small s vdev = refusal s (M114 (device_text vdev)) no_disk
 
-abbrev pub in_doubt : Machine → ℕ → Act Course
-in_doubt s vdev = refusal s (M115 (device_text vdev)) no_disk
-
--- 115, 037 for a unit that may not be written, 114
-abbrev pub formatting : Machine → ℕ → FormatLine → Device → Slot → Act Course
-formatting s u line d slot =
-    if is_doubt slot then in_doubt s line.vdev
-    else (if d.writable then
-    (if nat_lt d.blocks 8 then too_small s line.vdev
-    else asking_first s line.letter line.vdev
-    (λ s volid. remaking u line.letter line.vdev (state_in slot) (empty_minidisk volid d.bsize d.blocks) s))
-    else read_only s line.letter)
+-- 037 for a unit that may not be written, 114 for one that has fewer than 8 blocks
+abbrev pub formatting : Machine → FormatLine → Device → Act Course
+formatting s line d =
+    if d.writable then (if nat_lt d.blocks 8 then too_small s line.vdev else asking_first s line (erasing line))
+    else read_only s line.letter
 
 -- ---- the volume id is changed
 
--- it needs no room and passes no limit
-abbrev pub relabelled : Machine → ℕ → ℕ → Answer → Act Course
-relabelled s n vdev (Changed m) = Done (Went s (pos 0))
-relabelled s n vdev (Limited k) = refusal s (M120 (decimal_of k)) 40
-relabelled s n vdev (Full need free) = refusal s (M107 (letter_text n) (decimal_of need) (decimal_of free)) fault
+abbrev pub relabelling : ℕ → Machine → List ℕ → Act Course
+relabelling n s volid = bind (changing s n (Relabel volid)) (change_told n)
 
-abbrev pub changed : Machine → ℕ → ℕ → Answer → Outcome → Act Course
-changed s n vdev answer o = unless_fault s n vdev o (relabelled s n vdev answer)
+abbrev pub asking_relabel : ℕ → Machine → Act Course
+asking_relabel n s = bind (asking_label s) (with_label (relabelling n))
 
-abbrev pub changing : Machine → ℕ → ℕ → Answer → Step → Act Course
-changing s n vdev answer step = Does step (λ o. changed (after_step s step o) n vdev answer o)
+abbrev pub relabel_disk : Machine → FormatLine → Letter → Act Course
+relabel_disk s line disk = if disk.read_only then read_only s line.letter else asking_relabel line.letter s
 
-abbrev pub relabelling : ℕ → ℕ → ℕ → Minidisk → Machine → List ℕ → Act Course
-relabelling u n vdev m s volid = changing s n vdev (answer_of m (Relabel volid)) (Put u m (Relabel volid) (stamp_of s.moment))
-
-abbrev pub relabel_volume : Machine → ℕ → FormatLine → Option Minidisk → Act Course
-relabel_volume s u line None = not_accessed s line.letter
-relabel_volume s u line (Some m) = asking_label s (relabelling u line.letter line.vdev m)
-
--- 069 where the unit isn't accessed as that letter, 037
-abbrev pub relabel_on : Machine → ℕ → FormatLine → Option Letter → Act Course
-relabel_on s u line None = not_accessed s line.letter
-relabel_on s u line (Some disk) =
-    if disk.unit == u then
-    (if disk.read_only then read_only s line.letter
-    else relabel_volume s u line (minidisk_in (slice_get s.units u)))
-    else not_accessed s line.letter
-
-abbrev pub relabel : Machine → ℕ → FormatLine → Slot → Act Course
-relabel s u line slot = if is_doubt slot then in_doubt s line.vdev else relabel_on s u line (letter_at s line.letter)
+-- 069 where the device isn't accessed as that letter, 037
+abbrev pub relabel : Machine → FormatLine → Option Letter → Act Course
+relabel s line None = not_accessed s line.letter
+relabel s line (Some disk) = if vdev_of s disk.unit == line.vdev then relabel_disk s line disk else not_accessed s line.letter
 
 -- ---- the command
 
-abbrev pub format_slot : Machine → ℕ → Formatting → Option Device → Option Slot → Act Course
-format_slot s u f (Some d) (Some slot) = if f.relabels then relabel s u f.line slot else formatting s u f.line d slot
-format_slot s u f (Some d) None = no_device s f.line.vdev
-format_slot s u f None slot = no_device s f.line.vdev
+abbrev pub in_doubt : Machine → ℕ → Act Course
+in_doubt s vdev = refusal s (M115 (device_text vdev)) no_disk
 
-abbrev pub format_unit : Machine → Formatting → Option ℕ → Act Course
-format_unit s f None = no_device s f.line.vdev
-format_unit s f (Some u) = format_slot s u f (slice_get s.devices u) (slice_get s.units u)
+-- a unit in doubt is refused
+abbrev pub format_unit : Machine → Formatting → ℕ → Device → Slot → Act Course
+format_unit s f u d slot =
+    if is_doubt slot then in_doubt s f.line.vdev
+    else (if f.relabels then relabel s f.line (letter_at s f.line.letter) else formatting s f.line d)
 
 abbrev pub format_disk : Machine → Formatting → Act Course
-format_disk s f = format_unit s f (unit_with f.line.vdev s.devices)
+format_disk s f = on_device s f.line.vdev (format_unit s f)
 
 -- an empty volume is made on a device, or its volume id is changed
 abbrev pub format : Machine → List Token → Act Course
-format s words = on_line s words (format_disk s) (format_line s words)
+format s words = on_line s words (format_disk s) (format_line s.devices words)

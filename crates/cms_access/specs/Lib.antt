@@ -2,3 +2,6 @@ pub mod Access
 pub mod Release
 pub mod Query
 pub mod Format
+pub mod Questions
+pub mod Remaking
+pub mod Shown

@@ -1,5 +1,5 @@
 -- QUERY DISK [mode or *], QUERY SEARCH
-use Rattle.std.specs.Prelude.{ℕ, pos, ◌-◌, if◌then◌else◌, List, [], ◌∷◌, ◌++◌, codes, count_by, is_some, slice_get, Option, Some, None, Result, Ok, Err}
+use Rattle.std.specs.Prelude.{ℕ, pos, Bool, ◌-◌, if◌then◌else◌, List, [], ◌∷◌, ◌++◌, codes, count_by, is_some, slice_get, Option, Some, None, Result, Ok, Err}
 use Rattle.std.specs.List.{flat_map}
 use Rattle.std.specs.Option.{option_map_or}
 use Rattle.cms_fields.specs.Steps.{◌>>=◌, ◌>>◌}
@@ -58,33 +58,43 @@ query_line words = without_options words (query_operands (operands_of words))
 abbrev pub header : List ℕ
 header = coded (codes "LABEL  VDV M STA BLKSZ  FILES     USED     FREE    TOTAL")
 
-abbrev pub status : Letter → List ℕ
-status disk = ebcdic (if disk.read_only then codes "R/O" else codes "R/W")
+abbrev pub status : Bool → List ℕ
+status read_only = ebcdic (if read_only then codes "R/O" else codes "R/W")
+
+-- label, device, letter, status, block size, files seen, and the blocks that aren't free, that are free, and that there are
+abbrev pub disk_text : ℕ → ℕ → Bool → List ℕ → ℕ → ℕ → ℕ → ℕ → List ℕ
+disk_text n vdev read_only volid bsize files free total = spaced (
+    left_in 6 volid
+    ∷ device_text vdev
+    ∷ letter_text n
+    ∷ status read_only
+    ∷ right_in 5 (decimal_of bsize)
+    ∷ right_in 6 (decimal_of files)
+    ∷ right_in 8 (decimal_of (total - free))
+    ∷ right_in 8 (decimal_of free)
+    ∷ right_in 8 (decimal_of total) ∷ [])
 
 -- the files that are seen on the disk
 abbrev pub seen_count : Letter → Minidisk → ℕ
 seen_count disk m = count_by (λ f. is_seen disk f) m.files
 
--- label, device, letter, status, block size, files seen, and the blocks that aren't free, that are free, and that there are
 abbrev pub disk_line : Machine → ℕ → Letter → Minidisk → List ℕ
-disk_line s n disk m = spaced (
-    left_in 6 m.volid
-    ∷ device_text (vdev_of s disk.unit)
-    ∷ letter_text n
-    ∷ status disk
-    ∷ right_in 5 (decimal_of m.bsize)
-    ∷ right_in 6 (decimal_of (seen_count disk m))
-    ∷ right_in 8 (decimal_of (m.total - free_count m))
-    ∷ right_in 8 (decimal_of (free_count m))
-    ∷ right_in 8 (decimal_of m.total) ∷ [])
+disk_line s n disk m = disk_text n (vdev_of s disk.unit) disk.read_only m.volid m.bsize (seen_count disk m) (free_count m) m.total
+
+-- a letter with its parent
+abbrev pub with_parent : ℕ → Option ℕ → List ℕ
+with_parent n parent = letter_text n ++ option_map_or (λ p. ebcdic (codes "/") ++ letter_text p) parent []
 
 -- label, device, letter with its parent, status
+abbrev pub search_text : ℕ → ℕ → Option ℕ → Bool → List ℕ → List ℕ
+search_text n vdev parent read_only volid = spaced (
+    left_in 6 volid
+    ∷ device_text vdev
+    ∷ left_in 3 (with_parent n parent)
+    ∷ status read_only ∷ [])
+
 abbrev pub search_line : Machine → ℕ → Letter → Minidisk → List ℕ
-search_line s n disk m = spaced (
-    left_in 6 m.volid
-    ∷ device_text (vdev_of s disk.unit)
-    ∷ left_in 3 (letter_text n ++ option_map_or (λ parent. ebcdic (codes "/") ++ letter_text parent) disk.parent [])
-    ∷ status disk ∷ [])
+search_line s n disk m = search_text n (vdev_of s disk.unit) disk.parent disk.read_only m.volid
 
 -- the line of a letter's disk
 abbrev pub line_of : (Machine → ℕ → Letter → Minidisk → List ℕ) → Machine → ℕ → List (List ℕ)

@@ -1,13 +1,15 @@
-// FORMAT.
+// FORMAT's line.
 ghost use Rattle.cms_operands.specs.Choices.{AnswersLine};
 ghost use Rattle.std.specs.Prelude.{◌≡◌};
+ghost use Rattle.cms_search.specs.Shows.{devices_of};
 ghost use Rattle.cms_access.specs.Format as spec;
 
 use cms_line::{Token, Tokens};
 use cms_operands::{
     CommandFault, OptionForm, Parameter, Refusal, chosen_options, device, ended, last_among,
-    letter, needed,
+    letter, needed, operands,
 };
+use cms_search::Table;
 use std::alloc::Global;
 
 /// The largest number that a word writes.
@@ -20,9 +22,17 @@ pub struct FormatLine {
     pub letter: u8,
 }
 
-/// What the operands of FORMAT's line say, the words in front of its options, or why the first of them is refused that is.
+/// What FORMAT's line says.
+#[derive(Clone, Copy, Debug, PartialEq, Eq)]
+pub struct Formatting {
+    pub line: FormatLine,
+    /// only the volume id is changed
+    pub relabels: bool,
+}
+
+// What the operands of FORMAT's line say, the words in front of its options, or why the first of them is refused that is.
 #[tactic(auto, unfolding(crate::specs::Format::format_operands))]
-pub fn format_operands(operands: &[Token]) -> Result<FormatLine, Refusal>
+fn format_operands(operands: &[Token]) -> Result<FormatLine, Refusal>
     ensures { result ≡ spec.format_operands operands.now }
 {
     let vdev = device(1, needed(operands, 1)?)?;
@@ -50,11 +60,27 @@ fn options(bsize: Option<u32>) -> [OptionForm; 2]
     ]
 }
 
-/// Whether FORMAT's line asks that only the volume id is changed, or why an option is refused, where the device has this block size,
-/// or no unit has it.
-pub fn relabels(alloc: Global, bsize: Option<u32>, words: &Tokens) -> Result<bool, CommandFault>
+// Whether FORMAT's line asks that only the volume id is changed, or why an option is refused, where the device has this block size,
+// or no unit has it.
+fn relabels(alloc: Global, bsize: Option<u32>, words: &Tokens) -> Result<bool, CommandFault>
     ensures { AnswersLine (spec.relabels bsize words.now) result }
 {
     let chosen = chosen_options(alloc, &options(bsize), words)?;
     Ok(last_among(&[0], chosen.as_slice()).is_some())
+}
+
+// The block size of a device, where a unit has it.
+fn size_of(table: &Table, vdev: u16) -> Option<u32>
+    ensures { result ≡ spec.size_of (devices_of table.now) vdev }
+{
+    Some(table.unit(vdev)?.bsize.bytes())
+}
+
+/// What FORMAT's line says, or why it is refused; BLKSIZE takes the block size of the device alone, where a unit has it.
+pub fn format_line(alloc: Global, table: &Table, words: &Tokens) -> Result<Formatting, CommandFault>
+    ensures { AnswersLine (spec.format_line (devices_of table.now) words.now) result }
+{
+    let line = format_operands(operands(words.as_slice()))?;
+    let relabels = relabels(alloc, size_of(table, line.vdev), words)?;
+    Ok(Formatting { line, relabels })
 }

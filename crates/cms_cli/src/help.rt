@@ -7,12 +7,13 @@ pub const VERSION: &str = "cms 0.1.0";
 pub const HELP: &str = "\
 cms: CMS minidisks in image files, with their commands.
 
-usage: cms [-t TURNS] [-z ZONE] [-g NUMBER] VDEV,BSIZE,ACCESS,NAME
+usage: cms [-t TURNS] [-z ZONE] [-g NUMBER] VDEV,BSIZE,ACCESS,NAME ..
 
   VDEV    the device: three hexadecimal digits, not 000; 191 becomes disk A
   BSIZE   the bytes of a block of the image: 512, 1024, 2048 or 4096
   ACCESS  ro: the image is only read
           rw: it may be written
+          n and a number of blocks, 8 to 1,048,576: it is made, of zeros
   NAME    the image file: all behind the third comma
 
   -t TURNS   the turns that the session has, 1 to 1,000,000,000; else 1,000,000
@@ -21,11 +22,17 @@ usage: cms [-t TURNS] [-z ZONE] [-g NUMBER] VDEV,BSIZE,ACCESS,NAME
   -g NUMBER  the commands are a generated script, by this number to 2,147,483,647; standard
              input isn't read
 
-A new image (n and its blocks as ACCESS) and more than one unit aren't built yet: status 6.
+There are up to 16 units, no two with one device; their images are attached in their order.
 
 The commands are read from standard input, a line each. What they type goes to standard
 output, and behind each command its ready line: R; or, with a return code, R(00028);
 
+  ACCESS v m     gives the volume of device v the letter m; with m/p, as an extension of p
+  FORMAT v m     makes an empty volume on device v and gives it the letter m, after two questions;
+                 with (LABEL it asks for another label alone
+  QUERY DISK     shows the accessed disks and their room, with a letter that disk alone
+  QUERY SEARCH   shows how disks are searched
+  RELEASE disk   gives up a disk, by its letter or its device
   TYPE fn ft A   types the records of a file
   ERASE fn ft A  erases a file; when its ready line is typed the file is gone for good
   * text         is a comment
@@ -46,8 +53,8 @@ status:
        5  two unit words have one device
        6  NUMBER isn't as above
   3  there is no memory
-  4  an image, the input, the output or the clock failed, or the device did
+  4  an image couldn't be attached, or the input, the output or the clock failed
   5  the turns are spent
-  6  the words or a line ask for what isn't built yet
+  6  a line asks for what isn't built yet
 
 At 2 to 6 a line on standard error says what failed.";

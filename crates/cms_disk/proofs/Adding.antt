@@ -17,14 +17,14 @@ use Rattle.cms_model.specs.declared.file.FileData.{FileData}
 use Rattle.cms_model.proofs.Changing.{name_from, name_self}
 use Rattle.cms_model.proofs.Records.{stored_append}
 use Rattle.cms_machine.specs.Beats.{Covers}
-use Rattle.cms_machine.specs.Slots.{Settled, Slot, set_of}
+use Rattle.cms_machine.specs.Slots.{After, Before, Settled, Side, Slot, set_of}
 use Rattle.cms_machine.specs.Steps.{EitherFault, Good, MayPut, OldFault, Outcome, ReadFault, after_put, put_syncs}
 use Rattle.cms_machine.proofs.Aside.{of_disk}
 use Rattle.cms_held.specs.Opening.{HeldVolume}
 use Rattle.cms_edf.specs.Asking.{infos_in}
 use Rattle.cms_edf.specs.declared.held.FileInfo.{FileInfo}
-use Rattle.cms_disk.specs.Changing.{Alters, Appends, Changes, Unread}
-use Rattle.cms_disk.specs.Drafts.{FitsFile, IsJoined, WritesAside, file_with, shape_of}
+use Rattle.cms_disk.specs.Changing.{Alters, Appends, Changes, Ended, Unread}
+use Rattle.cms_disk.specs.Drafts.{FitsFile, IsAddFault, IsJoined, IsPutFault, WritesAside, file_with, shape_of}
 use Rattle.cms_disk.specs.Getting.{GetsFile, IsDataOf, IsLike}
 use Rattle.cms_disk.proofs.Beside.{stamped_any}
 use Rattle.cms_disk.specs.Disks.{Accessed}
@@ -120,9 +120,9 @@ same_syncs name more st f o (Limited k) = refl
 same_syncs name more st f o (Full needs free) = refl
 same_syncs name more st f o (Changed m) = refl
 
-pub adds_as : (old new : Told) (d e : Accessed) (m : Minidisk) (name : Name) (more : List (List ℕ)) (st stamp : Stamp) (f : File) (r : Result ⊤ DiskFault) → IsAdded m name more st f
-    → Alters old new d e m (Put f) stamp r → Appends old new d e m (Add name more st) stamp r
-adds_as old new d e m name more st stamp f (Ok x) is a =
+ended_as : (old new : Told) (e : Accessed) (m : Minidisk) (name : Name) (more : List (List ℕ)) (st stamp : Stamp) (f : File) (side : Side) (o : Outcome) → IsAdded m name more st f
+    → ((answer : Answer) → MayPut (Put f) answer o → MayPut (Add name more st) answer o) → Ended old new e m (Put f) stamp side o → Ended old new e m (Add name more st) stamp side o
+ended_as old new e m name more st stamp f side o is may a =
     let same = same_answer m name more st f is in
     record {
       after = a.after;
@@ -130,21 +130,16 @@ adds_as old new d e m name more st stamp f (Ok x) is a =
       later = a.later;
       told = a.told;
       minidisk = a.minidisk;
-      changes = add_changes old new e.volume.unit m name more st stamp f Good same (same_syncs name more st f Good) (λ answer may. may) a.changes;
+      changes = add_changes old new e.volume.unit m name more st stamp f o same (same_syncs name more st f o) may a.changes;
     }
+
+pub adds_as : (old new : Told) (d e : Accessed) (m : Minidisk) (name : Name) (more : List (List ℕ)) (st stamp : Stamp) (f : File) (r : Result ⊤ DiskFault) → IsAdded m name more st f
+    → Alters old new d e m (Put f) stamp r → Appends old new d e m (Add name more st) stamp r
+adds_as old new d e m name more st stamp f (Ok x) is a = ended_as old new e m name more st stamp f After Good is (λ answer may. may) a
 adds_as old new d e m name more st stamp f (Err failed.NotFound) is a = absurd a.1
 adds_as old new d e m name more st stamp f (Err failed.Exists) is a = absurd a.1
 adds_as old new d e m name more st stamp f (Err failed.ReadOnly) is a = a
-adds_as old new d e m name more st stamp f (Err failed.Device) is a =
-    let same = same_answer m name more st f is in
-    inr (record {
-      after = a.after;
-      answer = same ∙ a.answer;
-      later = a.later;
-      told = a.told;
-      minidisk = a.minidisk;
-      changes = add_changes old new e.volume.unit m name more st stamp f OldFault same (same_syncs name more st f OldFault) (λ answer may. may) a.changes;
-    })
+adds_as old new d e m name more st stamp f (Err failed.Device) is a = inr (ended_as old new e m name more st stamp f Before OldFault is (λ answer may. may) a)
 adds_as old new d e m name more st stamp f (Err failed.InDoubt) is a =
     let same = same_answer m name more st f is in
     record {
@@ -302,3 +297,14 @@ like_fits v name d x k info place at =
 
     same_info : (a b : FileInfo) → Some a ≡ Some b → a ≡ b
     same_info a b e = cc e
+
+-- ---- why they aren't added
+
+pub put_is_fault : (d : Accessed) (name : Name) (more front whole : FileData) → IsLike d.volume name front → IsJoined front more whole → (e : DiskFault) → IsPutFault d name (shape_of whole) e
+    → IsAddFault d name more e
+put_is_fault d name more front whole like joined failed.ReadOnly is = is
+put_is_fault d name more front whole like joined (failed.Limit k) is = record { front = front; like = like; whole = whole; joined = joined; fault = is }
+put_is_fault d name more front whole like joined (failed.Full needs free) is = record { front = front; like = like; whole = whole; joined = joined; fault = is }
+put_is_fault d name more front whole like joined failed.NotFound is = absurd is
+put_is_fault d name more front whole like joined failed.Exists is = absurd is
+put_is_fault d name more front whole like joined e is = tt

@@ -45,7 +45,8 @@ use Rattle.cms_edf.specs.declared.doubt.Doubt.{Doubt}
 use Rattle.cms_edf.proofs.Planned.{count_is}
 use Rattle.cms_edf.proofs.Planned.{named_at as named_in}
 use Rattle.cms_held.proofs.Carried.{lacking_is_full}
-use Rattle.cms_disk.specs.Changing.{Altered, Alters, Doubted, IsOnSame, Kept, fault_of}
+use Rattle.cms_disk.specs.Changing.{Altered, Alters, Doubted, IsChangeFault, IsOnSame, Kept, fault_of, needed_for}
+use Rattle.cms_disk.specs.declared.fault.DiskFault.TheVariants as refused
 use Rattle.cms_disk.specs.Disks.{Accessed, IsLookedAt, IsMinidisk, IsReadable}
 use Rattle.cms_disk.specs.Disks.{place_of as place_named}
 use Rattle.cms_disk.proofs.Courses.{Course, held_minidisk, in_doubt, made, stamped_writes, unmade}
@@ -255,6 +256,11 @@ full_is j d m (ask.Rename from to number) need free x lacks =
     lacking j v m (renaming v.files at.0 n.file to.now number) (Rename from.now to.now number) (length v.files) need free (held_minidisk j d m x.is x.readable) is x.kept
     (count_is v.files (does.Rename at.0 to.now number) n.file) lacks
 full_is j d m (ask.Relabel volid) need free x lacks = absurd (cc lacks)
+
+pub room_is : (v : HeldVolume) (change : asked.Change) (need free : ℕ) → IsFullFor v change (failed.Full need free) → IsChangeFault v (needed_for v change) (refused.Full need free)
+room_is v (ask.Drop name) need free lacks = lacks
+room_is v (ask.Rename from to number) need free lacks = lacks
+room_is v (ask.Relabel volid) need free lacks = absurd (cc lacks)
 
 -- ---- files that are there, and that aren't
 

@@ -50,7 +50,8 @@ draft_full j d m name shape records needs free is has kept counts limit need_is 
     ∙ ap (λ (n : ℕ). answer_put None needs n after) (sym free_is)
     ∙ cond-true (nat_lt free needs) (Full needs free) (Changed after) (lt-ltb free needs short)
 
-pub draft_made : (j : Journal) (d : Accessed) (m : Minidisk) (name : Name) (shape : DraftShape) (records : List (List ℕ)) → IsMinidisk j d m → IsReadable j d → Keeps d.volume → HaveCounts shape records
+pub draft_made : (j : Journal) (d : Accessed) (m : Minidisk) (name : Name) (shape : DraftShape) (records : List (List ℕ)) → IsMinidisk j d m → IsReadable j d → Keeps d.volume
+    → HaveCounts shape records
     → limit_in d name shape ≡ None → need_in d name shape ≤ length (free_blocks d.volume.bits)
     → answer_of m (Put (file_with name shape records)) ≡ Changed (changed m (Put (file_with name shape records)))
 draft_made j d m name shape records is has kept counts limit room =

@@ -10,11 +10,11 @@ use Rattle.cms_model.specs.Minidisks.{Minidisk, State, Volume}
 use Rattle.cms_model.specs.Changes.{Change}
 use Rattle.cms_machine.specs.Beats.{AreStamped, Covers, IsStamped, MayWrite}
 use Rattle.cms_machine.specs.Points.{Leaves}
-use Rattle.cms_machine.specs.Slots.{Settled, set_of}
+use Rattle.cms_machine.specs.Slots.{Settled, Side, set_of}
 use Rattle.cms_machine.specs.Steps.{Outcome, Put, put_stamp, slot_after}
 use Rattle.cms_machine.proofs.Aside.{of_disk}
 use Rattle.cms_machine.proofs.Lists.{split}
-use Rattle.cms_disk.specs.Changing.{Altered, Changes, Doubted, Kept}
+use Rattle.cms_disk.specs.Changing.{Changes, Doubted, Ended}
 use Rattle.cms_disk.specs.Disks.{Accessed}
 use Rattle.cms_disk.specs.Drafts.{WritesAside}
 
@@ -88,26 +88,15 @@ changes_behind old mid new u m change stamp o a c =
       covers = covers_behind old mid a.events c.events u (Volume m ∷ []) (set_of (slot_after (Settled (Volume m)) (Put u m change stamp) o)) a.told a.covers c.covers;
     }
 
-pub altered_behind : (old mid new : Told) (e : Accessed) (m : Minidisk) (change : Change) (stamp : Stamp) → WritesAside old mid e.volume.unit m → Altered mid new e m change stamp
-    → Altered old new e m change stamp
-altered_behind old mid new e m change stamp a x = record {
+pub ended_behind : (old mid new : Told) (e : Accessed) (m : Minidisk) (change : Change) (stamp : Stamp) (side : Side) (o : Outcome) → WritesAside old mid e.volume.unit m
+    → Ended mid new e m change stamp side o → Ended old new e m change stamp side o
+ended_behind old mid new e m change stamp side o a x = record {
   after = x.after;
   answer = x.answer;
   later = x.later;
   told = x.told;
   minidisk = x.minidisk;
-  changes = changes_behind old mid new e.volume.unit m change stamp _ a x.changes;
-}
-
-pub kept_behind : (old mid new : Told) (e : Accessed) (m : Minidisk) (change : Change) (stamp : Stamp) → WritesAside old mid e.volume.unit m → Kept mid new e m change stamp
-    → Kept old new e m change stamp
-kept_behind old mid new e m change stamp a x = record {
-  after = x.after;
-  answer = x.answer;
-  later = x.later;
-  told = x.told;
-  minidisk = x.minidisk;
-  changes = changes_behind old mid new e.volume.unit m change stamp _ a x.changes;
+  changes = changes_behind old mid new e.volume.unit m change stamp o a x.changes;
 }
 
 pub doubted_behind : (old mid new : Told) (d : Accessed) (m : Minidisk) (change : Change) (stamp : Stamp) → WritesAside old mid d.volume.unit m → Doubted mid new d m change stamp

@@ -75,7 +75,8 @@ held_leaves j d v m p looked unit disk h =
     subst (λ (k : Disk). IsSettled k (after j p) d.volume.unit (opened h.layout)) disk (subst (λ (u : ℕ). IsSettled v.disk (after j p) u (opened h.layout)) unit h.at.settled) in
     let same : Volume (minidisk_of d.volume.disk (opened h.layout)) ≡ Volume m =
     ap (λ (k : Disk). Volume (minidisk_of k (opened h.layout))) (sym disk) ∙ ap Volume (minidisk_is v.disk h.layout ∙ sym h.minidisk_is) in
-    leaves_state j d.volume.unit d.volume.disk looked p (λ (y : State). y ≡ Volume m) (λ image left. (settled_is_firm d.volume.disk (after j p) d.volume.unit (opened h.layout) settled).1 image left ∙ same)
+    leaves_state j d.volume.unit d.volume.disk looked p (λ (y : State). y ≡ Volume m)
+    (λ image left. (settled_is_firm d.volume.disk (after j p) d.volume.unit (opened h.layout) settled).1 image left ∙ same)
 
 pub either_leaves : (j : Journal) (d : Accessed) (a b : State) (p : List Event) → IsLookedAt j d → HasEither d.volume.disk (after j p) d.volume.unit a b
     → (x : State) → Leaves (plus (Some j) p) d.volume.unit x → (x ≡ a) ⊎ (x ≡ b)

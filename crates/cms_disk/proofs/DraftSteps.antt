@@ -37,11 +37,13 @@ use Rattle.cms_edf.specs.declared.doubt.Doubt.{Doubt}
 use Rattle.cms_edf.specs.declared.doubt.Doubt.TheVariants.{Old, Either}
 use Rattle.cms_edf.proofs.DraftPut.{plan_of}
 use Rattle.cms_edf.proofs.Finished.{to_front, with_front, writes_to}
+use Rattle.cms_machine.specs.Slots.{After, Before}
+use Rattle.cms_machine.specs.Steps.{Good, OldFault}
 use Rattle.cms_disk.specs.Changing.{Altered, Alters, fault_of}
 use Rattle.cms_disk.specs.declared.fault.DiskFault.{DiskFault}
 use Rattle.cms_disk.specs.Disks.{Accessed, IsLookedAt, IsMinidisk, IsReadable}
 use Rattle.cms_disk.specs.Drafts.{GoesOn, IsGivenUp, WritesAside, file_with}
-use Rattle.cms_disk.proofs.Beside.{altered_behind, aside_behind, doubted_behind, kept_behind, stamped_any}
+use Rattle.cms_disk.proofs.Beside.{aside_behind, doubted_behind, ended_behind, stamped_any}
 use Rattle.cms_disk.proofs.Courses.{Course, covers_old, held_minidisk, in_doubt, made, stamped_writes, unmade}
 use Rattle.cms_disk.proofs.Standing.{is_minidisk}
 use Rattle.cms_held.proofs.WritesLong.{system_blocks}
@@ -173,7 +175,8 @@ pub some_draft : (v : HeldVolume) (name : Name) (shape : DraftShape) (stamp : St
 some_draft v name shape stamp d is = record { name = name; shape = shape; stamp = stamp; is = is }
 
 -- it is the file that was asked for
-file_is : (v : HeldVolume) (name : Name) (shape : DraftShape) (stamp : Stamp) (d : FileDraft) (records : List (List ℕ)) → IsDraftFor v name shape stamp d → put_in d records ≡ file_with name shape records
+file_is : (v : HeldVolume) (name : Name) (shape : DraftShape) (stamp : Stamp) (d : FileDraft) (records : List (List ℕ)) → IsDraftFor v name shape stamp d
+    → put_in d records ≡ file_with name shape records
 file_is v name shape stamp d records is =
     ap (λ (e : Entry). record { name = e.name; number = e.number; format = e.format; length = e.length; stamp = e.stamp; records = records }) is.entry_is
 
@@ -190,7 +193,8 @@ commit_course j d m draft name shape stamp records rest looked held is sound dra
     let some = some_draft v name shape stamp draft is in
     let plan : IsBuildable w.bsize w.psize w.tree.leaves (marks_in draft.writer records) w.tree.pointers =
     plan_of w (stored draft.writer.shape.format records) (marks_in draft.writer records) sound.writer (drafts_streams draft.writer records drafts) in
-    let own = part_own w.bsize w.psize w.tree.leaves (marks_in draft.writer records) w.tree.pointers (stored draft.writer.shape.format records) w.whole (length w.tree.leaves) rest plan (omega arith) left.is in
+    let own = part_own w.bsize w.psize w.tree.leaves (marks_in draft.writer records) w.tree.pointers (stored draft.writer.shape.format records) w.whole (length w.tree.leaves) rest plan
+    (omega arith) left.is in
     let first = stamped_any u (Some stamp) (writes u rest) (own_stamped u w.bsize (blocks_in (tree_of draft)) rest own (draft_high v draft some)) in
     record {
       looked = looked;
@@ -202,7 +206,8 @@ commit_course j d m draft name shape stamp records rest looked held is sound dra
           (stamped_behind u stamp rest (writes_of v draft.systems) first (stamped_writes j v held.layout is.file.edit stamp draft.systems held.at is.file.ready));
       front = to_front u (commit_writes v draft rest) draft.systems.label_bytes;
       sized = update_whole u v.disk.bsize (commit_writes v draft rest) draft.systems.label_bytes
-          (both_blocks v.disk.bsize rest (writes_of v draft.systems) (own_blocks v.disk.bsize (blocks_in (tree_of draft)) rest (subst (λ (n : ℕ). AreOwn n (blocks_in (tree_of draft)) rest) is.bsize_is own))
+          (both_blocks v.disk.bsize rest (writes_of v draft.systems) (own_blocks v.disk.bsize (blocks_in (tree_of draft)) rest
+          (subst (λ (n : ℕ). AreOwn n (blocks_in (tree_of draft)) rest) is.bsize_is own))
           (system_blocks v.disk.bsize draft.systems is.file.ready.long))
           is.file.label_long;
     }
@@ -273,7 +278,8 @@ answered (Err why) = Err (fault_of why)
 same_rest : (draft : FileDraft) (records : List (List ℕ)) (a b : List Write) → IsLeft draft records a → IsLeft draft records b → a ≡ b
 same_rest draft records a b one two = append_cancel_left _ a b (one.is ∙ sym two.is)
 
-puts_file : (j : Journal) (new : Told) (v w : HeldVolume) (m : Minidisk) (draft : FileDraft) (rest : List Write) (f : File) (r : Result ⊤ Doubt) → Commits j new v w m draft rest f r → PutsFile j v draft rest m f
+puts_file : (j : Journal) (new : Told) (v w : HeldVolume) (m : Minidisk) (draft : FileDraft) (rest : List Write) (f : File) (r : Result ⊤ Doubt) → Commits j new v w m draft rest f r
+    → PutsFile j v draft rest m f
 puts_file j new v w m draft rest f (Ok x) c = c.0
 puts_file j new v w m draft rest f (Err Old) c = c.0
 puts_file j new v w m draft rest f (Err Either) c = c.0
@@ -291,9 +297,9 @@ commits_to j old new d e m draft name shape stamp records rest (Err why) c left 
 alters_behind : (start old new : Told) (d e : Accessed) (m : Minidisk) (f : File) (stamp : Stamp) (r : Result ⊤ Doubt) → WritesAside start old d.volume.unit m → OnOk r (e.volume.unit ≡ d.volume.unit)
     → OnErr r (e.volume ≡ d.volume) → Alters old new d e m (Put f) stamp (answered r) → Alters start new d e m (Put f) stamp (answered r)
 alters_behind start old new d e m f stamp (Ok x) aside unit same a =
-    altered_behind start old new e m (Put f) stamp (subst (λ (u : ℕ). WritesAside start old u m) (sym unit) aside) a
+    ended_behind start old new e m (Put f) stamp After Good (subst (λ (u : ℕ). WritesAside start old u m) (sym unit) aside) a
 alters_behind start old new d e m f stamp (Err Old) aside unit same a =
-    kept_behind start old new e m (Put f) stamp (subst (λ (u : ℕ). WritesAside start old u m) (sym (ap (λ (w : HeldVolume). w.unit) same)) aside) a
+    ended_behind start old new e m (Put f) stamp Before OldFault (subst (λ (u : ℕ). WritesAside start old u m) (sym (ap (λ (w : HeldVolume). w.unit) same)) aside) a
 alters_behind start old new d e m f stamp (Err Either) aside unit same a = doubted_behind start old new d m (Put f) stamp aside a
 
 leads_unit : (v w : HeldVolume) (draft : FileDraft) (name : Name) (shape : DraftShape) (stamp : Stamp) (r : Result ⊤ Doubt) → IsDraftFor v name shape stamp draft → OnOk r (LeadsToFile v draft w)

@@ -175,9 +175,14 @@ long_so f shape records is s = subst (λ (x : DraftShape). length_of x.format x.
 
 -- ---- the faults
 
-pub device_is_fault : (e : DiskFault) → IsDevices e → IsPutFault e
-device_is_fault e (inl is) = subst IsPutFault (sym is) tt
-device_is_fault e (inr is) = subst IsPutFault (sym is) tt
+pub device_is_fault : (d : Accessed) (name : Name) (shape : DraftShape) (e : DiskFault) → IsDevices e → IsPutFault d name shape e
+device_is_fault d name shape e (inl is) = subst (IsPutFault d name shape) (sym is) tt
+device_is_fault d name shape e (inr is) = subst (IsPutFault d name shape) (sym is) tt
+
+pub draft_is_fault : (d : Accessed) (name : Name) (shape : DraftShape) (e : DiskFault) → IsDraftFault d name shape e → IsPutFault d name shape e
+draft_is_fault d name shape failed.Device is = tt
+draft_is_fault d name shape failed.InDoubt is = tt
+draft_is_fault d name shape e is = is
 
 pub not_read_only : (e : DiskFault) → IsDevices e → e ≡ failed.ReadOnly → ⊥
 not_read_only e (inl is) same = clash (sym is ∙ same)

@@ -1,7 +1,6 @@
 -- The file of a name, and its records.
 use Rattle.std.proofs.Common.{◌≡◌, ℕ, zero, suc, ◌*◌, ◌<◌, ◌≤◌, true, List, [], ◌∷◌, length, map, drop, position, slice_get, slice_index, slice_index_or, Some, None, Result, Ok, Err, refl, sym, ◌∙◌, ap, subst, arith}
 use Rattle.std.specs.Prelude.{IfOk, nat_le, not, ◌&&◌, ◌||◌}
-use Rattle.std.proofs.lemmas.Bool.{and_parts, leb-true}
 use Rattle.std.proofs.lemmas.Option.{get_or_from_slice_get, slice_get_cases, slice_get-get_or}
 use Rattle.cms_journal.proofs.Sizes.{block_bounds}
 use Rattle.cms_names.specs.Names.{is_between}
@@ -20,7 +19,7 @@ use Rattle.cms_model.specs.Volumes.{Disk, Opened, files_of, minidisk_of}
 use Rattle.cms_model.specs.Changes.{file_named}
 use Rattle.cms_model.specs.LawsChanges.{IsPlace}
 use Rattle.cms_model.proofs.Changing.{none_added, place_changed}
-use Rattle.cms_model.proofs.FileSizes.{EntryFits, entry_counted}
+use Rattle.cms_model.proofs.FileSizes.{entry_counted, passing}
 use Rattle.cms_model.proofs.Quotients.{up_spec}
 use Rattle.cms_model.proofs.Results.{ok_same}
 use Rattle.cms_model.proofs.TreeFrame.{between}
@@ -47,7 +46,8 @@ stands_tells image d m s =
       found = λ name. subst (λ (ns : List Name). IsFound name m.files (position (same_name name) ns)) (sym held.names_are) (place_is_told name m.files);
     }
 
-pub stands_stored : (image : Image) (d : Accessed) (m : Minidisk) → StandsIn image d m → (k : ℕ) (h : HeldFile) (f : File) → slice_get d.volume.files k ≡ Some h → slice_get m.files k ≡ Some f → IsStored m.bsize image h f
+pub stands_stored : (image : Image) (d : Accessed) (m : Minidisk) → StandsIn image d m → (k : ℕ) (h : HeldFile) (f : File) → slice_get d.volume.files k ≡ Some h → slice_get m.files k ≡ Some f
+    → IsStored m.bsize image h f
 stands_stored image d m s =
     let room : HasRoomOf image d.volume m = subst (HasRoomOf image d.volume) (sym s.minidisk_is) (opened_has_room d.volume.unit d.volume.disk image s.opened d.volume s.whole s.opens s.volume_is) in
     room.files_are
@@ -77,26 +77,11 @@ lengths_in disk v m k f is at = files_lengths v.entries v.contents k f (subst (�
 pub none_found : (d : Accessed) (name : Name) → place_of name d.volume ≡ None → HasNone d name
 none_found d name none image m s = (none_added name m.files (subst (IsFound name m.files) none ((stands_tells image d m s).found name))).absent
 
--- ---- an entry's tests
-
-pub record Parts (bsize : ℕ) (e : Entry) : Type 0 where
-  pub number : e.number ≤ 6
-  pub fits : EntryFits bsize e
-  pub stamp : is_stamp e.stamp ≡ true
-
-pub parts : (bsize : ℕ) (e : Entry) → passes bsize e ≡ true → Parts bsize e
-unfolding passes
-parts bsize e is =
-    let a = and_parts (nat_le e.number 6 && length_fits e && counts_fit bsize e && levels_fit bsize e) (is_stamp e.stamp) is in
-    let b = and_parts (nat_le e.number 6 && length_fits e && counts_fit bsize e) (levels_fit bsize e) a.0 in
-    let c = and_parts (nat_le e.number 6 && length_fits e) (counts_fit bsize e) b.0 in
-    let d = and_parts (nat_le e.number 6) (length_fits e) c.0 in
-    record { number = leb-true e.number 6 d.0; fits = record { long = d.1; counts = c.1; levels = b.1 }; stamp = a.1 }
-
 -- ---- all records are left at first
 
 left_first : (bsize : ℕ) (format : Format) (size count blocks : ℕ) (bytes : List ℕ) (records : List (List ℕ)) → 1 ≤ bsize → records_of bsize format size count bytes ≡ Ok records
-    → size ≡ length_of format size records → length bytes ≡ blocks * bsize → (is_fixed format ≡ true → blocks ≡ up (count * size) bsize) → HoldLeft bsize (fixed_of format size) size count 0 bytes records
+    → size ≡ length_of format size records → length bytes ≡ blocks * bsize → (is_fixed format ≡ true → blocks ≡ up (count * size) bsize)
+    → HoldLeft bsize (fixed_of format size) size count 0 bytes records
 unfolding records_of
 left_first bsize F size count blocks bytes records room read high long fixed =
     let is = fixed refl in
@@ -106,10 +91,11 @@ left_first bsize F size count blocks bytes records room read high long fixed =
     (sym (ok_same (cut count size bytes) records read), omega arith)
 left_first bsize V size count blocks bytes records room read high long fixed = (read, omega arith)
 
-pub file_left : (bsize total : ℕ) (image : Image) (h : HeldFile) (f : File) → 1 ≤ bsize → IsFileOf bsize image h f → IsStored bsize image h f → IsKeptFile bsize total h → f.length ≡ length_of f.format f.length f.records
+pub file_left : (bsize total : ℕ) (image : Image) (h : HeldFile) (f : File) → 1 ≤ bsize → IsFileOf bsize image h f → IsStored bsize image h f → IsKeptFile bsize total h
+    → f.length ≡ length_of f.format f.length f.records
     → HoldLeft bsize (fixed_of h.entry.format h.length) h.length h.entry.count 0 (bytes_at image h.tree.leaves) f.records
 file_left bsize total image h f room is stored kept high =
-    let counted = entry_counted bsize h.entry room (parts bsize h.entry kept.entry).fits in
+    let counted = entry_counted bsize h.entry room (passing bsize h.entry kept.entry).fits in
     let wide : length (bytes_at image h.tree.leaves) ≡ h.entry.blocks * bsize = stored.long ∙ ap (λ (n : ℕ). n * bsize) kept.count in
     let fixed : is_fixed f.format ≡ true → h.entry.blocks ≡ up (length f.records * f.length) bsize = λ all.
     (let fix : h.entry.format ≡ F = is_f h.entry.format (ap is_fixed is.format_is ∙ all) in
@@ -121,7 +107,8 @@ file_left bsize total image h f room is stored kept high =
     is_f F e = refl
     is_f V e = absurd (cc e)
 
-pub first_has : (image : Image) (c : Reading) (number most size : ℕ) (blocks : List ℕ) (format : Format) (high count : ℕ) (records : List (List ℕ)) → IsFirst number most size blocks format high count c
+pub first_has : (image : Image) (c : Reading) (number most size : ℕ) (blocks : List ℕ) (format : Format) (high count : ℕ) (records : List (List ℕ))
+    → IsFirst number most size blocks format high count c
     → HoldLeft size (fixed_of format high) high count 0 (bytes_at image blocks) records → HasLeft image c records
 first_has image c number most size blocks format high count records s held =
     let long = s.held.block in
@@ -151,7 +138,8 @@ kept_at v k h keeps at =
     let less : k < length v.files = grind (arith, slice_get_cases v.files k) in
     subst (IsKeptFile v.disk.bsize v.label.blocks) (get_or_from_slice_get v.files k h h at) (keeps.each k h less)
 
-pub found : (image : Image) (name : Name) (d : Accessed) (m : Minidisk) (k : ℕ) (h : HeldFile) → StandsIn image d m → Keeps d.volume → place_of name d.volume ≡ Some k → slice_get d.volume.files k ≡ Some h → Found image name d m h
+pub found : (image : Image) (name : Name) (d : Accessed) (m : Minidisk) (k : ℕ) (h : HeldFile) → StandsIn image d m → Keeps d.volume → place_of name d.volume ≡ Some k
+    → slice_get d.volume.files k ≡ Some h → Found image name d m h
 found image name d m k h s keeps at is_h =
     let tells = stands_tells image d m s in
     let place : IsPlace name m.files k = subst (IsFound name m.files) at (tells.found name) in
@@ -211,13 +199,15 @@ fixed_some bsize e fits fix =
     let range : (not (is_fixed F) || is_between 1 65535 e.length) ≡ true = subst (λ (format : Format). (not (is_fixed format) || is_between 1 65535 e.length) ≡ true) fix fits in
     (between 1 65535 e.length range).0
 
-pub can_read : (v : HeldVolume) (k total bsize : ℕ) (info : FileInfo) (leaves : List ℕ) → Keeps v → v.disk.count ≡ total → v.disk.bsize ≡ bsize → HasFile v k info leaves → CanRead total bsize info leaves
+pub can_read : (v : HeldVolume) (k total bsize : ℕ) (info : FileInfo) (leaves : List ℕ) → Keeps v → v.disk.count ≡ total → v.disk.bsize ≡ bsize → HasFile v k info leaves
+    → CanRead total bsize info leaves
 can_read v k total bsize info leaves keeps count size h =
     let kept = kept_at v k h.file keeps h.file_is in
     let top = keeps.within in
-    let p = parts v.disk.bsize h.file.entry kept.entry in
+    let p = passing v.disk.bsize h.file.entry kept.entry in
     record {
-      on = rw h.leaves_are (λ n less. (let range = kept.within (slice_index h.file.tree.leaves n) (stands h.file.tree.leaves n less) in let low = range.0 in let high = range.1 in (omega arith, omega arith)));
+      on = rw h.leaves_are (λ n less. (let range = kept.within (slice_index h.file.tree.leaves n) (stands h.file.tree.leaves n less) in let low = range.0 in let high = range.1 in
+          (omega arith, omega arith)));
       few = rw (h.leaves_are, ← size) kept.room;
       short = rw h.info_is kept.short;
       fixed = rw h.info_is (λ fix. (let some = fixed_some v.disk.bsize h.file.entry p.fits.long fix in let same = kept.fixed fix in omega arith));

@@ -49,8 +49,10 @@ text_is : (format : Format) (size : ℕ) (c : Reading) → TextFits c → c.begu
 text_is F size c fits fixed same short = subst (λ (o : Option ℕ). IfSome o (λ n. length (text_of c) ≡ n)) fixed fits.fixed
 text_is V size c fits fixed same short = let some = fits.some in let high = fits.short in (some, omega arith)
 
-pub gather_next : (told : Told) (format : Format) (first c next : Reading) (bytes bytes' text : List ℕ) (most most' : ℕ) → GatherTo told format first c bytes most → c.left ≡ next.left + 1 → TextFits next
-    → next.begun.fixed ≡ fixed_of format first.begun.longest → next.begun.longest ≡ first.begun.longest → first.begun.longest ≤ 65535 → text ≡ text_of next → bytes' ≡ bytes ++ stored format (text ∷ [])
+pub gather_next : (told : Told) (format : Format) (first c next : Reading) (bytes bytes' text : List ℕ) (most most' : ℕ) → GatherTo told format first c bytes most → c.left ≡ next.left + 1
+    → TextFits next
+    → next.begun.fixed ≡ fixed_of format first.begun.longest → next.begun.longest ≡ first.begun.longest → first.begun.longest ≤ 65535 → text ≡ text_of next
+    → bytes' ≡ bytes ++ stored format (text ∷ [])
     → most' ≡ max most (length text) → OfImage told first.unit (λ image. (all : List (List ℕ)) → HasLeft image c all → HandsOut image next all (Ok true)) → GatherTo told format first next bytes' most'
 gather_next told format first c next bytes bytes' text most most' to down fits fixed same short is_text is_bytes is_most hands =
     let count = to.count_is in

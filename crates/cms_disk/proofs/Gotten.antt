@@ -15,6 +15,7 @@ use Rattle.cms_model.specs.Minidisks.{File, Minidisk}
 use Rattle.cms_model.specs.Records.{Fits, StandsFor, length_of, longest}
 use Rattle.cms_model.specs.Changes.{file_named}
 use Rattle.cms_model.specs.declared.file.FileData.{FileData}
+use Rattle.cms_model.proofs.FileSizes.{passing}
 use Rattle.cms_model.proofs.TreeFrame.{between}
 use Rattle.cms_records.specs.Pieces.{Begun}
 use Rattle.cms_edf.specs.Asking.{info_of, infos_in}
@@ -26,7 +27,7 @@ use Rattle.cms_disk.specs.Disks.{Accessed, StandsIn, place_of}
 use Rattle.cms_disk.specs.Getting.{Gathers, GetsFile, IsDataOf, data_length}
 use Rattle.cms_disk.specs.declared.fault.DiskFault.{DiskFault}
 use Rattle.cms_disk.specs.declared.fault.DiskFault.TheVariants.{Altered, Device, Memory, NotFound}
-use Rattle.cms_disk.proofs.Finding.{FirstIn, found, first_has, fixed_some, kept_at, parts}
+use Rattle.cms_disk.proofs.Finding.{FirstIn, found, first_has, fixed_some, kept_at}
 
 longest_range : (size : ℕ) (rs : List (List ℕ)) → All (Fits V size) rs → 1 ≤ length rs → (1 ≤ longest rs) × (longest rs ≤ 65535)
 unfolding longest
@@ -45,7 +46,8 @@ record Lengths (format : Format) (size : ℕ) (rs : List (List ℕ)) : Type 0 wh
   some : 1 ≤ size
   short : size ≤ 65535
 
-lengths : (format : Format) (size most : ℕ) (rs : List (List ℕ)) → most ≡ longest rs → All (Fits format size) rs → 1 ≤ length rs → (format ≡ F → 1 ≤ size) → size ≤ 65535 → Lengths format (data_length format size most) rs
+lengths : (format : Format) (size most : ℕ) (rs : List (List ℕ)) → most ≡ longest rs → All (Fits format size) rs → 1 ≤ length rs → (format ≡ F → 1 ≤ size) → size ≤ 65535
+    → Lengths format (data_length format size most) rs
 lengths F size most rs is each some fixed short = record { each = each; is = refl; some = fixed refl; short = short }
 lengths V size most rs is each some fixed short = let range = longest_range size rs each some in record { each = each; is = is; some = rw is range.0; short = rw is range.1 }
 
@@ -88,7 +90,7 @@ data_stands v k info c bytes most rs r =
         → StandsFor (data_of (info_of h) bytes most) rs
     go h at first g =
         let kept = kept_at v k h r.keeps at in
-        let p = parts v.disk.bsize h.entry kept.entry in
+        let p = passing v.disk.bsize h.entry kept.entry in
         let count = g.count_is ∙ first.left in
         let some = counts_some v.disk.bsize h.entry p.fits.counts in
         let high : c.begun.longest ≡ h.length = ap (λ (b : Begun). b.longest) first.begun in
@@ -111,13 +113,15 @@ length_same F size most rs a b = refl
 length_same V size most rs a b = b ∙ sym a
 
 -- they are those of the file of the name
-pub gets_ok : (image : Image) (name : Name) (d : Accessed) (m : Minidisk) (k : ℕ) (info : FileInfo) (c : Reading) (bytes : List ℕ) (most : ℕ) (rs : List (List ℕ)) → StandsIn image d m → place_of name d.volume ≡ Some k
+pub gets_ok : (image : Image) (name : Name) (d : Accessed) (m : Minidisk) (k : ℕ) (info : FileInfo) (c : Reading) (bytes : List ℕ) (most : ℕ) (rs : List (List ℕ)) → StandsIn image d m
+    → place_of name d.volume ≡ Some k
     → Read d.volume k info c bytes most rs → ((all : List (List ℕ)) → HasLeft image c all → all ≡ rs) → (f : File) × (file_named name m.files ≡ Some f) × IsDataOf f (data_of info bytes most)
 gets_ok image name d m k info c bytes most rs stands at r only =
     let h = r.first.0 in
     let it = found image name d m k h stands r.keeps at r.first.1 in
     let f = it.file in
-    let same : f.records ≡ rs = only f.records (first_has image c d.volume.unit d.volume.disk.count d.volume.disk.bsize h.tree.leaves h.entry.format h.length h.entry.count f.records r.first.2 it.left) in
+    let same : f.records ≡ rs = only f.records (first_has image c d.volume.unit d.volume.disk.count d.volume.disk.bsize h.tree.leaves h.entry.format h.length h.entry.count f.records r.first.2 it.left)
+    in
     let is = info_at d.volume.files k info h r.info_is r.first.1 in
     let format : info.format ≡ f.format = ap (λ (i : FileInfo). i.format) is ∙ it.is.format_is in
     let size : info.length ≡ f.length = ap (λ (i : FileInfo). i.length) is ∙ it.is.length_is in (

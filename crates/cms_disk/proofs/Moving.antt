@@ -24,20 +24,29 @@ pub take_gives : (image : Image) (c : Reading) (b : Begun) (f : ℕ) (a whole : 
 take_gives image c b f a true records t sound later some left =
     let held = subst (λ (n : ℕ). HoldLeft c.bsize c.begun.fixed c.begun.longest n (next_place c.begun) (unread image c) records) (some_left c.left some) left.held in
     let h = hands_out c.bsize (c.left - 1) c.begun b (drop c.from c.block) (bytes_at image (drop c.done c.leaves)) (f - c.from) records t held in
-    let rest = rest_of c f later in
-    (h.more, h.records_are, record { sound = sound; held = subst (λ (l : List ℕ). HoldLeft c.bsize b.fixed b.longest (c.left - 1) (next_place b) (bytes_so_far b ++ (l ++ bytes_at image (drop c.done c.leaves))) h.more) rest h.rest })
+    let rest = rest_of c f later in (
+      h.more,
+      h.records_are,
+      record {
+        sound = sound;
+        held = subst
+            (λ (l : List ℕ). HoldLeft c.bsize b.fixed b.longest (c.left - 1) (next_place b) (bytes_so_far b ++ (l ++ bytes_at image (drop c.done c.leaves))) h.more) rest h.rest;
+      },
+    )
 take_gives image c b f a false records t sound later some left =
     let h = keeps_left c.bsize c.left c.begun b (drop c.from c.block) (bytes_at image (drop c.done c.leaves)) (f - c.from) records t left.held in
     let rest = rest_of c f later in
     record { sound = sound; held = subst (λ (l : List ℕ). HoldLeft c.bsize b.fixed b.longest c.left (next_place b) (bytes_so_far b ++ (l ++ bytes_at image (drop c.done c.leaves))) records) rest h }
 
-pub take_altered : (image : Image) (c : Reading) (records : List (List ℕ)) (why : VarFault) → record_size c.begun.fixed c.begun.longest (next_place c.begun) (bytes_so_far c.begun ++ drop c.from c.block) ≡ Err why
+pub take_altered : (image : Image) (c : Reading) (records : List (List ℕ)) (why : VarFault)
+    → record_size c.begun.fixed c.begun.longest (next_place c.begun) (bytes_so_far c.begun ++ drop c.from c.block) ≡ Err why
     → 1 ≤ c.left → HasLeft image c records → ⊥
 take_altered image c records why is some left =
     not_altered c.bsize (c.left - 1) c.begun (drop c.from c.block) (bytes_at image (drop c.done c.leaves)) records why is
     (subst (λ (n : ℕ). HoldLeft c.bsize c.begun.fixed c.begun.longest n (next_place c.begun) (unread image c) records) (some_left c.left some) left.held)
 
-pub take_waits : (c : Reading) (b : Begun) (f : ℕ) (a : Bool) → Takes c.begun b (drop c.from c.block) (f - c.from) false → c.from ≤ f → f ≤ length c.block → length c.block ≡ c.bsize → Waits (taken c b f a)
+pub take_waits : (c : Reading) (b : Begun) (f : ℕ) (a : Bool) → Takes c.begun b (drop c.from c.block) (f - c.from) false → c.from ≤ f → f ≤ length c.block → length c.block ≡ c.bsize
+    → Waits (taken c b f a)
 take_waits c b f a t later within long =
     let all = takes_all c.begun b (drop c.from c.block) (f - c.from) t in
     let d = length-drop c.from c.block in
@@ -58,7 +67,8 @@ drop_next zero (x ∷ xs) less = refl
 drop_next (suc n) (x ∷ xs) less = let one : suc n + 1 ≡ suc (n + 1) = omega arith in rw one (drop_next n xs (omega arith))
 
 -- all of the last block is taken, and the next one is there
-pub read_next : (image : Image) (c : Reading) (block : List ℕ) (d f : ℕ) (a : Bool) (records : List (List ℕ)) → block ≡ image (slice_index c.leaves c.done) → d ≡ c.done + 1 → f ≡ 0 → a ≡ c.altered → c.done < length c.leaves
+pub read_next : (image : Image) (c : Reading) (block : List ℕ) (d f : ℕ) (a : Bool) (records : List (List ℕ)) → block ≡ image (slice_index c.leaves c.done) → d ≡ c.done + 1 → f ≡ 0 → a ≡ c.altered
+    → c.done < length c.leaves
     → length c.block ≤ c.from → HasLeft image c records → HasLeft image (record c { done = d; block = block; from = f; altered = a }) records
 unfolding bytes_at
 read_next image c block d f a records is next first sound less all left =
@@ -72,7 +82,11 @@ pub read_failed : (image : Image) (c : Reading) (block : List ℕ) (f : ℕ) (a 
     → HasLeft image (record c { block = block; from = f; altered = a }) records
 read_failed image c block f a records all all' sound left =
     let gone : drop c.from c.block ≡ drop f block = drop_whole c.from c.block all ∙ sym (drop_whole f block all') in
-    record { sound = sound ∙ left.sound; held = subst (λ (l : List ℕ). HoldLeft c.bsize c.begun.fixed c.begun.longest c.left (next_place c.begun) (bytes_so_far c.begun ++ (l ++ bytes_at image (drop c.done c.leaves))) records) gone left.held }
+    record {
+      sound = sound ∙ left.sound;
+      held = subst (λ (l : List ℕ). HoldLeft c.bsize c.begun.fixed c.begun.longest c.left (next_place c.begun)
+          (bytes_so_far c.begun ++ (l ++ bytes_at image (drop c.done c.leaves))) records) gone left.held;
+    }
 
 pub read_ended : (image : Image) (c : Reading) (records : List (List ℕ)) → c.done ≡ length c.leaves → length c.block ≤ c.from → IsShort c.begun → 1 ≤ c.left → HasLeft image c records → ⊥
 unfolding bytes_at
@@ -86,7 +100,8 @@ read_ended image c records end all short some left =
 
 -- ---- the unit's blocks
 
-pub has_block : (j : Journal) (c : Reading) (n leaf size : ℕ) → HasBlocks j.units c.unit c.total c.bsize → AreOn c.total c.leaves → n < length c.leaves → leaf ≡ slice_index c.leaves n → size ≡ c.bsize → HasBlock j.units c.unit leaf size
+pub has_block : (j : Journal) (c : Reading) (n leaf size : ℕ) → HasBlocks j.units c.unit c.total c.bsize → AreOn c.total c.leaves → n < length c.leaves → leaf ≡ slice_index c.leaves n → size ≡ c.bsize
+    → HasBlock j.units c.unit leaf size
 has_block j c n leaf size has on less is same = let within = on n less in rw (same, is) (on_unit j c.unit c.total c.bsize (slice_index c.leaves n) within.0 within.1 has)
 
 -- ---- behind the last

@@ -3,7 +3,7 @@ use Rattle.std.proofs.Common.{◌≡◌, ◌≢◌, ◌⊎◌, ⊎_elim, inl, in
 use Rattle.std.specs.Prelude.{IsSomeAnd, ◌==◌, slice_set}
 use Rattle.std.specs.Option.{option_map_or}
 use Rattle.std.specs.List.{AllByRecursion}
-use Rattle.std.proofs.lemmas.Bool.{cases_eq, cases_lt, eq-eqb}
+use Rattle.std.proofs.lemmas.Bool.{cases_eq, cases_lt}
 use Rattle.std.proofs.lemmas.List.{drop-take, take-take}
 use Rattle.cms_journal.specs.declared.event.Attached.{Attached}
 use Rattle.cms_journal.specs.declared.event.Event.{Event}
@@ -27,7 +27,7 @@ use Rattle.cms_model.specs.Trees.{image_of}
 use Rattle.cms_model.specs.Volumes.{Disk, disk_of, state_of}
 use Rattle.cms_model.proofs.Fronts.{after_is_told}
 use Rattle.cms_model.proofs.Images.{image_past, synced_contents, wrote_other}
-use Rattle.cms_model.proofs.Repeats.{bit, hit}
+use Rattle.cms_model.proofs.Repeats.{times_first, times_later}
 use Rattle.cms_tree.specs.Climbs.{AreOwn}
 use Rattle.cms_machine.specs.Beats.{AreStamped, Covers, HasStamp, IsStamped}
 use Rattle.cms_machine.specs.Points.{Leaves, LeavesIn}
@@ -100,20 +100,12 @@ pub label_aside : (◌≡◌ {A = ℕ} 3 4) ⊎ (◌≡◌ {A = ℕ} 3 5) → �
 label_aside (inl is) = omega (arith, is)
 label_aside (inr is) = omega (arith, is)
 
-first_times : (n : ℕ) (ns : List ℕ) → 1 ≤ times n (n ∷ ns)
-unfolding times
-first_times n ns = let one : bit (n == n) ≡ 1 = hit (n == n) (eq-eqb n n refl) in omega arith
-
-later_times : (k n : ℕ) (ns : List ℕ) → 1 ≤ times k ns → 1 ≤ times k (n ∷ ns)
-unfolding times
-later_times k n ns some = omega arith
-
 pub high_stamped : (u : ℕ) (stamp : Stamp) (ns : List ℕ) (pieces : List (List ℕ)) → ((n : ℕ) → 1 ≤ times n ns → 6 ≤ n) → AreStamped u (Some stamp) (writes u (block_writes ns pieces))
 unfolding writes block_writes
 high_stamped u stamp [] pieces low = tt
 high_stamped u stamp (n ∷ ns) [] low = tt
 high_stamped u stamp (n ∷ ns) (bytes ∷ pieces) low =
-    ((λ same at. absurd (no_directory n (low n (first_times n ns)) at)), high_stamped u stamp ns pieces (λ k some. low k (later_times k n ns some)))
+    ((λ same at. absurd (no_directory n (low n (omega (arith, times_first n ns))) at)), high_stamped u stamp ns pieces (λ k some. low k (omega (arith, some, times_later k n ns))))
 
 -- a part of the bytes before a place
 part_before : (a n m : ℕ) (xs : List ℕ) → a + n ≤ m → take n (drop a (take m xs)) ≡ take n (drop a xs)

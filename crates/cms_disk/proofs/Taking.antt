@@ -33,7 +33,8 @@ front_of before more later size within = ap (take size) (sym (joined before more
 
 -- ---- the size of a record stays
 
-size_stays : (fixed : Option ℕ) (most place : ℕ) (xs later : List ℕ) (r : Result (Option ℕ) VarFault) → record_size fixed most place xs ≡ r → (r ≡ Ok None → ⊥) → record_size fixed most place (xs ++ later) ≡ r
+size_stays : (fixed : Option ℕ) (most place : ℕ) (xs later : List ℕ) (r : Result (Option ℕ) VarFault) → record_size fixed most place xs ≡ r → (r ≡ Ok None → ⊥)
+    → record_size fixed most place (xs ++ later) ≡ r
 size_stays (Some n) most place xs later r is known = is
 size_stays None most place xs later r is known = go (nat_lt (length xs) 2) refl
   where
@@ -97,7 +98,8 @@ text_within bytes text some is =
     take_short (suc k) [] le = refl
     take_short (suc k) (x ∷ xs) le = ap (λ (l : List ℕ). x ∷ l) (take_short k xs (omega arith))
 
-pub first_left : (bsize : ℕ) (fixed : Option ℕ) (most n place : ℕ) (bytes : List ℕ) (records : List (List ℕ)) → HoldLeft bsize fixed most (suc n) place bytes records → First bsize fixed most n place bytes records
+pub first_left : (bsize : ℕ) (fixed : Option ℕ) (most n place : ℕ) (bytes : List ℕ) (records : List (List ℕ)) → HoldLeft bsize fixed most (suc n) place bytes records
+    → First bsize fixed most n place bytes records
 first_left bsize (Some size) most n place bytes records held =
     let long = held.1 in
     let d = length-drop size bytes in
@@ -148,7 +150,8 @@ ends old new more taken t = go t.size t.size_is t.bytes t.whole_is
     all : List ℕ
     all = bytes_so_far old ++ more
 
-    go : (size : Option ℕ) → record_size old.fixed old.longest (next_place old) (bytes_so_far old ++ more) ≡ Ok size → new.bytes ≡ record_bytes size (bytes_so_far old ++ more) → true ≡ is_whole size (bytes_so_far old ++ more) → Ends old new more taken
+    go : (size : Option ℕ) → record_size old.fixed old.longest (next_place old) (bytes_so_far old ++ more) ≡ Ok size → new.bytes ≡ record_bytes size (bytes_so_far old ++ more)
+        → true ≡ is_whole size (bytes_so_far old ++ more) → Ends old new more taken
     go None is bytes whole = absurd (cc)
     go (Some n) is bytes whole =
         let fits = leb-true n (length (bytes_so_far old ++ more)) (sym whole) in
@@ -172,7 +175,8 @@ goes old new more taken t = go t.size t.size_is t.bytes t.whole_is
     all : List ℕ
     all = bytes_so_far old ++ more
 
-    done : (size : Option ℕ) → record_size old.fixed old.longest (next_place old) (bytes_so_far old ++ more) ≡ Ok size → new.bytes ≡ bytes_so_far old ++ more → false ≡ is_whole size (bytes_so_far old ++ more) → Goes old new more taken
+    done : (size : Option ℕ) → record_size old.fixed old.longest (next_place old) (bytes_so_far old ++ more) ≡ Ok size → new.bytes ≡ bytes_so_far old ++ more
+        → false ≡ is_whole size (bytes_so_far old ++ more) → Goes old new more taken
     done size is bytes whole =
         let told = t.told in
         let long = ap length bytes ∙ length-append (bytes_so_far old) more in
@@ -183,7 +187,8 @@ goes old new more taken t = go t.size t.size_is t.bytes t.whole_is
           short = record { size = size; size_is = rw (told.2, told.3, told.1, bytes) is; short = rw bytes (sym whole); begun = told.0 };
         }
 
-    go : (size : Option ℕ) → record_size old.fixed old.longest (next_place old) (bytes_so_far old ++ more) ≡ Ok size → new.bytes ≡ record_bytes size (bytes_so_far old ++ more) → false ≡ is_whole size (bytes_so_far old ++ more) → Goes old new more taken
+    go : (size : Option ℕ) → record_size old.fixed old.longest (next_place old) (bytes_so_far old ++ more) ≡ Ok size → new.bytes ≡ record_bytes size (bytes_so_far old ++ more)
+        → false ≡ is_whole size (bytes_so_far old ++ more) → Goes old new more taken
     go None is bytes whole = done None is bytes whole
     go (Some n) is bytes whole =
         let few = leb-false n (length (bytes_so_far old ++ more)) (sym whole) in
@@ -225,7 +230,8 @@ hands_out bsize left old new more later taken records t held =
 
 -- while it isn't whole, the same are left
 pub keeps_left : (bsize left : ℕ) (old new : Begun) (more later : List ℕ) (taken : ℕ) (records : List (List ℕ)) → Takes old new more taken false
-    → HoldLeft bsize old.fixed old.longest left (next_place old) (bytes_so_far old ++ (more ++ later)) records → HoldLeft bsize new.fixed new.longest left (next_place new) (bytes_so_far new ++ (drop taken more ++ later)) records
+    → HoldLeft bsize old.fixed old.longest left (next_place old) (bytes_so_far old ++ (more ++ later)) records
+    → HoldLeft bsize new.fixed new.longest left (next_place new) (bytes_so_far new ++ (drop taken more ++ later)) records
 keeps_left bsize left old new more later taken records t held =
     let g = goes old new more taken t in
     let told = t.told in
@@ -246,7 +252,8 @@ pub takes_all : (old new : Begun) (more : List ℕ) (taken : ℕ) → Takes old 
 takes_all old new more taken t = let g = goes old new more taken t in (g.all_taken, g.short)
 
 -- records that are left are not found altered
-pub not_altered : (bsize left : ℕ) (old : Begun) (more later : List ℕ) (records : List (List ℕ)) (why : VarFault) → record_size old.fixed old.longest (next_place old) (bytes_so_far old ++ more) ≡ Err why
+pub not_altered : (bsize left : ℕ) (old : Begun) (more later : List ℕ) (records : List (List ℕ)) (why : VarFault)
+    → record_size old.fixed old.longest (next_place old) (bytes_so_far old ++ more) ≡ Err why
     → HoldLeft bsize old.fixed old.longest (suc left) (next_place old) (bytes_so_far old ++ (more ++ later)) records → ⊥
 not_altered bsize left old more later records why is held =
     let before = bytes_so_far old in
@@ -274,7 +281,8 @@ not_ended bsize left s records short held =
 -- ---- what is taken
 
 -- a record that isn't whole in bytes is longer than they are
-longer : (fixed : Option ℕ) (most place n : ℕ) (xs more : List ℕ) (size : Option ℕ) → record_size fixed most place xs ≡ Ok size → is_whole size xs ≡ false → record_size fixed most place (xs ++ more) ≡ Ok (Some n) → length xs < n
+longer : (fixed : Option ℕ) (most place n : ℕ) (xs more : List ℕ) (size : Option ℕ) → record_size fixed most place xs ≡ Ok size → is_whole size xs ≡ false
+    → record_size fixed most place (xs ++ more) ≡ Ok (Some n) → length xs < n
 longer fixed most place n xs more (Some m) is short wide =
     let stays = size_stays fixed most place xs more (Ok (Some m)) is (known_size m) in
     let same = same_size m n (sym stays ∙ wide) in
@@ -296,7 +304,8 @@ takes_some old new more taken true short some t =
     let begun = short.begun in
     let so_far : bytes_so_far old ≡ old.bytes = rw begun refl in
     let place : next_place old ≡ old.place = rw begun refl in
-    let wide = subst (λ (p : ℕ). record_size old.fixed old.longest p (old.bytes ++ more) ≡ Ok (Some e.size)) place (subst (λ (l : List ℕ). record_size old.fixed old.longest (next_place old) (l ++ more) ≡ Ok (Some e.size)) so_far e.size_is) in
+    let wide = subst (λ (p : ℕ). record_size old.fixed old.longest p (old.bytes ++ more) ≡ Ok (Some e.size)) place
+    (subst (λ (l : List ℕ). record_size old.fixed old.longest (next_place old) (l ++ more) ≡ Ok (Some e.size)) so_far e.size_is) in
     let more_than = longer old.fixed old.longest old.place e.size old.bytes more short.size short.size_is short.short wide in
     let count = t.taken_is in
     let long = e.long in

@@ -1,5 +1,5 @@
 -- A minidisk that is changed, as a device step of a machine.
-use Rattle.std.specs.Prelude.{◌≡◌, ◌⊎◌, ℕ, false, List, [], ◌∷◌, None, Some, Result, Ok, Err, IfErr, ⊤}
+use Rattle.std.specs.Prelude.{◌≡◌, ◌⊎◌, ℕ, ◌-◌, ◌<◌, false, List, [], ◌∷◌, length, None, Some, Result, Ok, Err, IfErr, ⊤}
 use Rattle.cms_journal.specs.declared.event.Event.{Event}
 use Rattle.cms_journal.specs.Journal.{Journal}
 use Rattle.cms_journal.specs.Told.{Told, plus, OnlyOf}
@@ -10,10 +10,15 @@ use Rattle.cms_model.specs.Changes as model
 use Rattle.cms_model.specs.Volumes.{Disk, state_of}
 use Rattle.cms_model.specs.LawsSizes.{IsWhole}
 use Rattle.cms_model.specs.LawsUpdates.{now}
-use Rattle.cms_machine.specs.Slots.{Side, Settled, set_of, named}
+use Rattle.cms_machine.specs.Slots.{Side, Before, After, Settled, set_of, named}
 use Rattle.cms_machine.specs.Steps as steps
 use Rattle.cms_machine.specs.Steps.{Outcome, Good, ReadFault, OldFault, EitherFault, slot_after}
 use Rattle.cms_machine.specs.Beats.{FitsStep, Covers}
+use Rattle.cms_map.specs.Bits.{free_blocks}
+use Rattle.cms_held.specs.Opening.{HeldVolume}
+use Rattle.cms_held.specs.Renewing.{needed}
+use Rattle.cms_edf.specs.declared.change.Change as asked
+use Rattle.cms_edf.specs.declared.change.Change.TheVariants as ask
 use Rattle.cms_edf.specs.declared.doubt.Doubt.{Doubt}
 use Rattle.cms_edf.specs.declared.doubt.Doubt.TheVariants.{Old, Either}
 use Rattle.cms_world.specs.Seen.{Seen, ChangesUnits}
@@ -42,23 +47,27 @@ abbrev pub IsWholeAt : Told → Disk → ℕ → Type 0
 IsWholeAt None disk u = ⊥
 IsWholeAt (Some j) disk u = IsWhole disk (now j u)
 
--- the minidisk is changed; the disk d is the new one
-pub record Altered (old new : Told) (d : Accessed) (m : Minidisk) (change : Change) (stamp : Stamp) : Type 0 where
+-- the minidisk of a side
+abbrev pub minidisk_of : Minidisk → Minidisk → Side → Minidisk
+minidisk_of before after Before = before
+minidisk_of before after After = after
+
+-- the change had this outcome, and the disk d has the minidisk of this side then
+pub record Ended (old new : Told) (d : Accessed) (m : Minidisk) (change : Change) (stamp : Stamp) (side : Side) (o : Outcome) : Type 0 where
   pub after : Minidisk
   pub answer : answer_of m change ≡ Changed after
   pub later : Journal
   pub told : new ≡ Some later
-  pub minidisk : IsMinidisk later d after
-  pub changes : Changes old new d.volume.unit m change stamp Good
+  pub minidisk : IsMinidisk later d (minidisk_of m after side)
+  pub changes : Changes old new d.volume.unit m change stamp o
+
+-- the minidisk is changed; the disk d is the new one
+abbrev pub Altered : Told → Told → Accessed → Minidisk → Change → Stamp → Type 0
+Altered old new d m change stamp = Ended old new d m change stamp After Good
 
 -- the device failed before the label was written, and the minidisk is as before
-pub record Kept (old new : Told) (d : Accessed) (m : Minidisk) (change : Change) (stamp : Stamp) : Type 0 where
-  pub after : Minidisk
-  pub answer : answer_of m change ≡ Changed after
-  pub later : Journal
-  pub told : new ≡ Some later
-  pub minidisk : IsMinidisk later d m
-  pub changes : Changes old new d.volume.unit m change stamp OldFault
+abbrev pub Kept : Told → Told → Accessed → Minidisk → Change → Stamp → Type 0
+Kept old new d m change stamp = Ended old new d m change stamp Before OldFault
 
 -- the device failed then, and the contents have the minidisk of this side
 pub record Doubted (old new : Told) (d : Accessed) (m : Minidisk) (change : Change) (stamp : Stamp) : Type 0 where
@@ -133,15 +142,23 @@ abbrev pub fault_of : Doubt → DiskFault
 fault_of Old = failed.Device
 fault_of Either = failed.InDoubt
 
--- ---- why a change of a writable minidisk whose file is there is refused
+-- ---- why a change is refused, in every world
 
-abbrev pub IsChangeFault : DiskFault → Type 0
-IsChangeFault failed.NotFound = ⊥
-IsChangeFault failed.Exists = ⊥
-IsChangeFault failed.ReadOnly = ⊥
-IsChangeFault failed.Device = ⊤
-IsChangeFault failed.InDoubt = ⊤
-IsChangeFault failed.Altered = ⊥
-IsChangeFault (failed.Limit k) = ⊥
-IsChangeFault (failed.Full need free) = ⊤
-IsChangeFault failed.Memory = ⊤
+-- the free blocks that a change needs: those of the new directory and the new map, and none for another volume id
+abbrev pub needed_for : HeldVolume → asked.Change → ℕ
+needed_for v (ask.Drop name) = needed v (length v.files - 1)
+needed_for v (ask.Rename from to number) = needed v (length v.files)
+needed_for v (ask.Relabel volid) = 0
+
+-- why a change of a writable minidisk whose file is there is refused, where it needs so many free blocks: there are fewer, there is no
+-- memory, or the device failed
+abbrev pub IsChangeFault : HeldVolume → ℕ → DiskFault → Type 0
+IsChangeFault v need (failed.Full needs free) = (needs ≡ need) × (free ≡ length (free_blocks v.bits)) × (free < needs)
+IsChangeFault v need failed.Memory = ⊤
+IsChangeFault v need failed.Device = ⊤
+IsChangeFault v need failed.InDoubt = ⊤
+IsChangeFault v need failed.NotFound = ⊥
+IsChangeFault v need failed.Exists = ⊥
+IsChangeFault v need failed.ReadOnly = ⊥
+IsChangeFault v need failed.Altered = ⊥
+IsChangeFault v need (failed.Limit k) = ⊥

@@ -21,6 +21,7 @@ use Rattle.cms_edf.specs.FileDrafts.{DraftStands, FileDraft}
 use Rattle.cms_edf.specs.Asking.{infos_in}
 use Rattle.cms_edf.specs.declared.held.FileInfo.{FileInfo}
 use Rattle.cms_disk.specs.Disks.{Accessed, IsLookedAt, IsMinidisk, IsReadable, place_of}
+use Rattle.cms_disk.specs.Getting.{IsLike}
 use Rattle.cms_disk.specs.declared.fault.DiskFault.{DiskFault}
 use Rattle.cms_disk.specs.declared.fault.DiskFault.TheVariants as failed
 
@@ -152,17 +153,11 @@ pub record AreLast (d : Drafting) (f : FileData) : Type 0 where
   pub count : d.put + f.count ≡ d.shape.count
   pub bytes : came d.writer + length f.bytes ≡ d.writer.size
 
--- why a file isn't put that may be: the device failed, it passes a limit, there is no room, or there is no memory
-abbrev pub IsPutFault : DiskFault → Type 0
-IsPutFault failed.ReadOnly = ⊤
-IsPutFault failed.Device = ⊤
-IsPutFault failed.InDoubt = ⊤
-IsPutFault (failed.Limit which) = ⊤
-IsPutFault (failed.Full needs free) = ⊤
-IsPutFault failed.Memory = ⊤
-IsPutFault failed.NotFound = ⊥
-IsPutFault failed.Exists = ⊥
-IsPutFault failed.Altered = ⊥
+-- why a file isn't put: as it isn't drafted, or the device failed
+abbrev pub IsPutFault : Accessed → Name → DraftShape → DiskFault → Type 0
+IsPutFault d name shape failed.Device = ⊤
+IsPutFault d name shape failed.InDoubt = ⊤
+IsPutFault d name shape e = IsDraftFault d name shape e
 
 -- ---- records that are added to a file
 
@@ -179,7 +174,23 @@ pub record IsJoined (front behind f : FileData) : Type 0 where
   pub fixed : f.format ≡ F → f.length ≡ front.length
   pub stands : (records more : List (List ℕ)) → StandsFor front records → StandsFor behind more → StandsFor f (records ++ more)
 
--- why records aren't added to a file that is there
-abbrev pub IsAddFault : DiskFault → Type 0
-IsAddFault failed.Exists = ⊥
-IsAddFault e = ⊤
+-- a file isn't put that has these records behind those that were read of the file of a name
+pub record IsNotJoined (d : Accessed) (name : Name) (more : FileData) (e : DiskFault) : Type 0 where
+  pub front : FileData
+  pub like : IsLike d.volume name front
+  pub whole : FileData
+  pub joined : IsJoined front more whole
+  pub fault : IsDraftFault d name (shape_of whole) e
+
+-- why records aren't added to a file: none has the name, it may not be written, the file that it would be isn't put, its bytes are no
+-- records any more, there is no memory, or the device failed
+abbrev pub IsAddFault : Accessed → Name → FileData → DiskFault → Type 0
+IsAddFault d name more failed.NotFound = place_of name d.volume ≡ None
+IsAddFault d name more failed.ReadOnly = d.writable ≡ false
+IsAddFault d name more (failed.Limit which) = IsNotJoined d name more (failed.Limit which)
+IsAddFault d name more (failed.Full needs free) = IsNotJoined d name more (failed.Full needs free)
+IsAddFault d name more failed.Altered = ⊤
+IsAddFault d name more failed.Memory = ⊤
+IsAddFault d name more failed.Device = ⊤
+IsAddFault d name more failed.InDoubt = ⊤
+IsAddFault d name more failed.Exists = ⊥

@@ -68,7 +68,7 @@ impl Minidisk {
         ensures appends { (j : Journal) (m : minidisks.Minidisk) (records : List (List ℕ)) → W.told world.old ≡ Some j
             → IsMinidisk j self.old m → IsLookedAt j self.old → StandsFor more.now records
             → Appends (W.told world.old) (W.told world.new) self.old self.new m (Add name.now records more.now.stamp) stamp.now result }
-        ensures fault { IfErr result IsAddFault }
+        ensures fault { IfErr result (IsAddFault self.old name.now more.now) }
         ensures missing { IfErr result (λ e. e ≡ NotFound → place_of name.now self.old.volume ≡ None) }
         ensures absent { place_of name.now self.old.volume ≡ None → result ≡ Err NotFound }
         ensures read_only { IfErr result (λ e. e ≡ ReadOnly → self.old.writable ≡ false) }

@@ -1,15 +1,16 @@
 // Changes of a minidisk.
-ghost use Rattle.std.specs.Prelude.{◌≡◌, ◌⊎◌, ◌≤◌, true, false, None, Some, Err, IfErr};
+ghost use Rattle.std.specs.Prelude.{◌≡◌, ◌⊎◌, ◌≤◌, ◌-◌, true, false, length, None, Some, Err, IfErr};
 ghost use Rattle.cms_world.specs.Seen.{seen};
 ghost use Rattle.std.specs.Option.{ForSome};
 ghost use Rattle.cms_journal.specs.Journal.{Journal, IsWritable};
 ghost use Rattle.cms_fields.specs.Stamps.{is_stamp};
 ghost use Rattle.cms_model.specs.Minidisks as minidisks;
 ghost use Rattle.cms_model.specs.Changes.{Drop, Rename, Relabel};
+ghost use Rattle.cms_held.specs.Renewing.{needed};
 ghost use Rattle.cms_edf.specs.Planning.{CanChange, change_of};
-ghost use Rattle.cms_disk.specs.Changing.{Alters, ChangesDisk, IsChangeFault};
+ghost use Rattle.cms_disk.specs.Changing.{Alters, ChangesDisk, IsChangeFault, IsDevices, needed_for};
 ghost use Rattle.cms_disk.specs.Disks.{IsLookedAt, IsMinidisk, IsOthers, IsReadable, place_of};
-ghost use Rattle.cms_disk.specs.declared.fault.DiskFault.TheVariants.{Exists, NotFound, ReadOnly};
+ghost use Rattle.cms_disk.specs.declared.fault.DiskFault.TheVariants.{Exists, Memory, NotFound, ReadOnly};
 
 use crate::fault::DiskFault;
 use crate::minidisk::Minidisk;
@@ -41,6 +42,8 @@ impl Minidisk {
         ensures absent { place_of name.now self.old.volume ≡ None → result ≡ Err NotFound }
         ensures read_only { IfErr result (λ e. e ≡ ReadOnly → self.old.writable ≡ false) }
         ensures locked { self.old.writable ≡ false → (result ≡ Err NotFound) ⊎ (result ≡ Err ReadOnly) }
+        ensures fault { IfErr result (λ e. (e ≡ NotFound) ⊎ (e ≡ ReadOnly)
+            ⊎ IsChangeFault self.old.volume (needed self.old.volume (length self.old.volume.files - 1)) e) }
         ensures changes { ChangesDisk (seen W.World world.old) (seen W.World world.new) self.old self.new result }
     {
         if !self.has(name) {
@@ -76,6 +79,8 @@ impl Minidisk {
         ensures taken { IsOthers from.now to.now self.old.volume → (result ≡ Err NotFound) ⊎ (result ≡ Err Exists) }
         ensures read_only { IfErr result (λ e. e ≡ ReadOnly → self.old.writable ≡ false) }
         ensures locked { self.old.writable ≡ false → (result ≡ Err NotFound) ⊎ (result ≡ Err Exists) ⊎ (result ≡ Err ReadOnly) }
+        ensures fault { IfErr result (λ e. (e ≡ NotFound) ⊎ (e ≡ Exists) ⊎ (e ≡ ReadOnly)
+            ⊎ IsChangeFault self.old.volume (needed self.old.volume (length self.old.volume.files)) e) }
         ensures changes { ChangesDisk (seen W.World world.old) (seen W.World world.new) self.old self.new result }
     {
         if !self.has(from) {
@@ -106,6 +111,7 @@ impl Minidisk {
             → Alters (W.told world.old) (W.told world.new) self.old self.new m (Relabel volid) stamp.now result }
         ensures read_only { IfErr result (λ e. e ≡ ReadOnly → self.old.writable ≡ false) }
         ensures locked { self.old.writable ≡ false → result ≡ Err ReadOnly }
+        ensures fault { IfErr result (λ e. (e ≡ ReadOnly) ⊎ (e ≡ Memory) ⊎ IsDevices e) }
         ensures changes { ChangesDisk (seen W.World world.old) (seen W.World world.new) self.old self.new result }
     {
         if !self.is_writable() {
@@ -129,7 +135,7 @@ impl Minidisk {
         ensures alters { (j : Journal) (m : minidisks.Minidisk) → W.told world.old ≡ Some j
             → IsMinidisk j self.old m → IsLookedAt j self.old
             → Alters (W.told world.old) (W.told world.new) self.old self.new m (change_of change.now) stamp.now result }
-        ensures fault { IfErr result IsChangeFault }
+        ensures fault { IfErr result (IsChangeFault self.old.volume (needed_for self.old.volume change.now)) }
         ensures changes { ChangesDisk (seen W.World world.old) (seen W.World world.new) self.old self.new result }
     {
         let plan = match plan(alloc, &mut self.held, change, stamp) {

@@ -84,7 +84,7 @@ impl Minidisk {
             → IsMinidisk j self.old m → IsLookedAt j self.old → StandsFor file.now records
             → Alters (W.told world.old) (W.told world.new) self.old self.new m (Put (file_with name.now (shape_of file.now) records))
             stamp.now result }
-        ensures fault { IfErr result IsPutFault }
+        ensures fault { IfErr result (IsPutFault self.old name.now (shape_of file.now)) }
         ensures read_only { IfErr result (λ e. e ≡ ReadOnly → self.old.writable ≡ false) }
         ensures locked { self.old.writable ≡ false → result ≡ Err ReadOnly }
         ensures changes { ChangesDisk (seen W.World world.old) (seen W.World world.new) self.old self.new result }

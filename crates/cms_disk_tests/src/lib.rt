@@ -10,4 +10,6 @@ mod making_tests;
 #[cfg(test)]
 mod many_tests;
 #[cfg(test)]
+mod putting_tests;
+#[cfg(test)]
 mod reading_tests;

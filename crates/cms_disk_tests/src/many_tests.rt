@@ -63,7 +63,7 @@ fn name_of(letter: u8, number: u16) -> Option<Name> {
 }
 
 // One record of a byte.
-#[tactic(auto, using(crate::proofs::Blanks::one_byte), unfolding(cms_fields::specs::Stamps::is_stamp, cms_fields::specs::Stamps::days_of_month))]
+#[tactic(auto, using(crate::proofs::File::byte), unfolding(cms_fields::specs::Stamps::is_stamp, cms_fields::specs::Stamps::days_of_month))]
 fn byte(alloc: Global) -> Result<FileData, AllocError>
     ensures valid { IfOk result IsValid }
 {

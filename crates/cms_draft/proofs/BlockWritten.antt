@@ -21,8 +21,8 @@ use Rattle.cms_tree.specs.Levels.{mark_at}
 use Rattle.cms_tree.proofs.Filling.{overwrite-zeros}
 use Rattle.cms_tree.proofs.Stepping.{units_kept}
 use Rattle.cms_model.specs.LawsUpdates.{AddsFront}
-use Rattle.cms_held.specs.Drafts.{filled, data_block, data_write, draft_writes}
-use Rattle.cms_draft.specs.BlockWriting.{AddsOwnBlocks, IsWriter, CanWrite, came, Streams, ComesNext, IsDone, block_done, WritesBlock, IsNewWriter, IsSame, mark_on, AreMarked, written_with, Wrote, Stops, Finishes}
+use Rattle.cms_held.specs.Drafts.{filled, data_block, data_write, draft_writes, nowhere}
+use Rattle.cms_draft.specs.BlockWriting.{AddsOwnBlocks, IsWriter, CanWrite, came, Streams, ComesNext, IsDone, block_done, WritesBlock, IsAtStart, IsNewWriter, IsSame, mark_on, AreMarked, written_with, Wrote, Stops, Finishes}
 use Rattle.cms_draft.specs.declared.block_writer.BlockWriter.{BlockWriter}
 use Rattle.cms_held.proofs.Fronts.{wrote_behind, failed_behind, failed_before, wrote_none as no_writes}
 use Rattle.cms_tree.proofs.Lifting.{may_add_front}
@@ -198,10 +198,10 @@ climb_fails old mid new w bytes marks before f =
 -- ---- marks
 
 pub mark_here : (w : BlockWriter) (k : ℕ) → k ≡ w.whole → mark_on w k ≡ w.mark
-mark_here w k is = cond-true (eqb k w.whole) w.mark (record { last = w.mark.last; place = 0xFFFFFFFF }) (eq-eqb k w.whole is)
+mark_here w k is = cond-true (eqb k w.whole) w.mark (record { last = w.mark.last; place = nowhere }) (eq-eqb k w.whole is)
 
-pub mark_behind : (w : BlockWriter) (k : ℕ) → w.whole < k → mark_on w k ≡ record { last = w.mark.last; place = 0xFFFFFFFF }
-mark_behind w k past = cond-false (eqb k w.whole) w.mark (record { last = w.mark.last; place = 0xFFFFFFFF }) (ne_eqb k w.whole (λ is. absurd (omega arith)))
+pub mark_behind : (w : BlockWriter) (k : ℕ) → w.whole < k → mark_on w k ≡ record { last = w.mark.last; place = nowhere }
+mark_behind w k past = cond-false (eqb k w.whole) w.mark (record { last = w.mark.last; place = nowhere }) (ne_eqb k w.whole (λ is. absurd (omega arith)))
 
 last_same : (w : BlockWriter) (k : ℕ) → w.whole ≤ k → (mark_on w k).last ≡ w.mark.last
 last_same w k low = ⊎_elim
@@ -217,7 +217,7 @@ mark_later w w' k mark low later = ⊎_elim
     (λ (here : k ≡ w'.whole). mark_here w' k here ∙ mark ∙ ap (mark_on w) (sym here))
     (λ (other : k ≡ w'.whole → ⊥).
     mark_behind w' k (past other)
-    ∙ ap (λ (n : ℕ). record { last = n; place = 0xFFFFFFFF }) (ap (λ (m : Mark). m.last) mark ∙ last_same w w'.whole low)
+    ∙ ap (λ (n : ℕ). record { last = n; place = nowhere }) (ap (λ (m : Mark). m.last) mark ∙ last_same w w'.whole low)
     ∙ sym (mark_behind w k (let p = past other in omega arith)))
     (cases_eq k w'.whole)
   where
@@ -506,14 +506,7 @@ appended_stops old mid new w w1 text rest bytes marks b next are a more =
 
 -- how it is made
 pub record Made (unit bsize psize size : ℕ) (tree : HeldTree) (w : BlockWriter) : Type 0 where
-  pub unit_is : w.unit ≡ unit
-  pub bsize_is : w.bsize ≡ bsize
-  pub psize_is : w.psize ≡ psize
-  pub size_is : w.size ≡ size
-  pub tree_is : w.tree ≡ tree
-  pub whole : w.whole ≡ 0
-  pub filled : w.filled ≡ 0
-  pub mark : w.mark ≡ record { last = 0; place = 0xFFFFFFFF }
+  pub start : IsAtStart unit bsize psize size tree w
   pub block : w.block.items ≡ replicate bsize 0
   pub climb : IsNew bsize psize (length tree.leaves) w.climb
 
@@ -522,40 +515,33 @@ pub made_new : (unit bsize psize size : ℕ) (tree : HeldTree) (w : BlockWriter)
 made_new unit bsize psize size tree w block_size pointer few count nodes m =
     let c = m.climb in
     let added = c.added_is in
-    let whole = m.whole in
-    let filled = m.filled in
-    let bsize_is = m.bsize_is in
+    let whole = m.start.whole in
+    let filled = m.start.filled in
+    let bsize_is = m.start.bsize_is in
     record {
       is = record {
-        size = rw m.bsize_is block_size;
-        pointer = rw m.psize_is pointer;
-        block = ap (λ (l : List ℕ). length l) m.block ∙ length-replicate bsize 0 ∙ sym m.bsize_is;
-        count = rw (m.tree_is, m.size_is, m.bsize_is) count;
-        nodes = rw (m.tree_is, m.bsize_is, m.psize_is) nodes;
+        size = rw m.start.bsize_is block_size;
+        pointer = rw m.start.psize_is pointer;
+        block = ap (λ (l : List ℕ). length l) m.block ∙ length-replicate bsize 0 ∙ sym m.start.bsize_is;
+        count = rw (m.start.tree_is, m.start.size_is, m.start.bsize_is) count;
+        nodes = rw (m.start.tree_is, m.start.bsize_is, m.start.psize_is) nodes;
         climb_held = c.held;
-        climb_size = c.bsize_is ∙ sym m.bsize_is;
-        climb_pointer = c.psize_is ∙ sym m.psize_is;
-        climb_count = c.count_is ∙ ap (λ (t : HeldTree). length t.leaves) (sym m.tree_is);
+        climb_size = c.bsize_is ∙ sym m.start.bsize_is;
+        climb_pointer = c.psize_is ∙ sym m.start.psize_is;
+        climb_count = c.count_is ∙ ap (λ (t : HeldTree). length t.leaves) (sym m.start.tree_is);
         climb_added = omega arith;
         within = omega arith;
         filled = omega arith;
-        few = rw m.size_is few;
+        few = rw m.start.size_is few;
       };
-      unit_is = m.unit_is;
-      bsize_is = m.bsize_is;
-      psize_is = m.psize_is;
-      size_is = m.size_is;
-      tree_is = m.tree_is;
-      whole = m.whole;
-      filled = m.filled;
-      mark = m.mark;
+      start = m.start;
       streams = λ bytes marks plan long. record {
-        climbs = rw m.tree_is (c.climbs tree.leaves marks tree.pointers plan refl);
-        added = c.added_is ∙ sym m.whole;
-        size = long ∙ sym m.size_is;
+        climbs = rw m.start.tree_is (c.climbs tree.leaves marks tree.pointers plan refl);
+        added = c.added_is ∙ sym m.start.whole;
+        size = long ∙ sym m.start.size_is;
         block = m.block ∙ zeros bytes;
       };
     }
   where
     zeros : (bytes : List ℕ) → replicate bsize 0 ≡ filled w.bsize (take w.filled (drop (w.whole * w.bsize) bytes))
-    zeros bytes = let e : bsize - 0 ≡ bsize = omega arith in rw (m.filled, m.bsize_is, e) refl
+    zeros bytes = let e : bsize - 0 ≡ bsize = omega arith in rw (m.start.filled, m.start.bsize_is, e) refl

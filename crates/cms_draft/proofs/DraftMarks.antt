@@ -14,7 +14,7 @@ use Rattle.cms_model.proofs.Records.{length-with_length}
 use Rattle.cms_tree.specs.declared.types.Mark.{Mark}
 use Rattle.cms_tree.specs.Builds.{no_mark}
 use Rattle.cms_tree.specs.Levels.{mark_at}
-use Rattle.cms_held.specs.Drafts.{mark_of, starts_from}
+use Rattle.cms_held.specs.Drafts.{mark_of, starts_from, nowhere}
 
 -- where records begin behind others
 starts_append : (p : ℕ) (xs ys : List (List ℕ)) → starts_from p (xs ++ ys) ≡ starts_from p xs ++ starts_from (p + length (stored V xs)) ys
@@ -111,7 +111,7 @@ place_is : (bsize k : ℕ) (records more : List (List ℕ)) (text : List ℕ) �
 place_is bsize k records more text end =
     let low = k * bsize in
     let e = (k + 1) * bsize in
-    let f = λ (o : Option ℕ). option_map_or (λ place. place - k * bsize) o 0xFFFFFFFF in
+    let f = λ (o : Option ℕ). option_map_or (λ place. place - k * bsize) o nowhere in
     let behind = find_none_behind (begin_of records + (2 + length text)) low e more end in
     ap f (ap (find (within low e)) (split_is records more text)
     ∙ find-append (within low e) (starts_from 0 (records ++ text ∷ [])) (starts_from (begin_of records + (2 + length text)) more)
@@ -122,12 +122,12 @@ place_is bsize k records more text end =
     or_none (Some x) = refl
 
 -- no record begins in a data block behind the one in which the last does
-pub place_none : (bsize k : ℕ) (records : List (List ℕ)) (text : List ℕ) → begin_of records < k * bsize → (mark_of bsize (starts_from 0 (records ++ text ∷ [])) k).place ≡ 0xFFFFFFFF
+pub place_none : (bsize k : ℕ) (records : List (List ℕ)) (text : List ℕ) → begin_of records < k * bsize → (mark_of bsize (starts_from 0 (records ++ text ∷ [])) k).place ≡ nowhere
 place_none bsize k records text past =
     let low = k * bsize in
     let e = (k + 1) * bsize in
     let s = begin_of records in
-    let f = λ (o : Option ℕ). option_map_or (λ place. place - k * bsize) o 0xFFFFFFFF in
+    let f = λ (o : Option ℕ). option_map_or (λ place. place - k * bsize) o nowhere in
     let front = find_none_before 0 low e records (omega arith) in
     let none : nat_le low s ≡ false = grind (arith, nat_tests) in
     let out : within low e s ≡ false = ap (λ (b : Bool). b && nat_lt s e) none in
@@ -147,12 +147,12 @@ found test (x ∷ xs) y is = ⊎_elim
     some_same e = cc
 
 abbrev place_in : ℕ → Option ℕ → ℕ
-place_in low o = option_map_or (λ place. place - low) o 0xFFFFFFFF
+place_in low o = option_map_or (λ place. place - low) o nowhere
 
-place_case : (low f s : ℕ) (o : Option ℕ) → ((q : ℕ) → o ≡ Some q → q - low ≡ 0xFFFFFFFF → ⊥) → s - low ≡ f
-    → (if place_in low o == 0xFFFFFFFF then f else place_in low o) ≡ place_in low (option_or o (Some s))
+place_case : (low f s : ℕ) (o : Option ℕ) → ((q : ℕ) → o ≡ Some q → q - low ≡ nowhere → ⊥) → s - low ≡ f
+    → (if place_in low o == nowhere then f else place_in low o) ≡ place_in low (option_or o (Some s))
 place_case low f s None never at = sym at
-place_case low f s (Some q) never at = cond-false (eqb (q - low) 0xFFFFFFFF) f (q - low) (ne_eqb (q - low) 0xFFFFFFFF (never q refl))
+place_case low f s (Some q) never at = cond-false (eqb (q - low) nowhere) f (q - low) (ne_eqb (q - low) nowhere (never q refl))
 
 both_true : (a b : Bool) → a ≡ true → b ≡ true → (a && b) ≡ true
 both_true true b is is' = is'
@@ -164,7 +164,7 @@ right_true false b is = absurd (cc)
 
 -- where a record begins with the next byte, the first that begins in the data block
 pub started_place : (bsize whole f : ℕ) (records : List (List ℕ)) (text : List ℕ) → f < bsize → bsize ≤ 4096 → begin_of records ≡ whole * bsize + f
-    → (if (mark_of bsize (starts_from 0 records) whole).place == 0xFFFFFFFF then f else (mark_of bsize (starts_from 0 records) whole).place)
+    → (if (mark_of bsize (starts_from 0 records) whole).place == nowhere then f else (mark_of bsize (starts_from 0 records) whole).place)
     ≡ (mark_of bsize (starts_from 0 (records ++ text ∷ [])) whole).place
 started_place bsize whole f records text low short at =
     let starts = starts_from 0 records in
@@ -177,7 +177,7 @@ started_place bsize whole f records text low short at =
     let whole_is : find (within from end) (starts_from 0 (records ++ text ∷ [])) ≡ option_or (find (within from end) starts) (Some s) =
     ap (find (within from end)) (starts_append 0 records (text ∷ [])) ∙ find-append (within from end) starts (s ∷ [])
     ∙ ap (option_or (find (within from end) starts)) (cond-true (within from end s) (Some s) None here) in
-    let never : (q : ℕ) → find (within from end) starts ≡ Some q → q - from ≡ 0xFFFFFFFF → ⊥ = (λ q is e.
+    let never : (q : ℕ) → find (within from end) starts ≡ Some q → q - from ≡ nowhere → ⊥ = (λ q is e.
     let passes : nat_lt q end ≡ true = right_true (nat_le from q) (nat_lt q end) (found (within from end) starts q is) in
     let less : q < end = grind (arith, nat_tests) in absurd (omega arith)) in
     place_case from f s (find (within from end) starts) never (omega arith) ∙ ap (place_in from) (sym whole_is)
@@ -204,5 +204,5 @@ pub mark_end : (bsize k : ℕ) (records : List (List ℕ)) → length (stored V 
     → mark_of bsize (starts_from 0 records) k ≡ record { last = length records; place = (mark_of bsize (starts_from 0 records) k).place }
 mark_end bsize k records low = ap (λ (n : ℕ). record { last = n; place = (mark_of bsize (starts_from 0 records) k).place }) (count_all 0 ((k + 1) * bsize) records (omega arith))
 
-pub place_past : (bsize k : ℕ) (records : List (List ℕ)) → length (stored V records) ≤ k * bsize → (mark_of bsize (starts_from 0 records) k).place ≡ 0xFFFFFFFF
+pub place_past : (bsize k : ℕ) (records : List (List ℕ)) → length (stored V records) ≤ k * bsize → (mark_of bsize (starts_from 0 records) k).place ≡ nowhere
 place_past bsize k records low = ap (place_in (k * bsize)) (find_none_before 0 (k * bsize) ((k + 1) * bsize) records (omega arith))

@@ -22,7 +22,7 @@ use Rattle.cms_fields.specs.Limits.{most_bytes}
 use Rattle.cms_draft.specs.declared.shape.DraftShape.{DraftShape}
 use Rattle.std.proofs.lemmas.List.{length-map}
 use Rattle.std.proofs.lemmas.List.FromFn.{length-range_with_len}
-use Rattle.cms_held.specs.Drafts.{mark_of, starts_from}
+use Rattle.cms_held.specs.Drafts.{mark_of, starts_from, nowhere}
 use Rattle.cms_draft.specs.BlockWriting.{Finishes, IsNewWriter, IsWriter, IsSame, came, AreMarked, ComesNext, Stops, Streams, Writes, Wrote, mark_on, with_start}
 use Rattle.cms_draft.specs.Drafting.{Drafting, Drafts, IsDrafting, IsFresh, IsMarkedSo, Puts, marks_in, marks_of}
 use Rattle.cms_draft.specs.declared.block_writer.BlockWriter.{BlockWriter}
@@ -71,8 +71,8 @@ begun_mark w records text k mark at unfilled short low = ⊎_elim here behind (c
     last : w.mark.last + 1 ≡ length records + 1
     last = ap (λ (m : Mark). m.last + 1) mark
 
-    place : (if w.mark.place == 0xFFFFFFFF then w.filled else w.mark.place) ≡ (mark_of w.bsize (starts_from 0 (records ++ text ∷ [])) w.whole).place
-    place = ap (λ (n : ℕ). if n == 0xFFFFFFFF then w.filled else n) (ap (λ (m : Mark). m.place) mark) ∙ started_place w.bsize w.whole w.filled records text unfilled short at'
+    place : (if w.mark.place == nowhere then w.filled else w.mark.place) ≡ (mark_of w.bsize (starts_from 0 (records ++ text ∷ [])) w.whole).place
+    place = ap (λ (n : ℕ). if n == nowhere then w.filled else n) (ap (λ (m : Mark). m.place) mark) ∙ started_place w.bsize w.whole w.filled records text unfilled short at'
 
     here : k ≡ w.whole → mark_on next k ≡ record { last = length records + 1; place = (mark_of w.bsize (starts_from 0 (records ++ text ∷ [])) k).place }
     here is = mark_here next k is ∙ ap (λ (n : ℕ). record { last = n; place = (with_start w).place }) last
@@ -88,7 +88,7 @@ begun_mark w records text k mark at unfilled short low = ⊎_elim here behind (c
     behind other =
         let more = next_multiple w.whole w.bsize in
         let wide = mul-le-mul_right w.bsize (past other) in
-        mark_behind next k (past' other) ∙ ap (λ (n : ℕ). record { last = n; place = 0xFFFFFFFF }) last
+        mark_behind next k (past' other) ∙ ap (λ (n : ℕ). record { last = n; place = nowhere }) last
         ∙ ap (λ (n : ℕ). record { last = length records + 1; place = n }) (sym (place_none w.bsize k records text (omega arith)))
 
 -- and it is the mark that it is to have, where it is whole with that record
@@ -358,7 +358,7 @@ stored_none : (format : Format) → 0 ≡ length (stored format [])
 stored_none F = refl
 stored_none V = refl
 
-first_mark : (format : Format) (w : BlockWriter) → w.mark ≡ record { last = 0; place = 0xFFFFFFFF } → IsMarkedSo format w []
+first_mark : (format : Format) (w : BlockWriter) → w.mark ≡ record { last = 0; place = nowhere } → IsMarkedSo format w []
 first_mark F w is = tt
 first_mark V w is = is
 
@@ -370,9 +370,9 @@ pub fresh_new : (unit bsize psize : ℕ) (shape : DraftShape) (tree : HeldTree) 
     → IsFresh unit bsize shape tree (record { shape = shape; put = 0; writer = w })
 fresh_new unit bsize psize shape tree w psize_is some n = record {
   shape_is = refl;
-  unit_is = n.unit_is;
-  bsize_is = n.bsize_is;
-  tree_is = n.tree_is;
+  unit_is = n.start.unit_is;
+  bsize_is = n.start.bsize_is;
+  tree_is = n.start.tree_is;
   put = refl;
   came_is = came_none;
   drafts = λ records h. record {
@@ -380,25 +380,25 @@ fresh_new unit bsize psize shape tree w psize_is some n = record {
     count = sym h.count;
     streams = n.streams (stored shape.format records) (marks_in (record { shape = shape; put = 0; writer = w }) records) (plan records) h.bytes;
     came_is = came_none ∙ stored_none shape.format;
-    mark = first_mark shape.format w n.mark;
+    mark = first_mark shape.format w n.start.mark;
     each = h.each;
   };
 }
   where
     came_none : came w ≡ 0
-    came_none = rw (n.whole, n.filled) (omega arith)
+    came_none = rw (n.start.whole, n.start.filled) (omega arith)
 
     size : IsBlockSize bsize
-    size = rw (← n.bsize_is) n.is.size
+    size = rw (← n.start.bsize_is) n.is.size
 
     count : length tree.leaves ≡ up shape.bytes bsize
-    count = sym (ap (λ (t : HeldTree). length t.leaves) n.tree_is) ∙ n.is.count ∙ (rw (n.size_is, n.bsize_is) refl)
+    count = sym (ap (λ (t : HeldTree). length t.leaves) n.start.tree_is) ∙ n.is.count ∙ (rw (n.start.size_is, n.start.bsize_is) refl)
 
     sizes : (1 ≤ bsize) × (bsize ≤ 4096)
     sizes = short_blocks bsize size
 
     few : length tree.leaves ≤ most_bytes
-    few = subst (λ (t : HeldTree). length t.leaves ≤ most_bytes) n.tree_is (few_leaves w n.is)
+    few = subst (λ (t : HeldTree). length t.leaves ≤ most_bytes) n.start.tree_is (few_leaves w n.is)
 
     plan : (records : List (List ℕ)) → IsBuildable bsize psize tree.leaves (marks_in (record { shape = shape; put = 0; writer = w }) records) tree.pointers
     plan records = record {
@@ -406,8 +406,8 @@ fresh_new unit bsize psize shape tree w psize_is some n = record {
       pointer = rw psize_is (both_sizes shape.format);
       some = subst (λ (m : ℕ). 0 < m) (sym count) (up_some shape.bytes bsize sizes.0 some);
       few = let short = few in omega arith;
-      each = λ wide. marks_long shape.format w.bsize records (length w.tree.leaves) (sym psize_is ∙ wide) ∙ ap (λ (t : HeldTree). length t.leaves) n.tree_is;
-      numbers = ap (λ (t : HeldTree). length t.pointers) (sym n.tree_is) ∙ n.is.nodes ∙ (rw (n.bsize_is, n.psize_is, n.tree_is) refl);
+      each = λ wide. marks_long shape.format w.bsize records (length w.tree.leaves) (sym psize_is ∙ wide) ∙ ap (λ (t : HeldTree). length t.leaves) n.start.tree_is;
+      numbers = ap (λ (t : HeldTree). length t.pointers) (sym n.start.tree_is) ∙ n.is.nodes ∙ (rw (n.start.bsize_is, n.start.psize_is, n.start.tree_is) refl);
     }
 
 -- ---- a file of which all records are put
@@ -442,7 +442,7 @@ end_marks w records is mark at unfilled wide k low end = the_mark ∙ sym (mark_
         let before : w.whole < k = past other in
         let low' : w.whole + 1 ≤ k = omega arith in
         let wider = mul-le-mul_right w.bsize low' in
-        mark_behind w k (past other) ∙ ap (λ (m : Mark). record { last = m.last; place = 0xFFFFFFFF }) mark
+        mark_behind w k (past other) ∙ ap (λ (m : Mark). record { last = m.last; place = nowhere }) mark
         ∙ ap (λ (n : ℕ). record { last = length records; place = n }) (sym (place_past w.bsize k records (omega arith))) ∙ sym ends
 
     the_mark : mark_on w k ≡ mark_of w.bsize (starts_from 0 records) k

@@ -1,5 +1,5 @@
 -- Data blocks that are written one after another while their bytes come, and the pointer blocks over them.
-use Rattle.std.specs.Prelude.{◌≡◌, ◌⊎◌, ◌==◌, ℕ, ◌+◌, ◌*◌, ◌/◌, ◌≤◌, if◌then◌else◌, List, ◌∷◌, ◌++◌, length, take, drop, Result, Ok, Err, ⊤}
+use Rattle.std.specs.Prelude.{◌≡◌, ◌⊎◌, ◌==◌, ℕ, ◌+◌, ◌*◌, ◌/◌, ◌<◌, ◌≤◌, if◌then◌else◌, List, ◌∷◌, ◌++◌, length, take, drop, Result, Ok, Err, ⊤}
 use Rattle.cms_journal.specs.Journal.{IsBlockSize, IsWritable}
 use Rattle.cms_journal.specs.Told.{Told, plus}
 use Rattle.cms_journal.specs.declared.event.Attached.{Attached}
@@ -14,7 +14,7 @@ use Rattle.cms_tree.specs.Climbs.{AddsOwn, Climbs, HasEach, HoldsLittle, climb_w
 use Rattle.cms_tree.specs.Levels.{mark_at}
 use Rattle.cms_model.specs.LawsUpdates.{AddsFront}
 use Rattle.cms_held.specs.Opening.{HeldTree}
-use Rattle.cms_held.specs.Drafts.{filled, data_block, data_write, draft_writes}
+use Rattle.cms_held.specs.Drafts.{filled, data_block, data_write, draft_writes, nowhere}
 use Rattle.cms_draft.specs.declared.block_writer.BlockWriter.{BlockWriter}
 
 -- what always holds: beside the numbers of its blocks it holds the bytes of one data block, and those of one block for each level; the data
@@ -87,11 +87,11 @@ pub record IsSame (w w' : BlockWriter) : Type 0 where
 
 -- the mark that data block k is to have, from the one that comes next on, as long as no record begins
 abbrev pub mark_on : BlockWriter → ℕ → Mark
-mark_on w k = if k == w.whole then w.mark else record { last = w.mark.last; place = 0xFFFFFFFF }
+mark_on w k = if k == w.whole then w.mark else record { last = w.mark.last; place = nowhere }
 
 -- the mark of the data block that comes next, where a record begins with the next byte
 abbrev pub with_start : BlockWriter → Mark
-with_start w = record { last = w.mark.last + 1; place = if w.mark.place == 0xFFFFFFFF then w.filled else w.mark.place }
+with_start w = record { last = w.mark.last + 1; place = if w.mark.place == nowhere then w.filled else w.mark.place }
 
 -- these are the marks of the data blocks that are whole with so many bytes
 abbrev pub AreMarked : BlockWriter → ℕ → List Mark → Type 0
@@ -121,6 +121,20 @@ abbrev pub Writes : {A : Type 0} → Told → Told → BlockWriter → BlockWrit
 Writes old new w w' bytes marks upto (Ok x) = Wrote old new w w' bytes marks
 Writes old new w w' bytes marks upto (Err e) = Stops old new w bytes marks upto
 
+-- these bytes were taken behind those that came, whatever the others are, or a write failed
+abbrev pub TakesBytes : {A : Type 0} → Told → Told → BlockWriter → BlockWriter → List ℕ → Result A Failed → Type 0
+TakesBytes old new w w' bytes result = (whole : List ℕ) (marks : List Mark) → Streams w whole marks → ComesNext (came w) bytes whole
+    → AreMarked w (came w + length bytes) marks → Writes old new w w' whole marks (came w + length bytes) result
+
+-- the same writer later, in which no record began: at most so many bytes came, and its data block has room
+pub record IsLater (w w' : BlockWriter) (upto : ℕ) : Type 0 where
+  pub is : IsWriter w'
+  pub same : IsSame w w'
+  pub unfilled : w'.filled < w'.bsize
+  pub within : came w' ≤ upto
+  pub last : w'.mark.last ≡ w.mark.last
+  pub later : w.whole ≤ w'.whole
+
 -- all that was left to be written was, or a front of it
 abbrev pub Finishes : {A : Type 0} → Told → Told → BlockWriter → List ℕ → List Mark → Result A Failed → Type 0
 Finishes old new w bytes marks (Ok x) = (part : List Write) × (new ≡ plus old (writes w.unit part))
@@ -128,9 +142,8 @@ Finishes old new w bytes marks (Ok x) = (part : List Write) × (new ≡ plus old
 Finishes old new w bytes marks (Err e) = (part : List Write) × AddsFront old new (writes w.unit part)
     × (written_with w bytes marks w.whole ++ part ≡ written_with w bytes marks (length w.tree.leaves))
 
--- no byte came yet, whatever they are
-pub record IsNewWriter (unit bsize psize size : ℕ) (tree : HeldTree) (w : BlockWriter) : Type 0 where
-  pub is : IsWriter w
+-- so many bytes are to come into these blocks, and none came yet
+pub record IsAtStart (unit bsize psize size : ℕ) (tree : HeldTree) (w : BlockWriter) : Type 0 where
   pub unit_is : w.unit ≡ unit
   pub bsize_is : w.bsize ≡ bsize
   pub psize_is : w.psize ≡ psize
@@ -138,6 +151,11 @@ pub record IsNewWriter (unit bsize psize size : ℕ) (tree : HeldTree) (w : Bloc
   pub tree_is : w.tree ≡ tree
   pub whole : w.whole ≡ 0
   pub filled : w.filled ≡ 0
-  pub mark : w.mark ≡ record { last = 0; place = 0xFFFFFFFF }
+  pub mark : w.mark ≡ record { last = 0; place = nowhere }
+
+-- a writer to which no byte came yet, whatever they are
+pub record IsNewWriter (unit bsize psize size : ℕ) (tree : HeldTree) (w : BlockWriter) : Type 0 where
+  pub is : IsWriter w
+  pub start : IsAtStart unit bsize psize size tree w
   pub streams : (bytes : List ℕ) (marks : List Mark) → IsBuildable bsize psize tree.leaves marks tree.pointers → length bytes ≡ size
       → Streams w bytes marks

@@ -7,7 +7,8 @@ ghost use Rattle.cms_fields.specs.Limits.{most_bytes, most_records};
 ghost use Rattle.cms_fields.specs.Numbers.{up};
 ghost use Rattle.cms_model.specs.Sizes.{pointer_count};
 ghost use Rattle.cms_tree.specs.declared.types.Mark.{Mark};
-ghost use Rattle.cms_draft.specs.BlockWriting.{AreMarked, CanWrite, ComesNext, Finishes, IsDone, IsSame, IsNewWriter, IsWriter, AddsOwnBlocks, Streams, Writes, WritesBlock, came, mark_on, with_start};
+ghost use Rattle.cms_held.specs.Drafts.{nowhere};
+ghost use Rattle.cms_draft.specs.BlockWriting.{AddsOwnBlocks, AreMarked, CanWrite, Finishes, IsDone, IsLater, IsNewWriter, IsSame, IsWriter, Streams, TakesBytes, WritesBlock, came, mark_on, with_start};
 
 use cms_held::TreeBlocks;
 use cms_journal::BlockSize;
@@ -114,7 +115,7 @@ impl BlockWriter {
         ensures zeros { self.new.block.items ≡ replicate (length self.old.block.items) 0 }
         ensures same { self.new ≡ record self.old {
           block = self.new.block;
-          mark = record { last = self.old.mark.last; place = 0xFFFFFFFF };
+          mark = record { last = self.old.mark.last; place = nowhere };
         } }
     {
         self.block.fill(0);
@@ -134,7 +135,7 @@ impl BlockWriter {
         ensures empty { self.new.filled ≡ 0 }
         ensures last { self.new.mark.last ≡ self.old.mark.last }
         ensures zeros { OnOk result (self.new.block.items ≡ replicate self.old.bsize 0) }
-        ensures mark { OnOk result (self.new.mark ≡ record { last = self.old.mark.last; place = 0xFFFFFFFF }) }
+        ensures mark { OnOk result (self.new.mark ≡ record { last = self.old.mark.last; place = nowhere }) }
         ensures own { AddsOwnBlocks (W.told world.old) (W.told world.new) self.old }
         ensures still { ForSome (W.told world.new) (λ j. CanWrite j.units self.new) }
         ensures counts { OnUnits (seen W.World world.old) (seen W.World world.new) result }
@@ -160,15 +161,8 @@ impl BlockWriter {
         requires room { came self.old + length bytes.now ≤ self.old.size }
         requires ready { ForSome (W.told world.old) (λ j. CanWrite j.units self.old) }
         ensures taken { IfOk result (λ n. (1 ≤ n) × (n ≤ length bytes.now) × (came self.new ≡ came self.old + n)) }
-        ensures writes { (whole : List ℕ) (marks : List Mark) → Streams self.old whole marks → ComesNext (came self.old) bytes.now whole
-            → AreMarked self.old (came self.old + length bytes.now) marks
-            → Writes (W.told world.old) (W.told world.new) self.old self.new whole marks (came self.old + length bytes.now) result }
-        ensures is { IsWriter self.new }
-        ensures same { IsSame self.old self.new }
-        ensures unfilled { self.new.filled < self.new.bsize }
-        ensures within { came self.new ≤ came self.old + length bytes.now }
-        ensures last { self.new.mark.last ≡ self.old.mark.last }
-        ensures later { self.old.whole ≤ self.new.whole }
+        ensures writes { TakesBytes (W.told world.old) (W.told world.new) self.old self.new bytes.now result }
+        ensures later { IsLater self.old self.new (came self.old + length bytes.now) }
         ensures mark { OnOk result (self.new.mark ≡ mark_on self.old self.new.whole) }
         ensures own { AddsOwnBlocks (W.told world.old) (W.told world.new) self.old }
         ensures still { ForSome (W.told world.new) (λ j. CanWrite j.units self.new) }
@@ -192,16 +186,9 @@ impl BlockWriter {
         requires unfilled { self.old.filled < self.old.bsize }
         requires room { came self.old + length bytes.now ≤ self.old.size }
         requires ready { ForSome (W.told world.old) (λ j. CanWrite j.units self.old) }
-        ensures writes { (whole : List ℕ) (marks : List Mark) → Streams self.old whole marks → ComesNext (came self.old) bytes.now whole
-            → AreMarked self.old (came self.old + length bytes.now) marks
-            → Writes (W.told world.old) (W.told world.new) self.old self.new whole marks (came self.old + length bytes.now) result }
+        ensures writes { TakesBytes (W.told world.old) (W.told world.new) self.old self.new bytes.now result }
         ensures all { OnOk result (came self.new ≡ came self.old + length bytes.now) }
-        ensures is { IsWriter self.new }
-        ensures same { IsSame self.old self.new }
-        ensures unfilled { self.new.filled < self.new.bsize }
-        ensures within { came self.new ≤ came self.old + length bytes.now }
-        ensures last { self.new.mark.last ≡ self.old.mark.last }
-        ensures later { self.old.whole ≤ self.new.whole }
+        ensures later { IsLater self.old self.new (came self.old + length bytes.now) }
         ensures mark { OnOk result (self.new.mark ≡ mark_on self.old self.new.whole) }
         ensures own { AddsOwnBlocks (W.told world.old) (W.told world.new) self.old }
         ensures still { ForSome (W.told world.new) (λ j. CanWrite j.units self.new) }

@@ -1,7 +1,6 @@
 -- A file whose records were put becomes the volume's.
-use Rattle.std.proofs.Common.{◌≡◌, ◌⊎◌, inl, inr, ⊎_elim, ℕ, ◌+◌, ◌-◌, ◌*◌, ◌/◌, ◌^◌, ◌<◌, ◌≤◌, min, List, [], ◌∷◌, ◌++◌, length, position, All, Option, None, Some, Result, Ok, Err, OnOk, OnErr, refl, sym, ◌∙◌, ap, subst, arith, append_assoc, append-nil}
-use Rattle.std.specs.Prelude.{IfErr, IsSomeAnd, slice_get, ⊤}
-use Rattle.std.specs.Option.{ForSome}
+use Rattle.std.proofs.Common.{◌≡◌, ◌⊎◌, inl, inr, ⊎_elim, ℕ, ◌+◌, ◌-◌, ◌*◌, ◌≤◌, List, [], ◌∷◌, ◌++◌, length, position, All, Option, None, Some, Result, Ok, Err, OnOk, OnErr, refl, sym, ◌∙◌, ap, subst, arith, append_assoc, append-nil}
+use Rattle.std.specs.Prelude.{IsSomeAnd, slice_get, ⊤}
 use Rattle.std.proofs.lemmas.List.Elements.{All-nil, All-cons, All-head, All-tail, All-append, All-set}
 use Rattle.cms_journal.specs.Causes.{HasCause, Rose}
 use Rattle.cms_journal.specs.declared.event.Event.{Event}
@@ -14,7 +13,7 @@ use Rattle.cms_journal.proofs.Pieces.{plus_plus}
 use Rattle.cms_names.specs.declared.name.Name.{Name}
 use Rattle.cms_names.specs.declared.name.Format.{Format}
 use Rattle.cms_fields.specs.Entries.{pointer_size}
-use Rattle.cms_fields.specs.Limits.{most_bytes, most_files, most_records}
+use Rattle.cms_fields.specs.Limits.{most_bytes}
 use Rattle.cms_fields.specs.Numbers.{up}
 use Rattle.cms_fields.specs.declared.entry.Entry.{Entry}
 use Rattle.cms_fields.specs.declared.label.Label.{Label}
@@ -35,10 +34,10 @@ use Rattle.cms_tree.specs.Builds.{IsBuildable}
 use Rattle.cms_tree.specs.Climbs.{AreOwn, HasEach}
 use Rattle.cms_held.specs.Kept.{IsKeptFile, Keeps}
 use Rattle.cms_held.specs.Opening.{HeldFile, HeldTree, HeldVolume, names_in}
-use Rattle.cms_held.specs.Systems.{Systems, system_writes}
+use Rattle.cms_held.specs.Systems.{system_writes}
 use Rattle.cms_held.specs.Drafts.{HasAll, HasDraft, draft_writes}
 use Rattle.cms_held.specs.Renewing.{Edit, blocks_in, renewed}
-use Rattle.cms_held.specs.LawsRenewing.{later_of, writes_of}
+use Rattle.cms_held.specs.LawsRenewing.{writes_of}
 use Rattle.cms_held.specs.Carrying.{Carries, IsHeldMinidisk, written_count}
 use Rattle.cms_held.specs.Putting.{GoesOn, IsPutAs, IsPutReady}
 use Rattle.cms_held.proofs.DraftOwn.{part_own}
@@ -47,12 +46,12 @@ use Rattle.cms_held.proofs.Fronts.{failed_behind, failed_before, writes_append}
 use Rattle.cms_held.proofs.PutAsides.{free_is_aside}
 use Rattle.cms_held.proofs.PutCarried.{put_is_carried}
 use Rattle.cms_held.proofs.PutSmall.{put_is_small}
-use Rattle.cms_draft.specs.BlockWriting.{CanWrite, Finishes, Streams, written_with}
-use Rattle.cms_draft.specs.Drafting.{Drafting, Drafts, IsDrafting, marks_in}
+use Rattle.cms_draft.specs.BlockWriting.{CanWrite, Streams}
+use Rattle.cms_draft.specs.Drafting.{Drafts, IsDrafting, marks_in}
 use Rattle.cms_draft.specs.declared.block_writer.BlockWriter.{BlockWriter}
 use Rattle.cms_draft.specs.declared.shape.DraftShape.{DraftShape}
-use Rattle.cms_edf.specs.Doubts.{IsCutOff}
-use Rattle.cms_edf.specs.FileDrafts.{CommitEvents, Commits, DraftStands, FileDraft, IsCommitted, IsCommittedAt, IsDraftFor, IsLeft, IsSomeDraft, LeadsToFile, PutsFile, commit_writes, entry_for, file_for, files_with, put_in, put_writes, tree_of}
+use Rattle.cms_edf.specs.Doubts.{IsCutOff, Updates, UpdatesSystems}
+use Rattle.cms_edf.specs.FileDrafts.{CommitEvents, Commits, DraftStands, FileDraft, IsCommitted, IsCommittedAt, IsDraftFor, IsLeft, IsSomeDraft, PutsFile, commit_writes, file_for, files_with, put_in, put_writes, tree_of}
 use Rattle.cms_edf.specs.declared.doubt.Doubt.{Doubt}
 use Rattle.cms_edf.specs.declared.doubt.Doubt.TheVariants.{Old, Either}
 use Rattle.cms_edf.proofs.DraftPlanned.{limits}
@@ -90,7 +89,8 @@ kept_file v name shape stamp d p size =
       size = l.2;
     }
 
-with_kept : (bsize total : ℕ) (files : List HeldFile) (place : Option ℕ) (g : HeldFile) → All (IsKeptFile bsize total) files → IsKeptFile bsize total g → All (IsKeptFile bsize total) (files_with files place g)
+with_kept : (bsize total : ℕ) (files : List HeldFile) (place : Option ℕ) (g : HeldFile) → All (IsKeptFile bsize total) files → IsKeptFile bsize total g
+    → All (IsKeptFile bsize total) (files_with files place g)
 with_kept bsize total files None g all own = All-append (IsKeptFile bsize total) files (g ∷ []) all (All-cons (IsKeptFile bsize total) g [] own (All-nil (IsKeptFile bsize total)))
 with_kept bsize total files (Some place) g all own = All-set (IsKeptFile bsize total) files place g own all
 
@@ -154,7 +154,8 @@ can_write units v d some has may =
     let p = some.is in
     let P = λ (n : ℕ). (6 ≤ n) × (n ≤ v.label.blocks) in
     let leaves = each_there units v.unit v.label.blocks v.disk.count v.disk.bsize (tree_of d).leaves p.file.ready.kept.within has (left_all P (tree_of d).leaves (tree_of d).pointers p.file.within) in
-    let nodes = each_there units v.unit v.label.blocks v.disk.count v.disk.bsize (tree_of d).pointers p.file.ready.kept.within has (right_all P (tree_of d).leaves (tree_of d).pointers p.file.within) in
+    let nodes = each_there units v.unit v.label.blocks v.disk.count v.disk.bsize (tree_of d).pointers p.file.ready.kept.within has
+    (right_all P (tree_of d).leaves (tree_of d).pointers p.file.within) in
     record {
       leaves = rw (p.unit_is, p.bsize_is) leaves;
       nodes = rw (p.unit_is, p.bsize_is) nodes;
@@ -186,16 +187,17 @@ with_label_behind u rest ws label =
 behind : (old mid new : Told) (a b whole : List Event) → mid ≡ plus old a → new ≡ plus mid b → whole ≡ a ++ b → new ≡ plus old whole
 behind old mid new a b whole before after' is = after' ∙ ap (λ (t : Told). plus t b) before ∙ plus_plus old a b ∙ ap (plus old) (sym is)
 
-cut_behind : (old mid new : Told) (u : ℕ) (rest ws : List Write) (label : List ℕ) (why : Doubt) → mid ≡ plus old (writes u rest) → IsCutOff mid new u ws label why → IsCutOff old new u (rest ++ ws) label why
+cut_behind : (old mid new : Told) (u : ℕ) (rest ws : List Write) (label : List ℕ) (why : Doubt) → mid ≡ plus old (writes u rest) → IsCutOff mid new u ws label why
+    → IsCutOff old new u (rest ++ ws) label why
 cut_behind old mid new u rest ws label Old before f = failed_behind old mid new u rest ws before f
 cut_behind old mid new u rest ws label Either before (inl told) = inl (behind old mid new (writes u rest) (to_label u ws) (to_label u (rest ++ ws)) before told (to_label_behind u rest ws))
-cut_behind old mid new u rest ws label Either before (inr told) = inr (behind old mid new (writes u rest) (with_label u ws label) (with_label u (rest ++ ws) label) before told (with_label_behind u rest ws label))
+cut_behind old mid new u rest ws label Either before (inr told) =
+    inr (behind old mid new (writes u rest) (with_label u ws label) (with_label u (rest ++ ws) label) before told (with_label_behind u rest ws label))
 
 -- all that is left of the file was written, and then the update
 pub events_behind : (old mid new : Told) (v : HeldVolume) (d : FileDraft) (rest : List Write) (r : Result ⊤ Doubt) → IsSomeDraft v d → mid ≡ plus old (writes d.writer.writer.unit rest)
-    → OnOk r (new ≡ plus mid (update v.unit (system_writes (length d.systems.label_bytes) d.systems) d.systems.label_bytes))
-    → IfErr r (IsCutOff mid new v.unit (system_writes (length d.systems.label_bytes) d.systems) d.systems.label_bytes) → CommitEvents old new v d rest r
-events_behind old mid new v d rest r some before done cut = answer r done' cut'
+    → UpdatesSystems mid new v.unit d.systems r → CommitEvents old new v d rest r
+events_behind old mid new v d rest r some before ups = answer r (subst (λ (ws : List Write). Updates mid new v.unit ws d.systems.label_bytes r) size ups)
   where
     size : system_writes (length d.systems.label_bytes) d.systems ≡ writes_of v d.systems
     size = ap (λ (n : ℕ). system_writes n d.systems) some.is.file.label_long
@@ -203,21 +205,15 @@ events_behind old mid new v d rest r some before done cut = answer r done' cut'
     before' : mid ≡ plus old (writes v.unit rest)
     before' = before ∙ ap (λ (u : ℕ). plus old (writes u rest)) some.is.unit_is
 
-    done' : OnOk r (new ≡ plus mid (update v.unit (writes_of v d.systems) d.systems.label_bytes))
-    done' = subst (λ (ws : List Write). OnOk r (new ≡ plus mid (update v.unit ws d.systems.label_bytes))) size done
-
-    cut' : IfErr r (IsCutOff mid new v.unit (writes_of v d.systems) d.systems.label_bytes)
-    cut' = subst (λ (ws : List Write). IfErr r (IsCutOff mid new v.unit ws d.systems.label_bytes)) size cut
-
-    answer : (r : Result ⊤ Doubt) → OnOk r (new ≡ plus mid (update v.unit (writes_of v d.systems) d.systems.label_bytes))
-        → IfErr r (IsCutOff mid new v.unit (writes_of v d.systems) d.systems.label_bytes) → CommitEvents old new v d rest r
-    answer (Ok x) done cut =
+    answer : (r : Result ⊤ Doubt) → Updates mid new v.unit (writes_of v d.systems) d.systems.label_bytes r → CommitEvents old new v d rest r
+    answer (Ok x) done =
         behind old mid new (writes v.unit rest) (update v.unit (writes_of v d.systems) d.systems.label_bytes) (update v.unit (commit_writes v d rest) d.systems.label_bytes) before' done
         (update_behind v.unit rest (writes_of v d.systems) d.systems.label_bytes)
-    answer (Err why) done cut = cut_behind old mid new v.unit rest (writes_of v d.systems) d.systems.label_bytes why before' cut
+    answer (Err why) cut = cut_behind old mid new v.unit rest (writes_of v d.systems) d.systems.label_bytes why before' cut
 
 -- a part of what is left failed
-pub events_failed : (old new : Told) (v : HeldVolume) (d : FileDraft) (rest : List Write) → IsSomeDraft v d → AddsFront old new (writes d.writer.writer.unit rest) → CommitEvents old new v d rest (Err Old)
+pub events_failed : (old new : Told) (v : HeldVolume) (d : FileDraft) (rest : List Write) → IsSomeDraft v d → AddsFront old new (writes d.writer.writer.unit rest)
+    → CommitEvents old new v d rest (Err Old)
 events_failed old new v d rest some f = failed_before old new v.unit rest (writes_of v d.systems) (subst (λ (u : ℕ). AddsFront old new (writes u rest)) some.is.unit_is f)
 
 -- ---- what it comes to
@@ -345,7 +341,8 @@ whole_of j v m d some records rest held kept h longest stands left = record {
       few = p.file.few;
       ready = p.file.ready;
       file = put_as v d some records kept h longest;
-      plan = subst (λ (b : ℕ). IsBuildable b (pointer_size some.shape.format) w.tree.leaves marks w.tree.pointers) p.bsize_is (subst (λ (k : ℕ). IsBuildable w.bsize k w.tree.leaves marks w.tree.pointers) pointer plan);
+      plan = subst (λ (b : ℕ). IsBuildable b (pointer_size some.shape.format) w.tree.leaves marks w.tree.pointers) p.bsize_is
+          (subst (λ (k : ℕ). IsBuildable w.bsize k w.tree.leaves marks w.tree.pointers) pointer plan);
       has = subst (λ (b : List ℕ). HasAll (now j1 v.unit) v.disk.bsize (pointer_size some.shape.format) w.tree.leaves marks w.tree.pointers b) bytes_same
           (subst (λ (k : ℕ). HasAll (now j1 v.unit) v.disk.bsize k w.tree.leaves marks w.tree.pointers bytes) pointer all);
     }
@@ -378,7 +375,8 @@ whole_of j v m d some records rest held kept h longest stands left = record {
     either q front = ⊎_elim (λ (in' : IsFront q (writes v.unit rest)). held_either (after j q) v m (Volume (changed m (Put (put_in d records)))) (aside q in'))
         (λ (past : Behind (writes v.unit rest) (update v.unit (writes_of v d.systems) d.systems.label_bytes) q).
         subst (λ (k : Journal). HasEither v.disk k v.unit (Volume m) (Volume (changed m (Put (put_in d records))))) (sym (joined past.more q past.is)) (carry.either past.more past.front))
-        (front_split q (writes v.unit rest) (update v.unit (writes_of v d.systems) d.systems.label_bytes) (subst (IsFront q) (update_behind v.unit rest (writes_of v d.systems) d.systems.label_bytes) front))
+        (front_split q (writes v.unit rest) (update v.unit (writes_of v d.systems) d.systems.label_bytes)
+        (subst (IsFront q) (update_behind v.unit rest (writes_of v d.systems) d.systems.label_bytes) front))
 
 commits_of : (j : Journal) (new : Told) (v w : HeldVolume) (m : Minidisk) (d : FileDraft) (edit : Edit) (rest : List Write) (f : File) (r : Result ⊤ Doubt) → Whole j v m d edit rest f
     → CommitEvents (Some j) new v d rest r → OnOk r (w ≡ renewed v edit d.systems) → Commits j new v w m d rest f r
@@ -403,7 +401,8 @@ commits_of j new v w m d edit rest f (Err Either) whole (inr told) leads = (
 )
 
 -- at a told journal
-pub committed_at : (j : Journal) (old new : Told) (v w : HeldVolume) (m : Minidisk) (d : FileDraft) (some : IsSomeDraft v d) (records : List (List ℕ)) (r : Result ⊤ Doubt) → old ≡ Some j → IsHeldMinidisk j v m
+pub committed_at : (j : Journal) (old new : Told) (v w : HeldVolume) (m : Minidisk) (d : FileDraft) (some : IsSomeDraft v d) (records : List (List ℕ)) (r : Result ⊤ Doubt) → old ≡ Some j
+    → IsHeldMinidisk j v m
     → IsDrafting d.writer → Drafts d.writer records [] → length_of d.writer.shape.format d.writer.shape.length records ≡ d.writer.shape.length → DraftStands j d.writer records
     → IsCommitted old new v d records r → OnOk r (w ≡ renewed v some.is.file.edit d.systems) → IsCommittedAt j new v w m d records r
 committed_at j old new v w m d some records r is held kept h longest stands c leads = record {
@@ -447,12 +446,11 @@ cut_grown old new u ws label Either (inl told) = record { events = to_label u ws
 cut_grown old new u ws label Either (inr told) = record { events = with_label u ws label; told = told }
 
 -- a piece was added, and that of an update behind it
-pub grown_behind : (old mid new : Told) (piece : List Event) (u : ℕ) (ws : List Write) (label : List ℕ) (r : Result ⊤ Doubt) → mid ≡ plus old piece → OnOk r (new ≡ plus mid (update u ws label))
-    → IfErr r (IsCutOff mid new u ws label) → Grown old new
-grown_behind old mid new piece u ws label r before done cut =
-    let g = answer r done cut in
+pub grown_behind : (old mid new : Told) (piece : List Event) (u : ℕ) (ws : List Write) (label : List ℕ) (r : Result ⊤ Doubt) → mid ≡ plus old piece → Updates mid new u ws label r → Grown old new
+grown_behind old mid new piece u ws label r before ups =
+    let g = answer r ups in
     record { events = piece ++ g.events; told = g.told ∙ (ap (λ (t : Told). plus t g.events) before ∙ plus_plus old piece g.events) }
   where
-    answer : (r : Result ⊤ Doubt) → OnOk r (new ≡ plus mid (update u ws label)) → IfErr r (IsCutOff mid new u ws label) → Grown mid new
-    answer (Ok x) done cut = record { events = update u ws label; told = done }
-    answer (Err why) done cut = cut_grown mid new u ws label why cut
+    answer : (r : Result ⊤ Doubt) → Updates mid new u ws label r → Grown mid new
+    answer (Ok x) done = record { events = update u ws label; told = done }
+    answer (Err why) cut = cut_grown mid new u ws label why cut

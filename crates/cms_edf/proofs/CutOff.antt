@@ -1,5 +1,6 @@
 -- The events of the end of an update.
-use Rattle.std.proofs.Common.{◌≡◌, inl, inr, ℕ, List, [], ◌∷◌, ◌∙◌, ap, subst, append-nil}
+use Rattle.std.proofs.Common.{◌≡◌, inl, inr, ℕ, List, [], ◌∷◌, Ok, Err, Result, OnOk, ◌∙◌, ap, subst, append-nil}
+use Rattle.std.specs.Prelude.{IfErr, ⊤}
 use Rattle.cms_journal.specs.declared.event.Event.TheVariants.{Wrote, Synced}
 use Rattle.cms_journal.specs.Journal.{adds, MayAdd}
 use Rattle.cms_journal.specs.Told.{Told, plus}
@@ -9,7 +10,7 @@ use Rattle.cms_model.specs.LawsUpdates.{AddsFront}
 use Rattle.cms_held.proofs.Fronts.{front_behind}
 use Rattle.cms_edf.specs.declared.doubt.Doubt.{Doubt}
 use Rattle.cms_edf.specs.declared.doubt.Doubt.TheVariants.{Old, Either}
-use Rattle.cms_edf.specs.Doubts.{IsCutOff}
+use Rattle.cms_edf.specs.Doubts.{IsCutOff, Updates}
 
 -- ---- the end of an update
 
@@ -43,3 +44,17 @@ cut_behind old mid new u ws label Either before (inl to) =
     inl (to ∙ ap (λ (t : Told). plus t (Synced u ∷ [])) before ∙ plus_plus old (writes u ws) (Synced u ∷ []))
 cut_behind old mid new u ws label Either before (inr with') =
     inr (with' ∙ ap (λ (t : Told). plus t (Synced u ∷ Wrote u 3 label ∷ [])) before ∙ plus_plus old (writes u ws) (Synced u ∷ Wrote u 3 label ∷ []))
+
+pub updates_behind : (old mid new : Told) (u : ℕ) (ws : List Write) (label : List ℕ) (r : Result ⊤ Doubt) → mid ≡ plus old (writes u ws) → Updates mid new u [] label r → Updates old new u ws label r
+updates_behind old mid new u ws label (Ok x) before done = confirmed_behind old mid new u ws label before done
+updates_behind old mid new u ws label (Err why) before cut = cut_behind old mid new u ws label why before cut
+
+-- the two ways in which it may end
+
+pub updates_done : (old new : Told) (u : ℕ) (ws : List Write) (label : List ℕ) (r : Result ⊤ Doubt) → Updates old new u ws label r → OnOk r (new ≡ plus old (update u ws label))
+updates_done old new u ws label (Ok x) done = done
+updates_done old new u ws label (Err why) cut = tt
+
+pub updates_cut : (old new : Told) (u : ℕ) (ws : List Write) (label : List ℕ) (r : Result ⊤ Doubt) → Updates old new u ws label r → IfErr r (IsCutOff old new u ws label)
+updates_cut old new u ws label (Ok x) done = tt
+updates_cut old new u ws label (Err why) cut = cut

@@ -1,9 +1,9 @@
 -- A file that is planned for a volume fits in.
-use Rattle.std.proofs.Common.{◌≡◌, ◌⊎◌, inl, inr, ⊎_elim, ℕ, zero, suc, get_or, ◌+◌, ◌-◌, ◌*◌, ◌/◌, ◌^◌, ◌<◌, ◌≤◌, Bool, true, false, not, List, [], ◌∷◌, ◌++◌, length, map, take, set, position, slice_get, All, Option, None, Some, refl, sym, ◌∙◌, ap, subst, arith, length-append, mul-pos, mul_comm}
-use Rattle.std.specs.Prelude.{nat_le, nat_lt, ◌&&◌, ◌||◌, ◌==◌, if◌then◌else◌}
-use Rattle.std.proofs.lemmas.Bool.{and_from, le-leb, eq-eqb, cases_Bool, cases_lt, ltb-true, ltb-false}
-use Rattle.std.proofs.lemmas.List.{length-map, length-set, map-append, map-set}
-use Rattle.std.proofs.lemmas.List.Elements.{All-nil, All-cons, All-set, All-append, All-take}
+use Rattle.std.proofs.Common.{◌≡◌, inl, inr, ⊎_elim, ℕ, zero, suc, get_or, ◌+◌, ◌-◌, ◌*◌, ◌/◌, ◌^◌, ◌<◌, ◌≤◌, Bool, true, false, List, [], ◌∷◌, ◌++◌, length, map, take, position, All, Option, None, Some, refl, sym, ◌∙◌, ap, subst, arith, length-append, mul-pos, mul_comm}
+use Rattle.std.specs.Prelude.{nat_le, nat_lt, ◌&&◌, ◌==◌, if◌then◌else◌}
+use Rattle.std.proofs.lemmas.Bool.{and_from, le-leb, eq-eqb, cases_lt, ltb-false}
+use Rattle.std.proofs.lemmas.List.{length-set, map-append, map-set}
+use Rattle.std.proofs.lemmas.List.Elements.{All-nil, All-cons, All-set, All-append}
 use Rattle.cms_journal.specs.Journal.{IsBlockSize}
 use Rattle.cms_names.specs.declared.name.Name.{Name}
 use Rattle.cms_names.specs.declared.name.Format.{Format}
@@ -18,6 +18,7 @@ use Rattle.cms_fields.specs.declared.time.Stamp.{Stamp}
 use Rattle.cms_model.specs.Lists.{In, times}
 use Rattle.cms_model.specs.Minidisks.{same_name}
 use Rattle.cms_model.specs.Sizes.{levels, pointer_count, tree_size}
+use Rattle.cms_model.proofs.FileSizes.{passes_from}
 use Rattle.cms_model.proofs.Quotients.{up_below, up_some, up_spec}
 use Rattle.cms_model.proofs.Repeats.{held_from, in_from, times_append}
 use Rattle.cms_model.proofs.Shapes.{shape_least}
@@ -29,13 +30,12 @@ use Rattle.cms_held.specs.Opening.{HeldFile, HeldTree, HeldVolume, names_in}
 use Rattle.cms_held.specs.Systems.{Systems}
 use Rattle.cms_held.specs.Written.{CanWrite}
 use Rattle.cms_held.specs.Renewing.{Edit, IsAllotted, blocks_in, entries_held, fresh, needed}
-use Rattle.cms_held.specs.Carrying.{IsReadyFor}
 use Rattle.cms_held.specs.Putting.{AreFree, IsPutOf, adding, adds, count_put, count_with, limit_put, need_put, replaces, replacing}
 use Rattle.cms_held.proofs.MapMarks.{take_fewer}
 use Rattle.cms_draft.specs.declared.shape.DraftShape.{DraftShape}
 use Rattle.cms_edf.specs.declared.allotment.Allotment.{Allotment}
-use Rattle.cms_edf.specs.FileDrafts.{CanDraft, GivenAt, IsAllottedSo, IsFilePlanned, IsFilled, IsPlaceIn, IsSized, entries_with, entry_for, file_for, files_with}
-use Rattle.cms_edf.proofs.Planned.{can_write_all, entries_count, named_at}
+use Rattle.cms_edf.specs.FileDrafts.{CanDraft, GivenAt, IsFilePlanned, IsFilled, IsSized, entries_with, entry_for, file_for, files_with}
+use Rattle.cms_edf.proofs.Planned.{entries_count, named_at, ready_of}
 
 -- ---- the entries
 
@@ -103,13 +103,6 @@ shapes : (bsize : ℕ) (e : Entry) → 2 ≤ fan_of bsize e.format → e.blocks 
 unfolding levels_fit
 shapes bsize e wide few is = (shape_least (fan_of bsize e.format) e.blocks e.levels wide few).1 is
 
-all_pass : (bsize : ℕ) (e : Entry) → nat_le e.number 6 ≡ true → length_fits e ≡ true → counts_fit bsize e ≡ true → levels_fit bsize e ≡ true → is_stamp e.stamp ≡ true → passes bsize e ≡ true
-unfolding passes
-all_pass bsize e number length' count level stamp =
-    and_from (nat_le e.number 6 && length_fits e && counts_fit bsize e && levels_fit bsize e) (is_stamp e.stamp)
-    (and_from (nat_le e.number 6 && length_fits e && counts_fit bsize e) (levels_fit bsize e)
-    (and_from (nat_le e.number 6 && length_fits e) (counts_fit bsize e) (and_from (nat_le e.number 6) (length_fits e) number length') count) level) stamp
-
 pub entry_passes : (bsize : ℕ) (name : Name) (shape : DraftShape) (tree : HeldTree) → IsBlockSize bsize → CanDraft shape → shape.count ≤ most_records → shape.bytes ≤ most_bytes
     → length tree.leaves ≡ up shape.bytes bsize → passes bsize (entry_for bsize name shape tree) ≡ true
 entry_passes bsize name shape tree size can many high leaves =
@@ -118,9 +111,15 @@ entry_passes bsize name shape tree size can many high leaves =
     let low : 1 ≤ bsize = omega (arith, size) in
     let tight = (up_spec shape.bytes bsize low).1 in
     let few : up shape.bytes bsize ≤ shape.bytes = up_below shape.bytes bsize low in
-    all_pass bsize e (le-leb shape.number 6 can.number) (lengths shape.format e refl can.low can.high)
-    (counts bsize shape.format e shape.bytes size refl can.sized can.some many some high leaves)
-    (shapes bsize e (wide_fan bsize shape.format size) (omega arith) refl) can.stamp
+    passes_from bsize e (record {
+      number = can.number;
+      fits = record {
+        long = lengths shape.format e refl can.low can.high;
+        counts = counts bsize shape.format e shape.bytes size refl can.sized can.some many some high leaves;
+        levels = shapes bsize e (wide_fan bsize shape.format size) (omega arith) refl;
+      };
+      stamp = can.stamp;
+    })
 
 -- ---- the blocks
 
@@ -242,19 +241,8 @@ planned_parts v name asked stamp place tree a e s p =
       put = d.put;
       files_are = d.files ∙ ap (λ (o : Option ℕ). files_with v.files o g) p.at;
       few = omega arith;
-      ready = record {
-        kept = p.kept;
-        stamped = p.stamped;
-        planned = record {
-          blocks = allotted;
-          label = f.label;
-          label_bytes = f.label_bytes;
-          directory_bytes = rw entries f.directory_bytes;
-        };
-        long = f.long;
-        back = rw entries f.back;
-      };
-      label_long = f.label_long;
+      ready = ready_of v d.edit (entries_with (entries_held v.files) place e) stamp s p.kept p.stamped allotted f.systems entries;
+      label_long = f.systems.label_long;
       passes_all = entry_passes v.disk.bsize name asked tree p.size p.can l.1 l.2 p.leaves;
       leaves_are = p.leaves;
       pointers_are = omega arith;
@@ -267,7 +255,8 @@ planned_parts v name asked stamp place tree a e s p =
 
 -- ---- for the code
 
-pub need_is : (v : HeldVolume) (name : Name) (format : Format) (bytes bsize count nodes : ℕ) (place : Option ℕ) → bsize ≡ v.disk.bsize → count ≡ up bytes bsize → nodes ≡ pointer_count (fan_of bsize format) count
+pub need_is : (v : HeldVolume) (name : Name) (format : Format) (bytes bsize count nodes : ℕ) (place : Option ℕ) → bsize ≡ v.disk.bsize → count ≡ up bytes bsize
+    → nodes ≡ pointer_count (fan_of bsize format) count
     → place ≡ position (same_name name) (names_in v.files) → count + nodes + needed v (count_with place (length v.files)) ≡ need_put v name format bytes
 unfolding tree_size
 need_is v name format bytes bsize count nodes place size is pointers at =
@@ -284,5 +273,6 @@ some_given v name (Some k) at =
     (blocks_in n.file.tree, λ f there. ap (λ (x : HeldFile). blocks_in x.tree) (same_some n.file f (sym n.there ∙ there)))
 
 -- a limit that is passed, or none
-pub count_files : (v : HeldVolume) (name : Name) (place : Option ℕ) (files : ℕ) → place ≡ position (same_name name) (names_in v.files) → files ≡ count_with place (length v.files) → files ≡ count_put v name
+pub count_files : (v : HeldVolume) (name : Name) (place : Option ℕ) (files : ℕ) → place ≡ position (same_name name) (names_in v.files) → files ≡ count_with place (length v.files)
+    → files ≡ count_put v name
 count_files v name place files at is = is ∙ ap (λ (o : Option ℕ). count_with o (length v.files)) at

@@ -1,9 +1,7 @@
 -- A record of a draft is put, and the volume stays.
-use Rattle.std.proofs.Common.{◌≡◌, ⊎_elim, ℕ, ◌+◌, ◌*◌, ◌<◌, ◌≤◌, List, [], ◌∷◌, ◌++◌, length, Some, Result, Ok, Err, OnOk, refl, sym, ◌∙◌, ap, subst, arith, mul-le-mul_right}
+use Rattle.std.proofs.Common.{◌≡◌, ⊎_elim, ℕ, ◌+◌, ◌*◌, ◌<◌, ◌≤◌, List, [], ◌∷◌, ◌++◌, length, Some, Result, Ok, Err, refl, sym, ◌∙◌, ap, subst, arith, mul-le-mul_right}
 use Rattle.std.specs.Prelude.{⊤}
-use Rattle.std.specs.Option.{ForSome}
 use Rattle.std.proofs.lemmas.Bool.{cases_lt}
-use Rattle.cms_journal.specs.declared.event.Event.{Event}
 use Rattle.cms_journal.specs.declared.event.Failed.{Failed}
 use Rattle.cms_journal.specs.Journal.{Journal}
 use Rattle.cms_journal.specs.Told.{Told, plus}
@@ -11,7 +9,7 @@ use Rattle.cms_fields.specs.Numbers.{up}
 use Rattle.cms_model.specs.Minidisks.{Minidisk}
 use Rattle.cms_model.specs.Records.{stored}
 use Rattle.cms_model.specs.Settled.{Write, writes}
-use Rattle.cms_model.specs.LawsUpdates.{IsFront, after, now}
+use Rattle.cms_model.specs.LawsUpdates.{IsFront, now}
 use Rattle.cms_model.proofs.Quotients.{up_spec}
 use Rattle.cms_tree.specs.declared.types.Mark.{Mark}
 use Rattle.cms_tree.specs.Builds.{IsBuildable}
@@ -20,16 +18,17 @@ use Rattle.cms_held.specs.Opening.{HeldTree, HeldVolume}
 use Rattle.cms_held.specs.Carrying.{IsHeldMinidisk}
 use Rattle.cms_held.specs.Drafts.{HasDraft, draft_writes}
 use Rattle.cms_held.specs.Renewing.{blocks_in}
-use Rattle.cms_held.specs.Putting.{AreFree, GoesOn}
+use Rattle.cms_held.specs.Putting.{GoesOn}
 use Rattle.cms_held.proofs.PutAsides.{draft_goes_on, free_is_aside}
-use Rattle.cms_draft.specs.BlockWriting.{AddsOwnBlocks, IsSame, IsWriter, Stops, Streams, Wrote, came}
-use Rattle.cms_draft.specs.Drafting.{Drafting, Drafts, IsDrafting, Puts, marks_in, marks_of}
+use Rattle.cms_draft.specs.BlockWriting.{AddsOwnBlocks, IsSame, IsWriter, Streams, came}
+use Rattle.cms_draft.specs.Drafting.{Drafting, Drafts, IsDrafting, Puts, marks_in}
 use Rattle.cms_draft.specs.declared.block_writer.BlockWriter.{BlockWriter}
 use Rattle.cms_edf.specs.FileDrafts.{DraftStands, FileDraft, IsFilePlanned, IsSomeDraft, StandsThen, StaysHeld, entry_for}
 use Rattle.cms_edf.proofs.Finished.{told_so}
 
 -- what a draft adds leaves the volume held
-pub stays_held : (j : Journal) (old new : Told) (v : HeldVolume) (m : Minidisk) (d : FileDraft) → old ≡ Some j → IsHeldMinidisk j v m → IsSomeDraft v d → AddsOwnBlocks old new d.writer.writer → StaysHeld j new v m
+pub stays_held : (j : Journal) (old new : Told) (v : HeldVolume) (m : Minidisk) (d : FileDraft) → old ≡ Some j → IsHeldMinidisk j v m → IsSomeDraft v d → AddsOwnBlocks old new d.writer.writer
+    → StaysHeld j new v m
 stays_held j old new v m d is held some own =
     let p = some.is in
     let blocks = blocks_in d.writer.writer.tree in

@@ -29,7 +29,8 @@ comes_first bsize count bytes = let e : count - 0 ≡ count = omega arith in rw 
 
 -- the entry at a place, and those behind it
 left_one : (bsize count : ℕ) (bytes : List ℕ) (place : ℕ) → place < count
-    → left_at bsize count bytes place ≡ (blamed (failed.Entry (place + 2)) (entry_of bsize (take 64 (drop (place * 64) bytes))) >>= λ entry. left_at bsize count bytes (place + 1) >>= λ more. Ok (entry ∷ more))
+    → left_at bsize count bytes place ≡ (blamed (failed.Entry (place + 2)) (entry_of bsize (take 64 (drop (place * 64) bytes))) >>= λ entry. left_at bsize count bytes (place + 1) >>= λ more. Ok
+    (entry ∷ more))
 unfolding entries_of cut
 left_one bsize count bytes place less =
     let one : count - place ≡ suc (count - (place + 1)) = omega arith in
@@ -43,7 +44,8 @@ again entries entry (Ok more) = ap Ok (sym (append_assoc entries (entry ∷ []) 
 again entries entry (Err e) = refl
 
 pub comes_next : (bsize count : ℕ) (bytes : List ℕ) (place : ℕ) (entries : List Entry) (entry : Entry) → place < count
-    → blamed (failed.Entry (place + 2)) (entry_of bsize (take 64 (drop (place * 64) bytes))) ≡ Ok entry → Comes bsize count bytes place entries → Comes bsize count bytes (place + 1) (entries ++ (entry ∷ []))
+    → blamed (failed.Entry (place + 2)) (entry_of bsize (take 64 (drop (place * 64) bytes))) ≡ Ok entry → Comes bsize count bytes place entries
+    → Comes bsize count bytes (place + 1) (entries ++ (entry ∷ []))
 comes_next bsize count bytes place entries entry less is comes =
     let step : left_at bsize count bytes place ≡ (left_at bsize count bytes (place + 1) >>= λ more. Ok (entry ∷ more)) =
     left_one bsize count bytes place less ∙ ap (λ (r : Result Entry OpenFault). r >>= λ e. left_at bsize count bytes (place + 1) >>= λ more. Ok (e ∷ more)) is in

@@ -26,7 +26,8 @@ pub fault_memory : {A : Type 0} (found : Result A OpenFault) (why : OpenFault) �
 fault_memory found why is = fault_plain found why (inr is)
 
 -- a fault of a part is one of the whole where the part's fault is the whole's
-pub fault_passes : {A B : Type 0} (part : Result A OpenFault) (whole : Result B OpenFault) (why : OpenFault) → ((e : OpenFault) → part ≡ Err e → whole ≡ Err e) → IsFaultOf part why → IsFaultOf whole why
+pub fault_passes : {A B : Type 0} (part : Result A OpenFault) (whole : Result B OpenFault) (why : OpenFault) → ((e : OpenFault) → part ≡ Err e → whole ≡ Err e) → IsFaultOf part why
+    → IsFaultOf whole why
 fault_passes part whole failed.Device passes is = tt
 fault_passes part whole failed.Memory passes is = tt
 fault_passes part whole (failed.Label k) passes is = passes (failed.Label k) is

@@ -124,16 +124,20 @@ unfolding file_trees
 file_step place image leaves entries k e less is =
     let next : k + 2 + 1 ≡ k + 1 + 2 = omega arith in
     ap (λ (l : List Entry). file_trees place.bsize place.total image leaves (k + 2) l) (front_of entries k e less is)
-    ∙ ap (λ (n : ℕ). file_tree place image (holder_of place.bsize leaves (k + 2)) e >>= λ met. file_trees place.bsize place.total image leaves n (drop (k + 1) entries) >>= λ more. Ok (met ∷ more)) next
+    ∙ ap (λ (n : ℕ). file_tree place image (holder_of place.bsize leaves (k + 2)) e >>= λ met. file_trees place.bsize place.total image leaves n (drop (k + 1) entries) >>= λ more. Ok (met ∷ more))
+    next
 
-pub files_next : (place : Place) (image : Image) (leaves : List ℕ) (entries : List Entry) (k holder : ℕ) (e : Entry) (walks : List Walked) (walked : Walked) → k < length entries → e ≡ get_or entries k e
-    → holder ≡ holder_of place.bsize leaves (k + 2) → ReadsFile place image holder e (Ok walked) → FilesTo place image leaves entries k walks → FilesTo place image leaves entries (k + 1) (walks ++ (walked ∷ []))
+pub files_next : (place : Place) (image : Image) (leaves : List ℕ) (entries : List Entry) (k holder : ℕ) (e : Entry) (walks : List Walked) (walked : Walked) → k < length entries
+    → e ≡ get_or entries k e
+    → holder ≡ holder_of place.bsize leaves (k + 2) → ReadsFile place image holder e (Ok walked) → FilesTo place image leaves entries k walks
+    → FilesTo place image leaves entries (k + 1) (walks ++ (walked ∷ []))
 files_next place image leaves entries k holder e walks walked less is held read files =
     let rest = file_trees place.bsize place.total image leaves (k + 1 + 2) (drop (k + 1) entries) in
     let here : file_tree place image (holder_of place.bsize leaves (k + 2)) e ≡ Ok (met_in walked) = subst (λ (h : ℕ). file_tree place image h e ≡ Ok (met_in walked)) held read.0 in
     let step = file_step place image leaves entries k e less is ∙ ap (λ (r : Result Met OpenFault). r >>= λ met. rest >>= λ more. Ok (met ∷ more)) here in
     record {
-      trees = files.trees ∙ (ap (behind (map met_in walks)) step ∙ (behind_more (map met_in walks) (met_in walked) rest ∙ ap (λ (l : List Met). behind l rest) (sym (map-append met_in walks (walked ∷ [])))));
+      trees = files.trees ∙ (ap (behind (map met_in walks)) step ∙
+          (behind_more (map met_in walks) (met_in walked) rest ∙ ap (λ (l : List Met). behind l rest) (sym (map-append met_in walks (walked ∷ [])))));
       nodes_are =
           map-append pointers_in walks (walked ∷ [])
           ∙ (ap (λ (l : List (List ℕ)). l ++ (pointers_in walked ∷ [])) files.nodes_are
@@ -141,8 +145,10 @@ files_next place image leaves entries k holder e walks walked less is held read 
           ∙ (sym (map-append (file_nodes place image) (take k entries) (e ∷ [])) ∙ ap (map (file_nodes place image)) (sym (taken_next entries k e less is)))));
     }
 
-pub files_bad : (place : Place) (image : Image) (leaves : List ℕ) (entries : List Entry) (k holder : ℕ) (e : Entry) (walks : List Walked) (why : OpenFault) → k < length entries → e ≡ get_or entries k e
-    → holder ≡ holder_of place.bsize leaves (k + 2) → IsFaultOf (file_tree place image holder e) why → FilesTo place image leaves entries k walks → IsFaultOf (file_trees place.bsize place.total image leaves 2 entries) why
+pub files_bad : (place : Place) (image : Image) (leaves : List ℕ) (entries : List Entry) (k holder : ℕ) (e : Entry) (walks : List Walked) (why : OpenFault) → k < length entries
+    → e ≡ get_or entries k e
+    → holder ≡ holder_of place.bsize leaves (k + 2) → IsFaultOf (file_tree place image holder e) why → FilesTo place image leaves entries k walks
+    → IsFaultOf (file_trees place.bsize place.total image leaves 2 entries) why
 files_bad place image leaves entries k holder e walks why less is held bad files =
     fault_passes (file_tree place image holder e) (file_trees place.bsize place.total image leaves 2 entries) why
     (λ wrong fails.
@@ -152,10 +158,12 @@ files_bad place image leaves entries k holder e walks why less is held bad files
     files.trees ∙ ap (behind (map met_in walks)) step)
     bad
 
-pub files_last : (place : Place) (image : Image) (leaves : List ℕ) (entries : List Entry) (k : ℕ) (walks : List Walked) → length entries ≤ k → FilesTo place image leaves entries k walks → HasFiles place image leaves entries walks
+pub files_last : (place : Place) (image : Image) (leaves : List ℕ) (entries : List Entry) (k : ℕ) (walks : List Walked) → length entries ≤ k → FilesTo place image leaves entries k walks
+    → HasFiles place image leaves entries walks
 unfolding file_trees
 files_last place image leaves entries k walks past files = record {
-  trees = files.trees ∙ (ap (λ (l : List Entry). behind (map met_in walks) (file_trees place.bsize place.total image leaves (k + 2) l)) (past_last entries k past) ∙ ap Ok (append-nil (map met_in walks)));
+  trees = files.trees ∙ (ap (λ (l : List Entry). behind (map met_in walks) (file_trees place.bsize place.total image leaves (k + 2) l)) (past_last entries k past)
+      ∙ ap Ok (append-nil (map met_in walks)));
   nodes_are = files.nodes_are ∙ ap (map (file_nodes place image)) (all_taken entries k past);
 }
 
@@ -165,14 +173,16 @@ files_last place image leaves entries k walks past files = record {
 abbrev pub BlocksTo : List ℕ → List Walked → ℕ → List ℕ → Type 0
 BlocksTo first walks k blocks = first ++ blocks_of (map met_in walks) ≡ blocks ++ blocks_of (map met_in (drop k walks))
 
-pub blocks_next : (first : List ℕ) (walks : List Walked) (k : ℕ) (w : Walked) (blocks more : List ℕ) → k < length walks → w ≡ get_or walks k w → more ≡ w.blocks.items → BlocksTo first walks k blocks → BlocksTo first walks (k + 1) (blocks ++ more)
+pub blocks_next : (first : List ℕ) (walks : List Walked) (k : ℕ) (w : Walked) (blocks more : List ℕ) → k < length walks → w ≡ get_or walks k w → more ≡ w.blocks.items → BlocksTo first walks k blocks
+    → BlocksTo first walks (k + 1) (blocks ++ more)
 unfolding blocks_of
 blocks_next first walks k w blocks more less is same to =
     to
     ∙ (ap (λ (l : List Walked). blocks ++ blocks_of (map met_in l)) (front_of walks k w less is)
     ∙ (ap (λ (l : List ℕ). blocks ++ (l ++ blocks_of (map met_in (drop (k + 1) walks)))) (sym same) ∙ sym (append_assoc blocks more (blocks_of (map met_in (drop (k + 1) walks))))))
 
-pub blocks_last : (directory m : List ℕ) (walks : List Walked) (k : ℕ) (blocks : List ℕ) → length walks ≤ k → BlocksTo (directory ++ m) walks k blocks → blocks ≡ directory ++ (m ++ blocks_of (map met_in walks))
+pub blocks_last : (directory m : List ℕ) (walks : List Walked) (k : ℕ) (blocks : List ℕ) → length walks ≤ k → BlocksTo (directory ++ m) walks k blocks
+    → blocks ≡ directory ++ (m ++ blocks_of (map met_in walks))
 unfolding blocks_of
 blocks_last directory m walks k blocks past to =
     sym (append-nil blocks) ∙ (sym (ap (λ (l : List Walked). blocks ++ blocks_of (map met_in l)) (past_last walks k past)) ∙ (sym to ∙ append_assoc directory m (blocks_of (map met_in walks))))

@@ -28,7 +28,8 @@ use Rattle.cms_edf.specs.Planning.{IsEditFor, IsPlanFor, IsReadyLabel, edit_of, 
 use Rattle.cms_edf.specs.Finishing.{CarriesOut, IsStopped, LeadsTo, Moves, step_events, with_label_bytes}
 use Rattle.cms_held.specs.Renewing.{renewed}
 use Rattle.cms_held.specs.Systems.{Systems, system_writes}
-use Rattle.cms_edf.specs.Doubts.{IsCutOff}
+use Rattle.cms_edf.specs.Doubts.{Updates, UpdatesSystems}
+use Rattle.cms_edf.proofs.CutOff.{updates_cut, updates_done}
 use Rattle.cms_edf.proofs.Planned.{renewed_keeps}
 use Rattle.cms_edf.specs.declared.change.FileEdit.{FileEdit}
 use Rattle.cms_edf.specs.declared.doubt.Doubt.{Doubt}
@@ -101,7 +102,13 @@ moves j v m change stamp (step.Relabel label bytes) kept held (volid, is, r) =
     let c = relabels j v m volid label bytes.items kept held r in
     let same : bytes.items ≡ (relabelled v volid).label_bytes = r.bytes_are in
     subst (λ (k : Change). Moves j v (step.Relabel label bytes) m k) (sym is)
-    (record { answer = c.answer; before = λ p front. unmoved p front.rest front.is; either = λ p front. c.either p (subst (λ (l : List ℕ). IsFront p (relabel v.unit l)) same front); small = one_block v.unit bytes.items (need m (Relabel volid)) })
+    (record {
+      answer = c.answer;
+      before = λ p front. unmoved p front.rest front.is;
+      either = λ p front. c.either p (subst (λ (l : List ℕ). IsFront p (relabel v.unit l)) same front);
+      small =
+          one_block v.unit bytes.items (need m (Relabel volid));
+    })
   where
     unmoved : (p rest : List Event) → p ++ rest ≡ [] → IsHeldMinidisk (after j p) v m
     unmoved [] rest none = held
@@ -194,7 +201,8 @@ label_blocks units v volid label bytes bytes' same r has =
     let long : length bytes' ≡ v.disk.bsize = ap (λ (l : List ℕ). length l) same ∙ r.bytes_long in
     subst (λ (n : ℕ). HasBlocks units v.unit 3 n) (sym long) (fewer (slice_get units v.unit) 3 v.disk.count v.disk.bsize (omega arith) has)
   where
-    fewer : (o : Option Attached) (few many size : ℕ) → few ≤ many → IsSomeAnd o (λ unit. (unit.bsize ≡ size) × (many ≤ length unit.start)) → IsSomeAnd o (λ unit. (unit.bsize ≡ size) × (few ≤ length unit.start))
+    fewer : (o : Option Attached) (few many size : ℕ) → few ≤ many → IsSomeAnd o (λ unit. (unit.bsize ≡ size) × (many ≤ length unit.start))
+        → IsSomeAnd o (λ unit. (unit.bsize ≡ size) × (few ≤ length unit.start))
     fewer None few many size less has = has
     fewer (Some unit) few many size less has = (has.0, omega (arith, has.1))
 
@@ -214,22 +222,21 @@ carries_out j old new v w m change stamp s (Err why) is held p done leads stop =
 
 -- the same of an edit, and of a label, that were taken out of their plan
 pub edit_out : (j : Journal) (old new : Told) (v w : HeldVolume) (m : Minidisk) (change : Change) (stamp : Stamp) (plan : Step) (e e' : FileEdit) (s s' : Systems) (r : Result ⊤ Doubt) → old ≡ Some j
-    → IsHeldMinidisk j v m → IsPlanFor v change stamp plan → plan ≡ step.Edit e s → e' ≡ e → s' ≡ s
-    → OnOk r (new ≡ plus old (update v.unit (system_writes (length s'.label_bytes) s') s'.label_bytes)) → OnOk r ((f : HeldFile) → slice_get v.files (place_of e') ≡ Some f
-    → w ≡ renewed v (edit_of v.files e' f) s') → IfErr r (IsCutOff old new v.unit (system_writes (length s'.label_bytes) s') s'.label_bytes)
-    → CarriesOut j new v w m change plan r
-edit_out j old new v w m change stamp plan e e' s s' r is held p there same_e same_s done leads stop =
+    → IsHeldMinidisk j v m → IsPlanFor v change stamp plan → plan ≡ step.Edit e s → e' ≡ e → s' ≡ s → UpdatesSystems old new v.unit s' r
+    → OnOk r ((f : HeldFile) → slice_get v.files (place_of e') ≡ Some f → w ≡ renewed v (edit_of v.files e' f) s') → CarriesOut j new v w m change plan r
+edit_out j old new v w m change stamp plan e e' s s' r is held p there same_e same_s ups leads =
     let q : IsEditFor v change stamp e s = subst (IsPlanFor v change stamp) there p in
-    let writes : List Write → Type 0 = λ ws. OnOk r (new ≡ plus old (update v.unit ws s.label_bytes)) in
-    let stops : List Write → Type 0 = λ ws. IfErr r (IsCutOff old new v.unit ws s.label_bytes) in
     let size : system_writes (length s.label_bytes) s ≡ writes_of v s = ap (λ (n : ℕ). system_writes n s) q.label_long in
-    let done' = subst writes size (subst (λ (x : Systems). OnOk r (new ≡ plus old (update v.unit (system_writes (length x.label_bytes) x) x.label_bytes))) same_s done) in
-    let stop' = subst stops size (subst (λ (x : Systems). IfErr r (IsCutOff old new v.unit (system_writes (length x.label_bytes) x) x.label_bytes)) same_s stop) in
+    let ups' : Updates old new v.unit (writes_of v s) s.label_bytes r = subst (λ (ws : List Write). Updates old new v.unit ws s.label_bytes r) size
+    (subst (λ (x : Systems). UpdatesSystems old new v.unit x r) same_s ups) in
     let leads' = subst (λ (x : FileEdit). OnOk r ((f : HeldFile) → slice_get v.files (place_of x) ≡ Some f → w ≡ renewed v (edit_of v.files x f) s)) same_e
     (subst (λ (x : Systems). OnOk r ((f : HeldFile) → slice_get v.files (place_of e') ≡ Some f → w ≡ renewed v (edit_of v.files e' f) x)) same_s leads) in
-    subst (λ (x : Step). CarriesOut j new v w m change x r) (sym there) (carries_out j old new v w m change stamp (step.Edit e s) r is held q done' leads' stop')
+    subst (λ (x : Step). CarriesOut j new v w m change x r) (sym there)
+    (carries_out j old new v w m change stamp (step.Edit e s) r is held q (updates_done old new v.unit (writes_of v s) s.label_bytes r ups') leads'
+    (updates_cut old new v.unit (writes_of v s) s.label_bytes r ups'))
 
-pub label_out : (j : Journal) (old new : Told) (v w : HeldVolume) (m : Minidisk) (change : Change) (stamp : Stamp) (plan : Step) (label : Label) (bytes : Vec ℕ Global) (bytes' : List ℕ) (r : Result ⊤ Doubt)
+pub label_out : (j : Journal) (old new : Told) (v w : HeldVolume) (m : Minidisk) (change : Change) (stamp : Stamp) (plan : Step) (label : Label) (bytes : Vec ℕ Global) (bytes' : List ℕ)
+    (r : Result ⊤ Doubt)
     → old ≡ Some j → IsHeldMinidisk j v m → IsPlanFor v change stamp plan → plan ≡ step.Relabel label bytes → OnOk r (new ≡ plus old (relabel v.unit bytes'))
     → OnOk r (w ≡ with_label_bytes v label bytes') → IfErr r (λ why. why ≡ Either) → OnErr r (MayAdd (Wrote v.unit 3 bytes') old new) → bytes' ≡ bytes.items → CarriesOut j new v w m change plan r
 label_out j old new v w m change stamp plan label bytes bytes' r is held p there done leads either may same =

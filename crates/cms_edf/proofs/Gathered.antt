@@ -11,10 +11,12 @@ Reads image blocks k bytes = bytes_at image blocks ≡ bytes ++ bytes_at image (
 pub reads_first : (image : Image) (blocks : List ℕ) → Reads image blocks 0 []
 reads_first image blocks = refl
 
-pub reads_next : (image : Image) (blocks : List ℕ) (k : ℕ) (bytes block : List ℕ) → k < length blocks → block ≡ image (slice_index blocks k) → Reads image blocks k bytes → Reads image blocks (k + 1) (bytes ++ block)
+pub reads_next : (image : Image) (blocks : List ℕ) (k : ℕ) (bytes block : List ℕ) → k < length blocks → block ≡ image (slice_index blocks k) → Reads image blocks k bytes
+    → Reads image blocks (k + 1) (bytes ++ block)
 unfolding bytes_at
 reads_next image blocks k bytes block less is reads =
-    reads ∙ (ap (λ (l : List ℕ). bytes ++ bytes_at image l) (front_of blocks k less) ∙ (ap (λ (l : List ℕ). bytes ++ (l ++ bytes_at image (drop (k + 1) blocks))) (sym is) ∙ sym (append_assoc bytes block (bytes_at image (drop (k + 1) blocks)))))
+    reads ∙ (ap (λ (l : List ℕ). bytes ++ bytes_at image l) (front_of blocks k less)
+    ∙ (ap (λ (l : List ℕ). bytes ++ (l ++ bytes_at image (drop (k + 1) blocks))) (sym is) ∙ sym (append_assoc bytes block (bytes_at image (drop (k + 1) blocks)))))
 
 pub reads_last : (image : Image) (blocks : List ℕ) (k : ℕ) (bytes : List ℕ) → length blocks ≤ k → Reads image blocks k bytes → bytes ≡ bytes_at image blocks
 unfolding bytes_at

@@ -17,6 +17,7 @@ pub mod FilesNamed
 pub mod Renaming
 pub mod PlanParts
 pub mod Planned
+pub mod NewEntries
 pub mod Finished
 pub mod WritesMade
 pub mod CutOff

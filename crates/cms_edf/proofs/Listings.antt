@@ -44,7 +44,8 @@ tree_fault place image d why is shape bad =
 
 -- its tree stands so
 abbrev pub HasTree : Place → Image → SystemFile → Met → Type 0
-HasTree place image d met = (directory_of place.bsize place.origin (image place.origin) ≡ Ok d) × (tree (form_of place.bsize place.total F) image d.levels (Some place.origin) place.origin d.root d.blocks ≡ Ok met)
+HasTree place image d met = (directory_of place.bsize place.origin (image place.origin) ≡ Ok d)
+    × (tree (form_of place.bsize place.total F) image d.levels (Some place.origin) place.origin d.root d.blocks ≡ Ok met)
 
 pub map_fault : (place : Place) (image : Image) (d : SystemFile) (met : Met) (why : OpenFault) → HasTree place image d met
     → map_of place.bsize place.total (drop 64 (image place.origin)) ≡ Err why → IsFaultOf (listed_in place.bsize place.total place.origin image) why

@@ -14,10 +14,12 @@ pub crossed : (bytes : List ℕ) (total : ℕ) (blocks : List ℕ) (n : ℕ) →
 unfolding lost_in
 crossed bytes total blocks n is = rw (sym is) refl
 
-pub missing : (bytes : List ℕ) (total : ℕ) (blocks : List ℕ) (n : ℕ) → None ≡ first_repeat [] blocks → Some n ≡ lowest_unmarked bytes blocks 6 (total - 5) → lost_in bytes total blocks ≡ Err (failed.MapMissing n)
+pub missing : (bytes : List ℕ) (total : ℕ) (blocks : List ℕ) (n : ℕ) → None ≡ first_repeat [] blocks → Some n ≡ lowest_unmarked bytes blocks 6 (total - 5)
+    → lost_in bytes total blocks ≡ Err (failed.MapMissing n)
 unfolding lost_in
 missing bytes total blocks n once is = rw (sym once, sym is) refl
 
-pub counted : (bytes : List ℕ) (total : ℕ) (blocks : List ℕ) (n : ℕ) → None ≡ first_repeat [] blocks → None ≡ lowest_unmarked bytes blocks 6 (total - 5) → n ≡ lost_count bytes blocks 6 (total - 5) → lost_in bytes total blocks ≡ Ok n
+pub counted : (bytes : List ℕ) (total : ℕ) (blocks : List ℕ) (n : ℕ) → None ≡ first_repeat [] blocks → None ≡ lowest_unmarked bytes blocks 6 (total - 5) → n ≡ lost_count bytes blocks 6 (total - 5)
+    → lost_in bytes total blocks ≡ Ok n
 unfolding lost_in
 counted bytes total blocks n once marked is = rw (sym once, sym marked, is) refl

@@ -49,12 +49,14 @@ looks_found bits seen n low high found looks bytes met is told =
     let h : holds met n ≡ slice_index_or seen (n - 1) false = sym (told n (omega arith)) in
     let m : is_marked bytes n ≡ slice_index_or bits (n - 1) false = sym (bit_marked bits bytes n low high is) in
     let step = step_is bytes met n (length bits - n) (slice_index_or seen (n - 1) false) (slice_index_or bits (n - 1) false) h m in
-    sym (looks bytes met is told ∙ (ap (lowest_unmarked bytes met n) more ∙ (step ∙ taken (slice_index_or seen (n - 1) false && not (slice_index_or bits (n - 1) false)) n (lowest_unmarked bytes met (n + 1) (length bits - n)) found)))
+    sym (looks bytes met is told ∙ (ap (lowest_unmarked bytes met n) more
+    ∙ (step ∙ taken (slice_index_or seen (n - 1) false && not (slice_index_or bits (n - 1) false)) n (lowest_unmarked bytes met (n + 1) (length bits - n)) found)))
   where
     taken : (c : Bool) (x : ℕ) (r : Option ℕ) → c ≡ true → (if c then Some x else r) ≡ Some x
     taken c x r e = rw e refl
 
-pub looks_next : (bits seen : List Bool) (n : ℕ) → 6 ≤ n → n ≤ length bits → (slice_index_or seen (n - 1) false && not (slice_index_or bits (n - 1) false)) ≡ false → Looks bits seen n → Looks bits seen (n + 1)
+pub looks_next : (bits seen : List Bool) (n : ℕ) → 6 ≤ n → n ≤ length bits → (slice_index_or seen (n - 1) false && not (slice_index_or bits (n - 1) false)) ≡ false → Looks bits seen n
+    → Looks bits seen (n + 1)
 looks_next bits seen n low high other looks bytes met is told =
     let a = slice_index_or seen (n - 1) false in
     let b = slice_index_or bits (n - 1) false in
@@ -63,7 +65,8 @@ looks_next bits seen n low high other looks bytes met is told =
     let h : holds met n ≡ a = sym (told n (omega arith)) in
     let m : is_marked bytes n ≡ b = sym (bit_marked bits bytes n low high is) in
     let step = step_is bytes met n (length bits - n) a b h m in
-    looks bytes met is told ∙ (ap (lowest_unmarked bytes met n) more ∙ (step ∙ (passed (a && not b) n (lowest_unmarked bytes met (n + 1) (length bits - n)) other ∙ ap (lowest_unmarked bytes met (n + 1)) (sym left))))
+    looks bytes met is told ∙ (ap (lowest_unmarked bytes met n) more
+    ∙ (step ∙ (passed (a && not b) n (lowest_unmarked bytes met (n + 1) (length bits - n)) other ∙ ap (lowest_unmarked bytes met (n + 1)) (sym left))))
   where
     passed : (c : Bool) (x : ℕ) (r : Option ℕ) → c ≡ false → (if c then Some x else r) ≡ r
     passed c x r e = rw e refl
@@ -90,7 +93,8 @@ count_is bytes met n more a b m h = rw (m, h) refl
 pub counts_first : (bits seen : List Bool) → Counts bits seen 6 0
 counts_first bits seen bytes met is told = let e : length bits + 1 - 6 ≡ length bits - 5 = omega arith in rw e (omega arith)
 
-pub counts_next : (bits seen : List Bool) (n lost more' : ℕ) → 6 ≤ n → n ≤ length bits → more' ≡ (if slice_index_or bits (n - 1) false && not (slice_index_or seen (n - 1) false) then 1 else 0) → Counts bits seen n lost
+pub counts_next : (bits seen : List Bool) (n lost more' : ℕ) → 6 ≤ n → n ≤ length bits → more' ≡ (if slice_index_or bits (n - 1) false && not (slice_index_or seen (n - 1) false) then 1 else 0)
+    → Counts bits seen n lost
     → Counts bits seen (n + 1) (lost + more')
 counts_next bits seen n lost more' low high more_is counts bytes met is told =
     let a = slice_index_or bits (n - 1) false in

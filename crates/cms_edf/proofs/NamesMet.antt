@@ -94,7 +94,8 @@ front_at (x ∷ xs) (suc k) e less is = front_at xs k e (omega arith) is
 front_of : (all : List Entry) (k : ℕ) (e : Entry) → k < length all → e ≡ get_or all k e → drop k all ≡ e ∷ drop (k + 1) all
 front_of all k e less is = let next : k + 1 ≡ suc k = omega arith in rw next (front_at all k e less is)
 
-pub names_again : (keys : List Name) (all : List Entry) (k : ℕ) (e : Entry) → k < length all → e ≡ get_or all k e → list_any (same_as e.name) keys ≡ true → Names keys k (drop k all) all → Some (k + 2) ≡ first_twice 2 [] all
+pub names_again : (keys : List Name) (all : List Entry) (k : ℕ) (e : Entry) → k < length all → e ≡ get_or all k e → list_any (same_as e.name) keys ≡ true → Names keys k (drop k all) all
+    → Some (k + 2) ≡ first_twice 2 [] all
 unfolding first_twice
 names_again keys all k e less is met n =
     let h : is_named e.name n.before ≡ true = sym (n.told e.name) ∙ met in
@@ -110,8 +111,10 @@ names_next keys keys' all k e less is met put n =
     let here : first_twice (k + 2) n.before (e ∷ drop (k + 1) all) ≡ first_twice (k + 2 + 1) (e.name ∷ n.before) (drop (k + 1) all) = rw h refl in
     record {
       before = e.name ∷ n.before;
-      told = λ q. put q ∙ (either (same_as e.name q) (list_any (same_as q) keys) ∙ (ap (λ (b : Bool). b || list_any (same_as q) keys) (same_back e.name q) ∙ ap (λ (b : Bool). same_name q e.name || b) (n.told q)));
-      first = ap (λ (m : ℕ). first_twice m (e.name ∷ n.before) (drop (k + 1) all)) (sym next) ∙ (sym here ∙ (ap (λ (l : List Entry). first_twice (k + 2) n.before l) (sym (front_of all k e less is)) ∙ n.first));
+      told = λ q. put q ∙ (either (same_as e.name q) (list_any (same_as q) keys)
+          ∙ (ap (λ (b : Bool). b || list_any (same_as q) keys) (same_back e.name q) ∙ ap (λ (b : Bool). same_name q e.name || b) (n.told q)));
+      first = ap (λ (m : ℕ). first_twice m (e.name ∷ n.before) (drop (k + 1) all)) (sym next)
+          ∙ (sym here ∙ (ap (λ (l : List Entry). first_twice (k + 2) n.before l) (sym (front_of all k e less is)) ∙ n.first));
     }
   where
     either : (a b : Bool) → (if a then true else b) ≡ (a || b)

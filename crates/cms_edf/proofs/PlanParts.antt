@@ -1,19 +1,10 @@
 -- Files and their entries under an edit.
-use Rattle.std.proofs.Common.{◌≡◌, ⊎_elim, ℕ, zero, suc, ◌+◌, true, false, List, [], ◌∷◌, ◌++◌, take, position, slice_get, get_or, Some, None, refl, sym, ◌∙◌, ap, arith}
+use Rattle.std.proofs.Common.{◌≡◌, ⊎_elim, ℕ, zero, suc, ◌+◌, true, false, List, [], ◌∷◌, ◌++◌, take, position, slice_get, Some, None, refl, sym, ◌∙◌, ap, arith}
 use Rattle.std.proofs.lemmas.Bool.{cases_Bool}
 use Rattle.std.specs.List.{position_from}
 use Rattle.std.proofs.lemmas.Iterator.Adapters.{position_from-zero}
 use Rattle.cms_names.specs.declared.name.Name.{Name}
 use Rattle.cms_model.specs.Minidisks.{is_named, same_name}
-
--- what is found at a place is there
-pub same_there : {X : Type 0} (xs : List X) (k : ℕ) (x y : X) → slice_get xs k ≡ Some x → y ≡ get_or xs k y → y ≡ x
-same_there [] k x y is at = absurd (cc is)
-same_there (z ∷ zs) zero x y is at = at ∙ some_same z x is
-  where
-    some_same : {X : Type 0} (a b : X) → Some a ≡ Some b → a ≡ b
-    some_same a b e = cc e
-same_there (z ∷ zs) (suc k) x y is at = same_there zs k x y is at
 
 -- one more
 pub one_more : {X : Type 0} (xs : List X) (k : ℕ) (x : X) → slice_get xs k ≡ Some x → take (k + 1) xs ≡ take k xs ++ x ∷ []

@@ -1,14 +1,12 @@
 -- What is planned for an edit is ready, and the volume after it is held.
 use Rattle.std.proofs.Common.{◌≡◌, ◌⊎◌, ⊎_elim, inl, inr, ℕ, zero, suc, ◌+◌, ◌-◌, ◌*◌, ◌^◌, ◌<◌, ◌≤◌, Bool, true, List, [], ◌∷◌, ◌++◌, length, map, take, drop, slice_get, get_or, All, None, Some, refl, sym, ◌∙◌, ap, subst, arith, append-nil, replicate, append_assoc, length-append}
-use Rattle.std.specs.Prelude.{nat_le, ◌&&◌}
-use Rattle.std.proofs.lemmas.Bool.{and_parts, leb-true}
-use Rattle.std.proofs.lemmas.List.{length-map, length-replicate, length-set, map-set, take_more}
+use Rattle.std.proofs.lemmas.List.{length-map, length-replicate, length-set, map-set}
 use Rattle.std.proofs.lemmas.List.Elements.{All-nil, All-cons, All-head, All-tail, All-set, All-append, All-take}
 use Rattle.std.proofs.lemmas.Option.{slice_get_within}
 use Rattle.cms_journal.specs.Journal.{IsBlockSize}
 use Rattle.cms_journal.proofs.Sizes.{block_bounds}
 use Rattle.cms_names.specs.declared.name.Name.{Name}
-use Rattle.cms_fields.specs.Entries.{entry_bytes, passes, length_fits, counts_fit, levels_fit}
+use Rattle.cms_fields.specs.Entries.{entry_bytes, passes}
 use Rattle.cms_fields.specs.Numbers.{up}
 use Rattle.cms_fields.specs.Stamps.{is_stamp}
 use Rattle.cms_fields.specs.declared.entry.Entry.{Entry}
@@ -30,7 +28,7 @@ use Rattle.cms_edf.specs.Doubts.{IsReady}
 use Rattle.cms_edf.specs.Writing.{IsBlockOf}
 use Rattle.cms_held.specs.Renewing.{Edit, IsAllotted, blocks_in, dropping, entries_held, fresh, released, renamed, renaming, renewed}
 use Rattle.cms_held.specs.Carrying.{IsEditOf, IsReadyFor, drops, renames}
-use Rattle.cms_edf.specs.Planning.{Edited, IsEditFor, IsPlanFor, IsPrepared, IsReadyAt, IsRelabelOf, IsStepOf, MayEdit, count_after, edit_of, edited, place_in, place_of}
+use Rattle.cms_edf.specs.Planning.{AreSystemsFor, Edited, IsEditFor, IsPlanFor, IsPrepared, IsReadyAt, IsRelabelOf, IsStepOf, MayEdit, count_after, edit_of, edited, place_in, place_of}
 use Rattle.cms_edf.specs.declared.change.FileEdit.{FileEdit}
 use Rattle.cms_edf.specs.declared.change.FileEdit.TheVariants as does
 use Rattle.cms_edf.specs.declared.step.Step.{Step}
@@ -41,22 +39,15 @@ use Rattle.cms_held.proofs.Allotting.{directory_small, directory_some, map_some}
 use Rattle.cms_held.proofs.Edits.{passes_renamed}
 use Rattle.cms_held.proofs.MapMarks.{length_freed, length_marked}
 use Rattle.cms_held.proofs.Removing.{All-removed, length-removed, map-removed}
+use Rattle.cms_edf.proofs.PlanParts.{one_more}
+use Rattle.cms_model.proofs.FileSizes.{passing}
 use Rattle.cms_model.proofs.Quotients.{up_spec}
 
 -- ---- entries
 
 -- an entry that passes may be written
 pub can_write : (bsize : ℕ) (e : Entry) → passes bsize e ≡ true → CanWrite e
-unfolding passes length_fits counts_fit levels_fit
-can_write bsize e is =
-    let l = length_fits e in
-    let c = counts_fit bsize e in
-    let k = levels_fit bsize e in
-    let p = and_parts (nat_le e.number 6 && l && c && k) (is_stamp e.stamp) is in
-    let q = and_parts (nat_le e.number 6 && l && c) k p.0 in
-    let r = and_parts (nat_le e.number 6 && l) c q.0 in
-    let t = and_parts (nat_le e.number 6) l r.0 in
-    (leb-true e.number 6 t.0, p.1)
+can_write bsize e is = let p = passing bsize e is in (p.number, p.stamp)
 
 -- the entries of files that are kept
 pub can_write_all : (bsize total : ℕ) (fs : List HeldFile) → All (IsKeptFile bsize total) fs → All CanWrite (entries_held fs)
@@ -79,20 +70,28 @@ pub no_entry : (old : List ℕ) (es : List Entry) → old ≡ old ++ file_entrie
 unfolding file_entries
 no_entry old es = sym (append-nil old)
 
-pub more_bytes : (old now new : List ℕ) (es : List Entry) (k : ℕ) (e : Entry) → k < length es → e ≡ get_or es k e → now ≡ old ++ file_entries (take k es) → new ≡ now ++ entry_bytes e
+pub more_bytes : (old now new : List ℕ) (es : List Entry) (k : ℕ) (e : Entry) → slice_get es k ≡ Some e → now ≡ old ++ file_entries (take k es) → new ≡ now ++ entry_bytes e
     → new ≡ old ++ file_entries (take (k + 1) es)
-more_bytes old now new es k e less is before after =
-    let more : take (k + 1) es ≡ take k es ++ e ∷ [] = take_more es k e less ∙ ap (λ (x : Entry). take k es ++ x ∷ []) (sym is) in
+more_bytes old now new es k e there before after =
+    let more : take (k + 1) es ≡ take k es ++ e ∷ [] = one_more es k e there in
     after ∙ (ap (λ (l : List ℕ). l ++ entry_bytes e) before ∙ (append_assoc old (file_entries (take k es)) (entry_bytes e)
     ∙ ap (λ (l : List ℕ). old ++ l) (ap (λ (l : List ℕ). file_entries (take k es) ++ l) (sym (one_entry e)) ∙ (sym (entries_joined (take k es) (e ∷ [])) ∙ ap file_entries (sym more)))))
 
-pub more_back : (es : List Entry) (k : ℕ) (e : Entry) → k < length es → e ≡ get_or es k e → All ReadsBack (take k es) → ReadsBack e → All ReadsBack (take (k + 1) es)
-more_back es k e less is all one =
-    subst (All ReadsBack) (sym (take_more es k e less ∙ ap (λ (x : Entry). take k es ++ x ∷ []) (sym is)))
+pub more_back : (es : List Entry) (k : ℕ) (e : Entry) → slice_get es k ≡ Some e → All ReadsBack (take k es) → ReadsBack e → All ReadsBack (take (k + 1) es)
+more_back es k e there all one =
+    subst (All ReadsBack) (sym (one_more es k e there))
     (All-append ReadsBack (take k es) (e ∷ []) all (All-cons ReadsBack e [] one (All-nil ReadsBack)))
 
+-- the entries of the directory and the map come first
+pub first_two : (own map old two : List ℕ) → old ≡ [] → two ≡ old ++ (own ++ map) → two ≡ own ++ map
+first_two own map old two none is = is ∙ ap (λ (l : List ℕ). l ++ (own ++ map)) none
+
+pub first_long : (old two : List ℕ) → old ≡ [] → length two ≡ length old + 128 → length two ≡ 128
+first_long old two none is = is ∙ ap (λ (l : List ℕ). length l + 128) none
+
 -- the bytes of a directory, put together
-pub bytes_are : (bsize : ℕ) (s : Systems) (es : List Entry) (stamp : Stamp) (own map two all whole : List ℕ) (size : ℕ) → own ≡ system_entry directory_name 64 (directory_file bsize s (length es)) stamp
+pub bytes_are : (bsize : ℕ) (s : Systems) (es : List Entry) (stamp : Stamp) (own map two all whole : List ℕ) (size : ℕ)
+    → own ≡ system_entry directory_name 64 (directory_file bsize s (length es)) stamp
     → map ≡ system_entry map_name bsize (map_file bsize s) stamp → two ≡ own ++ map → length two ≡ 128 → all ≡ two ++ file_entries es → All ReadsBack es → size ≡ length s.directory.leaves * bsize
     → whole ≡ all ++ replicate (size - length all) 0 → whole ≡ directory_bytes_of bsize s es stamp
 unfolding directory_bytes_of
@@ -100,10 +99,12 @@ bytes_are bsize s es stamp own map two all whole size is_own is_map is_two long 
     let bytes = length_entries es back in
     let count : length all ≡ 64 * (length es + 2) = ap length is_all ∙ omega (arith, length-append two (file_entries es)) in
     let zeros : size - length all ≡ length s.directory.leaves * bsize - 64 * (length es + 2) = omega arith in
-    is ∙ (ap (λ (n : ℕ). all ++ replicate n 0) zeros ∙ (ap (λ (l : List ℕ). l ++ replicate (length s.directory.leaves * bsize - 64 * (length es + 2)) 0) (is_all ∙ ap (λ (l : List ℕ). l ++ file_entries es) is_two)
+    is ∙ (ap (λ (n : ℕ). all ++ replicate n 0) zeros ∙ (ap (λ (l : List ℕ). l ++ replicate (length s.directory.leaves * bsize - 64 * (length es + 2)) 0)
+    (is_all ∙ ap (λ (l : List ℕ). l ++ file_entries es) is_two)
     ∙ (regroup own map (file_entries es) (replicate (length s.directory.leaves * bsize - 64 * (length es + 2)) 0)
     ∙ (ap (λ (l : List ℕ). l ++ (map ++ (file_entries es ++ replicate (length s.directory.leaves * bsize - 64 * (length es + 2)) 0))) is_own
-    ∙ ap (λ (l : List ℕ). system_entry directory_name 64 (directory_file bsize s (length es)) stamp ++ (l ++ (file_entries es ++ replicate (length s.directory.leaves * bsize - 64 * (length es + 2)) 0))) is_map))))
+    ∙ ap (λ (l : List ℕ). system_entry directory_name 64 (directory_file bsize s (length es)) stamp
+    ++ (l ++ (file_entries es ++ replicate (length s.directory.leaves * bsize - 64 * (length es + 2)) 0))) is_map))))
   where
     regroup : (a b c d : List ℕ) → ((a ++ b) ++ c) ++ d ≡ a ++ (b ++ (c ++ d))
     regroup a b c d = simp append_assoc
@@ -162,7 +163,8 @@ kept_at P (g ∷ fs) zero f is all = let e : g ≡ f = cc is in subst P e (All-h
 kept_at P (g ∷ fs) (suc k) f is all = kept_at P fs k f is (All-tail P g fs all)
 
 -- the files after an edit are kept
-pub edited_kept : (bsize total : ℕ) (fs : List HeldFile) (e : FileEdit) (f : HeldFile) → slice_get fs (place_of e) ≡ Some f → MayEdit fs e → All (IsKeptFile bsize total) fs → All (IsKeptFile bsize total) (edit_of fs e f).files
+pub edited_kept : (bsize total : ℕ) (fs : List HeldFile) (e : FileEdit) (f : HeldFile) → slice_get fs (place_of e) ≡ Some f → MayEdit fs e → All (IsKeptFile bsize total) fs
+    → All (IsKeptFile bsize total) (edit_of fs e f).files
 edited_kept bsize total fs (does.Drop place) f is may all = All-removed (IsKeptFile bsize total) fs place f may all
 edited_kept bsize total fs (does.Rename place to number) f is may all =
     All-set (IsKeptFile bsize total) fs place (renamed to number f) (kept_renamed bsize total f to number may.1 (kept_at (IsKeptFile bsize total) fs place f is all)) all
@@ -174,6 +176,10 @@ pub file_at : (fs : List HeldFile) (k : ℕ) → k < length fs → (f : HeldFile
 file_at [] k less = absurd (omega arith)
 file_at (f ∷ fs) zero less = (f, refl)
 file_at (f ∷ fs) (suc k) less = file_at fs k (omega arith)
+
+-- and its entry
+pub entry_at : (fs : List HeldFile) (k : ℕ) (f : HeldFile) → slice_get fs k ≡ Some f → slice_get (entries_held fs) k ≡ Some f.entry
+entry_at fs k f is = slice_get-map (λ (g : HeldFile). g.entry) fs k ∙ ap (option_map (λ (g : HeldFile). g.entry)) is
 
 -- an edit is of a file that is there
 pub may_within : (fs : List HeldFile) (e : FileEdit) → MayEdit fs e → place_of e < length fs
@@ -189,8 +195,7 @@ pub edited_of : (v : HeldVolume) (e : FileEdit) (before entries : List Entry) �
 edited_of v e before entries kept may had edits =
     let at = file_at v.files (place_of e) (may_within v.files e may) in
     let f = at.0 in
-    let there : slice_get (entries_held v.files) (place_of e) ≡ Some f.entry =
-    slice_get-map (λ (g : HeldFile). g.entry) v.files (place_of e) ∙ ap (option_map (λ (g : HeldFile). g.entry)) at.1 in
+    let there = entry_at v.files (place_of e) f at.1 in
     let new : entries ≡ edited (entries_held v.files) e f.entry = subst (λ (l : List Entry). (x : Entry) → slice_get l (place_of e) ≡ Some x → entries ≡ edited l e x) had edits f.entry there in
     let are : entries_held (edit_of v.files e f).files ≡ entries = edited_are v.files e f at.1 ∙ sym new in
     let count : length entries ≡ count_after v.files e = ap length (sym are) ∙ (entries_count (edit_of v.files e f).files ∙ count_is v.files e f) in
@@ -240,27 +245,35 @@ no_more : (xs : List ℕ) → length xs ≡ 0 → xs ≡ []
 no_more [] is = refl
 no_more (x ∷ xs) is = absurd (omega (arith, is))
 
-pub nothing_taken : (v : HeldVolume) (files : ℕ) (given taken : List ℕ) (directory map : HeldTree) (bits : List Bool) → length taken ≡ 0 → IsAllotted v files given taken directory map bits → IsAllotted v files given [] directory map bits
+pub nothing_taken : (v : HeldVolume) (files : ℕ) (given taken : List ℕ) (directory map : HeldTree) (bits : List Bool) → length taken ≡ 0 → IsAllotted v files given taken directory map bits
+    → IsAllotted v files given [] directory map bits
 nothing_taken v files given taken directory map bits none a = subst (λ (l : List ℕ). IsAllotted v files given l directory map bits) (no_more taken none) a
+
+-- what is written for the entries of an edit is ready, where its blocks are allotted
+pub ready_of : (v : HeldVolume) (edit : Edit) (entries : List Entry) (stamp : Stamp) (s : Systems) → Keeps v → is_stamp stamp ≡ true
+    → IsAllotted v (length edit.files) edit.given edit.taken s.directory s.map s.bits → AreSystemsFor v entries stamp s → entries_held edit.files ≡ entries → IsReadyFor v edit stamp s
+ready_of v edit entries stamp s kept stamped blocks a are = record {
+  kept = kept;
+  stamped = stamped;
+  planned = record {
+    blocks = blocks;
+    label = a.label;
+    label_bytes = a.label_bytes;
+    directory_bytes = subst (λ (es : List Entry). s.directory_bytes ≡ directory_bytes_of v.disk.bsize s es stamp) (sym are) a.directory_bytes;
+  };
+  long = a.long;
+  back = subst (All ReadsBack) (sym are) a.back;
+}
 
 -- what is prepared for the entries of an edit is ready
 pub ready_for : (v : HeldVolume) (edit : Edit) (entries : List Entry) (given : List ℕ) (stamp : Stamp) (s : Systems) → Keeps v → is_stamp stamp ≡ true → IsPrepared v entries given stamp s
     → entries_held edit.files ≡ entries → edit.given ≡ given → edit.taken ≡ [] → IsReadyFor v edit stamp s
 ready_for v edit entries given stamp s kept stamped p are gives takes =
     let count : length entries ≡ length edit.files = sym (ap length are) ∙ entries_count edit.files in
-    record {
-      kept = kept;
-      stamped = stamped;
-      planned = record {
-        blocks = subst (λ (l : List ℕ). IsAllotted v (length edit.files) edit.given l s.directory s.map s.bits) (sym takes)
-            (subst (λ (l : List ℕ). IsAllotted v (length edit.files) l [] s.directory s.map s.bits) (sym gives) (subst (λ (n : ℕ). IsAllotted v n given [] s.directory s.map s.bits) count p.blocks));
-        label = p.label;
-        label_bytes = p.label_bytes;
-        directory_bytes = subst (λ (es : List Entry). s.directory_bytes ≡ directory_bytes_of v.disk.bsize s es stamp) (sym are) p.directory_bytes;
-      };
-      long = p.long;
-      back = subst (All ReadsBack) (sym are) p.back;
-    }
+    ready_of v edit entries stamp s kept stamped
+    (subst (λ (l : List ℕ). IsAllotted v (length edit.files) edit.given l s.directory s.map s.bits) (sym takes)
+    (subst (λ (l : List ℕ). IsAllotted v (length edit.files) l [] s.directory s.map s.bits) (sym gives) (subst (λ (n : ℕ). IsAllotted v n given [] s.directory s.map s.bits) count p.blocks)))
+    p.systems are
 
 some_same : (a b : HeldFile) → Some a ≡ Some b → a ≡ b
 some_same a b e = cc e
@@ -284,7 +297,7 @@ given_rename v e place to number file is = ap (λ (x : FileEdit). (edit_of v.fil
 pub ready_at : (v : HeldVolume) (e : FileEdit) (stamp : Stamp) (s : Systems) (entries : List Entry) (given : List ℕ) → Keeps v → is_stamp stamp ≡ true → (x : Edited v e entries)
     → (edit_of v.files e x.file).given ≡ given → IsPrepared v entries given stamp s → IsReadyAt v e stamp s
 ready_at v e stamp s entries given kept stamped x gives p = (
-  p.label_long,
+  p.systems.label_long,
   λ f there. subst (λ (g : HeldFile). IsReadyFor v (edit_of v.files e g) stamp s) (some_same x.file f (sym x.there ∙ there))
       (ready_for v (edit_of v.files e x.file) entries given stamp s kept stamped p x.are gives (none_taken v.files e x.file)),
 )
@@ -424,7 +437,8 @@ rename_for v from to number k stamp s is small free ready =
     }
 
 -- a step for a change
-pub step_for : (v : HeldVolume) (change : Change) (e : FileEdit) (stamp : Stamp) (step : Step) → ((s : Systems) → IsReadyAt v e stamp s → IsEditFor v change stamp e s) → IsStepOf v e stamp step → IsPlanFor v change stamp step
+pub step_for : (v : HeldVolume) (change : Change) (e : FileEdit) (stamp : Stamp) (step : Step) → ((s : Systems) → IsReadyAt v e stamp s → IsEditFor v change stamp e s) → IsStepOf v e stamp step
+    → IsPlanFor v change stamp step
 step_for v change e stamp (planned.Edit edit s) for (same, ready) = subst (λ (x : FileEdit). IsEditFor v change stamp x s) (sym same) (for s ready)
 step_for v change e stamp (planned.Relabel label bytes) for is = absurd is
 

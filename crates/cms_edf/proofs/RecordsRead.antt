@@ -41,29 +41,35 @@ takes_first image leaves count scan fed = record { before = []; reads = reads_fi
 
 pub takes_next : (image : Image) (leaves : List ℕ) (k count : ℕ) (scan scan' : Scan) (block : List ℕ) → k < length leaves → block ≡ image (slice_index leaves k)
     → ((count : ℕ) (bytes : List ℕ) → IsFed count bytes scan → IsFed count (bytes ++ block) scan') → Takes image leaves k count scan → Takes image leaves (k + 1) count scan'
-takes_next image leaves k count scan scan' block less is grows t = record { before = t.before ++ block; reads = reads_next image leaves k t.before block less is t.reads; fed = grows count t.before t.fed }
+takes_next image leaves k count scan scan' block less is grows t =
+    record { before = t.before ++ block; reads = reads_next image leaves k t.before block less is t.reads; fed = grows count t.before t.fed }
 
-pub takes_bad : (image : Image) (leaves : List ℕ) (k count number bsize : ℕ) (scan : Scan) (block : List ℕ) (why : OpenFault) → k < length leaves → block ≡ image (slice_index leaves k) → scan.bsize ≡ bsize
+pub takes_bad : (image : Image) (leaves : List ℕ) (k count number bsize : ℕ) (scan : Scan) (block : List ℕ) (why : OpenFault) → k < length leaves → block ≡ image (slice_index leaves k)
+    → scan.bsize ≡ bsize
     → ((count : ℕ) (bytes rest : List ℕ) → IsFed count bytes scan → blamed (failed.Var number) (sizes_in scan.bsize count ((bytes ++ block) ++ rest)) ≡ Err why)
     → Takes image leaves k count scan → IsFaultOf (blamed (failed.Var number) (sizes_in bsize count (bytes_at image leaves))) why
 takes_bad image leaves k count number bsize scan block why less is size bad t =
     let all : bytes_at image leaves ≡ (t.before ++ block) ++ bytes_at image (drop (k + 1) leaves) = reads_next image leaves k t.before block less is t.reads in
     fault_is (blamed (failed.Var number) (sizes_in bsize count (bytes_at image leaves))) why
     (ap (λ (bytes : List ℕ). blamed (failed.Var number) (sizes_in bsize count bytes)) all
-    ∙ (ap (λ (b : ℕ). blamed (failed.Var number) (sizes_in b count ((t.before ++ block) ++ bytes_at image (drop (k + 1) leaves)))) (sym size) ∙ bad count t.before (bytes_at image (drop (k + 1) leaves)) t.fed))
+    ∙ (ap (λ (b : ℕ). blamed (failed.Var number) (sizes_in b count ((t.before ++ block) ++ bytes_at image (drop (k + 1) leaves)))) (sym size)
+    ∙ bad count t.before (bytes_at image (drop (k + 1) leaves)) t.fed))
 
 pub takes_last : (image : Image) (leaves : List ℕ) (k count number bsize : ℕ) (scan : Scan) (result : Result VarSizes OpenFault) → length leaves ≤ k → scan.bsize ≡ bsize
     → ((count : ℕ) (bytes : List ℕ) → IsFed count bytes scan → result ≡ blamed (failed.Var number) (sizes_in scan.bsize count bytes))
     → Takes image leaves k count scan → result ≡ blamed (failed.Var number) (sizes_in bsize count (bytes_at image leaves))
 takes_last image leaves k count number bsize scan result past size is t =
     is count t.before t.fed
-    ∙ (ap (λ (b : ℕ). blamed (failed.Var number) (sizes_in b count t.before)) size ∙ ap (λ (bytes : List ℕ). blamed (failed.Var number) (sizes_in bsize count bytes)) (reads_last image leaves k t.before past t.reads))
+    ∙ (ap (λ (b : ℕ). blamed (failed.Var number) (sizes_in b count t.before)) size
+    ∙ ap (λ (bytes : List ℕ). blamed (failed.Var number) (sizes_in bsize count bytes)) (reads_last image leaves k t.before past t.reads))
 
-pub when_ok : {A : Type 0} (r : Result A OpenFault) (told : Option Journal) (whole : Journal → Result A OpenFault) → ((j : Journal) → told ≡ Some j → r ≡ whole j) → IfOk r (λ x. (j : Journal) → told ≡ Some j → whole j ≡ Ok x)
+pub when_ok : {A : Type 0} (r : Result A OpenFault) (told : Option Journal) (whole : Journal → Result A OpenFault) → ((j : Journal) → told ≡ Some j → r ≡ whole j)
+    → IfOk r (λ x. (j : Journal) → told ≡ Some j → whole j ≡ Ok x)
 when_ok (Ok x) told whole is = λ j is_told. sym (is j is_told)
 when_ok (Err e) told whole is = tt
 
-pub when_err : {A : Type 0} (r : Result A OpenFault) (told : Option Journal) (whole : Journal → Result A OpenFault) → ((j : Journal) → told ≡ Some j → r ≡ whole j) → IfErr r (λ why. (j : Journal) → told ≡ Some j → IsFaultOf (whole j) why)
+pub when_err : {A : Type 0} (r : Result A OpenFault) (told : Option Journal) (whole : Journal → Result A OpenFault) → ((j : Journal) → told ≡ Some j → r ≡ whole j)
+    → IfErr r (λ why. (j : Journal) → told ≡ Some j → IsFaultOf (whole j) why)
 when_err (Ok x) told whole is = tt
 when_err (Err e) told whole is = λ j is_told. fault_is (whole j) e (sym (is j is_told))
 
@@ -98,7 +104,8 @@ longest_some bsize n place bytes rs e =
     let long : length (take len (drop 2 bytes)) ≡ len = length-take-le len (drop 2 bytes) (omega arith) in
     subst (λ (l : List (List ℕ)). 1 ≤ longest l) (ok_same (take len (drop 2 bytes) ∷ more) rs done) (omega arith))
 
-pub sizes_some : (r : Result VarSizes OpenFault) (number bsize count : ℕ) (bytes : List ℕ) → 1 ≤ count → r ≡ blamed (failed.Var number) (sizes_in bsize count bytes) → IfOk r (λ sizes. 1 ≤ sizes.longest)
+pub sizes_some : (r : Result VarSizes OpenFault) (number bsize count : ℕ) (bytes : List ℕ) → 1 ≤ count → r ≡ blamed (failed.Var number) (sizes_in bsize count bytes)
+    → IfOk r (λ sizes. 1 ≤ sizes.longest)
 sizes_some (Err e) number bsize count bytes some is = tt
 sizes_some (Ok sizes) number bsize zero bytes some is = absurd (omega arith)
 sizes_some (Ok sizes) number bsize (suc n) bytes some is =
@@ -106,23 +113,27 @@ sizes_some (Ok sizes) number bsize (suc n) bytes some is =
     let least = longest_some bsize n 0 bytes t.0 (blamed_ok (failed.Var number) (varying bsize (suc n) 0 bytes) t.0 t.1) in
     subst (λ (s : VarSizes). 1 ≤ s.longest) t.2 least
 
-pub fixed_has : (bsize : ℕ) (image : Image) (number : ℕ) (e : Entry) (leaves : List ℕ) (sizes : VarSizes) → e.format ≡ F → sizes.longest ≡ e.length → sizes.stored ≡ e.count * e.length → HasRecords bsize image number e leaves sizes
+pub fixed_has : (bsize : ℕ) (image : Image) (number : ℕ) (e : Entry) (leaves : List ℕ) (sizes : VarSizes) → e.format ≡ F → sizes.longest ≡ e.length → sizes.stored ≡ e.count * e.length
+    → HasRecords bsize image number e leaves sizes
 unfolding records_of
 fixed_has bsize image number e leaves sizes is long stored =
     record { records = cut e.count e.length (bytes_at image leaves); are = rw is refl; sized = rw is (long, stored) }
 
-pub varying_has : (bsize : ℕ) (image : Image) (number : ℕ) (e : Entry) (leaves : List ℕ) (sizes : VarSizes) → e.format ≡ V → blamed (failed.Var number) (sizes_in bsize e.count (bytes_at image leaves)) ≡ Ok sizes → HasRecords bsize image number e leaves sizes
+pub varying_has : (bsize : ℕ) (image : Image) (number : ℕ) (e : Entry) (leaves : List ℕ) (sizes : VarSizes) → e.format ≡ V
+    → blamed (failed.Var number) (sizes_in bsize e.count (bytes_at image leaves)) ≡ Ok sizes → HasRecords bsize image number e leaves sizes
 unfolding records_of
 varying_has bsize image number e leaves sizes is read =
     let t = told_varying number (varying bsize e.count 0 (bytes_at image leaves)) sizes read in
     let same = t.2 in
     record { records = t.0; are = rw is t.1; sized = rw is (sym (ap (λ (s : VarSizes). s.longest) same), sym (ap (λ (s : VarSizes). s.stored) same)) }
 
-told_fault : (number : ℕ) (read : Result (List (List ℕ)) VarFault) (e : OpenFault) → blamed (failed.Var number) (read >>= λ records. Ok (sizes_of records)) ≡ Err e → blamed (failed.Var number) read ≡ Err e
+told_fault : (number : ℕ) (read : Result (List (List ℕ)) VarFault) (e : OpenFault) → blamed (failed.Var number) (read >>= λ records. Ok (sizes_of records)) ≡ Err e
+    → blamed (failed.Var number) read ≡ Err e
 told_fault number (Ok records) e is = absurd (cc is)
 told_fault number (Err k) e is = cc is
 
-pub varying_bad : (bsize : ℕ) (image : Image) (number : ℕ) (e : Entry) (leaves : List ℕ) (why : OpenFault) → e.format ≡ V → IsFaultOf (blamed (failed.Var number) (sizes_in bsize e.count (bytes_at image leaves))) why
+pub varying_bad : (bsize : ℕ) (image : Image) (number : ℕ) (e : Entry) (leaves : List ℕ) (why : OpenFault) → e.format ≡ V
+    → IsFaultOf (blamed (failed.Var number) (sizes_in bsize e.count (bytes_at image leaves))) why
     → IsFaultOf (records_in bsize image number e leaves) why
 unfolding records_of
 varying_bad bsize image number e leaves why is bad =
@@ -157,7 +168,8 @@ taken_long [] (suc k) le = absurd (omega arith)
 taken_long (x ∷ xs) zero le = refl
 taken_long (x ∷ xs) (suc k) le = ap suc (taken_long xs k (omega arith))
 
-contents_step : (bsize : ℕ) (image : Image) (entries : List Entry) (walks : List Walked) (k : ℕ) (e : Entry) (w : Walked) → k < length entries → e ≡ get_or entries k e → k < length walks → w ≡ get_or walks k w
+contents_step : (bsize : ℕ) (image : Image) (entries : List Entry) (walks : List Walked) (k : ℕ) (e : Entry) (w : Walked) → k < length entries → e ≡ get_or entries k e → k < length walks
+    → w ≡ get_or walks k w
     → contents_in bsize image (k + 2) (drop k entries) (map met_in (drop k walks))
     ≡ (records_in bsize image (k + 2) e w.leaves.items >>= λ records. contents_in bsize image (k + 1 + 2) (drop (k + 1) entries) (map met_in (drop (k + 1) walks)) >>= λ more. Ok (records ∷ more))
 unfolding contents_in
@@ -165,7 +177,8 @@ contents_step bsize image entries walks k e w less is less' is' =
     let next : k + 2 + 1 ≡ k + 1 + 2 = omega arith in
     ap (λ (l : List Entry). contents_in bsize image (k + 2) l (map met_in (drop k walks))) (front_of entries k e less is)
     ∙ (ap (λ (l : List Walked). contents_in bsize image (k + 2) (e ∷ drop (k + 1) entries) (map met_in l)) (front_of walks k w less' is')
-    ∙ ap (λ (n : ℕ). records_in bsize image (k + 2) e w.leaves.items >>= λ records. contents_in bsize image n (drop (k + 1) entries) (map met_in (drop (k + 1) walks)) >>= λ more. Ok (records ∷ more)) next)
+    ∙ ap (λ (n : ℕ). records_in bsize image (k + 2) e w.leaves.items >>= λ records. contents_in bsize image n (drop (k + 1) entries) (map met_in (drop (k + 1) walks)) >>= λ more. Ok (records ∷ more))
+    next)
 
 -- a file as it is made
 abbrev pub made : Entry → Walked → VarSizes → HeldFile
@@ -175,12 +188,14 @@ held_as : (e : Entry) (w : Walked) (records : List (List ℕ)) (sizes : VarSizes
 held_as e w records sizes file sized is = is ∙ (ap (λ (n : ℕ). record { entry = e; tree = record { leaves = w.leaves.items; pointers = w.pointers.items }; length = n; size = sizes.stored }) sized.0
     ∙ ap (λ (n : ℕ). record (told_file e w records) { size = n }) sized.1)
 
-pub contents_next : (bsize : ℕ) (image : Image) (entries : List Entry) (walks : List Walked) (k number : ℕ) (e : Entry) (w : Walked) (leaves : List ℕ) (sizes : VarSizes) (files : List HeldFile) (file : HeldFile)
+pub contents_next : (bsize : ℕ) (image : Image) (entries : List Entry) (walks : List Walked) (k number : ℕ) (e : Entry) (w : Walked) (leaves : List ℕ) (sizes : VarSizes) (files : List HeldFile)
+    (file : HeldFile)
     → k < length entries → e ≡ get_or entries k e → k < length walks → w ≡ get_or walks k w → number ≡ k + 2 → leaves ≡ w.leaves.items → file ≡ made e w sizes
     → HasRecords bsize image number e leaves sizes → ContentsTo bsize image entries walks k files → ContentsTo bsize image entries walks (k + 1) (files ++ (file ∷ []))
 contents_next bsize image entries walks k number e w leaves sizes files file less is less' is' numbered same made_so has to =
     let rest = contents_in bsize image (k + 1 + 2) (drop (k + 1) entries) (map met_in (drop (k + 1) walks)) in
-    let here : records_in bsize image (k + 2) e w.leaves.items ≡ Ok has.records = subst (λ (l : List ℕ). records_in bsize image (k + 2) e l ≡ Ok has.records) same (subst (λ (n : ℕ). records_in bsize image n e leaves ≡ Ok has.records) numbered has.are) in
+    let here : records_in bsize image (k + 2) e w.leaves.items ≡ Ok has.records =
+    subst (λ (l : List ℕ). records_in bsize image (k + 2) e l ≡ Ok has.records) same (subst (λ (n : ℕ). records_in bsize image n e leaves ≡ Ok has.records) numbered has.are) in
     let step = contents_step bsize image entries walks k e w less is less' is' ∙ ap (λ (r : Result (List (List ℕ)) OpenFault). r >>= λ records. rest >>= λ more. Ok (records ∷ more)) here in
     let es = taken_long entries k (omega arith) in
     let ws = taken_long walks k (omega arith) in
@@ -204,7 +219,8 @@ contents_bad bsize image entries walks k number e w leaves files why less is les
     let rest = contents_in bsize image (k + 1 + 2) (drop (k + 1) entries) (map met_in (drop (k + 1) walks)) in
     fault_passes (records_in bsize image number e leaves) (contents_in bsize image 2 entries (map met_in walks)) why
     (λ wrong fails.
-    let here : records_in bsize image (k + 2) e w.leaves.items ≡ Err wrong = subst (λ (l : List ℕ). records_in bsize image (k + 2) e l ≡ Err wrong) same (subst (λ (n : ℕ). records_in bsize image n e leaves ≡ Err wrong) numbered fails) in
+    let here : records_in bsize image (k + 2) e w.leaves.items ≡ Err wrong =
+    subst (λ (l : List ℕ). records_in bsize image (k + 2) e l ≡ Err wrong) same (subst (λ (n : ℕ). records_in bsize image n e leaves ≡ Err wrong) numbered fails) in
     let step = contents_step bsize image entries walks k e w less is less' is' ∙ ap (λ (r : Result (List (List ℕ)) OpenFault). r >>= λ records. rest >>= λ more. Ok (records ∷ more)) here in
     to.are ∙ ap (behind to.contents) step)
     bad
@@ -215,11 +231,13 @@ unfolding contents_in
 contents_last bsize image entries walks k files past past' to = record {
   contents = to.contents;
   are = to.are ∙ (ap (λ (l : List Entry). behind to.contents (contents_in bsize image (k + 2) l (map met_in (drop k walks)))) (past_last entries k past) ∙ ap Ok (append-nil to.contents));
-  files_are = to.files_are ∙ (ap (λ (l : List Entry). told_files l (take k walks) to.contents) (all_taken entries k past) ∙ ap (λ (l : List Walked). told_files entries l to.contents) (all_taken walks k past'));
+  files_are = to.files_are ∙ (ap (λ (l : List Entry). told_files l (take k walks) to.contents) (all_taken entries k past)
+      ∙ ap (λ (l : List Walked). told_files entries l to.contents) (all_taken walks k past'));
 }
 
 -- the data blocks of a tree by its entry
-pub count_at : (entries : List Entry) (walks : List Walked) (k : ℕ) (e : Entry) (w : Walked) → HaveCounts entries walks → k < length entries → k < length walks → e ≡ get_or entries k e → w ≡ get_or walks k w → length w.leaves.items ≡ e.blocks
+pub count_at : (entries : List Entry) (walks : List Walked) (k : ℕ) (e : Entry) (w : Walked) → HaveCounts entries walks → k < length entries → k < length walks → e ≡ get_or entries k e
+    → w ≡ get_or walks k w → length w.leaves.items ≡ e.blocks
 count_at [] walks k e w counts less less' is is' = absurd (omega arith)
 count_at (x ∷ es) [] k e w counts less less' is is' = absurd (omega arith)
 count_at (x ∷ es) (y ∷ ws) zero e w counts less less' is is' = rw (is, is') (heads counts)

@@ -29,7 +29,8 @@ pub record Drops (es es' : List Pair) (k : ℕ) (f : HeldFile) : Type 0 where
   pub values : values_of es' ≡ swap_remove (values_of es) k f
   pub named : es' ≡ by_name (values_of es')
 
-removed_is : (es es' : List Pair) (k : ℕ) (p : Pair) (f : HeldFile) → es ≡ by_name (values_of es) → es' ≡ swap_remove es k p → k < length (values_of es) → es' ≡ by_name (swap_remove (values_of es) k f)
+removed_is : (es es' : List Pair) (k : ℕ) (p : Pair) (f : HeldFile) → es ≡ by_name (values_of es) → es' ≡ swap_remove es k p → k < length (values_of es)
+    → es' ≡ by_name (swap_remove (values_of es) k f)
 removed_is es es' k p f is gone within =
     gone ∙ (ap (λ (l : List Pair). swap_remove l k p) is ∙ sym (map-removed named (values_of es) k f p within))
 
@@ -68,7 +69,8 @@ put_back {X} xs k d x within =
         ∙ sym (ap (λ (m : ℕ). get_or (set xs k x) m d) here ∙ get_or-set_same xs k x d within)))
     at i less long cut (inr ne) (inl end) =
         rw (ne_eqb i k ne, eq-eqb i (length (swap_remove xs k d ++ x ∷ []) - 1) end)
-        (early k (omega arith) ∙ (get_or-set_same xs k (get_or xs (length xs - 1) d) d within ∙ (ap (λ (m : ℕ). get_or xs m d) (omega arith) ∙ sym (get_or-set_other xs k i x d (λ e. ne (omega (arith, e)))))))
+        (early k (omega arith) ∙ (get_or-set_same xs k (get_or xs (length xs - 1) d) d within
+        ∙ (ap (λ (m : ℕ). get_or xs m d) (omega arith) ∙ sym (get_or-set_other xs k i x d (λ e. ne (omega (arith, e)))))))
     at i less long cut (inr ne) (inr other) =
         rw (ne_eqb i k ne, ne_eqb i (length (swap_remove xs k d ++ x ∷ []) - 1) other)
         (early i (omega arith) ∙ (get_or-set_other xs k i (get_or xs (length xs - 1) d) d (λ e. ne (omega (arith, e))) ∙ sym (get_or-set_other xs k i x d (λ e. ne (omega (arith, e))))))

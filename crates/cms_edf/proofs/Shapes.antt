@@ -42,8 +42,14 @@ directory_shape bsize origin bytes s size small is =
     let least = (block_bounds bsize size).0 in
     let blocks = f.fits.blocks in
     let room = (up_spec (s.count * 64) bsize (omega arith)).0 in
-    let some = up_some (s.count * 64) bsize (omega arith) (omega arith) in
-    (subst (λ (n : ℕ). 1 ≤ n) (sym blocks) some, (shape_least (bsize / 4) s.blocks s.levels (wide_fan bsize least) small).0 f.fits.shape, low, f.high, subst (λ (n : ℕ). s.count * 64 ≤ n * bsize) (sym blocks) room)
+    let some = up_some (s.count * 64) bsize (omega arith) (omega arith) in (
+      subst (λ (n : ℕ). 1 ≤ n) (sym blocks) some,
+      (shape_least (bsize / 4) s.blocks s.levels (wide_fan bsize least) small).0 f.fits.shape,
+      low,
+      f.high,
+      subst (λ (n : ℕ). s.count * 64 ≤ n * bsize)
+          (sym blocks) room,
+    )
 
 pub map_shape : (bsize total : ℕ) (bytes : List ℕ) (s : SystemFile) → IsBlockSize bsize → 1 ≤ total → s.blocks < 2 ^ 32 → map_of bsize total bytes ≡ Ok s
     → (1 ≤ s.blocks) × (s.levels ≡ levels (bsize / 4) s.blocks) × (total ≤ 8 * (s.blocks * bsize))

@@ -50,7 +50,8 @@ files_low total n (w ∷ ws) each is = ⊎_elim
     (λ (there : In n (blocks_of (map met_in ws))). files_low total n ws (λ k d less. each (suc k) d (omega arith)) there)
     (In-either n w.blocks.items (blocks_of (map met_in ws)) is)
 
-pub blocks_are : (total origin : ℕ) (directory map_tree : Walked) (files : List Walked) → 6 ≤ total → (origin ≡ 4) ⊎ (origin ≡ 5) → IsWithin total (Some origin) directory → IsWithin total None map_tree
+pub blocks_are : (total origin : ℕ) (directory map_tree : Walked) (files : List Walked) → 6 ≤ total → (origin ≡ 4) ⊎ (origin ≡ 5) → IsWithin total (Some origin) directory
+    → IsWithin total None map_tree
     → All (IsWithin total None) files → AreBlocks total (tree_blocks (met_in directory) (met_in map_tree) (map met_in files))
 blocks_are total origin directory map_tree files some at d m each n is = ⊎_elim
     (λ (here : In n directory.blocks.items). leaf_low total origin n some at (d.blocks n here))
@@ -65,14 +66,18 @@ blocks_are total origin directory map_tree files some at d m each n is = ⊎_eli
 pub map_bad : (place : Place) (image : Image) (l : Listing) (why : OpenFault) → ReadsMap place image l.map (Err why) → IsFaultOf (trees_in place.bsize place.total place.origin image (listed l)) why
 unfolding trees_in
 map_bad place image l why bad =
-    fault_passes (tree (form_of place.bsize place.total F) image l.map.levels None place.origin l.map.root l.map.blocks) (trees_in place.bsize place.total place.origin image (listed l)) why (λ e fails. rw fails refl) bad
+    fault_passes (tree (form_of place.bsize place.total F) image l.map.levels None place.origin l.map.root l.map.blocks) (trees_in place.bsize place.total place.origin image (listed l)) why
+    (λ e fails. rw fails refl) bad
 
-pub files_fail : (place : Place) (image : Image) (l : Listing) (m : Walked) (why : OpenFault) → ReadsMap place image l.map (Ok m) → IsFaultOf (file_trees place.bsize place.total image l.walked.leaves.items 2 l.entries.items) why
+pub files_fail : (place : Place) (image : Image) (l : Listing) (m : Walked) (why : OpenFault) → ReadsMap place image l.map (Ok m)
+    → IsFaultOf (file_trees place.bsize place.total image l.walked.leaves.items 2 l.entries.items) why
     → IsFaultOf (trees_in place.bsize place.total place.origin image (listed l)) why
 unfolding trees_in
 files_fail place image l m why read bad =
-    fault_passes (file_trees place.bsize place.total image l.walked.leaves.items 2 l.entries.items) (trees_in place.bsize place.total place.origin image (listed l)) why (λ e fails. rw (read.0, fails) refl) bad
+    fault_passes (file_trees place.bsize place.total image l.walked.leaves.items 2 l.entries.items) (trees_in place.bsize place.total place.origin image (listed l)) why
+    (λ e fails. rw (read.0, fails) refl) bad
 
-pub trees_stand : (place : Place) (image : Image) (l : Listing) (t : Trees) → ReadsMap place image l.map (Ok t.map) → HasFiles place image l.walked.leaves.items l.entries.items t.files.items → HasTrees place image l t
+pub trees_stand : (place : Place) (image : Image) (l : Listing) (t : Trees) → ReadsMap place image l.map (Ok t.map) → HasFiles place image l.walked.leaves.items l.entries.items t.files.items
+    → HasTrees place image l t
 unfolding trees_in
 trees_stand place image l t read files = record { trees = rw (read.0, files.trees) refl; map_nodes = read.1; nodes_are = files.nodes_are }

@@ -38,7 +38,8 @@ unfolding behind_label
 trees_bad disk image label l why is bad = fault_passes (trees_in disk.bsize label.blocks label.origin image l) (behind_label disk image label) why (λ e fails. rw (is, fails) refl) bad
 
 pub marks_bad : (disk : Disk) (image : Image) (label : Label) (l : Listed) (t : Treed) (why : OpenFault) → listed_in disk.bsize label.blocks label.origin image ≡ Ok l
-    → trees_in disk.bsize label.blocks label.origin image l ≡ Ok t → IsFaultOf (lost_in (bytes_at image t.map_met.leaves) label.blocks (tree_blocks l.directory_met t.map_met t.mets)) why → IsFaultOf (behind_label disk image label) why
+    → trees_in disk.bsize label.blocks label.origin image l ≡ Ok t → IsFaultOf (lost_in (bytes_at image t.map_met.leaves) label.blocks (tree_blocks l.directory_met t.map_met t.mets)) why
+    → IsFaultOf (behind_label disk image label) why
 unfolding behind_label
 marks_bad disk image label l t why is trees bad =
     fault_passes (lost_in (bytes_at image t.map_met.leaves) label.blocks (tree_blocks l.directory_met t.map_met t.mets)) (behind_label disk image label) why (λ e fails. rw (is, trees, fails) refl) bad
@@ -73,9 +74,11 @@ told_are_held place image (e ∷ es) (w ∷ ws) [] same = refl
 told_are_held place image (e ∷ es) (w ∷ ws) (c ∷ cs) same =
     let here = heads (pointers_in w) (file_nodes place image e) (map pointers_in ws) (map (file_nodes place image) es) same in
     let there = told_are_held place image es ws cs (tails (pointers_in w) (file_nodes place image e) (map pointers_in ws) (map (file_nodes place image) es) same) in
-    ap (λ (ps : List ℕ). record (told_file e w c) { tree = record { leaves = w.leaves.items; pointers = ps } } ∷ told_files es ws cs) here ∙ ap (λ (fs : List HeldFile). held_file place.bsize place.total image e (met_in w) c ∷ fs) there
+    ap (λ (ps : List ℕ). record (told_file e w c) { tree = record { leaves = w.leaves.items; pointers = ps } } ∷ told_files es ws cs) here
+    ∙ ap (λ (fs : List HeldFile). held_file place.bsize place.total image e (met_in w) c ∷ fs) there
 
-pub held_so : (p : Place) (disk : Disk) (image : Image) (label : Label) (label_bytes : List ℕ) (l : Listing) (t : Trees) (bits : List Bool) (files : List HeldFile) (lost : ℕ) (contents : List (List (List ℕ)))
+pub held_so : (p : Place) (disk : Disk) (image : Image) (label : Label) (label_bytes : List ℕ) (l : Listing) (t : Trees) (bits : List Bool) (files : List HeldFile) (lost : ℕ)
+    (contents : List (List (List ℕ)))
     → p ≡ record { unit = p.unit; bsize = disk.bsize; total = label.blocks; origin = label.origin } → label_bytes ≡ image 3
     → l.walked.pointers.items ≡ nodes_at image (system_at p l.directory (Some p.origin)) → l.directory.levels ≡ levels (p.bsize / 4) l.directory.blocks
     → HasTrees p image l t → l.map.levels ≡ levels (p.bsize / 4) l.map.blocks → bits ≡ bits_in p.total (bytes_at image t.map.leaves.items) → files ≡ told_files l.entries.items t.files.items contents
@@ -96,19 +99,45 @@ held_so p disk image label label_bytes l t bits files lost contents at bytes dir
     let total : p.total ≡ label.blocks = ap (λ (q : Place). q.total) at in
     let dirs : l.walked.pointers.items ≡ nodes (form_of disk.bsize label.blocks F) image l.directory.levels l.directory.root l.directory.blocks =
     dir ∙ (ap (λ (k : ℕ). nodes (form_of p.bsize p.total F) image k l.directory.root l.directory.blocks) (sym dir_levels)
-    ∙ (ap (λ (b : ℕ). nodes (form_of b p.total F) image l.directory.levels l.directory.root l.directory.blocks) size ∙ ap (λ (b : ℕ). nodes (form_of disk.bsize b F) image l.directory.levels l.directory.root l.directory.blocks) total)) in
+    ∙ (ap (λ (b : ℕ). nodes (form_of b p.total F) image l.directory.levels l.directory.root l.directory.blocks) size
+    ∙ ap (λ (b : ℕ). nodes (form_of disk.bsize b F) image l.directory.levels l.directory.root l.directory.blocks) total)) in
     let maps : t.map.pointers.items ≡ nodes (form_of disk.bsize label.blocks F) image l.map.levels l.map.root l.map.blocks =
     trees.map_nodes ∙ (ap (λ (k : ℕ). nodes (form_of p.bsize p.total F) image k l.map.root l.map.blocks) (sym map_levels)
-    ∙ (ap (λ (b : ℕ). nodes (form_of b p.total F) image l.map.levels l.map.root l.map.blocks) size ∙ ap (λ (b : ℕ). nodes (form_of disk.bsize b F) image l.map.levels l.map.root l.map.blocks) total)) in
+    ∙ (ap (λ (b : ℕ). nodes (form_of b p.total F) image l.map.levels l.map.root l.map.blocks) size ∙ ap (λ (b : ℕ). nodes (form_of disk.bsize b F) image l.map.levels l.map.root l.map.blocks) total))
+    in
     let bits' : bits ≡ bits_in label.blocks (bytes_at image t.map.leaves.items) = bits_are ∙ ap (λ (n : ℕ). bits_in n (bytes_at image t.map.leaves.items)) total in
     let files' : files ≡ held_files disk.bsize label.blocks image l.entries.items (map met_in t.files.items) contents =
     files_are ∙ (told_are_held p image l.entries.items t.files.items contents trees.nodes_are
-    ∙ (ap (λ (b : ℕ). held_files b p.total image l.entries.items (map met_in t.files.items) contents) size ∙ ap (λ (b : ℕ). held_files disk.bsize b image l.entries.items (map met_in t.files.items) contents) total)) in
+    ∙ (ap (λ (b : ℕ). held_files b p.total image l.entries.items (map met_in t.files.items) contents) size
+    ∙ ap (λ (b : ℕ). held_files disk.bsize b image l.entries.items (map met_in t.files.items) contents) total)) in
     parts p.unit disk label lost label_bytes (image 3) l.walked.leaves.items l.walked.pointers.items _ t.map.leaves.items t.map.pointers.items _ bits _ files _ bytes dirs maps bits' files'
   where
-    parts : (unit : ℕ) (disk : Disk) (label : Label) (lost : ℕ) (b b' dl dp dp' ml mp mp' : List ℕ) (bits bits' : List Bool) (files files' : List HeldFile) → b ≡ b' → dp ≡ dp' → mp ≡ mp' → bits ≡ bits' → files ≡ files'
-        → ◌≡◌ {A = HeldVolume} (record { unit = unit; disk = disk; label = label; label_bytes = b; directory = record { leaves = dl; pointers = dp }; map = record { leaves = ml; pointers = mp }; bits = bits; files = files; lost = lost })
-        (record { unit = unit; disk = disk; label = label; label_bytes = b'; directory = record { leaves = dl; pointers = dp' }; map = record { leaves = ml; pointers = mp' }; bits = bits'; files = files'; lost = lost })
+    parts : (unit : ℕ) (disk : Disk) (label : Label) (lost : ℕ) (b b' dl dp dp' ml mp mp' : List ℕ) (bits bits' : List Bool) (files files' : List HeldFile) → b ≡ b' → dp ≡ dp' → mp ≡ mp'
+        → bits ≡ bits' → files ≡ files'
+        → ◌≡◌ {A = HeldVolume} (record {
+          unit = unit;
+          disk = disk;
+          label = label;
+          label_bytes = b;
+          directory = record { leaves = dl; pointers = dp };
+          map =
+              record { leaves = ml; pointers = mp };
+          bits = bits;
+          files = files;
+          lost = lost;
+        })
+        (record {
+          unit = unit;
+          disk = disk;
+          label = label;
+          label_bytes = b';
+          directory = record { leaves = dl; pointers = dp' };
+          map = record { leaves = ml; pointers = mp' };
+          bits = bits';
+          files =
+              files';
+          lost = lost;
+        })
     parts unit disk label lost b b' dl dp dp' ml mp mp' bits bits' files files' e f g h i = rw (e, f, g, h, i) refl
 
 -- ---- the whole
@@ -123,11 +152,14 @@ from_label disk image some =
     let enough : nat_le 6 disk.count ≡ true = le-leb 6 disk.count some in
     open_is disk image ∙ ap (λ (b : Bool). want b (failed.Label Count) >> (blamed failed.Label (label_of disk.bsize disk.count (image 3)) >>= behind_label disk image)) enough
 
-pub label_bad : (disk : Disk) (image : Image) (bytes : List ℕ) (why : OpenFault) → 6 ≤ disk.count → bytes ≡ image 3 → blamed failed.Label (label_of disk.bsize disk.count bytes) ≡ Err why → IsFaultOf (open_of disk image) why
+pub label_bad : (disk : Disk) (image : Image) (bytes : List ℕ) (why : OpenFault) → 6 ≤ disk.count → bytes ≡ image 3 → blamed failed.Label (label_of disk.bsize disk.count bytes) ≡ Err why
+    → IsFaultOf (open_of disk image) why
 label_bad disk image bytes why some is bad =
-    fault_is (open_of disk image) why (from_label disk image some ∙ ap (λ (r : Result Label OpenFault). r >>= behind_label disk image) (ap (λ (b : List ℕ). blamed failed.Label (label_of disk.bsize disk.count b)) (sym is) ∙ bad))
+    fault_is (open_of disk image) why (from_label disk image some
+    ∙ ap (λ (r : Result Label OpenFault). r >>= behind_label disk image) (ap (λ (b : List ℕ). blamed failed.Label (label_of disk.bsize disk.count b)) (sym is) ∙ bad))
 
-behind_is : (disk : Disk) (image : Image) (bytes : List ℕ) (label : Label) → 6 ≤ disk.count → bytes ≡ image 3 → blamed failed.Label (label_of disk.bsize disk.count bytes) ≡ Ok label → open_of disk image ≡ behind_label disk image label
+behind_is : (disk : Disk) (image : Image) (bytes : List ℕ) (label : Label) → 6 ≤ disk.count → bytes ≡ image 3 → blamed failed.Label (label_of disk.bsize disk.count bytes) ≡ Ok label
+    → open_of disk image ≡ behind_label disk image label
 behind_is disk image bytes label some is good =
     from_label disk image some ∙ ap (λ (r : Result Label OpenFault). r >>= behind_label disk image) (ap (λ (b : List ℕ). blamed failed.Label (label_of disk.bsize disk.count b)) (sym is) ∙ good)
 

@@ -42,10 +42,12 @@ tests_are disk image label =
     under (file_trees disk.bsize label.blocks image directory_met.leaves 2 entries) _ (lost_told disk image label l) _ (λ mets.
     let t : Treed = record { map_met = map_met; mets = mets } in
     under_then (absent (first_repeat [] (tree_blocks directory_met map_met mets)) failed.Crossed) _ (counted disk image label l t) _ (
-    under_then (absent (lowest_unmarked (bytes_at image map_met.leaves) (tree_blocks directory_met map_met mets) 6 (label.blocks - 5)) failed.MapMissing) _ (counted disk image label l t) _ refl))))))))
+    under_then (absent (lowest_unmarked (bytes_at image map_met.leaves) (tree_blocks directory_met map_met mets) 6 (label.blocks - 5)) failed.MapMissing) _
+    (counted disk image label l t) _ refl))))))))
 
 -- the label's tests, and those behind it
-pub open_is : (disk : Disk) (image : Image) → open_of disk image ≡ (want (nat_le 6 disk.count) (failed.Label Count) >> (blamed failed.Label (label_of disk.bsize disk.count (image 3)) >>= behind_label disk image))
+pub open_is : (disk : Disk) (image : Image) → open_of disk image
+    ≡ (want (nat_le 6 disk.count) (failed.Label Count) >> (blamed failed.Label (label_of disk.bsize disk.count (image 3)) >>= behind_label disk image))
 unfolding open_of
 open_is disk image =
     ap (λ (r : Result Opened OpenFault). want (nat_le 6 disk.count) (failed.Label Count) >> r)

@@ -1,10 +1,10 @@
 -- Writes that are made one after another.
-use Rattle.std.proofs.Common.{rules, ◌≡◌, ◌≤◌, ◌<◌, inl, inr, ℕ, ◌+◌, List, [], ◌∷◌, ◌++◌, length, take, Result, Ok, Err, None, Some, refl, sym, ◌∙◌, ap, subst, arith}
-use Rattle.std.specs.Prelude.{⊤, OnErr}
+use Rattle.std.proofs.Common.{rules, ◌≡◌, ◌≤◌, inl, inr, ℕ, ◌+◌, List, [], ◌++◌, length, take, Result, Ok, Err, refl, sym, ◌∙◌, subst, arith}
+use Rattle.std.specs.Prelude.{⊤}
 use Rattle.cms_journal.specs.declared.event.Event.{Event}
 use Rattle.cms_journal.specs.declared.event.Event.TheVariants.{Wrote}
 use Rattle.cms_journal.specs.declared.event.Failed.{Failed}
-use Rattle.cms_journal.specs.Causes.{HasCause, Rose}
+use Rattle.cms_journal.specs.Causes.{Rose}
 use Rattle.cms_journal.specs.Journal.{adds, MayAdd}
 use Rattle.cms_journal.specs.Told.{Told, plus}
 use Rattle.cms_model.specs.Settled.{Write, writes}

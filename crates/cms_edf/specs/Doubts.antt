@@ -1,14 +1,14 @@
 -- What was done where an update was cut off.
-use Rattle.std.specs.Prelude.{◌≡◌, ◌⊎◌, ℕ, ◌*◌, ◌/◌, ◌^◌, ◌<◌, ◌≤◌, Bool, List, ◌++◌, length, take, drop, All}
+use Rattle.std.specs.Prelude.{◌≡◌, ◌⊎◌, ℕ, ◌*◌, ◌/◌, ◌^◌, ◌<◌, ◌≤◌, Bool, List, ◌++◌, length, take, drop, All, Result, Ok, Err, ⊤}
 use Rattle.cms_journal.specs.Journal.{IsBlockSize}
 use Rattle.cms_journal.specs.Told.{Told, plus}
 use Rattle.cms_model.specs.Lists.{cut}
-use Rattle.cms_model.specs.Settled.{Write, writes}
+use Rattle.cms_model.specs.Settled.{Write, update, writes}
 use Rattle.cms_model.specs.Sizes.{pointer_count}
 use Rattle.cms_model.specs.LawsUpdates.{AddsFront, to_label, with_label}
 use Rattle.cms_map.specs.Bits.{bytes_from}
 use Rattle.cms_held.specs.Opening.{HeldTree}
-use Rattle.cms_held.specs.Systems.{Systems, block_writes, node_writes}
+use Rattle.cms_held.specs.Systems.{Systems, block_writes, node_writes, system_writes}
 use Rattle.cms_edf.specs.Writing.{IsBlockOf}
 use Rattle.cms_edf.specs.declared.writing.Target.{Target}
 use Rattle.cms_edf.specs.declared.doubt.Doubt.{Doubt}
@@ -18,6 +18,15 @@ use Rattle.cms_edf.specs.declared.doubt.Doubt.TheVariants.{Old, Either}
 abbrev pub IsCutOff : Told → Told → ℕ → List Write → List ℕ → Doubt → Type 0
 IsCutOff old new unit ws label Old = AddsFront old new (writes unit ws)
 IsCutOff old new unit ws label Either = (new ≡ plus old (to_label unit ws)) ⊎ (new ≡ plus old (with_label unit ws label))
+
+-- what an update of these writes came to: all its events, or it was cut off
+abbrev pub Updates : Told → Told → ℕ → List Write → List ℕ → Result ⊤ Doubt → Type 0
+Updates old new unit ws label (Ok x) = new ≡ plus old (update unit ws label)
+Updates old new unit ws label (Err why) = IsCutOff old new unit ws label why
+
+-- the same of an update of no more than the directory, the map and the label
+abbrev pub UpdatesSystems : Told → Told → ℕ → Systems → Result ⊤ Doubt → Type 0
+UpdatesSystems old new unit s result = Updates old new unit (system_writes (length s.label_bytes) s) s.label_bytes result
 
 -- what is held to be written has whole blocks: the label one, the directory as many as it has numbers; each tree has the pointer blocks
 -- that its size says, and all numbers are blocks of the volume

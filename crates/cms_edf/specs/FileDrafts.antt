@@ -9,7 +9,6 @@ use Rattle.cms_names.specs.declared.name.Name.{Name}
 use Rattle.cms_names.specs.declared.name.Format.{Format}
 use Rattle.cms_names.specs.declared.name.Format.TheVariants.{F, V}
 use Rattle.cms_fields.specs.Entries.{fan_of, passes}
-use Rattle.cms_fields.specs.Labels.{with_label}
 use Rattle.cms_fields.specs.Limits.{longest_record, most_files}
 use Rattle.cms_fields.specs.Numbers.{up}
 use Rattle.cms_fields.specs.Stamps.{is_stamp}
@@ -24,9 +23,8 @@ use Rattle.cms_model.specs.Sizes.{levels, pointer_count}
 use Rattle.cms_map.specs.Bits.{free_blocks}
 use Rattle.cms_tree.specs.Builds.{root_of}
 use Rattle.cms_held.specs.Opening.{HeldFile, HeldTree, HeldVolume, names_in}
-use Rattle.cms_held.specs.Systems.{Systems, directory_bytes_of}
-use Rattle.cms_held.specs.Written.{ReadsBack}
-use Rattle.cms_held.specs.Renewing.{Edit, IsAllotted, blocks_in, label_for, renewed}
+use Rattle.cms_held.specs.Systems.{Systems}
+use Rattle.cms_held.specs.Renewing.{Edit, IsAllotted, blocks_in, renewed}
 use Rattle.cms_held.specs.Carrying.{IsHeldMinidisk, IsReadyFor, written_count}
 use Rattle.cms_held.specs.Drafts.{HasDraft}
 use Rattle.cms_held.specs.LawsRenewing.{writes_of}
@@ -35,11 +33,12 @@ use Rattle.cms_draft.specs.BlockWriting.{written_with}
 use Rattle.cms_draft.specs.Drafting.{Drafting, marks_in}
 use Rattle.cms_draft.specs.declared.shape.DraftShape.{DraftShape}
 use Rattle.cms_edf.specs.declared.allotment.Allotment.{Allotment}
-use Rattle.cms_edf.specs.Doubts.{IsCutOff}
+use Rattle.cms_edf.specs.Doubts.{Updates}
 use Rattle.cms_edf.specs.declared.allotment.PlanFault.{PlanFault}
 use Rattle.cms_edf.specs.declared.doubt.Doubt.{Doubt}
 use Rattle.cms_edf.specs.declared.doubt.Doubt.TheVariants.{Old, Either}
 use Rattle.cms_edf.specs.declared.allotment.PlanFault.TheVariants as failed
+use Rattle.cms_edf.specs.Planning.{AreSystemsFor}
 
 -- a file that is drafted: its entry, its records as far as they were put, and what is written then but its own blocks
 pub record FileDraft : Type 0 where
@@ -121,12 +120,7 @@ pub record IsFilled (v : HeldVolume) (entries : List Entry) (a : Allotment) (sta
   pub directory_is : s.directory ≡ a.directory
   pub map_is : s.map ≡ a.map_tree
   pub bits_are : s.bits ≡ a.map
-  pub label : s.label ≡ label_for v.label s.bits
-  pub label_bytes : s.label_bytes ≡ with_label s.label v.label_bytes
-  pub label_long : length s.label_bytes ≡ v.disk.bsize
-  pub directory_bytes : s.directory_bytes ≡ directory_bytes_of v.disk.bsize s entries stamp
-  pub long : length s.directory_bytes ≡ length s.directory.leaves * v.disk.bsize
-  pub back : All ReadsBack entries
+  pub systems : AreSystemsFor v entries stamp s
 
 -- ---- what is planned
 
@@ -209,8 +203,7 @@ commit_writes v d rest = rest ++ writes_of v d.systems
 
 -- the events of its commit, or where it was cut off
 abbrev pub CommitEvents : Told → Told → HeldVolume → FileDraft → List Write → Result ⊤ Doubt → Type 0
-CommitEvents old new v d rest (Ok x) = new ≡ plus old (update v.unit (commit_writes v d rest) d.systems.label_bytes)
-CommitEvents old new v d rest (Err why) = IsCutOff old new v.unit (commit_writes v d rest) d.systems.label_bytes why
+CommitEvents old new v d rest result = Updates old new v.unit (commit_writes v d rest) d.systems.label_bytes result
 
 -- the file is put; up to the write of the label the old minidisk is held as before, at every moment each crash image is the old minidisk
 -- or the new, and what was written while its records were put and with its commit, as one update, is at most two blocks more than it needs

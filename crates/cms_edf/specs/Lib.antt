@@ -7,5 +7,6 @@ pub mod Writing
 pub mod Doubts
 pub mod Lacking
 pub mod Planning
+pub mod NewEntries
 pub mod Finishing
 pub mod FileDrafts

@@ -5,6 +5,7 @@ use Rattle.cms_fields.specs.declared.entry.Entry.{Entry}
 use Rattle.cms_fields.specs.declared.time.Stamp.{Stamp}
 use Rattle.cms_fields.specs.Labels.{with_label}
 use Rattle.cms_fields.specs.declared.label.Label.{Label}
+use Rattle.cms_fields.specs.Limits.{most_files}
 use Rattle.cms_model.specs.Minidisks.{same_name}
 use Rattle.cms_model.specs.Changes.{Change}
 use Rattle.cms_model.specs.Changes as model
@@ -79,20 +80,24 @@ pub record Edited (v : HeldVolume) (e : FileEdit) (entries : List Entry) : Type 
   pub there : slice_get v.files (place_of e) ≡ Some file
   pub are : entries_held (edit_of v.files e file).files ≡ entries
   pub count : length entries ≡ count_after v.files e
-  pub few : length entries ≤ 16384
+  pub few : length entries ≤ most_files
   pub each : All CanWrite entries
 
 -- ---- what is planned
 
--- what is written for files with these entries, where these blocks are given back
-pub record IsPrepared (v : HeldVolume) (entries : List Entry) (given : List ℕ) (stamp : Stamp) (s : Systems) : Type 0 where
-  pub blocks : IsAllotted v (length entries) given [] s.directory s.map s.bits
+-- the label and the directory that are written for files with these entries
+pub record AreSystemsFor (v : HeldVolume) (entries : List Entry) (stamp : Stamp) (s : Systems) : Type 0 where
   pub label : s.label ≡ label_for v.label s.bits
   pub label_bytes : s.label_bytes ≡ with_label s.label v.label_bytes
   pub label_long : length s.label_bytes ≡ v.disk.bsize
   pub directory_bytes : s.directory_bytes ≡ directory_bytes_of v.disk.bsize s entries stamp
   pub long : length s.directory_bytes ≡ length s.directory.leaves * v.disk.bsize
   pub back : All ReadsBack entries
+
+-- what is written for files with these entries, where these blocks are given back
+pub record IsPrepared (v : HeldVolume) (entries : List Entry) (given : List ℕ) (stamp : Stamp) (s : Systems) : Type 0 where
+  pub blocks : IsAllotted v (length entries) given [] s.directory s.map s.bits
+  pub systems : AreSystemsFor v entries stamp s
 
 -- what is written for an edit
 abbrev pub IsReadyAt : HeldVolume → FileEdit → Stamp → Systems → Type 0

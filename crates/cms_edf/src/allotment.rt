@@ -1,6 +1,7 @@
 // The blocks that an update takes and gives back.
 ghost use Rattle.std.specs.Prelude.{◌≡◌, ◌≤◌, ◌<◌, ◌+◌, ◌-◌, ◌/◌, ◌*◌, ◌^◌, ◌∷◌, ◌++◌, length, take, drop, nat_le, ◌&&◌, IfOk, IfErr, OnOk};
 ghost use Rattle.cms_fields.specs.Numbers.{up};
+ghost use Rattle.cms_fields.specs.Limits.{most_files};
 ghost use Rattle.cms_model.specs.Sizes.{pointer_count};
 ghost use Rattle.cms_map.specs.Bits.{HasFixed, free_blocks, with_marked};
 ghost use Rattle.cms_held.specs.Renewing.{IsAllotted, fresh, needed, released, with_freed};
@@ -51,7 +52,7 @@ struct Counts {
 
 // The trees of a directory of so many files, and of the map of so many blocks.
 fn count_blocks(bsize: BlockSize, total: u32, files: u32) -> Counts
-    requires few { files ≤ 16384 }
+    requires few { files ≤ most_files }
     requires some { 6 ≤ total }
     ensures directory { result.directory ≡ up (64 * (files + 2)) bsize }
     ensures directory_nodes { result.directory_nodes ≡ pointer_count (bsize / 4) result.directory }
@@ -226,7 +227,7 @@ pub fn allot(
     leaves: &[u32],
     pointers: &[u32],
 ) -> Result<Allotment, PlanFault>
-    requires few { files ≤ 16384 }
+    requires few { files ≤ most_files }
     requires small { file < 2 ^ 31 }
     ensures allotted { IfOk result (λ a. IsAllotted held.now.volume files (leaves.now ++ pointers.now)
         a.file.items a.directory a.map_tree a.map) }

@@ -8,15 +8,13 @@ ghost use Rattle.cms_fields.specs.declared.time.Stamp.{Stamp};
 ghost use Rattle.cms_model.specs.Changes.{Change};
 ghost use Rattle.cms_model.specs.LawsUpdates.{relabel};
 ghost use Rattle.cms_model.specs.Minidisks.{Minidisk};
-ghost use Rattle.cms_model.specs.Settled.{update};
 ghost use Rattle.cms_held.specs.Carrying.{IsHeldMinidisk};
 ghost use Rattle.cms_edf.specs.Finishing.{CarriesOut, IsPlan, IsStopped, LeadsTo, step_events, with_label_bytes};
-ghost use Rattle.cms_edf.specs.Doubts.{IsCutOff};
+ghost use Rattle.cms_edf.specs.Doubts.{UpdatesSystems};
 ghost use Rattle.cms_held.specs.Kept.{Keeps};
 ghost use Rattle.cms_held.specs.Opening.{HeldFile};
 ghost use Rattle.cms_edf.specs.Planning.{IsPlanFor, MayEdit, edit_of, place_of};
 ghost use Rattle.cms_held.specs.Renewing.{renewed};
-ghost use Rattle.cms_held.specs.Systems.{system_writes};
 ghost use Rattle.cms_edf.specs.declared.doubt.Doubt.TheVariants.{Either};
 ghost use Rattle.cms_world.specs.Seen.{OnUnits, seen};
 
@@ -82,12 +80,9 @@ impl Held {
         requires blocks { ForSome (W.told world.old) (λ j. HasBlocks j.units self.old.volume.unit systems.label.blocks
             (length systems.label_bytes)) }
         requires writable { ForSome (W.told world.old) (λ j. IsWritable j.units self.old.volume.unit) }
-        ensures done { OnOk result (W.told world.new ≡ plus (W.told world.old)
-            (update self.old.volume.unit (system_writes (length systems.label_bytes) systems) systems.label_bytes)) }
+        ensures updates { UpdatesSystems (W.told world.old) (W.told world.new) self.old.volume.unit systems result }
         ensures volume { OnOk result ((f : HeldFile) → slice_get self.old.volume.files (place_of edit.now) ≡ Some f
             → self.new.volume ≡ renewed self.old.volume (edit_of self.old.volume.files edit.now f) systems) }
-        ensures cut_off { IfErr result (IsCutOff (W.told world.old) (W.told world.new) self.old.volume.unit
-            (system_writes (length systems.label_bytes) systems) systems.label_bytes) }
         ensures kept { OnErr result (self.new ≡ self.old) }
         ensures counts { OnUnits (seen W.World world.old) (seen W.World world.new) result }
     {

@@ -1,17 +1,13 @@
 // A change of a volume, and what it does to the files that are held.
-ghost use Rattle.std.specs.Prelude.{◌≡◌, ◌≤◌, ◌<◌, length, slice_get, Some, IfOk};
+ghost use Rattle.std.specs.Prelude.{◌≡◌, ◌≤◌, ◌<◌, length, slice_get, Some};
 ghost use Rattle.indexmap.specs.IndexMap.{spare, values};
-ghost use Rattle.cms_fields.specs.declared.entry.Entry.{Entry};
 ghost use Rattle.cms_held.specs.Opening.{HeldFile, by_name};
-ghost use Rattle.cms_held.specs.Renewing.{entries_held};
-ghost use Rattle.cms_edf.specs.Planning.{MayEdit, edit_of, edited, place_of};
+ghost use Rattle.cms_edf.specs.Planning.{MayEdit, edit_of, place_of};
 
 use crate::editing::{drop_file, rename_file};
 use crate::held::FileHeld;
-use cms_fields::Entry;
 use cms_names::Name;
 use indexmap::IndexMap;
-use std::alloc::{AllocError, Global};
 
 /// A change of a volume.
 #[derive(Clone, Copy, Debug)]
@@ -50,24 +46,6 @@ impl FileEdit {
         }
     }
 
-    /// Edits the entries of the files.
-    pub fn edit_entries(&self, entries: &mut Vec<Entry>)
-        requires { place_of self.now < length entries.old.items }
-        ensures { (e : Entry) → slice_get entries.old.items (place_of self.now) ≡ Some e
-            → entries.new.items ≡ edited entries.old.items self.now e }
-    {
-        match self {
-            FileEdit::Drop { place } => {
-                entries.swap_remove(*place as usize);
-            }
-            FileEdit::Rename { place, to, number } => {
-                let entry = &mut entries[*place as usize];
-                entry.name = *to;
-                entry.number = *number;
-            }
-        }
-    }
-
     /// Edits the files.
     pub fn edit_files(&self, files: &mut IndexMap<Name, FileHeld>)
         requires may { MayEdit (values files.old) self.now }
@@ -82,18 +60,4 @@ impl FileEdit {
             FileEdit::Rename { place, to, number } => rename_file(files, *place, to, *number),
         }
     }
-}
-
-/// The entries of files, in their order.
-pub fn entries_held(
-    alloc: Global,
-    files: &IndexMap<Name, FileHeld>,
-) -> Result<Vec<Entry>, AllocError>
-    ensures { IfOk result (λ v. v.items ≡ entries_held (values files.now)) }
-{
-    let mut entries = Vec::with_capacity(alloc, files.len())?;
-    for nth in 0..files.len() {
-        entries.push(files[nth].entry)?;
-    }
-    Ok(entries)
 }

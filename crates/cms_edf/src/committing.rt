@@ -1,21 +1,19 @@
 // A file whose records were put becomes the volume's.
-ghost use Rattle.std.specs.Prelude.{◌≡◌, ◌≤◌, ◌++◌, ◌∷◌, [], ℕ, List, length, position, Some, OnOk, OnErr, IfErr};
+ghost use Rattle.std.specs.Prelude.{◌≡◌, ◌≤◌, [], ℕ, List, length, position, Some, OnOk, OnErr};
 ghost use Rattle.std.specs.Option.{ForSome};
 ghost use Rattle.indexmap.specs.IndexMap.{spare, values};
 ghost use Rattle.cms_world.specs.Seen.{OnUnits, seen};
 ghost use Rattle.cms_journal.specs.Journal.{HasBlocks, IsWritable, Journal};
-ghost use Rattle.cms_journal.specs.Told.{Grown, plus};
+ghost use Rattle.cms_journal.specs.Told.{Grown};
 ghost use Rattle.cms_model.specs.Minidisks.{Minidisk, same_name};
 ghost use Rattle.cms_model.specs.Records.{length_of};
-ghost use Rattle.cms_model.specs.Settled.{update};
 ghost use Rattle.cms_held.specs.Carrying.{IsHeldMinidisk};
 ghost use Rattle.cms_held.specs.Kept.{Keeps};
 ghost use Rattle.cms_held.specs.Opening.{HeldFile, HeldVolume, by_name, names_in};
 ghost use Rattle.cms_held.specs.Renewing.{Edit, renewed};
-ghost use Rattle.cms_held.specs.Systems.{system_writes};
 ghost use Rattle.cms_draft.specs.BlockWriting.{came};
 ghost use Rattle.cms_draft.specs.Drafting.{Drafts, IsDrafting};
-ghost use Rattle.cms_edf.specs.Doubts.{IsCutOff};
+ghost use Rattle.cms_edf.specs.Doubts.{UpdatesSystems};
 ghost use Rattle.cms_edf.specs.FileDrafts.{DraftStands, IsCommitted, IsCommittedAt, IsSomeDraft, LeadsToFile, files_with};
 
 use crate::doubt::Doubt;
@@ -45,7 +43,8 @@ impl Held {
         requires kept { (edit : Edit) → edit.files ≡ files_with self.old.volume.files
             (position (same_name file.entry.name) (names_in self.old.volume.files)) file → Keeps (renewed self.old.volume edit systems) }
         ensures { (edit : Edit) → edit.files ≡ files_with self.old.volume.files
-            (position (same_name file.entry.name) (names_in self.old.volume.files)) file → self.new.volume ≡ renewed self.old.volume edit systems }
+            (position (same_name file.entry.name) (names_in self.old.volume.files)) file
+            → self.new.volume ≡ renewed self.old.volume edit systems }
     {
         put_file(&mut self.files, file);
         self.label = systems.label;
@@ -68,13 +67,10 @@ impl Held {
         requires blocks { ForSome (W.told world.old) (λ j. HasBlocks j.units self.old.volume.unit systems.label.blocks
             (length systems.label_bytes)) }
         requires writable { ForSome (W.told world.old) (λ j. IsWritable j.units self.old.volume.unit) }
-        ensures done { OnOk result (W.told world.new ≡ plus (W.told world.old)
-            (update self.old.volume.unit (system_writes (length systems.label_bytes) systems) systems.label_bytes)) }
+        ensures updates { UpdatesSystems (W.told world.old) (W.told world.new) self.old.volume.unit systems result }
         ensures volume { OnOk result ((edit : Edit) → edit.files ≡ files_with self.old.volume.files
             (position (same_name file.entry.name) (names_in self.old.volume.files)) file
             → self.new.volume ≡ renewed self.old.volume edit systems) }
-        ensures cut_off { IfErr result (IsCutOff (W.told world.old) (W.told world.new) self.old.volume.unit
-            (system_writes (length systems.label_bytes) systems) systems.label_bytes) }
         ensures kept { OnErr result (self.new ≡ self.old) }
         ensures counts { OnUnits (seen W.World world.old) (seen W.World world.new) result }
     {

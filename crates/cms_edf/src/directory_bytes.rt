@@ -1,7 +1,8 @@
 // The bytes of a directory, put together entry by entry.
-ghost use Rattle.std.specs.Prelude.{◌≡◌, ◌≤◌, ◌<◌, ◌+◌, ◌-◌, ◌*◌, ◌^◌, ◌++◌, true, length, replicate, IfOk, OnOk};
+ghost use Rattle.std.specs.Prelude.{◌≡◌, ◌≤◌, ◌<◌, ◌+◌, ◌-◌, ◌*◌, ◌^◌, ◌++◌, true, length, replicate, OnOk};
 ghost use Rattle.cms_fields.specs.Stamps.{is_stamp};
 ghost use Rattle.cms_fields.specs.Entries.{entry_bytes};
+ghost use Rattle.cms_fields.specs.Limits.{most_files};
 ghost use Rattle.cms_tree.specs.Builds.{root_of};
 ghost use Rattle.cms_held.specs.Systems.{file_at, system_entry};
 ghost use Rattle.cms_held.specs.Written.{CanWrite, ReadsBack, directory_name, map_name, system_name};
@@ -13,7 +14,7 @@ use cms_journal::BlockSize;
 use cms_text::bytes::{put, put_word};
 use cms_text::coded;
 use cms_tree::shape;
-use std::alloc::{AllocError, Global};
+use std::alloc::AllocError;
 
 /// The mode A1.
 const MODE: [u8; 2] = [0xC1, 0xF1];
@@ -78,33 +79,32 @@ fn file_at(bsize: BlockSize, tree: &TreeBlocks, count: u32) -> System
     }
 }
 
-/// The bytes with which the directory of so many files begins: its own entry and the map's, with the stamp.
-pub fn system_entries(
-    alloc: Global,
+/// Appends the bytes with which the directory of so many files begins: its own entry and the map's, with the stamp.
+pub fn append_systems(
+    into: &mut Vec<u8>,
     bsize: BlockSize,
     directory: &TreeBlocks,
     map: &TreeBlocks,
     files: u32,
     stamp: &Stamp,
-) -> Result<Vec<u8>, AllocError>
+) -> Result<(), AllocError>
     requires stamp { is_stamp stamp.now ≡ true }
-    requires files { files ≤ 16384 }
+    requires files { files ≤ most_files }
     requires directory { 1 ≤ length directory.now.leaves }
     requires directory_few { length directory.now.leaves < 2 ^ 32 }
     requires map { 1 ≤ length map.now.leaves }
     requires map_few { length map.now.leaves < 2 ^ 32 }
-    ensures bytes { IfOk result (λ v. v.items ≡ system_entry directory_name 64 (file_at bsize directory.now (files + 2)) stamp.now
-        ++ system_entry map_name bsize (file_at bsize map.now (length map.now.leaves)) stamp.now) }
-    ensures size { IfOk result (λ v. length v.items ≡ 128) }
+    ensures bytes { OnOk result (into.new.items ≡ into.old.items
+        ++ (system_entry directory_name 64 (file_at bsize directory.now (files + 2)) stamp.now
+        ++ system_entry map_name bsize (file_at bsize map.now (length map.now.leaves)) stamp.now)) }
+    ensures size { OnOk result (length into.new.items ≡ length into.old.items + 128) }
 {
     let own = file_at(bsize, directory, files + 2);
     let maps = file_at(bsize, map, map.leaves().len() as u32);
     let own_name = system_name(1, b"DIRECTOR");
     let map_name = system_name(2, b"ALLOCMAP");
-    let mut bytes = Vec::new(alloc);
-    bytes.extend_from_slice(&system_entry(&own_name, ENTRY_SIZE, &own, stamp))?;
-    bytes.extend_from_slice(&system_entry(&map_name, bsize.bytes(), &maps, stamp))?;
-    Ok(bytes)
+    into.extend_from_slice(&system_entry(&own_name, ENTRY_SIZE, &own, stamp))?;
+    into.extend_from_slice(&system_entry(&map_name, bsize.bytes(), &maps, stamp))
 }
 
 /// Appends the entry of a file.

@@ -1,10 +1,8 @@
 // The end of an update, and what is left where one is cut off.
-ghost use Rattle.std.specs.Prelude.{◌≡◌, ◌⊎◌, ◌≤◌, ◌∷◌, [], length, OnOk, IfErr};
+ghost use Rattle.std.specs.Prelude.{◌≡◌, ◌⊎◌, ◌≤◌, ◌∷◌, [], length};
 ghost use Rattle.std.specs.Option.{ForSome};
 ghost use Rattle.cms_journal.specs.Journal.{HasBlocks, IsWritable};
-ghost use Rattle.cms_journal.specs.Told.{plus};
-ghost use Rattle.cms_model.specs.Settled.{update};
-ghost use Rattle.cms_edf.specs.Doubts.{IsCutOff};
+ghost use Rattle.cms_edf.specs.Doubts.{Updates};
 ghost use Rattle.cms_world.specs.Seen.{OnUnits, seen};
 
 use crate::blocks::LABEL;
@@ -31,8 +29,7 @@ pub fn confirm<W: World>(
     requires size { length label.now ≡ bsize }
     requires blocks { ForSome (W.told world.old) (λ j. HasBlocks j.units unit 3 bsize) }
     requires writable { ForSome (W.told world.old) (λ j. IsWritable j.units unit) }
-    ensures done { OnOk result (W.told world.new ≡ plus (W.told world.old) (update unit [] label.now)) }
-    ensures cut_off { IfErr result (IsCutOff (W.told world.old) (W.told world.new) unit [] label.now) }
+    ensures updates { Updates (W.told world.old) (W.told world.new) unit [] label.now result }
     ensures counts { OnUnits (seen W.World world.old) (seen W.World world.new) result }
 {
     match world.sync(unit) {

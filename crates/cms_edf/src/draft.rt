@@ -26,13 +26,13 @@ ghost use Rattle.cms_edf.specs.Lacking.{LacksRoom};
 
 use crate::allotment::{Allotment, PlanFault, allot};
 use crate::blocks::copied;
-use crate::change::entries_held;
 use crate::directory_bytes::root;
 use crate::held::{Held, TreeBlocks};
+use crate::new_entries::NewEntries;
 use crate::planning::fill_systems;
 use crate::system_blocks::SystemBlocks;
 use cms_draft::{DraftShape, FileWriter};
-use cms_fields::{Entry, Stamp};
+use cms_fields::{Entry, MOST_BYTES, MOST_FILES, MOST_RECORDS, Stamp};
 use cms_held::pointer_size;
 use cms_journal::BlockSize;
 use cms_names::Name;
@@ -40,12 +40,6 @@ use cms_tree::shape;
 use cms_world::{Failed, World};
 use std::alloc::{AllocError, Global};
 use std::marker::Model;
-
-const MOST_FILES: u32 = 16_384;
-
-const MOST_RECORDS: u32 = 1_048_576;
-
-const MOST_BYTES: u64 = 67_108_864;
 
 /// A file that is put into a volume while its records come. It holds the numbers of the file's blocks, one of its data blocks, one block
 /// for each level over them, and all that is written then for the volume.
@@ -99,7 +93,7 @@ fn passed_limit(files: u32, asked: &DraftShape) -> Option<u32>
         Some(1)
     } else if asked.count > MOST_RECORDS {
         Some(2)
-    } else if asked.bytes > MOST_BYTES {
+    } else if asked.bytes > u64::from(MOST_BYTES) {
         Some(3)
     } else {
         None
@@ -114,7 +108,7 @@ fn allot_file(
     blocks: u32,
 ) -> Result<Allotment, PlanFault>
     requires place { IsPlaceIn held.now.volume.files place }
-    requires few { count_with place (length held.now.volume.files) ≤ 16384 }
+    requires few { count_with place (length held.now.volume.files) ≤ most_files }
     requires small { blocks < 2 ^ 31 }
     ensures allotted { IfOk result (λ a. (given : List ℕ) → GivenAt held.now.volume.files place given
         → IsAllotted held.now.volume (count_with place (length held.now.volume.files)) given a.file.items a.directory a.map_tree a.map) }
@@ -175,25 +169,6 @@ fn entry_for(name: &Name, asked: &DraftShape, tree: &TreeBlocks, height: u8) -> 
     }
 }
 
-// The entries of the files with another in a place, or behind them.
-fn entries_with(
-    alloc: Global,
-    held: &Held,
-    place: Option<u32>,
-    entry: &Entry,
-) -> Result<Vec<Entry>, AllocError>
-    requires { IsPlaceIn held.now.volume.files place }
-    ensures entries { IfOk result (λ v. v.items ≡ entries_with (entries_held held.now.volume.files) place entry.now) }
-    ensures kept { Keeps held.now.volume }
-{
-    let mut entries = entries_held(alloc, &held.files)?;
-    match place {
-        Some(place) => entries[place as usize] = *entry,
-        None => entries.push(*entry)?,
-    }
-    Ok(entries)
-}
-
 // What is written for the files with this one in a place, or as the last, in the blocks that are allotted.
 fn plan_entry(
     alloc: Global,
@@ -205,14 +180,14 @@ fn plan_entry(
 ) -> Result<SystemBlocks, AllocError>
     requires stamp { is_stamp stamp.now ≡ true }
     requires place { IsPlaceIn held.now.volume.files place }
-    requires few { count_with place (length held.now.volume.files) ≤ 16384 }
+    requires few { count_with place (length held.now.volume.files) ≤ most_files }
     requires entry { CanWrite entry.now }
     requires allotted { IsAllottedSo held.now.volume (count_with place (length held.now.volume.files)) allotment }
     requires map_few { length allotment.map_tree.leaves < 2 ^ 32 }
     ensures { IfOk result (IsFilled held.now.volume (entries_with (entries_held held.now.volume.files) place entry.now)
         allotment stamp.now) }
 {
-    let entries = entries_with(alloc, held, place, entry)?;
+    let entries = NewEntries::with(held, place, entry);
     fill_systems(alloc, held, &entries, allotment, stamp)
 }
 

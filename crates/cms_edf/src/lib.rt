@@ -16,6 +16,7 @@ mod files;
 mod held;
 mod making;
 mod met;
+mod new_entries;
 mod open;
 mod opening;
 mod planning;

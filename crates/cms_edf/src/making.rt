@@ -23,7 +23,7 @@ ghost use Rattle.cms_world.specs.Seen.{OnUnits, seen};
 
 use crate::allotment::take_blocks;
 use crate::blocks::{LABEL, copied};
-use crate::directory_bytes::{fill, system_entries};
+use crate::directory_bytes::{append_systems, fill};
 use crate::doubt::Doubt;
 use crate::held::{FileHeld, Held, TreeBlocks};
 use crate::system_blocks::{LARGEST, SystemBlocks};
@@ -134,8 +134,10 @@ fn directory_block(
     ensures { IfOk result (λ v. (s : Systems) → s.directory ≡ directory.now → s.map ≡ map.now
         → v.items ≡ directory_bytes_of bsize s [] stamp.now) }
 {
-    let mut bytes = system_entries(alloc, bsize, directory, map, 0, stamp)?;
-    fill(&mut bytes, bsize.bytes() as usize)?;
+    let whole = bsize.bytes() as usize;
+    let mut bytes = Vec::with_capacity(alloc, whole)?;
+    append_systems(&mut bytes, bsize, directory, map, 0, stamp)?;
+    fill(&mut bytes, whole)?;
     Ok(bytes)
 }
 

@@ -4,7 +4,8 @@ ghost use Rattle.cms_journal.specs.Journal.{IsBlockSize};
 ghost use Rattle.cms_fields.specs.Labels.{with_label};
 ghost use Rattle.cms_fields.specs.Numbers.{up};
 ghost use Rattle.cms_fields.specs.Stamps.{is_stamp};
-ghost use Rattle.cms_edf.specs.Planning.{CanChange, Edited, IsFullFor, IsPlanFor, IsPrepared, IsReadyAt, IsRelabelOf, IsStepOf, MayEdit, change_of, count_after};
+ghost use Rattle.cms_fields.specs.Limits.{most_files};
+ghost use Rattle.cms_edf.specs.Planning.{CanChange, IsFullFor, IsPlanFor, IsPrepared, IsReadyAt, IsRelabelOf, IsStepOf, MayEdit, change_of, count_after};
 ghost use Rattle.cms_edf.specs.FileDrafts.{IsAllottedSo, IsFilled};
 ghost use Rattle.cms_edf.specs.Lacking.{LacksRoom};
 ghost use Rattle.cms_held.specs.Kept.{Keeps};
@@ -14,24 +15,25 @@ ghost use Rattle.cms_edf.specs.declared.allotment.PlanFault.TheVariants.{Memory}
 ghost use Rattle.cms_held.specs.Written.{CanWrite, ReadsBack, file_entries};
 
 use crate::allotment::{Allotment, PlanFault, allot};
-use crate::change::{Change, FileEdit, entries_held};
-use crate::directory_bytes::{append_entry, fill, system_entries};
+use crate::change::{Change, FileEdit};
+use crate::directory_bytes::{append_entry, append_systems, fill};
 use crate::held::{Held, TreeBlocks};
+use crate::new_entries::NewEntries;
 use crate::step::{Plan, Step};
 use crate::system_blocks::SystemBlocks;
-use cms_fields::{Entry, Label, Stamp, write_label};
+use cms_fields::{Label, Stamp, write_label};
 use cms_journal::BlockSize;
 use cms_map::Map;
 use std::alloc::{AllocError, Global};
 
 // Appends the entries of files.
-fn append_entries(entries: &[Entry], into: &mut Vec<u8>) -> Result<(), AllocError>
+fn append_entries(entries: &NewEntries<'_>, into: &mut Vec<u8>) -> Result<(), AllocError>
     requires { All CanWrite entries.now }
     ensures bytes { OnOk result (into.new.items ≡ into.old.items ++ file_entries entries.now) }
     ensures back { OnOk result (All ReadsBack entries.now) }
 {
-    for entry in entries {
-        append_entry(entry, into)?;
+    for nth in 0..entries.count() {
+        append_entry(&entries.get(nth), into)?;
     }
     Ok(())
 }
@@ -42,11 +44,11 @@ fn directory_bytes(
     bsize: BlockSize,
     directory: &TreeBlocks,
     map: &TreeBlocks,
-    entries: &[Entry],
+    entries: &NewEntries<'_>,
     stamp: &Stamp,
 ) -> Result<Vec<u8>, AllocError>
     requires stamp { is_stamp stamp.now ≡ true }
-    requires few { length entries.now ≤ 16384 }
+    requires few { length entries.now ≤ most_files }
     requires each { All CanWrite entries.now }
     requires directory { length directory.now.leaves ≡ up (64 * (length entries.now + 2)) bsize }
     requires map { 1 ≤ length map.now.leaves }
@@ -56,9 +58,9 @@ fn directory_bytes(
     ensures long { IfOk result (λ v. length v.items ≡ length directory.now.leaves * bsize) }
     ensures back { OnOk result (All ReadsBack entries.now) }
 {
-    let files = entries.len() as u32;
     let whole = directory.leaves().len() * bsize.bytes() as usize;
-    let mut bytes = system_entries(alloc, bsize, directory, map, files, stamp)?;
+    let mut bytes = Vec::with_capacity(alloc, whole)?;
+    append_systems(&mut bytes, bsize, directory, map, entries.count(), stamp)?;
     append_entries(entries, &mut bytes)?;
     fill(&mut bytes, whole)?;
     Ok(bytes)
@@ -102,12 +104,12 @@ fn label_for(label: Label, map: &Map) -> Label
 pub fn fill_systems(
     alloc: Global,
     held: &Held,
-    entries: &[Entry],
+    entries: &NewEntries<'_>,
     allotment: Allotment,
     stamp: &Stamp,
 ) -> Result<SystemBlocks, AllocError>
     requires stamp { is_stamp stamp.now ≡ true }
-    requires few { length entries.now ≤ 16384 }
+    requires few { length entries.now ≤ most_files }
     requires each { All CanWrite entries.now }
     requires allotted { IsAllottedSo held.now.volume (length entries.now) allotment }
     requires map_few { length allotment.map_tree.leaves < 2 ^ 32 }
@@ -131,33 +133,22 @@ pub fn fill_systems(
 fn plan_systems(
     alloc: Global,
     held: &Held,
-    entries: &[Entry],
+    entries: &NewEntries<'_>,
     leaves: &[u32],
     pointers: &[u32],
     stamp: &Stamp,
 ) -> Result<SystemBlocks, PlanFault>
     requires stamp { is_stamp stamp.now ≡ true }
-    requires few { length entries.now ≤ 16384 }
+    requires few { length entries.now ≤ most_files }
     requires each { All CanWrite entries.now }
     ensures prepared { IfOk result (IsPrepared held.now.volume entries.now (leaves.now ++ pointers.now) stamp.now) }
     ensures full { IfErr result (LacksRoom held.now.volume (needed held.now.volume (length entries.now))) }
 {
-    let allotment = allot(alloc, held, entries.len() as u32, 0, leaves, pointers)?;
+    let allotment = allot(alloc, held, entries.count(), 0, leaves, pointers)?;
     match fill_systems(alloc, held, entries, allotment, stamp) {
         Ok(systems) => Ok(systems),
         Err(_) => Err(PlanFault::Memory),
     }
-}
-
-// The entries of the files after an edit.
-fn edited_entries(alloc: Global, held: &Held, edit: &FileEdit) -> Result<Vec<Entry>, AllocError>
-    requires { MayEdit held.now.volume.files edit.now }
-    ensures edited { IfOk result (λ v. Edited held.now.volume edit.now v.items) }
-    ensures kept { Keeps held.now.volume }
-{
-    let mut entries = entries_held(alloc, &held.files)?;
-    edit.edit_entries(&mut entries);
-    Ok(entries)
 }
 
 // What is written for an edit of the files.
@@ -172,9 +163,7 @@ fn plan_edit(
     ensures ready { IfOk result (IsReadyAt held.now.volume edit.now stamp.now) }
     ensures full { IfErr result (LacksRoom held.now.volume (needed held.now.volume (count_after held.now.volume.files edit.now))) }
 {
-    let Ok(entries) = edited_entries(alloc, held, edit) else {
-        return Err(PlanFault::Memory);
-    };
+    let entries = NewEntries::edited(held, edit);
     match edit {
         FileEdit::Drop { place } => {
             let tree = held.files[*place as usize].tree();

@@ -7,6 +7,7 @@ ghost use Rattle.cms_model.specs.declared.fault.OpenFault.TheVariants.{Device};
 ghost use Rattle.cms_model.specs.Systems.{system_fields, is_system, is_directory, is_map, directory_of, map_of};
 ghost use Rattle.cms_fields.specs.Limits.{most_files};
 
+use cms_fields::MOST_FILES;
 use cms_journal::BlockSize;
 use cms_model::OpenFault;
 use cms_text::bytes::word_at;
@@ -18,9 +19,6 @@ pub const ENTRY_SIZE: u32 = 64;
 
 /// Fixed records, in EBCDIC.
 pub const FIXED: u8 = 0xC6;
-
-/// The greatest number of files.
-const MOST_FILES: u32 = 16_384;
 
 /// Where a system file stands: its root, data blocks, count of records and levels of pointer blocks.
 #[derive(Drop)]

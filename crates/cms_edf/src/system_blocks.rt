@@ -1,10 +1,8 @@
 // What an update writes but a file's blocks: the directory, the map and the label.
-ghost use Rattle.std.specs.Prelude.{◌≡◌, length, OnOk, IfErr};
-ghost use Rattle.cms_journal.specs.Told.{plus};
-ghost use Rattle.cms_model.specs.Settled.{update};
+ghost use Rattle.std.specs.Prelude.{length};
 ghost use Rattle.cms_world.specs.Seen.{OnUnits, seen};
 ghost use Rattle.cms_held.specs.Systems.{system_writes};
-ghost use Rattle.cms_edf.specs.Doubts.{IsCutOff, target_of};
+ghost use Rattle.cms_edf.specs.Doubts.{UpdatesSystems, target_of};
 ghost use Rattle.cms_edf.specs.Writing.{MayWrite, Writes};
 
 use crate::doubt::{Doubt, confirm};
@@ -92,10 +90,7 @@ impl SystemBlocks {
     /// sync, and perhaps the label was written.
     pub fn carry_out<W: World>(&self, world: &mut W, unit: u8) -> Result<(), Doubt>
         requires may { MayWrite (W.told world.old) (target_of unit self.now) }
-        ensures done { OnOk result (W.told world.new ≡ plus (W.told world.old)
-            (update unit (system_writes (length self.now.label_bytes) self.now) self.now.label_bytes)) }
-        ensures cut_off { IfErr result (IsCutOff (W.told world.old) (W.told world.new) unit
-            (system_writes (length self.now.label_bytes) self.now) self.now.label_bytes) }
+        ensures updates { UpdatesSystems (W.told world.old) (W.told world.new) unit self.now result }
         ensures counts { OnUnits (seen W.World world.old) (seen W.World world.new) result }
     {
         match self.write(world, unit) {

@@ -4,12 +4,12 @@ ghost use Rattle.cms_model.specs.Records.{Fits, stored};
 ghost use Rattle.cms_edf.specs.FileDrafts.{IsSomeDraft};
 ghost use Rattle.cms_held.specs.Opening.{HeldVolume};
 
-use crate::disk::{Disk, Event};
+use crate::disk::volume_on;
 use crate::draft_tests::{NEW, shaped};
 use crate::held_tests::name_of;
 use cms_edf::{Change, Draft, Held, Space, carry_out, commit, plan, plan_draft};
 use cms_images::known::{long_directory, one_file, put_number};
-use cms_images::{Made, formatted};
+use cms_images::{Disk, Event, Made, formatted, world_of};
 use cms_names::Format;
 use std::alloc::{AllocError, Global};
 use std::process::Abort;
@@ -23,7 +23,7 @@ fn empty_disk(alloc: Global, total: u32) -> Result<Disk, AllocError> {
         map: 1,
         pointers: 0,
     };
-    Disk::new(alloc, &formatted(alloc, &made)?)
+    Disk::logged(alloc, &formatted(alloc, &made)?)
 }
 
 // The bytes that a record takes in a file of this format and length, if it may have it.
@@ -77,7 +77,7 @@ fn put_file(
     length: u32,
     texts: &[&[u8]],
 ) -> Option<()> {
-    let mut held = world.open()?;
+    let mut held = volume_on(alloc, world)?;
     let mut bytes = 0_u64;
     for text in texts {
         bytes = bytes.saturating_add(u64::from(stored_size(format, length, text)?));
@@ -118,23 +118,25 @@ fn marks_say_where_records_begin(rt: HostRuntime) -> Result<(), Fail> {
     for (nth, number) in [7, 2, 0, 8, 2, 0xFFFF_FFFF_u32].iter().enumerate() {
         put_number(root.as_mut_slice(), 1, nth * 4, *number);
     }
-    assert_eq!(rt; world.now().get(8 * 512..9 * 512), Some(root.as_slice()));
+    assert_eq!(rt; world.image.get(8 * 512..9 * 512), Some(root.as_slice()));
     Ok(())
 }
 
 // The room of the volume that an image holds, and how many files it has.
 fn state_of(alloc: Global, image: &[u8]) -> Result<Option<(Space, u32)>, AllocError> {
-    Ok(match Disk::new(alloc, image)?.open() {
-        Some(held) => Some((held.space(), held.count())),
-        None => None,
-    })
+    Ok(
+        match volume_on(alloc, &mut world_of(image.to_vec(alloc)?)) {
+            Some(held) => Some((held.space(), held.count())),
+            None => None,
+        },
+    )
 }
 
 // At each moment a crash leaves the volume as it was, or as it is since the label is written.
 fn try_crashes(rt: &impl Abort, alloc: Global, world: &Disk) -> Result<(), Fail> {
     let count = world.events().len();
-    let old = state_of(alloc, &world.crash(0, true)?)?;
-    let new = state_of(alloc, world.now())?;
+    let old = state_of(alloc, &world.crash(alloc, 0, true)?)?;
+    let new = state_of(alloc, &world.image)?;
     assert!(rt; old.is_some() && new.is_some() && old != new);
     for at in 0..count {
         for all in [false, true] {
@@ -144,20 +146,20 @@ fn try_crashes(rt: &impl Abort, alloc: Global, world: &Disk) -> Result<(), Fail>
                 old
             };
             assert_eq!(rt;
-                state_of(alloc, &world.crash(at, all)?)?,
+                state_of(alloc, &world.crash(alloc, at, all)?)?,
                 wanted,
                 "event {at}, {all}"
             );
         }
     }
-    assert_eq!(rt; state_of(alloc, &world.crash(count, false)?)?, new);
+    assert_eq!(rt; state_of(alloc, &world.crash(alloc, count, false)?)?, new);
     Ok(())
 }
 
 // Erases the file of a name.
 #[tactic(auto, unfolding(cms_fields::specs::Stamps::is_stamp, cms_fields::specs::Stamps::days_of_month))]
 fn drop_file(alloc: Global, world: &mut Disk, letter: u8) -> Option<()> {
-    let mut held = world.open()?;
+    let mut held = volume_on(alloc, world)?;
     let name = name_of(letter)?;
     held.find(&name)?;
     let change = Change::Drop { name: &name };
@@ -174,15 +176,15 @@ fn a_crash_leaves_the_old_volume_or_the_new(rt: HostRuntime) -> Result<(), Fail>
     // the tree of a file grows by a level
     let mut before = empty_disk(alloc, 20)?;
     put_file(alloc, &mut before, 0xC1, Format::F, 512, &[text]).ok_or("it isn't put")?;
-    let mut world = Disk::new(alloc, before.now())?;
+    let mut world = Disk::logged(alloc, &before.image)?;
     put_file(alloc, &mut world, 0xC1, Format::F, 512, &[text; 2]).ok_or("it isn't put")?;
     try_crashes(&rt, alloc, &world)?;
     // all that is free is taken
-    let mut world = Disk::new(alloc, &one_file(alloc)?)?;
+    let mut world = Disk::logged(alloc, &one_file(alloc)?)?;
     put_file(alloc, &mut world, 0xC2, Format::F, 512, &[text]).ok_or("it isn't put")?;
     try_crashes(&rt, alloc, &world)?;
     // the directory shrinks to one data block, and has no pointer block
-    let mut world = Disk::new(alloc, &long_directory(alloc)?)?;
+    let mut world = Disk::logged(alloc, &long_directory(alloc)?)?;
     drop_file(alloc, &mut world, 0xC7).ok_or("it isn't erased")?;
     try_crashes(&rt, alloc, &world)
 }

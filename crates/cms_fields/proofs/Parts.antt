@@ -114,5 +114,7 @@ field_read field n read long front is blank =
     let text : take n field ≡ part_in field = ap (λ k. take k field) size in
     let few : length (part_in field) ≤ 8 = omega (arith, within, front, size, long) in
     let answer = read_front is_name_character (part_in field) few (front_passes is_name_character field) in
-    let rest : take (length field - n) (drop n field) ≡ drop (length (part_in field)) field = ap (λ k. take (length field - k) (drop k field)) front ∙ take_all (length field - length (part_in field)) (drop (length (part_in field)) field) (omega (arith, length-drop (length (part_in field)) field)) in
+    let rest : take (length field - n) (drop n field) ≡ drop (length (part_in field)) field =
+    ap (λ k. take (length field - k) (drop k field)) front ∙ take_all (length field - length (part_in field)) (drop (length (part_in field)) field)
+    (omega (arith, length-drop (length (part_in field)) field)) in
     read_answer (part_in field) (is_part_field field) (rw (rw rest at blank) (and_true (nat_le 1 (length (part_in field))))) read (is ∙ ap part_of text ∙ answer)

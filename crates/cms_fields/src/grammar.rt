@@ -6,20 +6,12 @@ ghost use Rattle.cms_fields.specs.Entries.{part_in, is_part_field, has_name, nam
 
 use crate::entry::Entry;
 use crate::levels::is_shape;
+use crate::limits::{LONGEST_RECORD, MOST_BYTES, MOST_RECORDS};
 use cms_journal::BlockSize;
 use cms_names::{Format, Name, Part, is_name_character};
 
 /// Fills up the field of a name.
 const BLANK: u8 = 0x40;
-
-/// The greatest number of bytes that the records of a file may have.
-const MOST_BYTES: u32 = 67_108_864;
-
-/// The greatest number of records that a file may have.
-const MOST_RECORDS: u32 = 1_048_576;
-
-/// The greatest length of fixed records.
-const LONGEST_RECORD: u32 = 65_535;
 
 // The part in a field of 8 bytes: 1 to 8 name characters and then blanks.
 #[tactic(auto, unfolding(crate::specs::Entries::is_part_field))]

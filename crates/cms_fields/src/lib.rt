@@ -6,6 +6,7 @@ mod entry;
 mod grammar;
 mod label;
 mod levels;
+mod limits;
 mod new_label;
 mod packed;
 #[cfg(test)]
@@ -14,6 +15,7 @@ mod time;
 
 pub use entry::{Entry, EntryFault, read_entry, write_entry};
 pub use label::{Label, LabelFault, read_label, write_label};
+pub use limits::{LONGEST_RECORD, MOST_BYTES, MOST_FILES, MOST_RECORDS};
 pub use new_label::first_fields;
 pub use packed::put_stamp;
 pub use time::{Moment, Stamp};

@@ -75,7 +75,8 @@ freed_append [] ys bits = refl
 freed_append (x ∷ xs) ys bits = freed_append xs ys (if nat_le 6 x then set bits (x - 1) false else bits)
 
 -- one list after another
-pub freed_all : (a b c d e f : List ℕ) (b0 b1 b2 b3 b4 b5 b6 : List Bool) → b1 ≡ with_freed a b0 → b2 ≡ with_freed b b1 → b3 ≡ with_freed c b2 → b4 ≡ with_freed d b3 → b5 ≡ with_freed e b4 → b6 ≡ with_freed f b5
+pub freed_all : (a b c d e f : List ℕ) (b0 b1 b2 b3 b4 b5 b6 : List Bool) → b1 ≡ with_freed a b0 → b2 ≡ with_freed b b1 → b3 ≡ with_freed c b2 → b4 ≡ with_freed d b3 → b5 ≡ with_freed e b4
+    → b6 ≡ with_freed f b5
     → b6 ≡ with_freed (a ++ (b ++ (c ++ (d ++ (e ++ f))))) b0
 freed_all a b c d e f b0 b1 b2 b3 b4 b5 b6 e1 e2 e3 e4 e5 e6 =
     e6 ∙ (ap (with_freed f) e5 ∙ (sym (freed_append e f b4) ∙ (ap (with_freed (e ++ f)) e4 ∙ (sym (freed_append d (e ++ f) b3)
@@ -102,7 +103,8 @@ released_more ns i total old now within is can =
     let one : with_freed (n ∷ []) now ≡ set now (n - 1) false = freed_one n now ∙ rw late refl in
     sym one ∙ (ap (with_freed (n ∷ [])) is ∙ sym (freed_more ns i old within))
 
-pub passed_more : (ns : List ℕ) (i total : ℕ) (old now : List Bool) → i < length ns → now ≡ with_freed (take i ns) old → length now ≡ total → (nat_le 6 (get_or ns i 0) && nat_le (get_or ns i 0) total) ≡ false
+pub passed_more : (ns : List ℕ) (i total : ℕ) (old now : List Bool) → i < length ns → now ≡ with_freed (take i ns) old → length now ≡ total
+    → (nat_le 6 (get_or ns i 0) && nat_le (get_or ns i 0) total) ≡ false
     → now ≡ with_freed (take (i + 1) ns) old
 passed_more ns i total old now within is long can =
     let n = get_or ns i 0 in
@@ -123,12 +125,14 @@ released_whole ns i old now past is = is ∙ ap (λ (l : List ℕ). with_freed l
 
 -- ---- blocks in order
 
-pub taken_in_order : (own more nodes map map_nodes all r1 r2 r3 : List ℕ) → own ++ r1 ≡ all → more ++ r2 ≡ r1 → nodes ++ r3 ≡ r2 → map ++ map_nodes ≡ r3 → own ++ (more ++ (nodes ++ (map ++ map_nodes))) ≡ all
+pub taken_in_order : (own more nodes map map_nodes all r1 r2 r3 : List ℕ) → own ++ r1 ≡ all → more ++ r2 ≡ r1 → nodes ++ r3 ≡ r2 → map ++ map_nodes ≡ r3
+    → own ++ (more ++ (nodes ++ (map ++ map_nodes))) ≡ all
 taken_in_order own more nodes map map_nodes all r1 r2 r3 e1 e2 e3 e4 = rw (e4, e3, e2) e1
 
 -- ---- the whole
 
-pub allotted : (v : HeldVolume) (files : ℕ) (given taken : List ℕ) (directory map : HeldTree) (bits : List Bool) (d p m q need : ℕ) → d ≡ up (64 * (files + 2)) v.disk.bsize → p ≡ pointer_count (v.disk.bsize / 4) d
+pub allotted : (v : HeldVolume) (files : ℕ) (given taken : List ℕ) (directory map : HeldTree) (bits : List Bool) (d p m q need : ℕ) → d ≡ up (64 * (files + 2)) v.disk.bsize
+    → p ≡ pointer_count (v.disk.bsize / 4) d
     → m ≡ up (up v.label.blocks 8) v.disk.bsize → q ≡ pointer_count (v.disk.bsize / 4) m → length directory.leaves ≡ d → length directory.pointers ≡ p → length map.leaves ≡ m → length map.pointers ≡ q
     → directory.leaves ≡ (9 - v.label.origin) ∷ drop 1 directory.leaves → fresh taken directory map ≡ take need (free_blocks v.bits) → need ≤ length (free_blocks v.bits)
     → bits ≡ with_freed (released v given) (with_marked (take need (free_blocks v.bits)) v.bits) → IsAllotted v files given taken directory map bits
@@ -144,9 +148,11 @@ allotted v files given taken directory map bits d p m q need is_d is_p is_m is_q
       marks = marks ∙ ap (λ (l : List ℕ). with_freed (released v given) (with_marked l v.bits)) (sym lowest);
     }
 
-pub need_of : (v : HeldVolume) (b n files d p m q file : ℕ) → b ≡ v.disk.bsize → n ≡ v.label.blocks → 1 ≤ d → d ≡ up (64 * (files + 2)) b → p ≡ pointer_count (b / 4) d → m ≡ up (up n 8) b → q ≡ pointer_count (b / 4) m
+pub need_of : (v : HeldVolume) (b n files d p m q file : ℕ) → b ≡ v.disk.bsize → n ≡ v.label.blocks → 1 ≤ d → d ≡ up (64 * (files + 2)) b → p ≡ pointer_count (b / 4) d → m ≡ up (up n 8) b
+    → q ≡ pointer_count (b / 4) m
     → file + (d - 1 + p) + m + q ≡ file + needed v files
 need_of v b n files d p m q file is_b is_n one is_d is_p is_m is_q =
     let sum = need_is b n files d p m q one is_d is_p is_m is_q in
-    let same : directory_more b files + map_size b n ≡ needed v files = ap (λ (k : ℕ). directory_more k files + map_size k n) is_b ∙ ap (λ (k : ℕ). directory_more v.disk.bsize files + map_size v.disk.bsize k) is_n in
+    let same : directory_more b files + map_size b n ≡ needed v files =
+    ap (λ (k : ℕ). directory_more k files + map_size k n) is_b ∙ ap (λ (k : ℕ). directory_more v.disk.bsize files + map_size v.disk.bsize k) is_n in
     omega arith

@@ -69,10 +69,12 @@ few_files j v old edit change x kept (renames place f to number there small free
 
 -- ---- the room that it takes
 
-taken_count : (v : HeldVolume) (files : ℕ) (given taken : List ℕ) (directory map : HeldTree) (bits : List Bool) → IsAllotted v files given taken directory map bits → needed v files ≤ length (free_blocks v.bits)
+taken_count : (v : HeldVolume) (files : ℕ) (given taken : List ℕ) (directory map : HeldTree) (bits : List Bool) → IsAllotted v files given taken directory map bits
+    → needed v files ≤ length (free_blocks v.bits)
 taken_count v files given taken directory map bits a =
     let one : 1 ≤ length directory.leaves = (let e = ap length a.origin in omega arith) in
-    let sum = need_is v.disk.bsize v.label.blocks files (length directory.leaves) (length directory.pointers) (length map.leaves) (length map.pointers) one a.directory_count a.directory_nodes a.map_count a.map_nodes in
+    let sum = need_is v.disk.bsize v.label.blocks files (length directory.leaves) (length directory.pointers) (length map.leaves)
+    (length map.pointers) one a.directory_count a.directory_nodes a.map_count a.map_nodes in
     let all = ap length a.lowest in
     let cut = length-take (length (fresh taken directory map)) (free_blocks v.bits) in
     let more = length-drop 1 directory.leaves in
@@ -104,7 +106,14 @@ carries_of j v edit stamp s m change held ready e volid answer =
     let same = held.minidisk_is in
     let before = now j v.unit in
     let later = now (later_of j v s) v.unit in
-    let ren : IsRenewal j v edit stamp s old e.files = record { at = x; stamped = ready.stamped; planned = ready.planned; long = system_blocks v.disk.bsize s ready.long; leaves = e.leaves ready.back } in
+    let ren : IsRenewal j v edit stamp s old e.files = record {
+      at = x;
+      stamped = ready.stamped;
+      planned = ready.planned;
+      long = system_blocks v.disk.bsize s ready.long;
+      leaves =
+          e.leaves ready.back;
+    } in
     let r = update_renews j v edit stamp s old e.files ren in
     let edits : Edits before later v edit old change = record { files = e.files; files_are = e.files_are; leaves = e.leaves ready.back } in
     let changes : minidisk_in v.disk r.new ≡ changed m change =
@@ -189,7 +198,8 @@ pub fresh_count : (v : HeldVolume) (files : ℕ) (given taken : List ℕ) (direc
     → length (fresh [] directory map) ≡ needed v files
 fresh_count v files given taken directory map bits a =
     let one : 1 ≤ length directory.leaves = (let e = ap length a.origin in omega arith) in
-    let sum = need_is v.disk.bsize v.label.blocks files (length directory.leaves) (length directory.pointers) (length map.leaves) (length map.pointers) one a.directory_count a.directory_nodes a.map_count a.map_nodes in
+    let sum = need_is v.disk.bsize v.label.blocks files (length directory.leaves) (length directory.pointers) (length map.leaves)
+    (length map.pointers) one a.directory_count a.directory_nodes a.map_count a.map_nodes in
     let more = length-drop 1 directory.leaves in
     omega (
       arith,

@@ -58,7 +58,8 @@ lands image w (v ∷ vs) same (inr more) = lands (put_block image v) w vs (λ x 
 
 -- ---- what is written
 
-data_among : (bsize psize : ℕ) (leaves : List ℕ) (marks : List Mark) (fresh bytes : List ℕ) (n k : ℕ) → k < n → Among (data_write bsize leaves bytes k) (draft_writes bsize psize leaves marks fresh bytes n)
+data_among : (bsize psize : ℕ) (leaves : List ℕ) (marks : List Mark) (fresh bytes : List ℕ) (n k : ℕ) → k < n
+    → Among (data_write bsize leaves bytes k) (draft_writes bsize psize leaves marks fresh bytes n)
 unfolding draft_writes
 data_among bsize psize leaves marks fresh bytes zero k less = absurd (omega arith)
 data_among bsize psize leaves marks fresh bytes (suc n) k less =
@@ -73,7 +74,8 @@ data_among bsize psize leaves marks fresh bytes (suc n) k less =
     lower : (k n : ℕ) → k < suc n → (k ≡ n → ⊥) → k < n
     lower k n less other = omega arith
 
-node_among : (bsize psize : ℕ) (leaves : List ℕ) (marks : List Mark) (fresh bytes : List ℕ) (n : ℕ) (w : Write) → Among w (climbed bsize psize leaves marks fresh n) → Among w (draft_writes bsize psize leaves marks fresh bytes n)
+node_among : (bsize psize : ℕ) (leaves : List ℕ) (marks : List Mark) (fresh bytes : List ℕ) (n : ℕ) (w : Write) → Among w (climbed bsize psize leaves marks fresh n)
+    → Among w (draft_writes bsize psize leaves marks fresh bytes n)
 unfolding draft_writes climbed
 node_among bsize psize leaves marks fresh bytes zero w there = there
 node_among bsize psize leaves marks fresh bytes (suc n) w there =

@@ -1,7 +1,5 @@
 -- A file goes, or has another name, among files that are held.
 use Rattle.std.proofs.Common.{◌≡◌, ◌≢◌, ◌⊎◌, inl, ℕ, zero, suc, ◌+◌, ◌-◌, ◌<◌, ◌≤◌, true, List, [], ◌∷◌, ◌++◌, length, map, take, set, get_or, swap_remove, slice_get, slice_index_or, sum_by, All, Some, refl, sym, ◌∙◌, ap, subst, arith}
-use Rattle.std.specs.Prelude.{nat_le, ◌&&◌}
-use Rattle.std.proofs.lemmas.Bool.{and_parts, and_from, le-leb}
 use Rattle.std.proofs.lemmas.List.{length-map, length-set, get_or-map, map-set}
 use Rattle.std.proofs.lemmas.List.Elements.{All-nil, All-cons, All-head, All-tail, All-map, All-set, All-get_or}
 use Rattle.std.proofs.lemmas.List.Sums.{sum_by-cons, sum_by-swap_remove}
@@ -10,7 +8,6 @@ use Rattle.cms_names.specs.declared.name.Name.{Name}
 use Rattle.cms_fields.specs.Entries.{passes, length_fits, counts_fit, levels_fit}
 use Rattle.cms_fields.specs.declared.entry.Entry.{Entry}
 use Rattle.cms_fields.specs.declared.label.Label.{Label}
-use Rattle.cms_fields.specs.Stamps.{is_stamp}
 use Rattle.cms_model.specs.Lists.{In, times}
 use Rattle.cms_model.specs.Trees.{Image, Met}
 use Rattle.cms_model.specs.Minidisks.{File}
@@ -20,6 +17,7 @@ use Rattle.cms_model.specs.Stands.{Kept, HoldsFile, HoldsFiles, Layout, NoEntryN
 use Rattle.cms_model.specs.LawsChanges.{NoneNamed, AreDistinct, IsPlace}
 use Rattle.cms_model.specs.LawsUpdates.{now}
 use Rattle.cms_model.proofs.Changing.{place_changed, stay_distinct}
+use Rattle.cms_model.proofs.FileSizes.{passes_from, passing}
 use Rattle.cms_model.proofs.Members.{In-left, In-right}
 use Rattle.cms_model.proofs.Repeats.{times_append}
 use Rattle.cms_held.specs.Opening.{HeldFile, HeldVolume}
@@ -48,6 +46,21 @@ place_at (f ∷ fs) (suc k) d distinct within =
       within = within;
       named = deeper.named;
       first = (λ e. none_at f.name fs k d distinct.0 (omega arith) (sym e), deeper.first);
+    }
+
+-- the file at a place is found there by its name
+pub record FoundAt (fs : List Kept) (k : ℕ) (g : Kept) (name : Name) : Type 0 where
+  pub in_map : slice_index_or (map file_of fs) k (file_of g) ≡ file_of g
+  pub place : IsPlace name (map file_of fs) k
+
+pub found_at : (fs : List Kept) (k : ℕ) (g : Kept) (name : Name) → AreDistinct (map file_of fs) → k < length fs → get_or fs k g ≡ g → (file_of g).name ≡ name → FoundAt fs k g name
+found_at fs k g name distinct less is named =
+    let d = file_of g in
+    let in_map : slice_index_or (map file_of fs) k d ≡ d = get_or-map file_of fs k g d less ∙ ap file_of is in
+    record {
+      in_map = in_map;
+      place = subst (λ (n : Name). IsPlace n (map file_of fs) k) (ap (λ (f : File). f.name) in_map ∙ named)
+          (place_at (map file_of fs) k d distinct (rw (length-map fs file_of) less));
     }
 
 -- ---- files side by side with how they are held
@@ -90,7 +103,8 @@ beside_removed fs hs i d e b within =
     let same = beside_count fs hs b in
     let n = length fs - 1 in
     let last = beside_at fs hs b n d e (omega arith) in
-    let moved : Beside (swap_remove fs i d) (take n (set hs i (get_or hs n e))) = beside_take n (set fs i (get_or fs n d)) (set hs i (get_or hs n e)) (beside_set fs hs i (get_or fs n d) (get_or hs n e) b last) in
+    let moved : Beside (swap_remove fs i d) (take n (set hs i (get_or hs n e))) =
+    beside_take n (set fs i (get_or fs n d)) (set hs i (get_or hs n e)) (beside_set fs hs i (get_or fs n d) (get_or hs n e) b last) in
     subst (λ (m : ℕ). Beside (swap_remove fs i d) (take (m - 1) (set hs i (get_or hs (m - 1) e)))) same moved
 
 -- the file at a place
@@ -215,14 +229,11 @@ drop_moves j v old later k h x kept there =
     let few = kept.few in
     let held = beside_removed old.files v.files k g h x.held.files_are less in
     let P = λ (f : Kept). passes v.disk.bsize f.entry ≡ true in
-    let named : (file_of g).name ≡ h.entry.name = ap (λ (e : Entry). e.name) (sym at.held.entry_is) in
     let distinct = names_distinct old.files x.stands.names in
     let d = file_of g in
-    let in_map : slice_index_or (map file_of old.files) k d ≡ d = get_or-map file_of old.files k g d less ∙ ap file_of is in
-    let place0 = place_at (map file_of old.files) k d distinct (rw (length-map old.files file_of) less) in
-    let place : IsPlace h.entry.name (map file_of old.files) k = subst (λ (n : Name). IsPlace n (map file_of old.files) k) (ap (λ (f : File). f.name) in_map ∙ named) place0 in
+    let found = found_at old.files k g h.entry.name distinct less is (ap (λ (e : Entry). e.name) (sym at.held.entry_is)) in
     let dropped : drop_file h.entry.name (map file_of old.files) ≡ map file_of fs =
-    (place_changed h.entry.name (map file_of old.files) k place).dropped d ∙ sym (map-removed file_of old.files k g d less) in
+    (place_changed h.entry.name (map file_of old.files) k found.place).dropped d ∙ sym (map-removed file_of old.files k g d less) in
     let names : HaveNames fs = names_from fs (subst AreDistinct dropped (stay_distinct (map file_of old.files) (Drop h.entry.name) distinct tt)) in
     record {
       files = fs;
@@ -230,32 +241,34 @@ drop_moves j v old later k h x kept there =
       held = held;
       leaves = λ back. record {
         few = (let n = length-removed old.files k g in omega arith);
-        pass = All-map (λ (e : Entry). passes v.disk.bsize e ≡ true) (λ (f : Kept). f.entry) fs (All-removed P old.files k g less (pass_all v.disk.bsize v.label.blocks old.files v.files x.held.files_are kept.each));
+        pass = All-map (λ (e : Entry). passes v.disk.bsize e ≡ true) (λ (f : Kept). f.entry) fs
+            (All-removed P old.files k g less (pass_all v.disk.bsize v.label.blocks old.files v.files x.held.files_are kept.each));
         back = subst (All ReadsBack) (same_entries fs (dropping v.files k h).files held) back;
         names = names;
         held = held;
-        come = come_all v.disk v.label.blocks (now j v.unit) later (layout_blocks old) fs (All-removed (Old v.disk v.label.blocks (now j v.unit) (layout_blocks old)) old.files k g less (files_old j v old x));
-        balance = λ n. (let r = removed_times n old.files k g less in let t = tree_times n g h at.held in let same : times n (get_or old.files k g).met.blocks ≡ times n g.met.blocks = ap (λ (f : Kept). times n f.met.blocks) is in omega (arith, no_times n));
-        had = λ n. (let r = removed_times n old.files k g less in let t = tree_times n g h at.held in let same : times n (get_or old.files k g).met.blocks ≡ times n g.met.blocks = ap (λ (f : Kept). times n f.met.blocks) is in omega arith);
+        come = come_all v.disk v.label.blocks (now j v.unit) later (layout_blocks old) fs
+            (All-removed (Old v.disk v.label.blocks (now j v.unit) (layout_blocks old)) old.files k g less (files_old j v old x));
+        balance = λ n. (let r = removed_times n old.files k g less in let t = tree_times n g h at.held in let same : times n (get_or old.files k g).met.blocks ≡ times n g.met.blocks =
+            ap (λ (f : Kept). times n f.met.blocks) is in omega (arith, no_times n));
+        had = λ n. (let r = removed_times n old.files k g less in let t = tree_times n g h at.held in let same : times n (get_or old.files k g).met.blocks ≡ times n g.met.blocks =
+            ap (λ (f : Kept). times n f.met.blocks) is in omega arith);
       };
     }
 
 -- ---- a file with another name
 
 pub passes_renamed : (bsize : ℕ) (e : Entry) (name : Name) (number : ℕ) → number ≤ 6 → passes bsize e ≡ true → passes bsize (record e { name = name; number = number }) ≡ true
-unfolding passes length_fits counts_fit levels_fit
+unfolding length_fits counts_fit levels_fit
 passes_renamed bsize e name number small is =
-    let l = length_fits e in
-    let c = counts_fit bsize e in
-    let k = levels_fit bsize e in
-    let p = and_parts (nat_le e.number 6 && l && c && k) (is_stamp e.stamp) is in
-    let q = and_parts (nat_le e.number 6 && l && c) k p.0 in
-    let r = and_parts (nat_le e.number 6 && l) c q.0 in
-    let t = and_parts (nat_le e.number 6) l r.0 in
-    and_from (nat_le number 6 && l && c && k) (is_stamp e.stamp)
-    (and_from (nat_le number 6 && l && c) k (and_from (nat_le number 6 && l) c (and_from (nat_le number 6) l (le-leb number 6 small) t.1) r.1) q.1) p.1
+    let p = passing bsize e is in
+    passes_from bsize (record e { name = name; number = number }) (record {
+      number = small;
+      fits = record { long = p.fits.long; counts = p.fits.counts; levels = p.fits.levels };
+      stamp = p.stamp;
+    })
 
-pub rename_moves : (j : Journal) (v : HeldVolume) (old : Layout) (later : Image) (k : ℕ) (h : HeldFile) (to : Name) (number : ℕ) → IsHeldAt j v old → Keeps v → slice_get v.files k ≡ Some h → number ≤ 6
+pub rename_moves : (j : Journal) (v : HeldVolume) (old : Layout) (later : Image) (k : ℕ) (h : HeldFile) (to : Name) (number : ℕ) → IsHeldAt j v old → Keeps v → slice_get v.files k ≡ Some h
+    → number ≤ 6
     → NoneNamed to (map file_of old.files) ⊎ (to ≡ h.entry.name) → Moved (now j v.unit) later v (renaming v.files k h to number) old (Rename h.entry.name to number)
 unfolding changed_files
 rename_moves j v old later k h to number x kept there small free =
@@ -274,17 +287,16 @@ rename_moves j v old later k h to number x kept there small free =
     let all = pass_all v.disk.bsize v.label.blocks old.files v.files x.held.files_are kept.each in
     let olds = files_old j v old x in
     let g_passes : P g = subst P is (All-get_or P old.files k g less all) in
-    let g_old : Old v.disk v.label.blocks (now j v.unit) (layout_blocks old) g = subst (Old v.disk v.label.blocks (now j v.unit) (layout_blocks old)) is (All-get_or (Old v.disk v.label.blocks (now j v.unit) (layout_blocks old)) old.files k g less olds) in
+    let g_old : Old v.disk v.label.blocks (now j v.unit) (layout_blocks old) g =
+    subst (Old v.disk v.label.blocks (now j v.unit) (layout_blocks old)) is (All-get_or (Old v.disk v.label.blocks (now j v.unit) (layout_blocks old)) old.files k g less olds) in
     let g_new : Old v.disk v.label.blocks (now j v.unit) (layout_blocks old) g' = (record { met = g_old.0.met; records = g_old.0.records }, g_old.1) in
-    let named : (file_of g).name ≡ h.entry.name = ap (λ (e : Entry). e.name) (sym at.held.entry_is) in
     let distinct = names_distinct old.files x.stands.names in
     let d = file_of g in
-    let in_map : slice_index_or (map file_of old.files) k d ≡ d = get_or-map file_of old.files k g d less ∙ ap file_of is in
-    let place0 = place_at (map file_of old.files) k d distinct (rw (length-map old.files file_of) less) in
-    let place : IsPlace h.entry.name (map file_of old.files) k = subst (λ (n : Name). IsPlace n (map file_of old.files) k) (ap (λ (f : File). f.name) in_map ∙ named) place0 in
+    let found = found_at old.files k g h.entry.name distinct less is (ap (λ (e : Entry). e.name) (sym at.held.entry_is)) in
     let edit = λ (f : File). record f { name = to; number = number } in
     let changed : change_file h.entry.name edit (map file_of old.files) ≡ map file_of fs =
-    (place_changed h.entry.name (map file_of old.files) k place).changed edit d ∙ (ap (λ (f : File). set (map file_of old.files) k (edit f)) in_map ∙ sym (map-set file_of old.files k g')) in
+    (place_changed h.entry.name (map file_of old.files) k found.place).changed edit d
+    ∙ (ap (λ (f : File). set (map file_of old.files) k (edit f)) found.in_map ∙ sym (map-set file_of old.files k g')) in
     let names : HaveNames fs = names_from fs (subst AreDistinct changed (stay_distinct (map file_of old.files) (Rename h.entry.name to number) distinct free)) in
     record {
       files = fs;

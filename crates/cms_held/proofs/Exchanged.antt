@@ -153,7 +153,8 @@ pub sums : (count : ℕ) (map : List ℕ) (v : HeldVolume) (edit : Edit) (s : Sy
     → (n : ℕ) → Sums v edit s old files n
 sums count map v edit s old files x n =
     let trees = x.old_has.trees n in
-    let new_first : times n s.directory.leaves ≡ bit (n == (9 - v.label.origin)) + times n (drop 1 s.directory.leaves) = ap (times n) x.first ∙ first_bit n (9 - v.label.origin) (drop 1 s.directory.leaves) in
+    let new_first : times n s.directory.leaves ≡ bit (n == (9 - v.label.origin)) + times n (drop 1 s.directory.leaves) =
+    ap (times n) x.first ∙ first_bit n (9 - v.label.origin) (drop 1 s.directory.leaves) in
     let r = released_times v edit n in
     let f = fresh_times edit s n in
     let w = new_times s files n in
@@ -196,10 +197,13 @@ new_once count map v edit s old files x n =
     let high = o.high in
     let same : 9 - v.label.origin ≡ 9 - old.label.origin = ap (λ (l : Label). 9 - l.origin) x.old_has.label in
     let low : n ≤ 5 = omega arith in
-    let none_fresh : times n (fresh edit.taken s.directory s.map) ≡ 0 = ⊎_elim (λ (none : times n (fresh edit.taken s.directory s.map) < 1). omega arith) (λ (some : 1 ≤ times n (fresh edit.taken s.directory s.map)). let six = (u.each n some).0 in absurd (omega arith)) (cases_lt (times n (fresh edit.taken s.directory s.map)) 1) in
+    let none_fresh : times n (fresh edit.taken s.directory s.map) ≡ 0 =
+    ⊎_elim (λ (none : times n (fresh edit.taken s.directory s.map) < 1). omega arith)
+    (λ (some : 1 ≤ times n (fresh edit.taken s.directory s.map)). let six = (u.each n some).0 in absurd (omega arith)) (cases_lt (times n (fresh edit.taken s.directory s.map)) 1) in
     let none_old : times n (layout_blocks old) ≡ 0 = ⊎_elim
     (λ (none : times n (layout_blocks old) < 1). omega arith)
-    (λ (some : 1 ≤ times n (layout_blocks old)). ⊎_elim (λ (free : (6 ≤ n) × (n ≤ old.label.blocks)). let six = free.0 in absurd (omega arith)) (λ (e : n ≡ old.label.origin). absurd (o.differs (sym same ∙ (sym is ∙ e)))) (x.old_has.within n some))
+    (λ (some : 1 ≤ times n (layout_blocks old)). ⊎_elim (λ (free : (6 ≤ n) × (n ≤ old.label.blocks)). let six = free.0 in absurd (omega arith))
+    (λ (e : n ≡ old.label.origin). absurd (o.differs (sym same ∙ (sym is ∙ e)))) (x.old_has.within n some))
     (cases_lt (times n (layout_blocks old)) 1) in
     let one = bit_small (n == (9 - v.label.origin)) in
     omega arith)

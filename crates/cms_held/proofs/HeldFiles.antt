@@ -132,7 +132,8 @@ each_file P disk image total dirs number es ms cs hs fits are go t c =
     none (h ∷ hs) are = absurd are
 
     one : (holder : ℕ) (e : Entry) (m : Met) (rs : List (List ℕ)) (es : List Entry) (ms : List Met) (cs : List (List (List ℕ))) → IsRead disk total image holder e m rs → EntryFits disk.bsize e
-        → ((others : List HeldFile) → AreHeld es ms cs others → Each P others (files_of es cs)) → (hs : List HeldFile) → AreHeld (e ∷ es) (m ∷ ms) (rs ∷ cs) hs → Each P hs (files_of (e ∷ es) (rs ∷ cs))
+        → ((others : List HeldFile) → AreHeld es ms cs others → Each P others (files_of es cs)) → (hs : List HeldFile) → AreHeld (e ∷ es) (m ∷ ms) (rs ∷ cs) hs
+        → Each P hs (files_of (e ∷ es) (rs ∷ cs))
     one holder e m rs es ms cs read fit deeper [] are = absurd are
     one holder e m rs es ms cs read fit deeper (h ∷ hs) are = (go holder e m rs h fit are.0 read, deeper hs are.1)
 
@@ -256,7 +257,8 @@ finds name i (f ∷ fs) = ⊎_elim
     later (name_differs name f.name other) past (finds name (i + 1) fs))
     (cases_Bool (same_name name f.name))
   where
-    later : f.name ≢ name → position_from (same_name name) i (map (λ f. f.name) (f ∷ fs)) ≡ position_from (same_name name) (i + 1) (map (λ f. f.name) fs) → Finds name (i + 1) fs → Finds name i (f ∷ fs)
+    later : f.name ≢ name → position_from (same_name name) i (map (λ f. f.name) (f ∷ fs)) ≡ position_from (same_name name) (i + 1) (map (λ f. f.name) fs) → Finds name (i + 1) fs
+        → Finds name i (f ∷ fs)
     later ne past (absent none named) = absent (past ∙ none) (ne, named)
     later ne past (there k at p) = there (suc k) (past ∙ (at ∙ ap Some (omega arith))) (record { within = (let less = p.within in omega arith); named = p.named; first = (ne, p.first) })
 

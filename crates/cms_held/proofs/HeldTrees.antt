@@ -44,7 +44,8 @@ below_counted f g each size holder (p ∷ ps) (suc k) first m e =
     bind_then (f first holder p (min (suc k) size)) _ m e (λ a is_a e1.
     bind_then (children f size holder ps (suc k - size) None) _ m e1 (λ b is_b e2.
     subst (Counts (g p (min (suc k) size) ++ nodes_below g size ps (suc k - size))) (ok_same (joined a b) m e2)
-    (counts_joined (g p (min (suc k) size)) (nodes_below g size ps (suc k - size)) a b (each first holder p (min (suc k) size) a is_a) (below_counted f g each size holder ps (suc k - size) None b is_b))))
+    (counts_joined (g p (min (suc k) size)) (nodes_below g size ps (suc k - size)) a b (each first holder p (min (suc k) size) a is_a)
+    (below_counted f g each size holder ps (suc k - size) None b is_b))))
 
 pub tree_counted : (form : Form) (image : Image) (k : ℕ) → Counted (tree form image k) (nodes form image k)
 unfolding nodes

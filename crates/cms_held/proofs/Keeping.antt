@@ -25,8 +25,7 @@ use Rattle.cms_model.proofs.TreeFrame.{tree_inside}
 use Rattle.cms_model.proofs.VolumeFrame.{bytes_keep}
 use Rattle.cms_map.specs.Bits.{bits_in}
 use Rattle.cms_held.specs.LawsRenewing.{AreBlocks, FrontKeepsHeld}
-use Rattle.cms_held.proofs.OldBlocks.{old_blocks, same_blocks}
-use Rattle.cms_held.proofs.Exchanged.{other}
+use Rattle.cms_held.proofs.OldBlocks.{old_blocks, past_label, same_blocks}
 use Rattle.cms_held.proofs.Renewals.{comes_from}
 use Rattle.cms_held.proofs.Edits.{come_all, old_all}
 use Rattle.cms_held.proofs.WritesPut.{put_long}
@@ -46,7 +45,8 @@ either true = refl
 either false = refl
 
 -- with a label of as many blocks the volume stands in it
-pub same_stands : (disk : Disk) (before later : Image) (old : Layout) (label : Label) → label.blocks ≡ old.label.blocks → Stands disk before old → HoldsSystem disk later (opened (record old { label = label }))
+pub same_stands : (disk : Disk) (before later : Image) (old : Layout) (label : Label) → label.blocks ≡ old.label.blocks → Stands disk before old
+    → HoldsSystem disk later (opened (record old { label = label }))
     → ((n : ℕ) → In n (layout_blocks old) → before n ≡ later n) → Stands disk later (record old { label = label })
 same_stands disk before later old label blocks stands system same =
     let map_same = same_map disk before later old stands same in
@@ -141,8 +141,5 @@ front_keeps_held j v old ws p x blocks within apart front =
   where
     low : (n : ℕ) → In n (layout_blocks old) → 1 ≤ n
     low n in' =
-        let h = old_blocks j v old x in
-        ⊎_elim
-        (λ (free : (6 ≤ n) × (n ≤ old.label.blocks)). let six = free.0 in omega arith)
-        (λ (is : n ≡ old.label.origin). let four = (other old.label.origin h.origin).old_low in omega arith)
-        (h.within n (held n (layout_blocks old) (in_held n (layout_blocks old) in')))
+        let four = past_label (old_blocks j v old x) n (held n (layout_blocks old) (in_held n (layout_blocks old) in')) in
+        omega arith

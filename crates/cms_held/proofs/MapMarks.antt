@@ -1,12 +1,12 @@
 -- The bits of a map with blocks marked and freed, and the marks in its bytes.
 use Rattle.std.proofs.Common.{◌≡◌, ⊎_elim, ℕ, zero, suc, ◌+◌, ◌-◌, ◌<◌, ◌≤◌, Bool, true, false, not, if◌then◌else◌, List, [], ◌∷◌, length, take, set, get_or, refl, ap, sym, ◌∙◌, subst, arith}
 use Rattle.std.specs.Prelude.{nat_le, ◌==◌, ◌&&◌, ◌||◌}
-use Rattle.std.proofs.lemmas.Bool.{cases_Bool, cases_lt, or_parts, le-leb, lt-leb, leb-true, eqb-true, eq-eqb}
+use Rattle.std.proofs.lemmas.Bool.{cases_Bool, false_from_ne_true, cases_lt, or_parts, le-leb, lt-leb, leb-true, eqb-true, eq-eqb}
 use Rattle.std.proofs.lemmas.List.{length-set, get_or-set_same, get_or-set_other}
 use Rattle.std.proofs.lemmas.List.FromFn.{length-map-range_with_len, get_or-map-range_with_len}
 use Rattle.cms_model.specs.Lists.{holds, times}
 use Rattle.cms_model.specs.Maps.{is_marked, is_used}
-use Rattle.cms_model.proofs.Repeats.{bit, hit, miss, held_from, not_held, in_from}
+use Rattle.cms_model.proofs.Repeats.{bit, hit, miss, held_from, not_held, in_from, times_first, times_later}
 use Rattle.cms_map.specs.Bits.{bits_in, free_from, free_blocks, with_marked, HasFixed}
 use Rattle.cms_map.proofs.Free.{free_are_unused}
 use Rattle.cms_held.specs.Renewing.{with_freed}
@@ -55,16 +55,8 @@ fixed_used bytes n low = let yes' : nat_le n 5 ≡ true = le-leb n 5 low in rw y
 abbrev pub AreIn : ℕ → List ℕ → Type 0
 AreIn count ns = (n : ℕ) → 1 ≤ times n ns → (1 ≤ n) × (n ≤ count)
 
-first_times : (n : ℕ) (ns : List ℕ) → times n (n ∷ ns) ≡ suc (times n ns)
-unfolding times
-first_times n ns = let one : bit (n == n) ≡ 1 = hit (n == n) (eq-eqb n n refl) in omega arith
-
-later_times : (n x : ℕ) (ns : List ℕ) → times n ns ≤ times n (x ∷ ns)
-unfolding times
-later_times n x ns = omega arith
-
 rest_in : (count x : ℕ) (ns : List ℕ) → AreIn count (x ∷ ns) → AreIn count ns
-rest_in count x ns within n some = within n (omega (arith, later_times n x ns))
+rest_in count x ns within n some = within n (omega (arith, times_later n x ns))
 
 pub length_marked : (ns : List ℕ) (bits : List Bool) → length (with_marked ns bits) ≡ length bits
 unfolding with_marked
@@ -91,7 +83,7 @@ pub bit_marked : (ns : List ℕ) (bits : List Bool) (n : ℕ) → AreIn (length 
 unfolding with_marked holds
 bit_marked [] bits n within some = refl
 bit_marked (m ∷ ns) bits n within some =
-    let here = within m (omega (arith, first_times m ns)) in
+    let here = within m (omega (arith, times_first m ns)) in
     let rest : AreIn (length (set bits (m - 1) true)) ns = λ k more. (let w = rest_in (length bits) m ns within k more in (w.0, omega (arith, w.1, length-set bits (m - 1) true))) in
     bit_marked ns (set bits (m - 1) true) n rest some
     ∙ (ap (λ (b : Bool). holds ns n || b) (set_bit bits m n true here.0 some here.1) ∙ moved (n == m) (holds ns n) (get_or bits (n - 1) false))
@@ -107,13 +99,9 @@ freed_late : (bits : List Bool) (k n : ℕ) → 1 ≤ k → k ≤ length bits �
 freed_late bits k n low within late = ⊎_elim
     (λ (can : nat_le 6 k ≡ true). rw can (set_bit bits k n false low (omega arith) within))
     (λ (not' : nat_le 6 k ≡ false).
-    let other : (n == k) ≡ false = differs (n == k) (λ same. let is = eqb-true n k same in clash (sym (le-leb 6 k (omega arith)) ∙ not')) in
+    let other : (n == k) ≡ false = false_from_ne_true (n == k) (λ same. let is = eqb-true n k same in clash (sym (le-leb 6 k (omega arith)) ∙ not')) in
     rw (not', other) refl)
     (cases_Bool (nat_le 6 k))
-  where
-    differs : (b : Bool) → (b ≡ true → ⊥) → b ≡ false
-    differs true no' = absurd (no' refl)
-    differs false no' = refl
 
 freed_early : (bits : List Bool) (k n : ℕ) → 1 ≤ n → n ≤ 5 → get_or (one_freed k bits) (n - 1) false ≡ get_or bits (n - 1) false
 freed_early bits k n some low = ⊎_elim
@@ -127,7 +115,7 @@ pub bit_freed : (ns : List ℕ) (bits : List Bool) (n : ℕ) → AreIn (length b
 unfolding with_freed holds
 bit_freed [] bits n within late = refl
 bit_freed (m ∷ ns) bits n within late =
-    let here = within m (omega (arith, first_times m ns)) in
+    let here = within m (omega (arith, times_first m ns)) in
     let rest : AreIn (length (one_freed m bits)) ns = λ k more. (let w = rest_in (length bits) m ns within k more in (w.0, omega (arith, w.1, length_one m bits))) in
     bit_freed ns (one_freed m bits) n rest late
     ∙ (ap (λ (b : Bool). not (holds ns n) && b) (freed_late bits m n here.0 here.1 late) ∙ moved (n == m) (holds ns n) (get_or bits (n - 1) false))
@@ -150,12 +138,8 @@ unfolding free_from times
 free_early k [] n less = refl
 free_early k (true ∷ bits) n less = free_early (k + 1) bits n (omega arith)
 free_early k (false ∷ bits) n less =
-    let other : bit (n == k) ≡ 0 = miss (n == k) (differs (n == k) (λ same. omega (arith, eqb-true n k same))) in
+    let other : bit (n == k) ≡ 0 = miss (n == k) (false_from_ne_true (n == k) (λ same. omega (arith, eqb-true n k same))) in
     omega (arith, free_early (k + 1) bits n (omega arith))
-  where
-    differs : (b : Bool) → (b ≡ true → ⊥) → b ≡ false
-    differs true no' = absurd (no' refl)
-    differs false no' = refl
 
 pub free_once : (k : ℕ) (bits : List Bool) (n : ℕ) → times n (free_from k bits) ≤ 1
 unfolding free_from times

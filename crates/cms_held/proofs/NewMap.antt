@@ -2,7 +2,7 @@
 use Rattle.std.proofs.Common.{◌≡◌, ⊎_elim, ℕ, zero, suc, ◌+◌, ◌-◌, ◌*◌, ◌/◌, ◌%◌, ◌^◌, ◌<◌, ◌≤◌, Bool, true, false, List, ◌∷◌, ◌++◌, length, take, map, get_or, set, replicate, if◌then◌else◌, All, refl, sym, ◌∙◌, ap, subst, arith, length-append}
 use Rattle.std.specs.Prelude.{nat_le, not, ◌==◌, ◌&&◌}
 use Rattle.std.specs.List.{range_with_len}
-use Rattle.std.proofs.lemmas.Bool.{cases_Bool, cases_lt, eqb-true, eq-eqb, lt-leb}
+use Rattle.std.proofs.lemmas.Bool.{false_from_ne_true, cases_Bool, cases_lt, eqb-true, eq-eqb, lt-leb}
 use Rattle.std.proofs.lemmas.List.{length-replicate, get_or-replicate, get_or_append_left, get_or-append_right}
 use Rattle.std.proofs.lemmas.List.FromFn.{length-range_with_len}
 use Rattle.std.proofs.lemmas.List.Elements.{All-nil, All-cons}
@@ -28,12 +28,8 @@ row_early : (a k n : ℕ) → n < a → times n (range_with_len a k) ≡ 0
 unfolding times
 row_early a zero n less = refl
 row_early a (suc k) n less =
-    let other : bit (n == a) ≡ 0 = miss (n == a) (differs (n == a) (λ same. omega (arith, eqb-true n a same))) in
+    let other : bit (n == a) ≡ 0 = miss (n == a) (false_from_ne_true (n == a) (λ same. omega (arith, eqb-true n a same))) in
     omega (arith, row_early (a + 1) k n (omega arith))
-  where
-    differs : (b : Bool) → (b ≡ true → ⊥) → b ≡ false
-    differs true no' = absurd (no' refl)
-    differs false no' = refl
 
 pub row_once : (a k n : ℕ) → times n (range_with_len a k) ≤ 1
 unfolding times

@@ -1,5 +1,5 @@
 -- Where the blocks of a volume stand that is held.
-use Rattle.std.proofs.Common.{◌≡◌, ◌⊎◌, inl, inr, ℕ, ◌+◌, ◌≤◌, List, ◌++◌, true, Ok, sym, ap, subst, arith}
+use Rattle.std.proofs.Common.{◌≡◌, ◌⊎◌, inl, inr, ⊎_elim, ℕ, ◌+◌, ◌≤◌, List, ◌++◌, true, Ok, sym, ap, subst, arith}
 use Rattle.cms_journal.specs.Journal.{Journal}
 use Rattle.cms_model.specs.Lists.{In, times}
 use Rattle.cms_model.specs.Trees.{bytes_at}
@@ -54,6 +54,13 @@ old_blocks j v old x =
       marked = x.stands.marked;
       bits = x.held.bits_are;
     }
+
+-- they lie behind the label
+pub past_label : {count : ℕ} {map : List ℕ} {v : HeldVolume} {old : Layout} → HasBlocksOf count map v old → (n : ℕ) → 1 ≤ times n (layout_blocks old) → 4 ≤ n
+past_label {old = old} h n there = ⊎_elim
+    (λ (free : (6 ≤ n) × (n ≤ old.label.blocks)). let six = free.0 in omega arith)
+    (λ (at : n ≡ old.label.origin). ⊎_elim (λ (four : old.label.origin ≡ 4). omega (arith, at, four)) (λ (five : old.label.origin ≡ 5). omega (arith, at, five)) h.origin)
+    (h.within n there)
 
 -- a block of the frame is the label, the origin or one of the trees
 pub frame_blocks : (old : Layout) (n : ℕ) → In n (frame (opened old)) → (n ≡ 3) ⊎ ((n ≡ old.label.origin) ⊎ (1 ≤ times n (layout_blocks old)))

@@ -101,7 +101,8 @@ all_free j v old x =
     let h = old_blocks j v old x in
     subst (λ (bits : List Bool). AreUnmarked old.label.blocks (bytes_at (now j v.unit) old.map_met.leaves) (free_blocks bits)) (sym h.bits)
     (lowest_free old.label.blocks (bytes_at (now j v.unit) old.map_met.leaves) (free_blocks (bits_in old.label.blocks (bytes_at (now j v.unit) old.map_met.leaves)))
-    (sym (take_all (length (free_blocks (bits_in old.label.blocks (bytes_at (now j v.unit) old.map_met.leaves)))) (free_blocks (bits_in old.label.blocks (bytes_at (now j v.unit) old.map_met.leaves))) (omega arith))))
+    (sym (take_all (length (free_blocks (bits_in old.label.blocks (bytes_at (now j v.unit) old.map_met.leaves)))) (free_blocks (bits_in old.label.blocks (bytes_at (now j v.unit) old.map_met.leaves)))
+    (omega arith))))
 
 -- where a free block stands
 pub record IsAside (old : Layout) (n : ℕ) : Type 0 where
@@ -155,7 +156,11 @@ free_is_aside j v m blocks ws p is_held are_free own front =
     let o = own_apart old v.disk.bsize (length (start_of j.units v.unit)) blocks ws (omega arith) (λ n in'. free_aside j v old x n (free_of v blocks are_free n in')) own in
     record {
       layout = old;
-      at = front_keeps_held j v old ws p x o.2 o.1 o.0 (record { rest = front.rest ++ Synced v.unit ∷ []; is = sym (append_assoc p front.rest (Synced v.unit ∷ [])) ∙ ap (λ (l : List Event). l ++ Synced v.unit ∷ []) front.is });
+      at = front_keeps_held j v old ws p x o.2 o.1 o.0 (record {
+        rest = front.rest ++ Synced v.unit ∷ [];
+        is =
+            sym (append_assoc p front.rest (Synced v.unit ∷ [])) ∙ ap (λ (l : List Event). l ++ Synced v.unit ∷ []) front.is;
+      });
       minidisk_is = is_held.minidisk_is;
     }
 

@@ -1,11 +1,10 @@
 -- A file that is put, among files that are held.
-use Rattle.std.proofs.Common.{◌≡◌, inr, ℕ, zero, suc, ◌+◌, ◌*◌, ◌^◌, ◌<◌, ◌≤◌, true, List, [], ◌∷◌, ◌++◌, length, map, set, get_or, slice_get, slice_index, slice_index_or, All, None, Some, refl, sym, ◌∙◌, ap, subst, arith, length-append}
-use Rattle.std.specs.Prelude.{nat_le, ◌==◌}
-use Rattle.std.proofs.lemmas.Bool.{eq-eqb, le-leb, and_from}
-use Rattle.std.proofs.lemmas.List.{length-map, length-set, get_or-map, map-set, map-append}
+use Rattle.std.proofs.Common.{◌≡◌, inr, ℕ, zero, suc, ◌+◌, ◌*◌, ◌^◌, ◌<◌, ◌≤◌, true, List, [], ◌∷◌, ◌++◌, length, map, set, get_or, slice_get, slice_index, All, None, Some, refl, sym, ◌∙◌, ap, subst, arith, length-append}
+use Rattle.std.specs.Prelude.{nat_le}
+use Rattle.std.proofs.lemmas.Bool.{le-leb, and_from}
+use Rattle.std.proofs.lemmas.List.{length-set, map-set, map-append}
 use Rattle.std.proofs.lemmas.List.Elements.{All-nil, All-cons, All-map, All-set, All-append}
 use Rattle.cms_journal.specs.Journal.{Journal}
-use Rattle.cms_names.specs.declared.name.Name.{Name}
 use Rattle.cms_names.specs.declared.name.Format.{Format}
 use Rattle.cms_names.specs.declared.name.Format.TheVariants.{F, V}
 use Rattle.cms_fields.specs.Entries.{passes, pointer_size}
@@ -20,11 +19,11 @@ use Rattle.cms_model.specs.Volumes.{Disk}
 use Rattle.cms_model.specs.Records.{Fits, length_of, stored}
 use Rattle.cms_model.specs.Changes.{Put, changed_files, put_file}
 use Rattle.cms_model.specs.Stands.{Kept, HoldsFile, Layout, HaveNames, file_blocks, file_of, layout_blocks}
-use Rattle.cms_model.specs.LawsChanges.{AreDistinct, IsPlace, NoneNamed}
+use Rattle.cms_model.specs.LawsChanges.{AreDistinct, NoneNamed}
 use Rattle.cms_model.specs.LawsUpdates.{now}
 use Rattle.cms_model.proofs.Changing.{none_added, place_changed, stay_distinct}
 use Rattle.cms_model.proofs.Records.{length_stored_fixed}
-use Rattle.cms_model.proofs.Repeats.{bit, hit, times_append}
+use Rattle.cms_model.proofs.Repeats.{times_append, times_first, times_later}
 use Rattle.cms_fields.specs.Numbers.{up}
 use Rattle.cms_tree.proofs.Totals.{in_times}
 use Rattle.cms_held.proofs.OldBlocks.{old_blocks}
@@ -39,7 +38,7 @@ use Rattle.cms_held.specs.Renewing.{Edit, IsPlanned, blocks_in}
 use Rattle.cms_held.specs.LawsRenewing.{AreBlocks, ComesFrom, IsHeldAt, later_of, writes_of}
 use Rattle.cms_held.specs.Putting.{IsPutAs, adding, replacing}
 use Rattle.cms_held.proofs.Drafted.{draft_holds}
-use Rattle.cms_held.proofs.Edits.{Beside, Is, Moved, at_place, beside_count, beside_set, come_all, files_old, names_distinct, names_from, no_times, pass_all, place_at, tree_times}
+use Rattle.cms_held.proofs.Edits.{Beside, Is, Moved, at_place, beside_count, beside_set, come_all, files_old, found_at, names_distinct, names_from, no_times, pass_all, tree_times}
 use Rattle.cms_held.proofs.Renewals.{IsTaking, all_of, same_entries, taken_of, taken_stay}
 
 -- ---- lists of files
@@ -143,20 +142,12 @@ pub record Puts (j : Journal) (v : HeldVolume) (old : Layout) (g : HeldFile) (ma
   pub plan : IsBuildable v.disk.bsize (pointer_size g.entry.format) g.tree.leaves marks g.tree.pointers
   pub has : HasAll (now j v.unit) v.disk.bsize (pointer_size g.entry.format) g.tree.leaves marks g.tree.pointers (stored g.entry.format new.records)
 
-first_there : (n : ℕ) (ns : List ℕ) → 1 ≤ times n (n ∷ ns)
-unfolding times
-first_there n ns = let one : bit (n == n) ≡ 1 = hit (n == n) (eq-eqb n n refl) in omega arith
-
-later_there : (k n : ℕ) (ns : List ℕ) → 1 ≤ times k ns → 1 ≤ times k (n ∷ ns)
-unfolding times
-later_there k n ns some = omega arith
-
 all_allowed : (total : ℕ) (ns : List ℕ) → ((n : ℕ) → 1 ≤ times n ns → (6 ≤ n) × (n ≤ total)) → AllAllowed total None ns
 unfolding is_allowed
 all_allowed total [] each = tt
 all_allowed total (n ∷ ns) each =
-    let here = each n (first_there n ns) in
-    (and_from (nat_le 6 n) (nat_le n total) (le-leb 6 n here.0) (le-leb n total here.1), all_allowed total ns (λ k some. each k (later_there k n ns some)))
+    let here = each n (omega (arith, times_first n ns)) in
+    (and_from (nat_le 6 n) (nat_le n total) (le-leb 6 n here.0) (le-leb n total here.1), all_allowed total ns (λ k some. each k (omega (arith, some, times_later k n ns))))
 
 drafted_later : (j : Journal) (v : HeldVolume) (old : Layout) (g : HeldFile) (marks : List Mark) (new : File) (edit : Edit) (s : Systems) → Puts j v old g marks new edit s
     → ((n : ℕ) → 1 ≤ times n (blocks_in g.tree) → now (later_of j v s) v.unit n ≡ now j v.unit n) → ((n : ℕ) → 1 ≤ times n (blocks_in g.tree) → (6 ≤ n) × (n ≤ v.label.blocks))
@@ -233,12 +224,9 @@ replace_moves j v old g marks new s k f there named p =
     let own : P q = ap (passes v.disk.bsize) placed'.entry_is ∙ p.file.passes_all in
     let file_named : (file_of h).name ≡ new.name = ap (λ (e : Entry). e.name) (sym at.held.entry_is) ∙ named ∙ p.file.name_is in
     let distinct = names_distinct old.files p.at.stands.names in
-    let d = file_of h in
-    let in_map : slice_index_or (map file_of old.files) k d ≡ d = get_or-map file_of old.files k h d less ∙ ap file_of is in
-    let place0 = place_at (map file_of old.files) k d distinct (rw (length-map old.files file_of) less) in
-    let place : IsPlace new.name (map file_of old.files) k = subst (λ (n : Name). IsPlace n (map file_of old.files) k) (ap (λ (x : File). x.name) in_map ∙ file_named) place0 in
+    let found = found_at old.files k h new.name distinct less is file_named in
     let changed : put_file new (map file_of old.files) ≡ map file_of fs =
-    (place_changed new.name (map file_of old.files) k place).put new refl ∙ ap (λ (x : File). set (map file_of old.files) k x) (sym placed'.file_is) ∙ sym (map-set file_of old.files k q) in
+    (place_changed new.name (map file_of old.files) k found.place).put new refl ∙ ap (λ (x : File). set (map file_of old.files) k x) (sym placed'.file_is) ∙ sym (map-set file_of old.files k q) in
     let names : HaveNames fs = names_from fs (subst AreDistinct changed (stay_distinct (map file_of old.files) (Put new) distinct tt)) in
     record {
       files = fs;
@@ -250,7 +238,8 @@ replace_moves j v old g marks new s k f there named p =
         back = subst (All ReadsBack) (same_entries fs (replacing v.files k f g).files held) back;
         names = names;
         held = held;
-        come = come_set v.disk v.label.blocks before later (layout_blocks old) old.files k q (come_all v.disk v.label.blocks before later (layout_blocks old) old.files (files_old j v old p.at)) placed'.holds;
+        come = come_set v.disk v.label.blocks before later (layout_blocks old) old.files k q
+            (come_all v.disk v.label.blocks before later (layout_blocks old) old.files (files_old j v old p.at)) placed'.holds;
         balance = balance_of q placed'.blocks_are;
         had = had;
       };
@@ -291,7 +280,8 @@ add_moves j v old g marks new s none p =
         back = subst (All ReadsBack) (same_entries fs (adding v.files g).files held) back;
         names = names;
         held = held;
-        come = come_last v.disk v.label.blocks before later (layout_blocks old) old.files q (come_all v.disk v.label.blocks before later (layout_blocks old) old.files (files_old j v old p.at)) placed'.holds;
+        come = come_last v.disk v.label.blocks before later (layout_blocks old) old.files q
+            (come_all v.disk v.label.blocks before later (layout_blocks old) old.files (files_old j v old p.at)) placed'.holds;
         balance = balance_of q placed'.blocks_are;
         had = had;
       };

@@ -1,5 +1,5 @@
 -- A volume with another volume id.
-use Rattle.std.proofs.Common.{◌≡◌, ◌≢◌, ◌⊎◌, inl, inr, ⊎_elim, ℕ, suc, ◌<◌, ◌≤◌, ◌^◌, Bool, true, false, List, [], ◌∷◌, length, map, if◌then◌else◌, Some, Ok, refl, sym, ◌∙◌, ap, arith}
+use Rattle.std.proofs.Common.{◌≡◌, ◌≢◌, ◌⊎◌, inl, inr, ℕ, suc, ◌<◌, ◌≤◌, ◌^◌, Bool, true, false, List, [], ◌∷◌, length, map, if◌then◌else◌, Some, Ok, refl, sym, ◌∙◌, ap, arith}
 use Rattle.std.specs.Prelude.{◌==◌}
 use Rattle.std.proofs.lemmas.Bool.{eqb-true, cases_eq}
 use Rattle.cms_journal.specs.Journal.{Journal, start_of}
@@ -7,7 +7,7 @@ use Rattle.cms_journal.specs.declared.event.Event.TheVariants.{Wrote}
 use Rattle.cms_journal.proofs.Sizes.{block_bounds}
 use Rattle.cms_fields.specs.Labels.{label_of, is_origin}
 use Rattle.cms_fields.specs.declared.label.Label.{Label}
-use Rattle.cms_model.specs.Lists.{In, times}
+use Rattle.cms_model.specs.Lists.{In}
 use Rattle.cms_model.specs.Trees.{Image, bytes_at}
 use Rattle.cms_model.specs.Minidisks.{File, Minidisk}
 use Rattle.cms_model.specs.Changes.{Relabel, changed, changed_files, need, written_file}
@@ -28,7 +28,7 @@ use Rattle.cms_held.specs.Opening.{HeldVolume}
 use Rattle.cms_held.specs.LawsRenewing.{IsHeldAt}
 use Rattle.cms_held.specs.LawsEdits.{RelabelIsHeld, relabelled, with_volid}
 use Rattle.cms_held.proofs.NewLabel.{label_length, new_label}
-use Rattle.cms_held.proofs.OldBlocks.{HasBlocksOf, old_blocks}
+use Rattle.cms_held.proofs.OldBlocks.{HasBlocksOf, old_blocks, past_label}
 use Rattle.cms_held.proofs.Exchanged.{other}
 use Rattle.cms_held.proofs.Keeping.{same_map, same_stands}
 use Rattle.cms_held.proofs.Edits.{beside_count}
@@ -56,7 +56,8 @@ label_new j v old volid x six in_use =
     let o = other old.label.origin h.origin in
     let high = o.old_high in
     record {
-      reads = new_label v.disk.bsize v.disk.count v.label_bytes v.label (with_volid v.label volid) spelled (omega arith) six refl refl (ap is_origin origin ∙ is_origin_same old.label.origin h.origin) (omega arith) in_use (omega arith);
+      reads = new_label v.disk.bsize v.disk.count v.label_bytes v.label (with_volid v.label volid) spelled (omega arith) six refl refl (ap is_origin origin ∙ is_origin_same old.label.origin h.origin)
+          (omega arith) in_use (omega arith);
       long = label_length (with_volid v.label volid) v.label_bytes six (omega arith) ∙ long;
     }
 
@@ -92,7 +93,7 @@ later_image : (j : Journal) (v : HeldVolume) (old : Layout) (volid : List ℕ) �
 later_image j v old volid x l = record {
   label = is 3 (omega arith);
   same = λ n in'. (let there = held n (layout_blocks old) (in_held n (layout_blocks old) in') in
-      let low = least n there in
+      let low = past_label h n there in
       sym (elsewhere n (omega arith) (λ e. omega (arith, e))));
   whole = record { size = x.whole.size; small = x.whole.small; each = λ n from to. long n from to (cases_eq n 3) };
 }
@@ -105,12 +106,6 @@ later_image j v old volid x l = record {
 
     elsewhere : (n : ℕ) → 1 ≤ n → n ≢ 3 → now (later_of j v volid) v.unit n ≡ now j v.unit n
     elsewhere n some ne = is n some ∙ aside (now j v.unit) (label_write v volid) n refl ne
-
-    least : (n : ℕ) → 1 ≤ times n (layout_blocks old) → 4 ≤ n
-    least n there = ⊎_elim
-        (λ (free : (6 ≤ n) × (n ≤ old.label.blocks)). let six = free.0 in omega arith)
-        (λ (at : n ≡ old.label.origin). let low = (other old.label.origin h.origin).old_low in omega arith)
-        (h.within n there)
 
     long : (n : ℕ) → 1 ≤ n → n ≤ v.disk.count → (n ≡ 3) ⊎ (n ≢ 3) → length (now (later_of j v volid) v.unit n) ≡ v.disk.bsize
     long n from to (inl at) = ap (λ (k : ℕ). length (now (later_of j v volid) v.unit k)) at ∙ (ap (λ (b : List ℕ). length b) (is 3 (omega arith)) ∙ l.long)
@@ -126,7 +121,8 @@ no_need : (m : Minidisk) (volid : List ℕ) → need m (Relabel volid) ≡ 0
 unfolding need
 no_need m volid = refl
 
-pub changed_is : (disk : Disk) (old : Layout) (volid : List ℕ) (label : Label) → minidisk_in disk (record old { label = with_volid label volid }) ≡ changed (minidisk_in disk (record old { label = label })) (Relabel volid)
+pub changed_is : (disk : Disk) (old : Layout) (volid : List ℕ) (label : Label)
+    → minidisk_in disk (record old { label = with_volid label volid }) ≡ changed (minidisk_in disk (record old { label = label })) (Relabel volid)
 unfolding changed changed_files
 changed_is disk old volid label = refl
 
@@ -152,7 +148,8 @@ relabel_is_held j v old volid x kept six in_use =
     let few = kept.few in
     let count = beside_count old.files v.files x.held.files_are in
     let m = minidisk_in v.disk old in
-    let changes : minidisk_in v.disk new ≡ changed m (Relabel volid) = changed_is v.disk old volid v.label ∙ ap (λ (k : Label). changed (minidisk_in v.disk (record old { label = k })) (Relabel volid)) same_label in
+    let changes : minidisk_in v.disk new ≡ changed m (Relabel volid) =
+    changed_is v.disk old volid v.label ∙ ap (λ (k : Label). changed (minidisk_in v.disk (record old { label = k })) (Relabel volid)) same_label in
     record {
       updates = ups;
       at = record {

@@ -31,7 +31,7 @@ use Rattle.cms_held.specs.LawsRenewing.{AreBlocks, ComesFrom, IsHeldAt, IsRenewa
 use Rattle.cms_held.proofs.MapMarks.{AreUnmarked, length_freed, length_marked, length_read, new_fixed}
 use Rattle.cms_held.proofs.NewLabel.{label_length, new_label, other_origin, volid_long}
 use Rattle.cms_held.proofs.SystemsRead.{map_is_read, written_is_read}
-use Rattle.cms_held.proofs.OldBlocks.{HasBlocksOf, frame_blocks, old_blocks}
+use Rattle.cms_held.proofs.OldBlocks.{HasBlocksOf, frame_blocks, old_blocks, past_label}
 use Rattle.cms_held.proofs.Exchanged.{Counts, Other, Setting, exchanged, fresh_times, late_counts, new_blocks, new_once, new_times, not_old, other, renewed_marks, sums, unmarked}
 use Rattle.cms_held.proofs.WritesPut.{apart_of, blocks_written, has_written, put_aside, put_long, system_times, within_of, written_same}
 
@@ -50,8 +50,11 @@ held_count (h ∷ hs) = ap suc (held_count hs)
 pub comes_from : (disk : Disk) (total : ℕ) (before later : Image) (blocks : List ℕ) (files : List Kept) → ((n : ℕ) → In n blocks → before n ≡ later n) → ComesFrom disk total before later blocks files
     → Comes disk total before later files
 comes_from disk total before later blocks [] same come = tt
-comes_from disk total before later blocks (f ∷ fs) same come =
-    (⊎_elim (λ (old : HoldsFile disk total before f × ((n : ℕ) → In n f.met.blocks → In n blocks)). inl (old.0, λ n in'. same n (old.1 n in'))) (λ new. inr new) come.0, comes_from disk total before later blocks fs same come.1)
+comes_from disk total before later blocks (f ∷ fs) same come = (
+  ⊎_elim (λ (old : HoldsFile disk total before f × ((n : ℕ) → In n f.met.blocks → In n blocks)). inl (old.0, λ n in'. same n (old.1 n in')))
+      (λ new. inr new) come.0,
+  comes_from disk total before later blocks fs same come.1,
+)
 
 -- what holds of each number of a list
 pub all_of : (P : ℕ → Type 0) (ns : List ℕ) → ((n : ℕ) → 1 ≤ times n ns → P n) → All P ns
@@ -130,7 +133,8 @@ label_facts j v edit stamp s old files x =
     let spelled : label_of v.disk.bsize v.disk.count v.label_bytes ≡ Ok v.label =
     ap (label_of v.disk.bsize v.disk.count) x.at.held.bytes_are ∙ (x.at.stands.system.label ∙ ap Ok (sym h.label)) in
     let long : 80 ≤ length v.label_bytes = omega arith in
-    let volid : length s.label.volid ≡ 6 = ap (λ (l : List ℕ). length l) (f.volid ∙ sym (ap (λ (l : Label). l.volid) h.label)) ∙ volid_long v.disk.bsize v.disk.count v.label_bytes v.label spelled long in
+    let volid : length s.label.volid ≡ 6 = ap (λ (l : List ℕ). length l) (f.volid ∙ sym (ap (λ (l : Label). l.volid) h.label))
+    ∙ volid_long v.disk.bsize v.disk.count v.label_bytes v.label spelled long in
     let in_use = f.in_use in
     let blocks = f.blocks in let old_count = f.old_blocks in
     let origin = f.origin in
@@ -267,7 +271,8 @@ write_facts j v edit stamp s old files x = record {
     at_low n at = let is = eqb-true n (9 - v.label.origin) at in let high = o.high in omega (arith, same)
 
     early : (n : ℕ) → n ≤ 5 → times n (fresh edit.taken s.directory s.map) ≡ 0
-    early n five = ⊎_elim (λ (none : times n (fresh edit.taken s.directory s.map) < 1). omega arith) (λ (some : 1 ≤ times n (fresh edit.taken s.directory s.map)). let six = (u.each n some).0 in absurd (omega arith)) (cases_lt (times n (fresh edit.taken s.directory s.map)) 1)
+    early n five = ⊎_elim (λ (none : times n (fresh edit.taken s.directory s.map) < 1). omega arith)
+        (λ (some : 1 ≤ times n (fresh edit.taken s.directory s.map)). let six = (u.each n some).0 in absurd (omega arith)) (cases_lt (times n (fresh edit.taken s.directory s.map)) 1)
 
     not_there : (n : ℕ) → 1 ≤ times n (layout_blocks old) → times n (fresh edit.taken s.directory s.map) ≡ 0
     not_there n there = ⊎_elim
@@ -315,7 +320,7 @@ later_image j v edit stamp s old files x = record {
   has = written_same (put_blocks (now j v.unit) ws) (now (later_of j v s) v.unit) ws
       (λ n some. let low = (w.low n some).0 in sym (elsewhere n (omega arith) (λ is. omega (arith, is)))) (has_written (now j v.unit) ws w.once);
   same = λ n in'. (let there = held n (layout_blocks old) (in_held n (layout_blocks old) in') in
-      let low = least n there in
+      let low = past_label h n there in
       sym (elsewhere n (omega arith) (λ is. omega (arith, is)) ∙ put_aside (now j v.unit) ws n (w.none n there)));
   whole = record { size = x.at.whole.size; small = x.at.whole.small; each = λ n from to. long n from to (cases_eq n 3) };
   stay = λ n low none. elsewhere n (omega arith) (λ is. omega (arith, is)) ∙ put_aside (now j v.unit) ws n none;
@@ -344,12 +349,6 @@ later_image j v edit stamp s old files x = record {
 
     elsewhere : (n : ℕ) → 1 ≤ n → n ≢ 3 → now (later_of j v s) v.unit n ≡ put_blocks (now j v.unit) (writes_of v s) n
     elsewhere n some ne = put.whole n some ∙ aside (put_blocks (now j v.unit) (writes_of v s)) n ne
-
-    least : (n : ℕ) → 1 ≤ times n (layout_blocks old) → 4 ≤ n
-    least n there = ⊎_elim
-        (λ (free : (6 ≤ n) × (n ≤ old.label.blocks)). let six = free.0 in omega arith)
-        (λ (is : n ≡ old.label.origin). let low = (other old.label.origin h.origin).old_low in omega arith)
-        (h.within n there)
 
     long : (n : ℕ) → 1 ≤ n → n ≤ v.disk.count → (n ≡ 3) ⊎ (n ≢ 3) → length (now (later_of j v s) v.unit n) ≡ v.disk.bsize
     long n from to (inl is) =
@@ -436,7 +435,8 @@ new_stands j v edit stamp s old files x r =
     let i = later_image j v edit stamp s old files (taking j v edit stamp s old files x) in
     let f = fields v s old x.planned.label x.at.held.label_is in
     let u = unmarked v.disk.count (map_of j v old) v edit s old files q in
-    let bits : bits_in old.label.blocks (bytes_at (later_at j v s) r.map.leaves) ≡ s.bits = ap (λ (n : ℕ). bits_in n (bytes_at (later_at j v s) r.map.leaves)) (sym f.blocks) ∙ new_bits j v edit stamp s old files x r in
+    let bits : bits_in old.label.blocks (bytes_at (later_at j v s) r.map.leaves) ≡ s.bits =
+    ap (λ (n : ℕ). bits_in n (bytes_at (later_at j v s) r.map.leaves)) (sym f.blocks) ∙ new_bits j v edit stamp s old files x r in
     renewed_stands v.disk before (later_at j v s) old new (holds (released v edit.given)) (holds (fresh edit.taken s.directory s.map)) (record {
       old_stands = x.at.stands;
       system = r.holds (mets_in files) (records_in files) old.lost;

@@ -51,7 +51,12 @@ pub length_node : (bsize psize : ℕ) (group : List Child) → (psize ≡ 4) ⊎
 unfolding node_bytes
 length_node bsize psize group kind few =
     let many = length-cells psize group kind in
-    omega (arith, length-append (concat (map (λ child. cell_bytes (cell_of psize child)) group)) (replicate (bsize - length group * psize) 0), length-replicate {A = ℕ} (bsize - length group * psize) 0)
+    omega (
+      arith,
+      length-append (concat (map (λ child. cell_bytes (cell_of psize child)) group)) (replicate (bsize - length group * psize) 0),
+      length-replicate {A = ℕ}
+          (bsize - length group * psize) 0,
+    )
 
 -- no block has more children than it has room for
 abbrev pub AreFew : ℕ → List (List Child) → Type 0
@@ -78,13 +83,15 @@ nodes_long bsize [] few = tt
 nodes_long bsize (g ∷ gs) few = (length_node bsize 4 g (inl refl) (let l = few.0 in omega arith), nodes_long bsize gs few.1)
 
 node_blocks : (bsize : ℕ) (t : HeldTree) → AreBlocks bsize (node_writes bsize t)
-node_blocks bsize t = are_blocks bsize t.pointers (map (node_bytes bsize 4) (nodes_over (bsize / 4) t.leaves [] t.pointers)) (nodes_long bsize (nodes_over (bsize / 4) t.leaves [] t.pointers) (over_few (bsize / 4) _ _ t.pointers))
+node_blocks bsize t = are_blocks bsize t.pointers (map (node_bytes bsize 4) (nodes_over (bsize / 4) t.leaves [] t.pointers))
+    (nodes_long bsize (nodes_over (bsize / 4) t.leaves [] t.pointers) (over_few (bsize / 4) _ _ t.pointers))
 
 pub system_blocks : (bsize : ℕ) (s : Systems) → length s.directory_bytes ≡ length s.directory.leaves * bsize → AreBlocks bsize (system_writes bsize s)
 system_blocks bsize s long =
     let d = cut_long (length s.directory.leaves) bsize s.directory_bytes long in
     let m = cut_long (length s.map.leaves) bsize (bytes_from 0 (length s.map.leaves * bsize) s.bits) (length_written (length s.map.leaves * bsize) s.bits) in
-    both_blocks bsize (block_writes (drop 1 s.directory.leaves) (drop 1 (directory_pieces bsize s))) _ (are_blocks bsize (drop 1 s.directory.leaves) (drop 1 (directory_pieces bsize s)) (drop_long bsize (directory_pieces bsize s) d))
+    both_blocks bsize (block_writes (drop 1 s.directory.leaves) (drop 1 (directory_pieces bsize s))) _
+    (are_blocks bsize (drop 1 s.directory.leaves) (drop 1 (directory_pieces bsize s)) (drop_long bsize (directory_pieces bsize s) d))
     (both_blocks bsize (node_writes bsize s.directory) _ (node_blocks bsize s.directory)
     (both_blocks bsize (block_writes s.map.leaves (map_pieces bsize s)) _ (are_blocks bsize s.map.leaves (map_pieces bsize s) m)
     (both_blocks bsize (node_writes bsize s.map) (block_writes (take 1 s.directory.leaves) (take 1 (directory_pieces bsize s))) (node_blocks bsize s.map)

@@ -1,12 +1,12 @@
 -- The blocks of writes, and an image after them.
-use Rattle.std.proofs.Common.{◌≡◌, inl, ⊎_elim, ℕ, suc, ◌+◌, ◌/◌, ◌≤◌, Bool, true, false, List, [], ◌∷◌, ◌++◌, length, map, take, drop, if◌then◌else◌, refl, ap, sym, ◌∙◌, subst, arith}
+use Rattle.std.proofs.Common.{◌≡◌, inl, ⊎_elim, ℕ, ◌+◌, ◌/◌, ◌≤◌, Bool, true, false, List, [], ◌∷◌, ◌++◌, length, map, take, drop, if◌then◌else◌, refl, ap, sym, ◌∙◌, subst, arith}
 use Rattle.std.specs.Prelude.{◌==◌}
 use Rattle.std.proofs.lemmas.Bool.{eq-eqb}
 use Rattle.cms_model.specs.Lists.{In, times}
 use Rattle.cms_model.specs.Trees.{Image}
 use Rattle.cms_model.specs.Settled.{Write, Apart}
 use Rattle.cms_model.specs.LawsUpdates.{put_block, put_blocks, AreWithin}
-use Rattle.cms_model.proofs.Repeats.{bit, hit, times_append}
+use Rattle.cms_model.proofs.Repeats.{times_append, times_first, times_later}
 use Rattle.cms_model.proofs.Putting.{apart_is_kept}
 use Rattle.cms_tree.specs.Builds.{node_bytes, nodes_over}
 use Rattle.cms_held.specs.Opening.{HeldTree}
@@ -55,27 +55,23 @@ system_times bsize s n =
 
 -- ---- what is written, and what isn't
 
-first_times : (n : ℕ) (ns : List ℕ) → times n (n ∷ ns) ≡ suc (times n ns)
-unfolding times
-first_times n ns = let one : bit (n == n) ≡ 1 = hit (n == n) (eq-eqb n n refl) in omega arith
-
-later_times : (n x : ℕ) (ns : List ℕ) → times n ns ≤ times n (x ∷ ns)
-unfolding times
-later_times n x ns = omega arith
-
 pub apart_of : (ws : List Write) (ns : List ℕ) → ((n : ℕ) → In n ns → times n (blocks_written ws) ≡ 0) → Apart ws ns
 apart_of [] ns none = tt
-apart_of (w ∷ ws) ns none =
-    (λ in'. (let no' = none w.block in' in absurd (omega (arith, first_times w.block (blocks_written ws)))), apart_of ws ns (λ n in'. (let no' = none n in' in omega (arith, later_times n w.block (blocks_written ws)))))
+apart_of (w ∷ ws) ns none = (
+  λ in'. (let no' = none w.block in' in absurd (omega (arith, times_first w.block (blocks_written ws)))),
+  apart_of ws ns
+      (λ n in'. (let no' = none n in' in omega (arith, times_later n w.block (blocks_written ws)))),
+)
 
 pub within_of : (count : ℕ) (ws : List Write) → ((n : ℕ) → 1 ≤ times n (blocks_written ws) → (1 ≤ n) × (n ≤ count)) → AreWithin count ws
 within_of count [] each = tt
 within_of count (w ∷ ws) each =
-    let here = each w.block (omega (arith, first_times w.block (blocks_written ws))) in
-    (here.0, here.1, within_of count ws (λ n some. each n (omega (arith, later_times n w.block (blocks_written ws)))))
+    let here = each w.block (omega (arith, times_first w.block (blocks_written ws))) in
+    (here.0, here.1, within_of count ws (λ n some. each n (omega (arith, times_later n w.block (blocks_written ws)))))
 
 pub put_aside : (image : Image) (ws : List Write) (n : ℕ) → times n (blocks_written ws) ≡ 0 → put_blocks image ws n ≡ image n
-put_aside image ws n none = sym (apart_is_kept image ws (n ∷ []) (apart_of ws (n ∷ []) (λ k in'. ⊎_elim (λ (is : k ≡ n). subst (λ (x : ℕ). times x (blocks_written ws) ≡ 0) (sym is) none) (λ (no' : ⊥). absurd no') in')) n (inl refl))
+put_aside image ws n none = sym (apart_is_kept image ws (n ∷ [])
+    (apart_of ws (n ∷ []) (λ k in'. ⊎_elim (λ (is : k ≡ n). subst (λ (x : ℕ). times x (blocks_written ws) ≡ 0) (sym is) none) (λ (no' : ⊥). absurd no') in')) n (inl refl))
 
 put_here : (image : Image) (w : Write) → put_block image w w.block ≡ w.bytes
 put_here image w = rw (eq-eqb w.block w.block refl) refl
@@ -85,14 +81,17 @@ pub has_written : (image : Image) (ws : List Write) → ((n : ℕ) → times n (
 has_written image [] once = tt
 has_written image (w ∷ ws) once =
     let most = once w.block in (
-      put_aside (put_block image w) ws w.block (omega (arith, first_times w.block (blocks_written ws))) ∙ put_here image w,
-      has_written (put_block image w) ws (λ n. (let few = once n in omega (arith, later_times n w.block (blocks_written ws)))),
+      put_aside (put_block image w) ws w.block (omega (arith, times_first w.block (blocks_written ws))) ∙ put_here image w,
+      has_written (put_block image w) ws (λ n. (let few = once n in omega (arith, times_later n w.block (blocks_written ws)))),
     )
 
 pub written_same : (before later : Image) (ws : List Write) → ((n : ℕ) → 1 ≤ times n (blocks_written ws) → before n ≡ later n) → HasWritten before ws → HasWritten later ws
 written_same before later [] same has = tt
-written_same before later (w ∷ ws) same has =
-    (sym (same w.block (omega (arith, first_times w.block (blocks_written ws)))) ∙ has.0, written_same before later ws (λ n some. same n (omega (arith, later_times n w.block (blocks_written ws)))) has.1)
+written_same before later (w ∷ ws) same has = (
+  sym (same w.block (omega (arith, times_first w.block (blocks_written ws))))
+      ∙ has.0,
+  written_same before later ws (λ n some. same n (omega (arith, times_later n w.block (blocks_written ws)))) has.1,
+)
 
 -- blocks stay as long as they were
 pub put_long : (bsize : ℕ) (image : Image) (ws : List Write) (n : ℕ) → AreBlocks bsize ws → length (image n) ≡ bsize → length (put_blocks image ws n) ≡ bsize

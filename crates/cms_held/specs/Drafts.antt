@@ -39,12 +39,16 @@ abbrev pub starts_from : ℕ → List (List ℕ) → List ℕ
 starts_from place [] = []
 starts_from place (text ∷ more) = place ∷ starts_from (place + (2 + length text)) more
 
+-- the place in the mark of a data block in which no record begins
+abbrev pub nowhere : ℕ
+nowhere = 0xFFFFFFFF
+
 -- the mark of data block k: how many records begin up to its end, and where in it the first does
 abbrev pub mark_of : ℕ → List ℕ → ℕ → Mark
 mark_of bsize starts k = record {
   last = count_by (λ place. nat_lt place ((k + 1) * bsize)) starts;
   place = option_map_or (λ place. place - k * bsize)
-      (find (λ place. nat_le (k * bsize) place && nat_lt place ((k + 1) * bsize)) starts) 0xFFFFFFFF;
+      (find (λ place. nat_le (k * bsize) place && nat_lt place ((k + 1) * bsize)) starts) nowhere;
 }
 
 -- ---- a finished draft

@@ -5,6 +5,7 @@ use Rattle.cms_names.specs.declared.name.Name.{Name}
 use Rattle.cms_model.specs.Trees.{Image}
 use Rattle.cms_fields.specs.Labels.{with_label}
 use Rattle.cms_fields.specs.declared.label.Label.{Label}
+use Rattle.cms_fields.specs.Limits.{most_files}
 use Rattle.cms_model.specs.Minidisks.{Minidisk}
 use Rattle.cms_model.specs.Changes.{Change, Put, Add, Drop, Rename, Relabel, Changed, Full, answer_of, changed, changed_files}
 use Rattle.cms_model.specs.Stands.{Kept, Layout, file_of, minidisk_in, opened}
@@ -65,7 +66,7 @@ pub record IsAnswered (m : Minidisk) (change : Change) (need free : ℕ) : Type 
 abbrev pub EditIsAnswered : Type 0
 EditIsAnswered =
     (j : Journal) (v : HeldVolume) (old : Layout) (change : Change) → IsHeldAt j v old → IsEdit change
-    → length (changed_files (map file_of old.files) change) ≤ 16384
+    → length (changed_files (map file_of old.files) change) ≤ most_files
     → IsAnswered (minidisk_in v.disk old) change (needed v (length (changed_files (map file_of old.files) change)))
     (length (free_blocks v.bits))
 

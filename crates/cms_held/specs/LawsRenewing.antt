@@ -5,6 +5,7 @@ use Rattle.cms_journal.specs.declared.event.Event.{Event}
 use Rattle.cms_fields.specs.Entries.{passes}
 use Rattle.cms_fields.specs.Stamps.{is_stamp}
 use Rattle.cms_fields.specs.declared.time.Stamp.{Stamp}
+use Rattle.cms_fields.specs.Limits.{most_files}
 use Rattle.cms_model.specs.Lists.{In, times}
 use Rattle.cms_model.specs.Trees.{Image}
 use Rattle.cms_model.specs.Volumes.{Disk}
@@ -55,7 +56,7 @@ FrontKeepsHeld =
 
 -- an edit leaves these files, whose blocks are the old files', without those that it gives back and with those that it takes
 pub record LeavesFiles (before later : Image) (v : HeldVolume) (edit : Edit) (old : Layout) (files : List Kept) : Type 0 where
-  pub few : length files ≤ 16384
+  pub few : length files ≤ most_files
   pub pass : All (λ e. passes v.disk.bsize e ≡ true) (entries_in files)
   pub back : All ReadsBack (entries_in files)
   pub names : HaveNames files

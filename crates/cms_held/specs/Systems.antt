@@ -9,6 +9,7 @@ use Rattle.cms_fields.specs.Entries.{passes, filled_in}
 use Rattle.cms_fields.specs.declared.time.Stamp.{Stamp}
 use Rattle.cms_fields.specs.declared.label.Label.{Label}
 use Rattle.cms_fields.specs.declared.entry.Entry.{Entry}
+use Rattle.cms_fields.specs.Limits.{most_files}
 use Rattle.cms_model.specs.Lists.{times, cut}
 use Rattle.cms_model.specs.Maps.{is_marked}
 use Rattle.cms_model.specs.Sizes.{levels, pointer_count}
@@ -99,7 +100,7 @@ pub record IsLaidOut (disk : Disk) (s : Systems) (entries : List Entry) : Type 0
   pub spells : label_of disk.bsize disk.count s.label_bytes ≡ Ok s.label
   pub label_long : length s.label_bytes ≡ disk.bsize
   pub blocks : s.label.blocks < 2 ^ 32
-  pub few : length entries ≤ 16384
+  pub few : length entries ≤ most_files
   pub each : All (λ e. passes disk.bsize e ≡ true) entries
   pub back : All ReadsBack entries
   pub first : (more : List ℕ) × (s.directory.leaves ≡ s.label.origin ∷ more) × All (λ n. (6 ≤ n) × (n ≤ s.label.blocks)) more

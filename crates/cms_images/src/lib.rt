@@ -1,6 +1,7 @@
 //! Images for tests, made byte by byte from the layout of a volume, not by the program. No part of the product.
 #![tactic(auto)]
 
+mod disk;
 mod edits;
 pub mod hello;
 pub mod known;
@@ -8,6 +9,7 @@ mod many;
 mod new_volume;
 mod wide;
 
+pub use disk::{Disk, Event, world_of};
 pub use edits::{Edit, edited, put_edits};
 pub use many::many_files;
 pub use new_volume::{Made, formatted};

@@ -29,7 +29,7 @@ pub fn put_number(image: &mut [u8], start: usize, number: u32) {
     put_at(image, start, &number.to_be_bytes());
 }
 
-// Puts the entry of a file of one block: its name, the length and the count of its records, and its block.
+/// Puts the entry of a file of one block: its name, the length and the count of its records, and its block.
 pub fn put_entry(
     image: &mut [u8],
     start: usize,
@@ -52,13 +52,13 @@ pub fn put_entry(
     );
 }
 
-// The four digits of a number below 10,000, in EBCDIC.
+/// The four digits of a number below 10,000, in EBCDIC.
 pub fn digits(number: u32) -> [u8; 4] {
     let digit = |power: u32| 0xF0 + (number / power % 10) as u8;
     [digit(1000), digit(100), digit(10), digit(1)]
 }
 
-// FILEnnnn TEXT, for a number.
+/// FILEnnnn TEXT, for a number.
 pub fn name_of(number: u32) -> [u8; 16] {
     let mut name = FILE;
     put_at(&mut name, 4, &digits(number));
@@ -75,7 +75,7 @@ pub fn put_marks(image: &mut [u8], start: usize, last: u32) {
     }
 }
 
-// Puts the label of TEST01 on so many blocks.
+/// Puts the label of TEST01 on so many blocks.
 pub fn put_label(image: &mut [u8], bsize: u32, blocks: u32) {
     let label = start_of(bsize, 3);
     put_at(

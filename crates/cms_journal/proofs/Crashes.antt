@@ -18,7 +18,8 @@ left_now (Typed bytes ∷ older) u k first = left_now older u k first
 left_now (Missed name size access ∷ older) u k first = left_now older u k first
 
 -- after a sync and no later write it leaves nothing else
-pub left_only : (later events : List Event) (u k : ℕ) (first block : List ℕ) → NoneWrote later u → MayBeLeft (later ++ Synced u ∷ events) u k first block → block ≡ block_after (later ++ Synced u ∷ events) u k first
+pub left_only : (later events : List Event) (u k : ℕ) (first block : List ℕ) → NoneWrote later u → MayBeLeft (later ++ Synced u ∷ events) u k first block
+    → block ≡ block_after (later ++ Synced u ∷ events) u k first
 left_only [] events u k first block none left = grind (arith, nat_tests, eqb_tells u u, left)
 left_only (Wrote v w bytes ∷ later) events u k first block none left = let ih = left_only later events u k first block none.1 in grind (arith, nat_tests, eqb_tells v u, eqb_tells w k, ih, left)
 left_only (Synced v ∷ later) events u k first block none left = let ih = left_only later events u k first block none in grind (arith, nat_tests, eqb_tells v u, ih, left)
@@ -51,7 +52,8 @@ unwritten_now (Missed name size access ∷ older) u k first none = unwritten_now
 pub unwritten_left : (events : List Event) (u k : ℕ) (first block : List ℕ) → NoneWrote events u → MayBeLeft events u k first block → block ≡ first
 unwritten_left [] u k first block none left = grind (arith, left)
 unwritten_left (Wrote v w bytes ∷ older) u k first block none left = let ih = unwritten_left older u k first block none.1 in grind (arith, nat_tests, eqb_tells v u, ih, left)
-unwritten_left (Synced v ∷ older) u k first block none left = let ih = unwritten_left older u k first block none in let now = unwritten_now older u k first none in grind (arith, nat_tests, eqb_tells v u, ih, now, left)
+unwritten_left (Synced v ∷ older) u k first block none left = let ih = unwritten_left older u k first block none in let now = unwritten_now older u k first none in
+    grind (arith, nat_tests, eqb_tells v u, ih, now, left)
 unwritten_left (Read bytes ∷ older) u k first block none left = unwritten_left older u k first block none left
 unwritten_left (Now t ∷ older) u k first block none left = unwritten_left older u k first block none left
 unwritten_left (Typed bytes ∷ older) u k first block none left = unwritten_left older u k first block none left
@@ -62,7 +64,8 @@ pub length-blocks_after : (events : List Event) (u k : ℕ) (start : List (List 
 length-blocks_after events u k [] = refl
 length-blocks_after events u k (first ∷ rest) = ap suc (length-blocks_after events u (k + 1) rest)
 
-pub get-blocks_after : (events : List Event) (u k : ℕ) (start : List (List ℕ)) (i : ℕ) → i < length start → slice_index_or (blocks_after events u k start) i [] ≡ block_after events u (k + i) (slice_index_or start i [])
+pub get-blocks_after : (events : List Event) (u k : ℕ) (start : List (List ℕ)) (i : ℕ) → i < length start
+    → slice_index_or (blocks_after events u k start) i [] ≡ block_after events u (k + i) (slice_index_or start i [])
 get-blocks_after events u k [] i within = grind arith
 get-blocks_after events u k (first ∷ rest) zero within = grind arith
 get-blocks_after events u k (first ∷ rest) (suc i) within = let ih = get-blocks_after events u (k + 1) rest i in grind (arith, ih)
@@ -71,7 +74,8 @@ pub length-contents : (events : List Event) (u : ℕ) (start : List (List ℕ)) 
 length-contents events u start = length-blocks_after events u 1 start
 
 -- block k + 1 of the contents
-pub get-contents : (events : List Event) (u : ℕ) (start : List (List ℕ)) (k : ℕ) → k < length start → slice_index_or (contents events u start) k [] ≡ block_after events u (k + 1) (slice_index_or start k [])
+pub get-contents : (events : List Event) (u : ℕ) (start : List (List ℕ)) (k : ℕ) → k < length start
+    → slice_index_or (contents events u start) k [] ≡ block_after events u (k + 1) (slice_index_or start k [])
 get-contents events u start k within = rw (add_comm k 1) (get-blocks_after events u 1 start k within)
 
 -- blocks that are as the unit's, one by one, are its contents

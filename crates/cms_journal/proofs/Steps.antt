@@ -99,7 +99,8 @@ contents_wrote events u k bytes start first =
     let one = get-contents (Wrote u k bytes ∷ events) u start j within in
     let two = get-contents events u start j within in
     let len = length-blocks_after events u 1 start in
-    set_read (contents events u start) (k - 1) j bytes _ _ one two (omega (arith, len, within)) (eqb_tells j (k - 1)) (λ same. block_here events u k (j + 1) bytes _ (omega (arith, same))) (λ other. block_there events u k (j + 1) bytes _ (λ e. other (omega (arith, e)))))
+    set_read (contents events u start) (k - 1) j bytes _ _ one two (omega (arith, len, within)) (eqb_tells j (k - 1)) (λ same. block_here events u k (j + 1) bytes _ (omega (arith, same)))
+    (λ other. block_there events u k (j + 1) bytes _ (λ e. other (omega (arith, e)))))
 
 -- a crash after a write may leave what it might have left before
 pub crash_old : (events : List Event) (u k : ℕ) (bytes : List ℕ) (start image : List (List ℕ)) → IsCrashImage events u start image → IsCrashImage (Wrote u k bytes ∷ events) u start image
@@ -109,7 +110,8 @@ crash_old events u k bytes start image crash = record {
 }
 
 -- and the same with the bytes in the block
-crash_new_at : (events : List Event) (u i : ℕ) (bytes : List ℕ) (start image : List (List ℕ)) → IsCrashImage events u start image → IsCrashImage (Wrote u (i + 1) bytes ∷ events) u start (slice_set image i bytes)
+crash_new_at : (events : List Event) (u i : ℕ) (bytes : List ℕ) (start image : List (List ℕ)) → IsCrashImage events u start image
+    → IsCrashImage (Wrote u (i + 1) bytes ∷ events) u start (slice_set image i bytes)
 crash_new_at events u i bytes start image crash = record {
   same_length = length-set image i bytes ∙ crash.same_length;
   each = λ j within. elim (eqb_tells j i) [
@@ -121,7 +123,8 @@ crash_new_at events u i bytes start image crash = record {
   ];
 }
 
-pub crash_new : (events : List Event) (u k : ℕ) (bytes : List ℕ) (start image : List (List ℕ)) → 1 ≤ k → IsCrashImage events u start image → IsCrashImage (Wrote u k bytes ∷ events) u start (slice_set image (k - 1) bytes)
+pub crash_new : (events : List Event) (u k : ℕ) (bytes : List ℕ) (start image : List (List ℕ)) → 1 ≤ k → IsCrashImage events u start image
+    → IsCrashImage (Wrote u k bytes ∷ events) u start (slice_set image (k - 1) bytes)
 crash_new events u k bytes start image first crash =
     let same : (k - 1) + 1 ≡ k = omega arith in
     subst (λ (m : ℕ). IsCrashImage (Wrote u m bytes ∷ events) u start (slice_set image (k - 1) bytes)) same (crash_new_at events u (k - 1) bytes start image crash)

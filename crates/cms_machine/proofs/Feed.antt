@@ -22,7 +22,8 @@ extended-append u a b = ap (λ (c : List ℕ). record { within = u.within; bytes
 
 -- ---- one beat
 
-pub feed_one : {R : Type 0} (t v : Act R) (d : Deed) (es : List Event) (p m : Point) → Next t d v → Fits d es → OnConsole d es p m → (more : List ℕ) (e : Bool) → Goes m.ended more e → (ms : List ℤ) (os : List Outcome)
+pub feed_one : {R : Type 0} (t v : Act R) (d : Deed) (es : List Event) (p m : Point) → Next t d v → Fits d es → OnConsole d es p m → (more : List ℕ) (e : Bool) → Goes m.ended more e
+    → (ms : List ℤ) (os : List Outcome)
     → feed t (items (extended (extended p.unread (script es)) more) e) e (moments es ++ ms) (outcome_of d ++ os) ≡ prepend (shown_by d) (feed v (items (extended m.unread more) e) e ms os)
 feed_one (Out b t) v (Said c) es p m n fits console more e goes ms os =
     let silent = typed_silent es fits.0 in
@@ -113,8 +114,11 @@ feed_beats t u p q [] chain leads more e goes ms os =
 feed_beats t u p q (b ∷ bs) chain leads more e goes ms os =
     let m = chain.0 in
     let on = feed_beats leads.0 u m q bs chain.2 leads.2 more e goes ms os in
-    let one = feed_one t leads.0 b.deed b.piece p m leads.1 chain.1.fits chain.1.console (script (pieces bs) ++ more) e (goes_on m q bs chain.2 more e goes) (moments (pieces bs) ++ ms) (outcomes bs ++ os) in
-    let es : extended p.unread (script (b.piece ++ pieces bs) ++ more) ≡ extended (extended p.unread (script b.piece)) (script (pieces bs) ++ more) = ap (extended p.unread) (ap (λ (z : List ℕ). z ++ more) (script-append b.piece (pieces bs)) ∙ append_assoc (script b.piece) (script (pieces bs)) more) ∙ sym (extended-append p.unread (script b.piece) (script (pieces bs) ++ more)) in
+    let one = feed_one t leads.0 b.deed b.piece p m leads.1 chain.1.fits chain.1.console (script (pieces bs) ++ more) e (goes_on m q bs chain.2 more e goes) (moments (pieces bs) ++ ms)
+    (outcomes bs ++ os) in
+    let es : extended p.unread (script (b.piece ++ pieces bs) ++ more) ≡ extended (extended p.unread (script b.piece)) (script (pieces bs) ++ more) =
+    ap (extended p.unread) (ap (λ (z : List ℕ). z ++ more) (script-append b.piece (pieces bs)) ∙ append_assoc (script b.piece) (script (pieces bs)) more)
+    ∙ sym (extended-append p.unread (script b.piece) (script (pieces bs) ++ more)) in
     let em : moments (b.piece ++ pieces bs) ++ ms ≡ moments b.piece ++ (moments (pieces bs) ++ ms) = rw (moments-append, append_assoc) refl in
     let eo : (outcome_of b.deed ++ outcomes bs) ++ os ≡ outcome_of b.deed ++ (outcomes bs ++ os) = append_assoc (outcome_of b.deed) (outcomes bs) os in
     rw (es, em, eo, one, on, append_assoc) refl

@@ -75,7 +75,8 @@ return_one (b ∷ c ∷ bytes) = let h = return_one (c ∷ bytes) in omega (arit
 
 -- ---- items by parts
 
-part_rest : (within : ℕ) (part : List ℕ) (parts : List (List ℕ)) (first : List ℕ) (others : List (List ℕ)) (e : Bool) → parts ≡ first ∷ others → part_items within (part ∷ parts) e ≡ items_left within (without_return part) ++ part_items 0 parts e
+part_rest : (within : ℕ) (part : List ℕ) (parts : List (List ℕ)) (first : List ℕ) (others : List (List ℕ)) (e : Bool) → parts ≡ first ∷ others
+    → part_items within (part ∷ parts) e ≡ items_left within (without_return part) ++ part_items 0 parts e
 part_rest within part parts first others e are = rw are refl
 
 -- a line with its line feed
@@ -112,7 +113,8 @@ long_items bytes long = let t : nat_le (length bytes) 255 ≡ false = grind (ari
 pub short_items : (bytes : List ℕ) → length bytes ≤ 255 → line_items bytes ≡ short_line bytes ∷ []
 short_items bytes short = let t : nat_le (length bytes) 255 ≡ true = grind (arith, nat_tests) in rw t refl
 
-pub items_beyond : (part : List ℕ) (others : List (List ℕ)) (e : Bool) → 255 < length (content part others e) → part_items 0 (part ∷ others) e ≡ (Long ∷ rests 0 (length (content part others e))) ++ behind others e
+pub items_beyond : (part : List ℕ) (others : List (List ℕ)) (e : Bool) → 255 < length (content part others e)
+    → part_items 0 (part ∷ others) e ≡ (Long ∷ rests 0 (length (content part others e))) ++ behind others e
 items_beyond [] [] true long = absurd (omega arith)
 items_beyond (b ∷ part) [] true long = long_items (b ∷ part) long ∙ sym (append-nil (Long ∷ rests 0 (length (b ∷ part))))
 items_beyond part [] false long =

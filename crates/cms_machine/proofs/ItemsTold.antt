@@ -30,7 +30,11 @@ rests_front within m n behind_it le =
     let a : ℕ = (m - (255 - within) + (255 - 1)) / 255 in
     let b : ℕ = (n - (255 - within) + (255 - 1)) / 255 in
     let d : b ≡ a + (b - a) = omega arith in
-    record { further = replicate (b - a) Rest ++ behind_it; is = ap (λ (z : ℕ). replicate z Rest ++ behind_it) d ∙ ap (λ (z : List Item). z ++ behind_it) (times_more a (b - a)) ∙ append_assoc (replicate a Rest) (replicate (b - a) Rest) behind_it }
+    record {
+      further = replicate (b - a) Rest ++ behind_it;
+      is =
+          ap (λ (z : ℕ). replicate z Rest ++ behind_it) d ∙ ap (λ (z : List Item). z ++ behind_it) (times_more a (b - a)) ∙ append_assoc (replicate a Rest) (replicate (b - a) Rest) behind_it;
+    }
 
 -- ---- parts of bytes that go on
 
@@ -57,10 +61,12 @@ split_join (b ∷ bytes) more =
     let p = parts bytes in
     let ih : slice_split feed (bytes ++ more) ≡ join (slice_split feed bytes) (slice_split feed more) = split_join bytes more in
     elim (b == 10) as (λ t. (b == 10) ≡ t → slice_split feed (b ∷ (bytes ++ more)) ≡ join (slice_split feed (b ∷ bytes)) (slice_split feed more)) [
-      | true ↦ λ e. split_at_feed b (bytes ++ more) e ∙ ap (λ (z : List (List ℕ)). [] ∷ z) ih ∙ sym (ap (λ (z : List (List ℕ)). join z (slice_split feed more)) (split_at_feed b bytes e) ∙ join_end p.others (slice_split feed more) p.first (slice_split feed bytes) p.are)
+      | true ↦ λ e. split_at_feed b (bytes ++ more) e ∙ ap (λ (z : List (List ℕ)). [] ∷ z) ih
+          ∙ sym (ap (λ (z : List (List ℕ)). join z (slice_split feed more)) (split_at_feed b bytes e) ∙ join_end p.others (slice_split feed more) p.first (slice_split feed bytes) p.are)
       | false ↦ λ e.
           let q = parts (bytes ++ more) in
-          split_other b (bytes ++ more) q.first q.others e q.are ∙ sym (ap (onto_first b) q.are) ∙ ap (onto_first b) (ih ∙ ap (λ (z : List (List ℕ)). join z (slice_split feed more)) p.are) ∙ sym (join_onto b p.others (slice_split feed more) p.first) ∙ sym (ap (λ (z : List (List ℕ)). join z (slice_split feed more)) (split_other b bytes p.first p.others e p.are))
+          split_other b (bytes ++ more) q.first q.others e q.are ∙ sym (ap (onto_first b) q.are) ∙ ap (onto_first b) (ih ∙ ap (λ (z : List (List ℕ)). join z (slice_split feed more)) p.are)
+          ∙ sym (join_onto b p.others (slice_split feed more) p.first) ∙ sym (ap (λ (z : List (List ℕ)). join z (slice_split feed more)) (split_other b bytes p.first p.others e p.are))
     ] refl
 
 -- ---- what is told stays
@@ -91,12 +97,16 @@ last_front zero part first others e =
     (λ (long : 255 < length (without_return part)).
     let l : items_sure 0 (without_return part) ≡ Long ∷ rests 0 (length (without_return part)) = long_sure (without_return part) long in
     let b : part_items 0 ((part ++ first) ∷ others) e ≡ (Long ∷ rests 0 (length (content (part ++ first) others e))) ++ behind others e = items_beyond (part ++ first) others e (omega arith) in
-    subst (λ (z : List Item). IsFront (items_sure 0 (without_return part)) z) (sym b) (subst (λ (z : List Item). IsFront z ((Long ∷ rests 0 (length (content (part ++ first) others e))) ++ behind others e)) (sym l) (long_front (length (without_return part)) (length (content (part ++ first) others e)) (behind others e) grows)))
-    (λ (short : length (without_return part) ≤ 255). subst (λ (z : List Item). IsFront z (part_items 0 ((part ++ first) ∷ others) e)) (sym (short_sure (without_return part) short)) (no_front (part_items 0 ((part ++ first) ∷ others) e)))
+    subst (λ (z : List Item). IsFront (items_sure 0 (without_return part)) z) (sym b)
+    (subst (λ (z : List Item). IsFront z ((Long ∷ rests 0 (length (content (part ++ first) others e))) ++ behind others e)) (sym l)
+    (long_front (length (without_return part)) (length (content (part ++ first) others e)) (behind others e) grows)))
+    (λ (short : length (without_return part) ≤ 255). subst (λ (z : List Item). IsFront z (part_items 0 ((part ++ first) ∷ others) e)) (sym (short_sure (without_return part) short))
+    (no_front (part_items 0 ((part ++ first) ∷ others) e)))
     (cases_lt 255 (length (without_return part)))
 last_front (suc within) part first others e =
     let grows : length (without_return part) ≤ length (content (part ++ first) others e) = content_grows part first others e in
-    subst (λ (z : List Item). IsFront (rests (suc within) (length (without_return part))) z) (sym (items_within within (part ++ first) others e)) (rests_front (suc within) (length (without_return part)) (length (content (part ++ first) others e)) (behind others e) grows)
+    subst (λ (z : List Item). IsFront (rests (suc within) (length (without_return part))) z) (sym (items_within within (part ++ first) others e))
+    (rests_front (suc within) (length (without_return part)) (length (content (part ++ first) others e)) (behind others e) grows)
 
 record Joined (xs ys : List (List ℕ)) : Type 0 where
   first : List ℕ
@@ -109,7 +119,8 @@ joined x [] y ys = record { first = x ++ y; others = ys; are = refl }
 joined x (z ∷ xs) y ys = record { first = x; others = join (z ∷ xs) (y ∷ ys); are = refl }
 
 -- a whole line, and the items of the others
-whole_first : (within : ℕ) (x z : List ℕ) (xs : List (List ℕ)) (y : List ℕ) (ys : List (List ℕ)) (e : Bool) → part_items within (join (x ∷ z ∷ xs) (y ∷ ys)) e ≡ items_left within (without_return x) ++ part_items 0 (join (z ∷ xs) (y ∷ ys)) e
+whole_first : (within : ℕ) (x z : List ℕ) (xs : List (List ℕ)) (y : List ℕ) (ys : List (List ℕ)) (e : Bool)
+    → part_items within (join (x ∷ z ∷ xs) (y ∷ ys)) e ≡ items_left within (without_return x) ++ part_items 0 (join (z ∷ xs) (y ∷ ys)) e
 unfolding join
 whole_first within x z xs y ys e = let j = joined z xs y ys in let a : join (z ∷ xs) (y ∷ ys) ≡ j.first ∷ j.others = j.are in rw a refl
 
@@ -127,7 +138,8 @@ told_front u more e =
     let p = parts u.bytes in
     let q = parts more in
     let f = parts_front u.within p.first p.others q.first q.others e in
-    let s : slice_split feed (u.bytes ++ more) ≡ join (p.first ∷ p.others) (q.first ∷ q.others) = split_join u.bytes more ∙ ap (λ (z : List (List ℕ)). join z (slice_split feed more)) p.are ∙ ap (join (p.first ∷ p.others)) q.are in
+    let s : slice_split feed (u.bytes ++ more) ≡ join (p.first ∷ p.others) (q.first ∷ q.others) =
+    split_join u.bytes more ∙ ap (λ (z : List (List ℕ)). join z (slice_split feed more)) p.are ∙ ap (join (p.first ∷ p.others)) q.are in
     (f.further, ap (λ (z : List (List ℕ)). part_items u.within z e) s ∙ f.is ∙ ap (λ (z : List (List ℕ)). part_items u.within z false ++ f.further) (sym p.are))
 
 -- ---- and nothing else is told: two ways to go on have no further item in common
@@ -169,11 +181,13 @@ one_only : (x y item : Item) (k : ℕ) (more : List Item) → (x ≡ y → ⊥) 
 one_only x y item zero more differ a b = differ (cc)
 one_only x y item (suc k) more differ a b = cc
 
-last_only : (within : ℕ) (x : List ℕ) (k : ℕ) (item : Item) → slice_get (part_items within ((x ++ []) ∷ [] ∷ []) true) k ≡ Some item → slice_get (part_items within ((x ++ letters) ∷ []) true) k ≡ Some item → k < length (items_sure within (without_return x))
+last_only : (within : ℕ) (x : List ℕ) (k : ℕ) (item : Item) → slice_get (part_items within ((x ++ []) ∷ [] ∷ []) true) k ≡ Some item
+    → slice_get (part_items within ((x ++ letters) ∷ []) true) k ≡ Some item → k < length (items_sure within (without_return x))
 last_only zero x k item a b =
     let line : part_items 0 ((x ++ []) ∷ [] ∷ []) true ≡ line_items (without_return x) = ended_line 0 x in
     ⊎_elim
-    (λ (long : 255 < length (without_return x)). same_within (part_items 0 ((x ++ []) ∷ [] ∷ []) true) (items_sure 0 (without_return x)) k item (line ∙ long_items (without_return x) long ∙ sym (long_sure (without_return x) long)) a)
+    (λ (long : 255 < length (without_return x)). same_within (part_items 0 ((x ++ []) ∷ [] ∷ []) true) (items_sure 0 (without_return x)) k item
+    (line ∙ long_items (without_return x) long ∙ sym (long_sure (without_return x) long)) a)
     (λ (short : length (without_return x) ≤ 255).
     let l : 255 < length (x ++ letters) = omega (arith, length-append x letters, letters_length) in
     absurd (one_only (short_line (without_return x)) Long item k (rests 0 (length (x ++ letters)) ++ []) (short_not_long (without_return x))
@@ -199,9 +213,11 @@ unfolding items
 told_only u place item told =
     let p = parts u.bytes in
     let feed_split : slice_split feed (u.bytes ++ 10 ∷ []) ≡ join (p.first ∷ p.others) ([] ∷ [] ∷ []) = split_join u.bytes (10 ∷ []) ∙ ap (λ (z : List (List ℕ)). join z ([] ∷ [] ∷ [])) p.are in
-    let long_split : slice_split feed (u.bytes ++ letters) ≡ join (p.first ∷ p.others) (letters ∷ []) = split_join u.bytes letters ∙ ap (λ (z : List (List ℕ)). join z (slice_split feed letters)) p.are ∙ ap (join (p.first ∷ p.others)) letters_split in
+    let long_split : slice_split feed (u.bytes ++ letters) ≡ join (p.first ∷ p.others) (letters ∷ []) =
+    split_join u.bytes letters ∙ ap (λ (z : List (List ℕ)). join z (slice_split feed letters)) p.are ∙ ap (join (p.first ∷ p.others)) letters_split in
     let at = λ (z : List (List ℕ)). slice_get (part_items u.within z true) place in
-    let h : place < length (part_items u.within (p.first ∷ p.others) false) = parts_only u.within p.first p.others place item (ap at (sym feed_split) ∙ told (10 ∷ [])) (ap at (sym long_split) ∙ told letters) in
+    let h : place < length (part_items u.within (p.first ∷ p.others) false) =
+    parts_only u.within p.first p.others place item (ap at (sym feed_split) ∙ told (10 ∷ [])) (ap at (sym long_split) ∙ told letters) in
     subst (λ (z : List (List ℕ)). place < length (part_items u.within z false)) (sym p.are) h
 
 get_front : (front further : List Item) (k : ℕ) → k < length front → slice_get (front ++ further) k ≡ slice_get front k

@@ -92,7 +92,17 @@ pub broke_then : {R : Type 0} {p m q : Point} {t u : Act R} → Ran p m t u → 
 broke_then a b = record { mid = b.mid; rest = b.rest; ran = ran_then a b.ran; loose = b.loose; part = b.part; journal = b.journal; faults = b.faults; units = b.units }
 
 pub broke_bind : {A B : Type 0} {p q : Point} {t : Act A} (f : A → Act B) → Broke p q t → Broke p q (bind t f)
-broke_bind f b = record { mid = b.mid; rest = bind b.rest f; ran = ran_bind f b.ran; loose = b.loose; part = part_bind b.mid b.rest f b.loose b.part; journal = b.journal; faults = b.faults; units = b.units }
+broke_bind f b = record {
+  mid = b.mid;
+  rest = bind b.rest f;
+  ran = ran_bind f b.ran;
+  loose = b.loose;
+  part = part_bind b.mid b.rest f b.loose b.part;
+  journal = b.journal;
+  faults = b.faults;
+  units =
+      b.units;
+}
 
 -- cut off at once, with these events
 pub broke_now : {R : Type 0} {p q : Point} {t : Act R} (es : List Event) → Part p t es → q.journal ≡ plus p.journal es → p.faults ≤ q.faults → q.units ≡ p.units → Broke p q t

@@ -23,7 +23,8 @@ here (Spent ∷ tr) u set x a = inl (refl, refl, a)
 here (States v new ∷ tr) u set x a = inl (refl, refl, a)
 
 -- at the start of a unit's set
-pub here_states : (v : ℕ) (new : Option Slot) (tr : List TraceItem) (u : ℕ) (set : List State) (x : State) → IsAmong x set ⊎ IsAmong x (last_set u set (states_in v new)) → Within (states_in v new ++ tr) 0 0 u set x
+pub here_states : (v : ℕ) (new : Option Slot) (tr : List TraceItem) (u : ℕ) (set : List State) (x : State) → IsAmong x set ⊎ IsAmong x (last_set u set (states_in v new))
+    → Within (states_in v new ++ tr) 0 0 u set x
 here_states v None tr u set x a = here tr u set x (⊎_elim (λ h. h) (λ h. h) a)
 here_states v (Some new) tr u set x (inl a) = inl (refl, refl, a)
 here_states v (Some new) tr u set x (inr a) = inr (here tr u _ x a)
@@ -61,7 +62,8 @@ inside_beat (Did s o) es p q fits e tr u set x a =
     rw (t, n) (here_states (unit_of s) (new_slot s o) tr u set x a)
 
 -- a mark past a unit's set
-past_states : (v : ℕ) (new : Option Slot) (tr : List TraceItem) (t n u : ℕ) (set : List State) (x : State) → Within tr t n u (last_set u set (states_in v new)) x → Within (states_in v new ++ tr) t n u set x
+past_states : (v : ℕ) (new : Option Slot) (tr : List TraceItem) (t n u : ℕ) (set : List State) (x : State) → Within tr t n u (last_set u set (states_in v new)) x
+    → Within (states_in v new ++ tr) t n u set x
 past_states v None tr t n u set x w = w
 past_states v (Some new) tr t n u set x w = inr w
 
@@ -113,12 +115,15 @@ law p q (b ∷ bs) chain sound e r eq u x leaves more =
     (λ i. rw append_assoc (inside_beat b.deed b.piece e i.0 beat.fits i.1 (trace bs ++ more) u (unit_set p.units u) x
     (⊎_elim inl (λ h. inr (subst (IsAmong x) sets h)) ((beat.covered sound u).inside e i.0 i.1 x leaves))))
     (λ i.
-    let there : Leaves (plus m.journal i.0) u x = subst (λ (j : Told). Leaves j u x) (ap (plus p.journal) i.1 ∙ sym (plus_plus p.journal b.piece i.0) ∙ ap (λ (j : Told). plus j i.0) (sym beat.journal)) leaves in
+    let there : Leaves (plus m.journal i.0) u x = subst (λ (j : Told). Leaves j u x)
+    (ap (plus p.journal) i.1 ∙ sym (plus_plus p.journal b.piece i.0) ∙ ap (λ (j : Told). plus j i.0) (sym beat.journal)) leaves in
     let on : Within (trace bs ++ more) (length (typed i.0)) (length (moments i.0)) u (unit_set m.units u) x = law m q bs chain.2 (sound_beat p m b beat sound) i.0 r i.2 u x there more in
     let set_on = subst (λ (s : List State). Within (trace bs ++ more) (length (typed i.0)) (length (moments i.0)) u s x) sets on in
     let past = past_beat b.deed b.piece beat.fits (trace bs ++ more) (length (typed i.0)) (length (moments i.0)) u (unit_set p.units u) x set_on in
-    let et : length (typed e) ≡ length (typed b.piece) + length (typed i.0) = ap (λ (z : List Event). length (typed z)) i.1 ∙ ap length (typed-append b.piece i.0) ∙ length-append (typed b.piece) (typed i.0) in
-    let en : length (moments e) ≡ length (moments b.piece) + length (moments i.0) = ap (λ (z : List Event). length (moments z)) i.1 ∙ ap length (moments-append b.piece i.0) ∙ length-append (moments b.piece) (moments i.0) in
+    let et : length (typed e) ≡ length (typed b.piece) + length (typed i.0) =
+    ap (λ (z : List Event). length (typed z)) i.1 ∙ ap length (typed-append b.piece i.0) ∙ length-append (typed b.piece) (typed i.0) in
+    let en : length (moments e) ≡ length (moments b.piece) + length (moments i.0) =
+    ap (λ (z : List Event). length (moments z)) i.1 ∙ ap length (moments-append b.piece i.0) ∙ length-append (moments b.piece) (moments i.0) in
     rw append_assoc (rw (et, en) past))
     (split e r b.piece (pieces bs) eq)
 

@@ -29,13 +29,15 @@ same_sets : (p m : Point) (u : ℕ) → m.units ≡ p.units → unit_set m.units
 same_sets p m u same = ap (λ (units : List Slot). unit_set units u) same
 
 -- the contents of each unit are as before
-now_kept : (p m : Point) (es : List Event) → m.journal ≡ plus p.journal es → m.units ≡ p.units → ((u : ℕ) → IsUntouched es u) → Sound p → (u : ℕ) (x : State) → HasNow m.journal u x → unit_state m.units u ≡ Some x
+now_kept : (p m : Point) (es : List Event) → m.journal ≡ plus p.journal es → m.units ≡ p.units → ((u : ℕ) → IsUntouched es u) → Sound p → (u : ℕ) (x : State) → HasNow m.journal u x
+    → unit_state m.units u ≡ Some x
 now_kept p m es journal units aside sound u x has =
     let before : HasNow p.journal u x = now_aside p.journal es u x (aside u) (subst (λ (t : Told). HasNow t u x) journal has) in
     ap (λ (z : List Slot). unit_state z u) units ∙ sound.now u x before
 
 -- bytes were typed
-pub ran_out : {R : Type 0} (p m : Point) (b : List ℕ) (t : Act R) (es : List Event) → m.journal ≡ plus p.journal es → OnlyTyped es → typed es ≡ b → p.faults ≤ m.faults → m.units ≡ p.units → KeepsConsole p m → Ran p m (Out b t) t
+pub ran_out : {R : Type 0} (p m : Point) (b : List ℕ) (t : Act R) (es : List Event) → m.journal ≡ plus p.journal es → OnlyTyped es → typed es ≡ b → p.faults ≤ m.faults → m.units ≡ p.units
+    → KeepsConsole p m → Ran p m (Out b t) t
 ran_out p m b t es journal only is later units console = ran_one p m (Out b t) t (record { deed = Said b; piece = es }) beat (refl, refl)
   where
     beat : Beats p (record { deed = Said b; piece = es }) m
@@ -51,7 +53,8 @@ ran_out p m b t es journal only is later units console = ran_one p m (Out b t) t
     }
 
 -- a turn was spent
-pub ran_turn : {R : Type 0} (p m : Point) (seconds : ℤ) (k : ℤ → Act R) → m.journal ≡ plus p.journal (Now seconds ∷ []) → p.faults ≤ m.faults → m.units ≡ p.units → KeepsConsole p m → Ran p m (Turn k) (k seconds)
+pub ran_turn : {R : Type 0} (p m : Point) (seconds : ℤ) (k : ℤ → Act R) → m.journal ≡ plus p.journal (Now seconds ∷ []) → p.faults ≤ m.faults → m.units ≡ p.units → KeepsConsole p m
+    → Ran p m (Turn k) (k seconds)
 ran_turn p m seconds k journal later units console = ran_one p m (Turn k) (k seconds) (record { deed = Turned seconds; piece = Now seconds ∷ [] }) beat refl
   where
     beat : Beats p (record { deed = Turned seconds; piece = Now seconds ∷ [] }) m
@@ -67,7 +70,8 @@ ran_turn p m seconds k journal later units console = ran_one p m (Turn k) (k sec
     }
 
 -- an item was taken, or the script's end was found
-pub ran_take : {R : Type 0} (p m : Point) (i : Option Item) (k : Option Item → Act R) (es : List Event) → m.journal ≡ plus p.journal es → OnlyRead es → p.faults ≤ m.faults → m.units ≡ p.units → Takes p.unread p.ended es i m.unread m.ended → Ran p m (Take k) (k i)
+pub ran_take : {R : Type 0} (p m : Point) (i : Option Item) (k : Option Item → Act R) (es : List Event) → m.journal ≡ plus p.journal es → OnlyRead es → p.faults ≤ m.faults → m.units ≡ p.units
+    → Takes p.unread p.ended es i m.unread m.ended → Ran p m (Take k) (k i)
 ran_take p m i k es journal only later units takes = ran_one p m (Take k) (k i) (record { deed = Took i; piece = es }) beat refl
   where
     beat : Beats p (record { deed = Took i; piece = es }) m
@@ -83,11 +87,13 @@ ran_take p m i k es journal only later units takes = ran_one p m (Take k) (k i) 
     }
 
 -- only a part of the bytes was typed
-pub broke_out : {R : Type 0} (p q : Point) (b : List ℕ) (t : Act R) (es : List Event) (more : List ℕ) → q.journal ≡ plus p.journal es → OnlyTyped es → typed es ++ more ≡ b → p.faults ≤ q.faults → q.units ≡ p.units → Broke p q (Out b t)
+pub broke_out : {R : Type 0} (p q : Point) (b : List ℕ) (t : Act R) (es : List Event) (more : List ℕ) → q.journal ≡ plus p.journal es → OnlyTyped es → typed es ++ more ≡ b → p.faults ≤ q.faults
+    → q.units ≡ p.units → Broke p q (Out b t)
 broke_out p q b t es more journal only is later units = broke_now es (only, (more, is)) journal later units
 
 -- it was read, and nothing could be taken
-pub broke_take : {R : Type 0} (p q : Point) (k : Option Item → Act R) (es : List Event) → q.journal ≡ plus p.journal es → OnlyRead es → Lazy p.unread p.ended es → p.faults ≤ q.faults → q.units ≡ p.units → Broke p q (Take k)
+pub broke_take : {R : Type 0} (p q : Point) (k : Option Item → Act R) (es : List Event) → q.journal ≡ plus p.journal es → OnlyRead es → Lazy p.unread p.ended es → p.faults ≤ q.faults
+    → q.units ≡ p.units → Broke p q (Take k)
 broke_take p q k es journal only lazy later units = broke_now es (only, lazy) journal later units
 
 -- nothing was done
@@ -110,7 +116,8 @@ pub covers_step : (p m : Point) (s : Step) (o : Outcome) (es : List Event) → O
     → Covers p.journal es (unit_of s) (unit_set p.units (unit_of s)) (unit_set m.units (unit_of s)) → (u : ℕ) → Covers p.journal es u (unit_set p.units u) (unit_set m.units u)
 covers_step p m s o es only units sound own u = elim (eqb_tells (unit_of s) u) [
   | inl same ↦ subst (λ (v : ℕ). Covers p.journal es v (unit_set p.units v) (unit_set m.units v)) same.1 own
-  | inr other ↦ covers_aside p es u (unit_set m.units u) (of_aside (unit_of s) es u other.1 only) (ap (λ (z : List Slot). unit_set z u) units ∙ other_set p.units (unit_of s) u (new_slot s o) other.1) sound
+  | inr other ↦ covers_aside p es u (unit_set m.units u) (of_aside (unit_of s) es u other.1 only)
+      (ap (λ (z : List Slot). unit_set z u) units ∙ other_set p.units (unit_of s) u (new_slot s o) other.1) sound
 ]
 
 -- behind it the contents of its own unit have the state of its slot
@@ -118,7 +125,8 @@ abbrev pub OwnNow : Point → ℕ → Type 0
 OwnNow m u = (x : State) → HasNow m.journal u x → unit_state m.units u ≡ Some x
 
 -- then so have those of each unit
-now_step : (p m : Point) (s : Step) (o : Outcome) (es : List Event) → m.journal ≡ plus p.journal es → OnlyOf (unit_of s) es → m.units ≡ units_after p.units s o → Sound p → OwnNow m (unit_of s) → (u : ℕ) → OwnNow m u
+now_step : (p m : Point) (s : Step) (o : Outcome) (es : List Event) → m.journal ≡ plus p.journal es → OnlyOf (unit_of s) es → m.units ≡ units_after p.units s o → Sound p → OwnNow m (unit_of s)
+    → (u : ℕ) → OwnNow m u
 now_step p m s o es journal only units sound own u = elim (eqb_tells (unit_of s) u) [
   | inl same ↦ subst (OwnNow m) same.1 own
   | inr other ↦ λ x has.
@@ -128,7 +136,8 @@ now_step p m s o es journal only units sound own u = elim (eqb_tells (unit_of s)
 ]
 
 -- a step was done, with this outcome
-pub ran_step_all : {R : Type 0} (p m : Point) (s : Step) (o : Outcome) (k : Outcome → Act R) (es : List Event) → m.journal ≡ plus p.journal es → Counted p.faults (faults_in (o ∷ [])) m.faults → FitsStep s o es
+pub ran_step_all : {R : Type 0} (p m : Point) (s : Step) (o : Outcome) (k : Outcome → Act R) (es : List Event) → m.journal ≡ plus p.journal es → Counted p.faults (faults_in (o ∷ [])) m.faults
+    → FitsStep s o es
     → IsOf s (slice_get p.units (unit_of s)) → m.units ≡ units_after p.units s o → KeepsConsole p m → (Sound p → (u : ℕ) → Covers p.journal es u (unit_set p.units u) (unit_set m.units u))
     → (Sound p → (u : ℕ) → OwnNow m u) → Ran p m (Does s k) (k o)
 ran_step_all p m s o k es journal counted fits speaks units console covered now = ran_one p m (Does s k) (k o) (record { deed = Did s o; piece = es }) beat (refl, refl)
@@ -150,7 +159,8 @@ pub ran_step : {R : Type 0} (p m : Point) (s : Step) (o : Outcome) (k : Outcome 
     → OnlyOf (unit_of s) es → FitsStep s o es → IsOf s (slice_get p.units (unit_of s)) → m.units ≡ units_after p.units s o → KeepsConsole p m
     → (Sound p → Covers p.journal es (unit_of s) (unit_set p.units (unit_of s)) (unit_set m.units (unit_of s))) → (Sound p → OwnNow m (unit_of s)) → Ran p m (Does s k) (k o)
 ran_step p m s o k es journal counted only fits speaks units console own own_now =
-    ran_step_all p m s o k es journal counted fits speaks units console (λ sound u. covers_step p m s o es only units sound (own sound) u) (λ sound u. now_step p m s o es journal only units sound (own_now sound) u)
+    ran_step_all p m s o k es journal counted fits speaks units console (λ sound u. covers_step p m s o es only units sound (own sound) u)
+    (λ sound u. now_step p m s o es journal only units sound (own_now sound) u)
 
 -- a step that adds no event and leaves the unit as it is
 pub ran_still : {R : Type 0} (p m : Point) (s : Step) (o : Outcome) (k : Outcome → Act R) → m.journal ≡ p.journal → Counted p.faults (faults_in (o ∷ [])) m.faults → sync_count s o ≡ 0 → IsOutcome s o
@@ -181,5 +191,6 @@ begun_by p s es only synced own own_now = record {
       };
 }
 
-pub broke_step : {R : Type 0} (p q : Point) (s : Step) (k : Outcome → Act R) (es : List Event) → q.journal ≡ plus p.journal es → Begun p s es → p.faults ≤ q.faults → q.units ≡ p.units → Broke p q (Does s k)
+pub broke_step : {R : Type 0} (p q : Point) (s : Step) (k : Outcome → Act R) (es : List Event) → q.journal ≡ plus p.journal es → Begun p s es → p.faults ≤ q.faults → q.units ≡ p.units
+    → Broke p q (Does s k)
 broke_step p q s k es journal begun later units = broke_now es begun journal later units

@@ -14,7 +14,8 @@ use Rattle.cms_machine.specs.Points.{Point}
 
 -- an element of a list in which another, or the same, was put
 pub get_same : (units : List Slot) (v u : ℕ) (new : Slot) → v < length units → u ≡ v → slice_get (slice_set units v new) u ≡ Some new
-get_same units v u new within same = let long = length-set units v new in let at = get_or-set_at units v u new new same within in let there = slice_get-get_or (slice_set units v new) u new (omega (arith, long, within, same)) in there ∙ ap Some at
+get_same units v u new within same = let long = length-set units v new in let at = get_or-set_at units v u new new same within in let there =
+    slice_get-get_or (slice_set units v new) u new (omega (arith, long, within, same)) in there ∙ ap Some at
 
 pub get_other : (units : List Slot) (v u : ℕ) (new : Slot) → u ≢ v → slice_get (slice_set units v new) u ≡ slice_get units u
 get_other units v u new other = elim (cases_lt u (length units)) [

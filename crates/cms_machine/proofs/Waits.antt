@@ -45,7 +45,8 @@ no_read p q (y ∷ bs) chain ended e r b eq =
     (λ i. no_read chain.0 q bs chain.2 (ended_kept y.deed y.piece p chain.0 chain.1.console ended) i.0 r b i.2)
     (split_at e (Read b) r y.piece (pieces bs) eq)
 
-now_waits : {R : Type 0} (t v : Act R) (d : Deed) (es : List Event) (p m : Point) → Next t d v → Fits d es → OnConsole d es p m → (e c : List Event) (b : List ℕ) → e ++ Read b ∷ c ≡ es → (os : List Outcome)
+now_waits : {R : Type 0} (t v : Act R) (d : Deed) (es : List Event) (p m : Point) → Next t d v → Fits d es → OnConsole d es p m → (e c : List Event) (b : List ℕ) → e ++ Read b ∷ c ≡ es
+    → (os : List Outcome)
     → Waits (feed t (items (extended p.unread (script e)) false) false (moments e) os) (typed e)
 now_waits (Take k) v (Took i) es p m next fits console e c b eq os =
     let lazy = console.lazy e c b eq in
@@ -101,7 +102,8 @@ waits t u p q (y ∷ bs) chain leads e r b eq os =
     let on = waits leads.0 u m q bs chain.2 leads.2 i.0 r b i.2 os in
     let goes : Goes m.ended (script i.0) false = λ ended. absurd (no_read m q bs chain.2 ended i.0 r b i.2) in
     let one = feed_one t leads.0 y.deed y.piece p m leads.1 chain.1.fits chain.1.console (script i.0) false goes (moments i.0) (outcomes bs ++ os) in
-    let es : extended p.unread (script e) ≡ extended (extended p.unread (script y.piece)) (script i.0) = ap (λ (z : List Event). extended p.unread (script z)) i.1 ∙ ap (extended p.unread) (script-append y.piece i.0) ∙ sym (extended-append p.unread (script y.piece) (script i.0)) in
+    let es : extended p.unread (script e) ≡ extended (extended p.unread (script y.piece)) (script i.0) =
+    ap (λ (z : List Event). extended p.unread (script z)) i.1 ∙ ap (extended p.unread) (script-append y.piece i.0) ∙ sym (extended-append p.unread (script y.piece) (script i.0)) in
     let em : moments e ≡ moments y.piece ++ moments i.0 = ap moments i.1 ∙ moments-append y.piece i.0 in
     let et : typed e ≡ typed y.piece ++ typed i.0 = ap typed i.1 ∙ typed-append y.piece i.0 in
     let eb : bytes_of (shown_by y.deed) ≡ typed y.piece = bytes_beat y.deed y.piece chain.1.fits in

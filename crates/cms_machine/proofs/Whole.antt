@@ -88,7 +88,8 @@ ended_is (Did s o) es p m fits console = console.ended ∙ sym (ap (λ (z : Bool
 pub chain_ended : (p q : Point) (bs : List Beat) → Chain p bs q → q.ended ≡ (p.ended || is_over (pieces bs))
 chain_ended p q [] chain = ap (λ (z : Point). z.ended) (sym chain) ∙ sym (or_false p.ended)
 chain_ended p q (b ∷ bs) chain =
-    chain_ended chain.0 q bs chain.2 ∙ ap (λ (z : Bool). z || is_over (pieces bs)) (ended_is b.deed b.piece p chain.0 chain.1.fits chain.1.console) ∙ or_assoc p.ended (is_over b.piece) (is_over (pieces bs))
+    chain_ended chain.0 q bs chain.2 ∙ ap (λ (z : Bool). z || is_over (pieces bs)) (ended_is b.deed b.piece p chain.0 chain.1.fits chain.1.console)
+    ∙ or_assoc p.ended (is_over b.piece) (is_over (pieces bs))
     ∙ ap (λ (z : Bool). p.ended || z) (sym (over-append b.piece (pieces bs)))
 
 false_true : (b : Bool) → b ≡ false → b ≡ true → ⊥
@@ -134,7 +135,8 @@ turns_beat (Did s o) es fits = turns_states (unit_of s) (new_slot s o) ∙ sym (
 pub turns_chain : (p q : Point) (bs : List Beat) → Chain p bs q → turns_of (trace bs) ≡ length (moments (pieces bs))
 turns_chain p q [] chain = refl
 turns_chain p q (b ∷ bs) chain =
-    turns-append (shown_by b.deed) (trace bs) ∙ ap (λ (n : ℕ). n + turns_of (trace bs)) (turns_beat b.deed b.piece chain.1.fits) ∙ ap (λ (n : ℕ). length (moments b.piece) + n) (turns_chain chain.0 q bs chain.2)
+    turns-append (shown_by b.deed) (trace bs) ∙ ap (λ (n : ℕ). n + turns_of (trace bs)) (turns_beat b.deed b.piece chain.1.fits)
+    ∙ ap (λ (n : ℕ). length (moments b.piece) + n) (turns_chain chain.0 q bs chain.2)
     ∙ sym (ap length (moments-append b.piece (pieces bs)) ∙ length-append (moments b.piece) (moments (pieces bs)))
 
 -- ---- as many units
@@ -181,9 +183,14 @@ part_no_script p (Take k) (Wrote u k' b ∷ es) h e = absurd h.0.0
 part_no_script p (Take k) (Synced u ∷ es) h e = absurd h.0.0
 
 -- their bytes are the first of those of the rest of the tree
-pub part_bytes : {R : Type 0} (p : Point) (t : Act R) (es : List Event) → Part p t es → (is : List Item) (e : Bool) (ms : List ℤ) (os : List Outcome) → (more : List ℕ) × (typed es ++ more ≡ bytes_of (feed t is e ms os).trace)
+pub part_bytes : {R : Type 0} (p : Point) (t : Act R) (es : List Event) → Part p t es → (is : List Item) (e : Bool) (ms : List ℤ) (os : List Outcome)
+    → (more : List ℕ) × (typed es ++ more ≡ bytes_of (feed t is e ms os).trace)
 part_bytes p (Done a) es h is e ms os = (bytes_of (feed (Done a) is e ms os).trace, let z : typed es ≡ [] = ap typed h in rw z refl)
-part_bytes p (Out b t) es h is e ms os = (h.1.0 ++ bytes_of (feed t is e ms os).trace, sym (append_assoc (typed es) h.1.0 (bytes_of (feed t is e ms os).trace)) ∙ ap (λ (z : List ℕ). z ++ bytes_of (feed t is e ms os).trace) h.1.1)
+part_bytes p (Out b t) es h is e ms os = (
+  h.1.0 ++ bytes_of (feed t is e ms os).trace,
+  sym (append_assoc (typed es) h.1.0 (bytes_of (feed t is e ms os).trace))
+      ∙ ap (λ (z : List ℕ). z ++ bytes_of (feed t is e ms os).trace) h.1.1,
+)
 part_bytes p (Take k) es h is e ms os = (bytes_of (feed (Take k) is e ms os).trace, let z : typed es ≡ [] = (read_silent es h.0).typed_none in rw z refl)
 part_bytes p (Turn k) es h is e ms os = (bytes_of (feed (Turn k) is e ms os).trace, let z : typed es ≡ [] = ap typed h in rw z refl)
 part_bytes p (Does s k) es h is e ms os = (bytes_of (feed (Does s k) is e ms os).trace, let z : typed es ≡ [] = (disk_silent (unit_of s) es h.disk).typed_none in rw z refl)
@@ -192,7 +199,11 @@ part_bytes p (Does s k) es h is e ms os = (bytes_of (feed (Does s k) is e ms os)
 pub part_front : {R : Type 0} (p : Point) (t : Act R) (a b : List Event) → Part p t (a ++ b) → Part p t a
 part_front p (Done c) a b h = empty_front a b h
 part_front p (Out c t) a b h = (all_front IsTyped a b h.0, (typed b ++ h.1.0, sym (append_assoc (typed a) (typed b) h.1.0) ∙ ap (λ (z : List ℕ). z ++ h.1.0) (sym (typed-append a b)) ∙ h.1.1))
-part_front p (Take k) a b h = (all_front IsRead a b h.0, λ x y c e. h.1 x (y ++ b) c (let z : (x ++ Read c ∷ y) ++ b ≡ a ++ b = ap (λ (w : List Event). w ++ b) e in sym (append_assoc x (Read c ∷ y) b) ∙ z))
+part_front p (Take k) a b h = (
+  all_front IsRead a b h.0,
+  λ x y c e. h.1 x (y ++ b) c
+      (let z : (x ++ Read c ∷ y) ++ b ≡ a ++ b = ap (λ (w : List Event). w ++ b) e in sym (append_assoc x (Read c ∷ y) b) ∙ z),
+)
 part_front p (Turn k) a b h = empty_front a b h
 part_front p (Does s k) a b h = record {
   disk = all_front (IsDiskOf (unit_of s)) a b h.disk;
@@ -311,18 +322,23 @@ module _ {R : Type 0} (p q : Point) (t : Act R) (b : Broke p q t) where
       (λ i.
       let over = b.mid.ended || is_over b.loose in
       let part : Part b.mid b.rest i.0 = part_front b.mid b.rest i.0 rest (subst (Part b.mid b.rest) (sym i.2) b.part) in
-      let there : Leaves (plus b.mid.journal i.0) u x = subst (λ (j : Told). Leaves j u x) (ap (plus p.journal) i.1 ∙ sym (plus_plus p.journal (pieces b.ran.beats) i.0) ∙ ap (λ (j : Told). plus j i.0) (sym (chain_told p b.mid b.ran.beats b.ran.chain))) leaves in
+      let there : Leaves (plus b.mid.journal i.0) u x = subst (λ (j : Told). Leaves j u x)
+      (ap (plus p.journal) i.1 ∙ sym (plus_plus p.journal (pieces b.ran.beats) i.0) ∙ ap (λ (j : Told). plus j i.0) (sym (chain_told p b.mid b.ran.beats b.ran.chain))) leaves in
       let now = part_within b.mid b.rest i.0 part (chain_sound p b.mid b.ran.beats b.ran.chain sound) u x there (items (extended b.mid.unread (script b.loose)) over) over (moments b.loose) in
       let past = past_chain p b.mid b.ran.beats b.ran.chain (fed b.mid b.rest b.loose []).trace (length (typed i.0)) 0 u x now in
       let n : moments i.0 ≡ [] = part_moments b.mid b.rest i.0 part in
-      let et : length (typed front) ≡ length (typed (pieces b.ran.beats)) + length (typed i.0) = ap (λ (z : List Event). length (typed z)) i.1 ∙ ap length (typed-append (pieces b.ran.beats) i.0) ∙ length-append (typed (pieces b.ran.beats)) (typed i.0) in
-      let en : length (moments front) ≡ length (moments (pieces b.ran.beats)) + 0 = ap (λ (z : List Event). length (moments z)) i.1 ∙ ap length (moments-append (pieces b.ran.beats) i.0) ∙ length-append (moments (pieces b.ran.beats)) (moments i.0) ∙ ap (λ (z : List ℤ). length (moments (pieces b.ran.beats)) + length z) n in
+      let et : length (typed front) ≡ length (typed (pieces b.ran.beats)) + length (typed i.0) =
+      ap (λ (z : List Event). length (typed z)) i.1 ∙ ap length (typed-append (pieces b.ran.beats) i.0) ∙ length-append (typed (pieces b.ran.beats)) (typed i.0) in
+      let en : length (moments front) ≡ length (moments (pieces b.ran.beats)) + 0 =
+      ap (λ (z : List Event). length (moments z)) i.1 ∙ ap length (moments-append (pieces b.ran.beats) i.0) ∙ length-append (moments (pieces b.ran.beats)) (moments i.0)
+      ∙ ap (λ (z : List ℤ). length (moments (pieces b.ran.beats)) + length z) n in
       rw (et, en) past)
       (split front rest (pieces b.ran.beats) b.loose e)
       in subst (λ (z : Fed R). Within z.trace (length (typed front)) (length (moments front)) u (unit_set p.units u) x) (sym fed_all) within
 
   -- at each read the machine, on what was told before it, waits
-  pub all_wait : (front rest : List Event) (c : List ℕ) → front ++ Read c ∷ rest ≡ events_of b → Waits (feed t (items (extended p.unread (script front)) false) false (moments front) (outcomes b.ran.beats)) (typed front)
+  pub all_wait : (front rest : List Event) (c : List ℕ) → front ++ Read c ∷ rest ≡ events_of b
+      → Waits (feed t (items (extended p.unread (script front)) false) false (moments front) (outcomes b.ran.beats)) (typed front)
   all_wait front rest c e =
       let o : outcomes b.ran.beats ++ [] ≡ outcomes b.ran.beats = append-nil (outcomes b.ran.beats) in
       ⊎_elim
@@ -336,8 +352,10 @@ module _ {R : Type 0} (p q : Point) (t : Act R) (b : Broke p q t) where
       let n : moments i.0 ≡ [] = w.2 in
       let m : moments front ≡ moments (pieces b.ran.beats) ++ [] = ap moments i.1 ∙ moments-append (pieces b.ran.beats) i.0 ∙ ap (λ (z : List ℤ). moments (pieces b.ran.beats) ++ z) n in
       let none : typed i.0 ≡ [] = w.1 in
-      let ty : typed front ≡ typed (pieces b.ran.beats) = ap typed i.1 ∙ typed-append (pieces b.ran.beats) i.0 ∙ ap (λ (z : List ℕ). typed (pieces b.ran.beats) ++ z) none ∙ append-nil (typed (pieces b.ran.beats)) in
-      let run : feed t (items (extended p.unread (script front)) false) false (moments front) (outcomes b.ran.beats) ≡ record { trace = trace b.ran.beats ++ []; close = WaitsForScript } = rw (s, m) (there ∙ ap (prepend (trace b.ran.beats)) w.3) in
+      let ty : typed front ≡ typed (pieces b.ran.beats) = ap typed i.1 ∙ typed-append (pieces b.ran.beats) i.0 ∙ ap (λ (z : List ℕ). typed (pieces b.ran.beats) ++ z) none
+      ∙ append-nil (typed (pieces b.ran.beats)) in
+      let run : feed t (items (extended p.unread (script front)) false) false (moments front) (outcomes b.ran.beats) ≡ record { trace = trace b.ran.beats ++ []; close = WaitsForScript } =
+      rw (s, m) (there ∙ ap (prepend (trace b.ran.beats)) w.3) in
       let bytes : bytes_of (trace b.ran.beats ++ []) ≡ typed front = ap bytes_of (append-nil (trace b.ran.beats)) ∙ bytes_chain p b.mid b.ran.beats b.ran.chain ∙ sym ty in
       record { close = ap (λ (z : Fed R). z.close) run; bytes_are = ap (λ (z : Fed R). bytes_of z.trace) run ∙ bytes })
       (split_at front (Read c) rest (pieces b.ran.beats) b.loose e)
@@ -365,7 +383,8 @@ fed_whole {R = R} p q t a r =
     let all = fed_all p q t (whole p q t a r) in
     let pieces_nil : pieces r.beats ++ [] ≡ pieces r.beats = append-nil (pieces r.beats) in
     let trace_nil : trace r.beats ++ [] ≡ trace r.beats = append-nil (trace r.beats) in
-    let there : fed p t (pieces r.beats) (outcomes r.beats) ≡ record { trace = trace r.beats ++ []; close = Over a } = subst (λ (es : List Event). fed p t es (outcomes r.beats) ≡ record { trace = trace r.beats ++ []; close = Over a }) pieces_nil all in
+    let there : fed p t (pieces r.beats) (outcomes r.beats) ≡ record { trace = trace r.beats ++ []; close = Over a } =
+    subst (λ (es : List Event). fed p t es (outcomes r.beats) ≡ record { trace = trace r.beats ++ []; close = Over a }) pieces_nil all in
     there ∙ ap (λ (tr : List TraceItem). record { trace = tr; close = Over a }) trace_nil
 
 pub comes_to : {R : Type 0} (p q : Point) (t : Act R) (a : R) (r : Ran p q t (Done a)) → ComesTo p q t a r
@@ -373,7 +392,8 @@ comes_to {R = R} p q t a r =
     let run = fed_whole p q t a r in
     let same : (fed p t (pieces r.beats) (outcomes r.beats)).trace ≡ trace r.beats = ap (λ (z : Fed R). z.trace) run in
     let told = chain_told p q r.beats r.chain in
-    let sets : (u : ℕ) → unit_set q.units u ≡ last_set u (unit_set p.units u) (fed p t (pieces r.beats) (outcomes r.beats)).trace = λ u. chain_last p q r.beats r.chain u ∙ ap (last_set u (unit_set p.units u)) (sym same) in
+    let sets : (u : ℕ) → unit_set q.units u ≡ last_set u (unit_set p.units u) (fed p t (pieces r.beats) (outcomes r.beats)).trace =
+    λ u. chain_last p q r.beats r.chain u ∙ ap (last_set u (unit_set p.units u)) (sym same) in
     record {
       journal = told;
       close = ap (λ (z : Fed R). z.close) run;

@@ -17,7 +17,8 @@ children_zero : (f : Walk) (size holder : ℕ) (ps : List ℕ) (first : Option �
 children_zero f size holder [] first = refl
 children_zero f size holder (p ∷ ps) first = refl
 
-cons_children : (f : Walk) (size holder p : ℕ) (ps : List ℕ) (count : ℕ) (first : Option ℕ) → 0 < count → children f size holder (p ∷ ps) count first ≡ (f first holder p (min count size) >>= λ a. children f size holder ps (count - size) None >>= λ b. Ok (joined a b))
+cons_children : (f : Walk) (size holder p : ℕ) (ps : List ℕ) (count : ℕ) (first : Option ℕ) → 0 < count
+    → children f size holder (p ∷ ps) count first ≡ (f first holder p (min count size) >>= λ a. children f size holder ps (count - size) None >>= λ b. Ok (joined a b))
 cons_children f size holder p ps zero first h = absurd (omega arith)
 cons_children f size holder p ps (suc n) first h = refl
 
@@ -45,7 +46,8 @@ record Split (f : Walk) (size holder : ℕ) (qs rest : List ℕ) (count : ℕ) (
 joined_assoc : (a b c : Met) → joined a (joined b c) ≡ joined (joined a b) c
 joined_assoc a b c = λ i. record { blocks = sym (append_assoc a.blocks b.blocks c.blocks) i; leaves = sym (append_assoc a.leaves b.leaves c.leaves) i }
 
-split_children : (f : Walk) (size holder : ℕ) → 0 < size → (qs rest : List ℕ) (count : ℕ) (first : Option ℕ) (m : Met) → children f size holder (qs ++ rest) count first ≡ Ok m → Split f size holder qs rest count first m
+split_children : (f : Walk) (size holder : ℕ) → 0 < size → (qs rest : List ℕ) (count : ℕ) (first : Option ℕ) (m : Met) → children f size holder (qs ++ rest) count first ≡ Ok m
+    → Split f size holder qs rest count first m
 split_children f size holder room [] rest count first m e =
     let same : count - 0 * size ≡ count = omega arith in
     record { a = none_met; b = m; front = refl; back = rw same e; is = refl }
@@ -73,7 +75,8 @@ split_children f size holder room (q ∷ qs) rest (suc n) first m e =
         }
 
 -- more pointers behind what is asked for change nothing
-extend_children : (f : Walk) (size holder : ℕ) (qs unused : List ℕ) (count : ℕ) (first : Option ℕ) (m : Met) → 0 < size → count ≤ length qs * size → children f size holder qs count first ≡ Ok m → children f size holder (qs ++ unused) count first ≡ Ok m
+extend_children : (f : Walk) (size holder : ℕ) (qs unused : List ℕ) (count : ℕ) (first : Option ℕ) (m : Met) → 0 < size → count ≤ length qs * size → children f size holder qs count first ≡ Ok m
+    → children f size holder (qs ++ unused) count first ≡ Ok m
 extend_children f size holder [] unused count first m room fits e =
     let none : count ≡ 0 = omega arith in
     rw none (children_zero f size holder unused first ∙ subst (λ (c : ℕ). children f size holder [] c first ≡ Ok m) none e)
@@ -111,21 +114,24 @@ record Up (form : Form) (image : Image) (k holder : ℕ) (ns : List ℕ) (count 
   counted : (n : ℕ) → times n met.blocks ≡ times n ns + times n m.blocks
 
 -- a pointer block over the children that it points to
-node : (form : Form) (image : Image) (k holder n : ℕ) (qs unused : List ℕ) (part : ℕ) (first : Option ℕ) (a : Met) → is_allowed form.last None n ≡ true → pointers form.fan form.stride (image n) ≡ qs ++ unused → 0 < form.fan ^ k → part ≤ length qs * form.fan ^ k → children (tree form image k) (form.fan ^ k) holder qs part first ≡ Ok a
+node : (form : Form) (image : Image) (k holder n : ℕ) (qs unused : List ℕ) (part : ℕ) (first : Option ℕ) (a : Met) → is_allowed form.last None n ≡ true
+    → pointers form.fan form.stride (image n) ≡ qs ++ unused → 0 < form.fan ^ k → part ≤ length qs * form.fan ^ k → children (tree form image k) (form.fan ^ k) holder qs part first ≡ Ok a
     → tree form image (suc k) first holder n part ≡ Ok (under n a)
 node form image k holder n qs unused part first a allowed is_block room fits is_a =
     let kept = children_keep image image (tree form image k) (tree form image k) (tree_keeps form image image k) (form.fan ^ k) holder n qs part first a is_a (λ x in'. refl) in
     let inner = extend_children (tree form image k) (form.fan ^ k) n qs unused part first a room fits kept in
     node_from form image k first holder n part a allowed (ap (λ (l : List ℕ). children (tree form image k) (form.fan ^ k) n l part first) is_block ∙ inner)
 
-level_up : (form : Form) (image : Image) (k holder : ℕ) → 0 < form.fan → 0 < form.fan ^ k → (ns ps : List ℕ) (count : ℕ) (first : Option ℕ) (m : Met) → Points form image ns ps → AllAllowed form.last None ns → count ≤ length ps * form.fan ^ k → length ps * form.fan ^ k < count + form.fan ^ k
+level_up : (form : Form) (image : Image) (k holder : ℕ) → 0 < form.fan → 0 < form.fan ^ k → (ns ps : List ℕ) (count : ℕ) (first : Option ℕ) (m : Met) → Points form image ns ps
+    → AllAllowed form.last None ns → count ≤ length ps * form.fan ^ k → length ps * form.fan ^ k < count + form.fan ^ k
     → children (tree form image k) (form.fan ^ k) holder ps count first ≡ Ok m → Up form image k holder ns count first m
 unfolding times
 level_up form image k holder some room [] ps count first m points free fits tight e =
     let empty : length ps ≡ 0 = ap length points in
     let nothing : length ps * form.fan ^ k ≡ 0 = rw empty (omega arith) in
     let none : count ≡ 0 = omega arith in
-    let is_none : none_met ≡ m = ok_same none_met m (sym (ap (λ (c : ℕ). children (tree form image k) (form.fan ^ k) holder ps c first) none ∙ children_zero (tree form image k) (form.fan ^ k) holder ps first) ∙ e) in
+    let is_none : none_met ≡ m = ok_same none_met m (sym (ap (λ (c : ℕ). children (tree form image k) (form.fan ^ k) holder ps c first) none
+    ∙ children_zero (tree form image k) (form.fan ^ k) holder ps first) ∙ e) in
     record { met = none_met; is = refl; leaves = ap (λ (l : Met). l.leaves) is_none; counted = λ n. omega (arith, ap (λ (l : Met). times n l.blocks) is_none) }
 level_up form image k holder some room (n ∷ ns) ps count first m (rest, p, more) free fits tight e =
     let size = form.fan ^ k in
@@ -142,7 +148,8 @@ level_up form image k holder some room (n ∷ ns) ps count first m (rest, p, mor
     join s z big (level_up form image k holder some room ns rest (count - form.fan * size) None s.b more free.1 z.fits z.tight
     (subst (λ (c : ℕ). children (tree form image k) size holder rest c None ≡ Ok s.b) z.same_sub back))
   where
-    join : (s : Split (tree form image k) (form.fan ^ k) holder p.own rest count first m) → Sizes (length p.own) (length rest) form.fan (form.fan ^ k) count → form.fan ^ suc k ≡ form.fan * form.fan ^ k → Up form image k holder ns (count - form.fan * form.fan ^ k) None s.b → Up form image k holder (n ∷ ns) count first m
+    join : (s : Split (tree form image k) (form.fan ^ k) holder p.own rest count first m) → Sizes (length p.own) (length rest) form.fan (form.fan ^ k) count
+        → form.fan ^ suc k ≡ form.fan * form.fan ^ k → Up form image k holder ns (count - form.fan * form.fan ^ k) None s.b → Up form image k holder (n ∷ ns) count first m
     join s z big u =
         let front = subst (λ (c : ℕ). children (tree form image k) (form.fan ^ k) holder p.own c first ≡ Ok s.a) z.same_min s.front in
         let whole = node form image k holder n p.own p.unused (min count (form.fan * form.fan ^ k)) first s.a free.0 p.bytes room z.below front in
@@ -156,7 +163,8 @@ level_up form image k holder some room (n ∷ ns) ps count first m (rest, p, mor
           counted = λ x. omega (arith, u.counted x, times_append x s.a.blocks u.met.blocks, times_append x s.a.blocks s.b.blocks, ap (λ (l : Met). times x l.blocks) s.is);
         }
 
-leaves_met : (form : Form) (image : Image) (holder : ℕ) (ns : List ℕ) (first : Option ℕ) → AllAllowed form.last first ns → children (tree form image 0) 1 holder ns (length ns) first ≡ Ok (record { blocks = ns; leaves = ns })
+leaves_met : (form : Form) (image : Image) (holder : ℕ) (ns : List ℕ) (first : Option ℕ) → AllAllowed form.last first ns
+    → children (tree form image 0) 1 holder ns (length ns) first ≡ Ok (record { blocks = ns; leaves = ns })
 leaves_met form image holder [] first allowed = refl
 leaves_met form image holder (n ∷ ns) first allowed =
     let one : suc (length ns) - 1 ≡ length ns = omega arith in
@@ -205,7 +213,8 @@ record Read (form : Form) (image : Image) (levels : ℕ) (first : Option ℕ) (h
   shape_is : is_shape form.fan count levels ≡ true
 
 -- from one level to the root
-climb : (form : Form) (image : Image) (holder : ℕ) → 0 < form.fan → (k j levels : ℕ) → levels ≡ k + j → 0 < form.fan ^ j → (ps : List ℕ) (root count : ℕ) (nodes : List ℕ) (first : Option ℕ) (m : Met) → Built form image k ps root nodes → Higher form.fan count j → count ≤ length ps * form.fan ^ j → length ps * form.fan ^ j < count + form.fan ^ j
+climb : (form : Form) (image : Image) (holder : ℕ) → 0 < form.fan → (k j levels : ℕ) → levels ≡ k + j → 0 < form.fan ^ j → (ps : List ℕ) (root count : ℕ) (nodes : List ℕ) (first : Option ℕ) (m : Met)
+    → Built form image k ps root nodes → Higher form.fan count j → count ≤ length ps * form.fan ^ j → length ps * form.fan ^ j < count + form.fan ^ j
     → children (tree form image j) (form.fan ^ j) holder ps count first ≡ Ok m → Read form image levels first holder root count nodes m
 unfolding times
 climb form image holder some zero j levels is_levels room ps root count nodes first m (is_ps, is_nodes) higher fits tight e =
@@ -244,9 +253,12 @@ climb form image holder some (suc k) j levels is_levels room ps root count nodes
     }
 
 -- reading a tree that was built gives its data blocks, and its blocks are these and the pointer blocks
-pub built_reads : (form : Form) (image : Image) (k : ℕ) (first : Option ℕ) (holder root : ℕ) (leaves nodes : List ℕ) → 1 ≤ form.fan → Built form image k leaves root nodes → AllAllowed form.last first leaves → ReadsAs form image k first holder root leaves nodes
+pub built_reads : (form : Form) (image : Image) (k : ℕ) (first : Option ℕ) (holder root : ℕ) (leaves nodes : List ℕ) → 1 ≤ form.fan → Built form image k leaves root nodes
+    → AllAllowed form.last first leaves → ReadsAs form image k first holder root leaves nodes
 built_reads form image k first holder root leaves nodes some built allowed =
     let unit : form.fan ^ 0 ≡ 1 = pow-zero form.fan in
     let same : length leaves * form.fan ^ 0 ≡ length leaves = rw unit (omega arith) in
-    let r = climb form image holder some k 0 k (omega arith) (omega arith) leaves root (length leaves) nodes first _ built tt (omega arith) (omega arith) (subst (λ (size : ℕ). children (tree form image 0) size holder leaves (length leaves) first ≡ Ok (record { blocks = leaves; leaves = leaves })) (sym unit) (leaves_met form image holder leaves first allowed)) in
+    let r = climb form image holder some k 0 k (omega arith) (omega arith) leaves root (length leaves) nodes first _ built tt (omega arith) (omega arith)
+    (subst (λ (size : ℕ). children (tree form image 0) size holder leaves (length leaves) first ≡ Ok (record { blocks = leaves; leaves = leaves })) (sym unit)
+    (leaves_met form image holder leaves first allowed)) in
     record { met = r.met; is = r.is; leaves_are = r.leaves; blocks_are = r.counted; shape = r.shape_is }

@@ -99,7 +99,8 @@ place_changed name (f ∷ fs) (suc k) p =
     let deeper = place_changed name fs k r.1 in
     record {
       found = λ d. rw other (deeper.found d);
-      put = λ new named. (let other' : same_name new.name f.name ≡ false = subst (λ (n : Name). same_name n f.name ≡ false) (sym named) other in rw other' (ap (λ (l : List File). f ∷ l) (deeper.put new named)));
+      put = λ new named. (let other' : same_name new.name f.name ≡ false = subst (λ (n : Name). same_name n f.name ≡ false) (sym named) other in
+          rw other' (ap (λ (l : List File). f ∷ l) (deeper.put new named)));
       changed = λ edit d. rw other (ap (λ (l : List File). f ∷ l) (deeper.changed edit d));
       dropped = λ d. rw other (ap (λ (l : List File). f ∷ l) (deeper.dropped d) ∙ swap_next f fs k d (let less = p.within in omega arith));
     }
@@ -112,7 +113,8 @@ none_added name (f ∷ fs) none =
     let deeper = none_added name fs none.1 in
     record {
       absent = rw other deeper.absent;
-      put = λ new named. (let other' : same_name new.name f.name ≡ false = subst (λ (n : Name). same_name n f.name ≡ false) (sym named) other in rw other' (ap (λ (l : List File). f ∷ l) (deeper.put new named)));
+      put = λ new named. (let other' : same_name new.name f.name ≡ false = subst (λ (n : Name). same_name n f.name ≡ false) (sym named) other in
+          rw other' (ap (λ (l : List File). f ∷ l) (deeper.put new named)));
       changed = λ edit. rw other (ap (λ (l : List File). f ∷ l) (deeper.changed edit));
       dropped = rw other (ap (λ (l : List File). f ∷ l) deeper.dropped);
     }
@@ -150,7 +152,8 @@ none_changed name from edit (f ∷ fs) ne none = ⊎_elim
     (cases_Bool (same_name from f.name))
 
 -- the edited file has a name that no other file has
-pub changed_distinct : (from to : Name) (edit : File → File) (files : List File) → ((f : File) → f.name ≡ from → (edit f).name ≡ to) → NoneNamed to files ⊎ (to ≡ from) → AreDistinct files → AreDistinct (change_file from edit files)
+pub changed_distinct : (from to : Name) (edit : File → File) (files : List File) → ((f : File) → f.name ≡ from → (edit f).name ≡ to) → NoneNamed to files ⊎ (to ≡ from) → AreDistinct files
+    → AreDistinct (change_file from edit files)
 unfolding change_file
 changed_distinct from to edit [] named free d = tt
 changed_distinct from to edit (f ∷ fs) named free d = ⊎_elim
@@ -160,7 +163,8 @@ changed_distinct from to edit (f ∷ fs) named free d = ⊎_elim
     rw is (none_same to (edit f).name fs new (⊎_elim (λ (none : NoneNamed to (f ∷ fs)). none.1) (λ (e : to ≡ from). none_same f.name to fs (at ∙ sym e) d.0) free), d.1))
     (λ (other : same_name from f.name ≡ false).
     let ne : f.name ≢ from = name_differs from f.name other in
-    let apart : (g : File) → g.name ≡ from → (edit g).name ≢ f.name = λ g at is. ⊎_elim (λ (none : NoneNamed to (f ∷ fs)). none.0 (sym is ∙ named g at)) (λ (e : to ≡ from). ne (sym is ∙ named g at ∙ e)) free in
+    let apart : (g : File) → g.name ≡ from → (edit g).name ≢ f.name =
+    λ g at is. ⊎_elim (λ (none : NoneNamed to (f ∷ fs)). none.0 (sym is ∙ named g at)) (λ (e : to ≡ from). ne (sym is ∙ named g at ∙ e)) free in
     rw other (none_changed f.name from edit fs apart d.0, changed_distinct from to edit fs named (⊎_elim (λ (none : NoneNamed to (f ∷ fs)). inl none.1) (λ (e : to ≡ from). inr e) free) d.1))
     (cases_Bool (same_name from f.name))
 

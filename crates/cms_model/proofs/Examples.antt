@@ -139,5 +139,6 @@ full_disk : Minidisk
 full_disk = record (empty_minidisk [] 512 9) { lost = 2; files = file_of V 0xC1 5 ∷ [] }
 
 no_room_to_erase : (need full_disk (Drop (record { file = 0xC1 ∷ []; kind = 0xC6 ∷ [] })) ≡ 1) × (free_count full_disk ≡ 0)
-unfolding need changed_files drop_file last_first same_name same file_size stored_size used_count free_count directory_more map_size tree_size levels levels_from pointer_count pointers_to file_of full_disk
+unfolding need changed_files drop_file last_first same_name same file_size stored_size used_count free_count directory_more map_size tree_size levels levels_from pointer_count pointers_to file_of
+    full_disk
 no_room_to_erase = (refl, refl)

@@ -2,7 +2,7 @@
 use Rattle.std.proofs.Common.{◌≡◌, inl, inr, ℕ, zero, suc, ◌+◌, ◌*◌, ◌/◌, ◌^◌, ◌<◌, ◌≤◌, List, [], ◌∷◌, length, take, drop, sum_by, if◌then◌else◌, None, Ok, true, not, refl, sym, ◌∙◌, ap, subst, arith, length-append, length-drop, length-take-le, div-le_self}
 use Rattle.std.specs.List.{concat}
 use Rattle.std.specs.Prelude.{nat_le, nat_lt, ◌==◌, ◌&&◌, ◌||◌}
-use Rattle.std.proofs.lemmas.Bool.{and_parts, leb-true, ltb-true, eqb-true}
+use Rattle.std.proofs.lemmas.Bool.{and_from, and_parts, le-leb, leb-true, ltb-true, eqb-true}
 use Rattle.std.proofs.lemmas.List.Sums.{sum_by-cons}
 use Rattle.cms_journal.specs.Journal.{IsBlockSize}
 use Rattle.cms_journal.proofs.Sizes.{block_bounds}
@@ -11,7 +11,8 @@ use Rattle.cms_names.specs.declared.name.Format.{Format}
 use Rattle.cms_names.specs.declared.name.Format.TheVariants.{F, V}
 use Rattle.cms_text.specs.Bytes.{half}
 use Rattle.cms_fields.specs.Numbers.{up}
-use Rattle.cms_fields.specs.Entries.{is_fixed, fan_of, length_fits, counts_fit, levels_fit, entry_of}
+use Rattle.cms_fields.specs.Entries.{is_fixed, fan_of, length_fits, counts_fit, levels_fit, passes, entry_of}
+use Rattle.cms_fields.specs.Stamps.{is_stamp}
 use Rattle.cms_fields.specs.declared.entry.Entry.{Entry}
 use Rattle.cms_fields.proofs.ReadEntry.{entry_is}
 use Rattle.cms_model.specs.Lists.{In, cut}
@@ -50,6 +51,29 @@ entry_fits bsize bytes e is =
     let tests = entry_is bsize bytes e is in
     subst (EntryFits bsize) tests.fields (record { long = tests.long; counts = tests.counts; levels = tests.levels })
 
+-- the fields of an entry that passes
+pub record Passing (bsize : ℕ) (e : Entry) : Type 0 where
+  pub number : e.number ≤ 6
+  pub fits : EntryFits bsize e
+  pub stamp : is_stamp e.stamp ≡ true
+
+pub passing : (bsize : ℕ) (e : Entry) → passes bsize e ≡ true → Passing bsize e
+unfolding passes
+passing bsize e is =
+    let a = and_parts (nat_le e.number 6 && length_fits e && counts_fit bsize e && levels_fit bsize e) (is_stamp e.stamp) is in
+    let b = and_parts (nat_le e.number 6 && length_fits e && counts_fit bsize e) (levels_fit bsize e) a.0 in
+    let c = and_parts (nat_le e.number 6 && length_fits e) (counts_fit bsize e) b.0 in
+    let d = and_parts (nat_le e.number 6) (length_fits e) c.0 in
+    record { number = leb-true e.number 6 d.0; fits = record { long = d.1; counts = c.1; levels = b.1 }; stamp = a.1 }
+
+pub passes_from : (bsize : ℕ) (e : Entry) → Passing bsize e → passes bsize e ≡ true
+unfolding passes
+passes_from bsize e p =
+    and_from (nat_le e.number 6 && length_fits e && counts_fit bsize e && levels_fit bsize e) (is_stamp e.stamp)
+    (and_from (nat_le e.number 6 && length_fits e && counts_fit bsize e) (levels_fit bsize e)
+    (and_from (nat_le e.number 6 && length_fits e) (counts_fit bsize e)
+    (and_from (nat_le e.number 6) (length_fits e) (le-leb e.number 6 p.number) p.fits.long) p.fits.counts) p.fits.levels) p.stamp
+
 abbrev pub AllFit : ℕ → List Entry → Type 0
 AllFit bsize [] = Unit {0}
 AllFit bsize (e ∷ es) = EntryFits bsize e × AllFit bsize es
@@ -71,7 +95,8 @@ pub record Counted (format : Format) (bsize len blocks count : ℕ) : Type 0 whe
   pub fixed : is_fixed format ≡ true → blocks ≡ up (count * len) bsize
 
 pub counts_from : (format : Format) (bsize len blocks count : ℕ) → 1 ≤ bsize → (not (is_fixed format) || is_between 1 65535 len) ≡ true
-    → (is_between 1 1048576 count && (if is_fixed format then nat_le (count * len) 67108864 && (blocks == up (count * len) bsize) else is_between 1 (67108864 / bsize) blocks)) ≡ true → Counted format bsize len blocks count
+    → (is_between 1 1048576 count && (if is_fixed format then nat_le (count * len) 67108864 && (blocks == up (count * len) bsize) else is_between 1 (67108864 / bsize) blocks)) ≡ true
+    → Counted format bsize len blocks count
 counts_from F bsize len blocks count room long fits =
     let a = and_parts (is_between 1 1048576 count) (nat_le (count * len) 67108864 && (blocks == up (count * len) bsize)) fits in
     let b = and_parts (nat_le (count * len) 67108864) (blocks == up (count * len) bsize) a.1 in
@@ -130,7 +155,8 @@ pub record AreCut (len blocks bsize count : ℕ) (bytes : List ℕ) (rs : List (
   pub within : length bytes < count * len + bsize
   pub size : length (stored F rs) ≡ count * len
 
-pub are_cut : (bsize len blocks count : ℕ) (bytes : List ℕ) (rs : List (List ℕ)) → 1 ≤ bsize → records_of bsize F len count bytes ≡ Ok rs → length bytes ≡ blocks * bsize → Counted F bsize len blocks count
+pub are_cut : (bsize len blocks count : ℕ) (bytes : List ℕ) (rs : List (List ℕ)) → 1 ≤ bsize → records_of bsize F len count bytes ≡ Ok rs → length bytes ≡ blocks * bsize
+    → Counted F bsize len blocks count
     → AreCut len blocks bsize count bytes rs
 unfolding records_of
 are_cut bsize len blocks count bytes rs room e long c =
@@ -139,7 +165,8 @@ are_cut bsize len blocks count bytes rs room e long c =
     let high = fit.1 in
     let same : blocks * bsize ≡ up (count * len) bsize * bsize = ap (λ (n : ℕ). n * bsize) (c.fixed refl) in
     let cuts : cut count len bytes ≡ rs = ok_same (cut count len bytes) rs e in
-    let wide : length (concat (cut count len bytes)) ≡ count * len = length_stored_fixed len (cut count len bytes) (fits_cut count len bytes (omega arith)) ∙ ap (λ (n : ℕ). n * len) (length_cut count len bytes) in
+    let wide : length (concat (cut count len bytes)) ≡ count * len =
+    length_stored_fixed len (cut count len bytes) (fits_cut count len bytes (omega arith)) ∙ ap (λ (n : ℕ). n * len) (length_cut count len bytes) in
     record {
       many = sym (length_cut count len bytes) ∙ ap length cuts;
       enough = omega arith;
@@ -147,7 +174,8 @@ are_cut bsize len blocks count bytes rs room e long c =
       size = ap (λ (l : List (List ℕ)). length (concat l)) (sym cuts) ∙ wide;
     }
 
-pub stored_fills : (format : Format) (bsize len blocks count : ℕ) (bytes : List ℕ) (rs : List (List ℕ)) → 1 ≤ bsize → records_of bsize format len count bytes ≡ Ok rs → length bytes ≡ blocks * bsize → Counted format bsize len blocks count → up (stored_size format rs) bsize ≡ blocks
+pub stored_fills : (format : Format) (bsize len blocks count : ℕ) (bytes : List ℕ) (rs : List (List ℕ)) → 1 ≤ bsize → records_of bsize format len count bytes ≡ Ok rs → length bytes ≡ blocks * bsize
+    → Counted format bsize len blocks count → up (stored_size format rs) bsize ≡ blocks
 unfolding records_of
 stored_fills F bsize len blocks count bytes rs room e long c =
     ap (λ (n : ℕ). up n bsize) (sym (length_stored F rs) ∙ (are_cut bsize len blocks count bytes rs room e long c).size) ∙ sym (c.fixed refl)
@@ -204,10 +232,12 @@ file_blocks disk image total holder e m rs whole top fits read =
 abbrev Fill : ℕ → List Entry → List Met → List (List (List ℕ)) → Type 0
 Fill bsize es ms cs = (sum_by (file_size bsize) (files_of es cs) ≡ length (blocks_of ms)) × (length (files_of es cs) ≡ length es)
 
-pub files_blocks : (disk : Disk) (image : Image) (total : ℕ) (dirs : List ℕ) (number : ℕ) (es : List Entry) (ms : List Met) (cs : List (List (List ℕ))) → IsWhole disk image → total ≤ disk.count → AllFit disk.bsize es
+pub files_blocks : (disk : Disk) (image : Image) (total : ℕ) (dirs : List ℕ) (number : ℕ) (es : List Entry) (ms : List Met) (cs : List (List (List ℕ))) → IsWhole disk image → total ≤ disk.count
+    → AllFit disk.bsize es
     → file_trees disk.bsize total image dirs number es ≡ Ok ms → contents_in disk.bsize image number es ms ≡ Ok cs → Fill disk.bsize es ms cs
 unfolding files_of blocks_of
-files_blocks disk image total dirs number es ms cs whole top fits t c = each_read disk total image dirs (λ es ms cs. AllFit disk.bsize es → Fill disk.bsize es ms cs) (λ none. (refl, refl)) more number es ms cs t c fits
+files_blocks disk image total dirs number es ms cs whole top fits t c =
+    each_read disk total image dirs (λ es ms cs. AllFit disk.bsize es → Fill disk.bsize es ms cs) (λ none. (refl, refl)) more number es ms cs t c fits
   where
     more : (holder : ℕ) (e : Entry) (m : Met) (rs : List (List ℕ)) (es : List Entry) (ms : List Met) (cs : List (List (List ℕ))) → IsRead disk total image holder e m rs
         → (AllFit disk.bsize es → Fill disk.bsize es ms cs) → AllFit disk.bsize (e ∷ es) → Fill disk.bsize (e ∷ es) (m ∷ ms) (rs ∷ cs)

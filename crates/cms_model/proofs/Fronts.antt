@@ -77,7 +77,8 @@ data Ends (u : ℕ) (ws : List Write) (label : List ℕ) (p : List Event) : Type
 
 ends_more : (u : ℕ) (w : Write) (ws : List Write) (label : List ℕ) (p piece : List Event) → p ≡ Wrote u w.block w.bytes ∷ piece → Ends u ws label piece → Ends u (w ∷ ws) label p
 unfolding writes update
-ends_more u w ws label p piece is (in_writes f n) = in_writes (subst (λ (l : List Event). IsFront l (writes u (w ∷ ws))) (sym is) (cons_front piece (Wrote u w.block w.bytes) (writes u ws) f)) (ap syncs is ∙ n)
+ends_more u w ws label p piece is (in_writes f n) = in_writes (subst (λ (l : List Event). IsFront l (writes u (w ∷ ws))) (sym is) (cons_front piece (Wrote u w.block w.bytes) (writes u ws) f))
+    (ap syncs is ∙ n)
 ends_more u w ws label p piece is (at_sync e n) = at_sync (is ∙ ap (λ (l : List Event). Wrote u w.block w.bytes ∷ l) e) (ap syncs is ∙ n)
 ends_more u w ws label p piece is (at_label e n) = at_label (is ∙ ap (λ (l : List Event). Wrote u w.block w.bytes ∷ l) e) (ap syncs is ∙ n)
 ends_more u w ws label p piece is (at_end e n) = at_end (is ∙ ap (λ (l : List Event). Wrote u w.block w.bytes ∷ l) e) (ap syncs is ∙ n)
@@ -89,9 +90,11 @@ front_ends u [] label p f = ⊎_elim
     (λ (c : Cut p (Synced u) (Wrote u 3 label ∷ Synced u ∷ [])). ⊎_elim
     (λ (none : c.piece ≡ []). at_sync (c.is ∙ ap (λ (l : List Event). Synced u ∷ l) none) (ap syncs c.is ∙ ap (λ (l : List Event). suc (syncs l)) none))
     (λ (d : Cut c.piece (Wrote u 3 label) (Synced u ∷ [])). ⊎_elim
-    (λ (none : d.piece ≡ []). at_label (c.is ∙ ap (λ (l : List Event). Synced u ∷ l) (d.is ∙ ap (λ (l : List Event). Wrote u 3 label ∷ l) none)) (ap syncs c.is ∙ ap (λ (l : List Event). suc (syncs l)) (d.is ∙ ap (λ (l : List Event). Wrote u 3 label ∷ l) none)))
+    (λ (none : d.piece ≡ []). at_label (c.is ∙ ap (λ (l : List Event). Synced u ∷ l) (d.is ∙ ap (λ (l : List Event). Wrote u 3 label ∷ l) none))
+    (ap syncs c.is ∙ ap (λ (l : List Event). suc (syncs l)) (d.is ∙ ap (λ (l : List Event). Wrote u 3 label ∷ l) none)))
     (λ (g : Cut d.piece (Synced u) []).
-    let all : p ≡ Synced u ∷ Wrote u 3 label ∷ Synced u ∷ [] = c.is ∙ ap (λ (l : List Event). Synced u ∷ l) (d.is ∙ ap (λ (l : List Event). Wrote u 3 label ∷ l) (g.is ∙ ap (λ (l : List Event). Synced u ∷ l) (front_nil g.piece g.front))) in
+    let all : p ≡ Synced u ∷ Wrote u 3 label ∷ Synced u ∷ [] = c.is
+    ∙ ap (λ (l : List Event). Synced u ∷ l) (d.is ∙ ap (λ (l : List Event). Wrote u 3 label ∷ l) (g.is ∙ ap (λ (l : List Event). Synced u ∷ l) (front_nil g.piece g.front))) in
     at_end all (ap syncs all))
     (cut_front d.piece (Synced u) [] d.front))
     (cut_front c.piece (Wrote u 3 label) (Synced u ∷ []) c.front))
@@ -144,7 +147,8 @@ untouched_front w p es f h = go p f.rest (subst (λ (l : List Event). IsUntouche
     go [] q h = tt
     go (e ∷ p) q h = (h.0, go p q h.1)
 
-pub update_is_aside : (u w : ℕ) (ws : List Write) (label : List ℕ) (front : List Event) → u ≢ w → IsFront front (update u ws label) ⊎ IsFront front (Wrote u 3 label ∷ Synced u ∷ []) → IsUntouched front w
+pub update_is_aside : (u w : ℕ) (ws : List Write) (label : List ℕ) (front : List Event) → u ≢ w → IsFront front (update u ws label) ⊎ IsFront front (Wrote u 3 label ∷ Synced u ∷ [])
+    → IsUntouched front w
 unfolding update
 update_is_aside u w ws label front ne (inl f) = untouched_front w front (update u ws label) f (untouched_all u w ws (Synced u ∷ Wrote u 3 label ∷ Synced u ∷ []) ne (ne, (ne, (ne, tt))))
 update_is_aside u w ws label front ne (inr f) = untouched_front w front (Wrote u 3 label ∷ Synced u ∷ []) f (ne, (ne, tt))

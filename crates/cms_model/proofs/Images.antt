@@ -23,7 +23,8 @@ unfolding image_of
 image_past blocks n past = past_end blocks (n - 1) (omega arith)
 
 -- block n of the contents
-pub contents_at : (events : List Event) (u : ℕ) (start : List (List ℕ)) (n : ℕ) → 1 ≤ n → n ≤ length start → image_of (contents events u start) n ≡ block_after events u n (slice_index_or start (n - 1) [])
+pub contents_at : (events : List Event) (u : ℕ) (start : List (List ℕ)) (n : ℕ) → 1 ≤ n → n ≤ length start
+    → image_of (contents events u start) n ≡ block_after events u n (slice_index_or start (n - 1) [])
 unfolding image_of
 contents_at events u start n low high =
     let same : n - 1 + 1 ≡ n = omega arith in
@@ -52,7 +53,8 @@ there : (events : List Event) (u k n : ℕ) (bytes first : List ℕ) → k ≢ n
 there events u k n bytes first other = grind (arith, nat_tests, eqb_tells u u, eqb_tells k n, other)
 
 -- the contents but for the block written
-pub wrote_other : (events : List Event) (u k n : ℕ) (bytes : List ℕ) (start : List (List ℕ)) → 1 ≤ n → k ≢ n → image_of (contents (Wrote u k bytes ∷ events) u start) n ≡ image_of (contents events u start) n
+pub wrote_other : (events : List Event) (u k n : ℕ) (bytes : List ℕ) (start : List (List ℕ)) → 1 ≤ n → k ≢ n
+    → image_of (contents (Wrote u k bytes ∷ events) u start) n ≡ image_of (contents events u start) n
 wrote_other events u k n bytes start low other = ⊎_elim
     (λ (past : length start < n).
     image_past (contents (Wrote u k bytes ∷ events) u start) n (omega (arith, length-contents (Wrote u k bytes ∷ events) u start))
@@ -64,7 +66,8 @@ wrote_other events u k n bytes start low other = ⊎_elim
 -- an image with another block in one place
 pub put_other : (image : List (List ℕ)) (k n : ℕ) (bytes : List ℕ) → 1 ≤ n → 3 ≤ n ⊎ (1 ≤ k) → k ≢ n → image_of (slice_set image (k - 1) bytes) n ≡ image_of image n
 unfolding image_of
-put_other image k n bytes low some other = get_or-set_other image (k - 1) (n - 1) bytes [] (λ e. ⊎_elim (λ (far : 3 ≤ n). other (omega (arith, e, far))) (λ (one : 1 ≤ k). other (omega (arith, e, one))) some)
+put_other image k n bytes low some other = get_or-set_other image (k - 1) (n - 1) bytes []
+    (λ e. ⊎_elim (λ (far : 3 ≤ n). other (omega (arith, e, far))) (λ (one : 1 ≤ k). other (omega (arith, e, one))) some)
 
 pub put_same : (image : List (List ℕ)) (bytes : List ℕ) → 3 ≤ length image → image_of (slice_set image 2 bytes) 3 ≡ bytes
 unfolding image_of
@@ -101,7 +104,8 @@ unwritten (Typed bytes ∷ older) u k first none = unwritten older u k first non
 unwritten (Missed name size access ∷ older) u k first none = unwritten older u k first none
 
 -- a crash leaves such a block as it is
-pub left_unwritten : (events : List Event) (u : ℕ) (start image : List (List ℕ)) → IsCrashImage events u start image → (n : ℕ) → 1 ≤ n → Unwritten events u n → image_of (contents events u start) n ≡ image_of image n
+pub left_unwritten : (events : List Event) (u : ℕ) (start image : List (List ℕ)) → IsCrashImage events u start image → (n : ℕ) → 1 ≤ n → Unwritten events u n
+    → image_of (contents events u start) n ≡ image_of image n
 unfolding image_of
 left_unwritten events u start image crash n low none = ⊎_elim
     (λ (past : length start < n).
@@ -154,7 +158,8 @@ pub untouched_start : (events : List Event) (u : ℕ) (start : List (List ℕ)) 
 untouched_start events u start h =
     let none = untouched_unwritten events u h in
     let only : (image : List (List ℕ)) → IsCrashImage events u start image → image ≡ start =
-    λ image crash. ext_get_or [] image start crash.same_length (λ k below. unwritten_left events u (k + 1) (slice_index_or start k []) (slice_index_or image k []) none (crash.each k (let same = crash.same_length in omega arith))) in
+    λ image crash. ext_get_or [] image start crash.same_length (λ k below. unwritten_left events u (k + 1) (slice_index_or start k []) (slice_index_or image k []) none
+    (crash.each k (let same = crash.same_length in omega arith))) in
     record {
       contents_are = only (contents events u start) (crash_now events u start);
       crash_is = only;

@@ -17,7 +17,8 @@ pub place_none : (last n : ℕ) → Place last None n → (6 ≤ n) × (n ≤ la
 place_none last n (inl free) = free
 place_none last n (inr e) = absurd (cc)
 
-pub trees_within : (bsize total : ℕ) (image : Image) (dirs : List ℕ) (number : ℕ) (es : List Entry) (ms : List Met) → file_trees bsize total image dirs number es ≡ Ok ms → (n : ℕ) → In n (blocks_of ms) → (6 ≤ n) × (n ≤ total)
+pub trees_within : (bsize total : ℕ) (image : Image) (dirs : List ℕ) (number : ℕ) (es : List Entry) (ms : List Met) → file_trees bsize total image dirs number es ≡ Ok ms → (n : ℕ)
+    → In n (blocks_of ms) → (6 ≤ n) × (n ≤ total)
 unfolding file_trees blocks_of
 trees_within bsize total image dirs number [] ms e n in' = absurd (subst (λ (l : List Met). In n (blocks_of l)) (sym (ok_same [] ms e)) in')
 trees_within bsize total image dirs number (x ∷ es) ms e n in' =
@@ -57,7 +58,8 @@ in_order disk image v e =
       within = blocks_within disk image v o;
       once = once_from (all_blocks v) o.apart;
       marked = λ n le in'. ⊎_elim
-          (λ (free : (6 ≤ n) × (n ≤ v.label.blocks)). let top = free.1 in marked_from (bytes_at image v.map_met.leaves) (all_blocks v) 6 (v.label.blocks - 5) n o.marked le (omega arith) (in_held n (all_blocks v) in'))
+          (λ (free : (6 ≤ n) × (n ≤ v.label.blocks)). let top = free.1 in
+          marked_from (bytes_at image v.map_met.leaves) (all_blocks v) 6 (v.label.blocks - 5) n o.marked le (omega arith) (in_held n (all_blocks v) in'))
           (λ (is : n ≡ v.label.origin). absurd (⊎_elim (λ (four : v.label.origin ≡ 4). omega arith) (λ (five : v.label.origin ≡ 5). omega arith) label.origin))
           (blocks_within disk image v o n in');
     }

@@ -82,13 +82,16 @@ directory_blocks disk image v whole o =
     let is : v.directory.blocks ≡ up (v.directory.count * 64) disk.bsize = d.fits.blocks in
     let some = up_some (v.directory.count * 64) disk.bsize (omega arith) (omega arith) in
     let small = up_below (v.directory.count * 64) disk.bsize (omega arith) in
-    let size = (tree_has_size (form_of disk.bsize v.label.blocks F) image v.directory.levels (Some v.label.origin) v.label.origin v.directory.root v.directory.blocks v.directory_met (fan_wide disk.bsize F whole.size) (omega arith) (omega arith) d.fits.shape o.system.directory_met).1 in
+    let size = (tree_has_size (form_of disk.bsize v.label.blocks F) image v.directory.levels (Some v.label.origin) v.label.origin v.directory.root v.directory.blocks v.directory_met
+    (fan_wide disk.bsize F whole.size) (omega arith) (omega arith) d.fits.shape o.system.directory_met).1 in
     let count : v.directory.count * 64 ≡ 64 * (v.directory.count - 2 + 2) = omega arith in
-    let same : length v.directory_met.blocks ≡ tree_size (disk.bsize / 4) (up (64 * (v.directory.count - 2 + 2)) disk.bsize) = size ∙ ap (tree_size (disk.bsize / 4)) (is ∙ ap (λ (n : ℕ). up n disk.bsize) count) in
+    let same : length v.directory_met.blocks ≡ tree_size (disk.bsize / 4) (up (64 * (v.directory.count - 2 + 2)) disk.bsize) =
+    size ∙ ap (tree_size (disk.bsize / 4)) (is ∙ ap (λ (n : ℕ). up n disk.bsize) count) in
     let more : 1 ≤ tree_size (disk.bsize / 4) v.directory.blocks = tree_some (disk.bsize / 4) v.directory.blocks (omega arith) in
     omega arith
 
-pub map_blocks : (disk : Disk) (image : Image) (v : Opened) → IsWhole disk image → IsOpened disk image v → 6 ≤ v.label.blocks → v.label.blocks ≤ disk.count → length v.map_met.blocks ≡ map_size disk.bsize v.label.blocks
+pub map_blocks : (disk : Disk) (image : Image) (v : Opened) → IsWhole disk image → IsOpened disk image v → 6 ≤ v.label.blocks → v.label.blocks ≤ disk.count
+    → length v.map_met.blocks ≡ map_size disk.bsize v.label.blocks
 unfolding map_size
 map_blocks disk image v whole o big top =
     let low = (block_bounds disk.bsize whole.size).0 in
@@ -101,7 +104,8 @@ map_blocks disk image v whole o big top =
     let s2 = up_some (up v.label.blocks 8) disk.bsize (omega arith) s1 in
     let b1 = up_below v.label.blocks 8 (omega arith) in
     let b2 = up_below (up v.label.blocks 8) disk.bsize (omega arith) in
-    let size = (tree_has_size (form_of disk.bsize v.label.blocks F) image v.map.levels None v.label.origin v.map.root v.map.blocks v.map_met (fan_wide disk.bsize F whole.size) (omega arith) (omega arith) m.fits.shape o.system.map_met).1 in
+    let size = (tree_has_size (form_of disk.bsize v.label.blocks F) image v.map.levels None v.label.origin v.map.root v.map.blocks v.map_met (fan_wide disk.bsize F whole.size) (omega arith)
+    (omega arith) m.fits.shape o.system.map_met).1 in
     size ∙ ap (tree_size (disk.bsize / 4)) count
 
 -- ---- the whole
@@ -141,9 +145,11 @@ blocks_are_shared disk image v whole e =
     let directory = directory_blocks disk image v whole o in
     let map = map_blocks disk image v whole o big top in
     let count : directory_more disk.bsize (length (files_of v.entries v.contents)) ≡ directory_more disk.bsize (v.directory.count - 2) = ap (directory_more disk.bsize) (files.1 ∙ entries) in
-    let long : length (all_blocks v) ≡ length v.directory_met.blocks + (length v.map_met.blocks + length (blocks_of v.mets)) = length-append v.directory_met.blocks (v.map_met.blocks ++ blocks_of v.mets) ∙ ap (λ (n : ℕ). length v.directory_met.blocks + n) (length-append v.map_met.blocks (blocks_of v.mets)) in
+    let long : length (all_blocks v) ≡ length v.directory_met.blocks + (length v.map_met.blocks + length (blocks_of v.mets)) =
+    length-append v.directory_met.blocks (v.map_met.blocks ++ blocks_of v.mets) ∙ ap (λ (n : ℕ). length v.directory_met.blocks + n) (length-append v.map_met.blocks (blocks_of v.mets)) in
     let range : range_times (all_blocks v) 6 (total - 5) + times v.label.origin (all_blocks v) ≡ length (all_blocks v) =
-    range_all (all_blocks v) 6 (total - 5) v.label.origin low (λ x in'. ⊎_elim (λ (free : (6 ≤ x) × (x ≤ total)). let high = free.1 in inl (free.0, (omega arith))) (λ (is : x ≡ v.label.origin). inr is) (order.within x in')) in
+    range_all (all_blocks v) 6 (total - 5) v.label.origin low (λ x in'. ⊎_elim (λ (free : (6 ≤ x) × (x ≤ total)). let high = free.1 in inl (free.0, (omega arith)))
+    (λ (is : x ≡ v.label.origin). inr is) (order.within x in')) in
     let one = origin_once disk image v whole o order in
     let all = shares bytes (all_blocks v) 6 (total - 5) order.once (λ k le less h. order.marked k le (in_from k (all_blocks v) h)) in
     let lost : lost_count bytes (all_blocks v) 6 (total - 5) ≡ v.lost = o.lost in

@@ -27,7 +27,8 @@ up_less c size room some =
     go (inr le) = let t = (up_spec (c - size) size room).1 in omega arith
 
 -- the further words aren't looked at
-pub only_pointers : (f : Walk) (size holder : ℕ) (ps : List ℕ) (count : ℕ) (first : Option ℕ) → 1 ≤ size → children f size holder (take (up count size) ps) count first ≡ children f size holder ps count first
+pub only_pointers : (f : Walk) (size holder : ℕ) (ps : List ℕ) (count : ℕ) (first : Option ℕ) → 1 ≤ size
+    → children f size holder (take (up count size) ps) count first ≡ children f size holder ps count first
 only_pointers f size holder [] count first room = ap (λ (l : List ℕ). children f size holder l count first) (nothing (up count size))
   where
     nothing : (n : ℕ) → take {A = ℕ} n [] ≡ []
@@ -42,7 +43,8 @@ word_cell : (c : Cell) (rest : List ℕ) → c.block < 2 ^ 32 → word (cell_byt
 unfolding word
 word_cell c rest fits = big_number-reads_back 4 c.block (c.beside ++ rest) (omega arith)
 
-pub pointers_read : (stride more : ℕ) (cells : List Cell) (rest : List ℕ) → All (FitsCell stride) cells → pointers (length cells + more) stride (concat (map cell_bytes cells) ++ rest) ≡ map (λ c. c.block) cells ++ pointers more stride rest
+pub pointers_read : (stride more : ℕ) (cells : List Cell) (rest : List ℕ) → All (FitsCell stride) cells
+    → pointers (length cells + more) stride (concat (map cell_bytes cells) ++ rest) ≡ map (λ c. c.block) cells ++ pointers more stride rest
 unfolding pointers
 pointers_read stride more [] rest all = let none : 0 + more ≡ more = omega arith in rw none refl
 pointers_read stride more (c ∷ cs) rest all =

@@ -53,7 +53,8 @@ writes_put j u (w ∷ ws) n within some =
     writes_put (after j (Wrote u w.block w.bytes ∷ [])) u ws n within.2 some
     ∙ puts_same (now (after j (Wrote u w.block w.bytes ∷ [])) u) (put_block (now j u) w) ws n (wrote_put j u w n within.0 within.1 some)
 
-update_put : (j : Journal) (u : ℕ) (ws : List Write) (label : List ℕ) (n : ℕ) → AreWithin (length (start_of j.units u)) ws → 3 ≤ length (start_of j.units u) → 1 ≤ n → now (after j (update u ws label)) u n ≡ updated (now j u) ws label n
+update_put : (j : Journal) (u : ℕ) (ws : List Write) (label : List ℕ) (n : ℕ) → AreWithin (length (start_of j.units u)) ws → 3 ≤ length (start_of j.units u) → 1 ≤ n
+    → now (after j (update u ws label)) u n ≡ updated (now j u) ws label n
 update_put j u ws label n within three some =
     let w : Write = record { block = 3; bytes = label } in
     let before = synced j u ws in

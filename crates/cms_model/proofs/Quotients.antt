@@ -34,13 +34,15 @@ up_zero b some = sym (up_unique 0 b 0 some (omega arith) (omega arith))
 pub up_some : (a b : ℕ) → 0 < b → 1 ≤ a → 1 ≤ up a b
 up_some a b some more =
     let s = (up_spec a b some).0 in
-    ⊎_elim (λ (none : up a b < 1). let z : up a b ≡ 0 = omega arith in let y : up a b * b ≡ 0 = ap (λ (x : ℕ). x * b) z ∙ (omega arith) in absurd (omega arith)) (λ (le : 1 ≤ up a b). le) (cases_lt (up a b) 1)
+    ⊎_elim (λ (none : up a b < 1). let z : up a b ≡ 0 = omega arith in let y : up a b * b ≡ 0 = ap (λ (x : ℕ). x * b) z ∙ (omega arith) in absurd (omega arith)) (λ (le : 1 ≤ up a b). le)
+    (cases_lt (up a b) 1)
 
 -- no more pieces than things
 pub up_below : (a b : ℕ) → 0 < b → up a b ≤ a
 up_below a b some =
     let s = (up_spec a b some).1 in
-    ⊎_elim (λ (more : a < up a b). let wide : suc a * b ≤ up a b * b = mul-le-mul_right b more in let one : a * 1 ≤ a * b = mul-le-mul_left' a b some in absurd (omega arith)) (λ (le : up a b ≤ a). le) (cases_lt a (up a b))
+    ⊎_elim (λ (more : a < up a b). let wide : suc a * b ≤ up a b * b = mul-le-mul_right b more in let one : a * 1 ≤ a * b = mul-le-mul_left' a b some in absurd (omega arith)) (λ (le : up a b ≤ a). le)
+    (cases_lt a (up a b))
   where
     mul-le-mul_left' : (a b : ℕ) → 0 < b → a * 1 ≤ a * b
     mul-le-mul_left' a b some = let c = mul-le-mul_right {m = 1} {n = b} a some in omega (arith, mul_comm a b, mul_comm a 1)

@@ -60,7 +60,8 @@ stored_cut (suc n) size bytes room =
     let deeper = stored_cut n size (drop size bytes) (omega (arith, length-drop size bytes)) in
     let whole : suc n * size ≡ size + n * size = omega arith in
     let behind : drop (n * size) (drop size bytes) ≡ drop (size + n * size) bytes = drop-drop (n * size) size bytes in
-    let joined : (front ++ more) ++ drop (size + n * size) bytes ≡ front ++ (more ++ drop (n * size) (drop size bytes)) = append_assoc front more (drop (size + n * size) bytes) ∙ ap (λ (l : List ℕ). front ++ (more ++ l)) (sym behind) in
+    let joined : (front ++ more) ++ drop (size + n * size) bytes ≡ front ++ (more ++ drop (n * size) (drop size bytes)) =
+    append_assoc front more (drop (size + n * size) bytes) ∙ ap (λ (l : List ℕ). front ++ (more ++ l)) (sym behind) in
     rw whole (sym (joined ∙ ap (λ (l : List ℕ). front ++ l) (sym deeper) ∙ take-append-drop size bytes))
 
 pub fixed_cut : (bsize size count : ℕ) (bytes : List ℕ) (records : List (List ℕ)) → length records ≡ count
@@ -97,7 +98,8 @@ pub length-with_length : (text : List ℕ) → length (with_length text) ≡ 2 +
 length-with_length text = length-append (big_bytes 2 (length text)) text ∙ ap (λ (n : ℕ). n + length text) (length-bytes_high_first 2 (length text))
 
 -- one record more
-read_step : (bsize n place len : ℕ) (bytes text : List ℕ) (more : List (List ℕ)) → half bytes 0 ≡ len → 1 ≤ len → 2 + len ≤ length bytes → take len (drop 2 bytes) ≡ text → varying bsize n (place + (2 + len)) (drop (2 + len) bytes) ≡ Ok more
+read_step : (bsize n place len : ℕ) (bytes text : List ℕ) (more : List (List ℕ)) → half bytes 0 ≡ len → 1 ≤ len → 2 + len ≤ length bytes → take len (drop 2 bytes) ≡ text
+    → varying bsize n (place + (2 + len)) (drop (2 + len) bytes) ≡ Ok more
     → varying bsize (suc n) place bytes ≡ Ok (text ∷ more)
 unfolding varying
 read_step bsize n place len bytes text more half_is some room text_is more_is =
@@ -107,7 +109,8 @@ read_step bsize n place len bytes text more half_is some room text_is more_is =
     rw (half_is, t1, t2, t3, more_is, text_is) refl
 
 -- what stands in front is read again
-pub read_stored : (bsize size place : ℕ) (records : List (List ℕ)) (rest : List ℕ) → All (Fits V size) records → length rest < bsize → varying bsize (length records) place (stored V records ++ rest) ≡ Ok records
+pub read_stored : (bsize size place : ℕ) (records : List (List ℕ)) (rest : List ℕ) → All (Fits V size) records → length rest < bsize
+    → varying bsize (length records) place (stored V records ++ rest) ≡ Ok records
 unfolding varying
 read_stored bsize size place [] rest all short = rw (lt-ltb (length rest) bsize short) refl
 read_stored bsize size place (r ∷ rs) rest all short =
@@ -124,7 +127,8 @@ read_stored bsize size place (r ∷ rs) rest all short =
 abbrev pub Held : ℕ → ℕ → ℕ → List ℕ → List (List ℕ) → Type 0
 Held bsize size count bytes records = HoldRecords bsize V size bytes records × (length records ≡ count)
 
-held_more : (bsize size n : ℕ) (bytes text behind : List ℕ) (more : List (List ℕ)) → bytes ≡ with_length text ++ behind → 1 ≤ length text → length text ≤ 65535 → Held bsize size n behind more → Held bsize size (suc n) bytes (text ∷ more)
+held_more : (bsize size n : ℕ) (bytes text behind : List ℕ) (more : List (List ℕ)) → bytes ≡ with_length text ++ behind → 1 ≤ length text → length text ≤ 65535 → Held bsize size n behind more
+    → Held bsize size (suc n) bytes (text ∷ more)
 held_more bsize size n bytes text behind more is some fits (h, count) = (
   record {
     rest = h.rest;
@@ -157,9 +161,12 @@ held_varying bsize size (suc n) place (a ∷ b ∷ tail) records fits e =
     let p2 = want_ok (nat_le 1 (half bytes 0)) (Zero place) _ records p1.1 in
     let p3 = want_ok (nat_le (2 + half bytes 0) (length bytes)) (PastEnd place) _ records p2.1 in
     bind_then (varying bsize n (place + (2 + half bytes 0)) (drop (2 + half bytes 0) bytes)) _ records p3.1 (λ more is_more done.
-    joined (λ place' bytes' more' fits' e'. held_varying bsize size n place' bytes' more' fits' e') (half bytes 0) (omega arith) (leb-true 1 (half bytes 0) p2.0) (leb-true (2 + half bytes 0) (length bytes) p3.0) more is_more (ok_same _ records done))
+    joined (λ place' bytes' more' fits' e'. held_varying bsize size n place' bytes' more' fits' e') (half bytes 0) (omega arith) (leb-true 1 (half bytes 0) p2.0)
+    (leb-true (2 + half bytes 0) (length bytes) p3.0) more is_more (ok_same _ records done))
   where
-    joined : ((place' : ℕ) (bytes' : List ℕ) (more' : List (List ℕ)) → AreBytes bytes' → varying bsize n place' bytes' ≡ Ok more' → Held bsize size n bytes' more') → (len : ℕ) → len ≡ a * 256 + b → 1 ≤ len → 2 + len ≤ suc (suc (length tail)) → (more : List (List ℕ)) → varying bsize n (place + (2 + len)) (drop (2 + len) (a ∷ b ∷ tail)) ≡ Ok more → ◌≡◌ {A = List (List ℕ)} (take len (drop 2 (a ∷ b ∷ tail)) ∷ more) records → Held bsize size (suc n) (a ∷ b ∷ tail) records
+    joined : ((place' : ℕ) (bytes' : List ℕ) (more' : List (List ℕ)) → AreBytes bytes' → varying bsize n place' bytes' ≡ Ok more' → Held bsize size n bytes' more') → (len : ℕ) → len ≡ a * 256 + b
+        → 1 ≤ len → 2 + len ≤ suc (suc (length tail)) → (more : List (List ℕ)) → varying bsize n (place + (2 + len)) (drop (2 + len) (a ∷ b ∷ tail)) ≡ Ok more
+        → ◌≡◌ {A = List (List ℕ)} (take len (drop 2 (a ∷ b ∷ tail)) ∷ more) records → Held bsize size (suc n) (a ∷ b ∷ tail) records
     joined again len is some room more is_more done =
         let low : a < 256 = fits 0 in
         let high : b < 256 = fits 1 in
@@ -167,7 +174,8 @@ held_varying bsize size (suc n) place (a ∷ b ∷ tail) records fits e =
         let long : length (take len tail) ≡ len = length-take-le len tail (omega arith) in
         let is_more' : varying bsize n (place + (2 + len)) (drop len tail) ≡ Ok more = subst (λ (k : ℕ). varying bsize n (place + (2 + len)) (drop k (a ∷ b ∷ tail)) ≡ Ok more) two is_more in
         let behind : Held bsize size n (drop len tail) more = again (place + (2 + len)) (drop len tail) more (λ k. rw get_or-drop (fits (suc (suc (len + k))))) is_more' in
-        let whole : a ∷ b ∷ tail ≡ with_length (take len tail) ++ drop len tail = sym (first_bytes a b (take len tail) (drop len tail) low high (long ∙ is) ∙ ap (λ (l : List ℕ). a ∷ b ∷ l) (take-append-drop len tail)) in
+        let whole : a ∷ b ∷ tail ≡ with_length (take len tail) ++ drop len tail =
+        sym (first_bytes a b (take len tail) (drop len tail) low high (long ∙ is) ∙ ap (λ (l : List ℕ). a ∷ b ∷ l) (take-append-drop len tail)) in
         subst (Held bsize size (suc n) (a ∷ b ∷ tail)) done (held_more bsize size n (a ∷ b ∷ tail) (take len tail) (drop len tail) more whole (omega arith) (omega arith) behind)
 
 pub varying_read : (bsize size count : ℕ) (bytes : List ℕ) (records : List (List ℕ)) → AreBytes bytes
@@ -186,10 +194,12 @@ length_stored F [] = refl
 length_stored F (r ∷ rs) = length-append r (concat rs) ∙ ap (λ (n : ℕ). length r + n) (length_stored F rs) ∙ sym (sum_by-cons length r rs)
 length_stored V [] = refl
 length_stored V (r ∷ rs) =
-    length-append (with_length r) (stored V rs) ∙ ap (λ (n : ℕ). length (with_length r) + n) (length_stored V rs) ∙ ap (λ (n : ℕ). n + stored_size V rs) (length-with_length r) ∙ sym (sum_by-cons (λ (text : List ℕ). 2 + length text) r rs)
+    length-append (with_length r) (stored V rs) ∙ ap (λ (n : ℕ). length (with_length r) + n) (length_stored V rs) ∙ ap (λ (n : ℕ). n + stored_size V rs) (length-with_length r)
+    ∙ sym (sum_by-cons (λ (text : List ℕ). 2 + length text) r rs)
 
 -- records of one list of bytes, of a format, length and count, are the same
-same_stored : (format : Format) (size : ℕ) (some others : List (List ℕ)) → stored format some ≡ stored format others → All (Fits format size) some → All (Fits format size) others → length some ≡ length others → some ≡ others
+same_stored : (format : Format) (size : ℕ) (some others : List (List ℕ)) → stored format some ≡ stored format others → All (Fits format size) some → All (Fits format size) others
+    → length some ≡ length others → some ≡ others
 same_stored F size some others same all all' count =
     let again = cut_stored size some [] all in
     let again' = cut_stored size others [] all' in

@@ -37,7 +37,8 @@ comes_held disk total before later (f ∷ fs) c =
 -- ---- blocks given back and taken
 
 -- what is marked and not met stays so
-exchange_bits : (marked' met' marked met r f : Bool) → met' ≡ ((met && not r) || f) → marked' ≡ ((marked && not r) || f) → (f ≡ true → marked ≡ false) → (r ≡ true → met ≡ true) → (marked' && not met') ≡ (marked && not met)
+exchange_bits : (marked' met' marked met r f : Bool) → met' ≡ ((met && not r) || f) → marked' ≡ ((marked && not r) || f) → (f ≡ true → marked ≡ false) → (r ≡ true → met ≡ true)
+    → (marked' && not met') ≡ (marked && not met)
 exchange_bits marked' met' true met r true e1 e2 free had = let no : true ≡ false = free refl in absurd (cc)
 exchange_bits marked' met' true true true false e1 e2 free had = rw (e1, e2) refl
 exchange_bits marked' met' true true false false e1 e2 free had = rw (e1, e2) refl

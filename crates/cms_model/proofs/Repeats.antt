@@ -20,6 +20,15 @@ unfolding times
 times_append n [] ys = omega arith
 times_append n (x ∷ xs) ys = let more = times_append n xs ys in omega arith
 
+-- the first of a list, and what stands behind it
+pub times_first : (n : ℕ) (ns : List ℕ) → times n (n ∷ ns) ≡ suc (times n ns)
+unfolding times
+times_first n ns = let one : bit (n == n) ≡ 1 = hit (n == n) (eq-eqb n n refl) in omega arith
+
+pub times_later : (n x : ℕ) (ns : List ℕ) → times n ns ≤ times n (x ∷ ns)
+unfolding times
+times_later n x ns = omega arith
+
 -- what doesn't stand there isn't held
 pub not_held : (n : ℕ) (xs : List ℕ) → times n xs ≡ 0 → holds xs n ≡ false
 unfolding times holds

@@ -98,5 +98,6 @@ keeps_throughout disk j u [] v settled apart = (settled, synced_settles disk j u
 keeps_throughout disk j u (w ∷ ws) v settled apart =
     (settled, keeps_throughout disk (after j (Wrote u w.block w.bytes ∷ [])) u ws v (settled_wrote disk j u w.block w.bytes v settled apart.0) apart.1)
 
-pub keeps_old : (disk : Disk) (j : Journal) (u : ℕ) (ws : List Write) (p : List Event) (old : Opened) → IsSettled disk j u old → Apart ws (frame old) → IsFront p (to_label u ws) → IsSettled disk (after j p) u old
+pub keeps_old : (disk : Disk) (j : Journal) (u : ℕ) (ws : List Write) (p : List Event) (old : Opened) → IsSettled disk j u old → Apart ws (frame old) → IsFront p (to_label u ws)
+    → IsSettled disk (after j p) u old
 keeps_old disk j u ws p old settled apart front = at_front (λ k. IsSettled disk k u old) j (to_label u ws) p (keeps_throughout disk j u ws old settled apart) front

@@ -32,7 +32,8 @@ none_held n xs one unheld = go (times n xs) refl one
     go (suc t) e le = absurd (here (held_from n xs (omega arith)))
 
 -- free, lost and met make all
-pub shares : (bytes met : List ℕ) (n more : ℕ) → ((k : ℕ) → times k met ≤ 1) → ((k : ℕ) → n ≤ k → k < n + more → holds met k ≡ true → is_marked bytes k ≡ true) → unmarked_count bytes n more + lost_count bytes met n more + range_times met n more ≡ more
+pub shares : (bytes met : List ℕ) (n more : ℕ) → ((k : ℕ) → times k met ≤ 1) → ((k : ℕ) → n ≤ k → k < n + more → holds met k ≡ true → is_marked bytes k ≡ true)
+    → unmarked_count bytes n more + lost_count bytes met n more + range_times met n more ≡ more
 unfolding unmarked_count lost_count
 shares bytes met n zero one marked = omega arith
 shares bytes met n (suc more) one marked =

@@ -18,13 +18,15 @@ use Rattle.cms_model.proofs.Changing.{name_other, name_differs}
 
 -- ---- from files to lists
 
-trees_all : (disk : Disk) (total : ℕ) (image : Image) (dirs : List ℕ) (number : ℕ) (fs : List Kept) → HoldsFiles disk total image fs → file_trees disk.bsize total image dirs number (entries_in fs) ≡ Ok (mets_in fs)
+trees_all : (disk : Disk) (total : ℕ) (image : Image) (dirs : List ℕ) (number : ℕ) (fs : List Kept) → HoldsFiles disk total image fs
+    → file_trees disk.bsize total image dirs number (entries_in fs) ≡ Ok (mets_in fs)
 unfolding file_trees
 trees_all disk total image dirs number [] h = refl
 trees_all disk total image dirs number (f ∷ fs) h =
     rw (h.0.met (holder_of disk.bsize dirs number), trees_all disk total image dirs (number + 1) fs h.1) refl
 
-contents_all : (disk : Disk) (total : ℕ) (image : Image) (number : ℕ) (fs : List Kept) → HoldsFiles disk total image fs → contents_in disk.bsize image number (entries_in fs) (mets_in fs) ≡ Ok (records_in fs)
+contents_all : (disk : Disk) (total : ℕ) (image : Image) (number : ℕ) (fs : List Kept) → HoldsFiles disk total image fs
+    → contents_in disk.bsize image number (entries_in fs) (mets_in fs) ≡ Ok (records_in fs)
 unfolding contents_in
 contents_all disk total image number [] h = refl
 contents_all disk total image number (f ∷ fs) h = rw (h.0.records, contents_all disk total image (number + 1) fs h.1) refl
@@ -68,7 +70,8 @@ stands_opened disk image v s =
       names = none_twice 2 [] v.files s.names tt;
       mets = trees_all disk v.label.blocks image v.directory_met.leaves 2 v.files s.files;
       apart = ap (first_repeat []) same ∙ no_repeat [] (layout_blocks v) (λ n. none_first n (layout_blocks v) (s.apart n));
-      marked = ap (λ (l : List ℕ). lowest_unmarked (bytes_at image v.map_met.leaves) l 6 (v.label.blocks - 5)) same ∙ none_unmarked (bytes_at image v.map_met.leaves) (layout_blocks v) 6 (v.label.blocks - 5) s.marked;
+      marked = ap (λ (l : List ℕ). lowest_unmarked (bytes_at image v.map_met.leaves) l 6 (v.label.blocks - 5)) same
+          ∙ none_unmarked (bytes_at image v.map_met.leaves) (layout_blocks v) 6 (v.label.blocks - 5) s.marked;
       contents = contents_all disk v.label.blocks image 2 v.files s.files;
       lost = ap (λ (l : List ℕ). lost_count (bytes_at image v.map_met.leaves) l 6 (v.label.blocks - 5)) same ∙ s.lost;
     }
@@ -85,8 +88,10 @@ record Files (disk : Disk) (total : ℕ) (image : Image) (es : List Entry) (ms :
   are_records : records_in files ≡ cs
   all : HoldsFiles disk total image files
 
-files_from : (disk : Disk) (total : ℕ) (image : Image) (dirs : List ℕ) (number : ℕ) (es : List Entry) (ms : List Met) (cs : List (List (List ℕ))) → file_trees disk.bsize total image dirs number es ≡ Ok ms → contents_in disk.bsize image number es ms ≡ Ok cs → Files disk total image es ms cs
-files_from disk total image dirs number es ms cs t c = each_read disk total image dirs (Files disk total image) (record { files = []; are_entries = refl; are_mets = refl; are_records = refl; all = tt }) more number es ms cs t c
+files_from : (disk : Disk) (total : ℕ) (image : Image) (dirs : List ℕ) (number : ℕ) (es : List Entry) (ms : List Met) (cs : List (List (List ℕ)))
+    → file_trees disk.bsize total image dirs number es ≡ Ok ms → contents_in disk.bsize image number es ms ≡ Ok cs → Files disk total image es ms cs
+files_from disk total image dirs number es ms cs t c = each_read disk total image dirs (Files disk total image)
+    (record { files = []; are_entries = refl; are_mets = refl; are_records = refl; all = tt }) more number es ms cs t c
   where
     more : (holder : ℕ) (e : Entry) (m : Met) (rs : List (List ℕ)) (es : List Entry) (ms : List Met) (cs : List (List (List ℕ))) → IsRead disk total image holder e m rs
         → Files disk total image es ms cs → Files disk total image (e ∷ es) (m ∷ ms) (rs ∷ cs)
@@ -137,7 +142,18 @@ opened_stands disk image o e = go (files_from disk o.label.blocks image o.direct
     go f =
         let v = layout f.files in
         let order = in_order disk image o e in
-        let is : opened v ≡ o = λ k. record { label = o.label; directory = o.directory; directory_met = o.directory_met; map = o.map; map_met = o.map_met; entries = f.are_entries k; mets = f.are_mets k; contents = f.are_records k; lost = o.lost } in
+        let is : opened v ≡ o = λ k. record {
+          label = o.label;
+          directory = o.directory;
+          directory_met = o.directory_met;
+          map = o.map;
+          map_met = o.map_met;
+          entries = f.are_entries k;
+          mets =
+              f.are_mets k;
+          contents = f.are_records k;
+          lost = o.lost;
+        } in
         let same : all_blocks o ≡ layout_blocks v = ap (λ (l : List ℕ). o.directory_met.blocks ++ (o.map_met.blocks ++ l)) (ap blocks_of (sym f.are_mets) ∙ blocks_all f.files) in (
           v,
           record {

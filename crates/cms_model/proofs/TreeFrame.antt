@@ -28,7 +28,8 @@ abbrev pub below : Form → Image → ℕ → ℕ → ℕ → Option ℕ → Res
 below form image k root count first = children (tree form image k) (form.fan ^ k) root (pointers form.fan form.stride (image root)) count first
 
 -- a tree of one block
-pub leaf_then : (form : Form) (image : Image) (first : Option ℕ) (holder root count : ℕ) (m : Met) {C : Type 0} → tree form image 0 first holder root count ≡ Ok m → (is_allowed form.last first root ≡ true → leaf_met root ≡ m → C) → C
+pub leaf_then : (form : Form) (image : Image) (first : Option ℕ) (holder root count : ℕ) (m : Met) {C : Type 0} → tree form image 0 first holder root count ≡ Ok m
+    → (is_allowed form.last first root ≡ true → leaf_met root ≡ m → C) → C
 unfolding tree
 leaf_then form image first holder root count m e go =
     let r = want_ok (is_allowed form.last first root) (Pointer holder root) (Ok (leaf_met root)) m e in go r.0 (ok_same (leaf_met root) m r.1)
@@ -45,7 +46,8 @@ pub leaf_from : (form : Form) (image : Image) (first : Option ℕ) (holder root 
 unfolding tree
 leaf_from form image first holder root count allowed = rw allowed refl
 
-pub node_from : (form : Form) (image : Image) (k : ℕ) (first : Option ℕ) (holder root count : ℕ) (a : Met) → is_allowed form.last None root ≡ true → below form image k root count first ≡ Ok a → tree form image (suc k) first holder root count ≡ Ok (under root a)
+pub node_from : (form : Form) (image : Image) (k : ℕ) (first : Option ℕ) (holder root count : ℕ) (a : Met) → is_allowed form.last None root ≡ true → below form image k root count first ≡ Ok a
+    → tree form image (suc k) first holder root count ≡ Ok (under root a)
 unfolding tree
 node_from form image k first holder root count a allowed is_a = rw (allowed, is_a) refl
 
@@ -55,7 +57,8 @@ node_from form image k first holder root count a allowed is_a = rw (allowed, is_
 abbrev pub Keeps : Image → Image → Walk → Walk → Type 0
 Keeps before later f g = (first : Option ℕ) (holder other root count : ℕ) (m : Met) → f first holder root count ≡ Ok m → Agree m.blocks before later → g first other root count ≡ Ok m
 
-pub children_keep : (before later : Image) (f g : Walk) → Keeps before later f g → (size holder other : ℕ) (ps : List ℕ) (count : ℕ) (first : Option ℕ) (m : Met) → children f size holder ps count first ≡ Ok m → Agree m.blocks before later → children g size other ps count first ≡ Ok m
+pub children_keep : (before later : Image) (f g : Walk) → Keeps before later f g → (size holder other : ℕ) (ps : List ℕ) (count : ℕ) (first : Option ℕ) (m : Met)
+    → children f size holder ps count first ≡ Ok m → Agree m.blocks before later → children g size other ps count first ≡ Ok m
 children_keep before later f g keeps size holder other [] count first m e agree = e
 children_keep before later f g keeps size holder other (p ∷ ps) zero first m e agree = e
 children_keep before later f g keeps size holder other (p ∷ ps) (suc n) first m e agree =
@@ -64,7 +67,8 @@ children_keep before later f g keeps size holder other (p ∷ ps) (suc n) first 
     let is : joined a b ≡ m = ok_same (joined a b) m e2 in
     let all : Agree (a.blocks ++ b.blocks) before later = subst (λ (l : Met). Agree l.blocks before later) (sym is) agree in
     let one : g first other p (min (suc n) size) ≡ Ok a = keeps first holder other p (min (suc n) size) a is_a (λ x in'. all x (In-left x a.blocks b.blocks in')) in
-    let rest : children g size other ps (suc n - size) None ≡ Ok b = children_keep before later f g keeps size holder other ps (suc n - size) None b is_b (λ x in'. all x (In-right x a.blocks b.blocks in')) in
+    let rest : children g size other ps (suc n - size) None ≡ Ok b =
+    children_keep before later f g keeps size holder other ps (suc n - size) None b is_b (λ x in'. all x (In-right x a.blocks b.blocks in')) in
     rw (one, rest) (ap Ok is)))
 
 pub tree_keeps : (form : Form) (before later : Image) (k : ℕ) → Keeps before later (tree form before k) (tree form later k)
@@ -74,8 +78,10 @@ tree_keeps form before later (suc k) first holder other root count m e agree =
     node_then form before k first holder root count m e (λ allowed a is_a is.
     let all : Agree (root ∷ a.blocks) before later = subst (λ (l : Met). Agree l.blocks before later) (sym is) agree in
     let deeper : children (tree form later k) (form.fan ^ k) root (pointers form.fan form.stride (before root)) count first ≡ Ok a =
-    children_keep before later (tree form before k) (tree form later k) (tree_keeps form before later k) (form.fan ^ k) root root (pointers form.fan form.stride (before root)) count first a is_a (λ x in'. all x (inr in')) in
-    let deeper' : below form later k root count first ≡ Ok a = subst (λ (bytes : List ℕ). children (tree form later k) (form.fan ^ k) root (pointers form.fan form.stride bytes) count first ≡ Ok a) (all root (inl refl)) deeper in
+    children_keep before later (tree form before k) (tree form later k) (tree_keeps form before later k) (form.fan ^ k) root root (pointers form.fan form.stride (before root)) count first a is_a
+    (λ x in'. all x (inr in')) in
+    let deeper' : below form later k root count first ≡ Ok a = subst (λ (bytes : List ℕ). children (tree form later k) (form.fan ^ k) root (pointers form.fan form.stride bytes) count first ≡ Ok a)
+    (all root (inl refl)) deeper in
     node_from form later k first other root count a allowed deeper' ∙ ap Ok is)
 
 -- ---- what holds of the met of a tree, from its parts
@@ -90,7 +96,8 @@ record Parts (form : Form) (P : Option ℕ → Met → Type 0) : Type 0 where
   join : (first : Option ℕ) (a b : Met) → P first a → P None b → P first (joined a b)
   none : (first : Option ℕ) → P first none_met
 
-children_have : (form : Form) (P : Option ℕ → Met → Type 0) → Parts form P → (f : Walk) → AllMet P f → (size holder : ℕ) (ps : List ℕ) (count : ℕ) (first : Option ℕ) (m : Met) → children f size holder ps count first ≡ Ok m → P first m
+children_have : (form : Form) (P : Option ℕ → Met → Type 0) → Parts form P → (f : Walk) → AllMet P f → (size holder : ℕ) (ps : List ℕ) (count : ℕ) (first : Option ℕ) (m : Met)
+    → children f size holder ps count first ≡ Ok m → P first m
 children_have form P parts f each size holder [] count first m e = subst (P first) (ok_same none_met m e) (parts.none first)
 children_have form P parts f each size holder (p ∷ ps) zero first m e = subst (P first) (ok_same none_met m e) (parts.none first)
 children_have form P parts f each size holder (p ∷ ps) (suc k) first m e =

@@ -59,7 +59,8 @@ children_count f more size room none adds each holder (p ∷ ps) zero first m fi
 children_count f more size room none adds each holder (p ∷ ps) (suc n) first m fits e =
     bind_then (f first holder p (min (suc n) size)) _ m e (λ a is_a e1.
     bind_then (children f size holder ps (suc n - size) None) _ m e1 (λ b is_b e2.
-    both a b (each first holder p (min (suc n) size) a (omega arith) (omega arith) is_a) (children_count f more size room none adds each holder ps (suc n - size) None b (omega arith) is_b) (ok_same (joined a b) m e2)))
+    both a b (each first holder p (min (suc n) size) a (omega arith) (omega arith) is_a) (children_count f more size room none adds each holder ps (suc n - size) None b (omega arith) is_b)
+    (ok_same (joined a b) m e2)))
   where
     both : (a b : Met) → Counts more (min (suc n) size) a → Counts more (suc n - size) b → joined a b ≡ m → Counts more (suc n) m
     both a b ca cb is =
@@ -75,7 +76,8 @@ length-pointers zero stride bytes = refl
 length-pointers (suc n) stride bytes = ap suc (length-pointers n stride (drop stride bytes))
 
 -- any tree that reads well has its data blocks, and as many blocks as the formula says
-pub tree_counts : (form : Form) (image : Image) → 0 < form.fan → (k : ℕ) (first : Option ℕ) (holder root count : ℕ) (m : Met) → 0 < count → count ≤ form.fan ^ k → tree form image k first holder root count ≡ Ok m → Counts (λ n. pointers_to form.fan n k) count m
+pub tree_counts : (form : Form) (image : Image) → 0 < form.fan → (k : ℕ) (first : Option ℕ) (holder root count : ℕ) (m : Met) → 0 < count → count ≤ form.fan ^ k
+    → tree form image k first holder root count ≡ Ok m → Counts (λ n. pointers_to form.fan n k) count m
 unfolding pointers_to
 tree_counts form image some zero first holder root count m pos fits e =
     let one : form.fan ^ 0 ≡ 1 = pow-zero form.fan in
@@ -116,7 +118,8 @@ tree_has_size form image k first holder root count m wide some small shape e =
 abbrev Begins : ℕ → Met → Type 0
 Begins fixed m = (more : List ℕ) × (m.leaves ≡ fixed ∷ more)
 
-first_child : (f : Walk) (fixed size holder : ℕ) (ps : List ℕ) (count : ℕ) (m : Met) → 1 ≤ length ps → 1 ≤ size → 1 ≤ count → ((holder root count : ℕ) (m : Met) → 1 ≤ count → f (Some fixed) holder root count ≡ Ok m → Begins fixed m) → children f size holder ps count (Some fixed) ≡ Ok m → Begins fixed m
+first_child : (f : Walk) (fixed size holder : ℕ) (ps : List ℕ) (count : ℕ) (m : Met) → 1 ≤ length ps → 1 ≤ size → 1 ≤ count
+    → ((holder root count : ℕ) (m : Met) → 1 ≤ count → f (Some fixed) holder root count ≡ Ok m → Begins fixed m) → children f size holder ps count (Some fixed) ≡ Ok m → Begins fixed m
 first_child f fixed size holder [] count m some room pos each e = absurd (omega arith)
 first_child f fixed size holder (p ∷ ps) zero m some room pos each e = absurd (omega arith)
 first_child f fixed size holder (p ∷ ps) (suc n) m some room pos each e =
@@ -132,5 +135,6 @@ tree_first form image zero fixed holder root count m some pos e =
     leaf_then form image (Some fixed) holder root count m e (λ allowed is. let at : root ≡ fixed = eqb-true root fixed allowed in ([], sym (ap (λ (l : Met). l.leaves) is) ∙ ap (λ (n : ℕ). n ∷ []) at))
 tree_first form image (suc k) fixed holder root count m some pos e =
     node_then form image k (Some fixed) holder root count m e (λ allowed a is_a is.
-    let begins = first_child (tree form image k) fixed (form.fan ^ k) root (pointers form.fan form.stride (image root)) count a (omega (arith, length-pointers form.fan form.stride (image root))) (one-le-pow k form.fan some) pos (λ h r c x. tree_first form image k fixed h r c x some) is_a in
+    let begins = first_child (tree form image k) fixed (form.fan ^ k) root (pointers form.fan form.stride (image root)) count a (omega (arith, length-pointers form.fan form.stride (image root)))
+    (one-le-pow k form.fan some) pos (λ h r c x. tree_first form image k fixed h r c x some) is_a in
     (begins.0, sym (ap (λ (l : Met). l.leaves) is) ∙ begins.1))

@@ -38,7 +38,8 @@ unfolding update
 update_is j u ws label = after_append j (writes u ws) (Synced u ∷ Wrote u 3 label ∷ Synced u ∷ [])
 
 -- with the label's write the contents are what they are in the end
-pub opens_labelled : (disk : Disk) (j : Journal) (u : ℕ) (ws : List Write) (label : List ℕ) (new : Opened) → open_of disk (now (after j (update u ws label)) u) ≡ Ok new → open_of disk (now (labelled j u ws label) u) ≡ Ok new
+pub opens_labelled : (disk : Disk) (j : Journal) (u : ℕ) (ws : List Write) (label : List ℕ) (new : Opened) → open_of disk (now (after j (update u ws label)) u) ≡ Ok new
+    → open_of disk (now (labelled j u ws label) u) ≡ Ok new
 opens_labelled disk j u ws label new opens =
     ap (open_of disk) (sym (synced_now (labelled j u ws label) u)) ∙ ap (λ (k : Journal). open_of disk (now k u)) (sym (update_is j u ws label)) ∙ opens
 
@@ -136,7 +137,8 @@ has_label disk image v e =
     (cases_lt (length image) 3)
 
 -- an image with another label in block 3
-relabel_opens : (disk : Disk) (image : List (List ℕ)) (bytes : List ℕ) (old : Opened) (label : Label) → open_of disk (image_of image) ≡ Ok old → label_of disk.bsize disk.count bytes ≡ Ok label → label.origin ≡ old.label.origin → label.blocks ≡ old.label.blocks
+relabel_opens : (disk : Disk) (image : List (List ℕ)) (bytes : List ℕ) (old : Opened) (label : Label) → open_of disk (image_of image) ≡ Ok old → label_of disk.bsize disk.count bytes ≡ Ok label
+    → label.origin ≡ old.label.origin → label.blocks ≡ old.label.blocks
     → open_of disk (image_of (slice_set image 2 bytes)) ≡ Ok (relabelled old label)
 relabel_opens disk image bytes old label e reads same_origin same_blocks =
     let o = open_ok disk (image_of image) old e in
@@ -165,4 +167,5 @@ relabel_is_whole disk j u bytes old label r = record {
     put image left = relabel_opens disk image bytes old label (settled_opens disk j u old r.settled image left) r.reads r.same_origin r.same_blocks
 
     opens : open_of disk (now (after j (Wrote u 3 bytes ∷ [])) u) ≡ Ok (relabelled old label)
-    opens = ap (λ (blocks : List (List ℕ)). open_of disk (image_of blocks)) (contents_wrote j.events u 3 bytes (start_of j.units u) (omega arith)) ∙ put (contents_of j u) (crash_now j.events u (start_of j.units u))
+    opens = ap (λ (blocks : List (List ℕ)). open_of disk (image_of blocks)) (contents_wrote j.events u 3 bytes (start_of j.units u) (omega arith))
+        ∙ put (contents_of j u) (crash_now j.events u (start_of j.units u))

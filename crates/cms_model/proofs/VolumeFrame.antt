@@ -19,7 +19,8 @@ bytes_keep before later [] agree = refl
 bytes_keep before later (n ∷ ns) agree = rw (agree n (inl refl), bytes_keep before later ns (λ x in'. agree x (inr in'))) refl
 
 -- the trees of files
-pub trees_keep : (bsize total : ℕ) (before later : Image) (dirs : List ℕ) (number : ℕ) (es : List Entry) (ms : List Met) → file_trees bsize total before dirs number es ≡ Ok ms → Agree (blocks_of ms) before later → file_trees bsize total later dirs number es ≡ Ok ms
+pub trees_keep : (bsize total : ℕ) (before later : Image) (dirs : List ℕ) (number : ℕ) (es : List Entry) (ms : List Met) → file_trees bsize total before dirs number es ≡ Ok ms
+    → Agree (blocks_of ms) before later → file_trees bsize total later dirs number es ≡ Ok ms
 unfolding file_trees blocks_of
 trees_keep bsize total before later dirs number [] ms e agree = e
 trees_keep bsize total before later dirs number (x ∷ es) ms e agree =
@@ -52,7 +53,8 @@ trees_inside bsize total image dirs number (x ∷ es) ms e =
     subst (λ (l : List Met). LeavesIn l (blocks_of l)) (ok_same (m ∷ more) ms e2)
     (λ n in'. In-left n m.blocks (blocks_of more) (inside n in'), wider more (blocks_of more) m.blocks (trees_inside bsize total image dirs (number + 1) es more is_more))))
 
-pub contents_keep : (bsize : ℕ) (before later : Image) (number : ℕ) (es : List Entry) (ms : List Met) (ns : List ℕ) → LeavesIn ms ns → Agree ns before later → contents_in bsize before number es ms ≡ contents_in bsize later number es ms
+pub contents_keep : (bsize : ℕ) (before later : Image) (number : ℕ) (es : List Entry) (ms : List Met) (ns : List ℕ) → LeavesIn ms ns → Agree ns before later
+    → contents_in bsize before number es ms ≡ contents_in bsize later number es ms
 unfolding contents_in
 contents_keep bsize before later number [] ms ns inside agree = refl
 contents_keep bsize before later number (e ∷ es) [] ns inside agree = refl
@@ -62,7 +64,8 @@ contents_keep bsize before later number (e ∷ es) (m ∷ ms) ns inside agree =
 -- ---- the whole volume
 
 -- an image that agrees on all but the label, and whose label has the same origin and number of blocks
-pub opened_under : (disk : Disk) (before later : Image) (v : Opened) (label : Label) → IsOpened disk before v → label_of disk.bsize disk.count (later 3) ≡ Ok label → label.origin ≡ v.label.origin → label.blocks ≡ v.label.blocks
+pub opened_under : (disk : Disk) (before later : Image) (v : Opened) (label : Label) → IsOpened disk before v → label_of disk.bsize disk.count (later 3) ≡ Ok label → label.origin ≡ v.label.origin
+    → label.blocks ≡ v.label.blocks
     → Agree (v.label.origin ∷ all_blocks v) before later → IsOpened disk later (record v { label = label })
 opened_under disk before later v label o reads same_origin same_blocks agree =
     let total = v.label.blocks in
@@ -70,9 +73,11 @@ opened_under disk before later v label o reads same_origin same_blocks agree =
     let form = form_of disk.bsize total F in
     let dirs = λ (n : ℕ) (in' : In n v.directory_met.blocks). agree n (inr (In-left n v.directory_met.blocks (v.map_met.blocks ++ blocks_of v.mets) in')) in
     let maps = λ (n : ℕ) (in' : In n v.map_met.blocks). agree n (inr (In-right n v.directory_met.blocks (v.map_met.blocks ++ blocks_of v.mets) (In-left n v.map_met.blocks (blocks_of v.mets) in'))) in
-    let files = λ (n : ℕ) (in' : In n (blocks_of v.mets)). agree n (inr (In-right n v.directory_met.blocks (v.map_met.blocks ++ blocks_of v.mets) (In-right n v.map_met.blocks (blocks_of v.mets) in'))) in
+    let files = λ (n : ℕ) (in' : In n (blocks_of v.mets)). agree n
+    (inr (In-right n v.directory_met.blocks (v.map_met.blocks ++ blocks_of v.mets) (In-right n v.map_met.blocks (blocks_of v.mets) in'))) in
     let dir_bytes : bytes_at later v.directory_met.leaves ≡ bytes_at before v.directory_met.leaves =
-    sym (bytes_keep before later v.directory_met.leaves (λ n in'. dirs n (tree_inside form before v.directory.levels (Some at) at v.directory.root v.directory.blocks v.directory_met o.system.directory_met n in'))) in
+    sym (bytes_keep before later v.directory_met.leaves (λ n in'. dirs n
+    (tree_inside form before v.directory.levels (Some at) at v.directory.root v.directory.blocks v.directory_met o.system.directory_met n in'))) in
     let map_bytes : bytes_at later v.map_met.leaves ≡ bytes_at before v.map_met.leaves =
     sym (bytes_keep before later v.map_met.leaves (λ n in'. maps n (tree_inside form before v.map.levels None at v.map.root v.map.blocks v.map_met o.system.map_met n in'))) in
     let origin : before at ≡ later at = agree at (inl refl) in
@@ -90,7 +95,8 @@ opened_under disk before later v label o reads same_origin same_blocks agree =
       mets = rw same_blocks (trees_keep disk.bsize total before later v.directory_met.leaves 2 v.entries v.mets o.mets files);
       apart = o.apart;
       marked = rw (same_blocks, map_bytes) o.marked;
-      contents = sym (contents_keep disk.bsize before later 2 v.entries v.mets (blocks_of v.mets) (trees_inside disk.bsize total before v.directory_met.leaves 2 v.entries v.mets o.mets) files) ∙ o.contents;
+      contents = sym (contents_keep disk.bsize before later 2 v.entries v.mets (blocks_of v.mets) (trees_inside disk.bsize total before v.directory_met.leaves 2 v.entries v.mets o.mets) files)
+          ∙ o.contents;
       lost = rw (same_blocks, map_bytes) o.lost;
     }
 

@@ -24,8 +24,10 @@ at_rest P text k le done more = ⊎_elim
 pub end : (text : List ℕ) (row : List Bool) → length text ≤ 8 → row ≡ slice_set (replicate 9 false) (length text) true → IsRow (fits []) text row
 unfolding fits
 end text row few is = λ k le. at_rest (λ rest. slice_index_or row k false ≡ fits [] rest) text k le
-    (λ (e : k ≡ length text). let room : length text < 9 = omega arith in subst (λ r. slice_index_or r k false ≡ true) (sym is) (rw e (get_or-set_same (replicate 9 false) (length text) true false room)))
-    (λ (lt : k < length text). let ne : k ≢ length text = omega arith in let near : k < 9 = omega arith in subst (λ r. slice_index_or r k false ≡ false) (sym is) (get_or-set_other (replicate 9 false) (length text) k true false ne ∙ get_or-replicate 9 k false false near))
+    (λ (e : k ≡ length text). let room : length text < 9 = omega arith in
+    subst (λ r. slice_index_or r k false ≡ true) (sym is) (rw e (get_or-set_same (replicate 9 false) (length text) true false room)))
+    (λ (lt : k < length text). let ne : k ≢ length text = omega arith in let near : k < 9 = omega arith in
+    subst (λ r. slice_index_or r k false ≡ false) (sym is) (get_or-set_other (replicate 9 false) (length text) k true false ne ∙ get_or-replicate 9 k false false near))
 
 -- from a place on the row says where some suffix passes, and before it where the rest itself does
 pub record IsSuffixRow (from : ℕ) (test : List ℕ → Bool) (text : List ℕ) (rests row : List Bool) : Type 0 where

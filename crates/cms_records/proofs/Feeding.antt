@@ -75,7 +75,8 @@ size_front None longest place all k wide = ⊎_elim
 pub size_least : (longest place : ℕ) (bytes : List ℕ) (n : ℕ) → record_size None longest place bytes ≡ Ok (Some n) → 3 ≤ n
 size_least longest place bytes n is = go (nat_lt (length bytes) 2) (nat_le 1 (half bytes 0)) refl is
   where
-    go : (a b : Bool) → nat_le 1 (half bytes 0) ≡ b → (if a then Ok None else (want b (Zero place) >> (want (nat_le (half bytes 0) longest) (PastEnd place) >> Ok (Some (2 + half bytes 0))))) ≡ Ok (Some n) → 3 ≤ n
+    go : (a b : Bool) → nat_le 1 (half bytes 0) ≡ b → (if a then Ok None else (want b (Zero place) >> (want (nat_le (half bytes 0) longest) (PastEnd place) >> Ok (Some (2 + half bytes 0)))))
+        ≡ Ok (Some n) → 3 ≤ n
     go true b e is = absurd (cc is)
     go false false e is = absurd (cc is)
     go false true e is = let low = leb-true 1 (half bytes 0) e in last (nat_le (half bytes 0) longest) is
@@ -87,11 +88,13 @@ size_least longest place bytes n is = go (nat_lt (length bytes) 2) (nat_le 1 (ha
 -- ---- a piece is fed
 
 -- the front that was taken first tells the size
-pub size_told : (fixed : Option ℕ) (longest place head : ℕ) (before more : List ℕ) → (fixed ≡ None → head ≡ 2) → record_size fixed longest place (take (max head (length before)) (before ++ more)) ≡ record_size fixed longest place (before ++ more)
+pub size_told : (fixed : Option ℕ) (longest place head : ℕ) (before more : List ℕ) → (fixed ≡ None → head ≡ 2)
+    → record_size fixed longest place (take (max head (length before)) (before ++ more)) ≡ record_size fixed longest place (before ++ more)
 size_told fixed longest place head before more two = size_front fixed longest place (before ++ more) (max head (length before)) (λ none. let h = two none in omega arith)
 
 -- what came before is no more than the record
-pub part_fits : (fixed : Option ℕ) (longest place head n : ℕ) (before more : List ℕ) → ((m : ℕ) → fixed ≡ Some m → head ≡ m) → (fixed ≡ None → head ≡ 2) → IsPart (record_size fixed longest place before) false before
+pub part_fits : (fixed : Option ℕ) (longest place head n : ℕ) (before more : List ℕ) → ((m : ℕ) → fixed ≡ Some m → head ≡ m) → (fixed ≡ None → head ≡ 2)
+    → IsPart (record_size fixed longest place before) false before
     → record_size fixed longest place (before ++ more) ≡ Ok (Some n) → max head (length before) ≤ n
 part_fits (Some m) longest place head n before more heads two part is = let h = heads m refl in let same : m ≡ n = cc is in omega arith
 part_fits None longest place head n before more heads two part is =
@@ -100,7 +103,8 @@ part_fits None longest place head n before more heads two part is =
     ⊎_elim
     (λ (short : length before ≤ 1). omega arith)
     (λ (long : 2 ≤ length before).
-    let same : record_size None longest place before ≡ Ok (Some n) = sizes_same longest place before (before ++ more) long (omega (arith, length-append before more)) (sym (half_front before more 0 (omega arith))) ∙ is in
+    let same : record_size None longest place before ≡ Ok (Some n) =
+    sizes_same longest place before (before ++ more) long (omega (arith, length-append before more)) (sym (half_front before more 0 (omega arith))) ∙ is in
     let fits : IsPart (Ok (Some n)) false before = subst (λ (r : Result (Option ℕ) VarFault). IsPart r false before) same part in
     omega arith)
     (one_or (length before))
@@ -158,7 +162,8 @@ whole_told n all second is = ⊎_elim
     not_equal a b less = ⊎_elim (λ (same : (a == b) ≡ true). let e = eqb-true a b same in absurd (omega arith)) (λ (is : (a == b) ≡ false). is) (cases_Bool (a == b))
 
 -- a front of so many bytes is a part of the record
-pub front_is_part : (fixed : Option ℕ) (longest place n : ℕ) (all second : List ℕ) → second ≡ take n all → record_size fixed longest place all ≡ Ok (Some n) → IsPart (record_size fixed longest place second) (length second == n) second
+pub front_is_part : (fixed : Option ℕ) (longest place n : ℕ) (all second : List ℕ) → second ≡ take n all → record_size fixed longest place all ≡ Ok (Some n)
+    → IsPart (record_size fixed longest place second) (length second == n) second
 front_is_part fixed longest place n all second is size =
     let least : fixed ≡ None → 2 ≤ n = λ none. let l = size_least longest place all n (subst (λ (f : Option ℕ). record_size f longest place all ≡ Ok (Some n)) none size) in omega arith in
     let same : record_size fixed longest place second ≡ Ok (Some n) = ap (record_size fixed longest place) is ∙ (size_front fixed longest place all n least ∙ size) in

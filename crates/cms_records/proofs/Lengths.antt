@@ -17,7 +17,8 @@ Records = Result (List (List ℕ)) VarFault
 abbrev pub behind : ℕ → ℕ → ℕ → List ℕ → ℕ → Records
 behind bsize n place bytes size = varying bsize n (place + (2 + size)) (drop (2 + size) bytes) >>= λ more. Ok (take size (drop 2 bytes) ∷ more)
 
-tests_then : {B : Type 0} (a b c : Bool) (d e f : VarFault) (size : ℕ) (rest : ℕ → Result B VarFault) → (want a d >> (want b e >> (want c f >> rest size))) ≡ ((want a d >> (want b e >> (want c f >> Ok size))) >>= rest)
+tests_then : {B : Type 0} (a b c : Bool) (d e f : VarFault) (size : ℕ) (rest : ℕ → Result B VarFault)
+    → (want a d >> (want b e >> (want c f >> rest size))) ≡ ((want a d >> (want b e >> (want c f >> Ok size))) >>= rest)
 tests_then false b c d e f size rest = refl
 tests_then true false c d e f size rest = refl
 tests_then true true false d e f size rest = refl
@@ -26,7 +27,8 @@ tests_then true true true d e f size rest = refl
 -- the first record, and those behind it
 pub varying_next : (bsize n place : ℕ) (bytes : List ℕ) → varying bsize (suc n) place bytes ≡ (first_size place bytes >>= behind bsize n place bytes)
 unfolding varying first_size
-varying_next bsize n place bytes = tests_then (nat_le 2 (length bytes)) (nat_le 1 (half bytes 0)) (nat_le (2 + half bytes 0) (length bytes)) (PastEnd place) (Zero place) (PastEnd place) (half bytes 0) (behind bsize n place bytes)
+varying_next bsize n place bytes = tests_then (nat_le 2 (length bytes)) (nat_le 1 (half bytes 0)) (nat_le (2 + half bytes 0) (length bytes)) (PastEnd place) (Zero place) (PastEnd place) (half bytes 0)
+    (behind bsize n place bytes)
 
 -- what the length of a first record tells
 pub record Begins (bytes : List ℕ) (size : ℕ) : Type 0 where
@@ -92,21 +94,24 @@ comes_next bsize count bytes (suc n) place size long comes some is =
     rw (down, ← further)
     (comes ∙ ap (with_longest size) first ∙ with_next size long (take long (drop 2 rest)) (varying bsize n (place + (2 + long)) (drop (2 + long) rest)) text)
 
-pub comes_to_fault : (bsize count : ℕ) (bytes : List ℕ) (left place size : ℕ) (fault : VarFault) → Comes bsize count bytes left place size → 0 < left → first_size place (drop place bytes) ≡ Err fault → longest_in bsize count bytes ≡ Err fault
+pub comes_to_fault : (bsize count : ℕ) (bytes : List ℕ) (left place size : ℕ) (fault : VarFault) → Comes bsize count bytes left place size → 0 < left → first_size place (drop place bytes) ≡ Err fault
+    → longest_in bsize count bytes ≡ Err fault
 comes_to_fault bsize count bytes zero place size fault comes some is = absurd (omega arith)
 comes_to_fault bsize count bytes (suc n) place size fault comes some is =
     let rest = drop place bytes in
     let first : varying bsize (suc n) place rest ≡ Err fault = varying_next bsize n place rest ∙ ap (λ (r : Result ℕ VarFault). r >>= behind bsize n place rest) is in
     comes ∙ ap (with_longest size) first
 
-pub comes_to_end : (bsize count : ℕ) (bytes : List ℕ) (left place size : ℕ) → Comes bsize count bytes left place size → left ≡ 0 → nat_lt (length (drop place bytes)) bsize ≡ true → longest_in bsize count bytes ≡ Ok size
+pub comes_to_end : (bsize count : ℕ) (bytes : List ℕ) (left place size : ℕ) → Comes bsize count bytes left place size → left ≡ 0 → nat_lt (length (drop place bytes)) bsize ≡ true
+    → longest_in bsize count bytes ≡ Ok size
 unfolding varying longest
 comes_to_end bsize count bytes left place size comes none fits =
     let e : max size 0 ≡ size = omega arith in
     let here : with_longest size (varying bsize left place (drop place bytes)) ≡ Ok size = rw (none, fits) (ap (λ (n : ℕ). Ok n) e) in
     comes ∙ here
 
-pub comes_to_left : (bsize count : ℕ) (bytes : List ℕ) (left place size : ℕ) → Comes bsize count bytes left place size → left ≡ 0 → nat_lt (length (drop place bytes)) bsize ≡ false → longest_in bsize count bytes ≡ Err (Left place)
+pub comes_to_left : (bsize count : ℕ) (bytes : List ℕ) (left place size : ℕ) → Comes bsize count bytes left place size → left ≡ 0 → nat_lt (length (drop place bytes)) bsize ≡ false
+    → longest_in bsize count bytes ≡ Err (Left place)
 unfolding varying
 comes_to_left bsize count bytes left place size comes none over =
     let here : with_longest size (varying bsize left place (drop place bytes)) ≡ Err (Left place) = rw (none, over) refl in
@@ -137,7 +142,13 @@ varying_reads bsize (suc n) place bytes records is =
     both : (size : ℕ) (more : List (List ℕ)) → Begins bytes size → Reads n (drop (2 + size) bytes) more → take size (drop 2 bytes) ∷ more ≡ records → Reads (suc n) bytes records
     both size more b r done =
         record {
-          begin = (b.two, subst (λ (m : ℕ). 1 ≤ m) (sym b.is) b.some, subst (λ (m : ℕ). 2 + m ≤ length bytes) (sym b.is) b.within, subst (λ (m : ℕ). BeginWith n (drop (2 + m) bytes)) (sym b.is) r.begin);
+          begin = (
+            b.two,
+            subst (λ (m : ℕ). 1 ≤ m) (sym b.is) b.some,
+            subst (λ (m : ℕ). 2 + m ≤ length bytes) (sym b.is) b.within,
+            subst (λ (m : ℕ). BeginWith n (drop (2 + m) bytes))
+                (sym b.is) r.begin,
+          );
           front_is = rw (b.is, r.front_is) done;
         }
 
@@ -155,7 +166,9 @@ longest_fails bsize count bytes fault is = go (varying bsize count 0 bytes) is
     go (Ok records) e = absurd (cc)
     go (Err d) e = cc
 
-pub begin_next : (n : ℕ) (bytes : List ℕ) → BeginWith n bytes → 0 < n → (2 ≤ length bytes) × (2 + half bytes 0 ≤ length bytes) × BeginWith (n - 1) (drop (2 + half bytes 0) bytes) × (front n bytes ≡ take (half bytes 0) (drop 2 bytes) ∷ front (n - 1) (drop (2 + half bytes 0) bytes))
+pub begin_next : (n : ℕ) (bytes : List ℕ) → BeginWith n bytes → 0 < n
+    → (2 ≤ length bytes) × (2 + half bytes 0 ≤ length bytes) × BeginWith (n - 1) (drop (2 + half bytes 0) bytes)
+    × (front n bytes ≡ take (half bytes 0) (drop 2 bytes) ∷ front (n - 1) (drop (2 + half bytes 0) bytes))
 unfolding front BeginWith
 begin_next zero bytes begin some = absurd (omega arith)
 begin_next (suc n) bytes begin some = let down : suc n - 1 ≡ n = omega arith in rw down (begin.0, begin.2, begin.3, refl)

@@ -92,7 +92,8 @@ first_cut place bytes n two is some few =
 -- ---- what is told of all
 
 pub with_none : (read : Records) → (read >>= λ records. Ok (record { longest = longest records; stored = filled_by records })) ≡ with_before 0 0 read
-with_none (Ok records) = let e : longest records ≡ max 0 (longest records) = omega arith in let f : filled_by records ≡ 0 + filled_by records = omega arith in ap (λ (n : ℕ). Ok (record { longest = n; stored = filled_by records })) e ∙ ap (λ (n : ℕ). Ok (record { longest = max 0 (longest records); stored = n })) f
+with_none (Ok records) = let e : longest records ≡ max 0 (longest records) = omega arith in let f : filled_by records ≡ 0 + filled_by records = omega arith in
+    ap (λ (n : ℕ). Ok (record { longest = n; stored = filled_by records })) e ∙ ap (λ (n : ℕ). Ok (record { longest = max 0 (longest records); stored = n })) f
 with_none (Err e) = refl
 
 filled_next : (text : List ℕ) (more : List (List ℕ)) (long : ℕ) → length text ≡ long → filled_by (text ∷ more) ≡ 2 + long + filled_by more
@@ -100,7 +101,8 @@ filled_next text more long is =
     let two : length (with_length text) ≡ 2 + length text = omega arith in
     length-append (with_length text) (concat (map with_length more)) ∙ omega (arith, two)
 
-with_next : (size place long : ℕ) (text : List ℕ) (read : Records) → length text ≡ long → with_before size place (read >>= λ more. Ok (text ∷ more)) ≡ with_before (max size long) (place + (2 + long)) read
+with_next : (size place long : ℕ) (text : List ℕ) (read : Records) → length text ≡ long
+    → with_before size place (read >>= λ more. Ok (text ∷ more)) ≡ with_before (max size long) (place + (2 + long)) read
 unfolding longest
 with_next size place long text (Ok records) is =
     let e : max size (max (length text) (longest records)) ≡ max (max size long) (longest records) = omega arith in
@@ -110,7 +112,8 @@ with_next size place long text (Err e) is = refl
 
 -- a first record, and those behind it
 step_next : (bsize left place size : ℕ) (all : List ℕ) (long : ℕ) → 1 ≤ left → first_size place (drop place all) ≡ Ok long
-    → with_before size place (varying bsize left place (drop place all)) ≡ with_before (max size long) (place + (2 + long)) (varying bsize (left - 1) (place + (2 + long)) (drop (place + (2 + long)) all))
+    → with_before size place (varying bsize left place (drop place all))
+    ≡ with_before (max size long) (place + (2 + long)) (varying bsize (left - 1) (place + (2 + long)) (drop (place + (2 + long)) all))
 step_next bsize zero place size all long some is = absurd (omega arith)
 step_next bsize (suc n) place size all long some is =
     let rest = drop place all in
@@ -146,7 +149,8 @@ holds_more count bytes piece s fed is h =
     record {
       fed = omega arith;
       within = omega arith;
-      comes = λ rest. subst (λ (l : List ℕ). sizes_in s.bsize count l ≡ with_before s.longest s.place (varying s.bsize s.left s.place (drop s.place l))) (sym (append_assoc bytes piece rest)) (h.comes (piece ++ rest));
+      comes = λ rest. subst (λ (l : List ℕ). sizes_in s.bsize count l ≡ with_before s.longest s.place (varying s.bsize s.left s.place (drop s.place l))) (sym (append_assoc bytes piece rest))
+          (h.comes (piece ++ rest));
       size = sized s.size h.size;
     }
   where
@@ -171,7 +175,8 @@ holds_next count bytes s n h some is one fits =
     }
 
 -- a length of 0
-pub holds_zero : (count : ℕ) (bytes : List ℕ) (s : Scan) → Holds count bytes s → 1 ≤ s.left → half (drop s.place bytes) 0 ≡ 0 → s.place + 2 ≤ s.fed → (rest : List ℕ) → sizes_in s.bsize count (bytes ++ rest) ≡ Err (Zero s.place)
+pub holds_zero : (count : ℕ) (bytes : List ℕ) (s : Scan) → Holds count bytes s → 1 ≤ s.left → half (drop s.place bytes) 0 ≡ 0 → s.place + 2 ≤ s.fed → (rest : List ℕ)
+    → sizes_in s.bsize count (bytes ++ rest) ≡ Err (Zero s.place)
 holds_zero count bytes s h some is fits rest =
     let was = h.fed in
     let long = length-drop s.place (bytes ++ rest) in
@@ -259,7 +264,8 @@ ends_left count bytes s f none much =
     let here : with_before s.longest s.place (varying s.bsize s.left s.place (drop s.place bytes)) ≡ Err (Left s.place) = rw (none, over) refl in
     whole count bytes s f.holds ∙ here
 
-pub ends_well : (count : ℕ) (bytes : List ℕ) (s : Scan) → IsFed count bytes s → s.left ≡ 0 → s.fed - s.place < s.bsize → sizes_in s.bsize count bytes ≡ Ok (record { longest = s.longest; stored = s.place })
+pub ends_well : (count : ℕ) (bytes : List ℕ) (s : Scan) → IsFed count bytes s → s.left ≡ 0 → s.fed - s.place < s.bsize
+    → sizes_in s.bsize count bytes ≡ Ok (record { longest = s.longest; stored = s.place })
 unfolding varying longest
 ends_well count bytes s f none few =
     let was = f.holds.fed in

@@ -1,5 +1,5 @@
 -- Calls join, with no knowledge of what a command is.
-use Rattle.std.proofs.Common.{◌≡◌, ◌≤◌, ℕ, ℤ, List, Result, Ok, Err, IfOk, refl, ap, sym, ◌∙◌, subst, arith}
+use Rattle.std.proofs.Common.{◌≡◌, ◌≤◌, ℕ, ℤ, List, [], Result, Ok, Err, IfOk, refl, ap, sym, ◌∙◌, subst, arith}
 use Rattle.cms_journal.specs.Causes.{Rose}
 use Rattle.cms_journal.proofs.Pieces.{grown_same, grown_idle, grown_then}
 use Rattle.cms_machine.specs.Slots.{Slot}
@@ -15,8 +15,9 @@ use Rattle.cms_search.specs.declared.state.State.{State}
 use Rattle.cms_search.specs.declared.state.Course as declared
 use Rattle.cms_search.specs.declared.state.Course.TheVariants as course
 use Rattle.cms_search.specs.Machine.{Went}
-use Rattle.cms_search.specs.Calls.{Spot, IsLater, IsUsable, Meaning, at, holds, Plays, Does, Acts, Comes, after_world, plain, said, machine_of, course_of, refusal_tree}
+use Rattle.cms_search.specs.Calls.{Spot, IsLater, IsUsable, Meaning, at, holds, Plays, Does, Acts, Comes, after_world, said, machine_of, course_of, refusal_tree}
 use Rattle.cms_world.specs.Seen.{Seen}
+use Rattle.cms_search.specs.Talks.{Talks}
 use Rattle.cms_search.proofs.Holding.{holds_idle, usable_grown}
 
 -- ---- counts and journals
@@ -45,9 +46,9 @@ later_does before now t r d does = record {
   edges = does.edges;
 }
 
--- a disk that is the same may be used still
-pub usable_later : (old new : Spot) → IsLater old.world new.world → new.state.disk_a ≡ old.state.disk_a → IsUsable old → IsUsable new
-usable_later old new later same usable = rw same (usable_grown old.world.told new.world.told old.state.disk_a later.grown usable)
+-- a table that is the same may be used still
+pub usable_later : (old new : Spot) → IsLater old.world new.world → new.state.table ≡ old.state.table → IsUsable old → IsUsable new
+usable_later old new later same usable = rw same (usable_grown old.world.told new.world.told old.state.table later.grown usable)
 
 -- ---- a call of the console or the clock alone
 
@@ -60,12 +61,49 @@ at_kept old new units faults same =
 
 -- what it makes of the machine's units
 pub holds_does : {R T : Type 0} (old new : Spot) (t : Act R) (r : Result T End) (d : T → R) (units : List Slot) → Does old.world new.world t r d
-    → new.state.disk_a ≡ old.state.disk_a → holds old units → holds new units
-holds_does old new t r d units does same h = rw same (holds_idle old.world.told new.world.told old.state.disk_a units does.idle h)
+    → new.state.table ≡ old.state.table → holds old units → holds new units
+holds_does old new t r d units does same h = rw same (holds_idle old.world.told new.world.told old.state.table units does.idle h)
 
 plays_does : {R T : Type 0} (old new : Spot) (t : Act R) (r : Result T End) (d : T → R) (units : List Slot) → Does old.world new.world t r d
     → new.state ≡ old.state → Plays (at old units) (at new units) t r d
 plays_does old new t r d units does same = let faults = does.faults in rw (same, faults) (does.each (at old units) refl)
+
+-- ---- a call that only talks
+
+later_talks : {R T : Type 0} (before now : Seen) (was is : ConsoleState) (t : Act R) (r : Result T End) (d : T → R) → Talks before now was is t r d → IsLater before now
+later_talks before now was is t r d talks = record {
+  grown = grown_idle before.told now.told talks.idle;
+  faults = omega (arith, talks.faults);
+  edges = talks.edges;
+}
+
+plays_talks : {R T : Type 0} (old new : Spot) (t : Act R) (r : Result T End) (d : T → R) (units : List Slot)
+    → Talks old.world new.world old.state.console new.state.console t r d → Plays (at old units) (at new units) t r d
+plays_talks old new t r d units talks = let faults = talks.faults in rw faults (talks.each old.world.faults units)
+
+-- on whichever units, it did all of its tree or was cut off in it
+pub acts_talks : {R T : Type 0} (old new : Spot) (t : List Slot → Act R) (r : Result T End) (d : Meaning T R) → new.state.table ≡ old.state.table
+    → ((units : List Slot) → Talks old.world new.world old.state.console new.state.console (t units) r (d units)) → Acts old new t r d
+acts_talks old new t (Ok x) d table talks =
+    let later = later_talks old.world new.world old.state.console new.state.console (t []) (Ok x) (d []) (talks []) in
+    record {
+      each = λ units h. (
+        units,
+        (
+          rw table (holds_idle old.world.told new.world.told old.state.table units (talks units).idle h),
+          plays_talks old new (t units) (Ok x) (d units) units (talks units),
+        ),
+      );
+      later = later;
+      usable = usable_later old new later table;
+      cause = tt;
+    }
+acts_talks {T = T} old new t (Err e) d table talks = record {
+  each = λ units h. (units, plays_talks {T = T} old new (t units) (Err e) (d units) units (talks units));
+  later = later_talks {T = T} old.world new.world old.state.console new.state.console (t []) (Err e) (d []) (talks []);
+  usable = λ u. tt;
+  cause = (talks []).cause;
+}
 
 -- ---- parts of a call
 
@@ -93,7 +131,7 @@ comes_same old t u same = record {
 
 -- a call within a tree
 pub comes_in : {A R T : Type 0} (old new : Spot) (s : List Slot → Act A) (f : A → Act R) (x : T) (d : Meaning T A) → Acts old new s (Ok x) d
-    → Comes old new (λ units. bind (s units) f) (λ units. f (d.value units x))
+    → Comes old new (λ units. bind (s units) f) (λ units. f (d units x))
 comes_in old new s f x d a = record {
   each = λ units h. let y = a.each units h in (y.0, (y.1.0, ran_bind f y.1.1));
   later = a.later;
@@ -105,19 +143,25 @@ pub comes_does : {A R T : Type 0} (old new : Spot) (s : Act A) (f : List Slot �
     → new.state ≡ old.state → Comes old new (λ units. bind s (f units)) (λ units. f units (d x))
 comes_does old new s f x d c same =
     let later = later_does old.world new.world s (Ok x) d c in
-    let disk : new.state.disk_a ≡ old.state.disk_a = rw same refl in
+    let table : new.state.table ≡ old.state.table = rw same refl in
     record {
-      each = λ units h. (units, (holds_does old new s (Ok x) d units c disk h, ran_bind (f units) (plays_does old new s (Ok x) d units c same)));
+      each = λ units h. (units, (holds_does old new s (Ok x) d units c table h, ran_bind (f units) (plays_does old new s (Ok x) d units c same)));
       later = later;
-      usable = usable_later old new later disk;
+      usable = usable_later old new later table;
     }
+
+-- a call that only talks, within a tree
+pub comes_talks : {A R T : Type 0} (old new : Spot) (s : List Slot → Act A) (f : A → Act R) (x : T) (d : Meaning T A) → new.state.table ≡ old.state.table
+    → ((units : List Slot) → Talks old.world new.world old.state.console new.state.console (s units) (Ok x) (d units))
+    → Comes old new (λ units. bind (s units) f) (λ units. f (d units x))
+comes_talks old new s f x d table talks = comes_in old new s f x d (acts_talks old new s (Ok x) d table talks)
 
 -- ---- calls
 
 -- all of the tree was done
-pub acts_done : {R T : Type 0} (old new : Spot) (t : List Slot → Act R) (x : T) (d : Meaning T R) → Comes old new t (λ units. Done (d.value units x))
-    → (d.fault x → Rose old.world.faults new.world.faults) → Acts old new t (Ok x) d
-acts_done old new t x d g fault = record { each = g.each; later = g.later; usable = g.usable; cause = tt; fault = fault }
+pub acts_done : {R T : Type 0} (old new : Spot) (t : List Slot → Act R) (x : T) (d : Meaning T R) → Comes old new t (λ units. Done (d units x))
+    → Acts old new t (Ok x) d
+acts_done old new t x d g = record { each = g.each; later = g.later; usable = g.usable; cause = tt }
 
 -- cut off where it came to
 pub acts_here : {R T : Type 0} (old new : Spot) (t u : List Slot → Act R) (e : End) (d : Meaning T R) → Comes old new t u
@@ -127,7 +171,6 @@ acts_here old new t u e d g cause = record {
   later = g.later;
   usable = λ u. tt;
   cause = cause;
-  fault = tt;
 }
 
 -- there was no memory where it came to
@@ -140,26 +183,18 @@ acts_after old mid new t u (Ok x) d g a = record {
   later = later_then old.world mid.world new.world g.later a.later;
   usable = λ u. a.usable (g.usable u);
   cause = tt;
-  fault = λ f. rose_from old.world.faults mid.world.faults new.world.faults g.later.faults (a.fault f);
 }
 acts_after old mid new t u (Err e) d g a = record {
   each = λ units h. let y = g.each units h in let z = a.each y.0 y.1.0 in (z.0, broke_then y.1.1 z.1);
   later = later_then old.world mid.world new.world g.later a.later;
   usable = λ u. tt;
   cause = λ edge. rose_from old.world.edges mid.world.edges new.world.edges g.later.edges (a.cause edge);
-  fault = tt;
 }
 
 -- the tree is another by its units
 pub acts_same : {R T : Type 0} (old new : Spot) (t u : List Slot → Act R) (r : Result T End) (d : Meaning T R)
     → ((units : List Slot) → holds old units → t units ≡ u units) → Acts old new u r d → Acts old new t r d
 acts_same old new t u r d same a = acts_after old old new t u r d (comes_same old t u same) a
-
--- a value that may tell a fault, where a fault of it has its cause
-pub acts_caused : {R T : Type 0} (old new : Spot) (t : List Slot → Act R) (r : Result T End) (d : Meaning T R) → Acts old new t r (plain d.value)
-    → IfOk r (λ x. d.fault x → Rose old.world.faults new.world.faults) → Acts old new t r d
-acts_caused old new t (Ok x) d a fault = record { each = a.each; later = a.later; usable = a.usable; cause = tt; fault = fault }
-acts_caused old new t (Err e) d a fault = record { each = a.each; later = a.later; usable = a.usable; cause = a.cause; fault = tt }
 
 -- a call that was cut off, within a tree
 pub acts_stop : {A R T U : Type 0} (old new : Spot) (s : List Slot → Act A) (f : A → Act R) (e : End) (d : Meaning T A) (d' : Meaning U R) → Acts old new s (Err e) d
@@ -169,7 +204,6 @@ acts_stop old new s f e d d' a = record {
   later = a.later;
   usable = λ u. tt;
   cause = a.cause;
-  fault = tt;
 }
 
 pub does_stop : {A R T U : Type 0} (old new : Spot) (s : Act A) (f : List Slot → A → Act R) (e : End) (d : T → A) (d' : Meaning U R)
@@ -179,7 +213,6 @@ does_stop {T = T} old new s f e d d' c same = record {
   later = later_does old.world new.world s (Err e) d c;
   usable = λ u. tt;
   cause = c.cause;
-  fault = tt;
 }
 
 -- there was no memory, and nothing was done
@@ -190,7 +223,6 @@ cut_off old new t d told faults edges = record {
   later = record { grown = grown_same old.world.told new.world.told told; faults = faults; edges = edges };
   usable = λ u. tt;
   cause = λ edge. absurd (cc);
-  fault = tt;
 }
 
 -- ---- refusals
@@ -203,8 +235,7 @@ refused old new message code (Ok c) d went same =
     subst (λ (s : State). Acts old new (refusal_tree old.state message code) (Ok c) (course_of s)) (sym same)
     (rw went
     (acts_done old new (refusal_tree old.state message code) (course.Went code) (course_of old.state)
-    (comes_does old new (saying (typed_line (message_text message))) (λ units y. Done (Went (machine_of old.state units) code)) c said d same)
-    (λ stopped. absurd (cc))))
+    (comes_does old new (saying (typed_line (message_text message))) (λ units y. Done (Went (machine_of old.state units) code)) c said d same)))
 refused old new message code (Err e) d went same =
     does_stop {T = declared.Course} old new (saying (typed_line (message_text message))) (λ units y. Done (Went (machine_of old.state units) code))
     e said (course_of new.state) d same

@@ -1,10 +1,13 @@
--- What an ask does, computed.
+-- What an ask does, and what a start has, computed.
 use Rattle.std.proofs.Common.{◌≡◌, ℕ, List, [], ◌∷◌, refl}
-use Rattle.std.specs.Prelude.{Some, None}
+use Rattle.std.specs.Prelude.{Some, None, true}
+use Rattle.cms_fields.specs.Moments.{is_moment}
+use Rattle.cms_fields.specs.Stamps.{days_of_month}
 use Rattle.cms_machine.specs.Items.{Bad}
 use Rattle.cms_machine.specs.Acts.{Done, Out, Take, Turn, typed_line}
 use Rattle.cms_line.specs.declared.message.Message.TheVariants.{M010}
 use Rattle.cms_line.specs.Messages.{message_text}
+use Rattle.cms_search.specs.Calls.{first_moment}
 use Rattle.cms_search.specs.Machine.{Machine}
 use Rattle.cms_search.specs.Asking.{Given, Spent, ask, asking, on_item}
 
@@ -25,3 +28,10 @@ dropped_once s = refl
 
 pub no_turn_left : (s : Machine) → on_item (record s { stack = []; left = 0 }) (asking 0) (Some Bad) ≡ Done Spent
 no_turn_left s = refl
+
+-- ---- the start
+
+-- the first moment is one
+pub first_is_moment : is_moment first_moment ≡ true
+unfolding is_moment days_of_month
+first_is_moment = refl

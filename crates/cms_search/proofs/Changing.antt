@@ -1,23 +1,22 @@
 -- What is held after the minidisk of a disk was changed, or after the device failed in that. No command is known here.
-use Rattle.std.proofs.Common.{◌≡◌, ◌≢◌, inl, inr, ℕ, List, [], ◌∷◌, Option, Some, None, refl, sym, ap, ◌∙◌, subst, slice_get, length}
+use Rattle.std.proofs.Common.{◌≡◌, ◌≢◌, ◌∙◌, ℕ, List, [], ◌∷◌, Bool, true, false, Option, Some, None, refl, sym, ap, subst, slice_get, length}
 use Rattle.std.specs.Prelude.{option_map, unwrap_or}
 use Rattle.std.proofs.lemmas.Option.{slice_get_within}
 use Rattle.std.proofs.lemmas.List.{length-set}
-use Rattle.std.proofs.lemmas.Bool.Decides.{eqb_tells}
 use Rattle.cms_journal.specs.declared.event.Event.{Event}
 use Rattle.cms_journal.specs.declared.event.Attached.{Attached}
 use Rattle.cms_journal.specs.Causes.{Counted}
 use Rattle.cms_journal.specs.Journal.{Journal}
-use Rattle.cms_journal.specs.Told.{Told, plus, OnlyOf}
-use Rattle.cms_journal.proofs.Events.{of_aside}
+use Rattle.cms_journal.specs.Told.{Told, plus}
 use Rattle.cms_journal.proofs.Pieces.{plus-some}
 use Rattle.cms_fields.specs.declared.time.Stamp.{Stamp}
 use Rattle.cms_model.specs.Minidisks.{Minidisk, State, Volume}
 use Rattle.cms_model.specs.Volumes as volumes
-use Rattle.cms_model.specs.Volumes.{disk_of, state_of}
-use Rattle.cms_model.specs.Changes.{Change, Changed, answer_of}
+use Rattle.cms_model.specs.Volumes.{state_of}
+use Rattle.cms_model.specs.Changes.{Change}
+use Rattle.cms_model.specs.LawsSizes.{IsWhole}
 use Rattle.cms_model.specs.LawsUpdates.{after, now}
-use Rattle.cms_machine.specs.Slots.{Side, Slot, Settled, state_in, set_of, unit_set, named}
+use Rattle.cms_machine.specs.Slots.{Slot, Settled, state_in, set_of, unit_set, named}
 use Rattle.cms_machine.specs.Steps.{Put, Outcome, Good, OldFault, EitherFault, new_slot, put_slot, slot_after, units_after, faults_in}
 use Rattle.cms_machine.specs.Points.{Leaves, HasNowIn, HasNow}
 use Rattle.cms_machine.specs.Acts.{Act, Does}
@@ -26,24 +25,31 @@ use Rattle.cms_machine.specs.Runs.{Ran}
 use Rattle.cms_machine.proofs.Units.{get_same, get_other}
 use Rattle.cms_machine.proofs.Single.{ran_step}
 use Rattle.cms_line.specs.ConsoleState.{ConsoleState}
-use Rattle.cms_disk.specs.Disks.{Accessed, IsLookedAt, IsMinidisk}
-use Rattle.cms_disk.specs.Changing.{Changes, HasState}
+use Rattle.cms_disk.specs.Disks.{Accessed, IsLookedAt, IsMinidisk, IsOn, disk_on}
+use Rattle.cms_disk.specs.Changing.{Altered, Changes, Doubted, HasState, IsOnSame, IsWholeAt, Kept}
+use Rattle.cms_disk.specs.declared.unit.UnitInfo.{UnitInfo}
 use Rattle.cms_disk.proofs.Standing.{state_stands}
-use Rattle.cms_search.specs.declared.state.Disk.{Disk}
-use Rattle.cms_search.specs.Calls.{Spot, at, IsCovered, IsSeated, HoldsIn, Holds}
-use Rattle.cms_search.proofs.Holding.{left_before, now_before, some_same}
+use Rattle.cms_search.specs.Calls.{Spot, Holds, at}
+use Rattle.cms_search.specs.Held.{HoldsTable, IsDoubtSlot, StandsAs, disk_of}
+use Rattle.cms_search.specs.Searches.{item_at}
+use Rattle.cms_search.specs.Tables.{Accesses, IsTable, Seated, doubted, seat_with}
+use Rattle.cms_search.proofs.Frames.{holds_touched}
+use Rattle.cms_search.proofs.Holding.{some_same}
+use Rattle.cms_search.proofs.Meeting.{Met}
+use Rattle.cms_search.proofs.Seats.{disk_elsewhere, disk_there, is_table_with, item_here, item_within, table_with}
+use Rattle.cms_search.proofs.Tabling.{get_set, get_set_other, table_doubted, unit_within}
 
 -- ---- slots
 
-slot_there : (units : List Slot) (u : ℕ) (old : Slot) (new : Option Slot) → slice_get units u ≡ Some old → slice_get (put_slot units u new) u ≡ Some (unwrap_or new old)
+pub slot_there : (units : List Slot) (u : ℕ) (old : Slot) (new : Option Slot) → slice_get units u ≡ Some old → slice_get (put_slot units u new) u ≡ Some (unwrap_or new old)
 slot_there units u old None there = there
 slot_there units u old (Some new) there = get_same units u u new (slice_get_within units u old there) refl
 
-slot_elsewhere : (units : List Slot) (u v : ℕ) (new : Option Slot) → u ≢ v → slice_get (put_slot units u new) v ≡ slice_get units v
+pub slot_elsewhere : (units : List Slot) (u v : ℕ) (new : Option Slot) → u ≢ v → slice_get (put_slot units u new) v ≡ slice_get units v
 slot_elsewhere units u v None other = refl
 slot_elsewhere units u v (Some new) other = get_other units u v new (λ e. other (sym e))
 
-as_many : (units : List Slot) (u : ℕ) (new : Option Slot) → length (put_slot units u new) ≡ length units
+pub as_many : (units : List Slot) (u : ℕ) (new : Option Slot) → length (put_slot units u new) ≡ length units
 as_many units u None = refl
 as_many units u (Some new) = length-set units u new
 
@@ -68,100 +74,214 @@ IsNow told u m change stamp o = (x : State) → HasNow told u x → state_in (ch
 state_seen : (j : Journal) (d : Accessed) (x y : State) → IsLookedAt j d → state_of d.volume.disk (now j d.volume.unit) ≡ y → HasNowIn j d.volume.unit x → y ≡ x
 state_seen j d x y looked state has = sym state ∙ ap (λ (k : volumes.Disk). state_of k (now j d.volume.unit)) (sym (looked has.unit has.attached)) ∙ has.state
 
--- where a minidisk is that of its slot
-is_now : (told : Told) (j : Journal) (d : Accessed) (m after' : Minidisk) (change : Change) (stamp : Stamp) (o : Outcome) → told ≡ Some j → IsLookedAt j d
-    → state_in (changed_slot d.volume.unit m change stamp o) ≡ Volume after' → IsMinidisk j d after' → IsNow told d.volume.unit m change stamp o
-is_now told j d m after' change stamp o is looked slot there x has =
-    slot ∙ state_seen j d x (Volume after') looked (state_stands (now j d.volume.unit) d after' there.stands)
-    (subst (λ (t : Told). HasNow t d.volume.unit x) is has)
-
-pub good_now : (told : Told) (j : Journal) (d : Accessed) (m after' : Minidisk) (change : Change) (stamp : Stamp) → told ≡ Some j → IsLookedAt j d
-    → answer_of m change ≡ Changed after' → IsMinidisk j d after' → IsNow told d.volume.unit m change stamp Good
-good_now told j d m after' change stamp is looked answer there = is_now told j d m after' change stamp Good is looked (rw answer refl) there
-
-pub kept_now : (told : Told) (j : Journal) (d : Accessed) (m after' : Minidisk) (change : Change) (stamp : Stamp) → told ≡ Some j → IsLookedAt j d
-    → answer_of m change ≡ Changed after' → IsMinidisk j d m → IsNow told d.volume.unit m change stamp OldFault
-kept_now told j d m after' change stamp is looked answer there = is_now told j d m m change stamp OldFault is looked (rw answer refl) there
-
--- after a doubt it is that of the side
-pub doubt_now : (told : Told) (j : Journal) (d : Accessed) (m after' : Minidisk) (change : Change) (stamp : Stamp) (side : Side) → told ≡ Some j → IsLookedAt j d
-    → answer_of m change ≡ Changed after' → HasState told d.volume.disk d.volume.unit (named (Volume m) (Volume after') side)
-    → IsNow told d.volume.unit m change stamp (EitherFault side)
-doubt_now told j d m after' change stamp side is looked answer left x has =
-    let slot : state_in (changed_slot d.volume.unit m change stamp (EitherFault side)) ≡ named (Volume m) (Volume after') side = rw answer refl in
-    slot ∙ state_seen j d x (named (Volume m) (Volume after') side) looked
-    (subst (λ (t : Told). HasState t d.volume.disk d.volume.unit (named (Volume m) (Volume after') side)) is left)
-    (subst (λ (t : Told). HasNow t d.volume.unit x) is has)
-
--- ---- what is held
-
 told_after : (old new : Told) (j : Journal) (es : List Event) → old ≡ Some j → new ≡ plus old es → new ≡ Some (after j es)
 told_after old new j es is grown = grown ∙ ap (λ (t : Told). plus t es) is ∙ plus-some j es
 
-other_covered : (j : Journal) (es : List Event) (units : List Slot) (u v : ℕ) (m : Minidisk) (change : Change) (stamp : Stamp) (o : Outcome) → OnlyOf u es → u ≢ v
-    → IsCovered j units v → IsCovered (after j es) (changed_units units u m change stamp o) v
-other_covered j es units u v m change stamp o all other c =
-    let aside = of_aside u es v other all in
-    record {
-      slot = c.slot;
-      there = slot_elsewhere units u v (new_slot (Put u m change stamp) o) other ∙ c.there;
-      crash = λ x leaves. c.crash x (left_before j es v x aside leaves);
-      now = λ x has. c.now x (now_before j es v x aside has);
-    }
+-- its unit is looked at as before
+pub looked_changed : (old new : Told) (j later : Journal) (d e : Accessed) (es : List Event) → old ≡ Some j → new ≡ Some later → new ≡ plus old es
+    → e.volume.unit ≡ d.volume.unit → e.volume.disk ≡ d.volume.disk → IsLookedAt j d → IsLookedAt later e
+looked_changed old new j later d e es is told' told same disk looked unit has =
+    let journal : later ≡ after j es = some_same later (after j es) (sym told' ∙ told_after old new j es is told) in
+    let units : later.units ≡ j.units = ap (λ (i : Journal). i.units) journal in
+    let there : slice_get j.units e.volume.unit ≡ Some unit = ap (λ (us : List Attached). slice_get us e.volume.unit) (sym units) ∙ has in
+    looked unit (subst (λ (v : ℕ). slice_get j.units v ≡ Some unit) same there) ∙ sym disk
 
-own_covered : (old new : Told) (j : Journal) (units : List Slot) (u : ℕ) (m : Minidisk) (change : Change) (stamp : Stamp) (o : Outcome) → old ≡ Some j
-    → slice_get units u ≡ Some (Settled (Volume m)) → (c : Changes old new u m change stamp o) → IsNow new u m change stamp o
-    → IsCovered (after j c.events) (changed_units units u m change stamp o) u
-own_covered old new j units u m change stamp o is there c now =
-    let told = told_after old new j c.events is c.told in
-    record {
+-- ---- what is held
+
+-- what the disk's unit is after it was changed, with this table and this mark
+pub record IsThen (j later : Journal) (units : List Slot) (t t' : Accesses) (s : Seated) (met : Met j units t s) (slot : Slot) : Type 0 where
+  pub doubt : Bool
+  pub marked : slice_get t'.doubts s.letter.unit ≡ Some doubt
+  pub whole : IsWhole (disk_on met.unit) (now later s.letter.unit)
+  pub stands : StandsAs later s.letter.unit met.unit slot doubt (disk_of s.letter.unit t'.seats)
+
+-- other units have their marks and disks still
+abbrev pub KeepsOthers : Accesses → Accesses → ℕ → Type 0
+KeepsOthers t t' u = (v : ℕ) → u ≢ v → (slice_get t'.doubts v ≡ slice_get t.doubts v) × (disk_of v t'.seats ≡ disk_of v t.seats)
+
+pub holds_changed : (old new : Told) (j : Journal) (units : List Slot) (t t' : Accesses) (s : Seated) (met : Met j units t s) (change : Change) (stamp : Stamp) (o : Outcome)
+    → old ≡ Some j → HoldsTable j units t → (c : Changes old new s.letter.unit met.minidisk change stamp o) → IsNow new s.letter.unit met.minidisk change stamp o
+    → IsTable t' → t'.units ≡ t.units → KeepsOthers t t' s.letter.unit
+    → ((later : Journal) → new ≡ Some later → IsThen j later units t t' s met (changed_slot s.letter.unit met.minidisk change stamp o))
+    → Holds new t' (changed_units units s.letter.unit met.minidisk change stamp o)
+holds_changed old new j units t t' s met change stamp o is h c now' table same others leaves =
+    let u = s.letter.unit in
+    let m = met.minidisk in
+    let es = c.events in
+    let told = told_after old new j es is c.told in
+    let l = leaves (after j es) told in
+    let line = met.line in
+    rw told
+    (holds_touched j es units (changed_units units u m change stamp o) t t' u met.unit c.of_unit table same (as_many units u (new_slot (Put u m change stamp) o)) met.has
+    (λ v apart. record { slot = slot_elsewhere units u v (new_slot (Put u m change stamp) o) apart; doubt = (others v apart).0; disk = (others v apart).1 })
+    (record {
+      number = line.number;
+      blocks = line.blocks;
+      writable = line.writable;
+      seen = line.seen;
+      whole = l.whole;
       slot = changed_slot u m change stamp o;
-      there = there_after units u m change stamp o there;
-      crash = λ x leaves. c.covers.whole x (subst (λ (t : Told). Leaves t u x) (sym told ∙ c.told) leaves);
-      now = λ x has. now x (subst (λ (t : Told). HasNow t u x) (sym told) has);
+      there = there_after units u m change stamp o met.slot;
+      doubt = l.doubt;
+      marked = l.marked;
+      stands = l.stands;
+      crash = λ x left. c.covers.whole x (subst (λ (t : Told). Leaves t u x) (sym told ∙ c.told) left);
+      has = λ x has. now' x (subst (λ (t : Told). HasNow t u x) (sym told) has);
+    })
+    h)
+
+-- ---- the disk is a minidisk then
+
+pub on_same : (unit : UnitInfo) (d e : Accessed) → IsOnSame d e → IsOn unit d → IsOn unit e
+on_same unit d e same on = record {
+  vdev = same.vdev ∙ on.vdev;
+  writable = same.writable ∙ on.writable;
+  number = same.unit ∙ on.number;
+  disk = same.disk ∙ on.disk;
+}
+
+others_with : (t : Accesses) (n : ℕ) (s : Seated) (e : Accessed) → IsTable t → item_at t.seats n ≡ Some s → KeepsOthers t (table_with t n s e) s.letter.unit
+others_with t n s e is at v apart = (
+  refl,
+  disk_elsewhere t.seats n s (Some (seat_with s e)) v is.once (is_table_with t n s e is at).once at
+      (λ x same. ap (λ (y : Seated). y.letter.unit) (sym (some_same (seat_with s e) x same))) apart,
+)
+
+there_with : (t : Accesses) (n : ℕ) (s : Seated) (e : Accessed) → IsTable t → item_at t.seats n ≡ Some s → disk_of s.letter.unit (table_with t n s e).seats ≡ Some (seat_with s e)
+there_with t n s e is at =
+    disk_there (table_with t n s e).seats n (seat_with s e) (is_table_with t n s e is at).once (item_here t.seats n (Some (seat_with s e)) (item_within t.seats n s at))
+
+-- its unit is settled at the minidisk that the disk is then
+pub then_minidisk : (j later : Journal) (units : List Slot) (t : Accesses) (n : ℕ) (s : Seated) (e : Accessed) (met : Met j units t s) (slot : Slot) (m : Minidisk) → IsTable t
+    → item_at t.seats n ≡ Some s → IsOnSame s.disk e → slot ≡ Settled (Volume m) → IsMinidisk later e m → IsThen j later units t (table_with t n s e) s met slot
+then_minidisk j later units t n s e met slot m is at same settled there =
+    let on = on_same met.unit s.disk e same met.on in
+    let unit : e.volume.unit ≡ s.letter.unit = same.unit ∙ met.own in
+    record {
+      doubt = false;
+      marked = is.sure n s at;
+      whole = subst (λ (u : ℕ). IsWhole (disk_on met.unit) (now later u)) unit (subst (λ (d : volumes.Disk). IsWhole d (now later e.volume.unit)) on.disk there.stands.whole);
+      stands = subst (λ (x : Option Seated). StandsAs later s.letter.unit met.unit slot false x) (sym (there_with t n s e is at)) (m, settled, on, there);
     }
 
--- after a fault no disk is accessed
-pub held_none : (old new : Told) (j : Journal) (units : List Slot) (d : Disk) (m : Minidisk) (change : Change) (stamp : Stamp) (o : Outcome) → old ≡ Some j
-    → slice_get units d.minidisk.volume.unit ≡ Some (Settled (Volume m)) → Changes old new d.minidisk.volume.unit m change stamp o
-    → IsNow new d.minidisk.volume.unit m change stamp o → HoldsIn j (Some d) units → Holds new None (changed_units units d.minidisk.volume.unit m change stamp o)
-held_none old new j units d m change stamp o is there c now h =
-    let u = d.minidisk.volume.unit in
-    let told = told_after old new j c.events is c.told in
-    rw told (record {
-      same = as_many units u (new_slot (Put u m change stamp) o) ∙ h.same;
-      disk_a = λ x found. absurd (cc);
-      others = λ v unit has none. elim (eqb_tells u v) [
-        | inl same ↦ subst (λ (w : ℕ). IsCovered (after j c.events) (changed_units units u m change stamp o) w) same.1 (own_covered old new j units u m change stamp o is there c now)
-        | inr other ↦ other_covered j c.events units u v m change stamp o c.of_unit other.1 (h.others v unit has other.1)
-      ];
+-- where a disk is another that is the same minidisk, nothing was done to its unit
+pub holds_with : (j : Journal) (units : List Slot) (t : Accesses) (n : ℕ) (s : Seated) (e : Accessed) (met : Met j units t s) → item_at t.seats n ≡ Some s → IsOnSame s.disk e
+    → IsMinidisk j e met.minidisk → HoldsTable j units t → HoldsTable j units (table_with t n s e)
+holds_with j units t n s e met at same there h =
+    let u = s.letter.unit in
+    let t' = table_with t n s e in
+    let l = then_minidisk j j units t n s e met (Settled (Volume met.minidisk)) met.minidisk h.table at same refl there in
+    let line = met.line in
+    let slot : line.slot ≡ Settled (Volume met.minidisk) = some_same line.slot (Settled (Volume met.minidisk)) (sym line.there ∙ met.slot) in
+    holds_touched j [] units units t t' u met.unit tt (is_table_with t n s e h.table at) refl refl met.has
+    (λ v apart. record { slot = refl; doubt = refl; disk = (others_with t n s e h.table at v apart).1 })
+    (record {
+      number = line.number;
+      blocks = line.blocks;
+      writable = line.writable;
+      seen = line.seen;
+      whole = l.whole;
+      slot = line.slot;
+      there = line.there;
+      doubt = l.doubt;
+      marked = l.marked;
+      stands = subst (λ (x : Slot). StandsAs j u met.unit x l.doubt (disk_of u t'.seats)) (sym slot) l.stands;
+      crash = line.crash;
+      has = line.has;
     })
+    h
 
--- and else the disk is the minidisk that the change makes
-pub held_changed : (old new : Told) (j later : Journal) (units : List Slot) (d e : Disk) (m after' : Minidisk) (change : Change) (stamp : Stamp) → old ≡ Some j
-    → new ≡ Some later → e.minidisk.volume.unit ≡ d.minidisk.volume.unit → e.minidisk.volume.disk ≡ d.minidisk.volume.disk → answer_of m change ≡ Changed after'
-    → IsMinidisk later e.minidisk after' → IsLookedAt j d.minidisk → slice_get units d.minidisk.volume.unit ≡ Some (Settled (Volume m))
-    → Changes old new d.minidisk.volume.unit m change stamp Good → HoldsIn j (Some d) units
-    → Holds new (Some e) (changed_units units d.minidisk.volume.unit m change stamp Good)
-held_changed old new j later units d e m after' change stamp is told' same disk answer there looked slot c h =
-    let u = d.minidisk.volume.unit in
-    let told = told_after old new j c.events is c.told in
-    let journal : later ≡ after j c.events = some_same later (after j c.events) (sym told' ∙ told) in
-    let new_units = changed_units units u m change stamp Good in
-    let new_slot' : slice_get new_units e.minidisk.volume.unit ≡ Some (Settled (Volume after')) = rw same (there_after units u m change stamp Good slot ∙ (rw answer refl)) in
-    let seat : IsSeated (after j c.events) new_units e = record {
-      minidisk = after';
-      slot = new_slot';
-      looked = λ unit has. looked unit (subst (λ (v : ℕ). slice_get j.units v ≡ Some unit) same has) ∙ sym disk;
-      is = subst (λ (i : Journal). IsMinidisk i e.minidisk after') journal there;
-    } in
-    rw told (record {
-      same = as_many units u (new_slot (Put u m change stamp) Good) ∙ h.same;
-      disk_a = λ x found. subst (IsSeated (after j c.events) new_units) (some_same e x found) seat;
-      others = λ v unit has elsewhere.
-          let other : u ≢ v = λ at. elsewhere (same ∙ at) in
-          other_covered j c.events units u v m change stamp Good c.of_unit other (h.others v unit has other);
-    })
+-- ---- the unit is in doubt
+
+others_doubted : (t : Accesses) (n : ℕ) (s : Seated) → IsTable t → item_at t.seats n ≡ Some s → KeepsOthers t (doubted n s.letter.unit t) s.letter.unit
+others_doubted t n s is at v apart = (
+  get_set_other t.doubts s.letter.unit true v (λ same. apart (sym same)),
+  disk_elsewhere t.seats n s None v is.once (table_doubted t n s is at).once at (λ x same. absurd (cc)) apart,
+)
+
+then_doubt : (j later : Journal) (units : List Slot) (t : Accesses) (n : ℕ) (s : Seated) (met : Met j units t s) (slot : Slot) → IsTable t → item_at t.seats n ≡ Some s
+    → IsWhole (disk_on met.unit) (now later s.letter.unit) → IsDoubtSlot slot → IsThen j later units t (doubted n s.letter.unit t) s met slot
+then_doubt j later units t n s met slot is at whole doubt = record {
+  doubt = true;
+  marked = get_set t.doubts s.letter.unit true (unit_within t n s is at);
+  whole = whole;
+  stands = doubt;
+}
+
+-- ---- what a change of the disk leaves
+
+-- the piece of the journal and what is held behind it, with this table
+pub record Steps (old new : Told) (j : Journal) (units : List Slot) (t t' : Accesses) (s : Seated) (met : Met j units t s) (change : Change) (stamp : Stamp) (o : Outcome) : Type 0 where
+  pub changes : Changes old new s.letter.unit met.minidisk change stamp o
+  pub now' : IsNow new s.letter.unit met.minidisk change stamp o
+  pub holds : Holds new t' (changed_units units s.letter.unit met.minidisk change stamp o)
+
+-- where the disk is a minidisk then
+steps_with : (old new : Told) (j later : Journal) (units : List Slot) (t : Accesses) (n : ℕ) (s : Seated) (e : Accessed) (met : Met j units t s) (change : Change) (stamp : Stamp) (o : Outcome)
+    (m : Minidisk) → old ≡ Some j → new ≡ Some later → HoldsTable j units t → item_at t.seats n ≡ Some s → IsOnSame s.disk e → IsMinidisk later e m
+    → Changes old new e.volume.unit met.minidisk change stamp o → changed_slot s.letter.unit met.minidisk change stamp o ≡ Settled (Volume m)
+    → Steps old new j units t (table_with t n s e) s met change stamp o
+steps_with old new j later units t n s e met change stamp o m is told h at same there c slot =
+    let u = s.letter.unit in
+    let unit : e.volume.unit ≡ u = same.unit ∙ met.own in
+    let changes = subst (λ (v : ℕ). Changes old new v met.minidisk change stamp o) unit c in
+    let changes' = subst (λ (v : ℕ). Changes old new v met.minidisk change stamp o) same.unit c in
+    let looked = looked_changed old new j later s.disk e changes'.events is told changes'.told same.unit same.disk met.looked in
+    let now' : IsNow new u met.minidisk change stamp o = λ x has.
+    ap state_in slot
+    ∙ state_seen later e x (Volume m) looked (state_stands (now later e.volume.unit) e m there.stands)
+    (subst (λ (v : ℕ). HasNowIn later v x) (sym unit) (subst (λ (k : Told). HasNow k u x) told has)) in
+    record {
+      changes = changes;
+      now' = now';
+      holds = holds_changed old new j units t (table_with t n s e) s met change stamp o is h changes now' (is_table_with t n s e h.table at) refl (others_with t n s e h.table at)
+          (λ k told'. then_minidisk j k units t n s e met (changed_slot u met.minidisk change stamp o) m h.table at same slot
+          (subst (λ (i : Journal). IsMinidisk i e m) (some_same later k (sym told ∙ told')) there));
+    }
+
+-- it is done
+pub steps_good : (old new : Told) (j : Journal) (units : List Slot) (t : Accesses) (n : ℕ) (s : Seated) (e : Accessed) (met : Met j units t s) (change : Change) (stamp : Stamp) → old ≡ Some j
+    → HoldsTable j units t → item_at t.seats n ≡ Some s → IsOnSame s.disk e → Altered old new e met.minidisk change stamp
+    → Steps old new j units t (table_with t n s e) s met change stamp Good
+steps_good old new j units t n s e met change stamp is h at same a =
+    let answer = a.answer in
+    steps_with old new j a.later units t n s e met change stamp Good a.after is a.told h at same a.minidisk a.changes (rw answer refl)
+
+-- the device failed before the label was written
+pub steps_kept : (old new : Told) (j : Journal) (units : List Slot) (t : Accesses) (n : ℕ) (s : Seated) (e : Accessed) (met : Met j units t s) (change : Change) (stamp : Stamp) → old ≡ Some j
+    → HoldsTable j units t → item_at t.seats n ≡ Some s → IsOnSame s.disk e → Kept old new e met.minidisk change stamp
+    → Steps old new j units t (table_with t n s e) s met change stamp OldFault
+steps_kept old new j units t n s e met change stamp is h at same k =
+    let answer = k.answer in
+    steps_with old new j k.later units t n s e met change stamp OldFault met.minidisk is k.told h at same k.minidisk k.changes (rw answer refl)
+
+-- it failed then
+pub steps_doubted : (old new : Told) (j : Journal) (units : List Slot) (t : Accesses) (n : ℕ) (s : Seated) (met : Met j units t s) (change : Change) (stamp : Stamp) → old ≡ Some j
+    → HoldsTable j units t → item_at t.seats n ≡ Some s → (d : Doubted old new s.disk met.minidisk change stamp)
+    → Steps old new j units t (doubted n s.letter.unit t) s met change stamp (EitherFault d.side)
+steps_doubted old new j units t n s met change stamp is h at d =
+    let u = s.letter.unit in
+    let o = EitherFault d.side in
+    let changes = subst (λ (v : ℕ). Changes old new v met.minidisk change stamp o) met.own d.changes in
+    let later = after j changes.events in
+    let told = told_after old new j changes.events is changes.told in
+    let looked = looked_changed old new j later s.disk s.disk changes.events is told changes.told refl refl met.looked in
+    let slot : state_in (changed_slot u met.minidisk change stamp o) ≡ named (Volume met.minidisk) (Volume d.after) d.side = let answer = d.answer in rw answer refl in
+    let doubt : IsDoubtSlot (changed_slot u met.minidisk change stamp o) = let answer = d.answer in rw answer tt in
+    let now' : IsNow new u met.minidisk change stamp o = λ x has.
+    slot
+    ∙ state_seen later s.disk x (named (Volume met.minidisk) (Volume d.after) d.side) looked
+    (subst (λ (k : Told). HasState k s.disk.volume.disk s.disk.volume.unit (named (Volume met.minidisk) (Volume d.after) d.side)) told d.left)
+    (subst (λ (v : ℕ). HasNowIn later v x) (sym met.own) (subst (λ (k : Told). HasNow k u x) told has)) in
+    record {
+      changes = changes;
+      now' = now';
+      holds = holds_changed old new j units t (doubted n u t) s met change stamp o is h changes now' (table_doubted t n s h.table at) refl (others_doubted t n s h.table at)
+          (λ k told'. then_doubt j k units t n s met (changed_slot u met.minidisk change stamp o) h.table at
+          (subst (λ (v : ℕ). IsWhole (disk_on met.unit) (now k v)) met.own
+          (subst (λ (x : volumes.Disk). IsWhole x (now k s.disk.volume.unit)) met.on.disk (subst (λ (y : Told). IsWholeAt y s.disk.volume.disk s.disk.volume.unit) told' d.whole)))
+          doubt);
+    }
 
 -- ---- the step
 
@@ -178,12 +298,3 @@ change_ran old new units u m change stamp o k there c now counted console =
     ran_step (at old units) (at new (changed_units units u m change stamp o)) (Put u m change stamp) o k c.events c.told counted c.of_unit c.fits there refl
     (record { unread = ap (λ (s : ConsoleState). s.unread) console; ended = ap (λ (s : ConsoleState). s.ended) console }) (λ sound. covers)
     (λ sound x has. ap (λ (z : Option Slot). option_map state_in z) slot ∙ ap (λ (y : State). Some y) (now x has))
-
--- its unit is looked at as before
-pub looked_changed : (old new : Told) (j later : Journal) (d e : Accessed) (es : List Event) → old ≡ Some j → new ≡ Some later → new ≡ plus old es
-    → e.volume.unit ≡ d.volume.unit → e.volume.disk ≡ d.volume.disk → IsLookedAt j d → IsLookedAt later e
-looked_changed old new j later d e es is told' told same disk looked unit has =
-    let journal : later ≡ after j es = some_same later (after j es) (sym told' ∙ told_after old new j es is told) in
-    let units : later.units ≡ j.units = ap (λ (i : Journal). i.units) journal in
-    let there : slice_get j.units e.volume.unit ≡ Some unit = ap (λ (us : List Attached). slice_get us e.volume.unit) (sym units) ∙ has in
-    looked unit (subst (λ (v : ℕ). slice_get j.units v ≡ Some unit) same there) ∙ sym disk

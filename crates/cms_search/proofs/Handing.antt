@@ -1,7 +1,8 @@
 -- A file that is read record by record, as a device step: what is done with each record is done while they are handed out, and how the step
 -- ends is known at the end. No command is known here.
-use Rattle.std.proofs.Common.{◌≡◌, ◌+◌, ◌≤◌, ℕ, List, [], ◌∷◌, ◌++◌, take, length, slice_get, Bool, None, Some, Result, Ok, Err, true, false, append-nil, refl, ap, sym, ◌∙◌, subst, arith}
+use Rattle.std.proofs.Common.{◌≡◌, ◌+◌, ◌≤◌, ℕ, List, [], ◌∷◌, ◌++◌, take, length, slice_get, Bool, None, Some, Result, Ok, Err, true, false, inl, inr, pos, append-nil, refl, ap, sym, ◌∙◌, subst, arith}
 use Rattle.std.proofs.Math.Seq.{take-append_seam}
+use Rattle.std.proofs.lemmas.Bool.{cases_Bool}
 use Rattle.std.proofs.lemmas.List.{append_assoc, length-append}
 use Rattle.std.specs.Prelude.{IfOk, IfErr}
 use Rattle.std.specs.Option.{ForSome}
@@ -12,28 +13,42 @@ use Rattle.cms_journal.proofs.Counts.{counted_none, counted_one}
 use Rattle.cms_journal.proofs.Events.{no_disk_aside}
 use Rattle.cms_journal.proofs.Pieces.{plus-some, plus-none, idle_same, idle_then, grown_same}
 use Rattle.cms_model.specs.Trees.{Image, image_of}
-use Rattle.cms_model.specs.Minidisks.{File}
-use Rattle.cms_model.specs.LawsUpdates.{after}
+use Rattle.cms_names.specs.declared.name.Name.{Name}
+use Rattle.cms_model.specs.Minidisks.{File, Minidisk, Volume, same_name}
+use Rattle.cms_model.specs.Changes.{file_named}
+use Rattle.cms_model.specs.LawsUpdates.{after, now}
+use Rattle.cms_model.proofs.Changing.{name_from}
 use Rattle.cms_model.proofs.Settling.{aside_is_as_before}
-use Rattle.cms_machine.specs.Slots.{Slot}
+use Rattle.cms_machine.specs.Slots.{Slot, Settled}
 use Rattle.cms_machine.specs.Steps.{Get, Outcome, Good, ReadFault, MayGet, Offers, faults_in}
 use Rattle.cms_machine.specs.Acts as acts
-use Rattle.cms_machine.specs.Acts.{Act, bind}
+use Rattle.cms_machine.specs.Acts.{Act, bind, saying, typed_line}
 use Rattle.cms_machine.specs.Points.{Point}
 use Rattle.cms_machine.specs.Runs.{Ran, Broke}
 use Rattle.cms_machine.proofs.Join.{ran_none, ran_then, broke_then}
 use Rattle.cms_machine.proofs.Single.{ran_still}
 use Rattle.cms_edf.specs.OpeningSteps.{OfImage}
 use Rattle.cms_disk.specs.Cursors.{Reading, HasLeft, HandsOut, SameFile, text_of}
+use Rattle.cms_line.specs.Messages.{message_text}
+use Rattle.cms_line.specs.declared.message.Message.TheVariants.{M105}
+use Rattle.cms_disk.specs.Disks.{OpensIn, StartsAt}
+use Rattle.cms_disk.specs.declared.unit.UnitInfo.{UnitInfo}
 use Rattle.cms_disk.specs.declared.fault.DiskFault.{DiskFault}
 use Rattle.cms_disk.specs.declared.fault.DiskFault.TheVariants.{Altered}
 use Rattle.cms_search.specs.declared.state.End.{End}
 use Rattle.cms_search.specs.declared.state.End.TheVariants.{Edge}
 use Rattle.cms_search.specs.declared.state.State.{State}
-use Rattle.cms_search.specs.Calls.{Spot, Meaning, IsLater, IsUsable, Does, Acts, Comes, after_world, at, holds}
+use Rattle.cms_search.specs.declared.state.Course as declared
+use Rattle.cms_search.specs.declared.state.Course.TheVariants as course
+use Rattle.cms_search.specs.Calls.{Spot, Meaning, IsLater, IsUsable, Usable, Does, Acts, Comes, after_world, at, holds, course_of, refusal_tree, said}
+use Rattle.cms_search.specs.Machine.{Course}
+use Rattle.cms_search.specs.Searches.{item_at}
+use Rattle.cms_search.specs.Tables.{Accesses, Seated}
+use Rattle.cms_search.specs.Telling.{device_text}
 use Rattle.cms_world.specs.Seen.{Seen}
 use Rattle.cms_search.proofs.Holding.{some_same, holds_idle}
-use Rattle.cms_search.proofs.Acts.{rose_from, later_none, later_then, later_does, usable_later}
+use Rattle.cms_search.proofs.Acts.{acts_after, rose_from, later_none, later_then, later_does, refused, usable_later}
+use Rattle.cms_search.proofs.Meeting.{meets_at, readable_seat}
 
 -- ---- a part of a call of the console or the clock, beside which units are read
 
@@ -216,7 +231,7 @@ at_same : (old new : Spot) (units : List Slot) → new.state ≡ old.state → a
 at_same old new units same = rw same refl
 
 holds_same : (old new : Spot) (units : List Slot) → new.state ≡ old.state → Passes old.world new.world → holds old units → holds new units
-holds_same old new units same passes h = rw same (holds_idle old.world.told new.world.told old.state.disk_a units passes.idle h)
+holds_same old new units same passes h = rw same (holds_idle old.world.told new.world.told old.state.table units passes.idle h)
 
 read_on : {R : Type 0} (before mid now : Seen) (t u : Act R) → Goes before mid t u → IsRead mid now → Goes before now t u
 read_on before mid now t u goes read p journal = let told = read.told in rw told (goes p journal)
@@ -241,7 +256,7 @@ read_all run old mid new first c d t u then' rest reads h hands read same is =
           (counted_none old.world.faults new.world.faults passes.later.faults) refl (at_same old new units same) goes in
           (units, (holds_same old new units same passes held, subst (λ (z : Act _). Ran (at old units) (at new units) z (rest units)) (sym r.tree) ran));
       later = passes.later;
-      usable = usable_later old new passes.later (ap (λ (s : State). s.disk_a) same);
+      usable = usable_later old new passes.later (ap (λ (s : State). s.table) same);
     }
 
 -- the device failed after some of them
@@ -266,7 +281,7 @@ read_fault run old mid new first c t u then' rest reads h read rose same is =
           (at_same old new units same) goes in
           (units, (holds_same old new units same passes held, subst (λ (z : Act _). Ran (at old units) (at new units) z (rest units)) (sym r.tree) ran));
       later = passes.later;
-      usable = usable_later old new passes.later (ap (λ (s : State). s.disk_a) same);
+      usable = usable_later old new passes.later (ap (λ (s : State). s.table) same);
     }
 
 -- it was cut off in what is done with a record
@@ -300,7 +315,6 @@ read_stops run one old mid new first c d t u then' rest e done each reads h hand
       later = all_later;
       usable = λ usable. tt;
       cause = λ edge. rose_from old.world.edges mid.world.edges new.world.edges h.passes.later.edges (cause edge);
-      fault = tt;
     }
 
 -- the records are never found altered
@@ -312,22 +326,76 @@ never_altered run old mid first c d t u then' reads h hands units held =
     let s = h.left r.journal r.told r.file.records r.left in
     hands_first run old.world mid.world first c d (Err Altered) h hands r.journal r.told s.more s.left
 
+-- it failed so, its message was typed, and the command ended
+pub read_failed : (run : List (List ℕ) → Act Course → Act Course) (old mid read' new : Spot) (first c : Reading) (t : List Slot → Act Course) (u vdev : ℕ)
+    (then' : List Slot → File → Outcome → Act Course) (r : Result declared.Course End) → Reads old first t u then' → Handed run old.world mid.world first c
+    → IsRead mid.world read'.world → Rose mid.world.faults read'.world.faults → read'.state ≡ old.state
+    → ((units : List Slot) (f : File) (k : ℕ) → then' units f (ReadFault k) ≡ run (take k f.records) (refusal_tree read'.state (M105 (device_text vdev)) (pos 100) units))
+    → Does read'.world new.world (saying (typed_line (message_text (M105 (device_text vdev))))) r said → IfOk r (λ x. x ≡ course.Went (pos 100)) → new.state ≡ read'.state
+    → Acts old new t r (course_of new.state)
+read_failed run old mid read' new first c t u vdev then' r reads h read rose same is does went still =
+    acts_after old read' new t (refusal_tree read'.state (M105 (device_text vdev)) (pos 100)) r (course_of new.state)
+    (read_fault run old mid read' first c t u then' (refusal_tree read'.state (M105 (device_text vdev)) (pos 100)) reads h read rose same is)
+    (refused read' new (M105 (device_text vdev)) (pos 100) r does went still)
+
+-- ---- a file of the disk of a letter
+
+-- the file of a name has it
+pub named_so : (name : Name) (fs : List File) (f : File) → file_named name fs ≡ Some f → f.name ≡ name
+unfolding file_named
+named_so name [] f is = absurd (cc)
+named_so name (g ∷ fs) f is = elim (cases_Bool (same_name name g.name)) [
+  | inl same ↦ let e : Some g ≡ Some f = rw same at is in let there : g ≡ f = some_same g f e in sym (ap (λ (x : File). x.name) there) ∙ sym (name_from name g.name same)
+  | inr other ↦ named_so name fs f (rw other at is)
+]
+
+-- a tree that reads the file of a name on the disk s of letter n, whichever its minidisk is
+pub reads_seat : {R : Type 0} (old : Spot) (n : ℕ) (s : Seated) (name : Name) (first : Reading) (t : List Slot → Act R) (then' : List Slot → File → Outcome → Act R)
+    → item_at old.state.table.seats n ≡ Some s → OpensIn s.disk name first → first.unit ≡ s.disk.volume.unit
+    → ((units : List Slot) (m : Minidisk) (f : File) → slice_get units s.letter.unit ≡ Some (Settled (Volume m)) → file_named name m.files ≡ Some f
+    → t units ≡ acts.Does (Get s.letter.unit f (length f.records)) (then' units f)) → Reads old first t s.letter.unit then'
+reads_seat old n s name first t then' there opens unit tree = record {
+  each = λ units h.
+      let k = meets_at old units n s there h in
+      let m = k.met.minidisk in
+      let o = opens (now k.journal s.disk.volume.unit) m k.met.is.stands in
+      record {
+        file = o.0;
+        offers = record {
+          minidisk = m;
+          settled = k.met.slot;
+          file = subst (λ (x : Name). file_named x m.files ≡ Some o.0) (sym (named_so name m.files o.0 o.1)) o.1;
+          enough = omega arith;
+        };
+        tree = tree units m o.0 k.met.slot o.1;
+        journal = k.journal;
+        told = k.told;
+        left = subst (λ (u : ℕ). HasLeft (image_of (contents_of k.journal u)) first o.0.records) (sym unit) o.2;
+      };
+}
+
+-- its blocks may be read
+pub open_seat : (told : Told) (t : Accesses) (n : ℕ) (s : Seated) (unit : UnitInfo) (name : Name) (first : Reading) → item_at t.seats n ≡ Some s
+    → slice_get t.units s.letter.unit ≡ Some unit → StartsAt name s.disk.volume first → Usable told t → IsOpen told first
+open_seat told t n s unit name first there has starts usable j is =
+    let at = starts.first.unit in
+    let total = starts.first.total in
+    let bsize = starts.first.bsize in
+    rw (at, total, bsize) (readable_seat told t n s unit there has usable j is)
+
 -- ---- calls that no journal that is told allows
 
 pub acts_never : {R T : Type 0} (old new : Spot) (t : List Slot → Act R) (r : Result T End) (d : Meaning T R) → ((units : List Slot) → holds old units → ⊥)
-    → IsLater old.world new.world → (IsUsable old → IsUsable new) → IfErr r (λ e. e ≡ Edge → Rose old.world.edges new.world.edges)
-    → IfOk r (λ x. d.fault x → Rose old.world.faults new.world.faults) → Acts old new t r d
-acts_never old new t (Ok x) d never later usable cause fault = record {
+    → IsLater old.world new.world → (IsUsable old → IsUsable new) → IfErr r (λ e. e ≡ Edge → Rose old.world.edges new.world.edges) → Acts old new t r d
+acts_never old new t (Ok x) d never later usable cause = record {
   each = λ units held. absurd (never units held);
   later = later;
   usable = usable;
   cause = tt;
-  fault = fault;
 }
-acts_never old new t (Err e) d never later usable cause fault = record {
+acts_never old new t (Err e) d never later usable cause = record {
   each = λ units held. absurd (never units held);
   later = later;
   usable = λ u. tt;
   cause = cause;
-  fault = tt;
 }

@@ -1,65 +1,51 @@
 -- What a journal holds, after events that leave every unit alone.
-use Rattle.std.proofs.Common.{◌≡◌, ℕ, List, Option, Some, None, refl, sym, ◌∙◌, subst}
+use Rattle.std.proofs.Common.{◌≡◌, List, Some, None, refl, ◌∙◌}
 use Rattle.cms_journal.specs.declared.event.Event.{Event}
-use Rattle.cms_journal.specs.Journal.{Journal, IsUntouched}
+use Rattle.cms_journal.specs.Journal.{Journal}
 use Rattle.cms_journal.specs.Told.{Told, NoDisk, Idle, Grown}
+use Rattle.cms_journal.proofs.Events.{no_disk_aside}
 use Rattle.cms_journal.proofs.Pieces.{plus-some, plus-none}
-use Rattle.cms_model.specs.Minidisks.{State}
 use Rattle.cms_model.specs.LawsUpdates.{after}
 use Rattle.cms_machine.specs.Slots.{Slot}
-use Rattle.cms_machine.specs.Points.{LeavesIn, Leaves, HasNowIn, HasNow}
-use Rattle.cms_journal.proofs.Events.{no_disk_aside}
-use Rattle.cms_machine.proofs.Aside.{leaves_aside, now_aside}
-use Rattle.cms_disk.proofs.Standing.{minidisk_aside}
-use Rattle.cms_search.specs.declared.state.Disk.{Disk}
-use Rattle.cms_search.specs.Calls.{HoldsIn, Holds, Usable}
-
--- what a crash leaves of a unit, where a piece left the unit alone
-pub left_before : (j : Journal) (piece : List Event) (u : ℕ) (x : State) → IsUntouched piece u → LeavesIn (after j piece) u x → LeavesIn j u x
-left_before j piece u x aside l = leaves_aside (Some j) piece u x aside (subst (λ (t : Told). Leaves t u x) (sym (plus-some j piece)) l)
-
--- and the state of its contents
-pub now_before : (j : Journal) (piece : List Event) (u : ℕ) (x : State) → IsUntouched piece u → HasNowIn (after j piece) u x → HasNowIn j u x
-now_before j piece u x aside h = now_aside (Some j) piece u x aside (subst (λ (t : Told). HasNow t u x) (sym (plus-some j piece)) h)
+use Rattle.cms_search.specs.Calls.{Holds, IsUsableTable, Usable}
+use Rattle.cms_search.specs.Held.{HoldsTable}
+use Rattle.cms_search.specs.Tables.{Accesses}
+use Rattle.cms_search.proofs.Frames.{holds_aside, same_unit}
 
 -- what is held is held still
-held_idle : (j : Journal) (piece : List Event) (disk : Option Disk) (units : List Slot) → NoDisk piece → HoldsIn j disk units → HoldsIn (after j piece) disk units
-held_idle j piece disk units none h = record {
+held_idle : (j : Journal) (piece : List Event) (t : Accesses) (units : List Slot) → NoDisk piece → HoldsTable j units t → HoldsTable (after j piece) units t
+held_idle j piece t units none h = record {
+  table = h.table;
   same = h.same;
-  disk_a = λ d is. let held = h.disk_a d is in record {
-    minidisk = held.minidisk;
-    slot = held.slot;
-    looked = held.looked;
-    is = minidisk_aside j piece d.minidisk held.minidisk (no_disk_aside piece d.minidisk.volume.unit none) held.is;
-  };
-  others = λ u unit has other.
-      let held = h.others u unit has other in
-      let aside = no_disk_aside piece u none in
-      record {
-        slot = held.slot;
-        there = held.there;
-        crash = λ state leaves. held.crash state (left_before j piece u state aside leaves);
-        now = λ state has_now. held.now state (now_before j piece u state aside has_now);
-      };
+  all = h.all;
+  each = λ u unit has. holds_aside j piece units units t t u unit (no_disk_aside piece u none) (same_unit units t u) (h.each u unit has);
 }
 
-pub holds_idle : (old new : Told) (disk : Option Disk) (units : List Slot) → Idle old new → Holds old disk units → Holds new disk units
-holds_idle None new disk units idle h = absurd h
-holds_idle (Some j) new disk units idle h =
+pub holds_idle : (old new : Told) (t : Accesses) (units : List Slot) → Idle old new → Holds old t units → Holds new t units
+holds_idle None new t units idle h = absurd h
+holds_idle (Some j) new t units idle h =
     let is : new ≡ Some (after j idle.events) = idle.told ∙ plus-some j idle.events in
-    rw is (held_idle j idle.events disk units idle.none h)
+    rw is (held_idle j idle.events t units idle.none h)
 
 -- a journal that holds something is told
-pub holds_some : (told : Told) (disk : Option Disk) (units : List Slot) → Holds told disk units → (j : Journal) × (told ≡ Some j) × HoldsIn j disk units
-holds_some None disk units h = absurd h
-holds_some (Some j) disk units h = (j, refl, h)
+pub holds_some : (told : Told) (t : Accesses) (units : List Slot) → Holds told t units → (j : Journal) × (told ≡ Some j) × HoldsTable j units t
+holds_some None t units h = absurd h
+holds_some (Some j) t units h = (j, refl, h)
 
 pub some_same : {A : Type 0} (x y : A) → Some x ≡ Some y → x ≡ y
 some_same x y e = cc
 
--- blocks that may be read may be read still
-pub usable_grown : (old new : Told) (disk : Option Disk) → Grown old new → Usable old disk → Usable new disk
-usable_grown None new disk grown usable = let e : new ≡ None = grown.told ∙ plus-none grown.events in rw e (λ j f. absurd (cc))
-usable_grown (Some i) new disk grown usable =
+-- ---- what may be called
+
+usable_after : (j : Journal) (piece : List Event) (t : Accesses) → IsUsableTable j t → IsUsableTable (after j piece) t
+usable_after j piece t u = record {
+  units = λ n unit has. let x = u.units n unit has in record { blocks = x.blocks; writable = x.writable };
+  seats = u.seats;
+}
+
+-- units that may be used may be used still
+pub usable_grown : (old new : Told) (t : Accesses) → Grown old new → Usable old t → Usable new t
+usable_grown None new t grown usable = let e : new ≡ None = grown.told ∙ plus-none grown.events in rw e (λ j f. absurd (cc))
+usable_grown (Some i) new t grown usable =
     let e : new ≡ Some (after i grown.events) = grown.told ∙ plus-some i grown.events in
-    rw e (λ j f. let same : after i grown.events ≡ j = some_same _ _ f in rw (← same) (usable i refl))
+    rw e (λ j f. let same : after i grown.events ≡ j = some_same _ _ f in rw (← same) (usable_after i grown.events t (usable i refl)))

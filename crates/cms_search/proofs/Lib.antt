@@ -9,5 +9,15 @@ pub mod Reading
 pub mod Asks
 pub mod Talking
 pub mod Frames
+pub mod Seats
+pub mod Meeting
 pub mod Handing
 pub mod Changing
+pub mod Released
+pub mod Letters
+pub mod Staying
+pub mod Lined
+pub mod Stepped
+pub mod Seating
+pub mod Sure
+pub mod Accesses

@@ -214,7 +214,8 @@ module _ (shelves : Shelves) (mode : ReadMode) (name : Name) (each : (n : ℕ) (
   among_is (Ok ns) = first_is ns
   among_is (Err e) = refl
 
-seat_shelf : (t : Accesses) (n : ℕ) (x : Option Seated) (shelf : Shelf) → item_at t.seats n ≡ x → option_map shelf_of x ≡ Some shelf → (s : Seated) × (item_at t.seats n ≡ Some s) × (shelf_of s ≡ shelf)
+seat_shelf : (t : Accesses) (n : ℕ) (x : Option Seated) (shelf : Shelf) → item_at t.seats n ≡ x → option_map shelf_of x ≡ Some shelf
+    → (s : Seated) × (item_at t.seats n ≡ Some s) × (shelf_of s ≡ shelf)
 seat_shelf t n None shelf at is = absurd (cc is)
 seat_shelf t n (Some s) shelf at is = (s, at, some_same (shelf_of s) shelf is)
 

@@ -8,6 +8,7 @@ use Rattle.cms_journal.specs.Told.{Told}
 use Rattle.cms_disk.specs.Disks.{Accessed, synced, told_with}
 use Rattle.cms_disk.specs.declared.fault.AccessFault.{AccessFault}
 use Rattle.cms_disk.specs.declared.unit.UnitInfo.{UnitInfo}
+use Rattle.cms_search.specs.Formatting.{vacated}
 use Rattle.cms_search.specs.Machine.{Letter}
 use Rattle.cms_search.specs.Searches.{item_at, has}
 use Rattle.cms_search.specs.Tables.{Accesses, Seated, HaveDistinctDevices, IsTable, IsSure, without, put_on, cleared, new_table, released, marked, seated, shelves_of, table_after, told_after, letter_for, parent_of, wanted_unit}
@@ -28,7 +29,8 @@ without_more {A = A} p zero (Some x ∷ xs) less = cases (p x)
 without_more {A = A} p (suc k) (x ∷ xs) less = cases (has p (item_at (without p (take k xs) ++ drop k xs) k)) (without_more p k xs (omega (arith, less)))
   where
     cases : (b : Bool) → cond b (slice_set (without p (take k xs) ++ drop k xs) k None) (without p (take k xs) ++ drop k xs) ≡ without p (take (suc k) xs) ++ drop (suc k) xs
-        → cond b (option_and_then (λ d. if p d then None else Some d) x ∷ slice_set (without p (take k xs) ++ drop k xs) k None) (option_and_then (λ d. if p d then None else Some d) x ∷ (without p (take k xs) ++ drop k xs))
+        → cond b (option_and_then (λ d. if p d then None else Some d) x ∷ slice_set (without p (take k xs) ++ drop k xs) k None)
+        (option_and_then (λ d. if p d then None else Some d) x ∷ (without p (take k xs) ++ drop k xs))
         ≡ option_and_then (λ d. if p d then None else Some d) x ∷ (without p (take (suc k) xs) ++ drop (suc k) xs)
     cases true h = ap (λ (l : List (Option A)). option_and_then (λ d. if p d then None else Some d) x ∷ l) h
     cases false h = ap (λ (l : List (Option A)). option_and_then (λ d. if p d then None else Some d) x ∷ l) h
@@ -70,11 +72,11 @@ length_replicated : {A : Type 0} (k : ℕ) (v : A) → length (replicate k v) �
 length_replicated zero v = refl
 length_replicated (suc k) v = ap suc (length_replicated k v)
 
-length_mapped : {A B : Type 0} (f : A → B) (xs : List A) → length (map f xs) ≡ length xs
+pub length_mapped : {A B : Type 0} (f : A → B) (xs : List A) → length (map f xs) ≡ length xs
 length_mapped f [] = refl
 length_mapped f (x ∷ xs) = ap suc (length_mapped f xs)
 
-get_set : {A : Type 0} (xs : List A) (n : ℕ) (v : A) → n < length xs → slice_get (slice_set xs n v) n ≡ Some v
+pub get_set : {A : Type 0} (xs : List A) (n : ℕ) (v : A) → n < length xs → slice_get (slice_set xs n v) n ≡ Some v
 get_set [] n v less = absurd (omega (arith, less))
 get_set (x ∷ xs) zero v less = refl
 get_set (x ∷ xs) (suc n) v less = get_set xs n v (omega (arith, less))
@@ -87,7 +89,7 @@ get_set_same (x ∷ xs) zero v (suc k) is = is
 get_set_same (x ∷ xs) (suc n) v zero is = is
 get_set_same (x ∷ xs) (suc n) v (suc k) is = get_set_same xs n v k is
 
-get_set_other : {A : Type 0} (xs : List A) (n : ℕ) (v : A) (k : ℕ) → k ≢ n → slice_get (slice_set xs n v) k ≡ slice_get xs k
+pub get_set_other : {A : Type 0} (xs : List A) (n : ℕ) (v : A) (k : ℕ) → k ≢ n → slice_get (slice_set xs n v) k ≡ slice_get xs k
 get_set_other [] n v k apart = refl
 get_set_other (x ∷ xs) zero v zero apart = absurd (apart refl)
 get_set_other (x ∷ xs) zero v (suc k) apart = refl
@@ -256,3 +258,17 @@ pub seated_so : (t : Accesses) (u n : ℕ) (s : Seated) (letter : Letter) (d : A
     → seats ≡ put_on (λ e. e.letter.unit) s n t.seats
     → ◌≡◌ {A = Accesses} (record { units = t.units; doubts = slice_set t.doubts u false; seats = seats }) (table_after t u letter n (Ok d))
 seated_so t u n s letter d seats is put = rw (put, is) refl
+
+-- ---- a unit and a letter that are released
+
+pub table_vacated : (t : Accesses) (u n : ℕ) (doubt : Bool) → IsTable t → IsTable (vacated u n (marked u doubt t))
+table_vacated t u n doubt is = record {
+  distinct = is.distinct;
+  doubts = length_set t.doubts u doubt ∙ is.doubts;
+  letters = length_mapped _ (cleared n t.seats) ∙ length_set t.seats n None ∙ is.letters;
+  once = λ a b x y is_x is_y same.
+      is.once a b x y (stays t n a x (item_without _ (cleared n t.seats) a x is_x).0).1 (stays t n b y (item_without _ (cleared n t.seats) b y is_y).0).1 same;
+  sure = λ a x is_x.
+      let h = item_without (λ (e : Seated). e.letter.unit == u) (cleared n t.seats) a x is_x in
+      get_set_other t.doubts u doubt x.letter.unit (λ same. true≢false (sym (eq-eqb x.letter.unit u same) ∙ h.1)) ∙ is.sure a x (stays t n a x h.0).1;
+}

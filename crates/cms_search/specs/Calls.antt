@@ -1,92 +1,92 @@
 -- What a call does, as a part of the machine's run.
-use Rattle.std.specs.Prelude.{⊤, ◌≡◌, ◌≤◌, ℕ, ℤ, true, false, List, [], ◌∷◌, Option, Some, None, Result, Ok, Err, IfOk, IfErr, OnOk, length, replicate, slice_get}
-use Rattle.std.specs.Option.{ForSome, option_map}
+use Rattle.std.specs.Prelude.{⊤, ◌≡◌, ◌≤◌, ℕ, ℤ, true, false, List, [], Some, None, Result, Ok, Err, IfErr, OnOk, slice_get}
 use Rattle.std.specs.FinMap.{empty}
-use Rattle.cms_journal.specs.declared.event.Attached.{Attached}
+use Rattle.std.specs.Option.{ForSome}
 use Rattle.cms_journal.specs.Causes.{Rose}
-use Rattle.cms_journal.specs.Journal.{Journal, IsWritable}
+use Rattle.cms_journal.specs.Journal.{Journal, HasBlocks, IsWritable}
 use Rattle.cms_journal.specs.Told.{Told, Idle, Grown}
-use Rattle.cms_model.specs.Minidisks.{Minidisk, State, Volume}
-use Rattle.cms_machine.specs.Slots.{Slot, Settled, state_in, set_of, IsAmong}
+use Rattle.cms_fields.specs.declared.time.Moment.{Moment}
+use Rattle.cms_machine.specs.Slots.{Slot}
 use Rattle.cms_machine.specs.Acts.{Act, Done, Out, typed_line}
-use Rattle.cms_machine.specs.Points.{Point, LeavesIn, HasNowIn}
+use Rattle.cms_machine.specs.Points.{Point}
 use Rattle.cms_machine.specs.Runs.{Ran, Broke}
 use Rattle.cms_world.specs.declared.world.World.{Ghosts}
 use Rattle.cms_world.specs.Seen.{Seen, seen}
+use Rattle.cms_words.specs.declared.reading.Words.{Words}
+use Rattle.cms_line.specs.ConsoleState.{fresh}
 use Rattle.cms_line.specs.declared.message.Message.{Message}
 use Rattle.cms_line.specs.Messages.{message_text}
-use Rattle.cms_disk.specs.Disks.{Accessed, IsLookedAt, IsMinidisk, IsReadable}
-use Rattle.cms_search.specs.Machine.{Letter, Machine, Course, Went, DeviceFault, OutOfTurns}
+use Rattle.cms_disk.specs.Disks.{IsOn}
+use Rattle.cms_disk.specs.declared.unit.UnitInfo.{UnitInfo}
+use Rattle.cms_search.specs.Machine.{Machine, Course, Went, OutOfTurns}
+use Rattle.cms_search.specs.Held.{HoldsTable}
+use Rattle.cms_search.specs.Searches.{item_at}
+use Rattle.cms_search.specs.Shows.{devices_of}
+use Rattle.cms_search.specs.Tables.{Accesses, Seated, letters_of, new_table}
 use Rattle.cms_search.specs.declared.state as declared
 use Rattle.cms_search.specs.declared.state.Course.TheVariants as course
-use Rattle.cms_search.specs.declared.state.Disk.{Disk}
 use Rattle.cms_search.specs.declared.state.End.{End}
 use Rattle.cms_search.specs.declared.state.End.TheVariants.{Edge}
 
 -- ---- the program's state, as the machine's
 
--- disk A as the machine has it
-abbrev pub letter_of : Disk → Letter
-letter_of d = record { unit = d.minidisk.volume.unit; parent = None; read_only = d.read_only }
-
-abbrev pub letters_of : Option Disk → List (Option Letter)
-letters_of disk = option_map letter_of disk ∷ replicate 25 None
-
--- the machine with these units; no line is stacked and no place is kept
+-- the machine with these units; what is on them stands in no state
 abbrev pub machine_of : declared.State.State → List Slot → Machine
 machine_of s units = record {
   units = units;
-  devices = s.device ∷ [];
-  letters = letters_of s.disk_a;
-  stack = [];
-  places = empty;
+  devices = devices_of s.table;
+  letters = letters_of s.table;
+  stack = s.stack;
+  places = s.places;
   offset = s.offset;
   moment = s.moment;
   left = s.left;
 }
 
+-- ---- the start
+
+-- 1970-01-01 00:00:00
+abbrev pub first_moment : Moment
+first_moment = record { year = 1970; month = 1; day = 1; hour = 0; minute = 0; second = 0 }
+
+-- nothing is accessed, stacked or kept, and no script is given
+abbrev pub first_state : Words → List UnitInfo → declared.State.State
+first_state words units = record {
+  table = new_table units;
+  stack = [];
+  console = fresh None;
+  places = empty;
+  moment = first_moment;
+  offset = words.offset;
+  left = words.turns;
+}
+
 -- ---- what is held of the units
 
--- a crash leaves the unit in a state of its slot's set, and its contents have the slot's state
-pub record IsCovered (j : Journal) (units : List Slot) (u : ℕ) : Type 0 where
-  pub slot : Slot
-  pub there : slice_get units u ≡ Some slot
-  pub crash : (state : State) → LeavesIn j u state → IsAmong state (set_of slot)
-  pub now : (state : State) → HasNowIn j u state → state_in slot ≡ state
-
--- the unit is that of disk A
-abbrev pub IsDiskA : Option Disk → ℕ → Type 0
-IsDiskA None u = ⊥
-IsDiskA (Some d) u = d.minidisk.volume.unit ≡ u
-
--- the unit of disk A is settled at the minidisk that disk A is
-pub record IsSeated (j : Journal) (units : List Slot) (d : Disk) : Type 0 where
-  pub minidisk : Minidisk
-  pub slot : slice_get units d.minidisk.volume.unit ≡ Some (Settled (Volume minidisk))
-  pub looked : IsLookedAt j d.minidisk
-  pub is : IsMinidisk j d.minidisk minidisk
-
--- the machine's units are those of this journal: the unit of disk A is settled at it, and every other unit is as its slot says
-pub record HoldsIn (j : Journal) (disk : Option Disk) (units : List Slot) : Type 0 where
-  pub same : length units ≡ length j.units
-  pub disk_a : ForSome disk (λ d. IsSeated j units d)
-  pub others : (u : ℕ) (unit : Attached) → slice_get j.units u ≡ Some unit → (IsDiskA disk u → ⊥) → IsCovered j units u
-
 -- nothing is held by a journal that isn't told
-abbrev pub Holds : Told → Option Disk → List Slot → Type 0
-Holds None disk units = ⊥
-Holds (Some j) disk units = HoldsIn j disk units
+abbrev pub Holds : Told → Accesses → List Slot → Type 0
+Holds None t units = ⊥
+Holds (Some j) t units = HoldsTable j units t
 
--- the blocks of a minidisk may be read, and written where it may be written
-abbrev pub IsUsableMinidisk : Journal → Accessed → Type 0
-IsUsableMinidisk j d = IsReadable j d × (d.writable ≡ true → IsWritable j.units d.volume.unit)
+-- ---- what may be called
 
--- so may those of disk A, which may be written unless it is read-only
-abbrev pub IsUsableDisk : Journal → Disk → Type 0
-IsUsableDisk j d = IsUsableMinidisk j d.minidisk × (d.read_only ≡ false → d.minidisk.writable ≡ true)
+-- the blocks of a unit may be read, and written where the unit may be
+pub record IsUsableUnit (j : Journal) (unit : UnitInfo) : Type 0 where
+  pub blocks : HasBlocks j.units unit.unit.number unit.unit.blocks unit.bsize
+  pub writable : unit.writable ≡ true → IsWritable j.units unit.unit.number
 
-abbrev pub Usable : Told → Option Disk → Type 0
-Usable told disk = ForSome told (λ j. ForSome disk (λ d. IsUsableDisk j d))
+-- an accessed disk is on its unit, and is read-only where that may not be written
+pub record IsSeatOf (unit : UnitInfo) (s : Seated) : Type 0 where
+  pub on : IsOn unit s.disk
+  pub marked : unit.writable ≡ false → s.letter.read_only ≡ true
+
+pub record IsUsableTable (j : Journal) (t : Accesses) : Type 0 where
+  pub units : (u : ℕ) (unit : UnitInfo) → slice_get t.units u ≡ Some unit → IsUsableUnit j unit
+  pub seats : (n : ℕ) (s : Seated) (unit : UnitInfo) → item_at t.seats n ≡ Some s
+      → slice_get t.units s.letter.unit ≡ Some unit → IsSeatOf unit s
+
+abbrev pub Usable : Told → Accesses → Type 0
+Usable told t = ForSome told (λ j. IsUsableTable j t)
 
 -- ---- what a world shows
 
@@ -115,34 +115,25 @@ at s units = record {
 }
 
 abbrev pub holds : Spot → List Slot → Type 0
-holds s units = Holds s.world.told s.state.disk_a units
+holds s units = Holds s.world.told s.state.table units
 
 abbrev pub IsUsable : Spot → Type 0
-IsUsable s = Usable s.world.told s.state.disk_a
+IsUsable s = Usable s.world.told s.state.table
 
 -- ---- what a value of a call means
 
--- what it is in the call's tree, by the units that the machine has then; and whether it tells that a device failed
-pub record Meaning (T R : Type 0) : Type 1 where
-  pub value : List Slot → T → R
-  pub fault : T → Type 0
-
--- of a value that tells no fault
-abbrev pub plain : {T R : Type 0} → (List Slot → T → R) → Meaning T R
-plain value = record { value = value; fault = λ x. ⊥ }
+-- what it is in the call's tree, by the units that the machine has then
+abbrev pub Meaning : Type 0 → Type 0 → Type 0
+Meaning T R = List Slot → T → R
 
 -- the machine with this state, beside what the value is
 abbrev pub beside : {T R : Type 0} → declared.State.State → (T → R) → Meaning T (Machine × R)
-beside s part = plain (λ units x. (machine_of s units, part x))
+beside s part units x = (machine_of s units, part x)
 
 -- how a command ends, with the state that it leaves
-abbrev pub course_in : declared.State.State → List Slot → declared.Course.Course → Course
-course_in s units (course.Went code) = Went (machine_of s units) code
-course_in s units course.DeviceFault = DeviceFault
-course_in s units course.OutOfTurns = OutOfTurns
-
 abbrev pub course_of : declared.State.State → Meaning declared.Course.Course Course
-course_of s = record { value = course_in s; fault = λ c. c ≡ course.DeviceFault }
+course_of s units (course.Went code) = Went (machine_of s units) code
+course_of s units course.OutOfTurns = OutOfTurns
 
 -- ---- calls
 
@@ -167,7 +158,7 @@ pub record Does {R T : Type 0} (before now : Seen) (t : Act R) (result : Result 
   pub cause : IfErr result (λ e. e ≡ Edge → Rose before.edges now.edges)
 
 abbrev pub Ends : {R T : Type 0} → Point → Spot → Act R → Result T End → Meaning T R → Type 0
-Ends p new t (Ok x) done = (units : List Slot) × (holds new units × Ran p (at new units) t (Done (done.value units x)))
+Ends p new t (Ok x) done = (units : List Slot) × (holds new units × Ran p (at new units) t (Done (done units x)))
 Ends p new t (Err e) done = (units : List Slot) × Broke p (at new units) t
 
 -- what is said of every call on the session's state
@@ -176,12 +167,10 @@ pub record Acts {R T : Type 0} (old new : Spot) (t : List Slot → Act R) (resul
   pub each : (units : List Slot) → holds old units → Ends (at old units) new (t units) result done
   -- the journal has grown, and no count has fallen
   pub later : IsLater old.world new.world
-  -- the blocks of disk A may be read still, and written unless it is read-only
+  -- the units may be used as before
   pub usable : IsUsable old → OnOk result (IsUsable new)
   -- the count of edges rose where the call was cut off at one
   pub cause : IfErr result (λ e. e ≡ Edge → Rose old.world.edges new.world.edges)
-  -- the count of faults rose where its value tells one
-  pub fault : IfOk result (λ x. done.fault x → Rose old.world.faults new.world.faults)
 
 -- a part of such a call: its tree has come so far
 pub record Comes {R : Type 0} (old mid : Spot) (t next : List Slot → Act R) : Type 0 where

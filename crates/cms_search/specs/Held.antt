@@ -7,8 +7,9 @@ use Rattle.cms_model.specs.LawsUpdates.{now}
 use Rattle.cms_machine.specs.Slots.{Slot, Settled, Doubt, IsAmong, set_of, state_in}
 use Rattle.cms_machine.specs.Points.{LeavesIn, HasNowIn}
 use Rattle.cms_disk.specs.Disks.{IsMinidisk, IsOn, IsQuiet, disk_on}
+use Rattle.cms_disk.specs.Making.{IsSeen}
 use Rattle.cms_disk.specs.declared.unit.UnitInfo.{UnitInfo}
-use Rattle.cms_search.specs.Tables.{Accesses, Seated}
+use Rattle.cms_search.specs.Tables.{Accesses, IsTable, Seated}
 
 -- the disk of a unit, where it is accessed
 abbrev pub disk_of : ℕ → List (Option Seated) → Option Seated
@@ -32,12 +33,13 @@ StandsAs j u unit slot true seat = IsDoubtSlot slot
 StandsAs j u unit slot false None = IsSettledSlot slot × IsQuiet (disk_on unit) j u
 StandsAs j u unit slot false (Some s) = (m : Minidisk) × (slot ≡ Settled (Volume m)) × IsOn unit s.disk × IsMinidisk j s.disk m
 
--- the line of a unit: its number is its place, it has its blocks, a crash leaves it in a state of its slot's set, and its contents have
--- the slot's state
+-- the line of a unit: its number is its place, it has its blocks and no more are looked at, a crash leaves it in a state of its
+-- slot's set, and its contents have the slot's state
 pub record HoldsUnit (j : Journal) (units : List Slot) (t : Accesses) (u : ℕ) (unit : UnitInfo) : Type 0 where
   pub number : unit.unit.number ≡ u
   pub blocks : HasBlocks j.units u unit.unit.blocks unit.bsize
   pub writable : unit.writable ≡ true → IsWritable j.units u
+  pub seen : IsSeen j unit
   pub whole : IsWhole (disk_on unit) (now j u)
   pub slot : Slot
   pub there : slice_get units u ≡ Some slot
@@ -49,6 +51,7 @@ pub record HoldsUnit (j : Journal) (units : List Slot) (t : Accesses) (u : ℕ) 
 
 -- the machine's units are those of the table and of the journal, and each has its line
 pub record HoldsTable (j : Journal) (units : List Slot) (t : Accesses) : Type 0 where
+  pub table : IsTable t
   pub same : length units ≡ length t.units
   pub all : length t.units ≡ length j.units
   pub each : (u : ℕ) (unit : UnitInfo) → slice_get t.units u ≡ Some unit → HoldsUnit j units t u unit

@@ -10,4 +10,10 @@ pub mod Held
 pub mod Telling
 pub mod Releasing
 pub mod Refusing
+pub mod Stepping
+pub mod Seats
+pub mod Formatting
+pub mod ChangeTold
 pub mod Talks
+pub mod Leaving
+pub mod Accessing

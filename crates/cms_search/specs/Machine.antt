@@ -74,10 +74,9 @@ seen_file disk name m = option_and_then (λ f. if is_seen disk f then Some f els
 
 -- ---- how a command ends
 
--- with the machine that it leaves and a return code, or by a fault of a device; or no turn is left for a line that it asks for
+-- with the machine that it leaves and a return code; or no turn is left for a line that it asks for
 pub data Course : Type 0 where
   Went : Machine → ℤ → Course
-  DeviceFault : Course
   OutOfTurns : Course
 
 -- a message, and the code

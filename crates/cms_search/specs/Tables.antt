@@ -1,5 +1,5 @@
 -- The access table: the units, and the letters as which their disks are accessed.
-use Rattle.std.specs.Prelude.{◌≡◌, ℕ, Bool, false, not, ◌==◌, ◌||◌, if◌then◌else◌, List, length, map, position, replicate, slice_get, slice_set, Option, Some, None, is_some, IfOk, Result, Ok, Err, ⊤}
+use Rattle.std.specs.Prelude.{◌≡◌, ℕ, Bool, true, false, not, ◌==◌, ◌||◌, if◌then◌else◌, List, length, map, position, replicate, slice_get, slice_set, Option, Some, None, is_some, IfOk, Result, Ok, Err, ⊤}
 use Rattle.std.specs.Option.{ForSome, option_map, option_and_then}
 use Rattle.cms_journal.specs.Told.{Told}
 use Rattle.cms_model.specs.LawsSizes.{IsWhole}
@@ -114,6 +114,17 @@ released n t = record t { seats = cleared n t.seats }
 -- whether a unit is in doubt
 abbrev pub marked : ℕ → Bool → Accesses → Accesses
 marked u doubt t = record t { doubts = slice_set t.doubts u doubt }
+
+-- a letter's disk is another, with the same marks
+abbrev pub seat_with : Seated → Accessed → Seated
+seat_with s d = record s { disk = d }
+
+abbrev pub with_disk : ℕ → Accessed → Accesses → Accesses
+with_disk n d t = record t { seats = slice_set t.seats n (option_map (λ s. seat_with s d) (item_at t.seats n)) }
+
+-- a letter is released, and its unit is in doubt
+abbrev pub doubted : ℕ → ℕ → Accesses → Accesses
+doubted n u t = released n (marked u true t)
 
 -- a disk of unit u is seated on letter n
 abbrev pub seated : ℕ → Seated → Accesses → Accesses

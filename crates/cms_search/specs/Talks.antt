@@ -9,12 +9,13 @@ use Rattle.cms_machine.specs.Points.{Point}
 use Rattle.cms_line.specs.ConsoleState.{ConsoleState}
 use Rattle.cms_search.specs.Asking as asking
 use Rattle.cms_world.specs.Seen.{Seen}
-use Rattle.cms_search.specs.Calls.{Plays}
+use Rattle.cms_search.specs.Calls.{Meaning, Plays, machine_of}
 use Rattle.cms_search.specs.Machine.{Machine}
 use Rattle.cms_search.specs.declared.asking.Asked.{Asked}
 use Rattle.cms_search.specs.declared.asking.Asked.TheVariants.{Given, Spent}
 use Rattle.cms_search.specs.declared.asking.NoLine.{NoLine}
 use Rattle.cms_search.specs.declared.asking.NoLine.TheVariants as no
+use Rattle.cms_search.specs.declared.state.State.{State}
 use Rattle.cms_search.specs.declared.state.End.{End}
 use Rattle.cms_search.specs.declared.state.End.TheVariants.{Edge}
 
@@ -54,3 +55,11 @@ with_lines s stack left = record s { stack = stack; left = left }
 abbrev pub asked_in : Machine → Asked → asking.Asked
 asked_in s (Given line) = asking.Given s line
 asked_in s Spent = asking.Spent
+
+-- ---- an ask of the session's state
+
+abbrev pub ask_tree : State → List Slot → Act asking.Asked
+ask_tree s units = asking.ask (machine_of s units)
+
+abbrev pub asked_of : State → Meaning Asked asking.Asked
+asked_of s units x = asked_in (machine_of s units) x

@@ -1,9 +1,12 @@
 -- How commands show letters, devices and columns, in EBCDIC.
 use Rattle.std.specs.Prelude.{ℕ, ◌+◌, ◌-◌, ◌/◌, ◌%◌, nat_lt, if◌then◌else◌, List, [], ◌∷◌, ◌++◌, length, replicate}
 
--- A for 0, Z for 25
+-- A for 0, Z for 25, and a blank past them
 abbrev pub letter_text : ℕ → List ℕ
-letter_text n = (if nat_lt n 9 then 0xC1 + n else (if nat_lt n 18 then 0xD1 + (n - 9) else 0xE2 + (n - 18))) ∷ []
+letter_text n = (if nat_lt n 9 then 0xC1 + n
+    else (if nat_lt n 18 then 0xD1 + (n - 9)
+    else (if nat_lt n 26 then 0xE2 + (n - 18)
+    else 0x40))) ∷ []
 
 abbrev pub hexadecimal_digit : ℕ → ℕ
 hexadecimal_digit n = if nat_lt n 10 then 0xF0 + n else 0xC1 + (n - 10)

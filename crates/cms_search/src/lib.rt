@@ -1,9 +1,13 @@
 //! What every command rests on: the session's state, what a call does as a part of the machine's run, and what commands type.
 #![tactic(auto)]
 
+mod accessing;
 mod asking;
+mod change_told;
 mod fault;
 mod finding;
+mod formatting;
+mod leaving;
 mod order;
 mod place_key;
 mod places;
@@ -12,13 +16,21 @@ mod saying;
 mod search;
 mod seated;
 mod state;
+mod stepping;
 mod table;
+mod telling;
 
+pub use accessing::AccessEnd;
 pub use asking::{Asked, ask, clock};
+pub use change_told::tell_change;
 pub use fault::SearchFault;
 pub use places::Places;
-pub use refusing::refuse_line;
+pub use refusing::{NO_DISK, refuse_line, refuse_no_device, refuse_not_accessed, refuse_read_only};
 pub use saying::{refuse, say, say_message, say_ready};
 pub use search::{Found, FoundList};
-pub use state::{Course, Device, Disk, End, State};
+pub use state::{Course, Device, End, State};
+pub use stepping::{Changed, change_disk, refuse_device};
 pub use table::{LETTERS, Seat, Table, UnitList};
+pub use telling::{
+    add_left, add_right, device_text, device_word, first_column, letter_text, letter_word,
+};

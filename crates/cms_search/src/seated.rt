@@ -60,16 +60,16 @@ fn is_of_unit(seats: &[Option<Seated>], letter: usize, unit: usize) -> bool
     }
 }
 
-// A letter has no disk any more.
-fn clear(seats: &mut Vec<Option<Seated>>, letter: usize)
+/// A letter has no disk any more.
+pub fn clear(seats: &mut Vec<Option<Seated>>, letter: usize)
     requires { letter < length seats.old.items }
     ensures { seats.new.items ≡ cleared letter seats.old.items }
 {
     seats[letter] = None;
 }
 
-// The unit leaves its letter.
-fn vacate(seats: &mut Vec<Option<Seated>>, unit: usize)
+/// A unit leaves its letter.
+pub fn vacate(seats: &mut Vec<Option<Seated>>, unit: usize)
     ensures { seats.new.items ≡ without (λ s. s.letter.unit == unit) seats.old.items }
 {
     for letter in 0..seats.len() {

@@ -1,11 +1,19 @@
 // What a session holds apart from its world.
-ghost use Rattle.std.specs.Prelude.{◌≡◌};
+ghost use Rattle.std.specs.Prelude.{◌≡◌, ◌≤◌, true, IfOk, OnErr};
+ghost use Rattle.cms_fields.specs.Moments.{is_moment};
+ghost use Rattle.cms_search.specs.Calls.{Acts, first_state, spot};
+ghost use Rattle.cms_search.specs.Tables.{HaveDistinctDevices};
+ghost use Rattle.cms_search.specs.Talks.{ask_tree, asked_of};
 ghost use Rattle.cms_search.specs.declared.state.End.TheVariants.{Memory};
 
-use cms_disk::Minidisk;
+use crate::asking::{Asked, ask};
+use crate::places::Places;
+use crate::table::{Table, UnitList};
 use cms_fields::Moment;
-use cms_line::Console;
-use std::alloc::{AllocError, AllocFailed};
+use cms_line::{Console, ProgStack};
+use cms_words::Words;
+use cms_world::World;
+use std::alloc::{AllocError, AllocFailed, Global};
 
 /// A unit's device.
 #[derive(Clone, Copy, Debug, PartialEq, Eq)]
@@ -20,25 +28,69 @@ pub struct Device {
     pub writable: bool,
 }
 
-/// Disk A: its minidisk, and whether it may only be read.
-#[derive(Drop)]
-pub struct Disk {
-    pub minidisk: Minidisk,
-    pub read_only: bool,
-}
-
-/// The session's state: its unit's device, disk A where it is accessed, the console, and the turns.
+/// The session's state: all that it holds apart from its world.
 #[derive(Drop)]
 pub struct State {
-    pub device: Device,
-    pub disk_a: Option<Disk>,
+    /// the units, and the letters as which their disks are accessed
+    pub table: Table,
+    /// the lines that were left for the next command that asks for one
+    pub stack: ProgStack,
     pub console: Console,
-    /// by how many seconds civil time is ahead of UTC: at most 54,000 either way
-    pub offset: i32,
+    /// where reading goes on, in files that were read in part
+    pub places: Places,
     /// that of the last turn
     pub moment: Moment,
+    /// by how many seconds civil time is ahead of UTC: at most 54,000 either way
+    pub offset: i32,
     /// the turns that are left
     pub left: u64,
+}
+
+// 1970-01-01 00:00:00.
+const FIRST_MOMENT: Moment = Moment {
+    year: 1970,
+    month: 1,
+    day: 1,
+    hour: 0,
+    minute: 0,
+    second: 0,
+};
+
+impl State {
+    /// The state of a session that starts on units with distinct devices: nothing is accessed, no line is stacked, no reading place is
+    /// kept, no script is given, and the moment is 1970-01-01 00:00:00.
+    pub fn new(alloc: Global, words: &Words, units: UnitList) -> Result<State, AllocError>
+        requires { HaveDistinctDevices units }
+        ensures first { IfOk result (λ state. state ≡ first_state words.now units) }
+        ensures moment { IfOk result (λ state. is_moment state.moment ≡ true) }
+    {
+        Ok(State {
+            table: Table::new(alloc, units)?,
+            stack: ProgStack::new(alloc),
+            console: Console::new(alloc, None)?,
+            places: Places::new(alloc),
+            moment: FIRST_MOMENT,
+            offset: words.offset,
+            left: words.turns,
+        })
+    }
+
+    /// The line that a command asks for, as `ask` gives it. After an `Err` the stack is as before, and what was taken and spent stays so.
+    pub fn ask<W: World>(&mut self, alloc: Global, world: &mut W) -> Result<Asked, End>
+        ensures acts { Acts (spot W.World world.old self.old) (spot W.World world.new self.new)
+            (ask_tree self.old) result (asked_of self.new) }
+        ensures kept { self.new ≡ record self.old { stack = self.new.stack; console = self.new.console; left = self.new.left } }
+        ensures stack { OnErr result (self.new.stack ≡ self.old.stack) }
+        ensures left { self.new.left ≤ self.old.left }
+    {
+        ask(
+            alloc,
+            world,
+            &mut self.stack,
+            &mut self.console,
+            &mut self.left,
+        )
+    }
 }
 
 /// Why a call is cut off.
@@ -71,8 +123,6 @@ impl<T: Drop> From<AllocFailed<T>> for End {
 pub enum Course {
     /// with this return code
     Went(i32),
-    /// by a fault of a device
-    DeviceFault,
     /// no turn is left for a line that it asks for
     OutOfTurns,
 }

@@ -1,18 +1,25 @@
 // The access table.
-ghost use Rattle.std.specs.Prelude.{Bool, not, is_some, ◌||◌, ◌≡◌, ◌⊎◌, ◌<◌, ◌≤◌, ◌↔◌, true, false, length, slice_get, Some, None, unwrap_or, IfSome, IfOk, IfErr, OnOk, IsSome, IsTrue};
+ghost use Rattle.std.specs.Prelude.{Bool, not, is_some, ◌||◌, ◌==◌, ◌≡◌, ◌⊎◌, ◌<◌, ◌≤◌, ◌↔◌, true, false, length, position, slice_get, Some, None, Ok, unwrap_or, IfSome, IfOk, IfErr, OnOk, OnErr, IsSome, IsTrue};
 ghost use Rattle.std.specs.Option.{ForSome, option_copied, option_map, option_and_then};
 ghost use Rattle.cms_world.specs.Seen.{ChangesUnits, seen};
 ghost use Rattle.cms_journal.specs.Journal.{HasBlocks};
 ghost use Rattle.cms_model.specs.declared.fault.OpenFault.TheVariants as failed;
 ghost use Rattle.cms_disk.specs.Disks.{IsDevices};
 ghost use Rattle.cms_disk.specs.declared.unit.UnitInfo.{UnitInfo};
-ghost use Rattle.cms_search.specs.Searches.{item_at};
+ghost use Rattle.cms_search.specs.Releasing.{letter_with};
+ghost use Rattle.cms_search.specs.Formatting.{vacated};
+ghost use Rattle.cms_search.specs.Searches.{has, item_at};
+ghost use Rattle.cms_fields.specs.Stamps.{is_stamp};
+ghost use Rattle.cms_edf.specs.Planning.{change_of};
+ghost use Rattle.cms_search.specs.Seats.{ChangesSeat, ChangesTo, MayChange};
 ghost use Rattle.cms_search.specs.Tables.{EndsAccess, HaveDistinctDevices, IsTable, LooksAt, answer_for, table_after, letter_for, letters_of, marked, missing_parent, new_table, parent_of, place_of_device, released, seated, unit_of_device, wanted_unit, writing};
 ghost use Rattle.cms_search.specs.declared.fault.SearchFault.TheVariants.{NotAccessed, Volume};
 
 use crate::fault::SearchFault;
-use crate::seated::{Seated, put_on, seat_at};
-use cms_disk::{AccessFault, Minidisk, OpenFault, UnitInfo};
+use crate::seated::{Seated, clear, put_on, seat_at, vacate};
+use cms_disk::{AccessFault, DiskFault, Minidisk, OpenFault, UnitInfo};
+use cms_edf::Change;
+use cms_fields::Stamp;
 use cms_text::Series;
 use cms_world::World;
 use std::alloc::{AllocError, Global};
@@ -74,6 +81,35 @@ fn is_read_only(parent: Option<u8>, writable: bool) -> bool
     }
 }
 
+// Whether a seat is taken by the disk of a unit.
+fn is_of(seat: &Option<Seated>, unit: usize) -> bool
+    ensures { result ≡ has (λ s. s.letter.unit == unit) seat.now }
+{
+    match seat {
+        Some(seat) => seat.unit == unit,
+        None => false,
+    }
+}
+
+// Changes a minidisk.
+fn change_minidisk<W: World>(
+    alloc: Global,
+    world: &mut W,
+    disk: &mut Minidisk,
+    change: &Change,
+    stamp: &Stamp,
+) -> Result<(), DiskFault>
+    requires may { MayChange (W.told world.old) disk.old change.now }
+    requires stamp { is_stamp stamp.now ≡ true }
+    ensures { ChangesTo (seen W.World world.old) (seen W.World world.new) disk.old disk.new (change_of change.now) stamp.now result }
+{
+    match *change {
+        Change::Drop { name } => disk.erase(alloc, world, name, stamp),
+        Change::Rename { from, to, number } => disk.rename(alloc, world, from, to, number, stamp),
+        Change::Relabel { volid } => disk.relabel(alloc, world, volid, stamp),
+    }
+}
+
 impl Table {
     /// A table of units with distinct devices. Nothing is accessed, and no unit is in doubt.
     pub fn new(alloc: Global, units: UnitList) -> Result<Table, AllocError>
@@ -132,6 +168,17 @@ impl Table {
         Some(&self.seated(letter)?.disk)
     }
 
+    /// The device of a letter's disk; 0 where the letter isn't accessed.
+    pub fn vdev(&self, letter: u8) -> u16
+        ensures { IfSome (item_at self.now.seats letter) (λ s.
+            option_map (λ unit. unit.vdev) (slice_get self.now.units s.letter.unit) ≡ Some result) }
+    {
+        match self.seat(letter) {
+            Some(seat) => seat.vdev,
+            None => 0,
+        }
+    }
+
     // The disk of a letter with its marks.
     pub(crate) fn seated(&self, letter: u8) -> Option<&Seated>
         ensures seat { option_copied result ≡ item_at self.now.seats letter }
@@ -149,7 +196,7 @@ impl Table {
     }
 
     // The place of the unit of a device.
-    fn place(&self, vdev: u16) -> Option<usize>
+    pub(crate) fn place(&self, vdev: u16) -> Option<usize>
         ensures place { result ≡ place_of_device vdev self.now.units }
         ensures within { IfSome result (λ u. u < length self.now.units) }
     {
@@ -157,6 +204,33 @@ impl Table {
             .as_slice()
             .iter()
             .position(|unit| unit.vdev == vdev)
+    }
+
+    // The letter on which the unit in a place stands.
+    fn letter_of(&self, place: usize) -> Option<u8>
+        ensures letter { result ≡ position (has (λ s. s.letter.unit == place)) self.now.seats }
+        ensures within { IfSome result (λ n. n < 26) }
+    {
+        let letter = self
+            .seats
+            .as_slice()
+            .iter()
+            .position(|seat| is_of(seat, place));
+        match letter {
+            Some(letter) => Some(letter as u8),
+            None => None,
+        }
+    }
+
+    /// The letter as which the volume of a device is accessed; none exactly where it isn't.
+    pub fn letter_on(&self, vdev: u16) -> Option<u8>
+        ensures letter { result ≡ option_and_then (λ u. letter_with u (letters_of self.now)) (place_of_device vdev self.now.units) }
+        ensures within { IfSome result (λ n. n < 26) }
+    {
+        match self.place(vdev) {
+            Some(place) => self.letter_of(place),
+            None => None,
+        }
     }
 
     // The letter of /ext that is missing.
@@ -213,6 +287,51 @@ impl Table {
         Minidisk::access(alloc, world, &unit, doubt)
     }
 
+    // The unit in a place.
+    pub(crate) fn unit_in(&self, place: usize) -> UnitInfo
+        requires { place < length self.now.units }
+        ensures { slice_get self.now.units place ≡ Some result }
+    {
+        self.units.as_slice()[place]
+    }
+
+    // Seats a disk of the unit in a place on a letter; the unit isn't in doubt any more.
+    pub(crate) fn seat_on(&mut self, place: usize, letter: u8, parent: Option<u8>, disk: Minidisk)
+        requires within { place < length self.old.units }
+        requires letter { letter < 26 }
+        ensures { (unit : UnitInfo) → slice_get self.old.units place ≡ Some unit
+            → self.new ≡ table_after self.old place (letter_for place unit.writable letter parent) letter (Ok disk) }
+    {
+        let writable = self.units.as_slice()[place].writable;
+        self.doubts[place] = false;
+        let seat = Seated {
+            disk,
+            unit: place,
+            parent: parent_of(letter, parent),
+            read_only: is_read_only(parent, writable),
+        };
+        put_on(&mut self.seats, letter as usize, seat);
+    }
+
+    // Releases the unit in a place, and a letter; the unit is in doubt then or isn't.
+    pub(crate) fn vacate(&mut self, place: usize, letter: u8, doubt: bool)
+        requires within { place < length self.old.units }
+        requires letter { letter < 26 }
+        ensures { self.new ≡ vacated place letter (marked place doubt self.old) }
+    {
+        clear(&mut self.seats, letter as usize);
+        vacate(&mut self.seats, place);
+        self.doubts[place] = doubt;
+    }
+
+    // The unit in a place isn't in doubt any more.
+    fn end_doubt(&mut self, place: usize)
+        requires { place < length self.old.units }
+        ensures { self.new ≡ marked place false self.old }
+    {
+        self.doubts[place] = false;
+    }
+
     // Seats the disk of the unit in a place. A good sync has ended a doubt, but where there was no memory.
     fn settle(
         &mut self,
@@ -229,21 +348,13 @@ impl Table {
     {
         match found {
             Ok(disk) => {
-                let writable = self.units.as_slice()[place].writable;
-                self.doubts[place] = false;
-                let seat = Seated {
-                    disk,
-                    unit: place,
-                    parent: parent_of(letter, parent),
-                    read_only: is_read_only(parent, writable),
-                };
-                put_on(&mut self.seats, letter as usize, seat);
+                self.seat_on(place, letter, parent, disk);
                 Ok(())
             }
             Err(AccessFault::Sync) => Err(SearchFault::Volume(OpenFault::Device)),
             Err(AccessFault::Open(OpenFault::Memory)) => Err(SearchFault::Memory),
             Err(AccessFault::Open(fault)) => {
-                self.doubts[place] = false;
+                self.end_doubt(place);
                 Err(SearchFault::Volume(fault))
             }
         }
@@ -266,10 +377,33 @@ impl Table {
         ensures access { EndsAccess (W.told world.old) (W.told world.new) self.old self.new letter parent result
             (wanted_unit vdev (place_of_device vdev self.old.units) (missing_parent self.old.seats letter parent)) }
         ensures changes { ChangesUnits (seen W.World world.old) (seen W.World world.new) (λ e. e ≡ Volume failed.Device) result }
+        ensures unlooked { OnErr (wanted_unit vdev (place_of_device vdev self.old.units) (missing_parent self.old.seats letter parent))
+            (seen W.World world.new ≡ seen W.World world.old) }
     {
         let place = self.wanted(vdev, letter, parent)?;
         let found = self.open(alloc, world, place);
         self.settle(place, letter, parent, found)
+    }
+
+    /// Changes the disk of an accessed letter in place, as `Minidisk`'s call does; the directory has this stamp then.
+    pub fn change<W: World>(
+        &mut self,
+        alloc: Global,
+        world: &mut W,
+        letter: u8,
+        change: &Change,
+        stamp: &Stamp,
+    ) -> Result<(), DiskFault>
+        requires accessed { IsSome (item_at self.old.seats letter) }
+        requires may { ForSome (item_at self.old.seats letter) (λ s. MayChange (W.told world.old) s.disk change.now) }
+        requires stamp { is_stamp stamp.now ≡ true }
+        ensures { IfSome (item_at self.old.seats letter) (λ s. ChangesSeat (seen W.World world.old) (seen W.World world.new)
+            self.old self.new letter s (change_of change.now) stamp.now result) }
+    {
+        match &mut self.seats[letter as usize] {
+            Some(seat) => change_minidisk(alloc, world, &mut seat.disk, change, stamp),
+            None => Err(DiskFault::Memory),
+        }
     }
 
     /// A letter isn't accessed any more; `NotAccessed` exactly where it wasn't.

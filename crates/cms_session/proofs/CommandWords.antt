@@ -1,5 +1,5 @@
 -- Words of a line.
-use Rattle.std.proofs.Common.{◌≡◌, ℕ, ◌≤◌, Bool, true, false, List, [], ◌∷◌, length, Result, Ok, Err, Some, None, codes, refl, ap, sym, ◌∙◌, arith}
+use Rattle.std.proofs.Common.{◌≡◌, ℕ, ◌≤◌, Bool, true, false, List, [], ◌∷◌, length, Option, Result, Ok, Err, Some, None, codes, refl, ap, arith}
 use Rattle.std.specs.Prelude.{not, cond, nat_le, nat_lt, ◌==◌, ◌&&◌, if◌then◌else◌}
 use Rattle.std.specs.List.{list_all, prefix_len, slice_split}
 use Rattle.std.specs.Option.{option_map_or}
@@ -12,8 +12,8 @@ use Rattle.cms_model.specs.Lists.{same}
 use Rattle.cms_ebcdic.specs.CodePage.{code_of, code_page}
 use Rattle.cms_text.specs.Texts.{ebcdic}
 use Rattle.cms_text.specs.Texts.{coded}
-use Rattle.cms_session.specs.Commands.{type_word, erase_word, letter_a, file_command, command_of_words, command_of_line, is_comment}
-use Rattle.cms_session.specs.declared.command.Command.TheVariants.{Nothing, NotBuilt}
+use Rattle.cms_names.specs.declared.name.Name.{Name}
+use Rattle.cms_session.specs.Commands.{type_word, erase_word, exec_word, letter_a, file_of_words, file_of_line}
 
 pub same_is : (xs ys : List ℕ) → bytes_eq xs ys ≡ same xs ys
 unfolding same
@@ -36,9 +36,9 @@ pub letter_coded : coded (codes "A") ≡ letter_a
 unfolding ebcdic code_of code_page
 letter_coded = refl
 
--- a test for a word by its bytes
-pub word_is : (word bytes wanted : List ℕ) (r b : Bool) → bytes ≡ wanted → r ≡ same word bytes → r ≡ b → same word wanted ≡ b
-word_is word bytes wanted r b spelled is test = ap (same word) (sym spelled) ∙ sym is ∙ test
+pub exec_coded : coded (codes "EXEC") ≡ exec_word
+unfolding ebcdic code_of code_page
+exec_coded = refl
 
 -- ---- parts of names
 
@@ -78,30 +78,52 @@ pub part_is_short : (part : List ℕ) → is_part part ≡ true → length part 
 unfolding is_text_of
 part_is_short part is = let few = leb-true (length part) 8 (and_parts _ _ (and_parts _ _ is).0).1 in omega (arith, few)
 
--- ---- commands
+-- ---- the file of a line
 
 abbrev four : List ℕ → List ℕ → List ℕ → List ℕ → List (List ℕ)
 four word file kind mode = word ∷ file ∷ kind ∷ mode ∷ []
 
-pub parts_are_read : (word file kind mode : List ℕ) (a b : List ℕ) → same mode letter_a ≡ true → IsRead file (Ok a) → IsRead kind (Ok b)
-    → file_command word (record { file = a; kind = b }) ≡ command_of_words (four word file kind mode)
-parts_are_read word file kind mode a b letter f k = rw (f.0, k.0, f.1, k.1, letter) refl
+abbrev chosen : Bool → Bool → Bool → Bool → Name → Option Name
+chosen a b c d name = if a && b && c && d then Some name else None
 
-pub file_is_not_part : (word file kind mode : List ℕ) → is_part file ≡ false → NotBuilt ≡ command_of_words (four word file kind mode)
-file_is_not_part word file kind mode not_part = rw not_part refl
+no_first : (a b c d : Bool) (name : Name) → a ≡ false → None ≡ chosen a b c d name
+no_first false b c d name e = refl
+no_first true b c d name e = absurd (cc e)
 
-pub kind_is_not_part : (word file kind mode : List ℕ) → is_part kind ≡ false → NotBuilt ≡ command_of_words (four word file kind mode)
-kind_is_not_part word file kind mode not_part = go (is_part file) (is_part kind) not_part
-  where
-    go : (a b : Bool) → b ≡ false → NotBuilt ≡ (if a && b && same mode letter_a then file_command word (record { file = file; kind = kind }) else NotBuilt)
-    go true true e = cc
-    go true false e = refl
-    go false b e = refl
+no_second : (a b c d : Bool) (name : Name) → b ≡ false → None ≡ chosen a b c d name
+no_second true false c d name e = refl
+no_second false false c d name e = refl
+no_second a true c d name e = absurd (cc e)
 
-pub comment : (line : List ℕ) → is_comment line ≡ true → Nothing ≡ command_of_line line
-unfolding command_of_line
-comment line is = rw is refl
+no_third : (a b c d : Bool) (name : Name) → c ≡ false → None ≡ chosen a b c d name
+no_third true true false d name e = refl
+no_third true false false d name e = refl
+no_third false b false d name e = refl
+no_third a b true d name e = absurd (cc e)
 
-pub not_comment : (line : List ℕ) (words : List (List ℕ)) → is_comment line ≡ false → words ≡ slice_split (λ x. x == 0x40) line → command_of_words words ≡ command_of_line line
-unfolding command_of_line
-not_comment line words is are = rw (is, are) refl
+no_fourth : (a b c d : Bool) (name : Name) → d ≡ false → None ≡ chosen a b c d name
+no_fourth true true true false name e = refl
+no_fourth true true false false name e = refl
+no_fourth true false c false name e = refl
+no_fourth false b c false name e = refl
+no_fourth a b c true name e = absurd (cc e)
+
+pub other_word : (command word file kind mode : List ℕ) → same word command ≡ false → None ≡ file_of_words command (four word file kind mode)
+other_word command word file kind mode e = no_fourth (is_part file) (is_part kind) (same mode letter_a) (same word command) (record { file = file; kind = kind }) e
+
+pub other_mode : (command word file kind mode : List ℕ) → same mode letter_a ≡ false → None ≡ file_of_words command (four word file kind mode)
+other_mode command word file kind mode e = no_third (is_part file) (is_part kind) (same mode letter_a) (same word command) (record { file = file; kind = kind }) e
+
+pub not_file : (command word file kind mode : List ℕ) → is_part file ≡ false → None ≡ file_of_words command (four word file kind mode)
+not_file command word file kind mode e = no_first (is_part file) (is_part kind) (same mode letter_a) (same word command) (record { file = file; kind = kind }) e
+
+pub not_kind : (command word file kind mode : List ℕ) → is_part kind ≡ false → None ≡ file_of_words command (four word file kind mode)
+not_kind command word file kind mode e = no_second (is_part file) (is_part kind) (same mode letter_a) (same word command) (record { file = file; kind = kind }) e
+
+pub file_is : (command word file kind mode a b : List ℕ) → same word command ≡ true → same mode letter_a ≡ true → IsRead file (Ok a) → IsRead kind (Ok b)
+    → Some (record { file = a; kind = b }) ≡ file_of_words command (four word file kind mode)
+file_is command word file kind mode a b first letter f k = rw (f.0, k.0, f.1, k.1, letter, first) refl
+
+pub file_in : (command line : List ℕ) (words : List (List ℕ)) → words ≡ slice_split (λ x. x == 0x40) line → file_of_words command words ≡ file_of_line command line
+unfolding file_of_line
+file_in command line words are = ap (file_of_words command) are

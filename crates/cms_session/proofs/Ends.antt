@@ -1,19 +1,12 @@
 -- How a session ends: its parts joined, and the headline.
-use Rattle.std.proofs.Common.{◌≡◌, inl, inr, ℕ, ◌≤◌, min, List, [], ◌∷◌, ◌++◌, Option, Some, Result, Ok, Err, pos, refl, ap, sym, subst, ◌∙◌, arith, append-nil, slice_get, length}
-use Rattle.cms_journal.specs.Limits.{most_blocks}
-use Rattle.cms_journal.specs.declared.event.Event.{Event}
-use Rattle.cms_journal.specs.declared.event.Event.TheVariants.{Missed}
-use Rattle.cms_journal.specs.declared.event.Access.{Access}
-use Rattle.cms_journal.specs.declared.event.Attached.{Attached}
-use Rattle.cms_journal.specs.Causes.{Rose, Counted}
-use Rattle.cms_journal.specs.Journal.{IsAttached, MayAdd, may_write}
-use Rattle.std.specs.Prelude.{option_map, is_some, true, None}
+use Rattle.std.proofs.Common.{◌≡◌, inl, ℕ, ◌≤◌, List, [], ◌++◌, Option, Some, None, Result, Ok, Err, refl, ap, sym, subst, ◌∙◌, arith, append-nil, slice_get, length}
+use Rattle.std.specs.Prelude.{option_map, is_some, true}
 use Rattle.std.proofs.lemmas.List.{length-map}
-use Rattle.cms_search.proofs.Holding.{some_same}
-use Rattle.cms_session.proofs.Starts.{first_state, settled_at, left_first, now_first}
+use Rattle.cms_journal.specs.declared.event.Event.{Event}
+use Rattle.cms_journal.specs.declared.event.Attached.{Attached}
+use Rattle.cms_journal.specs.Causes.{Counted}
 use Rattle.cms_journal.specs.Told.{Told, typed, moments}
 use Rattle.cms_model.specs.Minidisks.{State}
-use Rattle.cms_model.specs.Volumes.{disk_of}
 use Rattle.cms_machine.specs.Slots.{Slot, Settled, state_in, set_of, unit_set, unit_state, IsAmong}
 use Rattle.cms_machine.specs.Steps.{faults_in}
 use Rattle.cms_machine.specs.Acts.{Act}
@@ -23,32 +16,30 @@ use Rattle.cms_machine.specs.Points.{LeavesIn, Leaves, HasNowIn, HasNow, Point, 
 use Rattle.cms_machine.specs.Beats.{pieces, outcomes}
 use Rattle.cms_machine.specs.Runs.{Ran, Broke, events_of}
 use Rattle.cms_machine.proofs.Law.{at_of_within}
-use Rattle.cms_machine.proofs.Join.{ran_then, broke_then}
 use Rattle.cms_machine.proofs.Single.{broke_before}
 use Rattle.cms_machine.proofs.Whole.{follows_tree, comes_to, whole}
-use Rattle.cms_session.specs.Machine.{machine}
-use Rattle.cms_fields.specs.declared.time.Moment.{Moment}
-use Rattle.cms_fields.specs.Moments.{moment_of}
-use Rattle.cms_line.specs.ConsoleState.{ConsoleState}
-use Rattle.cms_line.specs.ConsoleState as consoles
+use Rattle.cms_disk.specs.declared.unit.UnitInfo.{UnitInfo}
+use Rattle.cms_search.specs.Calls.{Spot, Holds, Acts, at, first_state, machine_of}
+use Rattle.cms_search.specs.Machine.{Letter, Machine}
+use Rattle.cms_search.specs.Shows.{devices_of}
+use Rattle.cms_search.specs.Tables.{HaveDistinctDevices, Seated, new_table}
 use Rattle.cms_search.specs.declared.state.Device.{Device}
 use Rattle.cms_search.specs.declared.state.End.{End}
+use Rattle.cms_search.specs.declared.state.End.TheVariants as cut
 use Rattle.cms_search.specs.declared.state.State as declared
-use Rattle.cms_search.specs.Calls.{Spot, Holds, Acts, at}
+use Rattle.cms_search.proofs.Holding.{some_same}
+use Rattle.cms_words.specs.declared.reading.Words.{Words}
 use Rattle.cms_world.specs.Seen.{Seen}
+use Rattle.cms_session.specs.Machine.{machine, started}
 use Rattle.cms_session.specs.Calls.{session_tree, finished}
-use Rattle.cms_session.specs.Headline.{Start, Headline, Came, Begins, EndsAs, IsAs, fresh, settled, first_point, start_point, start_tree, run_on}
-use Rattle.cms_session.specs.Sessions.{IsAsSeen, CameTo, WasCut, EndedAs, NotAttached, OnUnit, IsAlone, FoundAs, start_on, device_of, lines_tree, status_of}
-use Rattle.std.specs.Prelude.{Vec}
-use Rattle.std.specs.declared.alloc.Global.{Global}
-use Rattle.cms_words.specs.declared.unit.UnitWord.{UnitWord}
-use Rattle.cms_session.specs.declared.asked.Terms.{Terms}
-use Rattle.cms_session.specs.Words.{Asked, asked, given_in}
-use Rattle.cms_search.specs.declared.state.Disk.{Disk}
+use Rattle.cms_session.specs.Headline.{Start, Headline, Came, Begins, EndsAs, IsAs, fresh, settled, first_console, first_machine, first_point, start_point, start_tree, run_on}
+use Rattle.cms_session.specs.Sessions.{AttachesAll, HaveSizes, IsAsSeen, CameTo, WasCut, EndedAs, OnUnits, RunsOn, start_on, status_at, status_of}
+use Rattle.cms_session.specs.Words.{asked_of, given_by}
 use Rattle.cms_session.specs.declared.state.Finish.{Finish}
 use Rattle.cms_session.specs.declared.state.Finish.TheVariants as finish
 use Rattle.cms_session.specs.declared.status.Status.{Status}
 use Rattle.cms_session.specs.declared.status.Status.TheVariants.{Done, Usage, Memory, World, Turns, NotBuilt}
+use Rattle.cms_session.proofs.Starts.{first_state_of, none_lettered, settled_at, left_first, now_first, holds_start, devices_start}
 
 -- ---- a run, and how it ended
 
@@ -58,113 +49,89 @@ cut_before p now t told later =
     let q : Point = record { journal = now.told; faults = now.faults; units = p.units; unread = p.unread; ended = p.ended } in
     record { point = q; shown = record { told = refl; faults = refl }; broke = broke_before p q t told later refl }
 
--- the point of a session with this console
-point_with : Seen → List Slot → ConsoleState → Point
-point_with before units c = record { journal = before.told; faults = before.faults; units = units; unread = c.unread; ended = c.ended }
+-- the state of a session at its start, where it stands then, and the machine that it is
+abbrev pub start_state : Words → List UnitInfo → declared.State
+start_state words infos = record (first_state words infos) { console = first_console (given_by words.seed) }
 
--- where nothing was done yet a session stands at its first point, with the script that is given where there is one
-at_start : (before : Seen) (units : List Slot) (state : declared.State) (given : Option (Vec ℕ Global)) → state.console ≡ consoles.fresh given
-    → at (record { world = before; state = state }) units ≡ first_point before.told before.faults units (given_in given)
-unfolding point_with
-at_start before units state None e = ap (point_with before units) e
-at_start before units state (Some script) e = ap (point_with before units) e
+abbrev start_spot : Seen → Words → List UnitInfo → Spot
+start_spot before words infos = record { world = before; state = start_state words infos }
 
--- the state of a session at its start
-abbrev pub first_state_of : Device → Terms → Option Disk → ConsoleState → Moment → declared.State
-first_state_of device terms disk console moment = record {
-  device = device;
-  disk_a = disk;
-  console = console;
-  offset = terms.offset;
-  moment = moment;
-  left = terms.turns;
-}
+machine_first : (words : Words) (infos : List UnitInfo) (units : List Slot)
+    → machine_of (start_state words infos) units ≡ first_machine units (devices_of (new_table infos)) words.offset words.turns
+machine_first words infos units =
+    ap (λ (l : List (Option Letter)). record (first_machine units (devices_of (new_table infos)) words.offset words.turns) { letters = l }) (none_lettered (λ (s : Seated). s.letter) 26)
 
--- where it starts, with the device of its word and the script of its terms
-abbrev first_spot : Seen → UnitWord → ℕ → Terms → Option Disk → ConsoleState → Spot
-first_spot before word blocks terms disk console = record {
-  world = before;
-  state = first_state_of (device_of word blocks) terms disk console (moment_of (pos 0) terms.offset);
-}
+abbrev tree_first : Words → List UnitInfo → List Slot → Act Finish
+tree_first words infos units = started (first_machine units (devices_of (new_table infos)) words.offset words.turns)
 
--- what the lines of a session did from there
-abbrev LinesDid : Seen → Seen → UnitWord → ℕ → Terms → Option Disk → ConsoleState → declared.State → Result Finish End → Type 0
-LinesDid before now word blocks terms disk console new r =
-    Acts (first_spot before word blocks terms disk console) (record { world = now; state = new })
-    (session_tree (first_spot before word blocks terms disk console).state) r finished
+abbrev point_first : Seen → Words → List Slot → Point
+point_first before words units = first_point before.told before.faults units (given_by words.seed)
 
--- the lines of a session were cut off
-pub lines_cut : (before now : Seen) (device : Device) (word : UnitWord) (blocks : ℕ) (terms : Terms) (disk : Option Disk) (console : ConsoleState) (moment : Moment)
-    (new : declared.State) (e : End) (units : List Slot) → device ≡ device_of word blocks → console ≡ consoles.fresh terms.given → moment ≡ moment_of (pos 0) terms.offset
-    → Acts {T = Finish} (record { world = before; state = first_state_of device terms disk console moment }) (record { world = now; state = new })
-    (session_tree (first_state_of device terms disk console moment)) (Err e) finished
-    → Holds before.told disk units
-    → WasCut (first_point before.told before.faults units (given_in terms.given)) now (lines_tree (asked word terms) blocks disk units)
-lines_cut before now device word blocks terms disk console moment new e units is_device is_console is_moment did h =
-    let there : LinesDid before now word blocks terms disk console new (Err e) = rw (is_device, is_moment) at did in
+-- what a session did from there
+abbrev Did : Seen → Seen → declared.State → declared.State → Result Finish End → Type 0
+Did before now s new r = Acts (record { world = before; state = s }) (record { world = now; state = new }) (session_tree s) r finished
+
+-- it was cut off
+was_cut : (before now : Seen) (words : Words) (infos : List UnitInfo) (s new : declared.State) (e : End) (units : List Slot) → s ≡ start_state words infos → Did before now s new (Err e)
+    → Holds before.told (new_table infos) units → WasCut (point_first before words units) now (tree_first words infos units)
+was_cut before now words infos s new e units is did h =
+    let there = subst (λ (x : declared.State). Did before now x new (Err e)) is did in
     let x = there.each units h in
     let q = at (record { world = now; state = new }) x.0 in
-    let from = at_start before units (first_spot before word blocks terms disk console).state terms.given is_console in
     record {
       point = q;
       shown = record { told = refl; faults = refl };
-      broke = subst (λ (p : Point). Broke p q (lines_tree (asked word terms) blocks disk units)) from x.1;
+      broke = subst (λ (m : Machine). Broke (point_first before words units) q (started m)) (machine_first words infos units) x.1;
     }
 
--- a tree that came to an end ended as its status says
+pub runs_cut : (before now : Seen) (words : Words) (infos : List UnitInfo) (s new : declared.State) (e : End) → s ≡ start_state words infos → Did before now s new (Err e)
+    → RunsOn infos words before now (status_at e)
+runs_cut before now words infos s new cut.Memory is did units h = was_cut before now words infos s new cut.Memory units is did h
+runs_cut before now words infos s new cut.Edge is did units h = (was_cut before now words infos s new cut.Edge units is did h, did.cause refl)
+
+-- or came to an end
 ended_as : (p : Point) (edges : ℕ) (now : Seen) (t : Act Finish) (end : Finish) → CameTo p now t end → EndedAs p edges now t (status_of end)
 ended_as p edges now t finish.AtEnd came = came
 ended_as p edges now t finish.AtTurns came = came
 ended_as p edges now t finish.NotBuilt came = came
-ended_as p edges now t finish.DeviceFault came = inl came
 
--- or came to an end
-pub lines_came : (before now : Seen) (device : Device) (word : UnitWord) (blocks : ℕ) (terms : Terms) (disk : Option Disk) (console : ConsoleState) (moment : Moment)
-    (new : declared.State) (end : Finish) (units : List Slot) → device ≡ device_of word blocks → console ≡ consoles.fresh terms.given → moment ≡ moment_of (pos 0) terms.offset
-    → Acts {T = Finish} (record { world = before; state = first_state_of device terms disk console moment }) (record { world = now; state = new })
-    (session_tree (first_state_of device terms disk console moment)) (Ok end) finished
-    → Holds before.told disk units
-    → EndedAs (first_point before.told before.faults units (given_in terms.given)) before.edges now (lines_tree (asked word terms) blocks disk units) (status_of end)
-lines_came before now device word blocks terms disk console moment new end units is_device is_console is_moment did h =
-    let there : LinesDid before now word blocks terms disk console new (Ok end) = rw (is_device, is_moment) at did in
+pub runs_whole : (before now : Seen) (words : Words) (infos : List UnitInfo) (s new : declared.State) (end : Finish) → s ≡ start_state words infos → Did before now s new (Ok end)
+    → RunsOn infos words before now (status_of end)
+runs_whole before now words infos s new end is did units h =
+    let there = subst (λ (x : declared.State). Did before now x new (Ok end)) is did in
     let x = there.each units h in
     let q = at (record { world = now; state = new }) x.0 in
-    let tree = lines_tree (asked word terms) blocks disk units in
-    let from = at_start before units (first_spot before word blocks terms disk console).state terms.given is_console in
-    ended_as (first_point before.told before.faults units (given_in terms.given)) before.edges now tree end (record {
+    ended_as (point_first before words units) before.edges now (tree_first words infos units) end (record {
       point = q;
       shown = record { told = refl; faults = refl };
-      ran = subst (λ (p : Point). Ran p q tree (acts.Done end)) from x.1.1;
+      ran = subst (λ (m : Machine). Ran (point_first before words units) q (started m) (acts.Done end)) (machine_first words infos units) x.1.1;
     })
 
-came_then : (p m : Point) (now : Seen) (t u : Act Finish) (end : Finish) → Ran p m t u → CameTo m now u end → CameTo p now t end
-came_then p m now t u end ran came = record { point = came.point; shown = came.shown; ran = ran_then ran came.ran }
+-- there was no memory for the state
+pub runs_not : (before : Seen) (words : Words) (infos : List UnitInfo) → RunsOn infos words before before Memory
+runs_not before words infos units h = cut_before (point_first before words units) before (tree_first words infos units) refl (omega arith)
 
-cut_then : (p m : Point) (now : Seen) (t u : Act Finish) → Ran p m t u → WasCut m now u → WasCut p now t
-cut_then p m now t u ran cut = record { point = cut.point; shown = cut.shown; broke = broke_then ran cut.broke }
-
-pub ended_then : (p m : Point) (edges : ℕ) (now : Seen) (t u : Act Finish) (status : Status) → Ran p m t u → EndedAs m edges now u status
-    → EndedAs p edges now t status
-ended_then p m edges now t u Done ran e = came_then p m now t u finish.AtEnd ran e
-ended_then p m edges now t u Turns ran e = came_then p m now t u finish.AtTurns ran e
-ended_then p m edges now t u NotBuilt ran e = came_then p m now t u finish.NotBuilt ran e
-ended_then p m edges now t u World ran (inl e) = inl (came_then p m now t u finish.DeviceFault ran e)
-ended_then p m edges now t u World ran (inr e) = inr (cut_then p m now t u ran e.0, e.1)
-ended_then p m edges now t u Memory ran e = cut_then p m now t u ran e
-ended_then p m edges now t u (Usage fault) ran e = e
+-- the count of the edges may be an earlier one
+ended_earlier : (p : Point) (edges mid : ℕ) (now : Seen) (t : Act Finish) (status : Status) → edges ≤ mid → EndedAs p mid now t status → EndedAs p edges now t status
+ended_earlier p edges mid now t Done earlier e = e
+ended_earlier p edges mid now t Turns earlier e = e
+ended_earlier p edges mid now t NotBuilt earlier e = e
+ended_earlier p edges mid now t World earlier e = let rose = e.1 in (e.0, omega (arith, earlier, rose))
+ended_earlier p edges mid now t Memory earlier e = e
+ended_earlier p edges mid now t (Usage fault) earlier e = e
 
 -- ---- the headline
 
 -- a crash leaves each unit as it was attached
 sound_at : (units : List Attached) (u : ℕ) (x : State) → LeavesIn (fresh units) u x → IsAmong x (unit_set (settled units) u)
 sound_at units u x l =
-    let slot : slice_get (settled units) u ≡ Some (Settled (first_state l.unit)) = settled_at units u l.unit l.attached in
+    let slot : slice_get (settled units) u ≡ Some (Settled (first_state_of l.unit)) = settled_at units u l.unit l.attached in
     rw slot (inl (left_first units u x l))
 
 -- and the contents of each are those that it was attached with
 now_at : (units : List Attached) (u : ℕ) (x : State) → HasNowIn (fresh units) u x → unit_state (settled units) u ≡ Some x
 now_at units u x h =
-    let slot : slice_get (settled units) u ≡ Some (Settled (first_state h.unit)) = settled_at units u h.unit h.attached in
+    let slot : slice_get (settled units) u ≡ Some (Settled (first_state_of h.unit)) = settled_at units u h.unit h.attached in
     ap (λ (z : Option Slot). option_map state_in z) slot ∙ ap (λ (y : State). Some y) (now_first units u x h)
 
 pub sound_start : (s : Start) → Sound (start_point s)
@@ -199,7 +166,7 @@ headline_of s before now status q b faults is ends =
       counted = subst (λ (n : ℕ). Counted n many now.faults) (sym faults) (subst (λ (n : ℕ). Counted s.faults many n) is.faults follows.faults);
       units = q.units;
       agrees = record { last = q; beats = b; events_are = refl; outcomes_are = refl; units_are = refl };
-      units_there = follows.as_many ∙ length-map s.units (λ (unit : Attached). Settled (first_state unit));
+      units_there = follows.as_many ∙ length-map s.units (λ (unit : Attached). Settled (first_state_of unit));
       stands = λ u slot there. as_its_slot q now.told u slot is.told (follows.sound (sound_start s)) there;
       ends = ends;
       crash = λ front rest e u x leaves. follows.crash (sound_start s) front rest e u x leaves;
@@ -242,124 +209,28 @@ pub headline : (s : Start) (before now : Seen) (status : Status) → before.faul
 headline s before now Done faults e = of_end s before now Done finish.AtEnd faults (λ events f units came. came) e
 headline s before now Turns faults e = of_end s before now Turns finish.AtTurns faults (λ events f units came. came) e
 headline s before now NotBuilt faults e = of_end s before now NotBuilt finish.NotBuilt faults (λ events f units came. came) e
-headline s before now World faults (inl e) = of_end s before now World finish.DeviceFault faults (λ events f units came. inl came) e
-headline s before now World faults (inr e) =
-    headline_of s before now World e.0.point e.0.broke faults e.0.shown (inr (begins_of s e.0.point e.0.broke, e.1))
+headline s before now World faults e = headline_of s before now World e.0.point e.0.broke faults e.0.shown (begins_of s e.0.point e.0.broke, e.1)
 headline s before now Memory faults e = headline_of s before now Memory e.point e.broke faults e.shown (begins_of s e.point e.broke)
 headline s before now (Usage fault) faults e = absurd e
 
--- ---- on a unit
+-- ---- on units
 
--- the session went on from what was found
-pub ran_on : (spec : Asked) (unit : Attached) (before now : Seen) (told : Told) (edges mid : ℕ) (disk : Option Disk) (status : Status)
-    → told ≡ Some (fresh (unit ∷ [])) → edges ≡ before.edges → FoundAs spec unit before.faults mid (Ok disk)
-    → ((units : List Slot) → Holds told disk units → EndedAs (first_point told mid units spec.given) edges now (lines_tree spec (disk_of unit).count disk units) status)
-    → Headline (start_on spec unit before.faults) before now status
-ran_on spec unit before now told edges mid disk status is same found ended =
-    let s = start_on spec unit before.faults in
-    let units = settled (unit ∷ []) in
-    let tree = lines_tree spec (disk_of unit).count disk units in
-    let held : Holds told disk units = subst (λ (t : Told). Holds t disk units) (sym is) found.holds in
-    let there : EndedAs (first_point (Some (fresh (unit ∷ []))) mid units spec.given) before.edges now tree status =
-    subst (λ (t : Told). EndedAs (first_point t mid units spec.given) before.edges now tree status) is
-    (subst (λ (n : ℕ). EndedAs (first_point told mid units spec.given) n now tree status) same (ended units held)) in
-    headline s before now status refl
-    (ended_then (start_point s) (start_point (start_on spec unit mid)) before.edges now (start_tree s) tree status found.ran there)
-
--- or it ended there
-pub ended_on : (spec : Asked) (unit : Attached) (before now : Seen) (status : Status) → now.told ≡ Some (fresh (unit ∷ [])) → before.faults ≤ now.faults
-    → FoundAs spec unit before.faults now.faults (Err status) → Headline (start_on spec unit before.faults) before now status
-ended_on spec unit before now World told later found =
-    let s = start_on spec unit before.faults in
-    let came : CameTo (start_point s) now (start_tree s) finish.DeviceFault = record {
-      point = start_point (start_on spec unit now.faults);
-      shown = record { told = sym told; faults = refl };
-      ran = found;
-    } in
-    headline s before now World refl (inl came)
-ended_on spec unit before now Memory told later found =
-    let s = start_on spec unit before.faults in
-    headline s before now Memory refl (cut_before (start_point s) now (start_tree s) told later)
-ended_on spec unit before now NotBuilt told later found = absurd found
-ended_on spec unit before now Done told later found = absurd found
-ended_on spec unit before now Turns told later found = absurd found
-ended_on spec unit before now (Usage fault) told later found = absurd found
-
--- ---- the unit was attached
-
-ends_from : (s : Start) (events : List Event) (f : Fed Finish) (units : List Slot) (before mid now : ℕ) (status : Status) → before ≤ mid
-    → EndsAs s events f units mid now status → EndsAs s events f units before now status
-ends_from s events f units before mid now Done earlier e = e
-ends_from s events f units before mid now Turns earlier e = e
-ends_from s events f units before mid now NotBuilt earlier e = e
-ends_from s events f units before mid now World earlier (inl e) = inl e
-ends_from s events f units before mid now World earlier (inr e) = inr (e.0, omega (arith, earlier, e.1))
-ends_from s events f units before mid now Memory earlier e = e
-ends_from s events f units before mid now (Usage fault) earlier e = e
-
-headline_from : (s : Start) (told : Told) (edges : ℕ) (mid now : Seen) (status : Status) → edges ≤ mid.edges → Headline s mid now status
-    → Headline s (record { told = told; edges = edges; faults = mid.faults }) now status
-headline_from s told edges mid now status earlier h = record {
-  events = h.events;
-  told = h.told;
-  outcomes = h.outcomes;
-  counted = h.counted;
-  units = h.units;
-  agrees = h.agrees;
-  units_there = h.units_there;
-  stands = h.stands;
-  ends = ends_from s h.events (run_on s h.events h.outcomes) h.units edges mid.edges now.edges status earlier h.ends;
-  crash = h.crash;
-  between = h.between;
-  waits = h.waits;
-  given = h.given;
-  waits_before = h.waits_before;
-}
-
-pub on_unit : (spec : Asked) (before mid now : Seen) (name : List ℕ) (size : ℕ) (access : Access) (number blocks seen_number seen_blocks : ℕ)
-    (status : Status) → name ≡ spec.unit.name → size ≡ spec.unit.bsize → access ≡ spec.unit.access
-    → IsAttached (fresh []) mid.told name size access number blocks → seen_number ≡ number → seen_blocks ≡ min blocks most_blocks
-    → before.faults ≡ mid.faults → before.edges ≤ mid.edges
-    → ((alone : Attached) → IsAlone mid.told (record { bsize = size; count = seen_blocks }) seen_number alone → Headline (start_on spec alone mid.faults) mid now status)
-    → OnUnit spec before now status
-on_unit spec before mid now name size access number blocks seen_number seen_blocks status is_name is_size is_access attached is_number is_blocks same earlier ran =
-    let unit : Attached = record { name = name; bsize = size; writable = may_write access; start = attached.start } in
-    let alone : IsAlone mid.told (record { bsize = size; count = seen_blocks }) seen_number unit = record {
-      told_is = attached.told;
-      number_is = is_number ∙ attached.number_is;
-      disk_is = ap (λ (n : ℕ). record { bsize = size; count = n }) (ap (λ (n : ℕ). min n most_blocks) (sym attached.blocks_is) ∙ sym is_blocks);
-      sizes = attached.sizes;
-    } in
-    let from = headline_from (start_on spec unit mid.faults) before.told before.edges mid now status earlier (ran unit alone) in
-    let there : IsAttached (fresh []) (Some (fresh (unit ∷ []))) name size access 0 blocks = record {
-      start = attached.start;
-      told = refl;
-      number_is = refl;
-      blocks_is = attached.blocks_is;
-      sizes = attached.sizes;
-      made = attached.made;
-      fresh = attached.fresh;
-      untouched = tt;
-    } in
+-- all units were attached, and the session ran on them
+pub on_units : (words : Words) (before mid now : Seen) (infos : List UnitInfo) (status : Status) → AttachesAll mid.told words.units infos → HaveDistinctDevices infos → HaveSizes infos
+    → mid.faults ≡ before.faults → before.edges ≤ mid.edges → RunsOn infos words mid now status → OnUnits (asked_of words) before now status
+on_units words before mid now infos status all distinct sizes faults earlier ran =
+    let s = start_on (asked_of words) all.units before.faults in
+    let held = holds_start mid.told words.units infos all distinct sizes in
+    let tree : (devices : List Device) → Act Finish = λ devices. started (first_machine (settled all.units) devices words.offset words.turns) in
+    let ended = ran (settled all.units) held in
+    let told : EndedAs (first_point (Some (fresh all.units)) mid.faults (settled all.units) (given_by words.seed)) mid.edges now (tree (devices_of (new_table infos))) status =
+    subst (λ (t : Told). EndedAs (first_point t mid.faults (settled all.units) (given_by words.seed)) mid.edges now (tree (devices_of (new_table infos))) status) all.told ended in
+    let counted : EndedAs (start_point s) mid.edges now (tree (devices_of (new_table infos))) status =
+    subst (λ (n : ℕ). EndedAs (first_point (Some (fresh all.units)) n (settled all.units) (given_by words.seed)) mid.edges now (tree (devices_of (new_table infos))) status) faults told in
+    let there : EndedAs (start_point s) mid.edges now (start_tree s) status =
+    subst (λ (ds : List Device). EndedAs (start_point s) mid.edges now (tree ds) status) (devices_start mid.told words.units infos all) counted in
     record {
-      unit = unit;
-      blocks = blocks;
-      attached =
-          subst (λ (n : List ℕ). IsAttached (fresh []) (Some (fresh (unit ∷ []))) n spec.unit.bsize spec.unit.access 0 blocks) is_name
-          (subst (λ (n : ℕ). IsAttached (fresh []) (Some (fresh (unit ∷ []))) name n spec.unit.access 0 blocks) is_size
-          (subst (λ (a : Access). IsAttached (fresh []) (Some (fresh (unit ∷ []))) name size a 0 blocks) is_access there));
-      ran = subst (λ (n : ℕ). Headline (start_on spec unit n) (record { told = before.told; edges = before.edges; faults = n }) now status) (sym same) from;
+      units = all.units;
+      attached = all.attached;
+      ran = headline s before now status refl (ended_earlier (start_point s) before.edges mid.edges now (start_tree s) status earlier there);
     }
-
-pub not_attached : (spec : Asked) (before now : Seen) (name : List ℕ) (size : ℕ) (access : Access) → before.told ≡ Some (fresh [])
-    → name ≡ spec.unit.name → size ≡ spec.unit.bsize → access ≡ spec.unit.access → MayAdd (Missed name size access) before.told now.told
-    → Rose before.edges now.edges → NotAttached spec before now World
-not_attached spec before now name size access told is_name is_size is_access added rose = record {
-  status_is = refl;
-  told =
-      subst (λ (n : List ℕ). MayAdd (Missed n spec.unit.bsize spec.unit.access) (Some (fresh [])) now.told) is_name
-      (subst (λ (n : ℕ). MayAdd (Missed name n spec.unit.access) (Some (fresh [])) now.told) is_size
-      (subst (λ (a : Access). MayAdd (Missed name size a) (Some (fresh [])) now.told) is_access
-      (subst (λ (t : Told). MayAdd (Missed name size access) t now.told) told added)));
-  cause = rose;
-}

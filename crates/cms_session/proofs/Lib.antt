@@ -1,10 +1,11 @@
 pub mod ReadWords
 pub mod CommandWords
 pub mod Stars
+pub mod UnitsAttached
 pub mod Starts
-pub mod Ends
-pub mod Seen
-pub mod Commands
-pub mod Erasures
 pub mod Rounds
 pub mod Plays
+pub mod Ends
+pub mod Readings
+pub mod Erasures
+pub mod Procedures

@@ -1,11 +1,11 @@
 -- The session's rounds, one after another.
-use Rattle.std.proofs.Common.{◌≡◌, ℕ, zero, suc, ◌<◌, List, Ok, Err, refl, ap, subst, arith}
+use Rattle.std.proofs.Common.{◌≡◌, ℕ, zero, suc, ◌<◌, List, Ok, Err, refl, subst, arith}
 use Rattle.cms_machine.specs.Slots.{Slot}
 use Rattle.cms_machine.specs.Acts.{Act, Done, bind}
 use Rattle.cms_search.specs.declared.state.End.{End}
 use Rattle.cms_search.specs.declared.state.State.{State}
 use Rattle.cms_search.specs.Calls.{Spot, Acts, Comes, machine_of}
-use Rattle.cms_search.proofs.Acts.{rose_from, comes_then, comes_in, comes_same, acts_done, acts_after, acts_stop}
+use Rattle.cms_search.proofs.Acts.{comes_then, comes_in, comes_same, acts_done, acts_after, acts_stop}
 use Rattle.cms_session.specs.declared.state.Finish.{Finish}
 use Rattle.cms_session.specs.declared.state.Round as rounds
 use Rattle.cms_session.specs.declared.state.Round.TheVariants as end
@@ -60,7 +60,6 @@ play_ends old mid new tree r finish going is a = go going.fuel going.enough goin
         acts_done old new tree finish finished
         (comes_then old mid new tree (rounds_in fuel mid.state) (λ units. Done finish) (opened old mid tree fuel g)
         (comes_in mid new (round_tree mid.state) (then_round (session fuel)) (end.Ended finish) (round_of new.state) ended))
-        (λ fault. rose_from old.world.faults mid.world.faults new.world.faults g.later.faults (ended.fault (ap end.Ended fault)))
 
 -- a round after which another may follow
 pub play_goes : (old mid new : Spot) (tree : List Slot → Act Finish) (r : rounds.Round) → Going old mid tree → new.state.left < mid.state.left

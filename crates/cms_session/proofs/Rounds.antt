@@ -1,366 +1,283 @@
 -- The parts of a round.
-use Rattle.std.proofs.Common.{◌≡◌, ℕ, ℤ, ◌≤◌, suc, List, [], ◌∷◌, Option, Some, None, Result, Ok, Err, Bool, true, false, IfOk, codes, refl, ap, sym, ◌∙◌, subst, arith}
-use Rattle.std.specs.Prelude.{option_map}
-use Rattle.cms_journal.specs.declared.event.Event.{Event}
-use Rattle.cms_journal.specs.declared.event.Event.TheVariants.{Read, Now, Typed, Wrote, Synced, Missed}
+use Rattle.std.proofs.Common.{◌≡◌, ℕ, ℤ, ◌≤◌, suc, List, [], ◌∷◌, slice_get, Option, Some, None, Result, Ok, Err, Bool, true, false, refl, ap, sym, ◌∙◌, subst}
+use Rattle.std.specs.FinMap.{empty}
+use Rattle.std.specs.Prelude.{negsuc, option_map, pos}
 use Rattle.cms_journal.specs.Causes.{Rose}
-use Rattle.cms_journal.specs.Journal.{adds}
-use Rattle.cms_journal.specs.Told.{Told, TouchesNone, NoDisk, Idle}
-use Rattle.cms_journal.proofs.Events.{all_weaker}
-use Rattle.cms_journal.proofs.Pieces.{idle_same, grown_idle}
-use Rattle.cms_ebcdic.specs.CodePage.{code_of, code_page}
-use Rattle.cms_text.specs.Texts.{ebcdic}
-use Rattle.cms_names.specs.declared.name.Name.{Name}
-use Rattle.cms_names.specs.Names.{is_part, is_text_of, is_name_character}
-use Rattle.cms_names.specs.declared.fault.NameFault.{NameFault}
 use Rattle.cms_fields.specs.declared.time.Moment.{Moment}
 use Rattle.cms_fields.specs.Moments.{moment_of}
-use Rattle.cms_model.specs.LawsUpdates.{now}
 use Rattle.cms_machine.specs.Slots.{Slot}
+use Rattle.cms_machine.specs.Items as items
 use Rattle.cms_machine.specs.Items.{Item}
-use Rattle.cms_machine.specs.Acts.{Act, Done, bind, turning}
-use Rattle.cms_machine.specs.Beats.{IsRead, OnlyRead}
-use Rattle.cms_machine.specs.Points.{Point}
-use Rattle.cms_machine.specs.Runs.{Ran, Broke}
-use Rattle.cms_machine.proofs.Join.{ran_bind, broke_bind}
-use Rattle.cms_machine.proofs.Single.{ran_take, ran_turn, broke_take, broke_before}
+use Rattle.cms_machine.specs.Acts.{Act, Done, bind, saying, taking as taking_item, turning, typed_line}
+use Rattle.cms_line.specs.ConsoleState.{ConsoleState}
 use Rattle.cms_line.specs.Consoles.{Took, Stayed, item_of}
 use Rattle.cms_line.specs.declared.console.ConsoleLine.{ConsoleLine}
-use Rattle.cms_search.specs.declared.state.Disk.{Disk}
-use Rattle.cms_search.specs.declared.state.End.{End}
-use Rattle.cms_search.specs.declared.state.End.TheVariants.{Memory, Edge}
-use Rattle.cms_search.specs.declared.state.State.{State}
+use Rattle.cms_line.specs.Messages.{message_text}
+use Rattle.cms_line.specs.Tokens.{tokens_of}
+use Rattle.cms_line.specs.declared.message.Message.{Message}
+use Rattle.cms_line.specs.declared.message.Message.TheVariants.{M001}
+use Rattle.cms_line.specs.declared.token.Token.{Token}
+use Rattle.cms_search.specs.Calls.{Spot, Meaning, Does, Acts, Comes, beside, itself, said, holds, machine_of, course_of, refusal_tree}
+use Rattle.cms_search.specs.Machine.{Machine, Course, turned}
+use Rattle.cms_search.specs.Ready.{ready_line}
+use Rattle.cms_search.specs.Shows.{Shows}
+use Rattle.cms_search.specs.Talks.{Talks}
 use Rattle.cms_search.specs.declared.state.Course as declared
 use Rattle.cms_search.specs.declared.state.Course.TheVariants as course
-use Rattle.cms_search.specs.Machine.{Machine, Course, turned}
-use Rattle.cms_text.specs.Texts.{coded}
-use Rattle.cms_search.specs.Calls.{Spot, Meaning, IsLater, at, holds, Holds, Does, Acts, Comes, after_world, plain, beside, itself, said, letter_of, machine_of, course_of}
+use Rattle.cms_search.specs.declared.state.End.{End}
+use Rattle.cms_search.specs.declared.state.End.TheVariants.{Edge}
+use Rattle.cms_search.specs.declared.state.State.{State}
+use Rattle.cms_search.proofs.Acts.{acts_talks, comes_then, comes_in, comes_same, acts_done, acts_after, acts_same, acts_stop, refused}
+use Rattle.cms_search.proofs.Meeting.{holds_shows}
+use Rattle.cms_search.proofs.Talking.{Came, came_none, came_on, came_off, came_to, of_does, took, stayed}
 use Rattle.cms_world.specs.Seen.{Seen}
-use Rattle.cms_search.proofs.Holding.{holds_some, holds_idle}
-use Rattle.cms_search.proofs.Acts.{rose_until, later_does, usable_later, at_kept, holds_does, comes_then, comes_in, comes_does, comes_same, acts_done, acts_after, acts_caused, acts_stop, does_stop, no_memory}
-use Rattle.cms_session.specs.Commands.{command_of, type_word, erase_word, exec_word}
+use Rattle.cms_session.specs.Commands.{is_comment, command_of}
+use Rattle.cms_session.specs.Machine.{Round, Ready, is_procedure, readied, on_turn, on_taken, run_command, run_item, run_words, unless_procedure}
+use Rattle.cms_session.specs.Calls.{machine_now, item_in, taking_tree, turning_tree, ready_tree, command_tree, line_tree, item_tree, refused_tree, round_tree, round_of}
 use Rattle.cms_session.specs.declared.command.Command.{Command}
+use Rattle.cms_session.specs.declared.command.Command.TheVariants as commands
+use Rattle.cms_session.specs.declared.round.Taken.{Taken}
+use Rattle.cms_session.specs.declared.round.Taken.TheVariants as given
 use Rattle.cms_session.specs.declared.state.Round as rounds
 use Rattle.cms_session.specs.declared.state.Round.TheVariants as end
 use Rattle.cms_session.specs.declared.state.Finish.TheVariants as finish
-use Rattle.cms_session.specs.Machine.{Round, Ended, Ready, readied, is_procedure, is_procedure_on, unless_procedure, run_command, on_turn, on_command}
-use Rattle.cms_session.specs.Calls.{Sees, IsTest, procedure_name, machine_now, taking_tree, asking_tree, turning_tree, ready_text, round_after, round_in, round_of, ready_tree, command_tree, round_tree}
-use Rattle.cms_session.proofs.CommandWords.{IsRead as IsWord, type_coded, erase_coded}
 
--- ---- the console and the clock
+-- ---- calls of the console and the clock
 
-read_touches_none : (e : Event) → IsRead e → TouchesNone e
-read_touches_none (Read b) is = tt
-read_touches_none (Typed b) is = absurd is
-read_touches_none (Now m) is = absurd is
-read_touches_none (Missed name size access) is = absurd is
-read_touches_none (Wrote u k v) is = absurd is
-read_touches_none (Synced u) is = absurd is
+-- a call of them, and what follows it is done
+done_talks : {A R T U : Type 0} (old new : Spot) (s : Act A) (f : List Slot → A → Act R) (x : T) (d : T → A) (y : U) (m : Meaning U R) → new.state.table ≡ old.state.table
+    → Talks old.world new.world old.state.console new.state.console s (Ok x) d → ((units : List Slot) → f units (d x) ≡ Done (m units y))
+    → Acts old new (λ units. bind s (f units)) (Ok y) m
+done_talks {R = R} old new s f x d y m table talks is = acts_talks old new (λ units. bind s (f units)) (Ok y) m table
+    (λ units. came_to old.world new.world old.state.console new.state.console (bind s (f units)) y (m units)
+    (subst (λ (t : Act R). Came old.world new.world old.state.console new.state.console (bind s (f units)) t) (is units)
+    (came_on old.world old.world new.world old.state.console old.state.console new.state.console (bind s (f units)) s (f units) x d
+    (came_none old.world old.state.console (bind s (f units))) talks)))
 
-read_no_disk : (es : List Event) → OnlyRead es → NoDisk es
-read_no_disk es only = all_weaker IsRead TouchesNone read_touches_none es only
+-- or it was cut off
+cut_talks : {A R T U : Type 0} (old new : Spot) (s : Act A) (f : List Slot → A → Act R) (e : End) (d : T → A) (m : Meaning U R) → new.state.table ≡ old.state.table
+    → Talks {T = T} old.world new.world old.state.console new.state.console s (Err e) d → Acts {T = U} old new (λ units. bind s (f units)) (Err e) m
+cut_talks {T = T} {U = U} old new s f e d m table talks = acts_talks {T = U} old new (λ units. bind s (f units)) (Err e) m table
+    (λ units. came_off {T = T} {U = U} old.world old.world new.world old.state.console old.state.console new.state.console (bind s (f units)) s (f units) e d (m units)
+    (came_none old.world old.state.console (bind s (f units))) talks)
 
--- the console alone was changed
-abbrev pub NewConsole : State → State → Type 0
-NewConsole old new = new ≡ record old { console = new.console }
+-- the same of one that leaves the console
+talks_kept : {A T : Type 0} (old new : Spot) (s : Act A) (r : Result T End) (d : T → A) → new.state.console ≡ old.state.console → Does old.world new.world s r d
+    → Talks old.world new.world old.state.console new.state.console s r d
+talks_kept {T = T} old new s r d console does =
+    subst (λ (c : ConsoleState). Talks {T = T} old.world new.world old.state.console c s r d) (sym console) (of_does old.world new.world old.state.console s r d does)
 
-machine_same : (old new : State) (units : List Slot) → NewConsole old new → machine_of new units ≡ machine_of old units
-machine_same old new units kept = ap (λ (s : State). machine_of s units) kept
+-- ---- taking
 
-pub took : (old new : Spot) (l : ConsoleLine) → Took old.world.told new.world.told old.state.console new.state.console l
-    → new.world.faults ≡ old.world.faults → old.world.edges ≤ new.world.edges → NewConsole old.state new.state
-    → Acts old new (taking_tree old.state) (Ok l) (beside new.state item_of)
-took old new l t faults edges kept =
-    let idle : Idle old.world.told new.world.told = record { events = t.events; told = t.told; none = read_no_disk t.events t.only } in
-    let disk : new.state.disk_a ≡ old.state.disk_a = ap (λ (s : State). s.disk_a) kept in
-    let later : IsLater old.world new.world = record { grown = grown_idle old.world.told new.world.told idle; faults = omega (arith, faults); edges = edges } in
-    record {
-      each = λ units h.
-          let same = machine_same old.state new.state units kept in
-          let held : Holds new.world.told old.state.disk_a units = holds_idle old.world.told new.world.told old.state.disk_a units idle h in
-          let ran = ran_take (at old units) (at new units) (item_of l) (λ i. Done (machine_of old.state units, i)) t.events t.told t.only
-          (omega (arith, faults)) refl t.takes in
-          (units, (subst (λ (d : Option Disk). Holds new.world.told d units) (sym disk) held, rw same ran));
-      later = later;
-      usable = usable_later old new later disk;
-      cause = tt;
-      fault = λ none. absurd none;
-    }
+pub stacked_so : (w : Seen) (s : State) (line : List ℕ) (lines : List (List ℕ)) → s.stack ≡ line ∷ lines
+    → Acts (record { world = w; state = s }) (record { world = w; state = record s { stack = lines } }) (taking_tree s) (Ok (Some (given.Text line)))
+    (beside (record s { stack = lines }) (option_map item_in))
+stacked_so w s line lines is =
+    let old : Spot = record { world = w; state = s } in
+    let new : Spot = record { world = w; state = record s { stack = lines } } in
+    acts_talks old new (taking_tree s) (Ok (Some (given.Text line))) (beside new.state (option_map item_in)) refl
+    (λ units. came_to w w s.console s.console (taking_tree s units) (Some (given.Text line)) (beside new.state (option_map item_in) units)
+    (subst (λ (t : Act (Machine × Option Item)). Came w w s.console s.console (taking_tree s units) t) (tree units) (came_none w s.console (taking_tree s units))))
+  where
+    tree : (units : List Slot) → taking_tree s units ≡ Done (record (machine_of s units) { stack = lines }, Some (items.Text line))
+    tree units = rw is refl
 
-pub stayed : (old new : Spot) (e : End) → Stayed old.world.told new.world.told old.state.console new.state.console
-    → new.world.faults ≡ old.world.faults → old.world.edges ≤ new.world.edges → (e ≡ Edge → Rose old.world.edges new.world.edges)
-    → Acts {T = ConsoleLine} old new (taking_tree old.state) (Err e) (beside new.state item_of)
-stayed old new e st faults edges cause =
-    let idle : Idle old.world.told new.world.told = record { events = st.events; told = st.told; none = read_no_disk st.events st.only } in
-    record {
-      each = λ units h. (
-        units,
-        broke_take (at old units) (at new units) (λ i. Done (machine_of old.state units, i)) st.events st.told st.only st.keeps.lazy (omega (arith, faults)) refl,
-      );
-      later = record { grown = grown_idle old.world.told new.world.told idle; faults = omega (arith, faults); edges = edges };
-      usable = λ u. tt;
-      cause = cause;
-      fault = tt;
-    }
+-- with no line stacked
+unstacked : (old new : Spot) {T : Type 0} (r : Result T End) (m : Meaning T (Machine × Option Item)) → old.state.stack ≡ []
+    → Acts old new (λ units. bind taking_item (λ i. Done (machine_of old.state units, i))) r m → Acts old new (taking_tree old.state) r m
+unstacked old new r m none acts = acts_same old new (taking_tree old.state) (λ units. bind taking_item (λ i. Done (machine_of old.state units, i))) r m (λ units h. rw none refl) acts
+
+pub taken_so : (old new : Spot) (l : ConsoleLine) (y : Option Taken) → old.state.stack ≡ [] → Took old.world.told new.world.told old.state.console new.state.console l
+    → new.world.faults ≡ old.world.faults → old.world.edges ≤ new.world.edges → new.state ≡ record old.state { console = new.state.console } → option_map item_in y ≡ item_of l
+    → Acts old new (taking_tree old.state) (Ok y) (beside new.state (option_map item_in))
+taken_so old new l y none t faults edges kept item =
+    unstacked old new (Ok y) (beside new.state (option_map item_in)) none
+    (done_talks old new taking_item (λ units i. Done (machine_of old.state units, i)) l item_of y (beside new.state (option_map item_in)) (ap (λ (s : State). s.table) kept)
+    (took old.world new.world old.state.console new.state.console l t faults edges)
+    (λ units. let same : machine_of new.state units ≡ machine_of old.state units = ap (λ (s : State). machine_of s units) kept in rw (same, item) refl))
+
+pub not_taken : (old new : Spot) (e : End) → old.state.stack ≡ [] → Stayed old.world.told new.world.told old.state.console new.state.console → new.world.faults ≡ old.world.faults
+    → old.world.edges ≤ new.world.edges → new.state ≡ record old.state { console = new.state.console } → (e ≡ Edge → Rose old.world.edges new.world.edges)
+    → Acts {T = Option Taken} old new (taking_tree old.state) (Err e) (beside new.state (option_map item_in))
+not_taken old new e none st faults edges kept cause =
+    unstacked old new (Err e) (beside new.state (option_map item_in)) none
+    (cut_talks {T = ConsoleLine} {U = Option Taken} old new taking_item (λ units i. Done (machine_of old.state units, i)) e item_of (beside new.state (option_map item_in))
+    (ap (λ (s : State). s.table) kept) (stayed old.world new.world old.state.console new.state.console e st faults edges cause))
+
+-- ---- a turn
 
 -- a turn was spent at this moment
 pub turned_so : (old new : Spot) (seconds : ℤ) (moment : Moment) (left : ℕ) (x : Unit {0}) → Does old.world new.world turning (Ok seconds) itself
     → moment ≡ moment_of seconds old.state.offset → new.state ≡ record old.state { moment = moment; left = left }
     → Acts old new (turning_tree old.state left) (Ok x) (machine_now new.state)
-turned_so old new seconds moment left x d is kept =
-    let disk : new.state.disk_a ≡ old.state.disk_a = ap (λ (s : State). s.disk_a) kept in
-    let later = later_does old.world new.world turning (Ok seconds) itself d in
-    record {
-      each = λ units h.
-          let machine : machine_of new.state units ≡ turned (machine_of old.state units) left seconds =
-          ap (λ (s : State). machine_of s units) kept ∙ ap (λ (m : Moment). record (machine_of old.state units) { moment = m; left = left }) is in
-          let ran : Ran (at old units) (after_world (at old units) new.world) (turning_tree old.state left units) (Done (turned (machine_of old.state units) left seconds)) =
-          ran_bind (λ m. Done (turned (machine_of old.state units) left m)) (d.each (at old units) refl) in
-          let point = at_kept old new units d.faults (ap (λ (s : State). s.console) kept) in
-          let there : Ran (at old units) (at new units) (turning_tree old.state left units) (Done (turned (machine_of old.state units) left seconds)) =
-          subst (λ (q : Point). Ran (at old units) q (turning_tree old.state left units) (Done (turned (machine_of old.state units) left seconds))) (sym point) ran in
-          (units, (holds_does old new turning (Ok seconds) itself units d disk h, rw machine there));
-      later = later;
-      usable = usable_later old new later disk;
-      cause = tt;
-      fault = λ none. absurd none;
-    }
+turned_so old new seconds moment left x does is kept =
+    done_talks old new turning (λ units m. Done (turned (machine_of old.state units) left m)) seconds itself x (machine_now new.state) (ap (λ (s : State). s.table) kept)
+    (talks_kept old new turning (Ok seconds) itself (ap (λ (s : State). s.console) kept) does)
+    (λ units.
+    let machine : machine_of new.state units ≡ turned (machine_of old.state units) left seconds =
+    ap (λ (s : State). machine_of s units) kept ∙ ap (λ (m : Moment). record (machine_of old.state units) { moment = m; left = left }) is in
+    rw machine refl)
 
-pub not_turned : (old new : Spot) (left : ℕ) (e : End) → Does {T = ℤ} old.world new.world turning (Err e) itself → new.state.console ≡ old.state.console
+pub not_turned : (old new : Spot) (left : ℕ) (e : End) → Does {T = ℤ} old.world new.world turning (Err e) itself → new.state.console ≡ old.state.console → new.state.table ≡ old.state.table
     → Acts {T = Unit {0}} old new (turning_tree old.state left) (Err e) (machine_now new.state)
-not_turned old new left e d console = record {
-  each = λ units h.
-      let broke : Broke (at old units) (after_world (at old units) new.world) (turning_tree old.state left units) =
-      broke_bind (λ m. Done (turned (machine_of old.state units) left m)) (d.each (at old units) refl) in
-      (units, subst (λ (q : Point). Broke (at old units) q (turning_tree old.state left units)) (sym (at_kept old new units d.faults console)) broke);
-  later = later_does {T = ℤ} old.world new.world turning (Err e) itself d;
-  usable = λ u. tt;
-  cause = d.cause;
-  fault = tt;
-}
+not_turned old new left e does console table =
+    cut_talks {T = ℤ} {U = Unit {0}} old new turning (λ units m. Done (turned (machine_of old.state units) left m)) e itself (machine_now new.state) table
+    (talks_kept {T = ℤ} old new turning (Err e) itself console does)
 
 -- ---- the ready line
 
-pub readied_so : (before now : Seen) (code : ℤ) (x : Unit {0}) (r : rounds.Round) → Does before now (ready_text (course.Went code)) (Ok x) itself
-    → Does before now (ready_text (course.Went code)) (Ok r) said
-readied_so before now code x r d =
-    record { each = λ p journal. d.each p journal; idle = d.idle; faults = d.faults; edges = d.edges; cause = tt }
+pub readied_so : (old new : Spot) (code : ℤ) (x : Unit {0}) → Does old.world new.world (saying (typed_line (ready_line code))) (Ok x) itself
+    → new.state ≡ record old.state { places = empty } → Acts old new (ready_tree old.state (course.Went code)) (Ok end.Ready) (round_of new.state)
+readied_so old new code x does kept =
+    done_talks old new (saying (typed_line (ready_line code))) (λ units y. Done (Ready (record (machine_of old.state units) { places = empty }))) x itself end.Ready (round_of new.state)
+    (ap (λ (s : State). s.table) kept) (talks_kept old new (saying (typed_line (ready_line code))) (Ok x) itself (ap (λ (s : State). s.console) kept) does)
+    (λ units. let machine : machine_of new.state units ≡ record (machine_of old.state units) { places = empty } = ap (λ (s : State). machine_of s units) kept in rw machine refl)
 
-pub ready_stops : (before now : Seen) (code : ℤ) (e : End) → Does {T = Unit {0}} before now (ready_text (course.Went code)) (Err e) itself
-    → Does {T = rounds.Round} before now (ready_text (course.Went code)) (Err e) said
-ready_stops before now code e d =
-    record { each = λ p journal. d.each p journal; idle = d.idle; faults = d.faults; edges = d.edges; cause = d.cause }
+pub ready_stops : (old new : Spot) (code : ℤ) (e : End) → Does {T = Unit {0}} old.world new.world (saying (typed_line (ready_line code))) (Err e) itself → new.state ≡ old.state
+    → Acts {T = rounds.Round} old new (ready_tree old.state (course.Went code)) (Err e) (round_of new.state)
+ready_stops old new code e does kept =
+    cut_talks {T = Unit {0}} {U = rounds.Round} old new (saying (typed_line (ready_line code))) (λ units y. Done (Ready (record (machine_of old.state units) { places = empty }))) e itself
+    (round_of new.state) (ap (λ (s : State). s.table) kept)
+    (talks_kept {T = Unit {0}} old new (saying (typed_line (ready_line code))) (Err e) itself (ap (λ (s : State). s.console) kept) does)
 
--- as the end of a round
-readies : (old new : Spot) (c : declared.Course) (r : Result rounds.Round End) → Does old.world new.world (ready_text c) r said
-    → IfOk r (λ x. x ≡ round_after c) → new.state ≡ old.state → Acts old new (ready_tree old.state c) r (plain (round_in old.state))
-readies old new (course.Went code) (Ok r) d after same =
-    rw after
-    (acts_done old new (ready_tree old.state (course.Went code)) end.Ready (plain (round_in old.state))
-    (comes_does old new (ready_text (course.Went code)) (λ units y. Done (Ready (machine_of old.state units))) r said d same) (λ none. absurd none))
-readies old new (course.Went code) (Err e) d after same =
-    does_stop {T = rounds.Round} old new (ready_text (course.Went code)) (λ units y. Done (Ready (machine_of old.state units))) e said (plain (round_in old.state)) d same
-readies old new course.DeviceFault (Ok r) d after same =
-    rw after
-    (acts_done old new (ready_tree old.state course.DeviceFault) (end.Ended finish.DeviceFault) (plain (round_in old.state))
-    (comes_does old new (ready_text course.DeviceFault) (λ units y. Done (Ended finish.DeviceFault)) r said d same) (λ none. absurd none))
-readies old new course.DeviceFault (Err e) d after same =
-    does_stop {T = rounds.Round} old new (ready_text course.DeviceFault) (λ units y. Done (Ended finish.DeviceFault)) e said (plain (round_in old.state)) d same
-readies old new course.OutOfTurns (Ok r) d after same =
-    rw after
-    (acts_done old new (ready_tree old.state course.OutOfTurns) (end.Ended finish.AtTurns) (plain (round_in old.state))
-    (comes_does old new (ready_text course.OutOfTurns) (λ units y. Done (Ended finish.AtTurns)) r said d same) (λ none. absurd none))
-readies old new course.OutOfTurns (Err e) d after same =
-    does_stop {T = rounds.Round} old new (ready_text course.OutOfTurns) (λ units y. Done (Ended finish.AtTurns)) e said (plain (round_in old.state)) d same
+-- where the tree is done already
+pub done_here : {R T : Type 0} (old : Spot) (t : List Slot → Act R) (x : T) (m : Meaning T R) → ((units : List Slot) → holds old units → t units ≡ Done (m units x))
+    → Acts old old t (Ok x) m
+done_here old t x m is = acts_done old old t x m (comes_same old t (λ units. Done (m units x)) is)
 
--- a round ends by a fault where its command did
-ready_fault : (before mid now : ℕ) (c : declared.Course) (r : Result rounds.Round End) → (c ≡ course.DeviceFault → Rose before mid) → mid ≤ now
-    → IfOk r (λ x. x ≡ round_after c) → IfOk r (λ x. x ≡ end.Ended finish.DeviceFault → Rose before now)
-ready_fault before mid now (course.Went code) (Ok x) rose later after =
-    λ stopped. let e : end.Ready ≡ end.Ended finish.DeviceFault = sym after ∙ stopped in absurd (cc)
-ready_fault before mid now course.DeviceFault (Ok x) rose later after = λ stopped. rose_until before mid now later (rose refl)
-ready_fault before mid now course.OutOfTurns (Ok x) rose later after =
-    λ stopped. let e : end.Ended finish.AtTurns ≡ end.Ended finish.DeviceFault = sym after ∙ stopped in absurd (cc)
-ready_fault before mid now (course.Went code) (Err e) rose later after = tt
-ready_fault before mid now course.OutOfTurns (Err e) rose later after = tt
-ready_fault before mid now course.DeviceFault (Err e) rose later after = tt
+-- ---- a command and its ready line
 
--- ---- procedures
+pub command_ready : (old mid new : Spot) (tree : List Slot → Act Course) (c : declared.Course) (r : Result rounds.Round End) → Acts old mid tree (Ok c) (course_of mid.state)
+    → Acts mid new (ready_tree mid.state c) r (round_of new.state) → Acts old new (λ units. bind (tree units) readied) r (round_of new.state)
+command_ready old mid new tree c r a b =
+    acts_after old mid new (λ units. bind (tree units) readied) (ready_tree mid.state c) r (round_of new.state) (comes_in old mid tree readied c (course_of mid.state) a) b
 
-pub type_part : is_part type_word ≡ true
-unfolding is_text_of is_name_character ebcdic code_of code_page
-type_part = refl
+pub command_stops : (old new : Spot) (tree : List Slot → Act Course) (e : End) → Acts {T = declared.Course} old new tree (Err e) (course_of new.state)
+    → Acts {T = rounds.Round} old new (λ units. bind (tree units) readied) (Err e) (round_of new.state)
+command_stops old new tree e a = acts_stop old new tree readied e (course_of new.state) (round_of new.state) a
 
-pub erase_part : is_part erase_word ≡ true
-unfolding is_text_of is_name_character ebcdic code_of code_page
-erase_part = refl
+-- ---- a line
 
-exec_part : is_part exec_word ≡ true
-unfolding is_text_of is_name_character ebcdic code_of code_page
-exec_part = refl
+pub comment_so : (old : Spot) (line : List ℕ) → is_comment line ≡ true → Acts old old (line_tree old.state line) (Ok end.Ready) (round_of old.state)
+comment_so old line is = done_here old (line_tree old.state line) end.Ready (round_of old.state) (λ units h. rw is refl)
 
-exec_coded : coded (codes "EXEC") ≡ exec_word
-unfolding ebcdic code_of code_page
-exec_coded = refl
+none_first : (ts : List Token) → slice_get ts 0 ≡ None → ts ≡ []
+none_first [] e = refl
+none_first (t ∷ ts) e = absurd (cc e)
 
--- a word that is a part is read
-pub no_fault : (word : List ℕ) (e : NameFault) → is_part word ≡ true → IsWord word (Err e) → ⊥
-no_fault word e part is = let clash : true ≡ false = sym part ∙ is in absurd (cc)
+pub wordless_so : (old : Spot) (line : List ℕ) (ts : List Token) → is_comment line ≡ false → ts ≡ tokens_of line → slice_get ts 0 ≡ None
+    → Acts old old (line_tree old.state line) (Ok end.Ready) (round_of old.state)
+wordless_so old line ts other are none =
+    let no_words : tokens_of line ≡ [] = sym are ∙ none_first ts none in
+    done_here old (line_tree old.state line) end.Ready (round_of old.state) (λ units h. rw (other, no_words) refl)
 
-pub exec_no_fault : (bytes : List ℕ) (e : NameFault) → bytes ≡ coded (codes "EXEC") → IsWord bytes (Err e) → ⊥
-exec_no_fault bytes e same is = no_fault bytes e (subst (λ (w : List ℕ). is_part w ≡ true) (sym (same ∙ exec_coded)) exec_part) is
-
-pub procedure_seen : (d : Disk) (word bytes file kind : List ℕ) (test : Bool) → bytes ≡ coded (codes "EXEC") → IsWord word (Ok file) → IsWord bytes (Ok kind)
-    → Sees d (record { file = file; kind = kind }) test → Sees d (procedure_name word) test
-procedure_seen d word bytes file kind test same f k sees =
-    subst (λ (n : Name). Sees d n test)
-    (ap (λ (w : List ℕ). record { file = w; kind = kind }) f.0 ∙ ap (λ (w : List ℕ). record { file = word; kind = w }) (k.0 ∙ (same ∙ exec_coded))) sees
-
--- the words of commands are parts
-pub type_is_part : (bytes : List ℕ) → bytes ≡ coded (codes "TYPE") → is_part bytes ≡ true
-type_is_part bytes same = subst (λ (w : List ℕ). is_part w ≡ true) (sym (same ∙ type_coded)) type_part
-
-pub erase_is_part : (bytes : List ℕ) → bytes ≡ coded (codes "ERASE") → is_part bytes ≡ true
-erase_is_part bytes same = subst (λ (w : List ℕ). is_part w ≡ true) (sym (same ∙ erase_coded)) erase_part
+first_is : (ts : List Token) (t : Token) → slice_get ts 0 ≡ Some t → (more : List Token) × (ts ≡ t ∷ more)
+first_is [] t e = absurd (cc e)
+first_is (u ∷ ts) t e = let same : u ≡ t = cc e in (ts, ap (λ (x : Token). x ∷ ts) same)
 
 -- the test says whether a procedure has the name of a word
-pub record Tells (old : Spot) (word : List ℕ) (test : Bool) : Type 0 where
-  pub each : (units : List Slot) → holds old units → test ≡ is_procedure_on units word (option_map letter_of old.state.disk_a)
+abbrev pub Tells : Spot → List ℕ → Bool → Type 0
+Tells old word test = (s : Machine) → Shows old.state.table s → test ≡ is_procedure s word
 
-tells_on : (told : Told) (disk : Option Disk) (word : List ℕ) (test : Bool) (units : List Slot) → IsTest disk word test → Holds told disk units
-    → test ≡ is_procedure_on units word (option_map letter_of disk)
-tells_on told None word test units is h = is
-tells_on told (Some d) word test units is h =
-    let held = holds_some told (Some d) units h in
-    let seat = held.2.disk_a d refl in
-    let slot = seat.slot in
-    rw slot (is (now held.0 d.minidisk.volume.unit) seat.minidisk seat.is.stands)
+pub procedure_so : (old : Spot) (line : List ℕ) (ts : List Token) (first : Token) (test : Bool) → is_comment line ≡ false → ts ≡ tokens_of line → slice_get ts 0 ≡ Some first
+    → Tells old first.text test → test ≡ true → Acts old old (line_tree old.state line) (Ok (end.Ended finish.NotBuilt)) (round_of old.state)
+procedure_so old line ts first test other are at tells found =
+    let f = first_is ts first at in
+    let words : tokens_of line ≡ first ∷ f.0 = sym are ∙ f.1 in
+    done_here old (line_tree old.state line) (end.Ended finish.NotBuilt) (round_of old.state)
+    (λ units h. let named : is_procedure (machine_of old.state units) first.text ≡ true = sym (tells (machine_of old.state units) (holds_shows old units h)) ∙ found in rw (other, words, named) refl)
 
-pub tells : (old : Spot) (word bytes : List ℕ) (test : Bool) → bytes ≡ word → IsTest old.state.disk_a bytes test → Tells old word test
-tells old word bytes test same is =
-    record { each = λ units h. tells_on old.world.told old.state.disk_a word test units (subst (λ (w : List ℕ). IsTest old.state.disk_a w test) same is) h }
+-- what is run of words, by the first of them
+words_run : (m : Machine) (line : List ℕ) (ts : List Token) (first : Token) → slice_get ts 0 ≡ Some first
+    → run_words m line ts ≡ unless_procedure (is_procedure m first.text) (run_command m ts first.text (command_of line first.text))
+words_run m line [] first at = absurd (cc at)
+words_run m line (t ∷ ts) first at = let same : t ≡ first = cc at in rw same refl
 
--- ---- commands
+pub line_runs : (old new : Spot) (line : List ℕ) (ts : List Token) (first : Token) (test : Bool) (command : Command) {T : Type 0} (r : Result T End) (m : Meaning T Round)
+    → is_comment line ≡ false → ts ≡ tokens_of line → slice_get ts 0 ≡ Some first → Tells old first.text test → test ≡ false → command ≡ command_of line first.text
+    → Acts old new (command_tree old.state ts first.text command) r m → Acts old new (line_tree old.state line) r m
+line_runs old new line ts first test command r m other are at tells none is acts =
+    acts_same old new (line_tree old.state line) (command_tree old.state ts first.text command) r m
+    (λ units h.
+    let s = machine_of old.state units in
+    let named : is_procedure s first.text ≡ false = sym (tells s (holds_shows old units h)) ∙ none in
+    let words : tokens_of line ≡ ts = sym are in
+    rw (other, words) (words_run s line ts first at ∙ rw (named, is) refl))
+    acts
 
--- a command's tree, unless a procedure has the name of its word
-abbrev pub guarded : State → List ℕ → (List Slot → Act Course) → List Slot → Act Round
-guarded s word tree units = unless_procedure (is_procedure (machine_of s units) word) (bind (tree units) readied)
+-- ---- a round
 
-pub procedure_met : (old : Spot) (word : List ℕ) (tree : List Slot → Act Course) (test : Bool) → Tells old word test → test ≡ true
-    → Acts old old (guarded old.state word tree) (Ok (end.Ended finish.NotBuilt)) (round_of old.state)
-procedure_met old word tree test is yes' =
-    acts_done old old (guarded old.state word tree) (end.Ended finish.NotBuilt) (round_of old.state)
-    (comes_same old (guarded old.state word tree) (λ units. Done (Ended finish.NotBuilt))
-    (λ units h. ap (λ (b : Bool). unless_procedure b (bind (tree units) readied)) (sym (is.each units h) ∙ yes')))
-    (λ stopped. absurd (cc))
+abbrev HasTaken : Spot → Spot → Option Taken → Type 0
+HasTaken old mid item = Acts old mid (taking_tree old.state) (Ok item) (beside mid.state (option_map item_in))
 
-abbrev readied_tree : (List Slot → Act Course) → List Slot → Act Round
-readied_tree tree units = bind (tree units) readied
+pub take_stops : (old new : Spot) (e : End) → Acts {T = Option Taken} old new (taking_tree old.state) (Err e) (beside new.state (option_map item_in))
+    → Acts {T = rounds.Round} old new (round_tree old.state) (Err e) (round_of new.state)
+take_stops old new e a = acts_stop old new (taking_tree old.state) on_taken e (beside {T = Option Taken} new.state (option_map item_in)) (round_of new.state) a
 
-no_procedure : (old : Spot) (word : List ℕ) (tree : List Slot → Act Course) (test : Bool) → Tells old word test → test ≡ false
-    → Comes old old (guarded old.state word tree) (readied_tree tree)
-no_procedure old word tree test is no' =
-    comes_same old (guarded old.state word tree) (readied_tree tree)
-    (λ units h. ap (λ (b : Bool). unless_procedure b (bind (tree units) readied)) (sym (is.each units h) ∙ no'))
+-- what follows, with the machine that is left
+abbrev taken_tree : State → Option Taken → List Slot → Act Round
+taken_tree s item units = on_taken (machine_of s units, option_map item_in item)
 
--- a command was cut off
-pub guarded_stops : (old new : Spot) (word : List ℕ) (tree : List Slot → Act Course) (test : Bool) (e : End) (done : Meaning declared.Course Course)
-    (ends : Meaning rounds.Round Round) → Tells old word test → test ≡ false → Acts old new tree (Err e) done
-    → Acts old new (guarded old.state word tree) (Err e) ends
-guarded_stops old new word tree test e done ends is no' a =
-    acts_after old old new (guarded old.state word tree) (readied_tree tree) (Err e) ends (no_procedure old word tree test is no')
-    (acts_stop old new tree readied e done ends a)
+was_taken : (old mid : Spot) (item : Option Taken) → HasTaken old mid item → Comes old mid (round_tree old.state) (taken_tree mid.state item)
+was_taken old mid item a = comes_in old mid (taking_tree old.state) on_taken item (beside mid.state (option_map item_in)) a
 
--- a command was done, and its ready line
-pub guarded_done : (old mid new : Spot) (word : List ℕ) (tree : List Slot → Act Course) (test : Bool) (c : declared.Course) (r : Result rounds.Round End)
-    → Tells old word test → test ≡ false → Acts old mid tree (Ok c) (course_of mid.state) → Does mid.world new.world (ready_text c) r said
-    → IfOk r (λ x. x ≡ round_after c) → new.state ≡ mid.state → Acts old new (guarded old.state word tree) r (round_of mid.state)
-guarded_done old mid new word tree test c r is no' a d after same =
-    let later = later_does mid.world new.world (ready_text c) r said d in
-    let comes = comes_then old old mid (guarded old.state word tree) (readied_tree tree) (ready_tree mid.state c) (no_procedure old word tree test is no')
-    (comes_in old mid tree readied c (course_of mid.state) a) in
-    acts_caused old new (guarded old.state word tree) r (round_of mid.state)
-    (acts_after old mid new (guarded old.state word tree) (ready_tree mid.state c) r (plain (round_in mid.state)) comes (readies mid new c r d after same))
-    (ready_fault old.world.faults mid.world.faults new.world.faults c r a.fault later.faults after)
+pub finished_so : (old new : Spot) → HasTaken old new None → Acts old new (round_tree old.state) (Ok (end.Ended finish.AtEnd)) (round_of new.state)
+finished_so old new a = acts_done old new (round_tree old.state) (end.Ended finish.AtEnd) (round_of new.state) (was_taken old new None a)
 
--- ---- what a line asks for
-
-abbrev then_asked : Machine × Option Item → Act (Machine × Option Command)
-then_asked x = Done (x.0, option_map command_of x.1)
-
-asked_of_line : (old new : Spot) (l : ConsoleLine) → Acts old new (taking_tree old.state) (Ok l) (beside new.state item_of)
-    → Comes old new (asking_tree old.state) (λ units. Done (machine_of new.state units, option_map command_of (item_of l)))
-asked_of_line old new l a = comes_in old new (taking_tree old.state) then_asked l (beside new.state item_of) a
-
-pub command_taken : (old new : Spot) (l : ConsoleLine) (command : Option Command) → command ≡ option_map command_of (item_of l)
-    → Acts old new (taking_tree old.state) (Ok l) (beside new.state item_of) → Acts old new (asking_tree old.state) (Ok command) (beside new.state itself)
-command_taken old new l command is a =
-    rw is
-    (acts_done old new (asking_tree old.state) (option_map command_of (item_of l)) (beside new.state itself) (asked_of_line old new l a) (λ none. absurd none))
-
-pub command_lost : (old new : Spot) (l : ConsoleLine) → Acts old new (taking_tree old.state) (Ok l) (beside new.state item_of)
-    → Acts old new (asking_tree old.state) (Err Memory) (beside {T = Option Command} new.state itself)
-command_lost old new l a =
-    no_memory old new (asking_tree old.state) (λ units. Done (machine_of new.state units, option_map command_of (item_of l))) (beside new.state itself)
-    (asked_of_line old new l a)
-
-pub line_lost : (old new : Spot) (e : End) → Acts {T = ConsoleLine} old new (taking_tree old.state) (Err e) (beside new.state item_of)
-    → Acts old new (asking_tree old.state) (Err e) (beside {T = Option Command} new.state itself)
-line_lost old new e a = acts_stop old new (taking_tree old.state) then_asked e (beside new.state item_of) (beside new.state itself) a
-
--- ---- rounds
-
--- a line was taken, or the script's end found, and asks for this
-abbrev pub HasAsked : Spot → Spot → Option Command → Type 0
-HasAsked old mid command = Acts old mid (asking_tree old.state) (Ok command) (beside mid.state itself)
-
-abbrev asked_tree : State → Option Command → List Slot → Act Round
-asked_tree s command units = on_command (machine_of s units) command
-
-abbrev then_on : Machine × Option Command → Act Round
-then_on x = on_command x.0 x.1
-
-asked : (old mid : Spot) (command : Option Command) → HasAsked old mid command → Comes old mid (round_tree old.state) (asked_tree mid.state command)
-asked old mid command a = comes_in old mid (asking_tree old.state) then_on command (beside mid.state itself) a
-
-pub take_stops : (old new : Spot) (e : End) (ends : Meaning rounds.Round Round) → Acts old new (asking_tree old.state) (Err e) (beside {T = Option Command} new.state itself)
-    → Acts old new (round_tree old.state) (Err e) ends
-take_stops old new e ends a = acts_stop old new (asking_tree old.state) then_on e (beside {T = Option Command} new.state itself) ends a
-
-pub finished_so : (old new : Spot) → HasAsked old new None → Acts old new (round_tree old.state) (Ok (end.Ended finish.AtEnd)) (round_of new.state)
-finished_so old new a =
-    acts_done old new (round_tree old.state) (end.Ended finish.AtEnd) (round_of new.state) (asked old new None a) (λ stopped. absurd (cc))
-
-abbrev turn_tree : State → Command → ℕ → List Slot → Act Round
-turn_tree s command left units = on_turn (machine_of s units) command left
+abbrev turn_tree : State → Item → ℕ → List Slot → Act Round
+turn_tree s item left units = on_turn (machine_of s units) item left
 
 -- with so many turns left
-asked_with : (old mid : Spot) (command : Command) (n : ℕ) → HasAsked old mid (Some command) → mid.state.left ≡ n
-    → Comes old mid (round_tree old.state) (turn_tree mid.state command n)
-asked_with old mid command n a left =
-    subst (λ (k : ℕ). Comes old mid (round_tree old.state) (turn_tree mid.state command k)) left (asked old mid (Some command) a)
+taken_with : (old mid : Spot) (item : Taken) (n : ℕ) → HasTaken old mid (Some item) → mid.state.left ≡ n → Comes old mid (round_tree old.state) (turn_tree mid.state (item_in item) n)
+taken_with old mid item n a left =
+    subst (λ (k : ℕ). Comes old mid (round_tree old.state) (turn_tree mid.state (item_in item) k)) left (was_taken old mid (Some item) a)
 
-pub no_turns : (old new : Spot) (command : Command) → HasAsked old new (Some command) → new.state.left ≡ 0
+pub no_turns : (old new : Spot) (item : Taken) → HasTaken old new (Some item) → new.state.left ≡ 0
     → Acts old new (round_tree old.state) (Ok (end.Ended finish.AtTurns)) (round_of new.state)
-no_turns old new command a none =
-    acts_done old new (round_tree old.state) (end.Ended finish.AtTurns) (round_of new.state) (asked_with old new command 0 a none) (λ stopped. absurd (cc))
+no_turns old new item a none =
+    acts_done old new (round_tree old.state) (end.Ended finish.AtTurns) (round_of new.state) (taken_with old new item 0 a none)
 
-abbrev then_command : Command → Machine → Act Round
-then_command command m = run_command m command
+abbrev then_item : Item → Machine → Act Round
+then_item item s = run_item s item
 
-pub turn_stops : (old mid new : Spot) (n : ℕ) (command : Command) (e : End) (ends : Meaning rounds.Round Round) → HasAsked old mid (Some command)
-    → mid.state.left ≡ suc n → Acts {T = Unit {0}} mid new (turning_tree mid.state n) (Err e) (machine_now new.state)
-    → Acts old new (round_tree old.state) (Err e) ends
-turn_stops old mid new n command e ends asked some a =
-    acts_after old mid new (round_tree old.state) (turn_tree mid.state command (suc n)) (Err e) ends (asked_with old mid command (suc n) asked some)
-    (acts_stop mid new (turning_tree mid.state n) (then_command command) e (machine_now {T = Unit {0}} new.state) ends a)
+pub turn_stops : (old mid new : Spot) (n : ℕ) (item : Taken) (e : End) → HasTaken old mid (Some item) → mid.state.left ≡ suc n
+    → Acts {T = Unit {0}} mid new (turning_tree mid.state n) (Err e) (machine_now new.state) → Acts {T = rounds.Round} old new (round_tree old.state) (Err e) (round_of new.state)
+turn_stops old mid new n item e taken some a =
+    acts_after old mid new (round_tree old.state) (turn_tree mid.state (item_in item) (suc n)) (Err e) (round_of new.state) (taken_with old mid item (suc n) taken some)
+    (acts_stop mid new (turning_tree mid.state n) (then_item (item_in item)) e (machine_now {T = Unit {0}} new.state) (round_of new.state) a)
 
 -- what it asks for was done
-pub command_done : (old mid begun new : Spot) (n : ℕ) (command : Command) (x : Unit {0}) (r : Result rounds.Round End) (ends : Meaning rounds.Round Round)
-    → HasAsked old mid (Some command) → mid.state.left ≡ suc n → Acts mid begun (turning_tree mid.state n) (Ok x) (machine_now begun.state)
-    → Acts begun new (command_tree begun.state command) r ends → Acts old new (round_tree old.state) r ends
-command_done old mid begun new n command x r ends asked some turn a =
-    acts_after old begun new (round_tree old.state) (command_tree begun.state command) r ends
-    (comes_then old mid begun (round_tree old.state) (turn_tree mid.state command (suc n)) (command_tree begun.state command)
-    (asked_with old mid command (suc n) asked some) (comes_in mid begun (turning_tree mid.state n) (then_command command) x (machine_now begun.state) turn))
+pub item_done : (old mid begun new : Spot) (n : ℕ) (item : Taken) (x : Unit {0}) (r : Result rounds.Round End) → HasTaken old mid (Some item) → mid.state.left ≡ suc n
+    → Acts mid begun (turning_tree mid.state n) (Ok x) (machine_now begun.state) → Acts begun new (item_tree begun.state (item_in item)) r (round_of new.state)
+    → Acts old new (round_tree old.state) r (round_of new.state)
+item_done old mid begun new n item x r taken some turn a =
+    acts_after old begun new (round_tree old.state) (item_tree begun.state (item_in item)) r (round_of new.state)
+    (comes_then old mid begun (round_tree old.state) (turn_tree mid.state (item_in item) (suc n)) (item_tree begun.state (item_in item)) (taken_with old mid item (suc n) taken some)
+    (comes_in mid begun (turning_tree mid.state n) (then_item (item_in item)) x (machine_now begun.state) turn))
     a
+
+-- ---- refusals of what was taken
+
+abbrev message_tree : Message → Act (Unit {0})
+message_tree message = saying (typed_line (message_text message))
+
+pub refused_course : (old mid new : Spot) (message : Message) (c : declared.Course) (r : Result rounds.Round End) → Does old.world mid.world (message_tree message) (Ok c) said
+    → c ≡ course.Went (pos 20) → mid.state ≡ old.state → Acts mid new (ready_tree mid.state c) r (round_of new.state) → Acts old new (refused_tree old.state message) r (round_of new.state)
+refused_course old mid new message c r does went same acts =
+    command_ready old mid new (refusal_tree old.state message (pos 20)) c r (refused old mid message (pos 20) (Ok c) does went same) acts
+
+pub refused_stop : (old new : Spot) (message : Message) (e : End) → Does {T = declared.Course} old.world new.world (message_tree message) (Err e) said → new.state ≡ old.state
+    → Acts {T = rounds.Round} old new (refused_tree old.state message) (Err e) (round_of new.state)
+refused_stop old new message e does same = command_stops old new (refusal_tree old.state message (pos 20)) e (refused old new message (pos 20) (Err e) does tt same)
+
+-- ---- a word that no command has
+
+pub unknown_course : (old mid new : Spot) (ts : List Token) (word : List ℕ) (c : declared.Course) (r : Result rounds.Round End) → Does old.world mid.world (message_tree (M001 word)) (Ok c) said
+    → c ≡ course.Went (negsuc 2) → mid.state ≡ old.state → Acts mid new (ready_tree mid.state c) r (round_of new.state)
+    → Acts old new (command_tree old.state ts word commands.Unknown) r (round_of new.state)
+unknown_course old mid new ts word c r does went same acts =
+    command_ready old mid new (refusal_tree old.state (M001 word) (negsuc 2)) c r (refused old mid (M001 word) (negsuc 2) (Ok c) does went same) acts
+
+pub unknown_stop : (old new : Spot) (ts : List Token) (word : List ℕ) (e : End) → Does {T = declared.Course} old.world new.world (message_tree (M001 word)) (Err e) said → new.state ≡ old.state
+    → Acts {T = rounds.Round} old new (command_tree old.state ts word commands.Unknown) (Err e) (round_of new.state)
+unknown_stop old new ts word e does same = command_stops old new (refusal_tree old.state (M001 word) (negsuc 2)) e (refused old new (M001 word) (negsuc 2) (Err e) does tt same)

@@ -1,13 +1,16 @@
 -- What a line of the console asks for.
-use Rattle.std.specs.Prelude.{ℕ, Bool, true, if◌then◌else◌, ◌==◌, ◌&&◌, ◌||◌, List, [], ◌∷◌, codes}
+use Rattle.std.specs.Prelude.{ℕ, Bool, true, if◌then◌else◌, ◌==◌, ◌&&◌, ◌||◌, List, [], ◌∷◌, codes, Option, Some, None}
 use Rattle.std.specs.List.{list_all, slice_split}
+use Rattle.std.specs.Option.{option_map_or}
 use Rattle.cms_names.specs.Names.{is_part}
 use Rattle.cms_names.specs.declared.name.Name.{Name}
 use Rattle.cms_text.specs.Texts.{ebcdic}
 use Rattle.cms_model.specs.Lists.{same}
-use Rattle.cms_machine.specs.Items.{Item, Text, Bad, Long, Rest}
+use Rattle.cms_operands.specs.Spellings.{command_named}
+use Rattle.cms_operands.specs.declared.spelling.CommandName.{CommandName}
+use Rattle.cms_operands.specs.declared.spelling.CommandName.TheVariants as named
 use Rattle.cms_session.specs.declared.command.Command.{Command}
-use Rattle.cms_session.specs.declared.command.Command.TheVariants.{Nothing, TypeFile, EraseFile, NotBuilt}
+use Rattle.cms_session.specs.declared.command.Command.TheVariants.{Access, Release, Format, Query, TypeFile, EraseFile, NotBuilt, Unknown}
 
 -- the words of commands, the file type of procedures, and the letter A
 abbrev pub type_word : List ℕ
@@ -27,25 +30,31 @@ unfoldable pub is_comment : List ℕ → Bool
 is_comment [] = true
 is_comment (c ∷ cs) = (c == 0x5C) || list_all (λ x. x == 0x40) (c ∷ cs)
 
--- the command of a word and a file; a command whose word names a procedure, too, isn't built yet
-abbrev pub file_command : List ℕ → Name → Command
-file_command word name =
-    if same word type_word then TypeFile name
-    else if same word erase_word then EraseFile name
-    else NotBuilt
+-- the file of a line that is so far built: this word, a file name, a file type and the letter A, with one blank between
+abbrev pub file_of_words : List ℕ → List (List ℕ) → Option Name
+file_of_words word (first ∷ file ∷ kind ∷ mode ∷ []) =
+    if is_part file && is_part kind && same mode letter_a && same first word then Some (record { file = file; kind = kind }) else None
+file_of_words word _ = None
 
--- a word, a file name, a file type and the letter A, with one blank between
-abbrev pub command_of_words : List (List ℕ) → Command
-command_of_words (word ∷ file ∷ kind ∷ mode ∷ []) =
-    if is_part file && is_part kind && same mode letter_a then file_command word (record { file = file; kind = kind }) else NotBuilt
-command_of_words _ = NotBuilt
+unfoldable pub file_of_line : List ℕ → List ℕ → Option Name
+file_of_line word line = file_of_words word (slice_split (λ x. x == 0x40) line)
 
-unfoldable pub command_of_line : List ℕ → Command
-command_of_line line = if is_comment line then Nothing else command_of_words (slice_split (λ x. x == 0x40) line)
+-- the command of a line with this command's word
+abbrev pub command_by : List ℕ → Option CommandName → Command
+command_by line (Some named.TypeFile) = option_map_or TypeFile (file_of_line type_word line) NotBuilt
+command_by line (Some named.Erase) = option_map_or EraseFile (file_of_line erase_word line) NotBuilt
+command_by line (Some named.Access) = Access
+command_by line (Some named.Release) = Release
+command_by line (Some named.Format) = Format
+command_by line (Some named.Query) = Query
+command_by line (Some named.Listfile) = NotBuilt
+command_by line (Some named.Copyfile) = NotBuilt
+command_by line (Some named.Rename) = NotBuilt
+command_by line (Some named.State) = NotBuilt
+command_by line (Some named.Execio) = NotBuilt
+command_by line (Some named.Exec) = NotBuilt
+command_by line None = Unknown
 
--- the command of a console item
-unfoldable pub command_of : Item → Command
-command_of (Text line) = command_of_line line
-command_of Bad = NotBuilt
-command_of Long = NotBuilt
-command_of Rest = NotBuilt
+-- the command of a line with this first word
+abbrev pub command_of : List ℕ → List ℕ → Command
+command_of line word = command_by line (command_named word)

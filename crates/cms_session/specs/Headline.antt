@@ -1,5 +1,5 @@
--- The headline: a session on a unit is a run of the machine.
-use Rattle.std.specs.Prelude.{◌≡◌, ◌⊎◌, ℕ, ℤ, pos, false, ◌||◌, List, [], ◌∷◌, ◌++◌, length, map, replicate, slice_get, Option, Some, None, is_some}
+-- The headline: a session on units is a run of the machine.
+use Rattle.std.specs.Prelude.{◌≡◌, ℕ, ℤ, false, ◌||◌, List, [], ◌∷◌, ◌++◌, length, map, replicate, slice_get, Option, Some, None, is_some}
 use Rattle.std.specs.FinMap.{empty}
 use Rattle.cms_journal.specs.declared.event.Event.{Event}
 use Rattle.cms_journal.specs.declared.event.Event.TheVariants.{Read}
@@ -18,8 +18,9 @@ use Rattle.cms_machine.specs.Feeds.{Fed, Over, Waits, WaitsBehind}
 use Rattle.cms_machine.specs.Points.{Leaves, HasNow, Point}
 use Rattle.cms_machine.specs.Beats.{outcomes}
 use Rattle.cms_machine.specs.Runs.{Broke, events_of}
-use Rattle.cms_fields.specs.Moments.{moment_of}
-use Rattle.cms_search.specs.Machine.{Letter, Machine}
+use Rattle.cms_search.specs.Calls.{first_moment}
+use Rattle.cms_search.specs.Machine.{Machine}
+use Rattle.cms_line.specs.ConsoleState.{ConsoleState}
 use Rattle.cms_world.specs.Seen.{Seen}
 use Rattle.cms_search.specs.declared.state.Device.{Device}
 use Rattle.cms_session.specs.Machine.{machine, started}
@@ -53,26 +54,29 @@ abbrev pub given_bytes : Option (List ℕ) → List ℕ
 given_bytes None = []
 given_bytes (Some bytes) = bytes
 
--- a point at which nothing of the world's script was read; a script that is given is read, and ended
+-- nothing of the world's script was read; a script that is given is read, and ended
+abbrev pub first_console : Option (List ℕ) → ConsoleState
+first_console given = record { unread = record { within = 0; bytes = given_bytes given }; ended = is_some given }
+
 abbrev pub first_point : Told → ℕ → List Slot → Option (List ℕ) → Point
 first_point told faults units given = record {
   journal = told;
   faults = faults;
   units = units;
-  unread = record { within = 0; bytes = given_bytes given };
-  ended = is_some given;
+  unread = (first_console given).unread;
+  ended = (first_console given).ended;
 }
 
--- the machine with no turn spent, these letters, no line stacked and no place kept
-abbrev pub first_machine : List Slot → List Device → List (Option Letter) → ℤ → ℕ → Machine
-first_machine units devices letters offset turns = record {
+-- the machine with no turn spent, no disk accessed, no line stacked and no place kept
+abbrev pub first_machine : List Slot → List Device → ℤ → ℕ → Machine
+first_machine units devices offset turns = record {
   units = units;
   devices = devices;
-  letters = letters;
+  letters = replicate 26 None;
   stack = [];
   places = empty;
   offset = offset;
-  moment = moment_of (pos 0) offset;
+  moment = first_moment;
   left = turns;
 }
 
@@ -80,7 +84,7 @@ abbrev pub start_point : Start → Point
 start_point s = first_point (Some (fresh s.units)) s.faults (settled s.units) s.given
 
 abbrev pub start_machine : Start → Machine
-start_machine s = first_machine (settled s.units) s.devices (None ∷ replicate 25 None) s.offset s.turns
+start_machine s = first_machine (settled s.units) s.devices s.offset s.turns
 
 abbrev pub start_tree : Start → Act Finish
 start_tree s = started (start_machine s)
@@ -115,7 +119,7 @@ abbrev pub EndsAs : Start → List Event → Fed Finish → List Slot → ℕ �
 EndsAs s events fed units before now Done = Came s events fed units finish.AtEnd
 EndsAs s events fed units before now Turns = Came s events fed units finish.AtTurns
 EndsAs s events fed units before now NotBuilt = Came s events fed units finish.NotBuilt
-EndsAs s events fed units before now World = Came s events fed units finish.DeviceFault ⊎ (Begins events fed × Rose before now)
+EndsAs s events fed units before now World = Begins events fed × Rose before now
 EndsAs s events fed units before now Memory = Begins events fed
 EndsAs s events fed units before now (Usage fault) = ⊥
 

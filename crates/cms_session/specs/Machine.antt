@@ -1,22 +1,35 @@
 -- The machine: minidisks as lists of named record lists, and what a session does with them. No block occurs here.
-use Rattle.std.specs.Prelude.{ℕ, zero, suc, ◌+◌, ℤ, pos, Bool, true, false, not, if◌then◌else◌, ◌==◌, List, [], ◌∷◌, take, length, replicate, Option, Some, None, slice_get, is_some}
-use Rattle.std.specs.Option.{option_and_then, option_map}
+use Rattle.std.specs.Prelude.{ℕ, zero, suc, ℤ, pos, negsuc, Bool, true, false, if◌then◌else◌, ◌&&◌, List, [], ◌∷◌, Option, Some, None, slice_get, Result, Ok, Err}
+use Rattle.std.specs.FinMap.{empty}
+use Rattle.cms_names.specs.Names.{is_part}
 use Rattle.cms_names.specs.declared.name.Name.{Name}
-use Rattle.cms_fields.specs.Moments.{stamp_of}
-use Rattle.cms_fields.specs.declared.time.Stamp.{Stamp}
-use Rattle.cms_model.specs.Minidisks.{File, Minidisk, Volume, Not}
-use Rattle.cms_model.specs.Changes.{Drop, Answer, Limited, Full, Changed, answer_of, file_named}
-use Rattle.cms_machine.specs.Slots.{Slot, Settled, Doubt}
-use Rattle.cms_machine.specs.Steps.{Step, Access, Get, Put, Outcome, Good, ReadFault, SyncFault, OldFault, EitherFault}
-use Rattle.cms_machine.specs.Items.{items}
-use Rattle.cms_machine.specs.Acts.{Act, Done, Out, Take, Turn, Does, bind, typed_line}
+use Rattle.cms_model.specs.Minidisks.{File, Minidisk}
+use Rattle.cms_model.specs.Changes.{Drop, file_named}
+use Rattle.cms_machine.specs.Steps.{Outcome}
+use Rattle.cms_machine.specs.Items.{Item, Text, Bad, Long, Rest, items}
+use Rattle.cms_machine.specs.Acts.{Act, Done, Out, Take, Turn, bind, typed_line}
 use Rattle.cms_machine.specs.Feeds.{Fed, feed}
-use Rattle.cms_line.specs.declared.message.Message.TheVariants.{M002, M037, M069, M107}
-use Rattle.cms_text.specs.Numbers.{decimal_of}
-use Rattle.cms_search.specs.Machine.{Letter, Machine, turned, after_step, letter_at, minidisk_in, seen_file, Course, Went, DeviceFault, OutOfTurns, refusal, typing}
+use Rattle.cms_line.specs.Messages.{message_text}
+use Rattle.cms_line.specs.Tokens.{tokens_of}
+use Rattle.cms_line.specs.declared.message.Message.TheVariants.{M001, M002, M010, M011}
+use Rattle.cms_line.specs.declared.token.Token.{Token}
+use Rattle.cms_operands.specs.declared.mode.ReadMode.TheVariants as mode
+use Rattle.cms_search.specs.Accessing.{accessing}
+use Rattle.cms_search.specs.ChangeTold.{change_told}
+use Rattle.cms_search.specs.Machine.{Letter, Machine, turned, letter_at, minidisk_in, Course, Went, OutOfTurns, refusal, typing}
 use Rattle.cms_search.specs.Ready.{ready_line}
-use Rattle.cms_search.specs.declared.state.Device.{Device}
-use Rattle.cms_session.specs.Commands.{command_of, type_word, erase_word, exec_word, letter_a}
+use Rattle.cms_search.specs.Refusing.{device_fault, not_accessed, read_only}
+use Rattle.cms_search.specs.Releasing.{vdev_of}
+use Rattle.cms_search.specs.Searches.{look_up, shelves_in}
+use Rattle.cms_search.specs.Stepping.{changing, reading}
+use Rattle.cms_search.specs.declared.fault.SearchFault.{SearchFault}
+use Rattle.cms_search.specs.declared.fault.SearchFault.TheVariants.{NotAccessed}
+use Rattle.cms_search.specs.declared.search.Found.{Found}
+use Rattle.cms_access.specs.Access.{access}
+use Rattle.cms_access.specs.Format.{format}
+use Rattle.cms_access.specs.Query.{query}
+use Rattle.cms_access.specs.Release.{release}
+use Rattle.cms_session.specs.Commands.{is_comment, command_of, exec_word, letter_a}
 use Rattle.cms_session.specs.declared.command.Command.{Command}
 use Rattle.cms_session.specs.declared.command.Command.TheVariants as command
 use Rattle.cms_session.specs.declared.state.Finish.{Finish}
@@ -24,137 +37,147 @@ use Rattle.cms_session.specs.declared.state.Finish.TheVariants as finish
 
 -- ---- commands
 
--- the return codes: no disk is accessed, the disk is read-only, the file isn't there, the disk is full
-abbrev pub not_accessed : ℕ
-not_accessed = 36
-
-abbrev pub read_only : ℕ
-read_only = 36
-
+-- the return code of a file that isn't there
 abbrev pub not_found : ℕ
 not_found = 28
-
-abbrev pub full : ℕ
-full = 100
-
-abbrev pub no_disk : Machine → Act Course
-no_disk s = refusal s (M069 letter_a) not_accessed
 
 abbrev pub no_file : Machine → Name → Act Course
 no_file s name = refusal s (M002 name.file name.kind letter_a) not_found
 
--- the records of a file are typed as they are handed out
-abbrev pub type_outcome : Machine → File → Outcome → Act Course
-type_outcome s f Good = typing f.records (Done (Went s (pos 0)))
-type_outcome s f (ReadFault j) = typing (take j f.records) (Done DeviceFault)
-type_outcome s f SyncFault = Done DeviceFault
-type_outcome s f OldFault = Done DeviceFault
-type_outcome s f (EitherFault side) = Done DeviceFault
+-- the records of a file of unit u are typed as they are handed out
+abbrev pub type_named : Machine → Name → ℕ → Option File → Act Course
+type_named s name u None = no_file s name
+type_named s name u (Some f) = reading typing u f (Done (Went s (pos 0))) (device_fault s (vdev_of s u))
 
-abbrev pub type_found : Machine → Letter → Name → Option File → Act Course
-type_found s disk name None = no_file s name
-type_found s disk name (Some f) = Does (Get disk.unit f (length f.records)) (type_outcome s f)
-
-abbrev pub type_in : Machine → Letter → Name → Option Minidisk → Act Course
-type_in s disk name None = no_disk s
-type_in s disk name (Some m) = type_found s disk name (seen_file disk name m)
+abbrev pub type_in : Machine → Name → ℕ → Option Minidisk → Act Course
+type_in s name u None = no_file s name
+type_in s name u (Some m) = type_named s name u (file_named name m.files)
 
 abbrev pub type_on : Machine → Name → Option Letter → Act Course
-type_on s name None = no_disk s
-type_on s name (Some disk) = type_in s disk name (minidisk_in (slice_get s.units disk.unit))
+type_on s name None = no_file s name
+type_on s name (Some disk) = type_in s name disk.unit (minidisk_in (slice_get s.units disk.unit))
 
--- TYPE fn ft A
+-- the file that was found on the disk of a letter, or the reason why none was
+abbrev pub type_found : Machine → Name → Result Found SearchFault → Act Course
+type_found s name (Ok found) = type_on s name (letter_at s found.letter)
+type_found s name (Err (NotAccessed n)) = not_accessed s 0
+type_found s name (Err fault) = no_file s name
+
+-- TYPE fn ft A: the first file of the name on disk A and its extensions
 abbrev pub type_file : Machine → Name → Act Course
-type_file s name = type_on s name (letter_at s 0)
+type_file s name = type_found s name (look_up (shelves_in s) (mode.Letter 0) name)
 
--- what an erasure whose step was good comes to; it passes no limit
-abbrev pub erased : Machine → Step → Answer → Act Course
-erased s step (Changed m) = Done (Went (after_step s step Good) (pos 0))
-erased s step (Full need free) = refusal s (M107 letter_a (decimal_of need) (decimal_of free)) full
-erased s step (Limited k) = Done DeviceFault
+abbrev pub erase_named : Machine → Name → Option File → Act Course
+erase_named s name None = no_file s name
+erase_named s name (Some f) = bind (changing s 0 (Drop name)) (change_told 0)
 
-abbrev pub erase_outcome : Machine → Step → Answer → Outcome → Act Course
-erase_outcome s step answer Good = erased s step answer
-erase_outcome s step answer (ReadFault j) = Done DeviceFault
-erase_outcome s step answer SyncFault = Done DeviceFault
-erase_outcome s step answer OldFault = Done DeviceFault
-erase_outcome s step answer (EitherFault side) = Done DeviceFault
-
--- a file of this name goes, with this stamp of the directory
-abbrev pub drop_step : ℕ → Minidisk → Name → Stamp → Step
-drop_step unit m name stamp = Put unit m (Drop name) stamp
-
-abbrev pub dropping : Machine → ℕ → Minidisk → Name → Act Course
-dropping s unit m name = Does (drop_step unit m name (stamp_of s.moment)) (erase_outcome s (drop_step unit m name (stamp_of s.moment))
-    (answer_of m (Drop name)))
-
-abbrev pub erase_found : Machine → Letter → Minidisk → Name → Option File → Act Course
-erase_found s disk m name None = no_file s name
-erase_found s disk m name (Some f) = dropping s disk.unit m name
-
-abbrev pub no_writing : Machine → Act Course
-no_writing s = refusal s (M037 letter_a) read_only
-
-abbrev pub erase_in : Machine → Letter → Name → Option Minidisk → Act Course
-erase_in s disk name None = no_disk s
-erase_in s disk name (Some m) = if disk.read_only then no_writing s else erase_found s disk m name (file_named name m.files)
+abbrev pub erase_in : Machine → Name → Option Minidisk → Act Course
+erase_in s name None = no_file s name
+erase_in s name (Some m) = erase_named s name (file_named name m.files)
 
 abbrev pub erase_on : Machine → Name → Option Letter → Act Course
-erase_on s name None = no_disk s
-erase_on s name (Some disk) = erase_in s disk name (minidisk_in (slice_get s.units disk.unit))
+erase_on s name None = not_accessed s 0
+erase_on s name (Some disk) =
+    if disk.read_only then read_only s 0 else erase_in s name (minidisk_in (slice_get s.units disk.unit))
 
 -- ERASE fn ft A; the directory has the stamp of the turn's moment
 abbrev pub erase_file : Machine → Name → Act Course
 erase_file s name = erase_on s name (letter_at s 0)
 
--- ---- rounds
+-- no command has this word
+abbrev pub unknown : Machine → List ℕ → Act Course
+unknown s word = Out (typed_line (message_text (M001 word))) (Done (Went s (negsuc 2)))
+
+-- ---- lines
 
 -- how a round ends: so that the session ends, or another may follow
 pub data Round : Type 0 where
   Ended : Finish → Round
   Ready : Machine → Round
 
--- a procedure has the name of the command's word: a file of that name and type EXEC is seen on disk A
-abbrev pub is_procedure_on : List Slot → List ℕ → Option Letter → Bool
-is_procedure_on units word None = false
-is_procedure_on units word (Some disk) =
-    is_some (option_and_then (seen_file disk (record { file = word; kind = exec_word })) (minidisk_in (slice_get units disk.unit)))
-
-abbrev pub is_procedure : Machine → List ℕ → Bool
-is_procedure s word = is_procedure_on s.units word (letter_at s 0)
-
--- the ready line
+-- the ready line, which forgets the reading places
 abbrev pub readied : Course → Act Round
-readied (Went s code) = Out (typed_line (ready_line code)) (Done (Ready s))
-readied DeviceFault = Done (Ended finish.DeviceFault)
+readied (Went s code) = Out (typed_line (ready_line code)) (Done (Ready (record s { places = empty })))
 readied OutOfTurns = Done (Ended finish.AtTurns)
 
+-- the command that a line with these words asks for, the first of which is this
+abbrev pub run_command : Machine → List Token → List ℕ → Command → Act Round
+run_command s words word command.Access = bind (access s words) readied
+run_command s words word command.Release = bind (release s words) readied
+run_command s words word command.Format = bind (format s words) readied
+run_command s words word command.Query = bind (query s words) readied
+run_command s words word (command.TypeFile name) = bind (type_file s name) readied
+run_command s words word (command.EraseFile name) = bind (erase_file s name) readied
+run_command s words word command.NotBuilt = Done (Ended finish.NotBuilt)
+run_command s words word command.Unknown = bind (unknown s word) readied
+
+-- a file was found
+abbrev pub is_there : Result Found SearchFault → Bool
+is_there (Ok found) = true
+is_there (Err fault) = false
+
+-- the procedure that a word names
+abbrev pub procedure_name : List ℕ → Name
+procedure_name word = record { file = word; kind = exec_word }
+
+-- a word names a procedure: a file of that name and type EXEC is found over all disks
+abbrev pub is_procedure : Machine → List ℕ → Bool
+is_procedure s word = is_part word && is_there (look_up (shelves_in s) mode.Any (procedure_name word))
+
+-- a procedure comes before a command; it isn't built yet
 abbrev pub unless_procedure : Bool → Act Round → Act Round
 unless_procedure true next = Done (Ended finish.NotBuilt)
 unless_procedure false next = next
 
--- what a line asks for
-abbrev pub run_command : Machine → Command → Act Round
-run_command s command.Nothing = Done (Ready s)
-run_command s (command.TypeFile name) = unless_procedure (is_procedure s type_word) (bind (type_file s name) readied)
-run_command s (command.EraseFile name) = unless_procedure (is_procedure s erase_word) (bind (erase_file s name) readied)
-run_command s command.NotBuilt = Done (Ended finish.NotBuilt)
+-- a line with these words
+abbrev pub run_words : Machine → List ℕ → List Token → Act Round
+run_words s line [] = Done (Ready s)
+run_words s line (first ∷ words) =
+    unless_procedure (is_procedure s first.text) (run_command s (first ∷ words) first.text (command_of line first.text))
+
+-- a blank line and a comment do nothing
+abbrev pub run_line : Machine → List ℕ → Act Round
+run_line s line = if is_comment line then Done (Ready s) else run_words s line (tokens_of line)
+
+-- the code of a line that is refused
+abbrev pub bad_line : ℕ
+bad_line = 20
+
+-- a line, or what is no line: a line that isn't printable, a line that is too long, and a further piece of it, of which nothing is typed
+abbrev pub run_item : Machine → Item → Act Round
+run_item s (Text line) = run_line s line
+run_item s Bad = bind (refusal s M010 bad_line) readied
+run_item s Long = bind (refusal s M011 bad_line) readied
+run_item s Rest = Done (Ready s)
+
+-- ---- rounds
+
+-- what is taken: a stacked line first, then the console's next item, none at the script's end
+abbrev pub taking_from : Machine → List (List ℕ) → Act (Machine × Option Item)
+taking_from s [] = Take (λ item. Done (s, item))
+taking_from s (line ∷ lines) = Done (record s { stack = lines }, Some (Text line))
+
+abbrev pub taking : Machine → Act (Machine × Option Item)
+taking s = taking_from s s.stack
 
 -- with the turn spent
-abbrev pub on_line : Machine → ℕ → Command → ℤ → Act Round
-on_line s left command seconds = run_command (turned s left seconds) command
+abbrev pub on_seconds : Machine → ℕ → Item → ℤ → Act Round
+on_seconds s left item seconds = run_item (turned s left seconds) item
 
-abbrev pub on_turn : Machine → Command → ℕ → Act Round
-on_turn s command zero = Done (Ended finish.AtTurns)
-on_turn s command (suc left) = Turn (on_line s left command)
+abbrev pub on_turn : Machine → Item → ℕ → Act Round
+on_turn s item zero = Done (Ended finish.AtTurns)
+on_turn s item (suc left) = Turn (on_seconds s left item)
 
-abbrev pub on_command : Machine → Option Command → Act Round
-on_command s None = Done (Ended finish.AtEnd)
-on_command s (Some command) = on_turn s command s.left
+abbrev pub on_item : Machine → Option Item → Act Round
+on_item s None = Done (Ended finish.AtEnd)
+on_item s (Some item) = on_turn s item s.left
 
--- the next item is taken, a turn is spent, and what the line asks for is done
+abbrev pub on_taken : Machine × Option Item → Act Round
+on_taken x = on_item x.0 x.1
+
+-- something is taken, a turn is spent, and what it asks for is done
 abbrev pub round : Machine → Act Round
-round s = Take (λ item. on_command s (option_map command_of item))
+round s = bind (taking s) on_taken
 
 -- ---- the session
 
@@ -171,41 +194,15 @@ session (suc more) s = bind (round s) (then_round (session more))
 abbrev pub run_lines : Machine → Act Finish
 run_lines s = session (suc s.left) s
 
--- with this disk as A, and no other
-abbrev pub with_disk_a : Machine → Option Letter → Machine
-with_disk_a s disk = record s { letters = disk ∷ replicate 25 None }
+-- ---- the start
 
--- the disk where its unit holds a minidisk
-abbrev pub found_on : Letter → Slot → Option Letter
-found_on disk (Settled (Volume m)) = Some disk
-found_on disk (Settled (Not k)) = None
-found_on disk (Doubt before after side) = None
+-- where a unit is device 191 and holds a volume it is accessed as A, and nothing is typed; a fault leaves it without a letter
+abbrev pub access_first : Machine → Act Machine
+access_first s = bind (accessing s 0x191 0 None) (λ x. Done x.0)
 
--- after the access of the disk's unit
-abbrev pub accessed : Machine → Letter → Slot → Outcome → Act Finish
-accessed s disk slot Good = run_lines (with_disk_a s (found_on disk slot))
-accessed s disk slot (ReadFault j) = Done finish.DeviceFault
-accessed s disk slot SyncFault = Done finish.DeviceFault
-accessed s disk slot OldFault = Done finish.DeviceFault
-accessed s disk slot (EitherFault side) = Done finish.DeviceFault
-
-abbrev pub access_first : Machine → Letter → Option Slot → Act Finish
-access_first s disk None = run_lines s
-access_first s disk (Some slot) = Does (Access disk.unit slot) (accessed s disk slot)
-
--- the first of the devices, counted from a unit's number on, that is device 191: read-only where it may not be written
-abbrev pub device_191 : ℕ → List Device → Option Letter
-device_191 u [] = None
-device_191 u (d ∷ ds) = if d.vdev == 0x191 then Some (record { unit = u; parent = None; read_only = not d.writable }) else device_191
-    (u + 1) ds
-
-abbrev pub started_on : Machine → Option Letter → Act Finish
-started_on s None = run_lines s
-started_on s (Some disk) = access_first s disk (slice_get s.units disk.unit)
-
--- where a unit is device 191 it is accessed as A without a message, and then lines are run
+-- and then lines are run
 abbrev pub started : Machine → Act Finish
-started s = started_on s (device_191 0 s.devices)
+started s = bind (access_first s) run_lines
 
 -- the machine from a start, on what was told of the script and of the clock, with these outcomes
 unfoldable pub machine : Machine → List ℕ → Bool → List ℤ → List Outcome → Fed Finish

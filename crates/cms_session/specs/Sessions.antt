@@ -1,32 +1,34 @@
 -- What a call of the session's top does.
-use Rattle.std.specs.Prelude.{⊤, ◌≡◌, ◌≢◌, ◌⊎◌, ◌≤◌, ℕ, List, [], ◌∷◌, length, All, Option, None, Some, Result, Ok, Err}
+use Rattle.std.specs.Prelude.{⊤, ◌≡◌, ◌≢◌, ◌⊎◌, ◌≤◌, ℕ, suc, List, [], ◌∷◌, ◌++◌, length, min, slice_get, Some}
 use Rattle.std.specs.Option.{ForSome}
 use Rattle.cms_journal.specs.declared.event.Event.TheVariants.{Missed}
 use Rattle.cms_journal.specs.declared.event.Attached.{Attached}
 use Rattle.cms_journal.specs.Causes.{Rose}
-use Rattle.cms_journal.specs.Journal.{MayAdd, IsAttached, may_write}
+use Rattle.cms_journal.specs.Limits.{most_blocks}
+use Rattle.cms_journal.specs.Journal.{IsAttached, IsBlockSize, MayAdd, may_write}
 use Rattle.cms_journal.specs.Told.{Told}
 use Rattle.cms_model.specs.Volumes.{disk_of}
-use Rattle.cms_model.specs.Volumes.{Disk as LookedAt}
-use Rattle.cms_model.specs.declared.fault.OpenFault.{OpenFault}
-use Rattle.cms_model.specs.declared.fault.OpenFault.TheVariants as failed
 use Rattle.cms_machine.specs.Acts.{Act}
 use Rattle.cms_machine.specs.Acts as acts
 use Rattle.cms_machine.specs.Points.{Point}
 use Rattle.cms_machine.specs.Runs.{Ran, Broke}
-use Rattle.cms_search.specs.Calls.{letters_of, Holds}
-use Rattle.cms_world.specs.Seen.{Seen}
-use Rattle.cms_search.specs.declared.state.Device.{Device}
-use Rattle.cms_search.specs.declared.state.Disk.{Disk}
 use Rattle.cms_machine.specs.Slots.{Slot}
-use Rattle.cms_session.specs.Machine.{run_lines}
+use Rattle.cms_disk.specs.declared.unit.UnitInfo.{UnitInfo}
+use Rattle.cms_search.specs.Calls.{Holds}
+use Rattle.cms_search.specs.Shows.{devices_of}
+use Rattle.cms_search.specs.Tables.{new_table}
+use Rattle.cms_search.specs.declared.state.Device.{Device}
+use Rattle.cms_search.specs.declared.state.End.{End}
+use Rattle.cms_search.specs.declared.state.End.TheVariants as cut
+use Rattle.cms_world.specs.Seen.{Seen}
 use Rattle.cms_words.specs.declared.fault.WordFault.{WordFault}
 use Rattle.cms_words.specs.declared.fault.WordFault.TheVariants as fault
 use Rattle.cms_words.specs.declared.unit.UnitWord.{UnitWord}
-use Rattle.cms_session.specs.Words.{Asked, Read}
+use Rattle.cms_session.specs.Machine.{started}
+use Rattle.cms_words.specs.declared.reading.Words.{Words}
+use Rattle.cms_session.specs.Words.{Asked, Read, given_by}
 use Rattle.cms_session.specs.Words as words
-use Rattle.cms_session.specs.Headline.{Start, Headline, fresh, settled, first_machine, first_point, start_point, start_tree}
-use Rattle.cms_session.specs.declared.asked.Terms.{Terms}
+use Rattle.cms_session.specs.Headline.{Start, Headline, fresh, first_machine, first_point}
 use Rattle.cms_session.specs.declared.state.Finish.{Finish}
 use Rattle.cms_session.specs.declared.state.Finish.TheVariants as finish
 use Rattle.cms_session.specs.declared.status.Status.{Status}
@@ -34,10 +36,9 @@ use Rattle.cms_session.specs.declared.status.Status.TheVariants.{Done, Usage, Me
 
 -- ---- the words
 
--- what the words ask for decides the status where no session runs, but for want of memory; Usage comes nowhere else
+-- Usage comes exactly where the words are refused, but for want of memory
 abbrev pub FitsWords : Read → Status → Type 0
 FitsWords (words.Refused why) status = (status ≡ Usage why) ⊎ (status ≡ Memory)
-FitsWords words.NotBuilt status = (status ≡ NotBuilt) ⊎ (status ≡ Memory)
 FitsWords (words.Runs spec) status = (why : WordFault) → status ≢ Usage why
 
 -- how it ends where the words are refused
@@ -53,47 +54,66 @@ refusal_of fault.Seed = Usage fault.Seed
 -- no session runs
 abbrev pub RunsNone : Read → Type 0
 RunsNone (words.Refused why) = ⊤
-RunsNone words.NotBuilt = ⊤
 RunsNone (words.Runs spec) = ⊥
 
--- a told journal leaves room for units
-abbrev pub HasRoom : Told → Type 0
-HasRoom told = ForSome told (λ j. length j.units ≤ 240)
+-- a told journal has so many units at most; one of 240 leaves room for those of the words
+abbrev pub HasFew : ℕ → Told → Type 0
+HasFew most told = ForSome told (λ j. length j.units ≤ most)
 
--- ---- the unit
+abbrev pub HasRoom : Told → Type 0
+HasRoom told = HasFew 240 told
+
+-- ---- the units
+
+-- behind the units that were attached before, one was attached for each of the words, in their order and as the word says
+abbrev pub AreAttached : List Attached → List UnitWord → List Attached → Type 0
+AreAttached before [] [] = ⊤
+AreAttached before (word ∷ words) (unit ∷ units) =
+    IsAttached (fresh before) (Some (fresh (before ++ unit ∷ []))) word.name word.bsize word.access (length before) (length unit.start)
+    × AreAttached (before ++ unit ∷ []) words units
+AreAttached before _ _ = ⊥
 
 -- the device of a unit word, with so many blocks
 abbrev pub device_of : UnitWord → ℕ → Device
-device_of unit blocks = record { vdev = unit.vdev; bsize = unit.bsize; blocks = blocks; writable = may_write unit.access }
+device_of word blocks = record { vdev = word.vdev; bsize = word.bsize; blocks = blocks; writable = may_write word.access }
 
--- how a session on a unit starts
-abbrev pub start_on : Asked → Attached → ℕ → Start
-start_on spec unit faults = record {
-  units = unit ∷ [];
-  devices = device_of spec.unit (disk_of unit).count ∷ [];
+-- the devices of the words' units; at most 1,048,576 blocks of each are looked at
+abbrev pub devices_on : List UnitWord → List Attached → List Device
+devices_on (word ∷ words) (unit ∷ units) = device_of word (disk_of unit).count ∷ devices_on words units
+devices_on _ _ = []
+
+-- how a session on units starts
+abbrev pub start_on : Asked → List Attached → ℕ → Start
+start_on spec units faults = record {
+  units = units;
+  devices = devices_on spec.units units;
   turns = spec.turns;
   offset = spec.offset;
   given = spec.given;
   faults = faults;
 }
 
--- lines are run on a unit of so many blocks, with this disk A
-abbrev pub lines_tree : Asked → ℕ → Option Disk → List Slot → Act Finish
-lines_tree spec blocks disk units =
-    run_lines (first_machine units (device_of spec.unit blocks ∷ []) (letters_of disk) spec.offset spec.turns)
+-- why the next unit wasn't attached: there was no memory; or the world missed it
+abbrev pub StopsAt : List UnitWord → List Attached → Seen → Seen → Status → Type 0
+StopsAt [] units before now status = (status ≡ Memory) × (now.told ≡ Some (fresh units))
+StopsAt (next ∷ rest) units before now status =
+    ((status ≡ Memory) × (now.told ≡ Some (fresh units)))
+    ⊎ ((status ≡ World) × MayAdd (Missed next.name next.bsize next.access) (Some (fresh units)) now.told × Rose before.edges now.edges)
 
--- nothing was attached: nothing happened, or the image was missed
-pub record NotAttached (spec : Asked) (before now : Seen) (status : Status) : Type 0 where
-  pub status_is : status ≡ World
-  pub told : MayAdd (Missed spec.unit.name spec.unit.bsize spec.unit.access) (Some (fresh [])) now.told
-  pub cause : Rose before.edges now.edges
+-- the first of the words' units were attached, and no more; nothing else happened
+pub record StopsAfter (words : List UnitWord) (before now : Seen) (status : Status) : Type 0 where
+  pub front : List UnitWord
+  pub rest : List UnitWord
+  pub words_are : front ++ rest ≡ words
+  pub units : List Attached
+  pub attached : AreAttached [] front units
+  pub stops : StopsAt rest units before now status
 
--- one unit was attached, as its word says
-pub record OnUnit (spec : Asked) (before now : Seen) (status : Status) : Type 0 where
-  pub unit : Attached
-  pub blocks : ℕ
-  pub attached : IsAttached (fresh []) (Some (fresh (unit ∷ []))) spec.unit.name spec.unit.bsize spec.unit.access 0 blocks
-  pub ran : Headline (start_on spec unit before.faults) before now status
+-- all units were attached, as their words say
+pub record OnUnits (spec : Asked) (before now : Seen) (status : Status) : Type 0 where
+  pub units : List Attached
+  pub attached : AreAttached [] spec.units units
+  pub ran : Headline (start_on spec units before.faults) before now status
 
 -- there was no memory before a unit was attached: nothing happened
 pub record Unbegun (before now : Seen) (status : Status) : Type 0 where
@@ -102,13 +122,13 @@ pub record Unbegun (before now : Seen) (status : Status) : Type 0 where
 
 -- a session that the words ask for, from a world with no unit and no event
 abbrev pub SessionIn : Asked → Seen → Seen → Status → Type 0
-SessionIn spec before now status = Unbegun before now status ⊎ (NotAttached spec before now status ⊎ OnUnit spec before now status)
+SessionIn spec before now status = Unbegun before now status ⊎ (StopsAfter spec.units before now status ⊎ OnUnits spec before now status)
 
--- no count has fallen, and World comes only where one of them rose
+-- no count has fallen, and World comes only where that of the edges rose
 pub record WorldCause (before now : Seen) (status : Status) : Type 0 where
   pub edges : before.edges ≤ now.edges
   pub faults : before.faults ≤ now.faults
-  pub rose : status ≡ World → Rose before.edges now.edges ⊎ Rose before.faults now.faults
+  pub rose : status ≡ World → Rose before.edges now.edges
 
 -- ---- the parts of the call
 
@@ -116,7 +136,11 @@ abbrev pub status_of : Finish → Status
 status_of finish.AtEnd = Done
 status_of finish.AtTurns = Turns
 status_of finish.NotBuilt = NotBuilt
-status_of finish.DeviceFault = World
+
+-- why a session was cut off
+abbrev pub status_at : End → Status
+status_at cut.Memory = Memory
+status_at cut.Edge = World
 
 -- a point is as the world shows
 pub record IsAsSeen (p : Point) (now : Seen) : Type 0 where
@@ -140,64 +164,44 @@ abbrev pub EndedAs : Point → ℕ → Seen → Act Finish → Status → Type 0
 EndedAs p edges now tree Done = CameTo p now tree finish.AtEnd
 EndedAs p edges now tree Turns = CameTo p now tree finish.AtTurns
 EndedAs p edges now tree NotBuilt = CameTo p now tree finish.NotBuilt
-EndedAs p edges now tree World = CameTo p now tree finish.DeviceFault ⊎ (WasCut p now tree × Rose edges now.edges)
+EndedAs p edges now tree World = WasCut p now tree × Rose edges now.edges
 EndedAs p edges now tree Memory = WasCut p now tree
 EndedAs p edges now tree (Usage why) = ⊥
 
--- how the session ends where a volume couldn't be read; a unit that has none for a reason doesn't end it
-abbrev pub unread_status : OpenFault → Option Status
-unread_status failed.Device = Some World
-unread_status failed.Memory = Some Memory
-unread_status (failed.Label k) = None
-unread_status (failed.Entry n k) = None
-unread_status (failed.Pointer holder value) = None
-unread_status (failed.Crossed n) = None
-unread_status (failed.MapMissing n) = None
-unread_status (failed.Var n k) = None
-unread_status (failed.Twice n) = None
-unread_status (failed.System n) = None
+-- what is told of a word's unit, of this number and of so many blocks
+abbrev pub info_of : UnitWord → ℕ → ℕ → UnitInfo
+info_of word number blocks = record {
+  vdev = word.vdev;
+  unit = record { number = number; blocks = blocks };
+  bsize = word.bsize;
+  writable = may_write word.access;
+}
 
--- a unit whose blocks have its size stands alone in a journal in which nothing happened, and is looked at so
-pub record IsAlone (told : Told) (disk : LookedAt) (number : ℕ) (unit : Attached) : Type 0 where
-  pub told_is : told ≡ Some (fresh (unit ∷ []))
-  pub number_is : number ≡ 0
-  pub disk_is : disk_of unit ≡ disk
-  pub sizes : All (λ block. length block ≡ unit.bsize) unit.start
+-- what is told of the words' units, from this number on
+abbrev pub infos_on : ℕ → List UnitWord → List Attached → List UnitInfo
+infos_on n (word ∷ words) (unit ∷ units) = info_of word n (disk_of unit).count ∷ infos_on (suc n) words units
+infos_on n _ _ = []
 
--- disk A or none was found on a unit, and the session goes on by that
-pub record Found (spec : Asked) (unit : Attached) (before now : ℕ) (disk : Option Disk) : Type 0 where
-  pub holds : Holds (Some (fresh (unit ∷ []))) disk (settled (unit ∷ []))
-  pub ran :
-      Ran (start_point (start_on spec unit before)) (start_point (start_on spec unit now)) (start_tree (start_on spec unit before))
-      (lines_tree spec (disk_of unit).count disk (settled (unit ∷ [])))
+-- a journal that is told has the unit of a word behind the others, and this is told of it
+abbrev pub AttachesUnit : Told → Told → UnitWord → UnitInfo → Type 0
+AttachesUnit old new word info =
+    ForSome old (λ j. (blocks : ℕ) × IsAttached j new word.name word.bsize word.access info.unit.number blocks
+    × (info ≡ info_of word info.unit.number (min blocks most_blocks)))
 
--- what was found on a unit; or why the session ends
-abbrev pub FoundAs : Asked → Attached → ℕ → ℕ → Result (Option Disk) Status → Type 0
-FoundAs spec unit before now (Ok disk) = Found spec unit before now disk
-FoundAs spec unit before now (Err NotBuilt) = ⊥
-FoundAs spec unit before now (Err World) =
-    Ran (start_point (start_on spec unit before)) (start_point (start_on spec unit now)) (start_tree (start_on spec unit before))
-    (acts.Done finish.DeviceFault)
-FoundAs spec unit before now (Err Memory) = ⊤
-FoundAs spec unit before now (Err Done) = ⊥
-FoundAs spec unit before now (Err Turns) = ⊥
-FoundAs spec unit before now (Err (Usage why)) = ⊥
+-- the units of words are attached, no others and nothing else happened, and this is told of them
+pub record AttachesAll (now : Told) (words : List UnitWord) (infos : List UnitInfo) : Type 0 where
+  pub units : List Attached
+  pub attached : AreAttached [] words units
+  pub told : now ≡ Some (fresh units)
+  pub infos_are : infos ≡ infos_on 0 words units
 
--- what is found on the word's unit, of so many blocks, where it stands alone, whatever else is asked for
-abbrev pub FindsDisk : UnitWord → ℕ → ℕ → Seen → Seen → Result (Option Disk) Status → Type 0
-FindsDisk word blocks number before now disk =
-    (spec : Asked) (unit : Attached) → word ≡ spec.unit → IsAlone before.told (record { bsize = word.bsize; count = blocks }) number unit
-    → FoundAs spec unit before.faults now.faults disk
+-- each unit has a block size
+abbrev pub HaveSizes : List UnitInfo → Type 0
+HaveSizes infos = (u : ℕ) (info : UnitInfo) → slice_get infos u ≡ Some info → IsBlockSize info.bsize
 
--- how a session on that unit ran
-abbrev pub RunsOn : UnitWord → Terms → ℕ → ℕ → Seen → Seen → Status → Type 0
-RunsOn word terms blocks number before now status =
-    (unit : Attached) → IsAlone before.told (record { bsize = word.bsize; count = blocks }) number unit
-    → Headline (start_on (words.asked word terms) unit before.faults) before now status
-
--- how the lines of a script ended with this disk A, from whatever is on the units
-abbrev pub LinesEnd : Device → Terms → Option Disk → Seen → Seen → Status → Type 0
-LinesEnd device terms disk before now status =
-    (word : UnitWord) (blocks : ℕ) (units : List Slot) → device ≡ device_of word blocks → Holds before.told disk units
-    → EndedAs (first_point before.told before.faults units (words.given_in terms.given)) before.edges now
-    (lines_tree (words.asked word terms) blocks disk units) status
+-- how a session on these units, with these words, ended from whatever they hold
+abbrev pub RunsOn : List UnitInfo → Words → Seen → Seen → Status → Type 0
+RunsOn infos words before now status =
+    (units : List Slot) → Holds before.told (new_table infos) units
+    → EndedAs (first_point before.told before.faults units (given_by words.seed)) before.edges now
+    (started (first_machine units (devices_of (new_table infos)) words.offset words.turns)) status

@@ -1,27 +1,35 @@
 // What a line of the console asks for.
 ghost use Rattle.std.specs.Prelude.{◌≡◌, ◌==◌, [], ◌∷◌, map, IfOk};
 ghost use Rattle.std.specs.List.{slice_split, list_all};
-ghost use Rattle.cms_names.specs.declared.name.Name.{Name};
+ghost use Rattle.std.specs.Option.{option_map_or};
 ghost use Rattle.cms_model.specs.Lists.{same};
-ghost use Rattle.cms_machine.specs.Items.{Item};
-ghost use Rattle.cms_session.specs.Commands.{letter_a, is_comment, file_command, command_of_words, command_of_line};
+ghost use Rattle.cms_session.specs.Commands.{letter_a, is_comment, command_of, file_of_line, file_of_words};
+ghost use Rattle.cms_session.specs.declared.command.Command.TheVariants.{TypeFile, EraseFile, NotBuilt};
 
 use cms_names::{Name, Part};
-use cms_operands::coded;
+use cms_operands::{CommandName, coded, command_named};
 use cms_text::BLANK;
 use std::alloc::{AllocError, Global};
 
 /// What a line asks for.
 #[derive(Clone, Copy, Debug)]
 pub enum Command {
-    /// nothing: the line is blank or a comment
-    Nothing,
-    /// that the records of a file on disk A are typed
+    /// that a volume is accessed as a letter
+    Access,
+    /// that a disk is accessed no more
+    Release,
+    /// that an empty volume is made, or a volume id changed
+    Format,
+    /// that disks are told of
+    Query,
+    /// that the records of a file on disk A or its extensions are typed
     TypeFile(Name),
     /// that a file on disk A is erased
     EraseFile(Name),
     /// what isn't built yet
     NotBuilt,
+    /// what no command does
+    Unknown,
 }
 
 const ASTERISK: u8 = 0x5C;
@@ -41,9 +49,9 @@ fn is_blank(line: &[u8]) -> bool
     line.iter().all(|byte| *byte == BLANK)
 }
 
-// Nothing is done for the line.
+/// Nothing is done for the line: it is blank, or begins with an asterisk.
 #[tactic(auto, using(crate::proofs::Stars::starred, crate::proofs::Stars::not_starred), unfolding(crate::specs::Commands::is_comment))]
-fn is_comment(line: &[u8]) -> bool
+pub fn is_comment(line: &[u8]) -> bool
     ensures { result ≡ is_comment line.now }
 {
     match line {
@@ -68,51 +76,80 @@ fn same(bytes: &[u8], other: &[u8]) -> bool
     bytes == other
 }
 
-// The command of a word and a file.
-fn file_command(word: &[u8], name: Name) -> Command
-    ensures { result ≡ file_command word.now name }
+// The file of a file name, a file type and a mode, behind the word of this command.
+fn file_of_four(command: &[u8], word: &[u8], file: &[u8], kind: &[u8], mode: &[u8]) -> Option<Name>
+    ensures { result ≡ file_of_words command.now (word.now ∷ file.now ∷ kind.now ∷ mode.now ∷ []) }
 {
-    if same(word, &coded(b"TYPE")) {
-        return Command::TypeFile(name);
+    if !same(word, command) {
+        return None;
     }
-    if same(word, &coded(b"ERASE")) {
-        return Command::EraseFile(name);
-    }
-    Command::NotBuilt
-}
-
-// The command of a word, a file name, a file type and a mode.
-fn command_of_four(word: &[u8], file: &[u8], kind: &[u8], mode: &[u8]) -> Command
-    ensures { result ≡ command_of_words (word.now ∷ file.now ∷ kind.now ∷ mode.now ∷ []) }
-{
     if !same(mode, &letter_a()) {
-        return Command::NotBuilt;
+        return None;
     }
     let Ok(file) = Part::read(file) else {
-        return Command::NotBuilt;
+        return None;
     };
     let Ok(kind) = Part::read(kind) else {
-        return Command::NotBuilt;
+        return None;
     };
-    file_command(word, Name { file, kind })
+    Some(Name { file, kind })
 }
 
-// The command of words.
-fn command_of_words(words: &[&[u8]]) -> Command
-    ensures { result ≡ command_of_words (map (λ word. word.now) words.now) }
+// The file of words.
+fn file_of_words(command: &[u8], words: &[&[u8]]) -> Option<Name>
+    ensures { result ≡ file_of_words command.now (map (λ word. word.now) words.now) }
 {
     match words {
-        [word, file, kind, mode] => command_of_four(word, file, kind, mode),
-        _ => Command::NotBuilt,
+        [word, file, kind, mode] => file_of_four(command, word, file, kind, mode),
+        _ => None,
     }
 }
 
-/// The command of a line.
-pub fn command_of_line(alloc: Global, line: &[u8]) -> Result<Command, AllocError>
-    ensures { IfOk result (λ command. command ≡ command_of_line line.now) }
+// The file of a line, where the line has the form that is built so far.
+fn file_of_line(alloc: Global, command: &[u8], line: &[u8]) -> Result<Option<Name>, AllocError>
+    ensures { IfOk result (λ file. file ≡ file_of_line command.now line.now) }
 {
-    if is_comment(line) {
-        return Ok(Command::Nothing);
+    Ok(file_of_words(command, &words(alloc, line)?))
+}
+
+fn typing(file: Option<Name>) -> Command
+    ensures { result ≡ option_map_or TypeFile file NotBuilt }
+{
+    match file {
+        Some(name) => Command::TypeFile(name),
+        None => Command::NotBuilt,
     }
-    Ok(command_of_words(&words(alloc, line)?))
+}
+
+fn erasing(file: Option<Name>) -> Command
+    ensures { result ≡ option_map_or EraseFile file NotBuilt }
+{
+    match file {
+        Some(name) => Command::EraseFile(name),
+        None => Command::NotBuilt,
+    }
+}
+
+/// The command of a line with this first word, which is in upper case.
+#[tactic(auto, using(crate::proofs::CommandWords::type_coded, crate::proofs::CommandWords::erase_coded))]
+pub fn command_of(alloc: Global, line: &[u8], word: &[u8]) -> Result<Command, AllocError>
+    ensures { IfOk result (λ command. command ≡ command_of line.now word.now) }
+{
+    match command_named(word) {
+        Some(CommandName::TypeFile) => Ok(typing(file_of_line(alloc, &coded(b"TYPE"), line)?)),
+        Some(CommandName::Erase) => Ok(erasing(file_of_line(alloc, &coded(b"ERASE"), line)?)),
+        Some(CommandName::Access) => Ok(Command::Access),
+        Some(CommandName::Release) => Ok(Command::Release),
+        Some(CommandName::Format) => Ok(Command::Format),
+        Some(CommandName::Query) => Ok(Command::Query),
+        Some(
+            CommandName::Listfile
+            | CommandName::Copyfile
+            | CommandName::Rename
+            | CommandName::State
+            | CommandName::Execio
+            | CommandName::Exec,
+        ) => Ok(Command::NotBuilt),
+        None => Ok(Command::Unknown),
+    }
 }

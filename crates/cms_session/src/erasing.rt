@@ -1,46 +1,32 @@
 // ERASE: a file of disk A goes.
-ghost use Rattle.std.specs.Prelude.{◌≡◌, IfOk, true};
+ghost use Rattle.std.specs.Prelude.{◌≡◌, true, is_some};
+ghost use Rattle.cms_disk.specs.Disks.{place_of};
 ghost use Rattle.cms_fields.specs.Moments.{is_moment};
-ghost use Rattle.cms_line.specs.declared.message.Message.TheVariants.{M037, M107};
-ghost use Rattle.cms_session.specs.Commands.{letter_a};
-ghost use Rattle.cms_text.specs.Numbers.{decimal_of};
 ghost use Rattle.cms_search.specs.Calls.{spot, Acts, IsUsable, course_of};
+ghost use Rattle.cms_search.specs.Searches.{has, item_at};
 ghost use Rattle.cms_session.specs.Calls.{erase_tree};
 
-use crate::command::letter_a;
-use crate::reading::{NOT_ACCESSED, NOT_FOUND, has_failed, is_seen, no_disk, no_file};
-use cms_disk::DiskFault;
-use cms_fields::Stamp;
-use cms_line::{Message, Word};
+use crate::reading::{DISK_A, refuse_no_file};
+use cms_edf::Change;
 use cms_names::Name;
-use cms_search::{Course, End, State, refuse};
-use cms_text::decimal;
+use cms_search::{
+    Course, End, State, Table, change_disk, refuse_not_accessed, refuse_read_only, tell_change,
+};
 use cms_world::World;
-use std::alloc::{AllocError, Global};
+use std::alloc::Global;
 
-// The return codes of a disk that may not be written, and of one that is full.
-const READ_ONLY: i32 = 36;
-
-const FULL: i32 = 100;
-
-fn no_writing(alloc: Global) -> Result<Message, AllocError>
-    ensures { IfOk result (λ message. message ≡ M037 letter_a) }
+// Whether disk A has a file of this name.
+fn has_file(table: &Table, name: &Name) -> bool
+    ensures { result ≡ has (λ s. is_some (place_of name.now s.disk.volume)) (item_at table.now.seats 0) }
 {
-    Ok(Message::M037(Word::of(alloc, &letter_a())?))
+    match table.disk(DISK_A) {
+        Some(disk) => disk.has(name),
+        None => false,
+    }
 }
 
-fn no_room(alloc: Global, need: u32, free: u32) -> Result<Message, AllocError>
-    ensures { IfOk result (λ message. message ≡ M107 letter_a (decimal_of need) (decimal_of free)) }
-{
-    Ok(Message::M107(
-        Word::of(alloc, &letter_a())?,
-        decimal(alloc, need)?,
-        decimal(alloc, free)?,
-    ))
-}
-
-/// Erases a file of disk A, whose directory has the stamp of the turn's moment then. Where the device fails no disk is accessed as A
-/// any more.
+/// Erases a file of disk A, whose directory has the stamp of the turn's moment then. Where the device fails that is typed, and its unit
+/// may be in doubt.
 pub fn erase_file<W: World>(
     alloc: Global,
     world: &mut W,
@@ -51,37 +37,17 @@ pub fn erase_file<W: World>(
     requires moment { is_moment state.old.moment ≡ true }
     ensures acts { Acts (spot W.World world.old state.old) (spot W.World world.new state.new)
         (erase_tree state.old name.now) result (course_of state.new) }
-    ensures kept { state.new ≡ record state.old { disk_a = state.new.disk_a } }
+    ensures kept { state.new ≡ record state.old { table = state.new.table; places = state.new.places } }
 {
-    let Some(mut disk) = state.disk_a.take() else {
-        return refuse(alloc, world, no_disk(alloc)?, NOT_ACCESSED);
+    let Some(seat) = state.table.seat(DISK_A) else {
+        return refuse_not_accessed(alloc, world, DISK_A);
     };
-    if disk.read_only {
-        state.disk_a = Some(disk);
-        return refuse(alloc, world, no_writing(alloc)?, READ_ONLY);
+    if seat.read_only {
+        return refuse_read_only(alloc, world, DISK_A);
     }
-    if !is_seen(&disk, name) {
-        state.disk_a = Some(disk);
-        return refuse(alloc, world, no_file(alloc, name)?, NOT_FOUND);
+    if !has_file(&state.table, name) {
+        return refuse_no_file(alloc, world, name);
     }
-    match disk
-        .minidisk
-        .erase(alloc, world, name, &Stamp::of(&state.moment))
-    {
-        Ok(()) => {
-            state.disk_a = Some(disk);
-            Ok(Course::Went(0))
-        }
-        Err(DiskFault::Full { need, free }) => {
-            state.disk_a = Some(disk);
-            refuse(alloc, world, no_room(alloc, need, free)?, FULL)
-        }
-        Err(fault) => {
-            if has_failed(fault) {
-                return Ok(Course::DeviceFault);
-            }
-            // a file that is there goes without passing a limit, so this is want of memory
-            Err(End::Memory)
-        }
-    }
+    let changed = change_disk(alloc, world, state, DISK_A, &Change::Drop { name })?;
+    tell_change(alloc, world, state, DISK_A, changed)
 }

@@ -1,7 +1,7 @@
 //! The top call of `cms`: a session of CMS commands on the units of a world.
 #![tactic(auto)]
 
-mod asked;
+mod attaching;
 mod command;
 mod erasing;
 mod laws;

@@ -1,86 +1,38 @@
 // TYPE: the records of a file, typed.
-ghost use Rattle.std.specs.Prelude.{◌≡◌, ◌<◌, ◌&&◌, ◌==◌, IfOk, IfErr, IfSome};
-ghost use Rattle.cms_line.specs.declared.message.Message.TheVariants.{M002, M069, M106};
+ghost use Rattle.std.specs.Prelude.{◌≡◌, pos, IfOk};
+ghost use Rattle.cms_machine.specs.Acts.{saying, typed_line};
+ghost use Rattle.cms_line.specs.Messages.{message_text};
+ghost use Rattle.cms_line.specs.declared.message.Message.TheVariants.{M002, M106};
+ghost use Rattle.cms_search.specs.Calls.{spot, Acts, Does, IsUsable, course_of, said};
+ghost use Rattle.cms_search.specs.Telling.{device_text};
+ghost use Rattle.cms_search.specs.declared.state.Course.TheVariants.{Went};
+ghost use Rattle.cms_world.specs.Seen.{seen};
+ghost use Rattle.cms_session.specs.Calls.{found_tree, type_tree};
 ghost use Rattle.cms_session.specs.Commands.{letter_a};
-ghost use Rattle.cms_search.specs.Calls.{spot, Acts, IsUsable, course_of};
-ghost use Rattle.cms_search.specs.declared.state.End.TheVariants.{Memory};
-ghost use Rattle.cms_session.specs.Calls.{IsOnDisk, OpensSeen, Sees, device_word, has_failed, hex_code, type_tree};
+ghost use Rattle.cms_session.specs.Machine.{not_found};
 
 use crate::command::letter_a;
-use cms_disk::{Cursor, DiskFault};
+use cms_disk::DiskFault;
 use cms_line::{Message, Word};
 use cms_names::Name;
-use cms_search::{Course, Disk, End, State, refuse, say};
+use cms_operands::ReadMode;
+use cms_search::{
+    Course, End, SearchFault, State, device_word, refuse, refuse_device, refuse_not_accessed, say,
+};
 use cms_world::World;
 use std::alloc::{AllocError, Global};
 
-/// The return code where no disk is accessed as A.
-pub const NOT_ACCESSED: i32 = 36;
+/// The letter A.
+pub const DISK_A: u8 = 0;
 
-/// The return code of a file that isn't there.
-pub const NOT_FOUND: i32 = 28;
+// The return code of a file that isn't there.
+const NOT_FOUND: i32 = 28;
 
 // The return code of a file whose bytes aren't its records any more.
 const ALTERED: i32 = 104;
 
-// A file of mode number 0 isn't seen on a read-only disk.
-fn is_hidden(read_only: bool, number: u8) -> bool
-    ensures { result ≡ (read_only && (number == 0)) }
-{
-    read_only && number == 0
-}
-
-/// A device failed.
-pub fn has_failed(fault: DiskFault) -> bool
-    ensures { result ≡ has_failed fault }
-{
-    match fault {
-        DiskFault::Device | DiskFault::InDoubt => true,
-        DiskFault::NotFound
-        | DiskFault::Exists
-        | DiskFault::ReadOnly
-        | DiskFault::Altered
-        | DiskFault::Limit(_)
-        | DiskFault::Full { .. }
-        | DiskFault::Memory => false,
-    }
-}
-
-/// A file of this name is seen on the disk.
-pub fn is_seen(disk: &Disk, name: &Name) -> bool
-    ensures { Sees disk.now name.now result }
-{
-    match disk.minidisk.find(name) {
-        Some(place) => !is_hidden(disk.read_only, disk.minidisk.info(place).number),
-        None => false,
-    }
-}
-
-// Before the first record of the file of a name, where it is seen.
-fn open_seen(alloc: Global, disk: &Disk, name: &Name) -> Result<Option<Cursor>, End>
-    ensures opens { IfOk result (OpensSeen disk.now name.now) }
-    ensures unit { IfOk result (λ cursor. IfSome cursor (IsOnDisk disk.now)) }
-    ensures memory { IfErr result (λ e. e ≡ Memory) }
-{
-    if !is_seen(disk, name) {
-        return Ok(None);
-    }
-    match disk.minidisk.cursor(alloc, name) {
-        Ok(cursor) => Ok(Some(cursor)),
-        Err(DiskFault::NotFound) => Ok(None),
-        Err(_) => Err(End::Memory),
-    }
-}
-
-/// No disk is accessed as A.
-pub fn no_disk(alloc: Global) -> Result<Message, AllocError>
-    ensures { IfOk result (λ message. message ≡ M069 letter_a) }
-{
-    Ok(Message::M069(Word::of(alloc, &letter_a())?))
-}
-
-/// Disk A has no file of this name.
-pub fn no_file(alloc: Global, name: &Name) -> Result<Message, AllocError>
+// No file has this name.
+fn no_file(alloc: Global, name: &Name) -> Result<Message, AllocError>
     ensures { IfOk result (λ message. message ≡ M002 name.now.file name.now.kind letter_a) }
 {
     Ok(Message::M002(
@@ -90,31 +42,63 @@ pub fn no_file(alloc: Global, name: &Name) -> Result<Message, AllocError>
     ))
 }
 
-// A hexadecimal digit, in EBCDIC.
-fn hex_code(digit: u8) -> u8
-    requires { digit < 16 }
-    ensures { result ≡ hex_code digit }
+/// Types that disk A has no file of this name, and gives the code.
+pub fn refuse_no_file<W: World>(alloc: Global, world: &mut W, name: &Name) -> Result<Course, End>
+    ensures does { Does (seen W.World world.old) (seen W.World world.new)
+        (saying (typed_line (message_text (M002 name.now.file name.now.kind letter_a)))) result said }
+    ensures went { IfOk result (λ course. course ≡ Went (pos not_found)) }
 {
-    if digit < 10 {
-        0xF0 + digit
-    } else {
-        0xB7 + digit
+    let message = no_file(alloc, name)?;
+    refuse(alloc, world, message, NOT_FOUND)
+}
+
+// Types that the bytes of a file on this device aren't its records any more, and gives the code.
+fn refuse_altered<W: World>(alloc: Global, world: &mut W, vdev: u16) -> Result<Course, End>
+    ensures does { Does (seen W.World world.old) (seen W.World world.new)
+        (saying (typed_line (message_text (M106 (device_text vdev))))) result said }
+    ensures went { IfOk result (λ course. course ≡ Went (pos 104)) }
+{
+    let device = device_word(alloc, vdev)?;
+    refuse(alloc, world, Message::M106(device), ALTERED)
+}
+
+// Types the records of a file on the disk of a letter, each as a line, as they are read.
+fn type_found<W: World>(
+    alloc: Global,
+    world: &mut W,
+    state: &State,
+    name: &Name,
+    letter: u8,
+) -> Result<Course, End>
+    requires usable { IsUsable (spot W.World world.old state.now) }
+    ensures { Acts (spot W.World world.old state.now) (spot W.World world.new state.now)
+        (found_tree state.now name.now letter) result (course_of state.now) }
+{
+    let Some(seat) = state.table.seat(letter) else {
+        return refuse_no_file(alloc, world, name);
+    };
+    let Some(disk) = state.table.disk(letter) else {
+        return refuse_no_file(alloc, world, name);
+    };
+    let mut cursor = match disk.cursor(alloc, name) {
+        Ok(cursor) => cursor,
+        Err(DiskFault::NotFound) => return refuse_no_file(alloc, world, name),
+        Err(_) => return Err(End::Memory),
+    };
+    loop {
+        match cursor.next(world) {
+            Ok(true) => say(world, cursor.text())?,
+            Ok(false) => return Ok(Course::Went(0)),
+            Err(fault) => match fault {
+                // never in a world that tells its journal
+                DiskFault::Altered => return refuse_altered(alloc, world, seat.vdev),
+                _ => return refuse_device(alloc, world, seat.vdev),
+            },
+        }
     }
 }
 
-// The bytes of a file on this device aren't its records any more.
-fn altered(alloc: Global, vdev: u16) -> Result<Message, AllocError>
-    ensures { IfOk result (λ message. message ≡ M106 (device_word vdev)) }
-{
-    let digits = [
-        hex_code((vdev / 256 % 16) as u8),
-        hex_code((vdev / 16 % 16) as u8),
-        hex_code((vdev % 16) as u8),
-    ];
-    Ok(Message::M106(Word::of(alloc, &digits)?))
-}
-
-/// Types the records of a file of disk A, each as a line, as they are read.
+/// Types the records of the first file of a name on disk A and its extensions.
 pub fn type_file<W: World>(
     alloc: Global,
     world: &mut W,
@@ -125,23 +109,11 @@ pub fn type_file<W: World>(
     ensures { Acts (spot W.World world.old state.now) (spot W.World world.new state.now)
         (type_tree state.now name.now) result (course_of state.now) }
 {
-    let Some(disk) = &state.disk_a else {
-        return refuse(alloc, world, no_disk(alloc)?, NOT_ACCESSED);
-    };
-    let Some(mut cursor) = open_seen(alloc, disk, name)? else {
-        return refuse(alloc, world, no_file(alloc, name)?, NOT_FOUND);
-    };
-    loop {
-        match cursor.next(world) {
-            Ok(true) => say(world, cursor.text())?,
-            Ok(false) => return Ok(Course::Went(0)),
-            Err(fault) => {
-                if has_failed(fault) {
-                    return Ok(Course::DeviceFault);
-                }
-                // never in a world that tells its journal
-                return refuse(alloc, world, altered(alloc, state.device.vdev)?, ALTERED);
-            }
-        }
+    match state.table.find_read(name, &ReadMode::Letter(DISK_A)) {
+        Ok(found) => type_found(alloc, world, state, name, found.letter),
+        Err(fault) => match fault {
+            SearchFault::NotAccessed(_) => refuse_not_accessed(alloc, world, DISK_A),
+            _ => refuse_no_file(alloc, world, name),
+        },
     }
 }

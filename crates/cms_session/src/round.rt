@@ -1,38 +1,76 @@
 // A round of the session: a line is taken, and done.
-ghost use Rattle.std.specs.Prelude.{◌≡◌, ◌<◌, suc, true, Option, IfOk, OnOk, option_map};
-ghost use Rattle.cms_names.specs.Names.{is_part};
+ghost use Rattle.std.specs.Prelude.{◌≡◌, ◌<◌, ◌≤◌, suc, pos, negsuc, true, IfOk, OnOk, option_map};
 ghost use Rattle.cms_fields.specs.Moments.{is_moment};
-ghost use Rattle.cms_machine.specs.Acts.{turning};
-ghost use Rattle.cms_line.specs.Consoles.{item_of};
-ghost use Rattle.cms_text.specs.Texts.{coded};
-ghost use Rattle.cms_search.specs.Calls.{spot, Does, Acts, IsUsable, beside, itself, said};
-ghost use Rattle.cms_world.specs.Seen.{seen};
-ghost use Rattle.cms_session.specs.Commands.{command_of};
-ghost use Rattle.cms_session.specs.Calls.{IsTest, machine_now, round_of, ready_text, round_after, taking_tree, asking_tree, turning_tree, command_tree, round_tree};
 ghost use Rattle.cms_fields.specs.Offsets.{IsOffset};
-ghost use Rattle.cms_session.specs.declared.command.Command.TheVariants.{EraseFile, TypeFile};
+ghost use Rattle.cms_line.specs.Consoles.{item_of};
+ghost use Rattle.cms_machine.specs.Acts.{saying, typed_line};
+ghost use Rattle.cms_line.specs.Messages.{message_text};
+ghost use Rattle.cms_line.specs.declared.message.Message.TheVariants.{M001};
+ghost use Rattle.cms_search.specs.Calls.{spot, Acts, Does, IsUsable, beside, said};
+ghost use Rattle.cms_search.specs.Machine.{Machine};
+ghost use Rattle.cms_search.specs.Shows.{Shows};
+ghost use Rattle.cms_search.specs.declared.state.Course.TheVariants.{Went};
+ghost use Rattle.cms_world.specs.Seen.{seen};
+ghost use Rattle.cms_session.specs.Calls.{machine_now, round_of, item_in, taking_tree, turning_tree, ready_tree, command_tree, line_tree, item_tree, refused_tree, round_tree};
+ghost use Rattle.cms_session.specs.Machine.{is_procedure};
 ghost use Rattle.cms_session.specs.declared.state.Round.TheVariants.{Ready};
 
-use crate::command::{Command, command_of_line};
+use crate::command::{Command, command_of, is_comment};
 use crate::erasing::erase_file;
-use crate::reading::{is_seen, type_file};
+use crate::reading::type_file;
 use crate::state::{Finish, Round};
+use cms_access::{run_access, run_format, run_query, run_release};
 use cms_fields::Moment;
-use cms_line::{ConsoleLine, LineFault};
+use cms_line::{ConsoleLine, Line, LineFault, Message, Tokens, Word, tokens};
 use cms_names::{Name, Part};
-use cms_operands::coded;
-use cms_search::{Course, Disk, End, State, clock, say_ready};
+use cms_operands::{ReadMode, coded};
+use cms_search::{Course, End, State, Table, clock, refuse, say_ready};
 use cms_world::World;
-use std::alloc::{AllocError, Global};
+use std::alloc::Global;
 
-// The next line of the console.
-fn take<W: World>(world: &mut W, state: &mut State) -> Result<ConsoleLine, End>
-    ensures acts { Acts (spot W.World world.old state.old) (spot W.World world.new state.new)
-        (taking_tree state.old) result (beside state.new item_of) }
-    ensures kept { state.new ≡ record state.old { console = state.new.console } }
+// The return code of a line that is refused.
+const BAD_LINE: i32 = 20;
+
+// The return code of a line that no command has.
+const UNKNOWN: i32 = -3;
+
+// What CMS takes.
+#[derive(Debug, Drop)]
+enum Taken {
+    /// a line of the stack or the console
+    Text(Line),
+    /// a line with a character that isn't printable
+    Bad,
+    /// the beginning of a line of more than 255 bytes
+    Long,
+    /// a further piece of one
+    Rest,
+}
+
+// What a console gives; none at the script's end.
+fn from_console(line: ConsoleLine) -> Option<Taken>
+    ensures { option_map item_in result ≡ item_of line }
 {
+    match line {
+        ConsoleLine::Text(line) => Some(Taken::Text(line)),
+        ConsoleLine::Bad => Some(Taken::Bad),
+        ConsoleLine::Long => Some(Taken::Long),
+        ConsoleLine::Rest => Some(Taken::Rest),
+        ConsoleLine::End => None,
+    }
+}
+
+// The next stacked line, else what the console gives next.
+fn take<W: World>(world: &mut W, state: &mut State) -> Result<Option<Taken>, End>
+    ensures acts { Acts (spot W.World world.old state.old) (spot W.World world.new state.new)
+        (taking_tree state.old) result (beside state.new (option_map item_in)) }
+    ensures kept { state.new ≡ record state.old { console = state.new.console; stack = state.new.stack } }
+{
+    if let Some(line) = state.stack.pop() {
+        return Ok(Some(Taken::Text(line)));
+    }
     match state.console.next(world) {
-        Ok(line) => Ok(line),
+        Ok(line) => Ok(from_console(line)),
         Err(LineFault::World) => Err(End::Edge),
         Err(LineFault::Memory) => Err(End::Memory),
     }
@@ -53,122 +91,159 @@ fn turn<W: World>(world: &mut W, state: &mut State) -> Result<(), End>
     Ok(())
 }
 
-// What a console line asks for; none at the script's end.
-#[tactic(auto, unfolding(crate::specs::Commands::command_of))]
-fn command_of(alloc: Global, line: ConsoleLine) -> Result<Option<Command>, AllocError>
-    ensures { IfOk result (λ command. command ≡ option_map command_of (item_of line)) }
+// Whether a procedure has this name, so that it would be run in the command's place.
+fn is_procedure(table: &Table, word: &[u8]) -> bool
+    ensures { (s : Machine) → Shows table.now s → result ≡ is_procedure s word.now }
 {
-    match line {
-        ConsoleLine::Text(line) => Ok(Some(command_of_line(alloc, line.bytes())?)),
-        ConsoleLine::Bad => Ok(Some(Command::NotBuilt)),
-        ConsoleLine::Long => Ok(Some(Command::NotBuilt)),
-        ConsoleLine::Rest => Ok(Some(Command::NotBuilt)),
-        ConsoleLine::End => Ok(None),
-    }
-}
-
-// Takes the next line, and says what it asks for.
-fn take_command<W: World>(
-    alloc: Global,
-    world: &mut W,
-    state: &mut State,
-) -> Result<Option<Command>, End>
-    ensures acts { Acts (spot W.World world.old state.old) (spot W.World world.new state.new)
-        (asking_tree state.old) result (beside state.new itself) }
-    ensures kept { state.new ≡ record state.old { console = state.new.console } }
-{
-    let line = take(world, state)?;
-    Ok(command_of(alloc, line)?)
-}
-
-// A procedure of the name of a command's word is seen on disk A, so that it would be run in the command's place.
-fn is_procedure(disk_a: &Option<Disk>, word: &[u8]) -> bool
-    requires { is_part word.now ≡ true }
-    ensures { IsTest disk_a.now word.now result }
-{
-    let Some(disk) = disk_a else {
-        return false;
-    };
     let Ok(file) = Part::read(word) else {
         return false;
     };
     let Ok(kind) = Part::read(&coded(b"EXEC")) else {
         return false;
     };
-    is_seen(disk, &Name { file, kind })
+    match table.find_read(&Name { file, kind }, &ReadMode::Any) {
+        Ok(_) => true,
+        Err(_) => false,
+    }
 }
 
-// Ends a command: its ready line, unless a device failed.
-fn ready<W: World>(world: &mut W, course: Course) -> Result<Round, End>
-    ensures does { Does (seen W.World world.old) (seen W.World world.new) (ready_text course) result said }
-    ensures after { IfOk result (λ round. round ≡ round_after course) }
+// Ends a command: the ready line forgets the reading places.
+fn ready<W: World>(world: &mut W, state: &mut State, course: Course) -> Result<Round, End>
+    ensures acts { Acts (spot W.World world.old state.old) (spot W.World world.new state.new)
+        (ready_tree state.old course) result (round_of state.new) }
+    ensures kept { state.new ≡ record state.old { places = state.new.places } }
 {
     match course {
         Course::Went(code) => {
             say_ready(world, code)?;
+            state.places.clear();
             Ok(Round::Ready)
         }
-        Course::DeviceFault => Ok(Round::Ended(Finish::DeviceFault)),
         Course::OutOfTurns => Ok(Round::Ended(Finish::AtTurns)),
     }
 }
 
-// Types a file, where no procedure stands in the command's place.
-fn run_type<W: World>(
-    alloc: Global,
-    world: &mut W,
-    state: &State,
-    name: &Name,
-) -> Result<Round, End>
-    requires usable { IsUsable (spot W.World world.old state.now) }
-    ensures { Acts (spot W.World world.old state.now) (spot W.World world.new state.now)
-        (command_tree state.now (TypeFile name.now)) result (round_of state.now) }
+// Types that no command has this word, and gives the code.
+fn refuse_unknown<W: World>(alloc: Global, world: &mut W, word: &Word) -> Result<Course, End>
+    ensures does { Does (seen W.World world.old) (seen W.World world.new)
+        (saying (typed_line (message_text (M001 word.now)))) result said }
+    ensures went { IfOk result (λ course. course ≡ Went (negsuc 2)) }
 {
-    if is_procedure(&state.disk_a, &coded(b"TYPE")) {
-        return Ok(Round::Ended(Finish::NotBuilt));
-    }
-    let course = type_file(alloc, world, state, name)?;
-    ready(world, course)
+    let word = Word::of(alloc, word.bytes())?;
+    refuse(alloc, world, Message::M001(word), UNKNOWN)
 }
 
-// Erases a file, where no procedure stands in the command's place.
-fn run_erase<W: World>(
-    alloc: Global,
-    world: &mut W,
-    state: &mut State,
-    name: &Name,
-) -> Result<Round, End>
-    requires usable { IsUsable (spot W.World world.old state.old) }
-    requires moment { is_moment state.old.moment ≡ true }
-    ensures acts { Acts (spot W.World world.old state.old) (spot W.World world.new state.new)
-        (command_tree state.old (EraseFile name.now)) result (round_of state.new) }
-    ensures kept { state.new ≡ record state.old { disk_a = state.new.disk_a } }
-{
-    if is_procedure(&state.disk_a, &coded(b"ERASE")) {
-        return Ok(Round::Ended(Finish::NotBuilt));
-    }
-    let course = erase_file(alloc, world, state, name)?;
-    ready(world, course)
-}
-
-// Does what a line asks for.
+// Does what a line with these words asks for, the first of which is this.
 fn run_command<W: World>(
     alloc: Global,
     world: &mut W,
     state: &mut State,
+    words: &Tokens,
+    word: &Word,
     command: Command,
 ) -> Result<Round, End>
     requires usable { IsUsable (spot W.World world.old state.old) }
     requires moment { is_moment state.old.moment ≡ true }
     ensures acts { Acts (spot W.World world.old state.old) (spot W.World world.new state.new)
-        (command_tree state.old command) result (round_of state.new) }
-    ensures kept { state.new ≡ record state.old { disk_a = state.new.disk_a } }
+        (command_tree state.old words.now word.now command) result (round_of state.new) }
+    ensures offset { state.new.offset ≡ state.old.offset }
+    ensures left { state.new.left ≤ state.old.left }
 {
     match command {
-        Command::Nothing => Ok(Round::Ready),
-        Command::TypeFile(name) => run_type(alloc, world, state, &name),
-        Command::EraseFile(name) => run_erase(alloc, world, state, &name),
+        Command::Access => {
+            let course = run_access(alloc, world, state, words)?;
+            ready(world, state, course)
+        }
+        Command::Release => {
+            let course = run_release(alloc, world, state, words)?;
+            ready(world, state, course)
+        }
+        Command::Format => {
+            let course = run_format(alloc, world, state, words)?;
+            ready(world, state, course)
+        }
+        Command::Query => {
+            let course = run_query(alloc, world, state, words)?;
+            ready(world, state, course)
+        }
+        Command::TypeFile(name) => {
+            let course = type_file(alloc, world, state, &name)?;
+            ready(world, state, course)
+        }
+        Command::EraseFile(name) => {
+            let course = erase_file(alloc, world, state, &name)?;
+            ready(world, state, course)
+        }
         Command::NotBuilt => Ok(Round::Ended(Finish::NotBuilt)),
+        Command::Unknown => {
+            let course = refuse_unknown(alloc, world, word)?;
+            ready(world, state, course)
+        }
+    }
+}
+
+// Runs a line.
+fn run_line<W: World>(
+    alloc: Global,
+    world: &mut W,
+    state: &mut State,
+    line: &Line,
+) -> Result<Round, End>
+    requires usable { IsUsable (spot W.World world.old state.old) }
+    requires moment { is_moment state.old.moment ≡ true }
+    ensures acts { Acts (spot W.World world.old state.old) (spot W.World world.new state.new)
+        (line_tree state.old line.now) result (round_of state.new) }
+    ensures offset { state.new.offset ≡ state.old.offset }
+    ensures left { state.new.left ≤ state.old.left }
+{
+    if is_comment(line.bytes()) {
+        return Ok(Round::Ready);
+    }
+    let words = tokens(alloc, line)?;
+    let Some(first) = words.get(0) else {
+        return Ok(Round::Ready);
+    };
+    if is_procedure(&state.table, first.text.bytes()) {
+        return Ok(Round::Ended(Finish::NotBuilt));
+    }
+    let command = command_of(alloc, line.bytes(), first.text.bytes())?;
+    run_command(alloc, world, state, &words, &first.text, command)
+}
+
+// Types why a line is refused.
+fn refuse_taken<W: World>(
+    alloc: Global,
+    world: &mut W,
+    state: &mut State,
+    message: Message,
+) -> Result<Round, End>
+    ensures acts { Acts (spot W.World world.old state.old) (spot W.World world.new state.new)
+        (refused_tree state.old message) result (round_of state.new) }
+    ensures kept { state.new ≡ record state.old { places = state.new.places } }
+{
+    let course = refuse(alloc, world, message, BAD_LINE)?;
+    ready(world, state, course)
+}
+
+// Does what was taken; of a further piece of a long line nothing is typed.
+fn run_taken<W: World>(
+    alloc: Global,
+    world: &mut W,
+    state: &mut State,
+    item: Taken,
+) -> Result<Round, End>
+    requires usable { IsUsable (spot W.World world.old state.old) }
+    requires moment { is_moment state.old.moment ≡ true }
+    ensures acts { Acts (spot W.World world.old state.old) (spot W.World world.new state.new)
+        (item_tree state.old (item_in item)) result (round_of state.new) }
+    ensures offset { state.new.offset ≡ state.old.offset }
+    ensures left { state.new.left ≤ state.old.left }
+{
+    match item {
+        Taken::Text(line) => run_line(alloc, world, state, &line),
+        Taken::Bad => refuse_taken(alloc, world, state, Message::M010),
+        Taken::Long => refuse_taken(alloc, world, state, Message::M011),
+        Taken::Rest => Ok(Round::Ready),
     }
 }
 
@@ -181,12 +256,12 @@ pub fn round<W: World>(alloc: Global, world: &mut W, state: &mut State) -> Resul
     ensures offset { state.new.offset ≡ state.old.offset }
     ensures falls { IfOk result (λ round. round ≡ Ready → state.new.left < state.old.left) }
 {
-    let Some(command) = take_command(alloc, world, state)? else {
+    let Some(item) = take(world, state)? else {
         return Ok(Round::Ended(Finish::AtEnd));
     };
     if state.left == 0 {
         return Ok(Round::Ended(Finish::AtTurns));
     }
     turn(world, state)?;
-    run_command(alloc, world, state, command)
+    run_taken(alloc, world, state, item)
 }

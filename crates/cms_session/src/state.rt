@@ -9,8 +9,6 @@ pub enum Finish {
     AtTurns,
     /// at a line that isn't built yet
     NotBuilt,
-    /// by a fault of a device
-    DeviceFault,
 }
 
 /// How a round of the session ends.

@@ -13,11 +13,11 @@ pub enum Status {
     Usage(WordFault),
     /// There is no memory; what was typed and what was written before stands.
     Memory,
-    /// The world failed: an image could not be attached, the console or the clock failed, or a device did.
+    /// The world failed: an image could not be attached, or the console or the clock failed.
     World,
     /// The turns are spent and a further one is due.
     Turns,
-    /// The words or a line ask for what isn't built yet.
+    /// A line asks for what isn't built yet.
     NotBuilt,
 }
 

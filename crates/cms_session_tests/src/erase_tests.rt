@@ -149,8 +149,8 @@ const KEPT: &[Row] = &[
     ),
 ];
 
-// What a crash after so many events leaves of the unit, by these choices; none where nothing was attached.
-fn crashed(
+/// What a crash after so many events leaves of the unit, by these choices; none where nothing was attached.
+pub fn crashed(
     alloc: Global,
     world: &MemWorld,
     at: usize,
@@ -313,48 +313,85 @@ fn each_erasure_has_the_stamp_of_its_turn(rt: HostRuntime) -> Result<(), Fail> {
     Ok(())
 }
 
-// The erasures that are left where this call failed: the labels are written by calls 10 and 21.
-fn erasures_before(call: usize, lands: bool) -> usize {
-    match call {
-        0..=9 => 0,
-        10 => usize::from(lands),
-        11..=20 => 1,
-        21 => 1 + usize::from(lands),
-        _ => 2,
-    }
-}
-
-// The session ends where this call fails, and what was written by then is there.
-fn fails_at(rt: &impl Abort, alloc: Global, call: u32, lands: bool) -> Result<(), Fail> {
-    let bytes = three(alloc)?;
-    let mut failing = world(alloc, SCRIPT, &bytes)?;
-    failing.fail_at(call, lands)?;
-    assert_eq!(rt;
-        ended(alloc, WORD, &mut failing)?,
-        Status::World,
-        "call {call}"
-    );
-    assert!(rt;
-        TYPED.as_bytes().starts_with(failing.typed()),
-        "call {call}"
-    );
-    assert_eq!(rt; failing.calls().len(), call as usize);
-    let left = crashed(alloc, &failing, failing.events(), u64::MAX)?.unwrap_or(bytes);
-    shows(
-        rt,
-        alloc,
-        &left,
-        (LOOK, &SHOWN),
-        erasures_before(call as usize, lands),
-        call as usize,
-    )
-}
+// The calls of the console, the clock and the attaching, with the erasures that were made before.
+const EDGES: [(u32, usize); 10] = [
+    (1, 0),
+    (5, 0),
+    (6, 0),
+    (12, 1),
+    (13, 1),
+    (15, 1),
+    (16, 1),
+    (17, 1),
+    (23, 2),
+    (24, 2),
+];
 
 #[test]
-fn each_call_fails_in_turn(rt: HostRuntime) -> Result<(), Fail> {
-    for call in 1..25u32 {
-        fails_at(&rt, rt.alloc(), call, false)?;
-        fails_at(&rt, rt.alloc(), call, true)?;
+fn a_session_ends_where_an_edge_fails(rt: HostRuntime) -> Result<(), Fail> {
+    let alloc = rt.alloc();
+    for (call, erasures) in EDGES {
+        let bytes = three(alloc)?;
+        let mut failing = world(alloc, SCRIPT, &bytes)?;
+        failing.fail_at(call, false)?;
+        assert_eq!(rt;
+            ended(alloc, WORD, &mut failing)?,
+            Status::World,
+            "call {call}"
+        );
+        assert!(rt;
+            TYPED.as_bytes().starts_with(failing.typed()),
+            "call {call}"
+        );
+        assert_eq!(rt; failing.calls().len(), call as usize);
+        let left = crashed(alloc, &failing, failing.events(), u64::MAX)?.unwrap_or(bytes);
+        shows(&rt, alloc, &left, (LOOK, &SHOWN), erasures, call as usize)?;
+    }
+    Ok(())
+}
+
+// The calls of the unit, and what is typed where one of them fails: at the opening no disk is accessed; a failing update leaves the file
+// before its label is written (10 and 21), and its unit in doubt from there on; a record isn't read (14).
+const DEVICE: [(&[u32], &str); 6] = [
+    (
+        &[2, 3, 4],
+        "CMS069E Disk A is not accessed\nR(00036);\nCMS069E Disk A is not accessed\nR(00036);\nCMS069E Disk A is not accessed\nR(00036);\n",
+    ),
+    (
+        &[7, 8, 9],
+        "CMS105E Device fault on 191\nR(00100);\nC\nR;\nR;\n",
+    ),
+    (
+        &[10, 11],
+        "CMS105E Device fault on 191\nR(00100);\nCMS069E Disk A is not accessed\nR(00036);\nCMS069E Disk A is not accessed\nR(00036);\n",
+    ),
+    (&[14], "R;\nCMS105E Device fault on 191\nR(00100);\nR;\n"),
+    (
+        &[18, 19, 20],
+        "R;\nC\nR;\nCMS105E Device fault on 191\nR(00100);\n",
+    ),
+    (
+        &[21, 22],
+        "R;\nC\nR;\nCMS105E Device fault on 191\nR(00100);\n",
+    ),
+];
+
+#[test]
+fn a_device_fault_is_typed(rt: HostRuntime) -> Result<(), Fail> {
+    let alloc = rt.alloc();
+    for (calls, typed) in DEVICE {
+        for call in calls {
+            for lands in [false, true] {
+                let mut failing = world(alloc, SCRIPT, &three(alloc)?)?;
+                failing.fail_at(*call, lands)?;
+                assert_eq!(rt;
+                    ended(alloc, WORD, &mut failing)?,
+                    Status::Done,
+                    "call {call}"
+                );
+                assert_eq!(rt; failing.typed(), typed.as_bytes(), "call {call}");
+            }
+        }
     }
     Ok(())
 }

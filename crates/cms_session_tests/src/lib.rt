@@ -2,7 +2,13 @@
 #![tactic(auto)]
 
 #[cfg(test)]
+mod access_tests;
+#[cfg(test)]
+mod disk_tests;
+#[cfg(test)]
 mod erase_tests;
+#[cfg(test)]
+mod format_tests;
 #[cfg(test)]
 mod line_tests;
 #[cfg(test)]
@@ -11,3 +17,5 @@ mod option_tests;
 mod session_tests;
 #[cfg(test)]
 mod status_tests;
+#[cfg(test)]
+mod unit_tests;

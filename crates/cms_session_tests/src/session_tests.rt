@@ -75,7 +75,7 @@ const ROWS: &[Row] = &[
     (
         WORD,
         &[],
-        "TYPE HELLO TEXT A\nQUERY\nTYPE HELLO TEXT A\n",
+        "TYPE HELLO TEXT A\nLISTFILE\nTYPE HELLO TEXT A\n",
         "HELLO\nWORLD\nR;\n",
         Status::NotBuilt,
     ),
@@ -195,24 +195,38 @@ const ROWS: &[Row] = &[
         Status::Usage(WordFault::Seed),
     ),
     (
-        "191,512,ro,disk.img 192,512,ro,b.img",
-        &[],
-        "* a comment\n",
-        "",
-        Status::NotBuilt,
-    ),
-    (
         "191,512,n9,new.img",
         &[],
-        "* a comment\n",
-        "",
-        Status::NotBuilt,
+        "TYPE HELLO TEXT A\n",
+        "CMS069E Disk A is not accessed\nR(00036);\n",
+        Status::Done,
+    ),
+    (
+        WORD,
+        &[],
+        "FROB\nfrob(x\n * X\n(\nTYPES X\n",
+        "CMS001E Unknown command FROB\nR(-0003);\nCMS001E Unknown command FROB\nR(-0003);\n\
+CMS001E Unknown command *\nR(-0003);\nCMS001E Unknown command (\nR(-0003);\n\
+CMS001E Unknown command TYPES\nR(-0003);\n",
+        Status::Done,
+    ),
+    (WORD, &[], "T HELLO TEXT A\n", "", Status::NotBuilt),
+    (WORD, &[], "STATE HELLO TEXT A\n", "", Status::NotBuilt),
+    (WORD, &[], "ex hello\n", "", Status::NotBuilt),
+    (WORD, &[], "COPY HELLO TEXT A = = B\n", "", Status::NotBuilt),
+    (
+        WORD,
+        &[],
+        "TYPE HELLO\u{7} TEXT A\n* \u{7}f\n",
+        "CMS010E Line has an invalid character\nR(00020);\nCMS010E Line has an invalid character\nR(00020);\n",
+        Status::Done,
     ),
     (
         "-g 1 191,512,ro,disk.img",
         &[],
         "TYPE HELLO TEXT A\n",
-        "",
+        "CMS037E Disk A is read-only\nR(00036);\n\
+CMS001E Unknown command YES\nR(-0003);\nCMS001E Unknown command GEN001\nR(-0003);\n",
         Status::NotBuilt,
     ),
     (
@@ -243,24 +257,39 @@ fn scripts_are_typed(rt: HostRuntime) -> Result<(), Fail> {
     Ok(())
 }
 
+const HELLO_CALLS: &[u8] = b"arrrinroooi";
+
+// What is typed where this call fails; none where the session ends there.
+fn typed_without(call: u32) -> Option<&'static [u8]> {
+    match call {
+        2..=4 => Some(b"CMS069E Disk A is not accessed\nR(00036);\n"),
+        7 => Some(b"CMS105E Device fault on 191\nR(00100);\n"),
+        _ => None,
+    }
+}
+
 #[test]
 fn each_call_fails_in_turn(rt: HostRuntime) -> Result<(), Fail> {
     let alloc = rt.alloc();
     let bytes = hello(alloc, &[])?;
     let typed = b"HELLO\nWORLD\nR;\n".as_slice();
-    let mut calls = 1;
     let mut untouched = world(alloc, "TYPE HELLO TEXT A\n", &bytes)?;
     assert_eq!(rt; ended(alloc, WORD, &mut untouched)?, Status::Done);
-    for _ in untouched.calls() {
+    assert_eq!(rt; untouched.calls(), HELLO_CALLS);
+    for call in 1..12u32 {
         let mut failing = world(alloc, "TYPE HELLO TEXT A\n", &bytes)?;
-        failing.fail_at(calls, false)?;
-        assert_eq!(rt;
-            ended(alloc, WORD, &mut failing)?,
-            Status::World,
-            "call {calls}"
-        );
-        assert!(rt; typed.starts_with(failing.typed()), "call {calls}");
-        calls = calls.saturating_add(1);
+        failing.fail_at(call, false)?;
+        let status = ended(alloc, WORD, &mut failing)?;
+        match typed_without(call) {
+            Some(wanted) => {
+                assert_eq!(rt; status, Status::Done, "call {call}");
+                assert_eq!(rt; failing.typed(), wanted, "call {call}");
+            }
+            None => {
+                assert_eq!(rt; status, Status::World, "call {call}");
+                assert!(rt; typed.starts_with(failing.typed()), "call {call}");
+            }
+        }
     }
     Ok(())
 }
@@ -335,12 +364,15 @@ fn a_failing_read_comes_behind_the_records_before_it(rt: HostRuntime) -> Result<
         failing.fail_at(call, false)?;
         assert_eq!(rt;
             ended(alloc, WORD, &mut failing)?,
-            Status::World,
+            Status::Done,
             "call {call}"
         );
-        let typed = long_lines(alloc, records)?;
+        let typed = format!(in alloc;
+            "{}CMS105E Device fault on 191\nR(00100);\n{}R;\n",
+            long_lines(alloc, records)?,
+            long_lines(alloc, 3)?
+        )?;
         assert_eq!(rt; failing.typed(), typed.as_bytes(), "call {call}");
-        assert_eq!(rt; failing.calls().len(), call as usize);
     }
     Ok(())
 }
@@ -435,6 +467,8 @@ fn repeated(alloc: Global, bytes: &str, count: u32) -> Result<String, AllocError
     Ok(text)
 }
 
+const LONG_LINE: &str = "CMS011E Line is longer than 255 bytes\nR(00020);\n";
+
 #[test]
 fn long_scripts_have_room_in_memory(rt: HostRuntime) -> Result<(), Fail> {
     let alloc = rt.alloc();
@@ -454,6 +488,18 @@ fn long_scripts_have_room_in_memory(rt: HostRuntime) -> Result<(), Fail> {
             "-t 1000 191,512,ro,disk.img",
             format!(in alloc; "TYPE HELLO TEXT A\n{lines}")?,
             "HELLO\nWORLD\nR;\n",
+            Status::Turns,
+        ),
+        (
+            "-t 3 191,512,ro,disk.img",
+            format!(in alloc; "{}\n", repeated(alloc, "X", 600)?)?,
+            LONG_LINE,
+            Status::Done,
+        ),
+        (
+            "-t 2 191,512,ro,disk.img",
+            format!(in alloc; "{}\n", repeated(alloc, "X", 600)?)?,
+            LONG_LINE,
             Status::Turns,
         ),
     ];

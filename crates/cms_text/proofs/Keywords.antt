@@ -30,11 +30,13 @@ no_first letter code more is = rw is refl
 
 pub same_letter : (letter code : ℕ) (more : List ℕ) (word : Text) → code_of letter ≡ Some code → 1 ≤ length word → (upper_of (get_or word 0 0) == code) ≡ true
     → is_keyword (letter ∷ more) word ≡ is_keyword more (take (length word - 1) (drop 1 word))
-same_letter letter code more word is some same = ap (is_keyword (letter ∷ more)) (sym (behind_first word some)) ∙ same_first letter code (get_or word 0 0) more (take (length word - 1) (drop 1 word)) is same
+same_letter letter code more word is some same = ap (is_keyword (letter ∷ more)) (sym (behind_first word some))
+    ∙ same_first letter code (get_or word 0 0) more (take (length word - 1) (drop 1 word)) is same
 
 pub other_letter : (letter code : ℕ) (more : List ℕ) (word : Text) → code_of letter ≡ Some code → 1 ≤ length word → (upper_of (get_or word 0 0) == code) ≡ false
     → is_keyword (letter ∷ more) word ≡ false
-other_letter letter code more word is some other = ap (is_keyword (letter ∷ more)) (sym (behind_first word some)) ∙ other_first letter code (get_or word 0 0) more (take (length word - 1) (drop 1 word)) is other
+other_letter letter code more word is some other = ap (is_keyword (letter ∷ more)) (sym (behind_first word some))
+    ∙ other_first letter code (get_or word 0 0) more (take (length word - 1) (drop 1 word)) is other
 
 pub past_end : (letter code : ℕ) (more : List ℕ) (word : Text) → code_of letter ≡ Some code → length word < 1 → is_keyword (letter ∷ more) word ≡ false
 past_end letter code more [] is none = no_first letter code more is

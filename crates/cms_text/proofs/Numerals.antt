@@ -87,7 +87,8 @@ without_sign (first ∷ digits) some minus plus = rw (same_false first 0x60 minu
 
 length-filter_map : (h : ℕ → Option ℕ) (bytes : Text) → length (filter_map h bytes) ≤ length bytes
 length-filter_map h [] = omega arith
-length-filter_map h (byte ∷ more) = elim (h byte) as (λ o. length (cons_option o (filter_map h more)) ≤ suc (length more)) [ None ↦ omega (arith, length-filter_map h more) | Some x ↦ omega (arith, length-filter_map h more) ]
+length-filter_map h (byte ∷ more) = elim (h byte) as (λ o. length (cons_option o (filter_map h more)) ≤ suc (length more))
+    [ None ↦ omega (arith, length-filter_map h more) | Some x ↦ omega (arith, length-filter_map h more) ]
 
 pub written_short : (z : ℤ) → FitsSigned w64 z → length (written z) ≤ 255
 unfolding written ebcdic

@@ -56,7 +56,8 @@ fits_cell psize c kind word = record { word = word; wide = (let e = length-cell 
 all_fit : (psize : ℕ) (group : List Child) → (psize ≡ 4) ⊎ (psize ≡ 12) → Words (blocks_of group) → All (FitsCell psize) (map (cell_of psize) group)
 all_fit psize [] kind words = All-nil (FitsCell psize)
 all_fit psize (c ∷ cs) kind words =
-    All-cons (FitsCell psize) (cell_of psize c) (map (cell_of psize) cs) (fits_cell psize c kind (All-head (λ n. n < 2 ^ 32) c.block (blocks_of cs) words)) (all_fit psize cs kind (All-tail (λ n. n < 2 ^ 32) c.block (blocks_of cs) words))
+    All-cons (FitsCell psize) (cell_of psize c) (map (cell_of psize) cs) (fits_cell psize c kind (All-head (λ n. n < 2 ^ 32) c.block (blocks_of cs) words))
+    (all_fit psize cs kind (All-tail (λ n. n < 2 ^ 32) c.block (blocks_of cs) words))
 
 -- the pointers in the bytes of a block over these children
 node_points : (bsize psize fan : ℕ) (group : List Child) → (psize ≡ 4) ⊎ (psize ≡ 12) → length group ≤ fan → Words (blocks_of group)
@@ -98,7 +99,8 @@ full_or_last fan below some = ⊎_elim
     (λ (le : fan ≤ length below). inl (let e = length-blocks (take fan below) in let f = length-take fan below in omega arith))
     (cases_lt (length below) fan)
 
-points_level : (form : Form) (image : Image) (bsize : ℕ) → (form.stride ≡ 4) ⊎ (form.stride ≡ 12) → 1 ≤ form.fan → (m : ℕ) (below : List Child) (numbers : List ℕ) → m ≡ up (length below) form.fan → m ≤ length numbers → Words (blocks_of below)
+points_level : (form : Form) (image : Image) (bsize : ℕ) → (form.stride ≡ 4) ⊎ (form.stride ≡ 12) → 1 ≤ form.fan → (m : ℕ) (below : List Child) (numbers : List ℕ) → m ≡ up (length below) form.fan
+    → m ≤ length numbers → Words (blocks_of below)
     → ((k : ℕ) → k < m → image (get_or numbers k 0) ≡ node_bytes bsize form.stride (get_or (cut m form.fan below) k [])) → Points form image (take m numbers) (blocks_of below)
 unfolding cut
 points_level form image bsize kind some zero below numbers is enough words has = nothing_over form.fan below some is
@@ -107,7 +109,8 @@ points_level form image bsize kind some (suc m) below (x ∷ xs) is enough words
     let fan = form.fan in
     let own = take fan below in
     let behind = drop fan below in
-    let any : 1 ≤ length below = ⊎_elim (λ (none : length below < 1). let zero' : length below ≡ 0 = omega arith in let z : up (length below) fan ≡ 0 = ap (λ (c : ℕ). up c fan) zero' ∙ up_zero fan some in absurd (omega arith)) (λ (le : 1 ≤ length below). le) (cases_lt (length below) 1) in
+    let any : 1 ≤ length below = ⊎_elim (λ (none : length below < 1). let zero' : length below ≡ 0 = omega arith in let z : up (length below) fan ≡ 0 =
+    ap (λ (c : ℕ). up c fan) zero' ∙ up_zero fan some in absurd (omega arith)) (λ (le : 1 ≤ length below). le) (cases_lt (length below) 1) in
     let less = up_less (length below) fan some any in
     let long = length-drop fan below in
     let few = length-take fan below in
@@ -117,8 +120,10 @@ points_level form image bsize kind some (suc m) below (x ∷ xs) is enough words
     let here : image x ≡ node_bytes bsize form.stride own = has 0 (omega arith) in
     let unused = pointers (fan - length own) form.stride (replicate (bsize - length own * form.stride) 0) in
     let bytes : pointers fan form.stride (image x) ≡ blocks_of own ++ unused = ap (pointers fan form.stride) here ∙ node_points bsize form.stride fan own kind (omega arith) own_words in
-    let split : blocks_of below ≡ blocks_of own ++ blocks_of behind = sym (take-append-drop fan (blocks_of below)) ∙ ap (λ (l : List ℕ). l ++ drop fan (blocks_of below)) (take-blocks fan below) ∙ ap (λ (l : List ℕ). blocks_of own ++ l) (drop-blocks fan below) in
-    let node : Node form image x (blocks_of below) (blocks_of behind) = record { own = blocks_of own; unused = unused; split = split; bytes = bytes; some = (let e = length-blocks own in omega arith); full = full_or_last fan below some } in
+    let split : blocks_of below ≡ blocks_of own ++ blocks_of behind =
+    sym (take-append-drop fan (blocks_of below)) ∙ ap (λ (l : List ℕ). l ++ drop fan (blocks_of below)) (take-blocks fan below) ∙ ap (λ (l : List ℕ). blocks_of own ++ l) (drop-blocks fan below) in
+    let node : Node form image x (blocks_of below) (blocks_of behind) =
+    record { own = blocks_of own; unused = unused; split = split; bytes = bytes; some = (let e = length-blocks own in omega arith); full = full_or_last fan below some } in
     (blocks_of behind, node, points_level form image bsize kind some m behind xs m_is (omega arith) behind_words (λ k lower. has (suc k) (omega arith)))
 
 -- ---- the whole
@@ -167,15 +172,19 @@ fits_above fan k m some f =
     let room' = f.room in
     record {
       some = up_some m fan some f.some;
-      room = ⊎_elim (λ (more : fan ^ k < up m fan). let over : suc (fan ^ k) * fan ≤ up m fan * fan = mul-le-mul_right fan more in absurd (omega arith)) (λ (le : up m fan ≤ fan ^ k). le) (cases_lt (fan ^ k) (up m fan));
+      room = ⊎_elim (λ (more : fan ^ k < up m fan). let over : suc (fan ^ k) * fan ≤ up m fan * fan = mul-le-mul_right fan more in absurd (omega arith)) (λ (le : up m fan ≤ fan ^ k). le)
+          (cases_lt (fan ^ k) (up m fan));
       fewer = λ j less.
           let below = f.fewer (suc j) (omega arith) in
           let power : fan ^ suc j ≡ fan ^ j * fan = pow-suc fan j in
-          ⊎_elim (λ (lower : fan ^ j < up m fan). lower) (λ (ge : up m fan ≤ fan ^ j). let under : up m fan * fan ≤ fan ^ j * fan = mul-le-mul_right fan ge in absurd (omega arith)) (cases_lt (fan ^ j) (up m fan));
+          ⊎_elim (λ (lower : fan ^ j < up m fan). lower) (λ (ge : up m fan ≤ fan ^ j). let under : up m fan * fan ≤ fan ^ j * fan = mul-le-mul_right fan ge in absurd (omega arith))
+          (cases_lt (fan ^ j) (up m fan));
     }
 
-built : (form : Form) (image : Image) (bsize : ℕ) → (form.stride ≡ 4) ⊎ (form.stride ≡ 12) → 1 ≤ form.fan → form.last < 2 ^ 32 → (k : ℕ) (below : List Child) (numbers : List ℕ) → Fits form.fan k (length below) → length numbers ≡ over_count form.fan k (length below) → Words (blocks_of below) → AllAllowed form.last None numbers
-    → ((nth : ℕ) → nth < length numbers → image (get_or numbers nth 0) ≡ node_bytes bsize form.stride (get_or (all_over form.fan k below numbers) nth [])) → Built form image k (blocks_of below) (root_of (blocks_of below) numbers) numbers
+built : (form : Form) (image : Image) (bsize : ℕ) → (form.stride ≡ 4) ⊎ (form.stride ≡ 12) → 1 ≤ form.fan → form.last < 2 ^ 32 → (k : ℕ) (below : List Child) (numbers : List ℕ)
+    → Fits form.fan k (length below) → length numbers ≡ over_count form.fan k (length below) → Words (blocks_of below) → AllAllowed form.last None numbers
+    → ((nth : ℕ) → nth < length numbers → image (get_or numbers nth 0) ≡ node_bytes bsize form.stride (get_or (all_over form.fan k below numbers) nth []))
+    → Built form image k (blocks_of below) (root_of (blocks_of below) numbers) numbers
 unfolding all_over
 built form image bsize kind some small zero below [] fits count words allowed has = (one_block below (let a = fits.some in let b = fits.room in let one = pow-zero form.fan in omega arith), refl)
 built form image bsize kind some small zero below (x ∷ xs) fits count words allowed has = absurd (omega arith)
@@ -193,7 +202,8 @@ built form image bsize kind some small (suc k) below numbers fits count words al
     let two = fits.fewer k (omega arith) in
     let rest = length-drop m numbers in
     let more : Built form image k (blocks_of parents') (root_of (blocks_of parents') (drop m numbers)) (drop m numbers) =
-    built form image bsize kind some small k parents' (drop m numbers) (subst (Fits fan k) (sym wide) above) (rest ∙ (let e : over_count fan k (length parents') ≡ over_count fan k m = ap (over_count fan k) wide in omega arith))
+    built form image bsize kind some small k parents' (drop m numbers) (subst (Fits fan k) (sym wide) above)
+    (rest ∙ (let e : over_count fan k (length parents') ≡ over_count fan k m = ap (over_count fan k) wide in omega arith))
     (subst Words (sym named) (All-take (λ n. n < 2 ^ 32) m numbers (allowed_words form.last numbers small allowed))) (allowed_drop form.last m numbers allowed)
     (λ nth less.
     let there : get_or numbers (m + nth) 0 ≡ get_or (drop m numbers) nth 0 = sym (get_or-drop m numbers nth 0) in

@@ -89,7 +89,8 @@ group_within fan count k some less = let wide = (up_spec count fan some).0 in di
 
 -- it has the pointer to block k too
 pub record Pushed (bsize psize : ℕ) (marks : List Mark) (count : ℕ) (t : Tier) (k : ℕ) (level : Level) : Type 0 where
-  pub bytes : level.bytes.items ≡ node_bytes bsize psize (children_from marks count t.size (k / (bsize / psize) * (bsize / psize)) (take (k % (bsize / psize) + 1) (drop (k / (bsize / psize) * (bsize / psize)) t.blocks)))
+  pub bytes : level.bytes.items ≡ node_bytes bsize psize (children_from marks count t.size (k / (bsize / psize) * (bsize / psize))
+      (take (k % (bsize / psize) + 1) (drop (k / (bsize / psize) * (bsize / psize)) t.blocks)))
   pub place : psize ≡ 12 → level.place ≡ (mark_at marks (k / (bsize / psize) * (bsize / psize) * t.size)).place
 
 pub point_pushes : (bsize psize : ℕ) (marks : List Mark) (count : ℕ) (t : Tier) (child : Child) (old new : Level) → (psize ≡ 4) ⊎ (psize ≡ 12) → 1 ≤ bsize / psize → bsize / psize * psize ≤ bsize
@@ -120,7 +121,8 @@ point_pushes bsize psize marks count t child old new kind some room within open'
     let filled : Filled bsize psize marks count t.size at blocks done old.bytes.items =
     subst (λ (n : ℕ). old.bytes.items ≡ cells psize children ++ replicate (bsize - n * psize) 0) count_is
     (subst (λ (l : List ℕ). old.bytes.items ≡ node_bytes bsize psize (children_from marks count t.size at l)) (sym shorter) open'.bytes) in
-    let filled' = one_filled bsize psize marks count t.size at blocks done child.block child.mark old.bytes.items new.bytes.items kind (omega arith) fits next (ap length shorter ∙ length-take-le done behind (omega arith)) filled
+    let filled' = one_filled bsize psize marks count t.size at blocks done child.block child.mark old.bytes.items new.bytes.items kind (omega arith) fits next
+    (ap length shorter ∙ length-take-le done behind (omega arith)) filled
     (λ twelve. is_child.mark twelve ∙ ap (wide_mark marks count t.size) (sym whole)) bytes in
     record {
       bytes = all_filled bsize psize marks count t.size at blocks (done + 1) new.bytes.items (take_all (done + 1) blocks (omega arith)) (sym own) filled';
@@ -143,7 +145,8 @@ pushed_opens bsize psize marks count t k level p less =
     }
 
 -- an empty one
-pub zeros_open : (bsize psize : ℕ) (marks : List Mark) (count : ℕ) (t : Tier) (k : ℕ) (level : Level) → level.bytes.items ≡ replicate bsize 0 → k % (bsize / psize) ≡ 0 → IsOpen bsize psize marks count t k level
+pub zeros_open : (bsize psize : ℕ) (marks : List Mark) (count : ℕ) (t : Tier) (k : ℕ) (level : Level) → level.bytes.items ≡ replicate bsize 0 → k % (bsize / psize) ≡ 0
+    → IsOpen bsize psize marks count t k level
 unfolding node_bytes children_from
 zeros_open bsize psize marks count t k level is none =
     let all : bsize - 0 * psize ≡ bsize = omega arith in
@@ -175,7 +178,8 @@ pushed_node bsize psize leaves marks fresh t j k level some within tier p ends =
 
 -- ---- the level above
 
-pub tier_next : (fan : ℕ) (leaves : List ℕ) (marks : List Mark) (fresh : List ℕ) (t : Tier) (j : ℕ) → 1 ≤ fan → IsTier fan leaves marks fresh t (suc j) → IsTier fan leaves marks fresh (tier_above fan fresh t) j
+pub tier_next : (fan : ℕ) (leaves : List ℕ) (marks : List Mark) (fresh : List ℕ) (t : Tier) (j : ℕ) → 1 ≤ fan → IsTier fan leaves marks fresh t (suc j)
+    → IsTier fan leaves marks fresh (tier_above fan fresh t) j
 unfolding all_over
 tier_next fan leaves marks fresh t j some tier =
     let n = length leaves in
@@ -207,7 +211,8 @@ tier_next fan leaves marks fresh t j some tier =
 
 -- the whole block is a block of the level above
 pub pushed_parent : (bsize psize : ℕ) (leaves : List ℕ) (marks : List Mark) (fresh : List ℕ) (t : Tier) (j : ℕ) (child parent : Child) (level : Level) → 1 ≤ bsize / psize → child.nth < length t.blocks
-    → IsTier (bsize / psize) leaves marks fresh t (suc j) → IsChild psize marks (length leaves) t child → Pushed bsize psize marks (length leaves) t child.nth level → Ends (bsize / psize) (length t.blocks) child.nth
+    → IsTier (bsize / psize) leaves marks fresh t (suc j) → IsChild psize marks (length leaves) t child → Pushed bsize psize marks (length leaves) t child.nth level
+    → Ends (bsize / psize) (length t.blocks) child.nth
     → parent ≡ record {
       block = get_or (drop t.first fresh) (child.nth / (bsize / psize)) 0;
       mark = record { last = child.mark.last; place = level.place };
@@ -246,7 +251,8 @@ pushed_parent bsize psize leaves marks fresh t j child parent level some within 
       count = ap (λ (c : ℕ). up c fan) is_child.count ∙ sym wide;
       block = sym (get_or-take m numbers (k / fan) 0 low);
       mark = λ twelve.
-          let last : child.mark.last ≡ (mark_at marks (min ((k / fan + 1) * (size * fan)) n - 1)).last = ap (λ (x : Mark). x.last) (is_child.mark twelve) ∙ ap (λ (i : ℕ). (mark_at marks (i - 1)).last) end in
+          let last : child.mark.last ≡ (mark_at marks (min ((k / fan + 1) * (size * fan)) n - 1)).last =
+          ap (λ (x : Mark). x.last) (is_child.mark twelve) ∙ ap (λ (i : ℕ). (mark_at marks (i - 1)).last) end in
           let place : level.place ≡ (mark_at marks (k / fan * (size * fan))).place = p.place twelve ∙ ap (λ (i : ℕ). (mark_at marks i).place) start in
           rw (last, place) refl;
     })
@@ -275,7 +281,8 @@ some_fan bsize psize size kind = let wide = fan_wide bsize psize size kind in om
 room : (bsize psize : ℕ) → bsize / psize * psize ≤ bsize
 room bsize psize = let whole = div-add-mod' bsize psize in omega arith
 
-stands_pushed : (bsize psize fan : ℕ) (leaves : List ℕ) (marks : List Mark) (fresh : List ℕ) (t : Tier) (j : ℕ) (child : Child) (old new : Level) → Stands bsize psize fan leaves marks fresh t j child old
+stands_pushed : (bsize psize fan : ℕ) (leaves : List ℕ) (marks : List Mark) (fresh : List ℕ) (t : Tier) (j : ℕ) (child : Child) (old new : Level)
+    → Stands bsize psize fan leaves marks fresh t j child old
     → Pointed psize fan child old new → Pushed bsize psize marks (length leaves) t child.nth new
 stands_pushed bsize psize fan leaves marks fresh t j child old new s p =
     let within = s.within in
@@ -283,12 +290,17 @@ stands_pushed bsize psize fan leaves marks fresh t j child old new s p =
     let q = subst (λ (n : ℕ). Pointed psize n child old new) s.fan_is p in
     point_pushes bsize psize marks (length leaves) t child old new s.kind (some_fan bsize psize s.size s.kind) (room bsize psize) (omega arith) s.is_open s.is_child q.bytes q.first q.later
 
-pub stands_on : (told : Told) (bsize psize fan : ℕ) (leaves : List ℕ) (marks : List Mark) (fresh : List ℕ) (t : Tier) (j : ℕ) (child : Child) (old new : Level) → Stands bsize psize fan leaves marks fresh t j child old
+pub stands_on : (told : Told) (bsize psize fan : ℕ) (leaves : List ℕ) (marks : List Mark) (fresh : List ℕ) (t : Tier) (j : ℕ) (child : Child) (old new : Level)
+    → Stands bsize psize fan leaves marks fresh t j child old
     → Pointed psize fan child old new → ends_group fan child.count child.nth ≡ false
     → (ends_group (bsize / psize) child.count child.nth ≡ false) × (told ≡ told) × IsOpen bsize psize marks (length leaves) t (child.nth + 1) new
 stands_on told bsize psize fan leaves marks fresh t j child old new s p is =
-    let here : ends_group (bsize / psize) child.count child.nth ≡ false = subst (λ (n : ℕ). ends_group n child.count child.nth ≡ false) s.fan_is is in
-    (here, refl, pushed_opens bsize psize marks (length leaves) t child.nth new (stands_pushed bsize psize fan leaves marks fresh t j child old new s p) (goes_is (bsize / psize) child.count child.nth (some_fan bsize psize s.size s.kind) here).more)
+    let here : ends_group (bsize / psize) child.count child.nth ≡ false = subst (λ (n : ℕ). ends_group n child.count child.nth ≡ false) s.fan_is is in (
+      here,
+      refl,
+      pushed_opens bsize psize marks (length leaves) t child.nth new (stands_pushed bsize psize fan leaves marks fresh t j child old new s p)
+          (goes_is (bsize / psize) child.count child.nth (some_fan bsize psize s.size s.kind) here).more,
+    )
 
 -- the write of a whole pointer block is that of the tree's
 pub stands_whole : (u bsize psize fan : ℕ) (leaves : List ℕ) (marks : List Mark) (fresh part : List ℕ) (t : Tier) (j : ℕ) (child : Child) (old new : Level) (bytes : List ℕ)
@@ -308,7 +320,8 @@ stands_whole u bsize psize fan leaves marks fresh part t j child old new bytes s
 
 -- and it stands on the level above
 pub stands_parent : (bsize psize fan : ℕ) (leaves : List ℕ) (marks : List Mark) (fresh part : List ℕ) (t : Tier) (j : ℕ) (child : Child) (old new : Level) (count place : ℕ)
-    → Stands bsize psize fan leaves marks fresh t j child old → Pointed psize fan child old new → ends_group fan child.count child.nth ≡ true → part ≡ drop t.first fresh → count ≡ up child.count fan → place ≡ new.place
+    → Stands bsize psize fan leaves marks fresh t j child old → Pointed psize fan child old new → ends_group fan child.count child.nth ≡ true → part ≡ drop t.first fresh → count ≡ up child.count fan
+    → place ≡ new.place
     → IsChild psize marks (length leaves) (tier_above (bsize / psize) fresh t) (record {
       block = get_or part (child.nth / fan) 0;
       mark = record { last = child.mark.last; place = place };
@@ -325,7 +338,8 @@ stands_parent bsize psize fan leaves marks fresh part t j child old new count pl
     (rw (part_is, count_is, place_is, s.fan_is) refl)
 
 -- the next pointer block is open where there is a next block
-pub stands_next : (bsize psize fan : ℕ) (leaves : List ℕ) (marks : List Mark) (fresh : List ℕ) (t : Tier) (j : ℕ) (child : Child) (old new : Level) → Stands bsize psize fan leaves marks fresh t j child old
+pub stands_next : (bsize psize fan : ℕ) (leaves : List ℕ) (marks : List Mark) (fresh : List ℕ) (t : Tier) (j : ℕ) (child : Child) (old new : Level)
+    → Stands bsize psize fan leaves marks fresh t j child old
     → ends_group fan child.count child.nth ≡ true → new.bytes.items ≡ replicate bsize 0 → child.nth + 1 < child.count → IsOpen bsize psize marks (length leaves) t (child.nth + 1) new
 stands_next bsize psize fan leaves marks fresh t j child old new s is zeros less =
     let here : ends_group (bsize / psize) child.count child.nth ≡ true = subst (λ (n : ℕ). ends_group n child.count child.nth ≡ true) s.fan_is is in

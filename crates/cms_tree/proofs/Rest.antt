@@ -21,11 +21,13 @@ Reading = Result Met OpenFault
 
 -- ---- a data block
 
-pub leaf_refused : (form : Form) (image : Image) (first : Option ℕ) (holder root count : ℕ) → is_allowed form.last first root ≡ false → tree form image 0 first holder root count ≡ Err (fault.Pointer holder root)
+pub leaf_refused : (form : Form) (image : Image) (first : Option ℕ) (holder root count : ℕ) → is_allowed form.last first root ≡ false
+    → tree form image 0 first holder root count ≡ Err (fault.Pointer holder root)
 unfolding tree
 leaf_refused form image first holder root count bad = rw bad refl
 
-pub leaf_read : (form : Form) (image : Image) (first : Option ℕ) (holder root count : ℕ) → is_allowed form.last first root ≡ true → tree form image 0 first holder root count ≡ Ok (record { blocks = root ∷ []; leaves = root ∷ [] })
+pub leaf_read : (form : Form) (image : Image) (first : Option ℕ) (holder root count : ℕ) → is_allowed form.last first root ≡ true
+    → tree form image 0 first holder root count ≡ Ok (record { blocks = root ∷ []; leaves = root ∷ [] })
 unfolding tree
 leaf_read form image first holder root count good = rw good refl
 
@@ -40,7 +42,8 @@ leaf_nodes form image root count = refl
 
 -- ---- a pointer block
 
-pub node_refused : (form : Form) (image : Image) (levels : ℕ) (first : Option ℕ) (holder root count : ℕ) → 0 < levels → is_allowed form.last None root ≡ false → tree form image levels first holder root count ≡ Err (fault.Pointer holder root)
+pub node_refused : (form : Form) (image : Image) (levels : ℕ) (first : Option ℕ) (holder root count : ℕ) → 0 < levels → is_allowed form.last None root ≡ false
+    → tree form image levels first holder root count ≡ Err (fault.Pointer holder root)
 unfolding tree
 node_refused form image zero first holder root count some bad = absurd (omega arith)
 node_refused form image (suc k) first holder root count some bad = rw bad refl
@@ -51,7 +54,8 @@ pub leaf_joins : (image : Image) (layout : Layout) (levels : ℕ) (part : Subtre
 unfolding nodes
 leaf_joins image layout levels part old new result none joins = rw none joins
 
-pub node_refusal : (form : Form) (image : Image) (levels : ℕ) (first : Option ℕ) (holder root count : ℕ) (e : TreeFault) → 0 < levels → IsRefusal e holder root (is_allowed form.last None root) → IsFaultOf e (tree form image levels first holder root count)
+pub node_refusal : (form : Form) (image : Image) (levels : ℕ) (first : Option ℕ) (holder root count : ℕ) (e : TreeFault) → 0 < levels → IsRefusal e holder root (is_allowed form.last None root)
+    → IsFaultOf e (tree form image levels first holder root count)
 node_refusal form image levels first holder root count Memory some is = tt
 node_refusal form image levels first holder root count Device some is = tt
 node_refusal form image levels first holder root count (Pointer holder' value) some is = rw (is.0, is.1) (node_refused form image levels first holder root count some is.2)
@@ -73,14 +77,17 @@ pub record Comes (form : Form) (image : Image) (k root : ℕ) (bytes : List ℕ)
   pub read : onto (met_of now) (rest form image k root bytes i left next) ≡ onto (met_of old) whole
   pub met : now.pointers.items ++ rest_nodes form image k bytes i left ≡ old.pointers.items ++ whole_nodes
 
-onto_push : (old : Met) (root : ℕ) (r : Reading) → onto old (r >>= λ m. Ok (record { blocks = root ∷ m.blocks; leaves = m.leaves })) ≡ onto (record { blocks = old.blocks ++ root ∷ []; leaves = old.leaves }) r
+onto_push : (old : Met) (root : ℕ) (r : Reading) → onto old (r >>= λ m. Ok (record { blocks = root ∷ m.blocks; leaves = m.leaves }))
+    ≡ onto (record { blocks = old.blocks ++ root ∷ []; leaves = old.leaves }) r
 onto_push old root (Ok m) = let e = append_assoc old.blocks (root ∷ []) m.blocks in rw e refl
 onto_push old root (Err e) = refl
 
-met_more : (old new : Walked) (root : ℕ) → new.blocks.items ≡ old.blocks.items ++ root ∷ [] → new.leaves ≡ old.leaves → met_of new ≡ record { blocks = old.blocks.items ++ root ∷ []; leaves = old.leaves.items }
+met_more : (old new : Walked) (root : ℕ) → new.blocks.items ≡ old.blocks.items ++ root ∷ [] → new.leaves ≡ old.leaves
+    → met_of new ≡ record { blocks = old.blocks.items ++ root ∷ []; leaves = old.leaves.items }
 met_more old new root blocks leaves = rw (blocks, leaves) refl
 
-pub starts : (form : Form) (image : Image) (levels : ℕ) (first : Option ℕ) (holder root count : ℕ) (bytes : List ℕ) (old new : Walked) → 0 < levels → IsTaken form.last root old new → bytes ≡ image root
+pub starts : (form : Form) (image : Image) (levels : ℕ) (first : Option ℕ) (holder root count : ℕ) (bytes : List ℕ) (old new : Walked) → 0 < levels → IsTaken form.last root old new
+    → bytes ≡ image root
     → Comes form image (levels - 1) root bytes 0 count first old new (tree form image levels first holder root count) (nodes form image levels root count)
 unfolding tree nodes
 starts form image zero first holder root count bytes old new some taken is = absurd (omega arith)
@@ -92,7 +99,8 @@ starts form image (suc k) first holder root count bytes old new some taken is =
     let below = children (tree form image k) (form.fan ^ k) root (pointers form.fan form.stride (image root)) count first in
     let read : onto (met_of new) below ≡ onto (met_of old) (below >>= λ m. Ok (record { blocks = root ∷ m.blocks; leaves = m.leaves })) =
     ap (λ (m : Met). onto m below) (met_more old new root taken.blocks taken.leaves) ∙ sym (onto_push (met_of old) root below) in
-    let more : new.pointers.items ++ nodes_below (nodes form image k) (form.fan ^ k) (pointers form.fan form.stride (image root)) count ≡ old.pointers.items ++ root ∷ nodes_below (nodes form image k) (form.fan ^ k) (pointers form.fan form.stride (image root)) count =
+    let more : new.pointers.items ++ nodes_below (nodes form image k) (form.fan ^ k) (pointers form.fan form.stride (image root)) count ≡ old.pointers.items
+    ++ root ∷ nodes_below (nodes form image k) (form.fan ^ k) (pointers form.fan form.stride (image root)) count =
     rw taken.pointers (append_assoc old.pointers.items (root ∷ []) (nodes_below (nodes form image k) (form.fan ^ k) (pointers form.fan form.stride (image root)) count)) in
     rw (down, is) (record { read = rw (all, from, allowed) read; met = rw (all, from) more })
 
@@ -112,7 +120,8 @@ onto_err old (Err d) e is = cc
 
 -- the rest is one child and what is behind it
 splits : (form : Form) (image : Image) (k root : ℕ) (bytes : List ℕ) (i left : ℕ) (next : Option ℕ) → i < form.fan → 0 < left
-    → rest form image k root bytes i left next ≡ (tree form image k next root (word bytes (i * form.stride)) (min left (form.fan ^ k)) >>= λ a. rest form image k root bytes (i + 1) (left - form.fan ^ k) None >>= λ b. Ok (joined a b))
+    → rest form image k root bytes i left next ≡ (tree form image k next root (word bytes (i * form.stride)) (min left (form.fan ^ k)) >>= λ a. rest form image k root bytes (i + 1)
+    (left - form.fan ^ k) None >>= λ b. Ok (joined a b))
 splits form image k root bytes i zero next within some = absurd (omega arith)
 splits form image k root bytes i (suc n) next within some =
     let more : form.fan - i ≡ suc (form.fan - (i + 1)) = omega arith in
@@ -135,9 +144,11 @@ one_child : (old new : Met) (r s : Reading) → onto old r ≡ Ok new → onto n
 one_child old new (Ok a) s e = subst (λ (m : Met). onto m s ≡ onto old (s >>= λ b. Ok (joined a b))) (ok_same (joined old a) new e) (onto_joined old a s)
 one_child old new (Err d) s e = absurd (cc)
 
-pub goes_on : (form : Form) (image : Image) (k root : ℕ) (bytes : List ℕ) (i left part : ℕ) (next : Option ℕ) (old now new : Walked) (whole : Reading) (whole_nodes : List ℕ) → i < form.fan → 0 < left → part ≡ min left (form.fan ^ k)
+pub goes_on : (form : Form) (image : Image) (k root : ℕ) (bytes : List ℕ) (i left part : ℕ) (next : Option ℕ) (old now new : Walked) (whole : Reading) (whole_nodes : List ℕ) → i < form.fan → 0 < left
+    → part ≡ min left (form.fan ^ k)
     → Comes form image k root bytes i left next old now whole whole_nodes
-    → onto (met_of now) (tree form image k next root (word bytes (i * form.stride)) part) ≡ Ok (met_of new) → new.pointers.items ≡ now.pointers.items ++ nodes form image k (word bytes (i * form.stride)) part
+    → onto (met_of now) (tree form image k next root (word bytes (i * form.stride)) part) ≡ Ok (met_of new)
+    → new.pointers.items ≡ now.pointers.items ++ nodes form image k (word bytes (i * form.stride)) part
     → Comes form image k root bytes (i + 1) (left - part) None old new whole whole_nodes
 goes_on form image k root bytes i left part next old now new whole whole_nodes within some is_part comes read met =
     let child = word bytes (i * form.stride) in
@@ -148,7 +159,8 @@ goes_on form image k root bytes i left part next old now new whole whole_nodes w
     let one : onto (met_of new) behind ≡ onto (met_of now) (rest form image k root bytes i left next) =
     rw (splits form image k root bytes i left next within some) (one_child (met_of now) (met_of new) (tree form image k next root child (min left (form.fan ^ k))) behind read') in
     let two : new.pointers.items ++ rest_nodes form image k bytes (i + 1) (left - form.fan ^ k) ≡ now.pointers.items ++ rest_nodes form image k bytes i left =
-    rw (met', splits_nodes form image k bytes i left within some) (append_assoc now.pointers.items (nodes form image k child (min left (form.fan ^ k))) (rest_nodes form image k bytes (i + 1) (left - form.fan ^ k))) in
+    rw (met', splits_nodes form image k bytes i left within some)
+    (append_assoc now.pointers.items (nodes form image k child (min left (form.fan ^ k))) (rest_nodes form image k bytes (i + 1) (left - form.fan ^ k))) in
     record { read = rw same (one ∙ comes.read); met = rw same (two ∙ comes.met) }
 
 -- ---- a refusal
@@ -160,7 +172,8 @@ stops form image k root bytes i left part next e within some is_part is =
     rw (splits form image k root bytes i left next within some, is') refl
 
 -- a refusal below is the refusal of the whole
-pub refusal_passes : (form : Form) (image : Image) (k root : ℕ) (bytes : List ℕ) (i left part : ℕ) (next : Option ℕ) (old now : Walked) (whole : Reading) (whole_nodes : List ℕ) (e : TreeFault) → Comes form image k root bytes i left next old now whole whole_nodes
+pub refusal_passes : (form : Form) (image : Image) (k root : ℕ) (bytes : List ℕ) (i left part : ℕ) (next : Option ℕ) (old now : Walked) (whole : Reading) (whole_nodes : List ℕ) (e : TreeFault)
+    → Comes form image k root bytes i left next old now whole whole_nodes
     → i < form.fan → 0 < left → part ≡ min left (form.fan ^ k) → IsFaultOf e (tree form image k next root (word bytes (i * form.stride)) part) → IsFaultOf e whole
 refusal_passes form image k root bytes i left part next old now whole whole_nodes Memory comes within some is_part is = tt
 refusal_passes form image k root bytes i left part next old now whole whole_nodes Device comes within some is_part is = tt
@@ -182,7 +195,8 @@ onto_none : (old : Met) (r : Reading) → r ≡ Ok none_met → onto old r ≡ O
 onto_none old r is = let e = append-nil old.blocks in let e' = append-nil old.leaves in rw (is, e, e') refl
 
 -- all is met once no data block is left
-pub ends : (form : Form) (image : Image) (k root : ℕ) (bytes : List ℕ) (i left : ℕ) (next : Option ℕ) (old now : Walked) (whole : Reading) (whole_nodes : List ℕ) → Comes form image k root bytes i left next old now whole whole_nodes → left ≡ 0
+pub ends : (form : Form) (image : Image) (k root : ℕ) (bytes : List ℕ) (i left : ℕ) (next : Option ℕ) (old now : Walked) (whole : Reading) (whole_nodes : List ℕ)
+    → Comes form image k root bytes i left next old now whole whole_nodes → left ≡ 0
     → (onto (met_of old) whole ≡ Ok (met_of now)) × (now.pointers.items ≡ old.pointers.items ++ whole_nodes)
 ends form image k root bytes i left next old now whole whole_nodes comes none =
     let ps = pointers (form.fan - i) form.stride (drop (i * form.stride) bytes) in

@@ -29,11 +29,13 @@ use Rattle.cms_tree.proofs.Rising.{marked-is, up_one, all_count}
 
 -- ---- a step up
 
-pub rises_nothing : (old : Told) (u bsize psize : ℕ) (leaves : List ℕ) (marks : List Mark) (fresh : List ℕ) (t : Tier) (child : Child) → Rises old old u bsize psize leaves marks fresh t child [] [] (Ok tt)
+pub rises_nothing : (old : Told) (u bsize psize : ℕ) (leaves : List ℕ) (marks : List Mark) (fresh : List ℕ) (t : Tier) (child : Child)
+    → Rises old old u bsize psize leaves marks fresh t child [] [] (Ok tt)
 unfolding complete_from writes
 rises_nothing old u bsize psize leaves marks fresh t child = (refl, λ less. tt)
 
-pub rises_no_more : (old new : Told) (u bsize psize : ℕ) (leaves : List ℕ) (marks : List Mark) (fresh : List ℕ) (t : Tier) (child : Child) (level level' : Level) (above : List Level) → 1 ≤ bsize / psize
+pub rises_no_more : (old new : Told) (u bsize psize : ℕ) (leaves : List ℕ) (marks : List Mark) (fresh : List ℕ) (t : Tier) (child : Child) (level level' : Level) (above : List Level)
+    → 1 ≤ bsize / psize
     → Stand bsize psize marks (length leaves) fresh t child.nth (level ∷ above) → Lifts old new u bsize psize leaves marks fresh t child level' (Ok None)
     → Rises old new u bsize psize leaves marks fresh t child (level ∷ above) (level' ∷ above) (Ok tt)
 unfolding complete_from writes
@@ -48,7 +50,8 @@ rises_no_more old new u bsize psize leaves marks fresh t child level level' abov
 -- the writes of a block that is complete and of those that are complete with it
 more_writes : (u bsize psize : ℕ) (leaves : List ℕ) (marks : List Mark) (fresh : List ℕ) (t : Tier) (child parent : Child) (j : ℕ) → ends_group (bsize / psize) child.count child.nth ≡ true
     → child.count ≡ length t.blocks → IsParent (bsize / psize) child parent
-    → rise_writes bsize psize leaves marks fresh t child (suc j) ≡ node_write bsize psize leaves marks fresh (t.first + child.nth / (bsize / psize)) ∷ rise_writes bsize psize leaves marks fresh (tier_above (bsize / psize) fresh t) parent j
+    → rise_writes bsize psize leaves marks fresh t child (suc j)
+    ≡ node_write bsize psize leaves marks fresh (t.first + child.nth / (bsize / psize)) ∷ rise_writes bsize psize leaves marks fresh (tier_above (bsize / psize) fresh t) parent j
 unfolding complete_from
 more_writes u bsize psize leaves marks fresh t child parent j is count p =
     let fan = bsize / psize in
@@ -59,7 +62,8 @@ more_writes u bsize psize leaves marks fresh t child parent j is count p =
     cond-true (ends_group fan child.count k) _ _ is in
     ap (map (node_write bsize psize leaves marks fresh)) (whole ∙ ap (λ (ns : List ℕ). (t.first + k / fan) ∷ ns) rest)
 
-pub rises_on : (old mid new : Told) (u bsize psize : ℕ) (leaves : List ℕ) (marks : List Mark) (fresh : List ℕ) (t : Tier) (child parent : Child) (level level' : Level) (above above' : List Level) (r : Result (Unit {0}) Failed)
+pub rises_on : (old mid new : Told) (u bsize psize : ℕ) (leaves : List ℕ) (marks : List Mark) (fresh : List ℕ) (t : Tier) (child parent : Child) (level level' : Level) (above above' : List Level)
+    (r : Result (Unit {0}) Failed)
     → 1 ≤ bsize / psize → child.nth < child.count → child.count ≡ length t.blocks → IsParent (bsize / psize) child parent
     → Lifts old mid u bsize psize leaves marks fresh t child level' (Ok (Some parent)) → Rises mid new u bsize psize leaves marks fresh (tier_above (bsize / psize) fresh t) parent above above' r
     → Rises old new u bsize psize leaves marks fresh t child (level ∷ above) (level' ∷ above') r
@@ -68,7 +72,8 @@ rises_on old mid new u bsize psize leaves marks fresh t child parent level level
     let fan = bsize / psize in
     let k = child.nth in
     let more = more_writes u bsize psize leaves marks fresh t child parent (length above) l.0 count p in (
-      r.0 ∙ ap (λ (told : Told). plus told (writes u (rise_writes bsize psize leaves marks fresh (tier_above fan fresh t) parent (length above)))) l.1 ∙ ap (λ (ws : List Write). plus old (writes u ws)) (sym more),
+      r.0 ∙ ap (λ (told : Told). plus told (writes u (rise_writes bsize psize leaves marks fresh (tier_above fan fresh t) parent (length above)))) l.1
+          ∙ ap (λ (ws : List Write). plus old (writes u ws)) (sym more),
       λ less.
           let begins = (ends_begins fan child.count k some (ends_is fan child.count k some l.0) less).0 in
           let low = group_within fan child.count (k + 1) some less in
@@ -81,14 +86,16 @@ rises_on old mid new u bsize psize leaves marks fresh t child parent level level
     let fan = bsize / psize in
     let w = node_write bsize psize leaves marks fresh (t.first + child.nth / fan) in
     let more = more_writes u bsize psize leaves marks fresh t child parent (length above) l.0 count p in
-    let whole : writes u (rise_writes bsize psize leaves marks fresh t child (suc (length above))) ≡ Wrote u w.block w.bytes ∷ writes u (rise_writes bsize psize leaves marks fresh (tier_above fan fresh t) parent (length above)) = ap (writes u) more in
+    let whole : writes u (rise_writes bsize psize leaves marks fresh t child (suc (length above)))
+    ≡ Wrote u w.block w.bytes ∷ writes u (rise_writes bsize psize leaves marks fresh (tier_above fan fresh t) parent (length above)) = ap (writes u) more in
     record {
       front = Wrote u w.block w.bytes ∷ r.front;
       told = r.told ∙ ap (λ (told : Told). plus told r.front) l.1;
       is = subst (λ (es : List Event). IsFront (Wrote u w.block w.bytes ∷ r.front) es) (sym whole) (cons_front r.front (Wrote u w.block w.bytes) _ r.is);
     }
 
-pub rises_failed : (old new : Told) (u bsize psize : ℕ) (leaves : List ℕ) (marks : List Mark) (fresh : List ℕ) (t : Tier) (child : Child) (level level' : Level) (above levels' : List Level) (e : Failed)
+pub rises_failed : (old new : Told) (u bsize psize : ℕ) (leaves : List ℕ) (marks : List Mark) (fresh : List ℕ) (t : Tier) (child : Child) (level level' : Level) (above levels' : List Level)
+    (e : Failed)
     → Lifts old new u bsize psize leaves marks fresh t child level' (Err e) → Rises old new u bsize psize leaves marks fresh t child (level ∷ above) levels' (Err e)
 unfolding writes complete_from
 rises_failed old new u bsize psize leaves marks fresh t child level level' above levels' e l =
@@ -139,12 +146,14 @@ tier_lowest bsize psize leaves marks fresh some plan =
     }
 
 -- none is added
-pub zeros_stand : (bsize psize : ℕ) (marks : List Mark) (count : ℕ) (fresh : List ℕ) (t : Tier) (ls : List Level) → All (λ level. level.bytes.items ≡ replicate bsize 0) ls → Stand bsize psize marks count fresh t 0 ls
+pub zeros_stand : (bsize psize : ℕ) (marks : List Mark) (count : ℕ) (fresh : List ℕ) (t : Tier) (ls : List Level) → All (λ level. level.bytes.items ≡ replicate bsize 0) ls
+    → Stand bsize psize marks count fresh t 0 ls
 zeros_stand bsize psize marks count fresh t [] all = tt
 zeros_stand bsize psize marks count fresh t (l ∷ ls) all =
     let fan = bsize / psize in (
       zeros_open bsize psize marks count t 0 l (All-head (λ level. level.bytes.items ≡ replicate bsize 0) l ls all) (zero-mod fan),
-      subst (λ (n : ℕ). Stand bsize psize marks count fresh (tier_above fan fresh t) n ls) (sym (zero-div fan)) (zeros_stand bsize psize marks count fresh (tier_above fan fresh t) ls (All-tail (λ level. level.bytes.items ≡ replicate bsize 0) l ls all)),
+      subst (λ (n : ℕ). Stand bsize psize marks count fresh (tier_above fan fresh t) n ls) (sym (zero-div fan))
+          (zeros_stand bsize psize marks count fresh (tier_above fan fresh t) ls (All-tail (λ level. level.bytes.items ≡ replicate bsize 0) l ls all)),
     )
 
 -- a leaf is a block of the lowest level
@@ -166,7 +175,8 @@ pub leaf_added : (old new : Told) (u : ℕ) (c : Climbing) (levels' : List Level
     → Adds old new u c (record c { added = c.added + 1; levels = levels' }) leaves marks fresh r
 leaf_added old new u c levels' leaves marks fresh leaf mark r climbs long = go r
   where
-    same : rise_writes c.bsize c.psize leaves marks fresh (lowest leaves) (record { block = leaf; mark = mark; nth = c.added; count = c.count }) (length c.levels) ≡ climb_writes c.bsize c.psize leaves marks fresh c.added
+    same : rise_writes c.bsize c.psize leaves marks fresh (lowest leaves) (record { block = leaf; mark = mark; nth = c.added; count = c.count }) (length c.levels)
+        ≡ climb_writes c.bsize c.psize leaves marks fresh c.added
     same =
         let count = climbs.count in
         let n : length c.levels ≡ levels (c.bsize / c.psize) (length leaves) = long ∙ ap (levels (c.bsize / c.psize)) count in

@@ -25,7 +25,8 @@ div_ceil_is a b some = let both = div_ceil_times a b some in up_unique a b (a / 
 pub power_next : (fan k : ℕ) → fan ^ k * fan ≡ fan ^ (k + 1)
 power_next fan k = let next : k + 1 ≡ suc k = omega arith in rw (next, pow-suc fan k) refl
 
-pub one_counted : (fan blocks room k pointers ceil : ℕ) → 2 ≤ fan → Counted fan blocks room k pointers → room < blocks → ceil ≡ blocks / (room * fan) + min 1 (blocks % (room * fan)) → Counted fan blocks (room * fan) (k + 1) (pointers + ceil)
+pub one_counted : (fan blocks room k pointers ceil : ℕ) → 2 ≤ fan → Counted fan blocks room k pointers → room < blocks → ceil ≡ blocks / (room * fan) + min 1 (blocks % (room * fan))
+    → Counted fan blocks (room * fan) (k + 1) (pointers + ceil)
 unfolding pointers_to
 one_counted fan blocks room k pointers ceil wide c low is =
     let next : k + 1 ≡ suc k = omega arith in
@@ -36,7 +37,8 @@ one_counted fan blocks room k pointers ceil wide c low is =
     let ceil_is : ceil ≡ up blocks (fan ^ suc k) = is ∙ div_ceil_is blocks (room * fan) some' ∙ ap (up blocks) power' in
     record {
       power = power;
-      fewer = λ j less. ⊎_elim (λ (below : j < k). c.fewer j below) (λ (above : k ≤ j). let at : j ≡ k = omega arith in subst (λ (e : ℕ). fan ^ e < blocks) (sym at) (subst (λ (r : ℕ). r < blocks) c.power low)) (cases_lt j k);
+      fewer = λ j less. ⊎_elim (λ (below : j < k). c.fewer j below)
+          (λ (above : k ≤ j). let at : j ≡ k = omega arith in subst (λ (e : ℕ). fan ^ e < blocks) (sym at) (subst (λ (r : ℕ). r < blocks) c.power low)) (cases_lt j k);
       sum = rw next (let s = c.sum in omega arith);
     }
 

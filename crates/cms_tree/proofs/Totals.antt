@@ -66,7 +66,8 @@ range_splits x first a (suc b) =
     ap (λ (n : ℕ). times x (range first n)) e ∙ times_append x (range first (a + b)) ((first + (a + b)) ∷ []) ∙ ap (λ (n : ℕ). times x (range first (a + b)) + times x (n ∷ [])) same in
     let right : times x (range (first + a) (suc b)) ≡ times x (range (first + a) b) + times x ((first + a + b) ∷ []) = times_append x (range (first + a) b) ((first + a + b) ∷ []) in
     let rest = range_splits x first a b in
-    left ∙ (let r : times x (range first (a + b)) ≡ times x (range first a) + times x (range (first + a) b) = rest in ap (λ (n : ℕ). n + times x ((first + a + b) ∷ [])) r) ∙ (omega arith) ∙ ap (λ (n : ℕ). times x (range first a) + n) (sym right)
+    left ∙ (let r : times x (range first (a + b)) ≡ times x (range first a) + times x (range (first + a) b) = rest in ap (λ (n : ℕ). n + times x ((first + a + b) ∷ [])) r) ∙ (omega arith)
+    ∙ ap (λ (n : ℕ). times x (range first a) + n) (sym right)
 
 -- ---- the places that are complete with the blocks of a level
 
@@ -222,7 +223,8 @@ stays f image (p ∷ ns) n bytes all is =
     (λ (other : n ≡ (f p).block → ⊥). cond-false (eqb n (f p).block) (f p).bytes (image n) (ne_eqb n (f p).block other) ∙ is)
     (cases_eq n (f p).block))
 
-arrives : (f : ℕ → Write) (image : Image) (ns : List ℕ) (nth : ℕ) → 1 ≤ times nth ns → All (λ p. (f p).block ≡ (f nth).block → (f p).bytes ≡ (f nth).bytes) ns → put_blocks image (map f ns) (f nth).block ≡ (f nth).bytes
+arrives : (f : ℕ → Write) (image : Image) (ns : List ℕ) (nth : ℕ) → 1 ≤ times nth ns → All (λ p. (f p).block ≡ (f nth).block → (f p).bytes ≡ (f nth).bytes) ns
+    → put_blocks image (map f ns) (f nth).block ≡ (f nth).bytes
 arrives f image [] nth some all = let none = times_nil nth in absurd (omega arith)
 arrives f image (p ∷ ns) nth some all =
     let P : ℕ → Type 0 = λ p. (f p).block ≡ (f nth).block → (f p).bytes ≡ (f nth).bytes in
@@ -249,7 +251,8 @@ climbs_all bsize psize leaves marks fresh plan =
     let f = node_write bsize psize leaves marks fresh in
     let bound : 0 + over_count fan j n ≡ length fresh = omega arith in
     let within : All (λ nth. nth < length fresh) ns = subst (λ (b : ℕ). All (λ nth. nth < b) ns) bound (places_within fan j 0 n n some (omega arith)) in
-    let once : (nth : ℕ) → nth < length fresh → times nth ns ≡ 1 = (λ nth less. all_places nth fan j 0 n some any ∙ ap (λ (m : ℕ). times nth (range 0 m)) all ∙ times_range nth 0 (length fresh) (omega arith) (omega arith)) in
+    let once : (nth : ℕ) → nth < length fresh → times nth ns ≡ 1 =
+    (λ nth less. all_places nth fan j 0 n some any ∙ ap (λ (m : ℕ). times nth (range 0 m)) all ∙ times_range nth 0 (length fresh) (omega arith) (omega arith)) in
     let writes_are = climbed_places bsize psize leaves marks fresh n in
     record {
       places = ns;
@@ -260,5 +263,6 @@ climbs_all bsize psize leaves marks fresh plan =
           let there = once nth less in
           ap (λ (ws : List Write). put_blocks image ws (get_or fresh nth 0)) writes_are
           ∙ arrives f image ns nth (omega arith)
-          (All-weaker (λ p. p < length fresh) (λ p. (f p).block ≡ (f nth).block → (f p).bytes ≡ (f nth).bytes) (λ p low same. ap (λ (q : ℕ). (f q).bytes) (one_place fresh distinct p nth low less same)) ns within);
+          (All-weaker (λ p. p < length fresh) (λ p. (f p).block ≡ (f nth).block → (f p).bytes ≡ (f nth).bytes)
+          (λ p low same. ap (λ (q : ℕ). (f q).bytes) (one_place fresh distinct p nth low less same)) ns within);
     }

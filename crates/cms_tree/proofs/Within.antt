@@ -38,7 +38,8 @@ taken_within last first root old new taken = λ fixed same all.
     low : (f : Option ℕ) → ((6 ≤ root) × (root ≤ last)) ⊎ (f ≡ Some root)
     low f = allowed_within last None f root taken.allowed (inl refl)
 
-pub leaf_within : (last : ℕ) (first : Option ℕ) (root : ℕ) (old new : Walked) → is_allowed last first root ≡ true → new.blocks.items ≡ old.blocks.items ++ root ∷ [] → new.leaves.items ≡ old.leaves.items ++ root ∷ [] → new.pointers ≡ old.pointers
+pub leaf_within : (last : ℕ) (first : Option ℕ) (root : ℕ) (old new : Walked) → is_allowed last first root ≡ true → new.blocks.items ≡ old.blocks.items ++ root ∷ []
+    → new.leaves.items ≡ old.leaves.items ++ root ∷ [] → new.pointers ≡ old.pointers
     → StaysWithin last first old new
 leaf_within last first root old new allowed blocks leaves pointers = λ fixed same all.
     let within = allowed_within last first fixed root allowed same in
@@ -49,7 +50,8 @@ leaf_within last first root old new allowed blocks leaves pointers = λ fixed sa
     }
 
 -- a part stays within, whose first data block has the whole's fixed place or none
-pub part_within : (last : ℕ) (first next : Option ℕ) (old now new : Walked) → (next ≡ None) ⊎ (next ≡ first) → StaysWithin last first old now → StaysWithin last next now new → StaysWithin last first old new
+pub part_within : (last : ℕ) (first next : Option ℕ) (old now new : Walked) → (next ≡ None) ⊎ (next ≡ first) → StaysWithin last first old now → StaysWithin last next now new
+    → StaysWithin last first old new
 part_within last first next old now new is before part = λ fixed same all.
     part fixed (⊎_elim (λ none. inl none) (λ (at : next ≡ first). ⊎_elim (λ (none : first ≡ None). inl (at ∙ none)) (λ (whole : first ≡ fixed). inr (at ∙ whole)) same) is) (before fixed same all)
 

@@ -23,14 +23,16 @@ written_so (Typed bytes ∷ older) u k first is = written_so older u k first is
 written_so (Missed name size access ∷ older) u k first is = written_so older u k first is
 
 -- either choice may be left
-pub choice_left : (events : List Event) (u k : ℕ) (first : List ℕ) (b : Bool) → MayBeLeft events u k first (cond (was_written events u k && b) (block_after events u k first) (block_at_sync events u k first))
+pub choice_left : (events : List Event) (u k : ℕ) (first : List ℕ) (b : Bool)
+    → MayBeLeft events u k first (cond (was_written events u k && b) (block_after events u k first) (block_at_sync events u k first))
 choice_left events u k first b = let so = written_so events u k first in grind (arith, nat_tests, so)
 
 pub length-chosen : (events : List Event) (u choice k n : ℕ) (start : List (List ℕ)) → length (chosen events u choice k n start) ≡ length start
 length-chosen events u choice k n [] = refl
 length-chosen events u choice k n (first ∷ rest) = ap suc (length-chosen events u choice (k + 1) _ rest)
 
-pub get-chosen : (events : List Event) (u choice k n : ℕ) (start : List (List ℕ)) (i : ℕ) → i < length start → MayBeLeft events u (k + i) (slice_index_or start i []) (slice_index_or (chosen events u choice k n start) i [])
+pub get-chosen : (events : List Event) (u choice k n : ℕ) (start : List (List ℕ)) (i : ℕ) → i < length start
+    → MayBeLeft events u (k + i) (slice_index_or start i []) (slice_index_or (chosen events u choice k n start) i [])
 get-chosen events u choice k n [] i within = grind arith
 get-chosen events u choice k n (first ∷ rest) zero within = rw add-zero (choice_left events u k first (has_bit choice n))
 get-chosen events u choice k n (first ∷ rest) (suc i) within =

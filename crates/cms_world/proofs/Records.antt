@@ -44,7 +44,8 @@ sized_same units (Now t) events may sized = sized
 sized_same units (Typed bytes) events may sized = sized
 sized_same units (Missed name size access) events may sized = sized
 
-current_same : (units : List Attached) (current : List (List (List ℕ))) (later : List Event) (events : List Event) → ((u : ℕ) → NoneWrote later u) → AreCurrent units current events → AreCurrent units current (later ++ events)
+current_same : (units : List Attached) (current : List (List (List ℕ))) (later : List Event) (events : List Event) → ((u : ℕ) → NoneWrote later u) → AreCurrent units current events
+    → AreCurrent units current (later ++ events)
 current_same units current later events none is = λ u inside. is u inside ∙ sym (contents_unwritten later events u (start_of units u) (none u))
 
 to_come_add : (units : List Attached) (event : Event) (events : List Event) → MayHappen units event → AreToCome units events → AreToCome units (event ∷ events)
@@ -63,7 +64,8 @@ typed_same units (Now t) events typed may is = is
 typed_same units (Typed bytes) events typed may is = absurd may
 typed_same units (Missed name size access) events typed may is = is
 
-pub record_add : (units : List Attached) (current : List (List (List ℕ))) (event : Event) (events : List Event) (typed : List ℕ) → MayHappen units event → IsRecord units current events typed → IsRecord units current (event ∷ events) typed
+pub record_add : (units : List Attached) (current : List (List (List ℕ))) (event : Event) (events : List Event) (typed : List ℕ) → MayHappen units event → IsRecord units current events typed
+    → IsRecord units current (event ∷ events) typed
 record_add units current event events typed may is = record {
   same_length = is.same_length;
   current_is = current_same units current (event ∷ []) events (λ u. unwritten_by units event u may) is.current_is;
@@ -72,7 +74,8 @@ record_add units current event events typed may is = record {
   typed_is = typed_same units event events typed may is.typed_is;
 }
 
-pub record_typed : (units : List Attached) (current : List (List (List ℕ))) (bytes : List ℕ) (events : List Event) (typed : List ℕ) → IsRecord units current events typed → IsRecord units current (Typed bytes ∷ events) (typed ++ bytes)
+pub record_typed : (units : List Attached) (current : List (List (List ℕ))) (bytes : List ℕ) (events : List Event) (typed : List ℕ) → IsRecord units current events typed
+    → IsRecord units current (Typed bytes ∷ events) (typed ++ bytes)
 record_typed units current bytes events typed is = record {
   same_length = is.same_length;
   current_is = current_same units current (Typed bytes ∷ []) events (λ u. tt) is.current_is;
@@ -93,7 +96,8 @@ sized_wrote units v w bytes events has sized = λ u k size has_u.
 other_contents : (events : List Event) (u v k : ℕ) (bytes : List ℕ) (start : List (List ℕ)) → v ≢ u → contents (Wrote v k bytes ∷ events) u start ≡ contents events u start
 other_contents events u v k bytes start other = (changes_nothing (Wrote v k bytes) events u start other).contents_same
 
-current_wrote : (units : List Attached) (current : List (List (List ℕ))) (events : List Event) (v k size : ℕ) (bytes : List ℕ) → HasBlock units v k size → length current ≡ length units → AreCurrent units current events
+current_wrote : (units : List Attached) (current : List (List (List ℕ))) (events : List Event) (v k size : ℕ) (bytes : List ℕ) → HasBlock units v k size → length current ≡ length units
+    → AreCurrent units current events
     → AreCurrent units (slice_set current v (slice_set (slice_index_or current v []) (k - 1) bytes)) (Wrote v k bytes ∷ events)
 current_wrote units current events v k size bytes has len is = λ u inside.
     let within = HasBlock-within units v k size has in
@@ -104,7 +108,8 @@ current_wrote units current events v k size bytes has len is = λ u inside.
     let apart = other_contents events u v k bytes (start_of units u) in
     grind (arith, nat_tests, eqb_tells v u, same, at, other, len, within, wrote, apart)
 
-record_wrote : (units : List Attached) (current : List (List (List ℕ))) (events : List Event) (typed : List ℕ) (v k : ℕ) (bytes : List ℕ) → HasBlock units v k (length bytes) → IsRecord units current events typed
+record_wrote : (units : List Attached) (current : List (List (List ℕ))) (events : List Event) (typed : List ℕ) (v k : ℕ) (bytes : List ℕ) → HasBlock units v k (length bytes)
+    → IsRecord units current events typed
     → IsRecord units (slice_set current v (slice_set (slice_index_or current v []) (k - 1) bytes)) (Wrote v k bytes ∷ events) typed
 record_wrote units current events typed v k bytes has is =
     let within = HasBlock-within units v k (length bytes) has in
@@ -122,7 +127,8 @@ get_or-default (x ∷ xs) zero d e within = refl
 get_or-default (x ∷ xs) (suc i) d e within = get_or-default xs i d e (omega arith)
 
 -- the blocks that are kept of a unit, as an index reads them
-pub record_read : (units : List Attached) (current : List (List (List ℕ))) (events : List Event) (typed : List ℕ) (u k size : ℕ) (held : List (List ℕ)) → HasBlock units u k size → IsRecord units current events typed → held ≡ slice_index_or current u held
+pub record_read : (units : List Attached) (current : List (List (List ℕ))) (events : List Event) (typed : List ℕ) (u k size : ℕ) (held : List (List ℕ)) → HasBlock units u k size
+    → IsRecord units current events typed → held ≡ slice_index_or current u held
     → (held ≡ contents events u (start_of units u)) × (k - 1 < length held)
 record_read units current events typed u k size held has is read =
     let within = HasBlock-within units u k size has in
@@ -130,7 +136,8 @@ record_read units current events typed u k size held has is read =
     let same : held ≡ contents events u (start_of units u) = read ∙ get_or-default current u held [] inside ∙ is.current_is u within.0 in
     (same, omega (arith, ap length same, length-contents events u (start_of units u), within))
 
-pub record_wrote_at : (units : List Attached) (current : List (List (List ℕ))) (events : List Event) (typed : List ℕ) (v k : ℕ) (bytes : List ℕ) (held : List (List ℕ)) → HasBlock units v k (length bytes) → IsRecord units current events typed → held ≡ slice_index_or current v held
+pub record_wrote_at : (units : List Attached) (current : List (List (List ℕ))) (events : List Event) (typed : List ℕ) (v k : ℕ) (bytes : List ℕ) (held : List (List ℕ))
+    → HasBlock units v k (length bytes) → IsRecord units current events typed → held ≡ slice_index_or current v held
     → IsRecord units (slice_set current v (slice_set held (k - 1) bytes)) (Wrote v k bytes ∷ events) typed
 record_wrote_at units current events typed v k bytes held has is read =
     let within = HasBlock-within units v k (length bytes) has in
@@ -157,7 +164,8 @@ get_push [] unit (suc u) = inr (inr (omega arith, refl))
 get_push (x ∷ xs) unit zero = inl (omega arith, refl)
 get_push (x ∷ xs) unit (suc u) = let ih = get_push xs unit u in grind (arith, ih)
 
-sized_attach : (units : List Attached) (unit : Attached) (events : List Event) → All (λ block. length block ≡ unit.bsize) unit.start → AreToCome units events → AreSized units events → AreSized (units ++ unit ∷ []) events
+sized_attach : (units : List Attached) (unit : Attached) (events : List Event) → All (λ block. length block ≡ unit.bsize) unit.start → AreToCome units events → AreSized units events
+    → AreSized (units ++ unit ∷ []) events
 sized_attach units unit events start to_come sized = λ u k size has. elim (get_push units unit u) [
   | inl old ↦ rw old.1 (sized u k size (rw old.1 at has))
   | inr new ↦ elim new [
@@ -171,7 +179,8 @@ sized_attach units unit events start to_come sized = λ u k size has. elim (get_
   ]
 ]
 
-current_attach : (units : List Attached) (current : List (List (List ℕ))) (events : List Event) (unit : Attached) → length current ≡ length units → AreToCome units events → AreCurrent units current events
+current_attach : (units : List Attached) (current : List (List (List ℕ))) (events : List Event) (unit : Attached) → length current ≡ length units → AreToCome units events
+    → AreCurrent units current events
     → AreCurrent (units ++ unit ∷ []) (current ++ unit.start ∷ []) events
 current_attach units current events unit len to_come is = λ u inside.
     let below : u < length units + 1 = omega (arith, simp length-append at inside) in
@@ -189,7 +198,8 @@ current_attach units current events unit len to_come is = λ u inside.
       ]
     ]
 
-pub record_attach : (units : List Attached) (current : List (List (List ℕ))) (unit : Attached) (events : List Event) (typed : List ℕ) → All (λ block. length block ≡ unit.bsize) unit.start → IsRecord units current events typed
+pub record_attach : (units : List Attached) (current : List (List (List ℕ))) (unit : Attached) (events : List Event) (typed : List ℕ) → All (λ block. length block ≡ unit.bsize) unit.start
+    → IsRecord units current events typed
     → IsRecord (units ++ unit ∷ []) (current ++ unit.start ∷ []) events typed
 record_attach units current unit events typed start is = record {
   same_length = simp length-append (omega (arith, is.same_length));

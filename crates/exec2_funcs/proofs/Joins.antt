@@ -97,7 +97,8 @@ kept [] more some = absurd (some refl)
 kept (byte ∷ word) more some = let e : (suc (length word) == 0) ≡ false = grind (arith, nat_tests) in rw e refl
 
 -- an empty word changes nothing
-pub continued_empty : (text : Text) (words : List Text) (i : ℕ) (word : Text) → i < length words → word ≡ get_or words i word → length word ≡ 0 → continued text (drop i words) ≡ continued text (drop (i + 1) words)
+pub continued_empty : (text : Text) (words : List Text) (i : ℕ) (word : Text) → i < length words → word ≡ get_or words i word → length word ≡ 0
+    → continued text (drop i words) ≡ continued text (drop (i + 1) words)
 continued_empty [] words i word here is none = rw (from_here words i word here is, empty_out word (drop (i + 1) words) none) refl
 continued_empty (byte ∷ text) words i word here is none = rw (from_here words i word here is, empty_out word (drop (i + 1) words) none) refl
 

@@ -32,7 +32,8 @@ module _ {Z : Type 0} where
   put_texts k v [] = refl
   put_texts k v (e ∷ es) = cases (R k.items e.0.items) (put_texts k v es)
     where
-      cases : (o : Ordering) → texts_of (insert_entry (λ x y. R x.items y.items) es k v) ≡ put R k.items v (texts_of es) → texts_of (match_ordering o ((k, v) ∷ e ∷ es) ((e.0, v) ∷ es) (e ∷ insert_entry (λ x y. R x.items y.items) es k v))
+      cases : (o : Ordering) → texts_of (insert_entry (λ x y. R x.items y.items) es k v) ≡ put R k.items v (texts_of es)
+          → texts_of (match_ordering o ((k, v) ∷ e ∷ es) ((e.0, v) ∷ es) (e ∷ insert_entry (λ x y. R x.items y.items) es k v))
           ≡ by_order o ((k.items, v) ∷ texts_of (e ∷ es)) ((e.0.items, v) ∷ texts_of es) ((e.0.items, e.1) ∷ put R k.items v (texts_of es))
       cases Less h = refl
       cases Equal h = refl

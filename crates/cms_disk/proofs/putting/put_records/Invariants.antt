@@ -7,10 +7,12 @@ use Rattle.cms_disk.proofs.Filling.{PutTo}
 use Rattle.cms_disk.proofs.putting.put_records.Given as goal
 
 abbrev pub invariant-loop-text : goal.invariant-loop-text
-invariant-loop-text g l =
-    (goal.iterator-loop-text g).can_next l.text-iterator × (goal.iterator-loop-text g).is_finite l.text-iterator
-    × PutTo (g.W.World.told l.fn.world) (g.W.World.told l.world) l.fn.draft l.draft (records_in l.file) l.text-iterator
-    × ForSome (g.W.World.told l.world) (λ j. CanWrite j.units l.draft.writer.writer)
-    × Grown (g.W.World.told l.fn.world) (g.W.World.told l.world)
-    × (g.W.World.faults l.fn.world ≤ g.W.World.faults l.world)
-    × (g.W.World.edges l.world ≡ g.W.World.edges l.fn.world)
+invariant-loop-text g l = record {
+  next : (goal.iterator-loop-text g).can_next l.text-iterator;
+  finite : (goal.iterator-loop-text g).is_finite l.text-iterator;
+  put : PutTo (g.W.World.told l.fn.world) (g.W.World.told l.world) l.fn.draft l.draft (records_in l.file) l.text-iterator;
+  ready : ForSome (g.W.World.told l.world) (λ j. CanWrite j.units l.draft.writer.writer);
+  grown : Grown (g.W.World.told l.fn.world) (g.W.World.told l.world);
+  faults : g.W.World.faults l.fn.world ≤ g.W.World.faults l.world;
+  edges : g.W.World.edges l.world ≡ g.W.World.edges l.fn.world;
+}

@@ -12,7 +12,8 @@ returns-then-free-need-clause-full c =
     let r = c.count_blocks-counts.result in
     let size = ap (λ (h : Holding). h.volume.disk.bsize) c.held.view_is in
     let total = ap (λ (h : Holding). h.volume.label.blocks) c.held.view_is in (
-      need_of v c.held.inside.bsize c.held.inside.label.blocks c.args.files r.directory r.directory_nodes r.map r.map_nodes c.args.file size total k.first k.directory k.directory_nodes k.map k.map_nodes,
+      need_of v c.held.inside.bsize c.held.inside.label.blocks c.args.files r.directory r.directory_nodes r.map r.map_nodes c.args.file size total k.first k.directory k.directory_nodes k.map
+          k.map_nodes,
       c.free_count-free.ensures.count ∙ ap (λ (h : Holding). length (free_blocks h.volume.bits)) c.held.view_is,
       c.if-free-need.true,
     )
@@ -24,7 +25,8 @@ returns-in-Ok-clause-room c =
     let r = c.count_blocks-counts.result in
     let size = ap (λ (h : Holding). h.volume.disk.bsize) c.held.view_is in
     let total = ap (λ (h : Holding). h.volume.label.blocks) c.held.view_is in
-    let need = need_of v c.held.inside.bsize c.held.inside.label.blocks c.args.files r.directory r.directory_nodes r.map r.map_nodes c.args.file size total k.first k.directory k.directory_nodes k.map k.map_nodes in
+    let need = need_of v c.held.inside.bsize c.held.inside.label.blocks c.args.files r.directory r.directory_nodes r.map r.map_nodes c.args.file size total k.first k.directory k.directory_nodes k.map
+    k.map_nodes in
     let free = c.free_count-free.ensures.count ∙ ap (λ (h : Holding). length (free_blocks h.volume.bits)) c.held.view_is in
     let enough = c.if-free-need.false in
     omega arith

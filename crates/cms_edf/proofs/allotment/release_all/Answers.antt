@@ -19,7 +19,8 @@ loop-block-preserved c =
       }
       | else-may_be_free w ↦ record {
         freed = w.map-is
-            ∙ passed_more ns i c.args.total c.args.map.now c.loop-block.map c.loop-block-test.true c.loop-block.invariant.freed c.loop-block.invariant.count (sym c.may_be_free.ensures ∙ w.if-may_be_free.false);
+            ∙ passed_more ns i c.args.total c.args.map.now c.loop-block.map c.loop-block-test.true c.loop-block.invariant.freed c.loop-block.invariant.count
+            (sym c.may_be_free.ensures ∙ w.if-may_be_free.false);
         count = search rules;
       }
     ]

@@ -29,12 +29,14 @@ pub returns-in-Edit-clause-carries : goal.returns-in-Edit-clause-carries
 returns-in-Edit-clause-carries g c = λ j m change stamp told held is.
     let v = c.args.held.now.volume in
     let same = sym c.plan.view_is ∙ c.in-Edit.is in
-    edit_out j (g.W.World.told c.args.world.now) (g.W.World.told c.carry_edit.new.world) v c.carry_edit.new.self.volume m change stamp c.args.plan c.in-Edit.edit _ c.in-Edit.systems _ c.carry_edit.result told held is
-    same c.in-Edit.edit-is c.in-Edit.systems-is c.carry_edit.ensures.done c.carry_edit.ensures.volume c.carry_edit.ensures.cut_off
+    edit_out j (g.W.World.told c.args.world.now) (g.W.World.told c.carry_edit.new.world) v c.carry_edit.new.self.volume m change stamp c.args.plan c.in-Edit.edit _ c.in-Edit.systems _
+    c.carry_edit.result told held is
+    same c.in-Edit.edit-is c.in-Edit.systems-is c.carry_edit.ensures.updates c.carry_edit.ensures.volume
 
 pub returns-in-Relabel-clause-carries : goal.returns-in-Relabel-clause-carries
 returns-in-Relabel-clause-carries g c = λ j m change stamp told held is.
     let v = c.args.held.now.volume in
     let same = sym c.plan.view_is ∙ c.in-Relabel.is in
-    label_out j (g.W.World.told c.args.world.now) (g.W.World.told c.carry_label.new.world) v c.carry_label.new.self.volume m change stamp c.args.plan c.in-Relabel.label c.in-Relabel.label_bytes _ c.carry_label.result told held is
+    label_out j (g.W.World.told c.args.world.now) (g.W.World.told c.carry_label.new.world) v c.carry_label.new.self.volume m change stamp c.args.plan c.in-Relabel.label c.in-Relabel.label_bytes _
+    c.carry_label.result told held is
     same c.carry_label.ensures.done c.carry_label.ensures.volume c.carry_label.ensures.either c.carry_label.ensures.cut_off (rw c.in-Relabel.is refl)

@@ -1,45 +1,64 @@
-use Rattle.std.proofs.Common.{◌≡◌, ◌++◌, ℕ, List, [], length, position, Ok, Err, OnOk, refl, sym, ◌∙◌, ap, subst}
-use Rattle.std.specs.Prelude.{⊤}
+use Rattle.std.proofs.Common.{◌≡◌, ◌++◌, List, length, position, Err, OnOk, sym, ◌∙◌, ap, subst}
 use Rattle.cms_journal.specs.Journal.{HasBlocks, IsBlockSize, IsWritable}
 use Rattle.cms_journal.specs.declared.event.Attached.{Attached}
 use Rattle.cms_tree.proofs.Own.{own_grown}
 use Rattle.cms_tree.proofs.Stepping.{units_kept}
-use Rattle.cms_held.specs.Opening.{HeldVolume}
-use Rattle.cms_held.specs.Renewing.{Edit, renewed}
+use Rattle.cms_model.specs.Minidisks.{same_name}
+use Rattle.cms_held.specs.Opening.{names_in}
+use Rattle.cms_held.specs.Renewing.{renewed}
 use Rattle.cms_held.specs.Systems.{system_writes}
 use Rattle.cms_model.specs.Settled.{writes}
 use Rattle.cms_held.proofs.Fronts.{on_ok}
 use Rattle.cms_draft.specs.declared.shape.DraftShape.{DraftShape}
-use Rattle.cms_edf.specs.FileDrafts.{FileDraft, IsCommitted, IsSomeDraft, LeadsToFile, files_with, tree_of}
-use Rattle.cms_edf.specs.declared.doubt.Doubt.{Doubt}
+use Rattle.cms_edf.specs.FileDrafts.{FileDraft, IsCommitted, IsSomeDraft, LeadsToFile, file_for, files_with, tree_of}
 use Rattle.cms_edf.specs.declared.doubt.Doubt.TheVariants.{Old}
 use Rattle.cms_edf.proofs.Committed.{both_cause, can_write, commit_keeps, committed_at, events_behind, events_failed, grown_behind, same_files, system_there}
+use Rattle.cms_edf.proofs.committing.commit.Given as given
 use Rattle.cms_edf.proofs.committing.commit.Goals as goal
+use Rattle.cms_edf.proofs.committing.commit.Goals.{After-shape-2, In-Ok}
+
+-- the draft that is committed, and that it is one of the volume
+abbrev draft_of : (g : given.Over) → After-shape-2 g → FileDraft
+draft_of g c = record { entry = c.draft.inside.entry; writer = c.draft.inside.writer; systems = c.draft.inside.systems }
+
+some_of : (g : given.Over) (c : After-shape-2 g) → IsSomeDraft c.args.held.now.volume (draft_of g c)
+some_of g c = subst (IsSomeDraft c.args.held.now.volume) (sym c.draft.view_is) c.requires.plan
+
+-- the files with the one that is put are those that were planned
+files_put : (g : given.Over) (c : In-Ok g) (some : IsSomeDraft c.args.held.now.volume (record { entry = c.draft.inside.entry; writer = c.draft.inside.writer; systems = c.draft.inside.systems }))
+    → files_with c.args.held.now.volume.files (position (same_name c.draft.inside.entry.name) (names_in c.args.held.now.volume.files))
+    (record { entry = c.draft.inside.entry; tree = c.in-Ok.tree; length = c.shape.result.now.length; size = c.shape-2.result.now.bytes })
+    ≡ files_with c.args.held.now.volume.files (position (same_name some.name) (names_in c.args.held.now.volume.files))
+    (file_for c.args.held.now.volume.disk.bsize some.name some.shape (tree_of (record { entry = c.draft.inside.entry; writer = c.draft.inside.writer; systems = c.draft.inside.systems })))
+files_put g c some =
+    same_files c.args.held.now.volume (record { entry = c.draft.inside.entry; writer = c.draft.inside.writer; systems = c.draft.inside.systems }) some c.in-Ok.tree c.shape.result.now.length
+    c.shape-2.result.now.bytes c.in-Ok.ensures.tree
+    (ap (λ (x : DraftShape). x.length) c.shape.ensures.shape) (ap (λ (x : DraftShape). x.bytes) c.shape-2.ensures.shape)
 
 pub finish-requires-clause-ready : goal.finish-requires-clause-ready
 finish-requires-clause-ready g c = λ j told.
     let v = c.args.held.now.volume in
-    let s = c.draft.inside in
-    let d : FileDraft = record { entry = s.entry; writer = s.writer; systems = s.systems } in
-    let some : IsSomeDraft v d = subst (IsSomeDraft v) (sym c.draft.view_is) c.requires.plan in
+    let at = (goal.at.finish-requires-clause-ready g c).After-shape-2 in
+    let d = draft_of g at in
+    let some = some_of g at in
     can_write j.units v d some (c.requires.blocks j told) (c.requires.writable j told)
 
 pub carry_file-requires-clause-kept : goal.carry_file-requires-clause-kept
 carry_file-requires-clause-kept g c = λ edit files.
     let v = c.args.held.now.volume in
-    let s = c.draft.inside in
-    let d : FileDraft = record { entry = s.entry; writer = s.writer; systems = s.systems } in
-    let some : IsSomeDraft v d = subst (IsSomeDraft v) (sym c.draft.view_is) c.requires.plan in
+    let at = (goal.at.carry_file-requires-clause-kept g c).After-shape-2 in
+    let d = draft_of g at in
+    let some = some_of g at in
     let size : IsBlockSize v.disk.bsize = subst IsBlockSize some.is.bsize_is c.shape.ensures.kept.writer.size in
-    commit_keeps v d some edit size (files ∙ same_files v d some c.in-Ok.tree c.shape.result.now.length c.shape-2.result.now.bytes c.in-Ok.ensures.tree
-    (ap (λ (x : DraftShape). x.length) c.shape.ensures.shape) (ap (λ (x : DraftShape). x.bytes) c.shape-2.ensures.shape))
+    commit_keeps v d some edit size (files ∙ files_put g (goal.at.carry_file-requires-clause-kept g c).In-Ok some)
 
 pub carry_file-requires-clause-blocks : goal.carry_file-requires-clause-blocks
 carry_file-requires-clause-blocks g c = λ j told.
     let v = c.args.held.now.volume in
     let s = c.draft.inside in
-    let d : FileDraft = record { entry = s.entry; writer = s.writer; systems = s.systems } in
-    let some : IsSomeDraft v d = subst (IsSomeDraft v) (sym c.draft.view_is) c.requires.plan in
+    let at = (goal.at.carry_file-requires-clause-blocks g c).After-shape-2 in
+    let d = draft_of g at in
+    let some = some_of g at in
     let old = g.W.World.told c.args.world.now in
     let mid = g.W.World.told c.finish.new.world in
     let grown = own_grown old mid s.writer.writer.unit s.writer.writer.bsize (s.writer.writer.tree.leaves ++ s.writer.writer.tree.pointers) c.finish.ensures.own in
@@ -57,14 +76,14 @@ carry_file-requires-clause-writable g c = λ j told.
 pub returns-in-Ok-clause-events : goal.returns-in-Ok-clause-events
 returns-in-Ok-clause-events g c =
     let v = c.args.held.now.volume in
-    let s = c.draft.inside in
-    let d : FileDraft = record { entry = s.entry; writer = s.writer; systems = s.systems } in
-    let some : IsSomeDraft v d = subst (IsSomeDraft v) (sym c.draft.view_is) c.requires.plan in
+    let at = (goal.at.returns-in-Ok-clause-events g c).After-shape-2 in
+    let d = draft_of g at in
+    let some = some_of g at in
     let old = g.W.World.told c.args.world.now in
     let mid = g.W.World.told c.finish.new.world in
     rw (← c.draft.view_is) (λ records h.
     let f = c.in-Ok.ensures.finishes records h in
-    record { rest = f.0; left = record { is = f.2 }; events = events_behind old mid (g.W.World.told c.carry_file.new.world) v d f.0 c.carry_file.result some f.1 c.carry_file.ensures.done c.carry_file.ensures.cut_off })
+    record { rest = f.0; left = record { is = f.2 }; events = events_behind old mid (g.W.World.told c.carry_file.new.world) v d f.0 c.carry_file.result some f.1 c.carry_file.ensures.updates })
 
 pub returns-in-Ok-clause-volume : goal.returns-in-Ok-clause-volume
 returns-in-Ok-clause-volume g c =
@@ -73,27 +92,26 @@ returns-in-Ok-clause-volume g c =
     let d : FileDraft = record { entry = s.entry; writer = s.writer; systems = s.systems } in
     let w = c.carry_file.new.self.volume in
     rw (← c.draft.view_is) (on_ok c.carry_file.result _ (LeadsToFile v d w) (λ leads name shape stamp p.
-    leads p.file.edit (p.file.files_are ∙ sym (same_files v d (record { name = name; shape = shape; stamp = stamp; is = p }) c.in-Ok.tree c.shape.result.now.length c.shape-2.result.now.bytes c.in-Ok.ensures.tree
-    (ap (λ (x : DraftShape). x.length) c.shape.ensures.shape) (ap (λ (x : DraftShape). x.bytes) c.shape-2.ensures.shape)))) c.carry_file.ensures.volume)
+    leads p.file.edit (p.file.files_are ∙ sym (files_put g (goal.at.returns-in-Ok-clause-volume g c).In-Ok (record { name = name; shape = shape; stamp = stamp; is = p }))))
+    c.carry_file.ensures.volume)
 
 pub returns-in-Ok-clause-commits : goal.returns-in-Ok-clause-commits
 returns-in-Ok-clause-commits g c =
     let v = c.args.held.now.volume in
-    let s = c.draft.inside in
-    let d : FileDraft = record { entry = s.entry; writer = s.writer; systems = s.systems } in
-    let some : IsSomeDraft v d = subst (IsSomeDraft v) (sym c.draft.view_is) c.requires.plan in
+    let at = (goal.at.returns-in-Ok-clause-commits g c).After-shape-2 in
+    let d = draft_of g at in
+    let some = some_of g at in
     let old = g.W.World.told c.args.world.now in
     let mid = g.W.World.told c.finish.new.world in
     let new = g.W.World.told c.carry_file.new.world in
     let w = c.carry_file.new.self.volume in
     let r = c.carry_file.result in
     let leads : OnOk r (w ≡ renewed v some.is.file.edit d.systems) = on_ok r _ (w ≡ renewed v some.is.file.edit d.systems) (λ leads.
-    leads some.is.file.edit (some.is.file.files_are ∙ sym (same_files v d some c.in-Ok.tree c.shape.result.now.length c.shape-2.result.now.bytes c.in-Ok.ensures.tree
-    (ap (λ (x : DraftShape). x.length) c.shape.ensures.shape) (ap (λ (x : DraftShape). x.bytes) c.shape-2.ensures.shape)))) c.carry_file.ensures.volume in
+    leads some.is.file.edit (some.is.file.files_are ∙ sym (files_put g (goal.at.returns-in-Ok-clause-commits g c).In-Ok some))) c.carry_file.ensures.volume in
     rw (← c.draft.view_is) (λ j m records told held h longest stands.
     let f = c.in-Ok.ensures.finishes records h in
     let events : IsCommitted old new v d records r =
-    record { rest = f.0; left = record { is = f.2 }; events = events_behind old mid new v d f.0 r some f.1 c.carry_file.ensures.done c.carry_file.ensures.cut_off } in
+    record { rest = f.0; left = record { is = f.2 }; events = events_behind old mid new v d f.0 r some f.1 c.carry_file.ensures.updates } in
     committed_at j old new v w m d some records r told held c.shape.ensures.kept h longest stands events leads)
 
 pub returns-in-Ok-clause-counts : goal.returns-in-Ok-clause-counts
@@ -106,9 +124,9 @@ returns-in-Ok-clause-counts g c = record {
 pub returns-in-Err-clause-events : goal.returns-in-Err-clause-events
 returns-in-Err-clause-events g c =
     let v = c.args.held.now.volume in
-    let s = c.draft.inside in
-    let d : FileDraft = record { entry = s.entry; writer = s.writer; systems = s.systems } in
-    let some : IsSomeDraft v d = subst (IsSomeDraft v) (sym c.draft.view_is) c.requires.plan in
+    let at = (goal.at.returns-in-Err-clause-events g c).After-shape-2 in
+    let d = draft_of g at in
+    let some = some_of g at in
     let old = g.W.World.told c.args.world.now in
     let mid = g.W.World.told c.finish.new.world in
     rw (← c.draft.view_is) (λ records h.
@@ -118,9 +136,9 @@ returns-in-Err-clause-events g c =
 pub returns-in-Err-clause-commits : goal.returns-in-Err-clause-commits
 returns-in-Err-clause-commits g c =
     let v = c.args.held.now.volume in
-    let s = c.draft.inside in
-    let d : FileDraft = record { entry = s.entry; writer = s.writer; systems = s.systems } in
-    let some : IsSomeDraft v d = subst (IsSomeDraft v) (sym c.draft.view_is) c.requires.plan in
+    let at = (goal.at.returns-in-Err-clause-commits g c).After-shape-2 in
+    let d = draft_of g at in
+    let some = some_of g at in
     let old = g.W.World.told c.args.world.now in
     let mid = g.W.World.told c.finish.new.world in
     rw (← c.draft.view_is) (λ j m records told held h longest stands.
@@ -133,8 +151,7 @@ returns-in-Ok-clause-grown g c =
     let own = c.finish.ensures.own in
     let told = g.W.World.told in
     grown_behind (told c.args.world.now) (told c.finish.new.world) (told c.carry_file.new.world) (writes c.draft.inside.writer.writer.unit own.part) c.args.held.now.volume.unit
-    (system_writes (length c.draft.inside.systems.label_bytes) c.draft.inside.systems) c.draft.inside.systems.label_bytes c.carry_file.result own.told c.carry_file.ensures.done
-    c.carry_file.ensures.cut_off
+    (system_writes (length c.draft.inside.systems.label_bytes) c.draft.inside.systems) c.draft.inside.systems.label_bytes c.carry_file.result own.told c.carry_file.ensures.updates
 
 pub returns-in-Err-clause-grown : goal.returns-in-Err-clause-grown
 returns-in-Err-clause-grown g c = let own = c.finish.ensures.own in record { events = writes c.draft.inside.writer.writer.unit own.part; told = own.told }

@@ -1,4 +1,4 @@
-use Rattle.std.proofs.Common.{◌≡◌, ap, sym, ◌∙◌}
+use Rattle.std.proofs.Common.{ap, ◌∙◌}
 use Rattle.indexmap.specs.IndexMap.{insert_entry}
 use Rattle.cms_fields.specs.declared.entry.Entry.{Entry}
 use Rattle.cms_edf.proofs.FilesPut.{Puts, puts}

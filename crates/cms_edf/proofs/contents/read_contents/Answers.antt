@@ -57,7 +57,8 @@ read_sizes-requires-clause-count g c =
     let nth : c.len-nth.result ≡ k = search rules in
     let count = c.requires.count in
     let leaves : c.deref.result.now ≡ c.in-Some.tree.leaves.items = search rules in
-    ap length leaves ∙ count_at c.args.entries.now c.args.trees.items k c.index-entries-nth.result c.in-Some.tree c.requires.counts (omega (arith, item.0, count)) item.0 (index_at c.args.entries.now c.len-nth.result k c.index-entries-nth.result nth c.index-entries-nth.is) item.1
+    ap length leaves ∙ count_at c.args.entries.now c.args.trees.items k c.index-entries-nth.result c.in-Some.tree c.requires.counts (omega (arith, item.0, count)) item.0
+    (index_at c.args.entries.now c.len-nth.result k c.index-entries-nth.result nth c.index-entries-nth.is) item.1
 
 pub read_sizes-requires-clause-blocks : goal.read_sizes-requires-clause-blocks
 read_sizes-requires-clause-blocks g c = λ j told at less.
@@ -135,7 +136,8 @@ loop-tree-preserved g c =
           let image = image_of (contents_of j a.place.now.unit) in
           rw (values_are, one)
           (subst (λ (ws : List Walked). ContentsTo a.place.now.bsize image a.entries.now ws (k + 1) (values l.files ++ (c.file_of.result ∷ []))) (sym gives)
-          (contents_next a.place.now.bsize image a.entries.now a.trees.items k (c.len-nth.result + 2) c.index-entries-nth.result c.in-Some.tree c.deref.result.now c.in_ok-sizes.sizes (values l.files) c.file_of.result
+          (contents_next a.place.now.bsize image a.entries.now a.trees.items k (c.len-nth.result + 2) c.index-entries-nth.result c.in-Some.tree c.deref.result.now c.in_ok-sizes.sizes
+          (values l.files) c.file_of.result
           less at item.0 item.1 (omega (arith, nth)) leaves c.file_of.ensures
           (sizes.read j (l.invariant.told ∙ told))
           (subst (λ (ws : List Walked). ContentsTo a.place.now.bsize image a.entries.now ws k (values l.files)) gives (l.invariant.contents j told))));
@@ -150,7 +152,8 @@ loop-tree-preserved g c =
           (file_kept a.place.now.bsize a.place.now.total c.index-entries-nth.result c.in-Some.tree c.in_ok-sizes.sizes c.file_of.result c.file_of.ensures
           (subst (λ (x : Entry). passes a.place.now.bsize x ≡ true) (sym at) (c.requires.entries k c.index-entries-nth.result less))
           (subst (HasSize a.place.now.bsize) (sym at) (c.requires.sizes k c.index-entries-nth.result less))
-          (count_at a.entries.now a.trees.items k c.index-entries-nth.result c.in-Some.tree c.requires.counts less item.0 at item.1) (subst (IsWithin a.place.now.total None) (sym item.1) (c.requires.within k c.in-Some.tree item.0)).leaves
+          (count_at a.entries.now a.trees.items k c.index-entries-nth.result c.in-Some.tree c.requires.counts less item.0 at item.1)
+          (subst (IsWithin a.place.now.total None) (sym item.1) (c.requires.within k c.in-Some.tree item.0)).leaves
           sizes.some sizes.longest sizes.fixed sizes.stored));
       told = sizes.reads.told ∙ l.invariant.told;
       faults = omega (arith, sizes.reads.faults, l.invariant.faults);

@@ -15,7 +15,8 @@ invariant-loop-tree g l = record {
   trees : l.yielded ++ into_iter_items l.tree-iterator ≡ into_iter_items l.initial.tree-iterator;
   len : into_iter_len l.tree-iterator ≡ length (into_iter_items l.tree-iterator);
   many : length l.files.entries ≡ length l.yielded;
-  contents : ForSome (g.W.World.told l.fn.world) (λ j. ContentsTo l.place.bsize (image_of (contents_of j l.place.unit)) l.entries (into_iter_items l.initial.tree-iterator) (length l.yielded) (values l.files));
+  contents : ForSome (g.W.World.told l.fn.world) (λ j. ContentsTo l.place.bsize (image_of (contents_of j l.place.unit)) l.entries (into_iter_items l.initial.tree-iterator) (length l.yielded)
+      (values l.files));
   named : l.files.entries ≡ by_name (values l.files);
   names : names_in (values l.files) ≡ map (λ e. e.name) (take (length l.yielded) l.entries);
   each : All (IsKeptFile l.place.bsize l.place.total) (values l.files);

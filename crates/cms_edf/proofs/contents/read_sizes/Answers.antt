@@ -15,10 +15,12 @@ pub returns-in-V-clause-read : goal.returns-in-V-clause-read
 returns-in-V-clause-read g c =
     let a = c.args in
     let is : a.entry.now.format ≡ V = search rules in
-    ok_maps c.read_varying.result _ _ (λ sizes read j told. varying_has a.place.now.bsize (image_of (contents_of j a.place.now.unit)) a.number a.entry.now a.leaves.now sizes is (read j told)) c.read_varying.ensures.read
+    ok_maps c.read_varying.result _ _ (λ sizes read j told. varying_has a.place.now.bsize (image_of (contents_of j a.place.now.unit)) a.number a.entry.now a.leaves.now sizes is (read j told))
+    c.read_varying.ensures.read
 
 pub returns-in-V-clause-fault : goal.returns-in-V-clause-fault
 returns-in-V-clause-fault g c =
     let a = c.args in
     let is : a.entry.now.format ≡ V = search rules in
-    err_maps c.read_varying.result _ _ (λ why bad j told. varying_bad a.place.now.bsize (image_of (contents_of j a.place.now.unit)) a.number a.entry.now a.leaves.now why is (bad j told)) c.read_varying.ensures.fault
+    err_maps c.read_varying.result _ _ (λ why bad j told. varying_bad a.place.now.bsize (image_of (contents_of j a.place.now.unit)) a.number a.entry.now a.leaves.now why is (bad j told))
+    c.read_varying.ensures.fault

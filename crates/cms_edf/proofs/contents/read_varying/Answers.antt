@@ -41,15 +41,19 @@ pub returns-clause-read : goal.returns-clause-read
 returns-clause-read g c =
     let l = c.loop-nth in
     let a = c.args in
-    when_ok c.end.result (g.W.World.told a.world.now) (λ (j : Journal). blamed (failed.Var a.number) (sizes_in a.place.now.bsize a.count (bytes_at (image_of (contents_of j a.place.now.unit)) a.leaves.now)))
-    (λ j told. takes_last (image_of (contents_of j a.place.now.unit)) a.leaves.now l.nth a.count a.number a.place.now.bsize l.scan c.end.result (search rules) l.invariant.bsize c.end.ensures.told (l.invariant.takes j told))
+    when_ok c.end.result (g.W.World.told a.world.now) (λ (j : Journal). blamed (failed.Var a.number)
+    (sizes_in a.place.now.bsize a.count (bytes_at (image_of (contents_of j a.place.now.unit)) a.leaves.now)))
+    (λ j told. takes_last (image_of (contents_of j a.place.now.unit)) a.leaves.now l.nth a.count a.number a.place.now.bsize l.scan c.end.result (search rules) l.invariant.bsize c.end.ensures.told
+    (l.invariant.takes j told))
 
 pub returns-clause-fault : goal.returns-clause-fault
 returns-clause-fault g c =
     let l = c.loop-nth in
     let a = c.args in
-    when_err c.end.result (g.W.World.told a.world.now) (λ (j : Journal). blamed (failed.Var a.number) (sizes_in a.place.now.bsize a.count (bytes_at (image_of (contents_of j a.place.now.unit)) a.leaves.now)))
-    (λ j told. takes_last (image_of (contents_of j a.place.now.unit)) a.leaves.now l.nth a.count a.number a.place.now.bsize l.scan c.end.result (search rules) l.invariant.bsize c.end.ensures.told (l.invariant.takes j told))
+    when_err c.end.result (g.W.World.told a.world.now) (λ (j : Journal). blamed (failed.Var a.number)
+    (sizes_in a.place.now.bsize a.count (bytes_at (image_of (contents_of j a.place.now.unit)) a.leaves.now)))
+    (λ j told. takes_last (image_of (contents_of j a.place.now.unit)) a.leaves.now l.nth a.count a.number a.place.now.bsize l.scan c.end.result (search rules) l.invariant.bsize c.end.ensures.told
+    (l.invariant.takes j told))
 
 pub returns-clause-some : goal.returns-clause-some
 returns-clause-some g c =

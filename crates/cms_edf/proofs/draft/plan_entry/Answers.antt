@@ -11,12 +11,12 @@ use Rattle.cms_edf.proofs.draft.plan_entry.Goals as goal
 pub fill_systems-requires-clause-each : goal.fill_systems-requires-clause-each
 fill_systems-requires-clause-each c =
     let v = c.args.held.now.volume in
-    let kept : Keeps v = c.in_ok-entries.ensures.kept in
-    subst (All CanWrite) (sym (c.deref.ensures.value ∙ c.in_ok-entries.ensures.entries))
+    let kept : Keeps v = c.with-entries.ensures.kept in
+    subst (All CanWrite) (sym c.with-entries.ensures.entries)
     (each_with (entries_held v.files) c.args.place c.args.entry.now (can_write_all v.disk.bsize v.label.blocks v.files kept.each) c.requires.entry)
 
 pub fill_systems-requires-clause-allotted : goal.fill_systems-requires-clause-allotted
 fill_systems-requires-clause-allotted c =
     let v = c.args.held.now.volume in
     subst (λ (n : ℕ). IsAllottedSo v n c.args.allotment)
-    (sym (ap (λ (l : List Entry). length l) (c.deref.ensures.value ∙ c.in_ok-entries.ensures.entries) ∙ count_held v.files c.args.place c.args.entry.now)) c.requires.allotted
+    (sym (ap (λ (l : List Entry). length l) c.with-entries.ensures.entries ∙ count_held v.files c.args.place c.args.entry.now)) c.requires.allotted

@@ -1,4 +1,4 @@
-use Rattle.std.proofs.Common.{◌≡◌, ℕ, List, ◌+◌, ◌≤◌, length, refl, sym, ◌∙◌, ap, subst, arith}
+use Rattle.std.proofs.Common.{◌≡◌, ℕ, length, refl, sym, ◌∙◌, ap, subst, arith}
 use Rattle.cms_fields.specs.Entries.{fan_of}
 use Rattle.cms_model.specs.Sizes.{levels, pointer_count}
 use Rattle.cms_held.specs.Kept.{Keeps}

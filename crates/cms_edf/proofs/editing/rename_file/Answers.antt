@@ -34,12 +34,14 @@ steps c =
 pub returns-clause-files : goal.returns-clause-files
 returns-clause-files c =
     let p : Pair = (c.in-Some.field-0-0, c.in-Some.file) in
-    (goes c.args.files.now.entries c.swap_remove_index.new.self.entries c.insert.new.self.entries c.swap_indices.new.self.entries c.args.place p c.args.to.now c.args.number c.with_name-file.result (steps c)).1
+    (goes c.args.files.now.entries c.swap_remove_index.new.self.entries c.insert.new.self.entries c.swap_indices.new.self.entries c.args.place p c.args.to.now c.args.number c.with_name-file.result
+    (steps c)).1
 
 pub returns-clause-named : goal.returns-clause-named
 returns-clause-named c =
     let p : Pair = (c.in-Some.field-0-0, c.in-Some.file) in
-    (goes c.args.files.now.entries c.swap_remove_index.new.self.entries c.insert.new.self.entries c.swap_indices.new.self.entries c.args.place p c.args.to.now c.args.number c.with_name-file.result (steps c)).0
+    (goes c.args.files.now.entries c.swap_remove_index.new.self.entries c.insert.new.self.entries c.swap_indices.new.self.entries c.args.place p c.args.to.now c.args.number c.with_name-file.result
+    (steps c)).0
 
 -- both places are within
 pub swap_indices-requires-clause-a_in_bounds : goal.swap_indices-requires-clause-a_in_bounds

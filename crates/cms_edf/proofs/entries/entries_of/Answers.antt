@@ -14,7 +14,11 @@ pub loop-place-preserved : goal.loop-place-preserved
 loop-place-preserved c =
     let l = c.loop-place in
     let grown : c.push.new.entries.items ≡ l.entries.items ++ (c.in_ok-entry.entry ∷ []) = search rules in
-    record { comes = rw grown (comes_next c.args.bsize c.args.count c.args.bytes.now l.place l.entries.items c.in_ok-entry.entry (search rules) (search rules) l.invariant.comes); many = rw grown (length_push l.entries.items c.in_ok-entry.entry ∙ ap (λ (n : ℕ). n + 1) l.invariant.many) }
+    record {
+      comes = rw grown (comes_next c.args.bsize c.args.count c.args.bytes.now l.place l.entries.items c.in_ok-entry.entry (search rules) (search rules) l.invariant.comes);
+      many =
+          rw grown (length_push l.entries.items c.in_ok-entry.entry ∙ ap (λ (n : ℕ). n + 1) l.invariant.many);
+    }
 
 pub returns-clause-entries : goal.returns-clause-entries
 returns-clause-entries c = comes_last c.args.bsize c.args.count c.args.bytes.now c.loop-place.place c.loop-place.entries.items (search rules) c.loop-place.invariant.comes

@@ -20,4 +20,8 @@ pub loop-place-preserved : goal.loop-place-preserved
 loop-place-preserved c =
     let l = c.loop-place in
     let met : list_any (same_as c.index-entries-place.result.name) l.names.keys ≡ false = search rules in
-    record { names = names_next l.names.keys c.insert.new.self.keys c.args.entries.now l.place c.index-entries-place.result (search rules) c.index-entries-place.is met (λ q. subst (λ (e : Entry). list_any (same_as q) c.insert.new.self.keys ≡ (if same_as e.name q then true else list_any (same_as q) l.names.keys)) (sym c.index-entries-place.is) (c.in-Ok-true.ensures.updates.0 q)) l.invariant.names }
+    record {
+      names = names_next l.names.keys c.insert.new.self.keys c.args.entries.now l.place c.index-entries-place.result (search rules) c.index-entries-place.is met
+          (λ q. subst (λ (e : Entry). list_any (same_as q) c.insert.new.self.keys ≡ (if same_as e.name q then true else list_any (same_as q) l.names.keys)) (sym c.index-entries-place.is)
+          (c.in-Ok-true.ensures.updates.0 q)) l.invariant.names;
+    }

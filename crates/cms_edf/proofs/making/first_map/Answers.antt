@@ -6,6 +6,7 @@ use Rattle.cms_model.specs.Sizes.{pointer_count}
 use Rattle.cms_map.specs.Bits.{free_blocks, with_marked}
 use Rattle.cms_held.proofs.NewMap.{TakesFirst, map_fits, takes_first}
 use Rattle.cms_edf.proofs.making.first_map.Goals as goal
+use Rattle.cms_edf.proofs.making.first_map.Goals.{After-shape}
 
 -- so many data blocks, with their pointer blocks
 sizes : (bsize total bytes wide leaves nodes : ℕ) → 512 ≤ bytes → bytes ≡ bsize → wide ≡ bsize → 8 ≤ total → leaves ≡ up (up total 8) bytes → nodes ≡ pointer_count (wide / 4) leaves
@@ -16,38 +17,37 @@ sizes bsize total bytes wide leaves nodes low same also least is_leaves is_nodes
 fits : (bsize total count : ℕ) → 512 ≤ bsize → 8 ≤ total → TakesFirst bsize total count → 5 + count ≤ total
 fits bsize total count low least t = let e = t.size in omega (arith, map_fits bsize total low least)
 
-pub overflow_add-count : goal.overflow_add-count
-overflow_add-count c =
+-- the blocks of the map, as many as its size says
+first_blocks : (c : After-shape) → TakesFirst c.args.bsize c.args.total (c.div_ceil-data.result + c.shape.result.pointers)
+first_blocks c =
     let leaves : c.div_ceil-data.result ≡ up (up c.args.total 8) c.bytes.result = search rules in
-    let t = sizes c.args.bsize c.args.total c.bytes.result c.bytes-2.result c.div_ceil-data.result c.shape.result.pointers c.bytes.ensures.least
-    c.bytes.ensures.value c.bytes-2.ensures.value c.requires leaves c.shape.ensures.pointers in
+    sizes c.args.bsize c.args.total c.bytes.result c.bytes-2.result c.div_ceil-data.result c.shape.result.pointers c.bytes.ensures.least
+    c.bytes.ensures.value c.bytes-2.ensures.value c.requires leaves c.shape.ensures.pointers
+
+has_room : (c : After-shape) → 5 + (c.div_ceil-data.result + c.shape.result.pointers) ≤ c.args.total
+has_room c =
     let size = c.bytes.ensures.value in
     let low = c.bytes.ensures.least in
-    let room = fits c.args.bsize c.args.total (c.div_ceil-data.result + c.shape.result.pointers) (omega arith) c.requires t in
+    fits c.args.bsize c.args.total (c.div_ceil-data.result + c.shape.result.pointers) (omega arith) c.requires (first_blocks c)
+
+pub overflow_add-count : goal.overflow_add-count
+overflow_add-count c =
+    let room = has_room (goal.at.overflow_add-count c).After-shape in
     omega arith
 
 pub take_blocks-requires : goal.take_blocks-requires
 take_blocks-requires c =
-    let leaves : c.div_ceil-data.result ≡ up (up c.args.total 8) c.bytes.result = search rules in
-    let t = sizes c.args.bsize c.args.total c.bytes.result c.bytes-2.result c.div_ceil-data.result c.shape.result.pointers c.bytes.ensures.least
-    c.bytes.ensures.value c.bytes-2.ensures.value c.requires leaves c.shape.ensures.pointers in
+    let t = first_blocks (goal.at.take_blocks-requires c).After-shape in
     subst (λ (m : List Bool). c.div_ceil-data.result + c.shape.result.pointers ≤ length (free_blocks m)) (sym c.in_ok-blank_map.ensures) t.enough
 
 pub overflow_add-result : goal.overflow_add-result
 overflow_add-result c =
-    let leaves : c.div_ceil-data.result ≡ up (up c.args.total 8) c.bytes.result = search rules in
-    let t = sizes c.args.bsize c.args.total c.bytes.result c.bytes-2.result c.div_ceil-data.result c.shape.result.pointers c.bytes.ensures.least
-    c.bytes.ensures.value c.bytes-2.ensures.value c.requires leaves c.shape.ensures.pointers in
-    let size = c.bytes.ensures.value in
-    let low = c.bytes.ensures.least in
-    let room = fits c.args.bsize c.args.total (c.div_ceil-data.result + c.shape.result.pointers) (omega arith) c.requires t in
+    let room = has_room (goal.at.overflow_add-result c).After-shape in
     omega arith
 
 pub returns-clause-from : goal.returns-clause-from
 returns-clause-from c =
-    let leaves : c.div_ceil-data.result ≡ up (up c.args.total 8) c.bytes.result = search rules in
-    let t = sizes c.args.bsize c.args.total c.bytes.result c.bytes-2.result c.div_ceil-data.result c.shape.result.pointers c.bytes.ensures.least
-    c.bytes.ensures.value c.bytes-2.ensures.value c.requires leaves c.shape.ensures.pointers in
+    let t = first_blocks (goal.at.returns-clause-from c).After-shape in
     let blank = c.in_ok-blank_map.ensures in
     let all = c.deref.ensures.value ∙ (c.in_ok-taken.ensures.blocks ∙ (ap (λ (m : List Bool). take (c.div_ceil-data.result + c.shape.result.pointers) (free_blocks m)) blank ∙ t.row)) in
     let front = c.in_ok-copied.ensures ∙ c.split_at.ensures.front in
@@ -57,16 +57,12 @@ returns-clause-from c =
 
 pub returns-clause-bits : goal.returns-clause-bits
 returns-clause-bits c =
-    let leaves : c.div_ceil-data.result ≡ up (up c.args.total 8) c.bytes.result = search rules in
-    let t = sizes c.args.bsize c.args.total c.bytes.result c.bytes-2.result c.div_ceil-data.result c.shape.result.pointers c.bytes.ensures.least
-    c.bytes.ensures.value c.bytes-2.ensures.value c.requires leaves c.shape.ensures.pointers in
+    let t = first_blocks (goal.at.returns-clause-bits c).After-shape in
     let blank = c.in_ok-blank_map.ensures in
     let count = c.div_ceil-data.result + c.shape.result.pointers in
     c.in_ok-taken.ensures.marked ∙ (ap (λ (m : List Bool). with_marked (take count (free_blocks m)) m) blank ∙ t.marks)
 
 pub returns-clause-used : goal.returns-clause-used
 returns-clause-used c =
-    let leaves : c.div_ceil-data.result ≡ up (up c.args.total 8) c.bytes.result = search rules in
-    let t = sizes c.args.bsize c.args.total c.bytes.result c.bytes-2.result c.div_ceil-data.result c.shape.result.pointers c.bytes.ensures.least
-    c.bytes.ensures.value c.bytes-2.ensures.value c.requires leaves c.shape.ensures.pointers in
+    let t = first_blocks (goal.at.returns-clause-used c).After-shape in
     ap (λ (n : ℕ). 5 + n) t.size

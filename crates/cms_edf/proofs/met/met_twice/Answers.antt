@@ -27,7 +27,8 @@ pub loop-place-preserved : goal.loop-place-preserved
 loop-place-preserved c =
     let w = block_within (length c.args.seen.now) c.args.blocks.now c.loop-place.place (slice_index_or c.args.blocks.now c.loop-place.place 0) (search rules) refl c.requires.within in
     record {
-      meets = meets_next c.loop-place.seen c.args.blocks.now c.loop-place.place (slice_index_or c.args.blocks.now c.loop-place.place 0) (search rules) refl w.0 (omega (arith, w.0, w.1, c.loop-place.invariant.size)) c.if-seen-bit.false c.loop-place.invariant.meets;
+      meets = meets_next c.loop-place.seen c.args.blocks.now c.loop-place.place (slice_index_or c.args.blocks.now c.loop-place.place 0) (search rules) refl w.0
+          (omega (arith, w.0, w.1, c.loop-place.invariant.size)) c.if-seen-bit.false c.loop-place.invariant.meets;
       size = search rules;
     }
 

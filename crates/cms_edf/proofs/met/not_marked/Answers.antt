@@ -3,7 +3,8 @@ use Rattle.cms_edf.proofs.Marked.{looks_found, looks_next, looks_last}
 use Rattle.cms_edf.proofs.met.not_marked.Goals as goal
 
 pub returns-then-is_missing : goal.returns-then-is_missing
-returns-then-is_missing c = looks_found c.args.map.now c.args.seen.now c.loop-block.block c.loop-block.invariant.low (search rules) (sym c.is_missing.ensures ∙ c.if-is_missing.true) c.loop-block.invariant.looks
+returns-then-is_missing c = looks_found c.args.map.now c.args.seen.now c.loop-block.block c.loop-block.invariant.low (search rules)
+    (sym c.is_missing.ensures ∙ c.if-is_missing.true) c.loop-block.invariant.looks
 
 pub loop-block-preserved : goal.loop-block-preserved
 loop-block-preserved c = record {

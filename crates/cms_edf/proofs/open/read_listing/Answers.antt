@@ -77,7 +77,8 @@ returns-in_err-entries-clause-read g c = λ j told.
     let at : c.system_at-at.result ≡ system_at place c.in_ok-directory.directory (Some place.origin) = search rules in
     let read = c.in_ok-walked.ensures.read j (c.in_ok-first.ensures.reads.told ∙ told) in
     let map_is : map_of place.bsize place.total (drop 64 c.in_ok-first.first.items) ≡ Ok c.in_ok-map.map = search rules in
-    let bytes : c.in_ok-bytes.bytes.items ≡ bytes_at image c.in_ok-walked.walked.leaves.items = c.in_ok-bytes.ensures.bytes j (c.in_ok-walked.ensures.reads.told ∙ (c.in_ok-first.ensures.reads.told ∙ told)) ∙ ap (bytes_at image) c.deref-3.ensures.value in
+    let bytes : c.in_ok-bytes.bytes.items ≡ bytes_at image c.in_ok-walked.walked.leaves.items =
+    c.in_ok-bytes.ensures.bytes j (c.in_ok-walked.ensures.reads.told ∙ (c.in_ok-first.ensures.reads.told ∙ told)) ∙ ap (bytes_at image) c.deref-3.ensures.value in
     let bad : IsFaultOf (entries_of place.bsize 2 (cut (c.in_ok-directory.directory.count - 2) 64 (drop 128 c.in_ok-bytes.bytes.items))) c.in_err-entries.field-0.0 = search rules in
     rw (p.1, p.2) (entries_fault place image c.in_ok-directory.directory c.in_ok-map.map (met_in c.in_ok-walked.walked) c.in_err-entries.field-0.0
     (tree_has place j c.in_ok-directory.directory c.in_ok-walked.walked c.system_at-at.result (rw first at is) (c.in_ok-directory.ensures.shape.1) at read.0)
@@ -97,7 +98,8 @@ returns-in_err-names_once-clause-read g c = λ j told.
     let at : c.system_at-at.result ≡ system_at place c.in_ok-directory.directory (Some place.origin) = search rules in
     let read = c.in_ok-walked.ensures.read j (c.in_ok-first.ensures.reads.told ∙ told) in
     let map_is : map_of place.bsize place.total (drop 64 c.in_ok-first.first.items) ≡ Ok c.in_ok-map.map = search rules in
-    let bytes : c.in_ok-bytes.bytes.items ≡ bytes_at image c.in_ok-walked.walked.leaves.items = c.in_ok-bytes.ensures.bytes j (c.in_ok-walked.ensures.reads.told ∙ (c.in_ok-first.ensures.reads.told ∙ told)) ∙ ap (bytes_at image) c.deref-3.ensures.value in
+    let bytes : c.in_ok-bytes.bytes.items ≡ bytes_at image c.in_ok-walked.walked.leaves.items =
+    c.in_ok-bytes.ensures.bytes j (c.in_ok-walked.ensures.reads.told ∙ (c.in_ok-first.ensures.reads.told ∙ told)) ∙ ap (bytes_at image) c.deref-3.ensures.value in
     let entries : entries_of place.bsize 2 (cut (c.in_ok-directory.directory.count - 2) 64 (drop 128 c.in_ok-bytes.bytes.items)) ≡ Ok c.in_ok-entries.entries.items = search rules in
     let bad : IsFaultOf (absent (first_twice 2 [] c.in_ok-entries.entries.items) failed.Twice) c.in_err-names_once.field-0.0 = search rules in
     rw (p.1, p.2) (names_fault place image c.in_ok-directory.directory c.in_ok-map.map (met_in c.in_ok-walked.walked) c.in_ok-entries.entries.items c.in_err-names_once.field-0.0 (
@@ -116,7 +118,8 @@ returns-clause-read g c = λ j told.
     let at : c.system_at-at.result ≡ system_at place c.in_ok-directory.directory (Some place.origin) = search rules in
     let read = c.in_ok-walked.ensures.read j (c.in_ok-first.ensures.reads.told ∙ told) in
     let map_is : map_of place.bsize place.total (drop 64 c.in_ok-first.first.items) ≡ Ok c.in_ok-map.map = search rules in
-    let bytes : c.in_ok-bytes.bytes.items ≡ bytes_at image c.in_ok-walked.walked.leaves.items = c.in_ok-bytes.ensures.bytes j (c.in_ok-walked.ensures.reads.told ∙ (c.in_ok-first.ensures.reads.told ∙ told)) ∙ ap (bytes_at image) c.deref-3.ensures.value in
+    let bytes : c.in_ok-bytes.bytes.items ≡ bytes_at image c.in_ok-walked.walked.leaves.items =
+    c.in_ok-bytes.ensures.bytes j (c.in_ok-walked.ensures.reads.told ∙ (c.in_ok-first.ensures.reads.told ∙ told)) ∙ ap (bytes_at image) c.deref-3.ensures.value in
     let entries : entries_of place.bsize 2 (cut (c.in_ok-directory.directory.count - 2) 64 (drop 128 c.in_ok-bytes.bytes.items)) ≡ Ok c.in_ok-entries.entries.items = search rules in
     let once : first_twice 2 [] c.in_ok-entries.entries.items ≡ None = search rules in (
       listed_so place image c.in_ok-directory.directory c.in_ok-map.map (met_in c.in_ok-walked.walked) c.in_ok-entries.entries.items (
@@ -146,4 +149,5 @@ pub returns-clause-entries : goal.returns-clause-entries
 returns-clause-entries g c =
     let at : c.system_at-at.result ≡ system_at c.args.place.now c.in_ok-directory.directory (Some c.args.place.now.origin) = search rules in
     let leaves = c.in_ok-walked.ensures.count ∙ ap (λ (x : TreeAt). x.count) at in
-    entries_stand _ c.in_ok-directory.directory.count c.in_ok-directory.directory.blocks _ c.args.place.now.bsize (search rules) c.in_ok-directory.ensures.count.0 c.in_ok-directory.ensures.count.2 leaves
+    entries_stand _ c.in_ok-directory.directory.count c.in_ok-directory.directory.blocks _ c.args.place.now.bsize
+    (search rules) c.in_ok-directory.ensures.count.0 c.in_ok-directory.ensures.count.2 leaves

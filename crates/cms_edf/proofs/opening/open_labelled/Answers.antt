@@ -33,7 +33,8 @@ returns-in_err-trees-clause-fault g c =
     rw (p.1, p.2) (λ j told.
     trees_bad _ (image_of (contents_of j a.unit.now.number)) a.label (listed l) why
     (subst (λ (q : Place). listed_in q.bsize q.total q.origin (image_of (contents_of j q.unit)) ≡ Ok (listed l)) c.place_of-place.ensures (c.in_ok-listing.ensures.read j told).0)
-    (subst (λ (q : Place). IsFaultOf (trees_in q.bsize q.total q.origin (image_of (contents_of j q.unit)) (listed l)) why) c.place_of-place.ensures (c.in_err-trees.ensures.fault j (c.in_ok-listing.ensures.reads.told ∙ told))))
+    (subst (λ (q : Place). IsFaultOf (trees_in q.bsize q.total q.origin (image_of (contents_of j q.unit)) (listed l)) why) c.place_of-place.ensures
+    (c.in_err-trees.ensures.fault j (c.in_ok-listing.ensures.reads.told ∙ told))))
 
 pub returns-in_err-marks-clause-fault : goal.returns-in_err-marks-clause-fault
 returns-in_err-marks-clause-fault g c =
@@ -45,8 +46,10 @@ returns-in_err-marks-clause-fault g c =
     rw (p.1, p.2) (λ j told.
     marks_bad _ (image_of (contents_of j a.unit.now.number)) a.label (listed l) (read_trees t) why
     (subst (λ (q : Place). listed_in q.bsize q.total q.origin (image_of (contents_of j q.unit)) ≡ Ok (listed l)) c.place_of-place.ensures (c.in_ok-listing.ensures.read j told).0)
-    (subst (λ (q : Place). trees_in q.bsize q.total q.origin (image_of (contents_of j q.unit)) (listed l) ≡ Ok (read_trees t)) c.place_of-place.ensures (c.in_ok-trees.ensures.read j (c.in_ok-listing.ensures.reads.told ∙ told)).trees)
-    (subst (λ (q : Place). IsFaultOf (lost_in (bytes_at (image_of (contents_of j q.unit)) t.map.leaves.items) q.total (tree_blocks (met_in l.walked) (met_in t.map) (map met_in t.files.items))) why) c.place_of-place.ensures
+    (subst (λ (q : Place). trees_in q.bsize q.total q.origin (image_of (contents_of j q.unit)) (listed l) ≡ Ok (read_trees t)) c.place_of-place.ensures
+    (c.in_ok-trees.ensures.read j (c.in_ok-listing.ensures.reads.told ∙ told)).trees)
+    (subst (λ (q : Place). IsFaultOf (lost_in (bytes_at (image_of (contents_of j q.unit)) t.map.leaves.items) q.total (tree_blocks (met_in l.walked) (met_in t.map) (map met_in t.files.items))) why)
+    c.place_of-place.ensures
     (c.in_err-marks.ensures.fault j (c.in_ok-trees.ensures.reads.told ∙ (c.in_ok-listing.ensures.reads.told ∙ told)))))
 
 pub returns-in_err-files-clause-fault : goal.returns-in_err-files-clause-fault
@@ -64,7 +67,8 @@ returns-in_err-files-clause-fault g c =
     records_bad _ (image_of (contents_of j a.unit.now.number)) a.label (listed l) (read_trees t) c.in_ok-marks.marks.lost why
     (subst (λ (q : Place). listed_in q.bsize q.total q.origin (image_of (contents_of j q.unit)) ≡ Ok (listed l)) c.place_of-place.ensures (c.in_ok-listing.ensures.read j told).0)
     (subst (λ (q : Place). trees_in q.bsize q.total q.origin (image_of (contents_of j q.unit)) (listed l) ≡ Ok (read_trees t)) c.place_of-place.ensures (c.in_ok-trees.ensures.read j to_trees).trees)
-    (subst (λ (q : Place). lost_in (bytes_at (image_of (contents_of j q.unit)) t.map.leaves.items) q.total (tree_blocks (met_in l.walked) (met_in t.map) (map met_in t.files.items)) ≡ Ok c.in_ok-marks.marks.lost) c.place_of-place.ensures
+    (subst (λ (q : Place). lost_in (bytes_at (image_of (contents_of j q.unit)) t.map.leaves.items) q.total (tree_blocks (met_in l.walked) (met_in t.map) (map met_in t.files.items))
+    ≡ Ok c.in_ok-marks.marks.lost) c.place_of-place.ensures
     (c.in_ok-marks.ensures.lost j to_marks))
     (subst (λ (q : Place). IsFaultOf (contents_in q.bsize (image_of (contents_of j q.unit)) 2 l.entries.items (map met_in t.files.items)) why) c.place_of-place.ensures
     (subst (λ (es : List Entry). IsFaultOf (contents_in c.place_of-place.result.bsize (image_of (contents_of j c.place_of-place.result.unit)) 2 es (map met_in t.files.items)) why) entries
@@ -88,15 +92,18 @@ returns-clause-read g c = λ j told.
     let trees = c.in_ok-trees.ensures.read j to_trees in
     let bits = c.in_ok-marks.ensures.bits j to_marks in
     let lost = c.in_ok-marks.ensures.lost j to_marks in
-    let has = subst (λ (es : List Entry). HasContents place.bsize (image_of (contents_of j place.unit)) es t.files.items (values c.in_ok-files.files)) entries (c.in_ok-files.ensures.read j to_files) in
+    let has = subst (λ (es : List Entry). HasContents place.bsize (image_of (contents_of j place.unit)) es t.files.items (values c.in_ok-files.files)) entries
+    (c.in_ok-files.ensures.read j to_files) in
     record {
       volume = opened a.label (listed l) (read_trees t) m.lost has.contents;
       opens = opens _ image a.label (listed l) (read_trees t) m.lost has.contents
           (subst (λ (q : Place). listed_in q.bsize q.total q.origin (image_of (contents_of j q.unit)) ≡ Ok (listed l)) at listing.0)
           (subst (λ (q : Place). trees_in q.bsize q.total q.origin (image_of (contents_of j q.unit)) (listed l) ≡ Ok (read_trees t)) at trees.trees)
-          (subst (λ (q : Place). lost_in (bytes_at (image_of (contents_of j q.unit)) t.map.leaves.items) q.total (tree_blocks (met_in l.walked) (met_in t.map) (map met_in t.files.items)) ≡ Ok m.lost) at lost)
+          (subst (λ (q : Place). lost_in (bytes_at (image_of (contents_of j q.unit)) t.map.leaves.items) q.total (tree_blocks (met_in l.walked) (met_in t.map) (map met_in t.files.items)) ≡ Ok m.lost)
+          at lost)
           (subst (λ (q : Place). contents_in q.bsize (image_of (contents_of j q.unit)) 2 l.entries.items (map met_in t.files.items) ≡ Ok has.contents) at has.are);
-      held_is = rw (c.held.ensures, c.held-2.ensures) (held_so there (record { bsize = a.bsize; count = a.unit.now.blocks }) image a.label a.label_bytes.items l t m.map (values c.in_ok-files.files) m.lost has.contents refl (c.requires.bytes j told)
+      held_is = rw (c.held.ensures, c.held-2.ensures) (held_so there (record { bsize = a.bsize; count = a.unit.now.blocks }) image a.label a.label_bytes.items l t m.map
+          (values c.in_ok-files.files) m.lost has.contents refl (c.requires.bytes j told)
           (subst (λ (q : Place). l.walked.pointers.items ≡ nodes_at (image_of (contents_of j q.unit)) (system_at q l.directory (Some q.origin))) at listing.1)
           (subst (λ (q : Place). l.directory.levels ≡ levels (q.bsize / 4) l.directory.blocks) at c.in_ok-listing.ensures.directory)
           (subst (λ (q : Place). HasTrees q (image_of (contents_of j q.unit)) l t) at trees)

@@ -40,6 +40,7 @@ returns-clause-planned c =
           )
       | in-Relabel+in_ok-step-in-Relabel w ↦ (
           let step = subst (λ (x : HeldVolume). IsRelabelOf x w.in-Relabel.volid w.in_ok-step-in-Relabel.step) c.reserve.ensures.volume w.in_ok-step-in-Relabel.ensures.step in
-          subst (P c.args.change.now) (sym w.step-is) (subst (λ (a : asked.Change). P a w.in_ok-step-in-Relabel.step) (sym w.in-Relabel.is) (relabel_for v w.in-Relabel.volid stamp w.in_ok-step-in-Relabel.step step))
+          subst (P c.args.change.now) (sym w.step-is) (subst (λ (a : asked.Change). P a w.in_ok-step-in-Relabel.step) (sym w.in-Relabel.is)
+          (relabel_for v w.in-Relabel.volid stamp w.in_ok-step-in-Relabel.step step))
           )
     ]

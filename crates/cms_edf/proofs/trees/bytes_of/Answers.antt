@@ -9,7 +9,8 @@ loop-place-preserved g c =
     let l = c.loop-place in
     let grown : c.append.new.into.items ≡ l.bytes.items ++ c.in_ok-block.block.items = search rules in
     record {
-      reads = λ j told. rw grown (reads_next (image_of (contents_of j c.args.unit)) c.args.blocks.now l.place l.bytes.items c.in_ok-block.block.items (search rules) (c.in_ok-block.ensures.bytes j (l.invariant.told ∙ told)) (l.invariant.reads j told));
+      reads = λ j told. rw grown (reads_next (image_of (contents_of j c.args.unit)) c.args.blocks.now l.place l.bytes.items c.in_ok-block.block.items (search rules)
+          (c.in_ok-block.ensures.bytes j (l.invariant.told ∙ told)) (l.invariant.reads j told));
       size = rw grown (size_next c.args.bsize l.place l.bytes.items c.in_ok-block.block.items l.invariant.size c.in_ok-block.ensures.size);
       told = c.in_ok-block.ensures.reads.told ∙ l.invariant.told;
       faults = omega (arith, c.in_ok-block.ensures.reads.faults, l.invariant.faults);
@@ -17,4 +18,5 @@ loop-place-preserved g c =
     }
 
 pub returns-clause-bytes : goal.returns-clause-bytes
-returns-clause-bytes g c = λ j told. reads_last (image_of (contents_of j c.args.unit)) c.args.blocks.now c.loop-place.place c.loop-place.bytes.items (search rules) (c.loop-place.invariant.reads j told)
+returns-clause-bytes g c = λ j told. reads_last (image_of (contents_of j c.args.unit)) c.args.blocks.now c.loop-place.place c.loop-place.bytes.items (search rules)
+    (c.loop-place.invariant.reads j told)

@@ -14,7 +14,8 @@ loop-nth-preserved g c =
     record {
       reads = λ j told.
           let image = image_of (contents_of j a.place.now.unit) in
-          rw (c.in_ok-append_block.ensures.bytes j (l.invariant.told ∙ told)) (reads_next image a.blocks.now l.nth l.bytes.items (image (slice_index a.blocks.now l.nth)) (search rules) refl (l.invariant.reads j told));
+          rw (c.in_ok-append_block.ensures.bytes j (l.invariant.told ∙ told))
+          (reads_next image a.blocks.now l.nth l.bytes.items (image (slice_index a.blocks.now l.nth)) (search rules) refl (l.invariant.reads j told));
       size = grind (arith, was, more);
       told = c.in_ok-append_block.ensures.reads.told ∙ l.invariant.told;
       faults = omega (arith, c.in_ok-append_block.ensures.reads.faults, l.invariant.faults);
@@ -22,4 +23,5 @@ loop-nth-preserved g c =
     }
 
 pub returns-clause-bytes : goal.returns-clause-bytes
-returns-clause-bytes g c = λ j told. reads_last (image_of (contents_of j c.args.place.now.unit)) c.args.blocks.now c.loop-nth.nth c.loop-nth.bytes.items (search rules) (c.loop-nth.invariant.reads j told)
+returns-clause-bytes g c = λ j told. reads_last (image_of (contents_of j c.args.place.now.unit)) c.args.blocks.now c.loop-nth.nth c.loop-nth.bytes.items (search rules)
+    (c.loop-nth.invariant.reads j told)

@@ -12,4 +12,5 @@ pub lost_of-requires-clause-within : goal.lost_of-requires-clause-within
 lost_of-requires-clause-within g c =
     let a = c.args in
     let blocks : c.deref-4.result.now ≡ tree_blocks (met_in a.directory.now) (met_in a.trees.now.map) (map met_in a.trees.now.files.items) = search rules in
-    subst (AreBlocks a.place.now.total) (sym blocks) (blocks_are a.place.now.total a.place.now.origin a.directory.now a.trees.now.map a.trees.now.files.items c.requires.total c.requires.origin c.requires.directory c.requires.map c.requires.files)
+    subst (AreBlocks a.place.now.total) (sym blocks) (blocks_are a.place.now.total a.place.now.origin a.directory.now a.trees.now.map a.trees.now.files.items c.requires.total c.requires.origin
+    c.requires.directory c.requires.map c.requires.files)

@@ -37,4 +37,5 @@ returns-clause-read g c = λ j told.
     let entries : c.deref-2.result.now ≡ a.listing.now.entries.items = search rules in
     let files = c.in_ok-files.ensures.read j (c.in_ok-map.ensures.reads.told ∙ told) in
     let files' = subst (λ (l : List ℕ). HasFiles a.place.now image l c.deref-2.result.now c.in_ok-files.files.items) leaves files in
-    trees_stand a.place.now image a.listing.now _ (c.in_ok-map.ensures.read j told) (subst (λ (es : List Entry). HasFiles a.place.now image a.listing.now.walked.leaves.items es c.in_ok-files.files.items) entries files')
+    trees_stand a.place.now image a.listing.now _ (c.in_ok-map.ensures.read j told)
+    (subst (λ (es : List Entry). HasFiles a.place.now image a.listing.now.walked.leaves.items es c.in_ok-files.files.items) entries files')

@@ -23,7 +23,8 @@ returns-in-Ok g c =
     let mid = show c.write_map.new.world in
     let new = show c.write_nodes.new.world in
     record {
-      writes = then_made old mid new at (block_writes t.leaves (cut (length t.leaves) at.bsize (bytes_from 0 (length t.leaves * at.bsize) c.args.map.now))) (node_writes at.bsize t) c.write_nodes.result
+      writes = then_made old mid new at (block_writes t.leaves (cut (length t.leaves) at.bsize (bytes_from 0 (length t.leaves * at.bsize) c.args.map.now)))
+          (node_writes at.bsize t) c.write_nodes.result
           (same_made old mid at _ _ _ data' c.in-Ok.ensures.writes) (same_made mid new at _ _ _ nodes c.write_nodes.ensures.writes);
     }
 

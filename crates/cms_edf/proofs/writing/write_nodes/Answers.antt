@@ -33,7 +33,10 @@ returns g c =
     let show = seen g.W.World in
     let t = c.args.target.now in
     let long = length_node_writes t.bsize c.args.leaves.now c.args.pointers.now (omega (arith, c.requires.wide)) c.requires.nodes in
-    record { writes = all_made (show c.args.world.now) (show c.loop-place.world) t (node_writes t.bsize (record { leaves = c.args.leaves.now; pointers = c.args.pointers.now })) c.loop-place.place (omega arith) c.loop-place.invariant.writes }
+    record {
+      writes = all_made (show c.args.world.now) (show c.loop-place.world) t (node_writes t.bsize (record { leaves = c.args.leaves.now; pointers = c.args.pointers.now })) c.loop-place.place
+          (omega arith) c.loop-place.invariant.writes;
+    }
 
 pub overflow_cast-place : goal.overflow_cast-place
 overflow_cast-place g c =

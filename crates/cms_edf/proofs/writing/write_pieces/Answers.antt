@@ -36,4 +36,7 @@ returns g c =
     let t = c.args.target.now in
     let ns = c.args.blocks.now in
     let long = length_writes ns (cut (length ns) t.bsize c.args.bytes.now) (length_cut (length ns) t.bsize c.args.bytes.now) in
-    record { writes = all_made (show c.args.world.now) (show c.loop-place.world) t (block_writes ns (cut (length ns) t.bsize c.args.bytes.now)) c.loop-place.place (omega arith) c.loop-place.invariant.writes }
+    record {
+      writes = all_made (show c.args.world.now) (show c.loop-place.world) t (block_writes ns (cut (length ns) t.bsize c.args.bytes.now)) c.loop-place.place
+          (omega arith) c.loop-place.invariant.writes;
+    }

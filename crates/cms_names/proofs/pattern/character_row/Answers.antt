@@ -6,7 +6,7 @@ use Rattle.cms_names.proofs.pattern.character_row.Goals as goal
 use Rattle.cms_names.proofs.pattern.character_row.Goals.{then-is_wanted, else-is_wanted}
 
 pub loop-place-init : goal.loop-place-init
-loop-place-init c = (refl, characters_none (is_wanted c.args.wanted) c.args.text.now c.args.rests.now _ c.requires refl)
+loop-place-init c = record { long = refl; row = characters_none (is_wanted c.args.wanted) c.args.text.now c.args.rests.now _ c.requires refl }
 
 both : (c : goal.Joined-is_wanted) → c.if-is_wanted.row
     ≡ (is_wanted c.args.wanted (slice_index_or c.args.text.now c.loop-place.place 0) && slice_index_or c.args.rests.now (c.loop-place.place + 1) false)
@@ -16,10 +16,11 @@ both c = rw (← c.is_wanted.ensures) (elim c.if-is_wanted.branch [
 ])
 
 pub loop-place-preserved : goal.loop-place-preserved
-loop-place-preserved c = (
-  length-set _ _ _ ∙ c.loop-place.invariant.0,
-  characters_more c.loop-place.place (is_wanted c.args.wanted) c.args.text.now c.args.rests.now c.loop-place.row _ c.loop-place-test.true (omega arith) (ap (λ b. slice_set c.loop-place.row c.loop-place.place b) (both c)) c.loop-place.invariant.1,
-)
+loop-place-preserved c = record {
+  long = length-set _ _ _ ∙ c.loop-place.invariant.long;
+  row = characters_more c.loop-place.place (is_wanted c.args.wanted) c.args.text.now c.args.rests.now c.loop-place.row _ c.loop-place-test.true (omega arith)
+      (ap (λ b. slice_set c.loop-place.row c.loop-place.place b) (both c)) c.loop-place.invariant.row;
+}
 
 pub returns : goal.returns
-returns c = characters_all c.loop-place.place (is_wanted c.args.wanted) c.args.text.now c.args.rests.now c.loop-place.row (omega arith) c.loop-place.invariant.1
+returns c = characters_all c.loop-place.place (is_wanted c.args.wanted) c.args.text.now c.args.rests.now c.loop-place.row (omega arith) c.loop-place.invariant.row

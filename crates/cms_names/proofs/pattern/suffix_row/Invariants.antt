@@ -4,4 +4,7 @@ use Rattle.cms_names.proofs.Rows.{IsSuffixRow}
 use Rattle.cms_names.proofs.pattern.suffix_row.Given as goal
 
 abbrev pub invariant-loop-place : goal.invariant-loop-place
-invariant-loop-place l = (length l.row ≡ 9) × ((test : List ℕ → Bool) → IsRow test l.text l.rests → IsSuffixRow l.place test l.text l.rests l.row)
+invariant-loop-place l = record {
+  long : length l.row ≡ 9;
+  row : (test : List ℕ → Bool) → IsRow test l.text l.rests → IsSuffixRow l.place test l.text l.rests l.row;
+}

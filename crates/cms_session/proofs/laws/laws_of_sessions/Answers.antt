@@ -20,8 +20,7 @@ as_machine : (s : Start) (events : List Event) (f : Fed Finish) (units : List Sl
 as_machine s events f units before now Done e still end close = inl (ap status_of (same_finish f finish.AtEnd end e.close close))
 as_machine s events f units before now Turns e still end close = inl (ap status_of (same_finish f finish.AtTurns end e.close close))
 as_machine s events f units before now NotBuilt e still end close = inl (ap status_of (same_finish f finish.NotBuilt end e.close close))
-as_machine s events f units before now World (inl e) still end close = inl (ap status_of (same_finish f finish.DeviceFault end e.close close))
-as_machine s events f units before now World (inr e) still end close = absurd (still e.1)
+as_machine s events f units before now World e still end close = absurd (still e.1)
 as_machine s events f units before now Memory e still end close = inr refl
 as_machine s events f units before now (Usage fault) e still end close = absurd e
 

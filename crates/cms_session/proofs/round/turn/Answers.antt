@@ -7,7 +7,7 @@ use Rattle.cms_session.proofs.round.turn.Goals as goal
 pub returns-in_err-clock-clause-acts : goal.returns-in_err-clock-clause-acts
 returns-in_err-clock-clause-acts g c =
     let p = err_from_is_err_and c.from_residual.result c.from_residual.ensures.1 in
-    rw (p.1, p.2) (not_turned _ _ _ _ c.in_err-clock.ensures refl)
+    rw (p.1, p.2) (not_turned _ _ _ _ c.in_err-clock.ensures refl refl)
 
 pub returns-clause-acts : goal.returns-clause-acts
 returns-clause-acts g c =

@@ -1,22 +1,19 @@
-use Rattle.std.proofs.Common.{◌∙◌}
 use Rattle.std.proofs.lemmas.Result.{err_from_is_err_and}
-use Rattle.cms_session.proofs.Plays.{play_stops, play_ends, play_goes}
+use Rattle.cms_search.proofs.Acts.{acts_after, acts_stop, comes_in}
+use Rattle.cms_session.specs.Calls.{access_tree, finished, lines_tree, machine_now, session_tree}
+use Rattle.cms_session.specs.Machine.{run_lines}
 use Rattle.cms_session.proofs.session.play.Goals as goal
 
-pub returns-in_err-finish : goal.returns-in_err-finish
-returns-in_err-finish g c =
+pub returns-in_err-access_first : goal.returns-in_err-access_first
+returns-in_err-access_first g c =
     let p = err_from_is_err_and c.from_residual.result c.from_residual.ensures.1 in
-    rw (p.1, p.2) (play_stops _ _ _ _ _ c.loop-finish.invariant.going c.in_err-finish.ensures.acts)
+    rw (p.1, p.2) (acts_stop _ _ (access_tree c.args.state.now) run_lines _ (machine_now c.access_first.new.state) finished c.in_err-access_first.ensures.acts)
 
-pub returns-in-Ended : goal.returns-in-Ended
-returns-in-Ended g c = play_ends _ _ _ _ c.in_ok-finish.field-0 c.in-Ended.finish c.loop-finish.invariant.going c.in-Ended.is c.in_ok-finish.ensures.acts
+pub run_lines-requires-clause-usable : goal.run_lines-requires-clause-usable
+run_lines-requires-clause-usable g c = c.in_ok-access_first.ensures.acts.usable c.requires.usable
 
-pub loop-finish-preserved : goal.loop-finish-preserved
-loop-finish-preserved g c =
-    let before = c.loop-finish.invariant in
-    let round = c.in_ok-finish.ensures in
-    record {
-      going = play_goes _ _ _ _ c.in_ok-finish.field-0 before.going (round.falls c.in_default.is) c.in_default.is round.acts;
-      usable = round.acts.usable before.usable;
-      offset = round.offset ∙ before.offset;
-    }
+pub returns : goal.returns
+returns g c =
+    let s = c.access_first.new.state in
+    acts_after _ _ _ (session_tree c.args.state.now) (lines_tree s) _ finished
+    (comes_in _ _ (access_tree c.args.state.now) run_lines tt (machine_now s) c.in_ok-access_first.ensures.acts) c.run_lines.ensures

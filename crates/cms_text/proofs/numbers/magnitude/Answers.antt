@@ -14,13 +14,13 @@ returns-then-not-is_digit c = record {
 pub overflow_mul-value : goal.overflow_mul-value
 overflow_mul-value c =
     let few : length c.args.digits.now ≤ 19 = search rules in
-    omega (arith, digit_fits c.loop-digit.value c.loop-digit.digit-index 0 c.loop-digit.invariant.2 (omega arith) (omega arith))
+    omega (arith, digit_fits c.loop-digit.value c.loop-digit.digit-index 0 c.loop-digit.invariant.small (omega arith) (omega arith))
 
 pub overflow_add-value : goal.overflow_add-value
 overflow_add-value c =
     let few : length c.args.digits.now ≤ 19 = search rules in
     let low : c.from.result ≤ 9 = search rules in
-    omega (arith, digit_fits c.loop-digit.value c.loop-digit.digit-index c.from.result c.loop-digit.invariant.2 (omega arith) low)
+    omega (arith, digit_fits c.loop-digit.value c.loop-digit.digit-index c.from.result c.loop-digit.invariant.small (omega arith) low)
 
 pub returns : goal.returns
 returns c =
@@ -28,6 +28,6 @@ returns c =
     let value = c.loop-digit.value in
     let here = c.loop-digit.digit-index in
     record {
-      value = sym (digits_read c.args.most c.args.digits.now here value (search rules) (omega arith) c.loop-digit.invariant.0 c.loop-digit.invariant.1);
-      small = few_small c.args.most here value c.loop-digit.invariant.2 (omega (arith, few));
+      value = sym (digits_read c.args.most c.args.digits.now here value (search rules) (omega arith) c.loop-digit.invariant.digits c.loop-digit.invariant.value);
+      small = few_small c.args.most here value c.loop-digit.invariant.small (omega (arith, few));
     }

@@ -42,16 +42,20 @@ returns-in_err-parent-clause-rises g t c = λ leaves marks numbers tier fresh_is
     let tier' = subst (λ (l : List Level). IsTier (a.bsize / a.psize) leaves marks numbers tier (length l)) whole is_tier in
     let stand' = subst (λ (l : List Level). Stand a.bsize a.psize marks (length leaves) numbers tier a.child.now.nth l) whole stand in
     let lifted = c.in_err-parent.ensures.lifts leaves marks numbers tier (length above) fresh_is tier' stand'.0 is_child in
-    rw p.1 (subst (λ (l : List Level). Rises (g.W.World.told a.world.now) (g.W.World.told c.lift.new.world) a.unit a.bsize a.psize leaves marks numbers tier a.child.now l (c.lift.new.level ∷ above) (Err p.0)) (sym whole)
-    (rises_failed (g.W.World.told a.world.now) (g.W.World.told c.lift.new.world) a.unit a.bsize a.psize leaves marks numbers tier a.child.now c.in-Some.level.now c.lift.new.level above (c.lift.new.level ∷ above) p.0 lifted))
+    rw p.1 (subst (λ (l : List Level). Rises (g.W.World.told a.world.now) (g.W.World.told c.lift.new.world) a.unit a.bsize a.psize leaves marks numbers tier a.child.now l (c.lift.new.level ∷ above)
+    (Err p.0)) (sym whole)
+    (rises_failed (g.W.World.told a.world.now) (g.W.World.told c.lift.new.world) a.unit a.bsize a.psize leaves marks numbers tier a.child.now c.in-Some.level.now c.lift.new.level above
+    (c.lift.new.level ∷ above) p.0 lifted))
 
 pub returns-in_err-parent-clause-sizes : goal.returns-in_err-parent-clause-sizes
 returns-in_err-parent-clause-sizes g t c =
-    All-cons (HasSize c.args.bsize) c.lift.new.level c.in-Some.above.now c.lift.ensures.size (All-tail (HasSize c.args.bsize) c.in-Some.level.now c.in-Some.above.now (subst (All (HasSize c.args.bsize)) c.in-Some.ensures.cases.0 c.requires.levels))
+    All-cons (HasSize c.args.bsize) c.lift.new.level c.in-Some.above.now c.lift.ensures.size
+    (All-tail (HasSize c.args.bsize) c.in-Some.level.now c.in-Some.above.now (subst (All (HasSize c.args.bsize)) c.in-Some.ensures.cases.0 c.requires.levels))
 
 pub returns-in-None-clause-sizes : goal.returns-in-None-clause-sizes
 returns-in-None-clause-sizes g t c =
-    All-cons (HasSize c.args.bsize) c.lift.new.level c.in-Some.above.now c.lift.ensures.size (All-tail (HasSize c.args.bsize) c.in-Some.level.now c.in-Some.above.now (subst (All (HasSize c.args.bsize)) c.in-Some.ensures.cases.0 c.requires.levels))
+    All-cons (HasSize c.args.bsize) c.lift.new.level c.in-Some.above.now c.lift.ensures.size
+    (All-tail (HasSize c.args.bsize) c.in-Some.level.now c.in-Some.above.now (subst (All (HasSize c.args.bsize)) c.in-Some.ensures.cases.0 c.requires.levels))
 
 pub rise-requires : goal.rise-requires
 rise-requires g t c κs within =
@@ -63,7 +67,8 @@ rise-requires g t c κs within =
     let parent = c.in-Some-2.parent in
     let p : IsParent fan a.child.now parent = subst (λ (o : Option Child). IfSome o (IsParent fan a.child.now)) c.in-Some-2.is c.in_ok-parent.ensures.parent in
     let count = p.count in
-    let all : over_count fan (suc (length above)) a.child.now.count ≤ length a.fresh.now = subst (λ (l : List Level). over_count fan (length l) a.child.now.count ≤ length a.fresh.now) whole c.requires.fresh in
+    let all : over_count fan (suc (length above)) a.child.now.count ≤ length a.fresh.now =
+    subst (λ (l : List Level). over_count fan (length l) a.child.now.count ≤ length a.fresh.now) whole c.requires.fresh in
     let same : over_count fan (length above) parent.count ≡ over_count fan (length above) (up a.child.now.count fan) = ap (over_count fan (length above)) p.count in
     let rest = drop parent.count a.fresh.now in
     let grown = own_grown (g.W.World.told a.world.now) (g.W.World.told c.lift.new.world) a.unit a.bsize a.fresh.now c.lift.ensures.own in
@@ -82,7 +87,8 @@ rise-requires g t c κs within =
                 (
                   (let long = length-take (length a.fresh.now - parent.count) rest in let long' = length-drop parent.count a.fresh.now in omega arith),
                   (
-                    (λ j told. All-take (λ n. HasBlock j.units a.unit n a.bsize) (length a.fresh.now - parent.count) rest (All-drop (λ n. HasBlock j.units a.unit n a.bsize) parent.count a.fresh.now (kept j told))),
+                    (λ j told. All-take (λ n. HasBlock j.units a.unit n a.bsize) (length a.fresh.now - parent.count) rest
+                        (All-drop (λ n. HasBlock j.units a.unit n a.bsize) parent.count a.fresh.now (kept j told))),
                     (λ j told. units_kept (λ units. IsWritable units a.unit) (g.W.World.told a.world.now) (g.W.World.told c.lift.new.world) grown c.requires.writable j told),
                   ),
                 ),
@@ -123,8 +129,10 @@ returns-in-Some-2-clause-rises g t c = λ leaves marks numbers tier fresh_is is_
     let stand'' : Stand a.bsize a.psize marks (length leaves) numbers (tier_above fan numbers tier) parent.nth above =
     subst (λ (n : ℕ). Stand a.bsize a.psize marks (length leaves) numbers (tier_above fan numbers tier) n above) (sym p.nth) stand'.1 in
     let risen = c.rise.ensures.rises leaves marks numbers (tier_above fan numbers tier) rest (tier_next fan leaves marks numbers tier (length above) some tier') stand'' lifted.2 in
-    subst (λ (l : List Level). Rises old (g.W.World.told c.rise.new.world) a.unit a.bsize a.psize leaves marks numbers tier a.child.now l (c.lift.new.level ∷ c.rise.new.levels) c.rise.result) (sym whole)
-    (rises_on old mid (g.W.World.told c.rise.new.world) a.unit a.bsize a.psize leaves marks numbers tier a.child.now parent c.in-Some.level.now c.lift.new.level above c.rise.new.levels c.rise.result some c.requires.within is_child.count p lifted risen)
+    subst (λ (l : List Level). Rises old (g.W.World.told c.rise.new.world) a.unit a.bsize a.psize leaves marks numbers tier a.child.now l (c.lift.new.level ∷ c.rise.new.levels) c.rise.result)
+    (sym whole)
+    (rises_on old mid (g.W.World.told c.rise.new.world) a.unit a.bsize a.psize leaves marks numbers tier a.child.now parent c.in-Some.level.now c.lift.new.level above c.rise.new.levels c.rise.result
+    some c.requires.within is_child.count p lifted risen)
 
 pub returns-in-None-clause-rises : goal.returns-in-None-clause-rises
 returns-in-None-clause-rises g t c = λ leaves marks numbers tier fresh_is is_tier stand is_child.
@@ -140,4 +148,5 @@ returns-in-None-clause-rises g t c = λ leaves marks numbers tier fresh_is is_ti
     subst (λ (o : Option Child). Lifts old new a.unit a.bsize a.psize leaves marks numbers tier a.child.now c.lift.new.level (Ok o)) c.in-None.is
     (c.in_ok-parent.ensures.lifts leaves marks numbers tier (length above) fresh_is tier' stand'.0 is_child) in
     subst (λ (l : List Level). Rises old new a.unit a.bsize a.psize leaves marks numbers tier a.child.now l (c.lift.new.level ∷ above) (Ok tt)) (sym whole)
-    (rises_no_more old new a.unit a.bsize a.psize leaves marks numbers tier a.child.now c.in-Some.level.now c.lift.new.level above (some_fan a.bsize a.psize c.requires.size c.requires.psize) stand' lifted)
+    (rises_no_more old new a.unit a.bsize a.psize leaves marks numbers tier a.child.now c.in-Some.level.now c.lift.new.level above
+    (some_fan a.bsize a.psize c.requires.size c.requires.psize) stand' lifted)

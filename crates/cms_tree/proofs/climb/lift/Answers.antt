@@ -9,7 +9,9 @@ use Rattle.cms_tree.specs.Tiers.{Tier, IsTier, ends_group}
 use Rattle.cms_tree.proofs.Lifting.{Pointed, Stands, some_fan, stands_on, stands_whole, stands_parent, stands_next, stands_ends, may_add_front, group_within}
 use Rattle.cms_tree.proofs.Own.{may_add_own, own_none, in_at}
 use Rattle.cms_tree.proofs.Sums.{div_ceil_is}
+use Rattle.cms_tree.proofs.climb.lift.Given as given
 use Rattle.cms_tree.proofs.climb.lift.Goals as goal
+use Rattle.cms_tree.proofs.climb.lift.Goals.{After-deref}
 
 pub returns-then-not-ends_group-clause-lifts : goal.returns-then-not-ends_group-clause-lifts
 returns-then-not-ends_group-clause-lifts g c = λ leaves marks numbers tier levels fresh_is is_tier is_open is_child.
@@ -24,17 +26,25 @@ returns-then-not-ends_group-clause-lifts g c = λ leaves marks numbers tier leve
 pub returns-then-not-ends_group-clause-own : goal.returns-then-not-ends_group-clause-own
 returns-then-not-ends_group-clause-own g c = own_none (g.W.World.told c.args.world.now) c.args.unit c.args.bsize c.args.fresh.now
 
-pub write_block-requires-clause-block : goal.write_block-requires-clause-block
-write_block-requires-clause-block g c = λ j told.
+-- the fresh block is there, and what is written into it has its size
+has_fresh : (g : given.Over) (c : After-deref g)
+    → (c.args.child.now.nth / (c.bytes.result / c.from.result) < length c.args.fresh.now) × (length c.deref.result.now ≡ c.args.bsize)
+has_fresh g c =
     let a = c.args in
     let fan = c.bytes.result / c.from.result in
     let fan_is : fan ≡ a.bsize / a.psize = rw (c.bytes.ensures.value, c.from.ensures) refl in
     let some : 1 ≤ fan = rw fan_is (some_fan a.bsize a.psize c.requires.size c.requires.psize) in
     let low = group_within fan a.child.now.count a.child.now.nth some c.requires.within in
     let enough : up a.child.now.count fan ≤ length a.fresh.now = rw fan_is c.requires.fresh in
-    let size : length c.deref.result.now ≡ a.bsize = ap (λ (l : List ℕ). length l) c.deref.ensures.value ∙ c.point.ensures.size ∙ c.requires.level in
-    subst (λ (n : ℕ). HasBlock j.units a.unit (get_or a.fresh.now (a.child.now.nth / fan) 0) n) (sym size)
-    (All-get_or (λ n. HasBlock j.units a.unit n a.bsize) a.fresh.now (a.child.now.nth / fan) 0 (omega arith) (c.requires.blocks j told))
+    (omega arith, ap (λ (l : List ℕ). length l) c.deref.ensures.value ∙ c.point.ensures.size ∙ c.requires.level)
+
+pub write_block-requires-clause-block : goal.write_block-requires-clause-block
+write_block-requires-clause-block g c = λ j told.
+    let a = c.args in
+    let fan = c.bytes.result / c.from.result in
+    let fresh = has_fresh g (goal.at.write_block-requires-clause-block g c).After-deref in
+    subst (λ (n : ℕ). HasBlock j.units a.unit (get_or a.fresh.now (a.child.now.nth / fan) 0) n) (sym fresh.1)
+    (All-get_or (λ n. HasBlock j.units a.unit n a.bsize) a.fresh.now (a.child.now.nth / fan) 0 fresh.0 (c.requires.blocks j told))
 
 pub returns-in_err-write_block-clause-lifts : goal.returns-in_err-write_block-clause-lifts
 returns-in_err-write_block-clause-lifts g c = λ leaves marks numbers tier levels fresh_is is_tier is_open is_child.
@@ -49,20 +59,18 @@ returns-in_err-write_block-clause-lifts g c = λ leaves marks numbers tier level
     rw p.1 (
       stands_ends a.bsize a.psize fan a.child.now fan_is is,
       may_add_front _ (g.W.World.told a.world.now) (g.W.World.told c.write_block.new.self) _
-          (stands_whole a.unit a.bsize a.psize fan leaves marks numbers a.fresh.now tier levels a.child.now a.level.now c.point.new.self c.deref.result.now s q is fresh_is c.deref.ensures.value) c.in_err-write_block.ensures.failed,
+          (stands_whole a.unit a.bsize a.psize fan leaves marks numbers a.fresh.now tier levels a.child.now a.level.now c.point.new.self c.deref.result.now s q is fresh_is c.deref.ensures.value)
+          c.in_err-write_block.ensures.failed,
     )
 
 pub returns-in_err-write_block-clause-own : goal.returns-in_err-write_block-clause-own
 returns-in_err-write_block-clause-own g c =
     let a = c.args in
     let fan = c.bytes.result / c.from.result in
-    let fan_is : fan ≡ a.bsize / a.psize = rw (c.bytes.ensures.value, c.from.ensures) refl in
-    let some : 1 ≤ fan = rw fan_is (some_fan a.bsize a.psize c.requires.size c.requires.psize) in
-    let low = group_within fan a.child.now.count a.child.now.nth some c.requires.within in
-    let enough : up a.child.now.count fan ≤ length a.fresh.now = rw fan_is c.requires.fresh in
-    let size : length c.deref.result.now ≡ a.bsize = ap (λ (l : List ℕ). length l) c.deref.ensures.value ∙ c.point.ensures.size ∙ c.requires.level in
-    may_add_own (g.W.World.told a.world.now) (g.W.World.told c.write_block.new.self) a.unit a.bsize (record { block = get_or a.fresh.now (a.child.now.nth / fan) 0; bytes = c.deref.result.now }) a.fresh.now
-    (in_at a.fresh.now (a.child.now.nth / fan) (omega arith)) size c.in_err-write_block.ensures.failed
+    let fresh = has_fresh g (goal.at.returns-in_err-write_block-clause-own g c).After-deref in
+    may_add_own (g.W.World.told a.world.now) (g.W.World.told c.write_block.new.self) a.unit a.bsize
+    (record { block = get_or a.fresh.now (a.child.now.nth / fan) 0; bytes = c.deref.result.now }) a.fresh.now
+    (in_at a.fresh.now (a.child.now.nth / fan) fresh.0) fresh.1 c.in_err-write_block.ensures.failed
 
 pub returns-clause-parent : goal.returns-clause-parent
 returns-clause-parent g c =
@@ -82,13 +90,10 @@ pub returns-clause-own : goal.returns-clause-own
 returns-clause-own g c =
     let a = c.args in
     let fan = c.bytes.result / c.from.result in
-    let fan_is : fan ≡ a.bsize / a.psize = rw (c.bytes.ensures.value, c.from.ensures) refl in
-    let some : 1 ≤ fan = rw fan_is (some_fan a.bsize a.psize c.requires.size c.requires.psize) in
-    let low = group_within fan a.child.now.count a.child.now.nth some c.requires.within in
-    let enough : up a.child.now.count fan ≤ length a.fresh.now = rw fan_is c.requires.fresh in
-    let size : length c.deref.result.now ≡ a.bsize = ap (λ (l : List ℕ). length l) c.deref.ensures.value ∙ c.point.ensures.size ∙ c.requires.level in
-    may_add_own (g.W.World.told a.world.now) (g.W.World.told c.write_block.new.self) a.unit a.bsize (record { block = get_or a.fresh.now (a.child.now.nth / fan) 0; bytes = c.deref.result.now }) a.fresh.now
-    (in_at a.fresh.now (a.child.now.nth / fan) (omega arith)) size (inr c.in_ok-write_block.ensures.wrote)
+    let fresh = has_fresh g (goal.at.returns-clause-own g c).After-deref in
+    may_add_own (g.W.World.told a.world.now) (g.W.World.told c.write_block.new.self) a.unit a.bsize
+    (record { block = get_or a.fresh.now (a.child.now.nth / fan) 0; bytes = c.deref.result.now }) a.fresh.now
+    (in_at a.fresh.now (a.child.now.nth / fan) fresh.0) fresh.1 (inr c.in_ok-write_block.ensures.wrote)
 
 pub returns-clause-lifts : goal.returns-clause-lifts
 returns-clause-lifts g c = λ leaves marks numbers tier levels fresh_is is_tier is_open is_child.
@@ -101,10 +106,12 @@ returns-clause-lifts g c = λ leaves marks numbers tier levels fresh_is is_tier 
     let is : ends_group fan a.child.now.count a.child.now.nth ≡ true = sym c.ends_group.ensures ∙ c.if-not-ends_group.false in
     let some : 1 ≤ fan = rw fan_is (some_fan a.bsize a.psize c.requires.size c.requires.psize) in
     let count : c.div_ceil.result ≡ up a.child.now.count fan = c.div_ceil.ensures ∙ div_ceil_is a.child.now.count fan some in
-    let wrote = stands_whole a.unit a.bsize a.psize fan leaves marks numbers a.fresh.now tier levels a.child.now a.level.now c.point.new.self c.deref.result.now s q is fresh_is c.deref.ensures.value in
+    let wrote = stands_whole a.unit a.bsize a.psize fan leaves marks numbers a.fresh.now tier levels a.child.now a.level.now c.point.new.self c.deref.result.now s q is fresh_is c.deref.ensures.value
+    in
     let zeros : c.clear.new.self.bytes.items ≡ replicate a.bsize 0 = c.clear.ensures.bytes ∙ ap (λ (n : ℕ). replicate n 0) (c.point.ensures.size ∙ c.requires.level) in (
       stands_ends a.bsize a.psize fan a.child.now fan_is is,
       c.in_ok-write_block.ensures.wrote ∙ ap (plus (g.W.World.told a.world.now)) wrote,
-      stands_parent a.bsize a.psize fan leaves marks numbers a.fresh.now tier levels a.child.now a.level.now c.point.new.self c.div_ceil.result c.clear.new.self.place s q is fresh_is count c.clear.ensures.place,
+      stands_parent a.bsize a.psize fan leaves marks numbers a.fresh.now tier levels a.child.now a.level.now c.point.new.self c.div_ceil.result c.clear.new.self.place s q is fresh_is count
+          c.clear.ensures.place,
       λ less. stands_next a.bsize a.psize fan leaves marks numbers tier levels a.child.now a.level.now c.clear.new.self s is zeros less,
     )

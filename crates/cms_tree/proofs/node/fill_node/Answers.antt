@@ -24,7 +24,8 @@ loop-place-preserved c =
     let blocks = a.group.now.blocks.now in
     let within : l.place < length blocks = omega arith in
     let long : length (take l.place blocks) ≡ l.place = length-take-le l.place blocks (omega arith) in
-    one_filled (length a.into.now) a.psize a.marks.now a.count a.group.now.size a.group.now.first blocks l.place (get_or blocks l.place 0) c.if-psize-eq12.mark l.into c.put_cell.new.into c.requires.psize within c.requires.room
+    one_filled (length a.into.now) a.psize a.marks.now a.count a.group.now.size a.group.now.first blocks l.place
+    (get_or blocks l.place 0) c.if-psize-eq12.mark l.into c.put_cell.new.into c.requires.psize within c.requires.room
     (take_more blocks l.place 0 within) long l.invariant
     (λ twelve.
     elim c.if-psize-eq12.branch [

@@ -15,7 +15,8 @@ returns-then-place-count c =
     let l = c.loop-place in
     let count : c.div_ceil-count.result ≡ up (length l.below.now) a.fan = c.div_ceil-count.ensures ∙ div_ceil_is (length l.below.now) a.fan (omega arith) in
     let f = rises_found a.fan a.leaves.now a.fresh.now a.nth l.below.now l.numbers.now l.size l.place c.requires.wide c.requires.narrow c.requires.few l.invariant (omega arith) in
-    let part : take (c.min-end.result - l.place * a.fan) (drop (l.place * a.fan) l.below.now) ≡ take a.fan (drop (l.place * a.fan) l.below.now) = part_is a.fan (l.place * a.fan) c.min-end.result l.below.now (omega (arith, f.some)) c.min-end.ensures in
+    let part : take (c.min-end.result - l.place * a.fan) (drop (l.place * a.fan) l.below.now) ≡ take a.fan (drop (l.place * a.fan) l.below.now) =
+    part_is a.fan (l.place * a.fan) c.min-end.result l.below.now (omega (arith, f.some)) c.min-end.ensures in
     let wide = l.invariant.wide in
     record {
       children = λ marks. ap (children_from marks (length a.leaves.now) l.size (l.place * a.fan)) part ∙ f.children marks;
@@ -30,11 +31,16 @@ overflow_mul-size c =
     let a = c.args in
     let l = c.loop-place in
     let count : c.div_ceil-count.result ≡ up (length l.below.now) a.fan = c.div_ceil-count.ensures ∙ div_ceil_is (length l.below.now) a.fan (omega arith) in
-    omega (arith, (rises_bounds a.fan a.leaves.now a.fresh.now a.nth l.below.now l.numbers.now l.size l.place c.div_ceil-count.result c.requires.wide c.requires.narrow c.requires.some c.requires.few l.invariant count c.if-place-count.false).short)
+    omega (
+      arith,
+      (rises_bounds a.fan a.leaves.now a.fresh.now a.nth l.below.now l.numbers.now l.size l.place c.div_ceil-count.result c.requires.wide c.requires.narrow c.requires.some c.requires.few
+          l.invariant count c.if-place-count.false).short,
+    )
 
 pub loop-place-preserved : goal.loop-place-preserved
 loop-place-preserved c =
     let a = c.args in
     let l = c.loop-place in
     let count : c.div_ceil-count.result ≡ up (length l.below.now) a.fan = c.div_ceil-count.ensures ∙ div_ceil_is (length l.below.now) a.fan (omega arith) in
-    rw (c.split_at.ensures.front, c.split_at.ensures.back) (rises_next a.fan a.leaves.now a.fresh.now a.nth l.below.now l.numbers.now l.size l.place c.div_ceil-count.result (omega arith) l.invariant count c.if-place-count.false)
+    rw (c.split_at.ensures.front, c.split_at.ensures.back) (rises_next a.fan a.leaves.now a.fresh.now a.nth l.below.now l.numbers.now l.size l.place c.div_ceil-count.result
+    (omega arith) l.invariant count c.if-place-count.false)

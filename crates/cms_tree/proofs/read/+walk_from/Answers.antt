@@ -23,7 +23,8 @@ returns-in_err-take_node-clause-read g t c = λ j told.
     let a = c.args in
     let image = image_of (contents_of j a.layout.now.unit) in
     let p = err_from_is_err_and c.from_residual.result c.from_residual.ensures.1 in
-    rw (p.1, p.2) (node_refusal (form_of a.layout.now) image a.levels a.part.now.first a.part.now.holder a.part.now.root a.part.now.count c.in_err-take_node.field-0.0 (omega arith) c.in_err-take_node.ensures.refused)
+    rw (p.1, p.2) (node_refusal (form_of a.layout.now) image a.levels a.part.now.first a.part.now.holder a.part.now.root a.part.now.count c.in_err-take_node.field-0.0
+    (omega arith) c.in_err-take_node.ensures.refused)
 
 pub read_block-requires : goal.read_block-requires
 read_block-requires g t c = λ j told.
@@ -41,7 +42,8 @@ pub loop-place-init : goal.loop-place-init
 loop-place-init g t c =
     let a = c.args in
     record {
-      comes = λ j told. starts (form_of a.layout.now) (image_of (contents_of j a.layout.now.unit)) a.levels a.part.now.first a.part.now.holder a.part.now.root a.part.now.count c.in_ok-block.block.items a.into.now c.take_node.new.into (omega arith) c.in_ok-take_node.ensures.ok (c.in_ok-block.ensures.bytes j told);
+      comes = λ j told. starts (form_of a.layout.now) (image_of (contents_of j a.layout.now.unit)) a.levels a.part.now.first a.part.now.holder a.part.now.root a.part.now.count
+          c.in_ok-block.block.items a.into.now c.take_node.new.into (omega arith) c.in_ok-take_node.ensures.ok (c.in_ok-block.ensures.bytes j told);
       count = ap (λ (v : Vec ℕ Global). vec_len v + a.part.now.count) c.in_ok-take_node.ensures.ok.leaves;
       room = room_first a.part.now.count a.layout.now.fan a.levels c.size_below-size.result (omega arith) c.requires.room c.size_below-size.ensures;
       within = taken_within a.layout.now.last a.part.now.first a.part.now.root a.into.now c.take_node.new.into c.in_ok-take_node.ensures.ok;
@@ -55,7 +57,8 @@ pub returns-then-left-eq0-clause-read : goal.returns-then-left-eq0-clause-read
 returns-then-left-eq0-clause-read g t c = λ j told.
     let a = c.args in
     let l = c.loop-place in
-    ends (form_of a.layout.now) (image_of (contents_of j a.layout.now.unit)) (a.levels - 1) a.part.now.root c.in_ok-block.block.items l.place l.left l.first a.into.now l.into _ _ (l.invariant.comes j told) c.if-left-eq0.true
+    ends (form_of a.layout.now) (image_of (contents_of j a.layout.now.unit)) (a.levels - 1) a.part.now.root c.in_ok-block.block.items l.place l.left l.first a.into.now l.into _ _
+    (l.invariant.comes j told) c.if-left-eq0.true
 
 pub walk_from-requires : goal.walk_from-requires
 walk_from-requires g t c κs within =
@@ -63,8 +66,22 @@ walk_from-requires g t c κs within =
     let l = c.loop-place in
     let size : c.size_below-size.result ≡ a.layout.now.fan ^ (a.levels - 1) = c.size_below-size.ensures in
     let some : 1 ≤ a.layout.now.fan ^ (a.levels - 1) = one-le-pow (a.levels - 1) a.layout.now.fan (omega arith) in
-    let small = power_below a.layout.now.fan a.levels (omega arith) in
-    (omega arith, (within, (c.requires.fan, (c.requires.stride, (c.requires.fits, (omega arith, (omega (arith, c.part_of.ensures), (omega (arith, c.part_of.ensures), λ j told. c.requires.blocks j (sym l.invariant.told ∙ told)))))))))
+    let small = power_below a.layout.now.fan a.levels (omega arith) in (
+      omega arith,
+      (
+        within,
+        (
+          c.requires.fan,
+          (
+            c.requires.stride,
+            (
+              c.requires.fits,
+              (omega arith, (omega (arith, c.part_of.ensures), (omega (arith, c.part_of.ensures), λ j told. c.requires.blocks j (sym l.invariant.told ∙ told)))),
+            ),
+          ),
+        ),
+      ),
+    )
 
 pub returns-in_err-walk_from-clause-read : goal.returns-in_err-walk_from-clause-read
 returns-in_err-walk_from-clause-read g t c = λ j told.
@@ -73,11 +90,13 @@ returns-in_err-walk_from-clause-read g t c = λ j told.
     let image = image_of (contents_of j a.layout.now.unit) in
     let p = err_from_is_err_and c.from_residual-in_err-walk_from.result c.from_residual-in_err-walk_from.ensures.1 in
     let form = form_of a.layout.now in
-    let child : c.word_at.result ≡ word c.in_ok-block.block.items (l.place * a.layout.now.stride) = c.word_at.ensures ∙ ap (λ (bytes : List ℕ). word bytes (l.place * a.layout.now.stride)) c.deref.ensures.value in
+    let child : c.word_at.result ≡ word c.in_ok-block.block.items (l.place * a.layout.now.stride) =
+    c.word_at.ensures ∙ ap (λ (bytes : List ℕ). word bytes (l.place * a.layout.now.stride)) c.deref.ensures.value in
     let part : c.part_of.result ≡ min l.left (a.layout.now.fan ^ (a.levels - 1)) = c.part_of.ensures ∙ ap (λ (n : ℕ). min l.left n) c.size_below-size.ensures in
     let read = c.in_err-walk_from.ensures.read j (l.invariant.told ∙ told) in
     rw (p.1, p.2)
-    (refusal_passes form image (a.levels - 1) a.part.now.root c.in_ok-block.block.items l.place l.left c.part_of.result l.first a.into.now l.into _ _ c.in_err-walk_from.field-0.0 (l.invariant.comes j told) (omega arith) (omega arith) part
+    (refusal_passes form image (a.levels - 1) a.part.now.root c.in_ok-block.block.items l.place l.left c.part_of.result l.first a.into.now l.into _ _ c.in_err-walk_from.field-0.0
+    (l.invariant.comes j told) (omega arith) (omega arith) part
     (subst (λ (n : ℕ). IsFaultOf c.in_err-walk_from.field-0.0 (tree form image (a.levels - 1) l.first a.part.now.root n c.part_of.result)) child read))
 
 pub loop-place-preserved : goal.loop-place-preserved
@@ -88,10 +107,12 @@ loop-place-preserved g t c =
       comes = λ j told.
           let image = image_of (contents_of j a.layout.now.unit) in
           let form = form_of a.layout.now in
-          let child : c.word_at.result ≡ word c.in_ok-block.block.items (l.place * a.layout.now.stride) = c.word_at.ensures ∙ ap (λ (bytes : List ℕ). word bytes (l.place * a.layout.now.stride)) c.deref.ensures.value in
+          let child : c.word_at.result ≡ word c.in_ok-block.block.items (l.place * a.layout.now.stride) =
+          c.word_at.ensures ∙ ap (λ (bytes : List ℕ). word bytes (l.place * a.layout.now.stride)) c.deref.ensures.value in
           let part : c.part_of.result ≡ min l.left (a.layout.now.fan ^ (a.levels - 1)) = c.part_of.ensures ∙ ap (λ (n : ℕ). min l.left n) c.size_below-size.ensures in
           let read = c.in_ok-walk_from.ensures.read j (l.invariant.told ∙ told) in
-          goes_on form image (a.levels - 1) a.part.now.root c.in_ok-block.block.items l.place l.left c.part_of.result l.first a.into.now l.into c.walk_from.new.into _ _ (omega arith) (omega arith) part (l.invariant.comes j told)
+          goes_on form image (a.levels - 1) a.part.now.root c.in_ok-block.block.items l.place l.left c.part_of.result l.first a.into.now l.into c.walk_from.new.into _ _ (omega arith)
+          (omega arith) part (l.invariant.comes j told)
           (subst (λ (n : ℕ). onto (met_of l.into) (tree form image (a.levels - 1) l.first a.part.now.root n c.part_of.result) ≡ Ok (met_of c.walk_from.new.into)) child read.0)
           (subst (λ (n : ℕ). c.walk_from.new.into.pointers.items ≡ l.into.pointers.items ++ nodes form image (a.levels - 1) n c.part_of.result) child read.1);
       count = omega (arith, c.in_ok-walk_from.ensures.count, l.invariant.count, c.part_of.ensures);
@@ -108,4 +129,5 @@ returns-clause-read g t c = λ j told.
     let a = c.args in
     let l = c.loop-place in
     let none = no_room l.left a.layout.now.fan l.place c.size_below-size.result l.invariant.room (omega arith) in
-    ends (form_of a.layout.now) (image_of (contents_of j a.layout.now.unit)) (a.levels - 1) a.part.now.root c.in_ok-block.block.items l.place l.left l.first a.into.now l.into _ _ (l.invariant.comes j told) none
+    ends (form_of a.layout.now) (image_of (contents_of j a.layout.now.unit)) (a.levels - 1) a.part.now.root c.in_ok-block.block.items l.place l.left l.first a.into.now l.into _ _
+    (l.invariant.comes j told) none

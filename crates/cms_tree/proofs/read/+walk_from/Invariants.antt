@@ -17,7 +17,9 @@ invariant-loop-place g l =
     let edges = g.W.World.edges in
     let form = form_of l.layout in
     record {
-      comes : ForSome (told l.fn.world) (λ j. let image = image_of (contents_of j l.layout.unit) in Comes form image (l.levels - 1) l.part.root l.block.items l.place l.left l.first l.fn.into l.into (tree form image l.levels l.part.first l.part.holder l.part.root l.part.count) (nodes form image l.levels l.part.root l.part.count));
+      comes : ForSome (told l.fn.world) (λ j. let image = image_of (contents_of j l.layout.unit) in
+          Comes form image (l.levels - 1) l.part.root l.block.items l.place l.left l.first l.fn.into l.into (tree form image l.levels l.part.first l.part.holder l.part.root l.part.count)
+          (nodes form image l.levels l.part.root l.part.count));
       count : vec_len l.into.leaves + l.left ≡ vec_len l.fn.into.leaves + l.part.count;
       room : l.left ≤ (l.layout.fan - l.place) * l.size;
       within : StaysWithin l.layout.last l.part.first l.fn.into l.into;

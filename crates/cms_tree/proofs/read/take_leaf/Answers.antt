@@ -13,8 +13,12 @@ returns-then-not-is_allowed-clause-read c = λ image count.
 pub returns-clause-read : goal.returns-clause-read
 returns-clause-read c = λ image count.
     let p = c.args.part.now in
-    let read = leaf_read (form_of c.args.layout.now) image p.first p.holder p.root count (sym c.is_allowed.ensures ∙ c.if-not-is_allowed.false) in
-    (ap (onto (met_of c.args.into.now)) read ∙ leaf_joined c.args.into.now (record { blocks = c.push.new.self; pointers = c.args.into.now.pointers; leaves = c.push-2.new.self }) p.root c.in_ok-push.ensures.items c.in_ok-push-2.ensures.items, sym (append-nil c.args.into.now.pointers.items))
+    let read = leaf_read (form_of c.args.layout.now) image p.first p.holder p.root count (sym c.is_allowed.ensures ∙ c.if-not-is_allowed.false) in (
+      ap (onto (met_of c.args.into.now)) read ∙ leaf_joined c.args.into.now
+          (record { blocks = c.push.new.self; pointers = c.args.into.now.pointers; leaves = c.push-2.new.self }) p.root c.in_ok-push.ensures.items c.in_ok-push-2.ensures.items,
+      sym
+          (append-nil c.args.into.now.pointers.items),
+    )
 
 pub returns-clause-within : goal.returns-clause-within
 returns-clause-within c =

@@ -11,9 +11,9 @@ returns-in_err-append c =
     let words = c.args.words.now in
     let text = c.loop-word.text.items in
     rw (p.1, p.2) (passed_on (255 < length text + length c.bytes.result.now) c.in_err-append.field-0.0 (concat_call words) c.in_err-append.ensures.fault
-    (λ long. concat_past words c.loop-word.word-index text c.word-item.result (search rules) c.word-item.is c.loop-word.invariant.1
+    (λ long. concat_past words c.loop-word.word-index text c.word-item.result (search rules) c.word-item.is c.loop-word.invariant.same
     (let e = ap length c.bytes.ensures.bytes in omega (arith, long, e))))
 
 pub returns : goal.returns
 returns c =
-    concat_end c.args.words.now c.loop-word.word-index c.loop-word.text.items (omega arith) c.loop-word.invariant.0 c.loop-word.invariant.1 ∙ ap Ok (sym c.take.ensures)
+    concat_end c.args.words.now c.loop-word.word-index c.loop-word.text.items (omega arith) c.loop-word.invariant.short c.loop-word.invariant.same ∙ ap Ok (sym c.take.ensures)

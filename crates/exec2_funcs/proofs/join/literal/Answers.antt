@@ -12,7 +12,7 @@ pub loop-word-init : goal.loop-word-init
 loop-word-init c =
     let text : c.in_ok-text.text.items ≡ c.first-item.result = search rules in
     let short : length c.first-item.result ≤ 255 = search rules in
-    (rw text short, rw text (literal_first c.args.words.now c.first-item.result c.in-len1-up.len_at_least c.first-item.is))
+    record { short = rw text short; same = rw text (literal_first c.args.words.now c.first-item.result c.in-len1-up.len_at_least c.first-item.is) }
 
 pub returns-in_err-append_word : goal.returns-in_err-append_word
 returns-in_err-append_word c =
@@ -21,10 +21,10 @@ returns-in_err-append_word c =
     let others = take (length words - 1) (drop 1 words) in
     let text = c.loop-word.text.items in
     rw (p.1, p.2) (passed_on (255 < length text + length c.bytes-in-loop-word.result.now + 1) c.in_err-append_word.field-0.0 (literal_call words) c.in_err-append_word.ensures.fault
-    (λ long. literal_past words others c.loop-word.word-index text c.word-item.result (search rules) c.word-item.is c.loop-word.invariant.1
+    (λ long. literal_past words others c.loop-word.word-index text c.word-item.result (search rules) c.word-item.is c.loop-word.invariant.same
     (let e = ap length c.bytes-in-loop-word.ensures.bytes in omega (arith, long, e))))
 
 pub returns : goal.returns
 returns c =
     let words = c.args.words.now in
-    literal_end words (take (length words - 1) (drop 1 words)) c.loop-word.word-index c.loop-word.text.items (search rules) c.loop-word.invariant.0 c.loop-word.invariant.1 ∙ ap Ok (sym c.take.ensures)
+    literal_end words (take (length words - 1) (drop 1 words)) c.loop-word.word-index c.loop-word.text.items (search rules) c.loop-word.invariant.short c.loop-word.invariant.same ∙ ap Ok (sym c.take.ensures)

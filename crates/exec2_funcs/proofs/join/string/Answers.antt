@@ -13,23 +13,25 @@ returns-in_err-append_word c =
     let text = c.loop-word.text.items in
     let same = ap length c.bytes-word.ensures.bytes in
     rw (p.1, p.2) (passed_on (255 < length text + length c.bytes-word.result.now + 1) c.in_err-append_word.field-0.0 (string_call words) c.in_err-append_word.ensures.fault
-    (λ long. string_past_word words c.loop-word.word-index text c.word-item.result (search rules) (search rules) c.word-item.is (search rules) c.loop-word.invariant.1 (omega (arith, long, same))))
+    (λ long. string_past_word words c.loop-word.word-index text c.word-item.result (search rules) (search rules) c.word-item.is (search rules) c.loop-word.invariant.same (omega (arith, long, same))))
 
 pub loop-word-preserved : goal.loop-word-preserved
 loop-word-preserved c =
     elim c.if-is_empty-2.branch [
-      | then-is_empty-2+in_ok-append w ↦ (
-        rw w.text-is w.in_ok-append.ensures.short,
-        rw (w.text-is, w.in_ok-append.ensures.added, c.bytes-word.ensures.bytes)
-            (sym (continued_first c.loop-word.text.items c.args.words.now c.loop-word.word-index c.word-item.result (search rules) (search rules) c.word-item.is (search rules)) ∙ c.loop-word.invariant.1),
-      )
-      | else-is_empty-2+in_ok-append_word w ↦ (
-        rw w.text-is w.in_ok-append_word.ensures.short,
-        rw (w.text-is, w.in_ok-append_word.ensures.added, c.bytes-word.ensures.bytes)
-            (sym (continued_more c.loop-word.text.items c.args.words.now c.loop-word.word-index c.word-item.result (search rules) (search rules) c.word-item.is (search rules)) ∙ c.loop-word.invariant.1),
-      )
+      | then-is_empty-2+in_ok-append w ↦ record {
+        short = rw w.text-is w.in_ok-append.ensures.short;
+        same = rw (w.text-is, w.in_ok-append.ensures.added, c.bytes-word.ensures.bytes)
+            (sym (continued_first c.loop-word.text.items c.args.words.now c.loop-word.word-index c.word-item.result (search rules) (search rules) c.word-item.is (search rules))
+            ∙ c.loop-word.invariant.same);
+      }
+      | else-is_empty-2+in_ok-append_word w ↦ record {
+        short = rw w.text-is w.in_ok-append_word.ensures.short;
+        same = rw (w.text-is, w.in_ok-append_word.ensures.added, c.bytes-word.ensures.bytes)
+            (sym (continued_more c.loop-word.text.items c.args.words.now c.loop-word.word-index c.word-item.result (search rules) (search rules) c.word-item.is (search rules))
+            ∙ c.loop-word.invariant.same);
+      }
     ]
 
 pub returns : goal.returns
 returns c =
-    string_end c.args.words.now c.loop-word.word-index c.loop-word.text.items (search rules) c.loop-word.invariant.0 c.loop-word.invariant.1 ∙ ap Ok (sym c.take.ensures)
+    string_end c.args.words.now c.loop-word.word-index c.loop-word.text.items (search rules) c.loop-word.invariant.short c.loop-word.invariant.same ∙ ap Ok (sym c.take.ensures)

@@ -5,7 +5,9 @@ use Rattle.cms_records.specs.Stored.{records_in}
 use Rattle.exec2_parse.proofs.procedure.read_procedure.Given as goal
 
 abbrev pub invariant-loop-record : goal.invariant-loop-record
-invariant-loop-record l =
-    (goal.iterator-loop-record).can_next l.record-iterator × (goal.iterator-loop-record).is_finite l.record-iterator
-    × (l.lines ++ lines_of l.record-iterator ≡ lines_of (records_in l.file))
-    × (number_of_long_line (lines_of l.record-iterator) ≡ None)
+invariant-loop-record l = record {
+  next : (goal.iterator-loop-record).can_next l.record-iterator;
+  finite : (goal.iterator-loop-record).is_finite l.record-iterator;
+  lines : l.lines ++ lines_of l.record-iterator ≡ lines_of (records_in l.file);
+  short : number_of_long_line (lines_of l.record-iterator) ≡ None;
+}

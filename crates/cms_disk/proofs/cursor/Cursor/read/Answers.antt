@@ -39,7 +39,8 @@ returns-in-Ok-clause-read g c = λ j told records left.
     let is = get_or_read v.leaves.items v.done c.index-leaf.result.now less c.index-leaf.ensures 0 in
     let block = has_block j (the_view v) v.done c.index-leaf.result.now v.bsize has c.self.invariant.leaves less is refl in
     let unit : v.unit.number ≡ c.args.self.now.unit = ap (λ (r : Reading). r.unit) view in
-    let read : c.read_block.new.into ≡ image_of (contents_of j v.unit.number) c.index-leaf.result.now = c.in-Ok.ensures.bytes j told ∙ sym (block_in_image j v.unit.number c.index-leaf.result.now v.bsize block) in
+    let read : c.read_block.new.into ≡ image_of (contents_of j v.unit.number) c.index-leaf.result.now =
+    c.in-Ok.ensures.bytes j told ∙ sym (block_in_image j v.unit.number c.index-leaf.result.now v.bsize block) in
     let waits : Waits (the_view v) = subst Waits (sym view) c.requires.waits in
     let long = c.self.invariant.held.block in
     let from = waits.1 in
@@ -47,4 +48,5 @@ returns-in-Ok-clause-read g c = λ j told records left.
     let bytes : c.read_block.new.into ≡ image (slice_index v.leaves.items v.done) = read ∙ (ap (λ (u : ℕ). image_of (contents_of j u) c.index-leaf.result.now) unit ∙ ap image is) in
     let same : length c.read_block.new.into ≡ v.block.len = search rules in
     let put : (with_items v.block c.read_block.new.into).items ≡ c.read_block.new.into = with_items_is v.block c.read_block.new.into same in
-    read_next image (the_view v) (with_items v.block c.read_block.new.into).items (v.done + 1) 0 v.altered records (put ∙ bytes) refl refl refl less (omega arith) (subst (λ (r : Reading). HasLeft image r records) (sym view) left)
+    read_next image (the_view v) (with_items v.block c.read_block.new.into).items (v.done + 1) 0 v.altered records (put ∙ bytes) refl refl refl less (omega arith)
+    (subst (λ (r : Reading). HasLeft image r records) (sym view) left)

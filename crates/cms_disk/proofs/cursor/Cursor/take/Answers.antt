@@ -26,7 +26,8 @@ returns-in-Ok-clause-some c = λ short none.
     let long = c.self.invariant.held.block in
     let size = c.self.invariant.some in
     let first : v.from ≡ 0 = subst (λ (r : Reading). r.from ≡ 0) (sym view) none in
-    let got = takes_some v.begun c.feed.new.self (drop v.from v.block.items) (c.in-Ok.fed.next - v.from) c.in-Ok.fed.whole (subst (λ (r : Reading). IsShort r.begun) (sym view) short) (omega arith) t in
+    let got = takes_some v.begun c.feed.new.self (drop v.from v.block.items) (c.in-Ok.fed.next - v.from) c.in-Ok.fed.whole (subst (λ (r : Reading). IsShort r.begun) (sym view) short)
+    (omega arith) t in
     omega arith
 
 pub returns-in-Err-clause-altered : goal.returns-in-Err-clause-altered

@@ -1,10 +1,11 @@
 use Rattle.std.proofs.Common.{◌++◌, Err, refl, sym, ◌∙◌, ap, subst}
 use Rattle.std.proofs.lemmas.Result.{err_from_is_err_and}
 use Rattle.cms_journal.specs.Told.{Told}
+use Rattle.cms_held.proofs.Fronts.{if_err}
 use Rattle.cms_model.specs.Changes.{Add, Put}
 use Rattle.cms_disk.specs.Changing.{Alters, Appends}
-use Rattle.cms_disk.specs.Drafts.{file_with, shape_of}
-use Rattle.cms_disk.proofs.Adding.{adds_as, joined_adds, named_so, read_failed}
+use Rattle.cms_disk.specs.Drafts.{IsAddFault, IsPutFault, file_with, shape_of}
+use Rattle.cms_disk.proofs.Adding.{adds_as, joined_adds, named_so, put_is_fault, read_failed}
 use Rattle.cms_disk.proofs.Altering.{is_missing}
 use Rattle.cms_disk.proofs.DraftSteps.{none_aside}
 use Rattle.cms_disk.proofs.minidisk.Minidisk.append.Goals as goal
@@ -47,3 +48,12 @@ returns-clause-appends g c = λ j m records told is looked stands.
     let alters = c.put.ensures.alters j m all (get.reads.told ∙ told) is looked (joined.stands f.records records facts.stands stands) in
     adds_as old new d e m name records more.stamp stamp file c.put.result (joined_adds m name f front more whole records there (named_so name f m.files there) facts stands joined)
     (subst (λ (t : Told). Alters t new d e m (Put file) stamp c.put.result) get.reads.told alters)
+
+pub returns-clause-fault : goal.returns-clause-fault
+returns-clause-fault g c =
+    let d = c.args.self.now in
+    let name = c.args.name.now in
+    let more = c.args.more.now in
+    let whole = c.in_ok-file.file in
+    if_err c.put.result (IsPutFault d name (shape_of whole)) (IsAddFault d name more)
+    (put_is_fault d name more c.in_ok-front.front whole c.in_ok-front.ensures.like c.in_ok-file.ensures.joined) c.put.ensures.fault

@@ -8,7 +8,7 @@ use Rattle.cms_edf.specs.declared.doubt.Doubt.TheVariants.{Old, Either}
 use Rattle.cms_world.specs.Seen.{seen}
 use Rattle.cms_disk.specs.Changing.{Alters, ChangesDisk}
 use Rattle.cms_disk.specs.Disks.{Accessed}
-use Rattle.cms_disk.proofs.Altering.{Setting, altered, alters_by, full_is, grown_so, leads_same, on_same}
+use Rattle.cms_disk.proofs.Altering.{Setting, altered, alters_by, full_is, grown_so, leads_same, on_same, room_is}
 use Rattle.cms_disk.proofs.minidisk.Minidisk.change.Goals as goal
 use Rattle.cms_disk.proofs.minidisk.Minidisk.change.Goals.{in-Ok-carry_out, in-Err-Old, in-Err-Either}
 
@@ -21,6 +21,12 @@ returns-in-Err-Full-clause-alters g c = λ j m told is looked.
           (record { is = is; readable = c.requires.blocks j told; kept = subst Keeps (c.plan.ensures.volume ∙ view) c.plan.ensures.kept; can = c.requires.change })
           (rw c.in-Err-Full.field-0-is at (subst (λ (v : HeldVolume). IsFullFor v c.args.change.now c.in-Err-Full.field-0) view c.in-Err-Full.ensures.full)),
     )
+
+pub returns-in-Err-Full-clause-fault : goal.returns-in-Err-Full-clause-fault
+returns-in-Err-Full-clause-fault g c =
+    let view = ap (λ (a : Accessed). a.volume) c.self.view_is in
+    room_is c.args.self.now.volume c.args.change.now c.in-Err-Full.need c.in-Err-Full.free
+    (rw c.in-Err-Full.field-0-is at (subst (λ (v : HeldVolume). IsFullFor v c.args.change.now c.in-Err-Full.field-0) view c.in-Err-Full.ensures.full))
 
 pub carry_out-requires-clause-plan : goal.carry_out-requires-clause-plan
 carry_out-requires-clause-plan g c = record {

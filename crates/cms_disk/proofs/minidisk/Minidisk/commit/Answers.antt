@@ -75,7 +75,12 @@ returns-clause-changes g c =
     rw (← c.self.view_is) (elim c.match-commit.branch [
       | in-Ok w ↦ (
           subst (ChangesDisk (seen shows c.args.world.now) (seen shows c.commit.new.world) _ _) (sym w.result-is)
-          (record { units = record { grown = grown; faults = counts.cause.later; edges = counts.edges; cause = tt }; same = record { vdev = refl; writable = refl; unit = on.0; disk = on.1 }; kept = tt })
+          (record {
+            units = record { grown = grown; faults = counts.cause.later; edges = counts.edges; cause = tt };
+            same = record { vdev = refl; writable = refl; unit = on.0; disk = on.1 };
+            kept =
+                tt;
+          })
           )
       | in-Err-Old w ↦ (
           subst (ChangesDisk (seen shows c.args.world.now) (seen shows c.commit.new.world) _ _) (sym w.result-is)

@@ -9,7 +9,8 @@ use Rattle.cms_disk.proofs.minidisk.Minidisk.get.Goals as goal
 pub returns-in_err-place-clause-file : goal.returns-in_err-place-clause-file
 returns-in_err-place-clause-file g c =
     let p = err_from_is_err_and c.from_residual.result c.from_residual.ensures.1 in
-    rw (p.1, p.2) (λ j told m stands. gets_none c.args.name.now m c.in_err-place.field-0.0 c.in_err-place.ensures.fault (c.in_err-place.ensures.absent (image_of (contents_of j c.args.self.now.volume.unit)) m stands))
+    rw (p.1, p.2) (λ j told m stands. gets_none c.args.name.now m c.in_err-place.field-0.0 c.in_err-place.ensures.fault
+    (c.in_err-place.ensures.absent (image_of (contents_of j c.args.self.now.volume.unit)) m stands))
 
 pub gather-requires-clause-fixed : goal.gather-requires-clause-fixed
 gather-requires-clause-fixed g c = fixed_is c.args.self.now.volume c.in_ok-place.place c.info-info.result c.in_ok-cursor.cursor c.info-info.ensures c.in_ok-cursor.ensures.first

@@ -1,4 +1,5 @@
-use Rattle.std.proofs.Common.{◌≡◌, Err, false, List, [], refl, sym, ◌∙◌, ap, subst}
+use Rattle.std.proofs.Common.{◌≡◌, Result, Err, false, List, [], refl, sym, ◌∙◌, ap, subst}
+use Rattle.std.specs.Prelude.{IfErr, ⊤}
 use Rattle.std.proofs.lemmas.Result.{err_from_is_err_and}
 use Rattle.cms_journal.specs.Journal.{HasBlocks, IsWritable}
 use Rattle.cms_world.specs.Seen.{seen}
@@ -13,12 +14,12 @@ use Rattle.cms_edf.specs.declared.draft.Draft.{Draft}
 use Rattle.cms_draft.specs.declared.shape.DraftShape.{DraftShape}
 use Rattle.cms_disk.specs.Changing.{Alters, IsDevices}
 use Rattle.cms_disk.specs.Disks.{Accessed}
-use Rattle.cms_disk.specs.Drafts.{HaveCounts, IsPutFault, file_with}
+use Rattle.cms_disk.specs.Drafts.{HaveCounts, IsDraftFault, IsPutFault, file_with, shape_of}
 use Rattle.cms_disk.specs.declared.fault.DiskFault.{DiskFault}
 use Rattle.cms_disk.specs.declared.fault.DiskFault.TheVariants.{ReadOnly}
 use Rattle.cms_disk.proofs.DraftSteps.{some_draft}
 use Rattle.cms_disk.proofs.Filling.{same_draft}
-use Rattle.cms_disk.proofs.FilePut.{Start, alters_same, are_last, begins, changed_behind, device_is_fault, given_up, has_counts, long_so, not_read_only, refused_so}
+use Rattle.cms_disk.proofs.FilePut.{Start, alters_same, are_last, begins, changed_behind, device_is_fault, draft_is_fault, given_up, has_counts, long_so, not_read_only, refused_so}
 use Rattle.cms_disk.proofs.minidisk.Minidisk.put.Goals as goal
 
 pub returns-in_err-draft-clause-alters : goal.returns-in_err-draft-clause-alters
@@ -36,6 +37,15 @@ returns-in_err-draft-clause-alters g c = λ j m records told is looked stands.
     subst (λ (s : DraftShape). Alters old old d e m (Put (file_with name s records)) stamp c.from_residual.result) eq
     (subst (Alters old old d e m (Put (file_with name shape records)) stamp) (sym (p.1 ∙ ap Err p.2))
     (refused_so Draft old d e m name shape records stamp why c.in_err-draft.ensures.fault (c.in_err-draft.ensures.answers j m records is (c.requires.blocks j told) counts)))
+
+pub returns-in_err-draft-clause-fault : goal.returns-in_err-draft-clause-fault
+returns-in_err-draft-clause-fault g c =
+    let p = err_from_is_err_and c.from_residual.result c.from_residual.ensures.1 in
+    let d = c.args.self.now in
+    let name = c.args.name.now in
+    let shape = shape_of c.args.file.now in
+    subst (λ (r : Result ⊤ DiskFault). IfErr r (IsPutFault d name shape)) (sym (p.1 ∙ ap Err p.2))
+    (draft_is_fault d name shape _ (subst (λ (s : DraftShape). IsDraftFault d name s c.in_err-draft.field-0.0) c.shape_of-shape.ensures.shape c.in_err-draft.ensures.fault))
 
 pub put_records-requires-clause-last : goal.put_records-requires-clause-last
 put_records-requires-clause-last g c = are_last c.args.file.now c.requires.file _ _ _ _ c.in_ok-draft.draft.writer c.shape_of-shape.ensures.shape c.in_ok-draft.ensures.fresh
@@ -107,7 +117,9 @@ returns-clause-alters g c = λ j m records told is looked stands.
     (c.commit.ensures.alters old m name shape stamp records goes (same_draft e.volume name shape stamp draft full put.same planned) (long_so c.args.file.now shape records eq stands)))
 
 pub returns-clause-fault : goal.returns-clause-fault
-returns-clause-fault g c = if_err c.commit.result IsDevices IsPutFault device_is_fault c.commit.ensures.fault
+returns-clause-fault g c =
+    let shape = shape_of c.args.file.now in
+    if_err c.commit.result IsDevices (IsPutFault c.args.self.now c.args.name.now shape) (device_is_fault c.args.self.now c.args.name.now shape) c.commit.ensures.fault
 
 pub returns-clause-read_only : goal.returns-clause-read_only
 returns-clause-read_only g c = if_err c.commit.result IsDevices (λ (e : DiskFault). e ≡ ReadOnly → c.args.self.now.writable ≡ false) (λ e device same. absurd (not_read_only e device same)) c.commit.ensures.fault

@@ -34,10 +34,10 @@ append-preserved g c =
     let i = c.append.invariant in
     let e = c.in-Ok.ensures in
     record {
-      is = e.is;
-      unfilled = e.unfilled;
-      last = e.last ∙ i.last;
-      begun = begun_more w w1 w2 c.in-Ok.taken text rest c.behind-rest.result.now i.begun e.taken.1 e.taken.2 c.behind-rest.ensures.bytes e.same e.mark e.later;
+      is = e.later.is;
+      unfilled = e.later.unfilled;
+      last = e.later.last ∙ i.last;
+      begun = begun_more w w1 w2 c.in-Ok.taken text rest c.behind-rest.result.now i.begun e.taken.1 e.taken.2 c.behind-rest.ensures.bytes e.later.same e.mark e.later.later;
       writes = λ bytes marks s next are. appended_on old mid new w w1 w2 text rest bytes marks i.begun next are (i.writes bytes marks s next are) (e.writes bytes marks);
       own = own_on old mid new w w1 i.begun.same i.own e.own;
       ready = e.still;

@@ -4,12 +4,13 @@ use Rattle.std.proofs.lemmas.List.{length-replicate}
 use Rattle.cms_tree.specs.declared.types.Mark.{Mark}
 use Rattle.cms_tree.specs.Climbs.{Adds, AddsOwn, Climbing, Climbs, IsNext}
 use Rattle.cms_tree.proofs.Own.{own_grown}
+use Rattle.cms_held.specs.Drafts.{nowhere}
 use Rattle.cms_draft.specs.declared.block_writer.BlockWriter.{BlockWriter}
 use Rattle.cms_draft.specs.BlockWriting.{IsSame}
 use Rattle.cms_draft.proofs.BlockWritten.{flush_fails, flushed, own_failed, own_flushed, writer_flushed, ready_kept}
 use Rattle.cms_draft.proofs.block_writer.BlockWriter.flush.Goals as goal
 
-is_same : (w w' cleared : BlockWriter) → cleared ≡ record w { block = cleared.block; filled = 0; whole = w.whole + 1; mark = record { last = w.mark.last; place = 0xFFFFFFFF } }
+is_same : (w w' cleared : BlockWriter) → cleared ≡ record w { block = cleared.block; filled = 0; whole = w.whole + 1; mark = record { last = w.mark.last; place = nowhere } }
     → IsSame w (record cleared { climb = w'.climb })
 is_same w w' cleared same = record {
   unit = ap (λ (x : BlockWriter). x.unit) same;

@@ -1,4 +1,4 @@
-use Rattle.std.proofs.Common.{◌≡◌, ◌+◌, ◌++◌, ◌∷◌, [], ℕ, List, length, refl, sym, ◌∙◌, ap}
+use Rattle.std.proofs.Common.{sym, ap}
 use Rattle.cms_draft.specs.BlockWriting.{came}
 use Rattle.cms_draft.specs.Drafting.{Drafting}
 use Rattle.cms_draft.proofs.FilePuts.{stored_long}

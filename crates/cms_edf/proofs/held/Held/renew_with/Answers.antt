@@ -15,7 +15,8 @@ invariant_of-self c =
     let file = c.args.file in
     let fs = files_with (values i.files) (position (same_name file.entry.name) (names_in (values i.files))) file in
     let edit : Edit = record { files = fs; given = []; taken = [] } in
-    let kept = subst (λ (h : Holding). (edit : Edit) → edit.files ≡ files_with h.volume.files (position (same_name file.entry.name) (names_in h.volume.files)) file → Keeps (renewed h.volume edit c.args.systems))
+    let kept = subst (λ (h : Holding). (edit : Edit) → edit.files ≡ files_with h.volume.files (position (same_name file.entry.name) (names_in h.volume.files)) file
+    → Keeps (renewed h.volume edit c.args.systems))
     (sym c.self.view_is) c.requires.kept in
     let new = subst (λ (s : Systems). IsKept i.bsize i.blocks s.label (length s.label_bytes) s.bits fs) (sym c.systems.view_is) (kept edit refl) in
     record {

@@ -1,12 +1,16 @@
-use Rattle.std.proofs.Common.{◌++◌, ap, subst}
-use Rattle.cms_world.specs.Seen.{seen}
-use Rattle.cms_held.specs.Systems.{Systems}
+use Rattle.std.proofs.Common.{◌++◌, Result, length, ap, subst}
+use Rattle.std.specs.Prelude.{⊤}
+use Rattle.cms_journal.specs.declared.event.Failed.{Failed}
+use Rattle.cms_world.specs.Seen.{Seen, seen}
+use Rattle.cms_held.specs.Systems.{Systems, system_writes}
 use Rattle.cms_edf.specs.declared.writing.Target.{Target}
 use Rattle.cms_edf.specs.Doubts.{directory_writes, map_writes, first_writes, target_of}
-use Rattle.cms_edf.specs.Writing.{MayWrite}
+use Rattle.cms_edf.specs.Writing.{MayWrite, Writes}
 use Rattle.cms_edf.proofs.SystemsWritten.{held_made, target_held}
 use Rattle.cms_edf.proofs.WritesMade.{then_made, first_failed, same_made}
+use Rattle.cms_edf.proofs.system_blocks.SystemBlocks.write.Given as given
 use Rattle.cms_edf.proofs.system_blocks.SystemBlocks.write.Goals as goal
+use Rattle.cms_edf.proofs.system_blocks.SystemBlocks.write.Goals.{After-write_directory}
 
 pub write_directory-requires-clause-may : goal.write_directory-requires-clause-may
 write_directory-requires-clause-may g c =
@@ -14,58 +18,49 @@ write_directory-requires-clause-may g c =
     let v : Systems = record { label = i.label; label_bytes = i.label_bytes.items; directory = i.directory; directory_bytes = i.directory_bytes.items; map = i.map_tree; bits = i.map } in
     subst (λ (t : Target). MayWrite (g.W.World.told c.args.world.now) t) (target_held c.args.unit v c.args.self.now i.bsize c.self.view_is c.self.invariant.label_long) c.requires.may
 
-pub returns-in-Err : goal.returns-in-Err
-returns-in-Err g c =
-    let show = seen g.W.World in
+-- where they are written
+abbrev target : (g : given.Over) → After-write_directory g → Target
+target g c = record { unit = c.args.unit; total = c.self.inside.label.blocks; bsize = c.self.inside.bsize }
+
+-- the parts, written as they are held, are what an update writes
+written : (g : given.Over) (c : After-write_directory g) (now : Seen) (r : Result ⊤ Failed)
+    → Writes (seen g.W.World c.args.world.now) now (target g c)
+    (directory_writes c.self.inside.bsize c.self.inside.directory c.self.inside.directory_bytes.items
+    ++ (map_writes c.self.inside.bsize c.self.inside.map_tree c.self.inside.map ++ first_writes c.self.inside.bsize c.self.inside.directory c.self.inside.directory_bytes.items)) r
+    → Writes (seen g.W.World c.args.world.now) now (target_of c.args.unit c.args.self.now) (system_writes (length c.args.self.now.label_bytes) c.args.self.now) r
+written g c now r =
     let i = c.self.inside in
     let v : Systems = record { label = i.label; label_bytes = i.label_bytes.items; directory = i.directory; directory_bytes = i.directory_bytes.items; map = i.map_tree; bits = i.map } in
-    let t : Target = record { unit = c.args.unit; total = i.label.blocks; bsize = i.bsize } in
-    let old = show c.args.world.now in
-    let one = show c.write_directory.new.world in
-    let a = directory_writes i.bsize i.directory i.directory_bytes.items in
-    let m = map_writes i.bsize i.map_tree i.map in
-    let f = first_writes i.bsize i.directory i.directory_bytes.items in
-    let is = ap (directory_writes i.bsize i.directory) c.deref.ensures.value in
-    record {
-      writes = held_made c.args.unit v c.args.self.now i.bsize old one _ c.self.view_is c.self.invariant.label_long
-          (first_failed old one t a (m ++ f) _ (same_made old one t _ _ _ is c.in-Err.ensures.writes));
-    }
+    held_made c.args.unit v c.args.self.now i.bsize (seen g.W.World c.args.world.now) now r c.self.view_is c.self.invariant.label_long
+
+-- the directory's part, of the bytes that are held
+directory_done : (g : given.Over) (c : After-write_directory g) (r : Result ⊤ Failed)
+    → Writes (seen g.W.World c.args.world.now) (seen g.W.World c.write_directory.new.world) (target g c) (directory_writes c.self.inside.bsize c.self.inside.directory c.deref.result.now) r
+    → Writes (seen g.W.World c.args.world.now) (seen g.W.World c.write_directory.new.world) (target g c)
+    (directory_writes c.self.inside.bsize c.self.inside.directory c.self.inside.directory_bytes.items) r
+directory_done g c r = same_made _ _ (target g c) _ _ r (ap (directory_writes c.self.inside.bsize c.self.inside.directory) c.deref.ensures.value)
+
+pub returns-in-Err : goal.returns-in-Err
+returns-in-Err g c =
+    let at = (goal.at.returns-in-Err g c).After-write_directory in
+    record { writes = written g at _ _ (first_failed _ _ (target g at) _ _ _ (directory_done g at _ c.in-Err.ensures.writes)) }
 
 pub returns-in-Err-write_map_tree : goal.returns-in-Err-write_map_tree
 returns-in-Err-write_map_tree g c =
-    let show = seen g.W.World in
-    let i = c.self.inside in
-    let v : Systems = record { label = i.label; label_bytes = i.label_bytes.items; directory = i.directory; directory_bytes = i.directory_bytes.items; map = i.map_tree; bits = i.map } in
-    let t : Target = record { unit = c.args.unit; total = i.label.blocks; bsize = i.bsize } in
-    let old = show c.args.world.now in
-    let one = show c.write_directory.new.world in
-    let two = show c.write_map_tree.new.world in
-    let a = directory_writes i.bsize i.directory i.directory_bytes.items in
-    let m = map_writes i.bsize i.map_tree i.map in
-    let f = first_writes i.bsize i.directory i.directory_bytes.items in
-    let is = ap (directory_writes i.bsize i.directory) c.deref.ensures.value in
+    let at = (goal.at.returns-in-Err-write_map_tree g c).After-write_directory in
+    let one = seen g.W.World c.write_directory.new.world in
     record {
-      writes = held_made c.args.unit v c.args.self.now i.bsize old two _ c.self.view_is c.self.invariant.label_long
-          (then_made old one two t a (m ++ f) _ (same_made old one t _ _ _ is c.in-Ok.ensures.writes) (first_failed one two t m f _ c.in-Err-write_map_tree.ensures.writes));
+      writes = written g at _ _ (then_made _ one _ (target g at) _ _ _ (directory_done g at _ c.in-Ok.ensures.writes)
+          (first_failed one _ (target g at) _ _ _ c.in-Err-write_map_tree.ensures.writes));
     }
 
 pub returns-in-Ok-write_map_tree : goal.returns-in-Ok-write_map_tree
 returns-in-Ok-write_map_tree g c =
-    let show = seen g.W.World in
-    let i = c.self.inside in
-    let v : Systems = record { label = i.label; label_bytes = i.label_bytes.items; directory = i.directory; directory_bytes = i.directory_bytes.items; map = i.map_tree; bits = i.map } in
-    let t : Target = record { unit = c.args.unit; total = i.label.blocks; bsize = i.bsize } in
-    let old = show c.args.world.now in
-    let one = show c.write_directory.new.world in
-    let two = show c.write_map_tree.new.world in
-    let new = show c.write_first.new.world in
-    let a = directory_writes i.bsize i.directory i.directory_bytes.items in
-    let m = map_writes i.bsize i.map_tree i.map in
-    let f = first_writes i.bsize i.directory i.directory_bytes.items in
-    let is = ap (directory_writes i.bsize i.directory) c.deref.ensures.value in
-    let is_last = ap (first_writes i.bsize i.directory) c.deref-in-Ok-write_map_tree.ensures.value in
+    let at = (goal.at.returns-in-Ok-write_map_tree g c).After-write_directory in
+    let one = seen g.W.World c.write_directory.new.world in
+    let two = seen g.W.World c.write_map_tree.new.world in
+    let is_last = ap (first_writes c.self.inside.bsize c.self.inside.directory) c.deref-in-Ok-write_map_tree.ensures.value in
     record {
-      writes = held_made c.args.unit v c.args.self.now i.bsize old new _ c.self.view_is c.self.invariant.label_long
-          (then_made old one new t a (m ++ f) _ (same_made old one t _ _ _ is c.in-Ok.ensures.writes)
-          (then_made one two new t m f _ c.in-Ok-write_map_tree.ensures.writes (same_made two new t _ _ _ is_last c.write_first.ensures.writes)));
+      writes = written g at _ _ (then_made _ one _ (target g at) _ _ _ (directory_done g at _ c.in-Ok.ensures.writes)
+          (then_made one two _ (target g at) _ _ _ c.in-Ok-write_map_tree.ensures.writes (same_made two _ (target g at) _ _ _ is_last c.write_first.ensures.writes)));
     }

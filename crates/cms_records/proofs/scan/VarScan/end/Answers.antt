@@ -19,4 +19,5 @@ returns-then-self-bytes-clause-told c =
 
 pub returns-clause-told : goal.returns-clause-told
 returns-clause-told c =
-    subst (λ (s : Scan). Told s (Ok (record { longest = c.self.inside.longest; stored = c.self.inside.place }))) c.self.view_is (λ count bytes fed. sym (ends_well count bytes _ fed (search rules) (search rules)))
+    subst (λ (s : Scan). Told s (Ok (record { longest = c.self.inside.longest; stored = c.self.inside.place }))) c.self.view_is
+    (λ count bytes fed. sym (ends_well count bytes _ fed (search rules) (search rules)))

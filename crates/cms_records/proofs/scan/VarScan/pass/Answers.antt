@@ -36,5 +36,8 @@ returns-clause-passed c = λ more count bytes long holds past.
     let new = ap (λ (s : Scan). record s { left = s.left - 1; place = s.place + (2 + n); longest = max s.longest n; size = None }) c.self.view_is in
     let less = past_next bytes now.place now.high n now.size past c.in-Some.ensures.known in
     let fits : c.self.inside.place + 2 + n ≤ c.self.inside.fed = search rules in
-    let longest : c.max-self-inside.result ≡ max c.self.inside.longest n = search rules in
-    (rw longest (subst (Holds count (bytes ++ c.args.piece.now)) (sym new) (holds_next count (bytes ++ c.args.piece.now) now n holds c.requires.some told.1 some (omega (arith, fits, at, fed)))), inl (omega (arith, less, at)))
+    let longest : c.max-self-inside.result ≡ max c.self.inside.longest n = search rules in (
+      rw longest (subst (Holds count (bytes ++ c.args.piece.now)) (sym new) (holds_next count (bytes ++ c.args.piece.now) now n holds c.requires.some told.1 some (omega (arith, fits, at, fed)))),
+      inl
+          (omega (arith, less, at)),
+    )

@@ -2,8 +2,9 @@ use Rattle.std.proofs.Common.{rules, ◌≡◌, ◌++◌, ℕ, List, Some, Ok, E
 use Rattle.std.specs.Prelude.{nat_le, ◌==◌}
 use Rattle.std.proofs.lemmas.Result.{err_from_is_err_and}
 use Rattle.cms_records.specs.Pieces.{Begun, head_of, record_size, next_place, bytes_so_far, IsPart}
-use Rattle.cms_records.proofs.Feeding.{size_told, is_taken, whole_told, front_is_part, size_most, begun_sum, front_few}
+use Rattle.cms_records.proofs.Feeding.{IsTaken, size_told, is_taken, whole_told, front_is_part, size_most, begun_sum, front_few}
 use Rattle.cms_records.proofs.state.RecordState.feed.Goals as goal
+use Rattle.cms_records.proofs.state.RecordState.feed.Goals.{After-take-next-2}
 
 pub returns-in_err-size-clause-fault : goal.returns-in_err-size-clause-fault
 returns-in_err-size-clause-fault c =
@@ -18,6 +19,19 @@ returns-in_err-size-clause-fault c =
     ∙ (ap (record_size v.fixed v.longest v.place) (sym (there ∙ c.take-next.ensures.bytes)) ∙ (sym c.size_of.ensures ∙ bad)) in
     rw (p.1, p.2) (subst (λ (s : Begun). record_size s.fixed s.longest s.place (s.bytes ++ more) ≡ Err c.in_err-size.field-0.0) all here)
 
+-- the rest of the record's bytes was taken
+taken : (c : After-take-next-2) → IsTaken c.self.inside.fixed c.self.inside.longest c.self.inside.place c.in-Some.size c.self.inside.bytes.items (drop c.args.from c.args.piece.now) c.take-next-2.new.bytes.items
+taken c =
+    let v = c.self.inside in
+    let n = c.in-Some.size in
+    let all = c.self.view_is ∙ c.begin.ensures in
+    let inv = c.self.invariant in
+    let good : c.size_of.result ≡ Ok (Some n) = search rules in
+    let there : c.deref.result.now ≡ c.take-next.new.bytes.items = search rules in
+    is_taken v.fixed v.longest v.place c.head_of.result n v.bytes.items c.args.piece.now c.args.from c.take-next.result c.take-next.new.bytes.items c.take-next-2.new.bytes.items
+    v.whole (ap (λ (s : Begun). s.whole) all) c.head_of.ensures inv.part (ap (record_size v.fixed v.longest v.place) (sym there) ∙ (sym c.size_of.ensures ∙ good))
+    c.take-next.ensures.within.0 c.take-next.ensures.next c.take-next.ensures.bytes c.take-next-2.ensures.bytes
+
 pub invariant_of-self-2 : goal.invariant_of-self-2
 invariant_of-self-2 c =
     let v = c.self.inside in
@@ -25,11 +39,7 @@ invariant_of-self-2 c =
     let more = drop c.args.from c.args.piece.now in
     let all = c.self.view_is ∙ c.begin.ensures in
     let inv = c.self.invariant in
-    let good : c.size_of.result ≡ Ok (Some n) = search rules in
-    let there : c.deref.result.now ≡ c.take-next.new.bytes.items = search rules in
-    let done = is_taken v.fixed v.longest v.place c.head_of.result n v.bytes.items c.args.piece.now c.args.from c.take-next.result c.take-next.new.bytes.items c.take-next-2.new.bytes.items
-    v.whole (ap (λ (s : Begun). s.whole) all) c.head_of.ensures inv.part (ap (record_size v.fixed v.longest v.place) (sym there) ∙ (sym c.size_of.ensures ∙ good))
-    c.take-next.ensures.within.0 c.take-next.ensures.next c.take-next.ensures.bytes c.take-next-2.ensures.bytes in
+    let done = taken (goal.at.invariant_of-self-2 c).After-take-next-2 in
     let most = size_most v.fixed v.longest v.place (v.bytes.items ++ more) n inv.fixed done.size in
     let few = front_few n (v.bytes.items ++ more) c.take-next-2.new.bytes.items done.all in
     let sum = begun_sum c.args.self.now in
@@ -61,11 +71,7 @@ returns-clause-taken c =
     let more = drop c.args.from c.args.piece.now in
     let all = c.self.view_is ∙ c.begin.ensures in
     let inv = c.self.invariant in
-    let good : c.size_of.result ≡ Ok (Some n) = search rules in
-    let there : c.deref.result.now ≡ c.take-next.new.bytes.items = search rules in
-    let done = is_taken v.fixed v.longest v.place c.head_of.result n v.bytes.items c.args.piece.now c.args.from c.take-next.result c.take-next.new.bytes.items c.take-next-2.new.bytes.items
-    v.whole (ap (λ (s : Begun). s.whole) all) c.head_of.ensures inv.part (ap (record_size v.fixed v.longest v.place) (sym there) ∙ (sym c.size_of.ensures ∙ good))
-    c.take-next.ensures.within.0 c.take-next.ensures.next c.take-next.ensures.bytes c.take-next-2.ensures.bytes in
+    let done = taken (goal.at.returns-clause-taken c).After-take-next-2 in
     let place : v.place ≡ next_place c.args.self.now = ap (λ (s : Begun). s.place) all in
     let bytes : v.bytes.items ≡ bytes_so_far c.args.self.now = ap (λ (s : Begun). s.bytes) all in
     let same : v.bytes.items ++ more ≡ bytes_so_far c.args.self.now ++ more = ap (λ (l : List ℕ). l ++ more) bytes in

@@ -40,6 +40,8 @@ returns-clause-adds g c =
     let stand = subst (Stand s.bsize s.psize marks (length leaves) fresh (lowest leaves) s.added) (sym d) (climbs.stand fewer) in
     let risen = c.rise.ensures.rises leaves marks fresh (lowest leaves) refl tier' stand child in
     let kept : (with_items s.levels c.rise.new.levels).items ≡ c.rise.new.levels = with_items_is s.levels c.rise.new.levels (c.rise.auto.levels ∙ c.deref_mut.ensures.len) in
-    subst (λ (l : List Level). Adds (g.W.World.told c.args.world.now) (g.W.World.told c.rise.new.world) c.args.unit v (record v { added = s.added + 1; levels = l }) leaves marks fresh c.rise.result) (sym kept)
+    subst (λ (l : List Level). Adds (g.W.World.told c.args.world.now) (g.W.World.told c.rise.new.world) c.args.unit v (record v { added = s.added + 1; levels = l }) leaves marks fresh c.rise.result)
+    (sym kept)
     (leaf_added (g.W.World.told c.args.world.now) (g.W.World.told c.rise.new.world) c.args.unit v c.rise.new.levels leaves marks fresh c.args.leaf c.args.mark.now c.rise.result climbs i.held.levels
-    (subst (λ (l : List Level). Rises (g.W.World.told c.args.world.now) (g.W.World.told c.rise.new.world) c.args.unit s.bsize s.psize leaves marks fresh (lowest leaves) leaf l c.rise.new.levels c.rise.result) d risen)))
+    (subst (λ (l : List Level). Rises (g.W.World.told c.args.world.now) (g.W.World.told c.rise.new.world) c.args.unit s.bsize s.psize leaves marks fresh
+    (lowest leaves) leaf l c.rise.new.levels c.rise.result) d risen)))

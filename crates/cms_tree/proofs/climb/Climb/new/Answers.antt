@@ -35,6 +35,7 @@ returns c =
           record { plan = plan; count = sym long; stand = λ some. zeros_stand a.bsize a.psize marks (length leaves) fresh (lowest leaves) l.levels.items l.invariant.zeros };
       held = record {
         levels = count;
-        blocks = All-weaker (λ level. level.bytes.items ≡ replicate a.bsize 0) (HasSize a.bsize) (λ level zeros. ap (λ (bytes : List ℕ). length bytes) zeros ∙ length-replicate a.bsize 0) l.levels.items l.invariant.zeros;
+        blocks = All-weaker (λ level. level.bytes.items ≡ replicate a.bsize 0) (HasSize a.bsize)
+            (λ level zeros. ap (λ (bytes : List ℕ). length bytes) zeros ∙ length-replicate a.bsize 0) l.levels.items l.invariant.zeros;
       };
     }

@@ -1,0 +1,16 @@
+use Rattle.std.proofs.Common.{ap, arith}
+use Rattle.std.proofs.lemmas.Map.Entries.{length-values_of}
+use Rattle.indexmap.specs.IndexMap.{values}
+use Rattle.cms_held.specs.Opening.{Holding}
+use Rattle.cms_edf.proofs.NewEntries.{with_place}
+use Rattle.cms_edf.proofs.new_entries.NewEntries.with.Goals as goal
+
+pub returns-in-Some-clause-entries : goal.returns-in-Some-clause-entries
+returns-in-Some-clause-entries c =
+    let files = values c.held.inside.files in
+    let place = c.in-Some.place in
+    let within = rw c.in-Some.is at c.requires in
+    let many = length-values_of c.held.inside.files.entries in
+    let len = c.len-count.ensures.len in
+    let same = ap (λ (h : Holding). h.volume.files) c.held.view_is in
+    rw (c.in-Some.is, ← same) (with_place files c.len-count.result place c.args.entry.now (omega arith) (rw (← same) at within))

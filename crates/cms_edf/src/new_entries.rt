@@ -1,0 +1,115 @@
+// The entries of a volume's files after an update.
+ghost use Rattle.std.specs.Prelude.{◌≡◌, ◌<◌, Some, length, slice_get, swap_remove};
+ghost use Rattle.cms_fields.specs.declared.entry.Entry.{Entry};
+ghost use Rattle.cms_held.specs.Kept.{Keeps};
+ghost use Rattle.cms_held.specs.Renewing.{entries_held};
+ghost use Rattle.cms_edf.specs.FileDrafts.{IsPlaceIn, entries_with};
+ghost use Rattle.cms_edf.specs.Planning.{Edited, MayEdit};
+
+use crate::change::FileEdit;
+use crate::held::{FileHeld, Held};
+use cms_fields::Entry;
+use cms_names::Name;
+use indexmap::IndexMap;
+use std::marker::Model;
+
+/// The entries of a volume's files after an update: the first `count` of the files as they are held, where another entry stands in a place or
+/// behind them. They are told one by one, and no list of them is made.
+#[derive(Drop)]
+pub struct NewEntries<'a> {
+    files: &'a IndexMap<Name, FileHeld>,
+    count: u32,
+    place: u32,
+    entry: Entry,
+}
+
+impl<'a> Model for NewEntries<'a> {
+    ghost use Rattle.std.specs.Prelude.{List, length};
+    ghost use Rattle.indexmap.specs.IndexMap.{values};
+    ghost use Rattle.cms_fields.specs.declared.entry.Entry.{Entry};
+    ghost use Rattle.cms_held.specs.Renewing.{entries_held};
+    ghost use Rattle.cms_edf.specs.NewEntries.{AreNewEntries, new_entries};
+
+    ghost Value = { List Entry };
+
+    ghost view = { λ l. new_entries (entries_held (values l.files.now)) l.count l.place l.entry };
+
+    ghost invariant = { λ l. AreNewEntries (length (values l.files.now)) l.count l.place };
+}
+
+impl<'a> NewEntries<'a> {
+    /// The entries with another in a place, or behind them.
+    pub fn with(held: &'a Held, place: Option<u32>, entry: &Entry) -> NewEntries<'a>
+        requires { IsPlaceIn held.now.volume.files place }
+        ensures entries { result ≡ entries_with (entries_held held.now.volume.files) place entry.now }
+        ensures kept { Keeps held.now.volume }
+    {
+        let count = held.files.len() as u32;
+        match place {
+            Some(place) => NewEntries {
+                files: &held.files,
+                count,
+                place,
+                entry: *entry,
+            },
+            None => NewEntries {
+                files: &held.files,
+                count: count + 1,
+                place: count,
+                entry: *entry,
+            },
+        }
+    }
+
+    // The entries without the one at a place, which the last takes.
+    fn without(held: &'a Held, place: u32) -> NewEntries<'a>
+        requires { place < length held.now.volume.files }
+        ensures { (e : Entry) → result ≡ swap_remove (entries_held held.now.volume.files) place e }
+    {
+        let last = held.files.len() - 1;
+        NewEntries {
+            files: &held.files,
+            count: last as u32,
+            place,
+            entry: *held.files[last].entry(),
+        }
+    }
+
+    /// The entries after an edit.
+    pub fn edited(held: &'a Held, edit: &FileEdit) -> NewEntries<'a>
+        requires { MayEdit held.now.volume.files edit.now }
+        ensures edited { Edited held.now.volume edit.now result }
+        ensures kept { Keeps held.now.volume }
+    {
+        match edit {
+            FileEdit::Drop { place } => NewEntries::without(held, *place),
+            FileEdit::Rename { place, to, number } => {
+                let entry = Entry {
+                    name: *to,
+                    number: *number,
+                    ..*held.files[*place as usize].entry()
+                };
+                NewEntries::with(held, Some(*place), &entry)
+            }
+        }
+    }
+
+    /// How many there are.
+    pub fn count(&self) -> u32
+        ensures { result ≡ length self.now }
+    {
+        self.count
+    }
+
+    /// The entry at a place, from 0 below their number.
+    pub fn get(&self, nth: u32) -> Entry
+        requires { nth < length self.now }
+        ensures { slice_get self.now nth ≡ Some result }
+    {
+        if nth == self.place {
+            self.entry
+        } else {
+            *self.files[nth as usize].entry()
+        }
+    }
+}

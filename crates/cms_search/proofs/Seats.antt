@@ -1,0 +1,170 @@
+-- The disks of units among the letters of a table.
+use Rattle.std.proofs.Common.{◌≡◌, ◌≢◌, ⊎_elim, ℕ, zero, suc, ◌<◌, List, [], ◌∷◌, get_or, length, refl, sym, ap, subst, ◌∙◌, arith}
+use Rattle.std.specs.Prelude.{⊤, Bool, true, false, cond, ◌==◌, Option, Some, None, IfSome, Result, option_map, slice_get, slice_set}
+use Rattle.std.specs.Option.{IsSome, option_and_then}
+use Rattle.std.proofs.lemmas.Bool.{eq-eqb, eqb-true, ne_eqb}
+use Rattle.cms_fields.specs.declared.time.Stamp.{Stamp}
+use Rattle.cms_model.specs.Changes.{Change}
+use Rattle.cms_world.specs.Seen.{Seen}
+use Rattle.cms_disk.specs.Disks.{Accessed}
+use Rattle.cms_disk.specs.declared.fault.DiskFault.{DiskFault}
+use Rattle.cms_search.specs.Held.{disk_of}
+use Rattle.cms_search.specs.Machine.{Letter}
+use Rattle.cms_search.specs.Searches.{item_at}
+use Rattle.cms_search.specs.Seats.{ChangesSeat, ChangesTo}
+use Rattle.cms_search.specs.Tables.{Accesses, IsTable, Seated, StandOnce, cleared, letters_in, seat_with, with_disk}
+use Rattle.cms_search.proofs.Tabling.{get_set_other, item_put, length_set}
+
+same_of : {A : Type 0} (a b : A) → Some a ≡ Some b → a ≡ b
+same_of a b e = cc e
+
+-- ---- places in lists
+
+pub item_kept : {A : Type 0} (xs : List (Option A)) (n : ℕ) (v : Option A) (a : ℕ) (e : A) → a ≢ n → item_at xs a ≡ Some e → item_at (slice_set xs n v) a ≡ Some e
+item_kept {A = A} xs n v a e apart is = ap (λ (x : Option (Option A)). option_and_then (λ y. y) x) (get_set_other xs n v a apart) ∙ is
+
+pub item_here : {A : Type 0} (xs : List (Option A)) (n : ℕ) (v : Option A) → n < length xs → item_at (slice_set xs n v) n ≡ v
+item_here [] n v less = absurd (omega (arith, less))
+item_here (x ∷ xs) zero v less = refl
+item_here (x ∷ xs) (suc n) v less = item_here xs n v (omega (arith, less))
+
+pub item_within : {A : Type 0} (xs : List (Option A)) (n : ℕ) (e : A) → item_at xs n ≡ Some e → n < length xs
+item_within [] n e is = absurd (cc is)
+item_within (x ∷ xs) zero e is = omega arith
+item_within (x ∷ xs) (suc n) e is = let h = item_within xs n e is in omega (arith, h)
+
+set_twice : {A : Type 0} (xs : List A) (n : ℕ) (v w : A) → slice_set (slice_set xs n v) n w ≡ slice_set xs n w
+set_twice [] n v w = refl
+set_twice (x ∷ xs) zero v w = refl
+set_twice (x ∷ xs) (suc n) v w = ap (λ (l : List _). x ∷ l) (set_twice xs n v w)
+
+-- ---- the disk of a unit
+
+-- a disk of the unit has a letter
+pub record Stands (seats : List (Option Seated)) (u : ℕ) (s : Seated) : Type 0 where
+  pub place : ℕ
+  pub at : item_at seats place ≡ Some s
+  pub of_unit : s.letter.unit ≡ u
+
+stands_on : (x : Option Seated) (seats : List (Option Seated)) (u : ℕ) (s : Seated) → Stands seats u s → Stands (x ∷ seats) u s
+stands_on x seats u s h = record { place = suc h.place; at = h.at; of_unit = h.of_unit }
+
+pub disk_found : (seats : List (Option Seated)) (u : ℕ) (s : Seated) → disk_of u seats ≡ Some s → Stands seats u s
+disk_found [] u s is = absurd (cc is)
+disk_found (None ∷ seats) u s is = stands_on None seats u s (disk_found seats u s is)
+disk_found (Some x ∷ seats) u s is = cases (x.letter.unit == u) refl (λ rest. disk_found seats u s rest) is
+  where
+    cases : (b : Bool) → (x.letter.unit == u) ≡ b → (disk_of u seats ≡ Some s → Stands seats u s) → cond b (Some x) (disk_of u seats) ≡ Some s → Stands (Some x ∷ seats) u s
+    cases true tells behind is =
+        record { place = 0; at = is; of_unit = subst (λ (y : Seated). y.letter.unit ≡ u) (same_of x s is) (eqb-true x.letter.unit u tells) }
+    cases false tells behind is = stands_on (Some x) seats u s (behind is)
+
+once_behind : (x : Option Seated) (seats : List (Option Seated)) → StandOnce (x ∷ seats) → StandOnce seats
+once_behind x seats once a b s t is_s is_t same = let e = once (suc a) (suc b) s t is_s is_t same in omega (arith, e)
+
+pub disk_there : (seats : List (Option Seated)) (n : ℕ) (s : Seated) → StandOnce seats → item_at seats n ≡ Some s → disk_of s.letter.unit seats ≡ Some s
+disk_there [] n s once is = absurd (cc is)
+disk_there (None ∷ seats) zero s once is = absurd (cc is)
+disk_there (None ∷ seats) (suc n) s once is = disk_there seats n s (once_behind None seats once) is
+disk_there (Some x ∷ seats) zero s once is =
+    let tells = eq-eqb s.letter.unit s.letter.unit refl in
+    subst (λ (y : Seated). disk_of s.letter.unit (Some y ∷ seats) ≡ Some s) (sym (same_of x s is)) (rw tells refl)
+disk_there (Some x ∷ seats) (suc n) s once is =
+    let tells = ne_eqb x.letter.unit s.letter.unit (λ same. let e = once 0 (suc n) x s refl is same in omega (arith, e)) in
+    rw tells (disk_there seats n s (once_behind (Some x) seats once) is)
+
+-- it is the same among letters that have the same disks of the unit
+pub disk_same : (seats seats' : List (Option Seated)) (u : ℕ) → StandOnce seats → StandOnce seats'
+    → ((n : ℕ) (s : Seated) → item_at seats n ≡ Some s → s.letter.unit ≡ u → (m : ℕ) × (item_at seats' m ≡ Some s))
+    → ((n : ℕ) (s : Seated) → item_at seats' n ≡ Some s → s.letter.unit ≡ u → (m : ℕ) × (item_at seats m ≡ Some s)) → disk_of u seats' ≡ disk_of u seats
+disk_same seats seats' u once once' there back = cases (disk_of u seats) refl (disk_of u seats') refl
+  where
+    cases : (x : Option Seated) → disk_of u seats ≡ x → (y : Option Seated) → disk_of u seats' ≡ y → y ≡ x
+    cases None is None is' = refl
+    cases (Some s) is y is' =
+        let f = disk_found seats u s is in
+        let m = there f.place s f.at f.of_unit in
+        sym is' ∙ subst (λ (v : ℕ). disk_of v seats' ≡ Some s) f.of_unit (disk_there seats' m.0 s once' m.1)
+    cases None is (Some s) is' =
+        let f = disk_found seats' u s is' in
+        let m = back f.place s f.at f.of_unit in
+        sym (subst (λ (v : ℕ). disk_of v seats ≡ Some s) f.of_unit (disk_there seats m.0 s once m.1)) ∙ is
+
+-- where the letter of another unit has another disk of that unit now, or none
+pub disk_elsewhere : (seats : List (Option Seated)) (n : ℕ) (s : Seated) (x : Option Seated) (u : ℕ) → StandOnce seats → StandOnce (slice_set seats n x)
+    → item_at seats n ≡ Some s → ((e : Seated) → x ≡ Some e → e.letter.unit ≡ s.letter.unit) → s.letter.unit ≢ u → disk_of u (slice_set seats n x) ≡ disk_of u seats
+disk_elsewhere seats n s x u once once' at own apart = disk_same seats (slice_set seats n x) u once once' there back
+  where
+    there : (a : ℕ) (e : Seated) → item_at seats a ≡ Some e → e.letter.unit ≡ u → (m : ℕ) × (item_at (slice_set seats n x) m ≡ Some e)
+    there a e is of_unit =
+        let other : a ≢ n = λ same.
+        let here : item_at seats a ≡ Some s = subst (λ (k : ℕ). item_at seats k ≡ Some s) (sym same) at in
+        apart (ap (λ (y : Seated). y.letter.unit) (same_of s e (sym here ∙ is)) ∙ of_unit) in
+        (a, item_kept seats n x a e other is)
+
+    back : (a : ℕ) (e : Seated) → item_at (slice_set seats n x) a ≡ Some e → e.letter.unit ≡ u → (m : ℕ) × (item_at seats m ≡ Some e)
+    back a e is of_unit = ⊎_elim
+        (λ (h : (a ≡ n) × (x ≡ Some e)). absurd (apart (sym (own e h.1) ∙ of_unit)))
+        (λ (h : (a ≢ n) × (item_at seats a ≡ Some e)). (a, h.1))
+        (item_put seats n x a e is)
+
+-- ---- a letter's disk is another
+
+-- each seat then was there with the same marks
+was : (t : Accesses) (n : ℕ) (s : Seated) (d : Accessed) → item_at t.seats n ≡ Some s → (a : ℕ) (x : Seated) → item_at (slice_set t.seats n (Some (seat_with s d))) a ≡ Some x
+    → (y : Seated) × (item_at t.seats a ≡ Some y) × (x.letter ≡ y.letter)
+was t n s d at a x is = ⊎_elim
+    (λ (h : (a ≡ n) × (Some (seat_with s d) ≡ Some x)).
+    (s, subst (λ (k : ℕ). item_at t.seats k ≡ Some s) (sym h.0) at, ap (λ (y : Seated). y.letter) (sym (same_of (seat_with s d) x h.1))))
+    (λ (h : (a ≢ n) × (item_at t.seats a ≡ Some x)). (x, h.1, refl))
+    (item_put t.seats n (Some (seat_with s d)) a x is)
+
+abbrev pub table_with : Accesses → ℕ → Seated → Accessed → Accesses
+table_with t n s d = record t { seats = slice_set t.seats n (Some (seat_with s d)) }
+
+pub with_disk_is : (t : Accesses) (n : ℕ) (s : Seated) (d : Accessed) → item_at t.seats n ≡ Some s → with_disk n d t ≡ table_with t n s d
+with_disk_is t n s d at = rw at refl
+
+pub is_table_with : (t : Accesses) (n : ℕ) (s : Seated) (d : Accessed) → IsTable t → item_at t.seats n ≡ Some s → IsTable (table_with t n s d)
+is_table_with t n s d is at = record {
+  distinct = is.distinct;
+  doubts = is.doubts;
+  letters = length_set t.seats n (Some (seat_with s d)) ∙ is.letters;
+  once = λ a b x y is_x is_y same.
+      let p = was t n s d at a x is_x in
+      let q = was t n s d at b y is_y in
+      is.once a b p.0 q.0 p.1 q.1 (sym (ap (λ (l : Letter). l.unit) p.2) ∙ same ∙ ap (λ (l : Letter). l.unit) q.2);
+  sure = λ a x is_x.
+      let p = was t n s d at a x is_x in
+      subst (λ (u : ℕ). slice_get t.doubts u ≡ Some false) (sym (ap (λ (l : Letter). l.unit) p.2)) (is.sure a p.0 p.1);
+}
+
+-- the letters are the same
+pub letters_with : (seats : List (Option Seated)) (n : ℕ) (s : Seated) (d : Accessed) → item_at seats n ≡ Some s → letters_in (slice_set seats n (Some (seat_with s d))) ≡ letters_in seats
+letters_with [] n s d at = refl
+letters_with (x ∷ seats) zero s d at = ap (λ (y : Option Seated). option_map (λ (z : Seated). z.letter) y ∷ letters_in seats) (sym at)
+letters_with (x ∷ seats) (suc n) s d at = ap (λ (l : List (Option Letter)). option_map (λ (z : Seated). z.letter) x ∷ l) (letters_with seats n s d at)
+
+pub letters_cleared : (seats : List (Option Seated)) (n : ℕ) → letters_in (cleared n seats) ≡ cleared n (letters_in seats)
+letters_cleared [] n = refl
+letters_cleared (x ∷ seats) zero = refl
+letters_cleared (x ∷ seats) (suc n) = ap (λ (l : List (Option Letter)). option_map (λ (z : Seated). z.letter) x ∷ l) (letters_cleared seats n)
+
+-- a letter that is cleared then is cleared before
+pub cleared_with : (t : Accesses) (n : ℕ) (s : Seated) (d : Accessed) → cleared n (table_with t n s d).seats ≡ cleared n t.seats
+cleared_with t n s d = set_twice t.seats n (Some (seat_with s d)) None
+
+-- ---- a seat that is read and changed in its place
+
+pub read_seat : (xs : List (Option Seated)) (n : ℕ) (x : Option Seated) → IsSome (item_at xs n) → x ≡ get_or xs n x → item_at xs n ≡ x
+read_seat [] n x some is = absurd (cc some)
+read_seat (y ∷ ys) zero x some is = sym is
+read_seat (y ∷ ys) (suc n) x some is = read_seat ys n x some is
+
+pub no_seat : (x : Option Seated) → x ≡ None → IsSome x → ⊥
+no_seat None is some = absurd (cc some)
+no_seat (Some s) is some = absurd (cc is)
+
+pub changes_seat : (before now : Seen) (t new : Accesses) (n : ℕ) (s : Seated) (disk : Accessed) (change : Change) (stamp : Stamp) (r : Result ⊤ DiskFault) → item_at t.seats n ≡ Some s
+    → new ≡ table_with t n s disk → ChangesTo before now s.disk disk change stamp r → IfSome (item_at t.seats n) (λ x. ChangesSeat before now t new n x change stamp r)
+changes_seat before now t new n s disk change stamp r at is does = rw at (record { disk = disk; table = is ∙ sym (with_disk_is t n s disk at); does = does })

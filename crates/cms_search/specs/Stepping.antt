@@ -1,0 +1,101 @@
+-- Device steps as commands do them: one that fails at the device types its message, and the command ends.
+use Rattle.std.specs.Prelude.{ℕ, List, length, take, Option, Some, None, slice_get}
+use Rattle.cms_fields.specs.Moments.{stamp_of}
+use Rattle.cms_model.specs.Minidisks.{File, Minidisk}
+use Rattle.cms_model.specs.Changes.{Change, Answer, Limited, Full, Changed, answer_of}
+use Rattle.cms_machine.specs.Slots.{Slot}
+use Rattle.cms_machine.specs.Acts.{Act, Done, Does, bind}
+use Rattle.cms_machine.specs.Steps.{Step, Get, Put, Outcome, Good, ReadFault, SyncFault, OldFault, EitherFault}
+use Rattle.cms_search.specs.Calls.{Meaning, course_of, machine_of}
+use Rattle.cms_search.specs.Machine.{Letter, Machine, Course, after_step, letter_at, minidisk_in}
+use Rattle.cms_search.specs.Refusing.{device_fault, not_accessed}
+use Rattle.cms_search.specs.Releasing.{released, vdev_of}
+use Rattle.cms_search.specs.declared.state.State.{State}
+use Rattle.cms_search.specs.declared.stepping.Changed as declared
+use Rattle.cms_search.specs.declared.stepping.Changed.TheVariants as came
+
+-- what a step comes to: the machine behind a good one; or it failed, and the command ended so
+pub data Stepped : Type 0 where
+  Did : Machine → Stepped
+  Failed : Course → Stepped
+
+abbrev pub failing : Machine → ℕ → Act Stepped
+failing s vdev = bind (device_fault s vdev) (λ course. Done (Failed course))
+
+-- behind a step on the disk of letter n; where its unit is in doubt now the letter is released
+abbrev pub behind : Machine → ℕ → ℕ → Outcome → Act Stepped
+behind s n vdev Good = Done (Did s)
+behind s n vdev (ReadFault j) = failing s vdev
+behind s n vdev SyncFault = failing s vdev
+behind s n vdev OldFault = failing s vdev
+behind s n vdev (EitherFault side) = failing (released n s) vdev
+
+-- a step on the disk of letter n
+abbrev pub stepping : Machine → ℕ → ℕ → Step → Act Stepped
+stepping s n vdev step = Does step (λ o. behind (after_step s step o) n vdev o)
+
+-- goes on behind a good step
+abbrev pub unless_failed : (Machine → Act Course) → Stepped → Act Course
+unless_failed next (Did s) = next s
+unless_failed next (Failed course) = Done course
+
+-- ---- a change of a minidisk
+
+-- what a change comes to: it is done; or it would pass a limit; or there are too few free blocks; or it failed, and the command ended so
+pub data Changing : Type 0 where
+  IsChanged : Machine → Changing
+  IsLimited : Machine → ℕ → Changing
+  IsFull : Machine → ℕ → ℕ → Changing
+  HasFailed : Course → Changing
+
+abbrev pub answered : Stepped → Answer → Act Changing
+answered (Failed course) answer = Done (HasFailed course)
+answered (Did s) (Changed m) = Done (IsChanged s)
+answered (Did s) (Limited k) = Done (IsLimited s k)
+answered (Did s) (Full need free) = Done (IsFull s need free)
+
+abbrev pub changing_in : Machine → ℕ → Letter → Change → Minidisk → Act Changing
+changing_in s n disk change m =
+    bind (stepping s n (vdev_of s disk.unit) (Put disk.unit m change (stamp_of s.moment))) (λ x. answered x (answer_of m change))
+
+-- no disk has the letter
+abbrev pub no_change : Machine → ℕ → Act Changing
+no_change s n = bind (not_accessed s n) (λ course. Done (HasFailed course))
+
+abbrev pub changing_at : Machine → ℕ → Letter → Change → Option Minidisk → Act Changing
+changing_at s n disk change None = no_change s n
+changing_at s n disk change (Some m) = changing_in s n disk change m
+
+abbrev pub changing_on : Machine → ℕ → Change → Option Letter → Act Changing
+changing_on s n change None = no_change s n
+changing_on s n change (Some disk) = changing_at s n disk change (minidisk_in (slice_get s.units disk.unit))
+
+-- the minidisk of letter n is changed, with the stamp of the turn's moment
+abbrev pub changing : Machine → ℕ → Change → Act Changing
+changing s n change = changing_on s n change (letter_at s n)
+
+-- ---- a file that is read
+
+-- it is done with each record as it is handed out; behind all of them one thing follows, behind a fault of the device another
+abbrev pub handed : {R : Type 0} → (List (List ℕ) → Act R → Act R) → File → Act R → Act R → Outcome → Act R
+handed run f next failed Good = run f.records next
+handed run f next failed (ReadFault k) = run (take k f.records) failed
+handed run f next failed SyncFault = failed
+handed run f next failed OldFault = failed
+handed run f next failed (EitherFault side) = failed
+
+-- all records of a file of unit u are read
+abbrev pub reading : {R : Type 0} → (List (List ℕ) → Act R → Act R) → ℕ → File → Act R → Act R → Act R
+reading run u f next failed = Does (Get u f (length f.records)) (handed run f next failed)
+
+-- ---- the call
+
+abbrev pub changing_tree : State → ℕ → Change → List Slot → Act Changing
+changing_tree s n change units = changing (machine_of s units) n change
+
+-- what a change came to, with the state that is left
+abbrev pub changing_of : State → Meaning declared.Changed Changing
+changing_of s units came.Done = IsChanged (machine_of s units)
+changing_of s units (came.Limited which) = IsLimited (machine_of s units) which
+changing_of s units (came.Full need free) = IsFull (machine_of s units) need free
+changing_of s units (came.Failed course) = HasFailed (course_of s units course)

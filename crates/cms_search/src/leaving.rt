@@ -1,0 +1,22 @@
+// A disk is released.
+ghost use Rattle.std.specs.Prelude.{◌≡◌, None, IsSome, OnOk, OnErr};
+ghost use Rattle.cms_search.specs.Leaving.{without_letter};
+ghost use Rattle.cms_search.specs.Searches.{item_at};
+
+use crate::fault::SearchFault;
+use crate::state::State;
+
+impl State {
+    /// Releases a letter, A is 0, and forgets the reading places on its disk; an error exactly where the letter isn't accessed.
+    pub fn release(&mut self, letter: u8) -> Result<(), SearchFault>
+        ensures released { OnOk result (IsSome (item_at self.old.table.seats letter) × (self.new ≡ without_letter letter self.old)) }
+        ensures refused { OnErr result ((item_at self.old.table.seats letter ≡ None) × (self.new ≡ self.old)) }
+    {
+        let seat = self.table.seat(letter);
+        self.table.release(letter)?;
+        if let Some(seat) = seat {
+            self.places.forget_disk(seat.vdev);
+        }
+        Ok(())
+    }
+}

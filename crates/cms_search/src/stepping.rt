@@ -1,0 +1,93 @@
+// Device steps as commands do them.
+ghost use Rattle.std.specs.Prelude.{◌≡◌, true, IfOk, Ok, pos};
+ghost use Rattle.std.specs.Option.{ForSome};
+ghost use Rattle.cms_fields.specs.Moments.{is_moment};
+ghost use Rattle.cms_machine.specs.Acts.{saying, typed_line};
+ghost use Rattle.cms_world.specs.Seen.{seen};
+ghost use Rattle.cms_line.specs.Messages.{message_text};
+ghost use Rattle.cms_line.specs.declared.message.Message.TheVariants.{M105};
+ghost use Rattle.cms_edf.specs.Planning.{CanChange, change_of};
+ghost use Rattle.cms_search.specs.Calls.{Acts, Does, IsUsable, said, spot};
+ghost use Rattle.cms_search.specs.Searches.{item_at};
+ghost use Rattle.cms_search.specs.Stepping.{changing_of, changing_tree};
+ghost use Rattle.cms_search.specs.Tables.{letters_of, writing};
+ghost use Rattle.cms_search.specs.Telling.{device_text};
+ghost use Rattle.cms_search.specs.declared.state.Course.TheVariants.{Went};
+
+use crate::saying::refuse;
+use crate::state::{Course, End, State};
+use crate::telling::device_word;
+use cms_disk::DiskFault;
+use cms_edf::Change;
+use cms_fields::Stamp;
+use cms_line::Message;
+use cms_world::World;
+use std::alloc::Global;
+
+// The return code of a device's fault.
+const FAULT: i32 = 100;
+
+/// What a change of an accessed disk comes to.
+#[derive(Clone, Copy, Debug, PartialEq, Eq)]
+pub enum Changed {
+    /// it is done
+    Done,
+    /// nothing was done, since it would pass a limit: 1, the files of a minidisk; 2, the records of a file; 3, its stored bytes
+    Limited(u32),
+    /// nothing was done, since it needs more blocks than are free
+    Full { need: u32, free: u32 },
+    /// the device failed: its message was typed, and the command ended so
+    Failed(Course),
+}
+
+/// Types that a device failed, and gives the code.
+pub fn refuse_device<W: World>(alloc: Global, world: &mut W, vdev: u16) -> Result<Course, End>
+    ensures does { Does (seen W.World world.old) (seen W.World world.new)
+        (saying (typed_line (message_text (M105 (device_text vdev))))) result said }
+    ensures went { IfOk result (λ course. course ≡ Went (pos 100)) }
+{
+    let device = device_word(alloc, vdev)?;
+    refuse(alloc, world, Message::M105(device), FAULT)
+}
+
+/// Changes the disk of an accessed letter that may be written; the file that is changed is there, and its new name is no other file's.
+/// A new directory has the stamp of the turn's moment.
+///
+/// Where the device fails that is typed, and the command ends: the disk is as before, or its unit is in doubt and the letter released.
+pub fn change_disk<W: World>(
+    alloc: Global,
+    world: &mut W,
+    state: &mut State,
+    letter: u8,
+    change: &Change,
+) -> Result<Changed, End>
+    requires usable { IsUsable (spot W.World world.old state.old) }
+    requires writing { writing (item_at (letters_of state.old.table) letter) letter ≡ Ok tt }
+    requires there { ForSome (item_at state.old.table.seats letter) (λ s. CanChange s.disk.volume.files change.now) }
+    requires moment { is_moment state.old.moment ≡ true }
+    ensures acts { Acts (spot W.World world.old state.old) (spot W.World world.new state.new)
+        (changing_tree state.old letter (change_of change.now)) result (changing_of state.new) }
+    ensures kept { state.new ≡ record state.old { table = state.new.table; places = state.new.places } }
+{
+    let vdev = state.table.vdev(letter);
+    match state
+        .table
+        .change(alloc, world, letter, change, &Stamp::of(&state.moment))
+    {
+        Ok(()) => Ok(Changed::Done),
+        Err(DiskFault::Limit(which)) => Ok(Changed::Limited(which)),
+        Err(DiskFault::Full { need, free }) => Ok(Changed::Full { need, free }),
+        Err(DiskFault::Device) => Ok(Changed::Failed(refuse_device(alloc, world, vdev)?)),
+        Err(DiskFault::InDoubt) => {
+            state.table.doubt(letter);
+            state.places.forget_disk(vdev);
+            Ok(Changed::Failed(refuse_device(alloc, world, vdev)?))
+        }
+        // the file is there and the disk may be written, so this is want of memory
+        Err(DiskFault::NotFound) => Err(End::Memory),
+        Err(DiskFault::Exists) => Err(End::Memory),
+        Err(DiskFault::ReadOnly) => Err(End::Memory),
+        Err(DiskFault::Altered) => Err(End::Memory),
+        Err(DiskFault::Memory) => Err(End::Memory),
+    }
+}
