@@ -158,7 +158,8 @@ adds_as old new d e m name more st stamp f (Err failed.Memory) is a = a
 -- ---- a read that failed
 
 -- nothing was written
-pub unread_so : (told : Told) (d : Accessed) (m : Minidisk) (name : Name) (more : List (List ℕ)) (st stamp : Stamp) → WritesAside told told d.volume.unit m → Unread told told d m (Add name more st) stamp
+pub unread_so : (told : Told) (d : Accessed) (m : Minidisk) (name : Name) (more : List (List ℕ)) (st stamp : Stamp) → WritesAside told told d.volume.unit m
+    → Unread told told d m (Add name more st) stamp
 unread_so told d m name more st stamp a = record {
   same = refl;
   changes = record {
@@ -247,7 +248,8 @@ read_failed old new d e m name more st stamp (failed.Limit k) same aside gets = 
 read_failed old new d e m name more st stamp (failed.Full needs free) same aside gets = absurd gets
 
 -- the joined file is the file of the name with more records
-pub joined_adds : (m : Minidisk) (name : Name) (f : File) (front behind whole : FileData) (more : List (List ℕ)) → file_named name m.files ≡ Some f → f.name ≡ name → IsDataOf f front → StandsFor behind more
+pub joined_adds : (m : Minidisk) (name : Name) (f : File) (front behind whole : FileData) (more : List (List ℕ))
+    → file_named name m.files ≡ Some f → f.name ≡ name → IsDataOf f front → StandsFor behind more
     → IsJoined front behind whole → IsAdded m name more behind.stamp (file_with name (shape_of whole) (f.records ++ more))
 joined_adds m name f front behind whole more there named facts stands joined =
     let all = joined.stands f.records more facts.stands stands in

@@ -268,7 +268,8 @@ not_there : (o : Option ℕ) (has : Bool) → IsTrue has ↔ IsSome o → has �
 not_there None has tells is = refl
 not_there (Some k) has tells is = absurd (false≢true (sym is ∙ tells.1 refl))
 
-pub is_missing : (j : Journal) (d : Accessed) (m : Minidisk) (name : Name) (has : Bool) → IsTrue has ↔ IsSome (place_named name d.volume) → has ≡ false → IsMinidisk j d m → file_named name m.files ≡ None
+pub is_missing : (j : Journal) (d : Accessed) (m : Minidisk) (name : Name) (has : Bool) → IsTrue has ↔ IsSome (place_named name d.volume) → has ≡ false → IsMinidisk j d m
+    → file_named name m.files ≡ None
 is_missing j d m name has tells is x = none_found d name (not_there (place_named name d.volume) has tells is) (now j d.volume.unit) m x.stands
 
 pub is_there : (j : Journal) (d : Accessed) (m : Minidisk) (name : Name) → IsSome (place_named name d.volume) → IsMinidisk j d m → (f : File) × (file_named name m.files ≡ Some f)

@@ -196,8 +196,8 @@ not_read_only e (inr is) same = clash (sym is ∙ same)
 
 -- ---- a changed minidisk, behind a call that changed units, where it has other spare places
 
-pub changed_behind : (a b c : Seen) (d e f : Accessed) (r : Result ⊤ DiskFault) → Grown a.told b.told → a.faults ≤ b.faults → b.edges ≡ a.edges → e ≡ record d { spare = e.spare } → ChangesDisk b c e f r
-    → ChangesDisk a c d f r
+pub changed_behind : (a b c : Seen) (d e f : Accessed) (r : Result ⊤ DiskFault) → Grown a.told b.told → a.faults ≤ b.faults → b.edges ≡ a.edges
+    → e ≡ record d { spare = e.spare } → ChangesDisk b c e f r → ChangesDisk a c d f r
 changed_behind a b c d e f r grown faults edges kept two =
     let s = two.same in
     record {

@@ -1,5 +1,5 @@
 // The records of a file, one after another.
-ghost use Rattle.std.specs.Prelude.{◌≡◌, ◌⊎◌, ◌≤◌, ◌<◌, ◌+◌, ◌-◌, ◌*◌, ◌++◌, ◌↔◌, ℕ, List, true, false, length, drop, IfOk, IfErr, OnOk, OnErr, IsTrue, IfSome, Err};
+ghost use Rattle.std.specs.Prelude.{◌≡◌, ◌⊎◌, ◌≤◌, ◌<◌, ◌+◌, ◌-◌, ◌*◌, ◌++◌, ◌↔◌, ℕ, List, true, false, length, drop, IfOk, IfErr, OnOk, OnErr, IsTrue, IfSome, Ok, Err};
 ghost use Rattle.std.specs.Option.{ForSome};
 ghost use Rattle.cms_journal.specs.Journal.{HasBlocks, contents_of};
 ghost use Rattle.cms_fields.specs.Limits.{most_bytes, longest_record};
@@ -92,8 +92,11 @@ impl Cursor {
         ensures text { IfOk result (λ more. IsTrue more → TextFits self.new) }
         ensures left { IfOk result (λ more. IsTrue more → self.old.left ≡ self.new.left + 1) }
         ensures last { IfOk result (λ more. more ≡ false → self.new ≡ self.old) }
+        ensures ended { self.old.left ≡ 0 → result ≡ Ok false }
         ensures needed { IfOk result (λ more. IsNeeded self.old self.new) }
         ensures fault { IfErr result (λ e. (e ≡ Device) ⊎ (e ≡ Altered)) }
+        ensures marked { IfErr result (λ e. e ≡ Altered → self.new.altered ≡ true) }
+        ensures again { self.old.altered ≡ true → 1 ≤ self.old.left → result ≡ Err Altered }
         ensures held { HoldsLittle self.new }
         ensures file { SameFile self.old self.new }
         ensures reads { OnlyReads (seen W.World world.old) (seen W.World world.new) Device result }
@@ -128,6 +131,9 @@ impl Cursor {
         ensures some { OnOk result (IsShort self.old.begun → self.old.from ≡ 0 → 1 ≤ self.new.from) }
         ensures held { HoldsLittle self.new }
         ensures fault { IfErr result (λ e. e ≡ Altered) }
+        ensures marked { OnErr result (self.new.altered ≡ true) }
+        ensures again { self.old.altered ≡ true → result ≡ Err Altered }
+        ensures sound { OnOk result (self.new.altered ≡ self.old.altered) }
         ensures same { self.new ≡ record self.old { begun = self.new.begun; from = self.new.from; altered = self.new.altered } }
         ensures rules { (self.new.begun.fixed ≡ self.old.begun.fixed) × (self.new.begun.longest ≡ self.old.begun.longest) }
     {
@@ -158,6 +164,8 @@ impl Cursor {
             → HasLeft image self.old records → ⊥) }
         ensures held { HoldsLittle self.new }
         ensures fault { IfErr result (λ e. (e ≡ Device) ⊎ (e ≡ Altered)) }
+        ensures marked { IfErr result (λ e. e ≡ Altered → self.new.altered ≡ true) }
+        ensures sound { OnOk result (self.new.altered ≡ self.old.altered) }
         ensures done { OnOk result ((self.new.done ≡ self.old.done + 1) × (self.old.done < length self.old.leaves)) }
         ensures from { OnOk result (self.new.from ≡ 0) }
         ensures same { self.new ≡ record self.old {

@@ -1,5 +1,5 @@
 // Files that are drafted for a minidisk.
-ghost use Rattle.std.specs.Prelude.{◌≡◌, ◌+◌, ◌<◌, ◌≤◌, ◌++◌, ◌∷◌, [], ℕ, List, true, false, Err, length, IfOk, IfErr, OnOk};
+ghost use Rattle.std.specs.Prelude.{◌≡◌, ◌+◌, ◌<◌, ◌≤◌, ◌++◌, ◌∷◌, [], ℕ, List, true, false, Some, Err, length, IfOk, IfErr, OnOk};
 ghost use Rattle.std.specs.Option.{ForSome};
 ghost use Rattle.cms_journal.specs.Journal.{IsWritable};
 ghost use Rattle.cms_journal.specs.Told.{Told};
@@ -13,11 +13,12 @@ ghost use Rattle.cms_model.specs.Records.{Fits, length_of, stored};
 ghost use Rattle.cms_draft.specs.BlockWriting.{CanWrite, came};
 ghost use Rattle.cms_draft.specs.Drafting.{IsFresh};
 ghost use Rattle.cms_draft.specs.declared.shape.DraftShape as shapes;
+ghost use Rattle.cms_held.specs.Putting.{count_put, limit_put};
 ghost use Rattle.cms_edf.specs.FileDrafts.{CanDraft, IsDraftFor, IsSomeDraft, tree_of};
 ghost use Rattle.cms_disk.specs.Changing.{Alters, ChangesDisk, IsDevices};
 ghost use Rattle.cms_disk.specs.Disks.{Accessed, IsReadable};
 ghost use Rattle.cms_disk.specs.Drafts.{AnswersDraft, GoesOn, HasMore, IsDraftFault, IsFull, IsSameDraft, PutsRecord, file_with};
-ghost use Rattle.cms_disk.specs.declared.fault.DiskFault.TheVariants.{Device, ReadOnly};
+ghost use Rattle.cms_disk.specs.declared.fault.DiskFault.TheVariants.{Device, Limit, ReadOnly};
 
 use crate::fault::DiskFault;
 use crate::minidisk::Minidisk;
@@ -48,8 +49,11 @@ impl Minidisk {
         ensures answers { AnswersDraft self.old name.now shape.now result }
         ensures fault { IfErr result (IsDraftFault self.old name.now shape.now) }
         ensures locked { self.old.writable ≡ false → result ≡ Err ReadOnly }
+        ensures limited { self.old.writable ≡ true → (which : ℕ)
+            → limit_put (count_put self.old.volume name.now) shape.now.count shape.now.bytes ≡ Some which → result ≡ Err (Limit which) }
         ensures kept { self.new ≡ record self.old { spare = self.new.spare } }
         ensures spare { OnOk result (1 ≤ self.new.spare) }
+        ensures places { self.old.spare ≤ self.new.spare }
     {
         if !self.is_writable() {
             return Err(DiskFault::ReadOnly);

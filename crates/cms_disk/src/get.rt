@@ -1,5 +1,5 @@
 // A file that is read whole.
-ghost use Rattle.std.specs.Prelude.{◌≡◌, ◌⊎◌, ◌≤◌, ◌++◌, ℕ, List, [], ◌∷◌, length, Some, None, IfOk, IfErr, OnOk, OnErr, IsSome};
+ghost use Rattle.std.specs.Prelude.{◌≡◌, ◌⊎◌, ◌≤◌, ◌++◌, ℕ, List, [], ◌∷◌, length, Some, None, Err, IfOk, IfErr, OnOk, OnErr, IsSome};
 ghost use Rattle.std.specs.Option.{ForSome};
 ghost use Rattle.cms_journal.specs.Journal.{HasBlocks, contents_of};
 ghost use Rattle.cms_fields.specs.Limits.{longest_record};
@@ -93,6 +93,7 @@ impl Minidisk {
         ensures file { OfImage (W.told world.old) self.now.volume.unit (λ image. GetsIn image self.now name.now result) }
         ensures found { OnOk result (IsSome (place_of name.now self.now.volume)) }
         ensures missing { IfErr result (λ e. e ≡ NotFound → place_of name.now self.now.volume ≡ None) }
+        ensures absent { place_of name.now self.now.volume ≡ None → result ≡ Err NotFound }
         ensures fault { IfErr result (λ e. (e ≡ NotFound) ⊎ (e ≡ Device) ⊎ (e ≡ Altered) ⊎ (e ≡ Memory)) }
         ensures reads { OnlyReads (seen W.World world.old) (seen W.World world.new) Device result }
     {

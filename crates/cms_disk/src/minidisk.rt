@@ -1,5 +1,5 @@
 // A volume that is accessed.
-ghost use Rattle.std.specs.Prelude.{◌≡◌, ◌↔◌, ◌⊎◌, ◌<◌, ◌≤◌, true, false, length, slice_get, Some, None, IsSome, IsTrue, IfOk, IfErr, OnOk, OnErr};
+ghost use Rattle.std.specs.Prelude.{◌≡◌, ◌↔◌, ◌⊎◌, ◌<◌, ◌≤◌, true, false, length, slice_get, Some, None, Err, IsSome, IsTrue, IfOk, IfErr, IfSome, OnOk, OnErr};
 ghost use Rattle.std.specs.Option.{ForSome};
 ghost use Rattle.cms_world.specs.Seen.{ChangesUnits, OnlyReads, seen};
 ghost use Rattle.cms_journal.specs.Journal.{HasBlocks, contents_of};
@@ -101,6 +101,15 @@ impl Minidisk {
         self.held.info(nth)
     }
 
+    /// The mode number of the file at a place.
+    pub fn mode_number(&self, nth: u32) -> u8
+        requires { nth < length self.now.volume.files }
+        ensures told { IfSome (slice_get (infos_in self.now.volume) nth) (λ info. result ≡ info.number) }
+        ensures fits { result ≤ 6 }
+    {
+        self.held.info(nth).number
+    }
+
     /// The place of the file of a name, from 0; none exactly where no file has that name.
     pub fn find(&self, name: &Name) -> Option<u32>
         ensures { result ≡ place_of name.now self.now.volume }
@@ -135,6 +144,7 @@ impl Minidisk {
         ensures records { IfOk result (OpensIn self.now name.now) }
         ensures missing { IfErr result (λ e. e ≡ NotFound → place_of name.now self.now.volume ≡ None) }
         ensures absent { IfErr result (λ e. e ≡ NotFound → HasNone self.now name.now) }
+        ensures none { place_of name.now self.now.volume ≡ None → result ≡ Err NotFound }
         ensures fault { IfErr result (λ e. (e ≡ NotFound) ⊎ (e ≡ Memory)) }
     {
         let place = self.place(name)?;

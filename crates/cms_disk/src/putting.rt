@@ -9,11 +9,12 @@ ghost use Rattle.cms_model.specs.Minidisks as minidisks;
 ghost use Rattle.cms_model.specs.Changes.{Put};
 ghost use Rattle.cms_model.specs.Records.{IsValid, StandsFor};
 ghost use Rattle.cms_draft.specs.BlockWriting.{CanWrite};
+ghost use Rattle.cms_held.specs.Putting.{count_put, limit_put};
 ghost use Rattle.cms_edf.specs.FileDrafts.{CanDraft, IsSomeDraft};
 ghost use Rattle.cms_disk.specs.Changing.{Alters, ChangesDisk, IsDevices};
 ghost use Rattle.cms_disk.specs.Disks.{Accessed, IsLookedAt, IsMinidisk, IsReadable};
 ghost use Rattle.cms_disk.specs.Drafts.{AreLast, GoesOn, IsFull, IsPutFault, IsSameDraft, PutsRecord, file_with, shape_of};
-ghost use Rattle.cms_disk.specs.declared.fault.DiskFault.TheVariants.{Device, ReadOnly};
+ghost use Rattle.cms_disk.specs.declared.fault.DiskFault.TheVariants.{Device, Limit, ReadOnly};
 
 use crate::drafting::put_record;
 use crate::fault::DiskFault;
@@ -87,6 +88,8 @@ impl Minidisk {
         ensures fault { IfErr result (IsPutFault self.old name.now (shape_of file.now)) }
         ensures read_only { IfErr result (λ e. e ≡ ReadOnly → self.old.writable ≡ false) }
         ensures locked { self.old.writable ≡ false → result ≡ Err ReadOnly }
+        ensures limited { self.old.writable ≡ true → (which : ℕ) → limit_put (count_put self.old.volume name.now)
+            (shape_of file.now).count (shape_of file.now).bytes ≡ Some which → result ≡ Err (Limit which) }
         ensures changes { ChangesDisk (seen W.World world.old) (seen W.World world.new) self.old self.new result }
     {
         let shape = shape_of(file);

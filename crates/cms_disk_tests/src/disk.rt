@@ -3,8 +3,7 @@ ghost use Rattle.std.specs.Prelude.{◌≡◌, IsTrue};
 ghost use Rattle.cms_journal.specs.declared.event.Access.TheVariants.{ReadWrite};
 
 use cms_disk::UnitInfo;
-use cms_fields::Stamp;
-pub use cms_images::{Disk, world_of};
+pub use cms_images::{Disk, START, world_of};
 use cms_journal::BlockSize;
 use cms_names::{Name, Part};
 use cms_world::{Access, MemWorld, Unit};
@@ -26,16 +25,6 @@ pub fn name_of(letter: u8) -> Option<Name> {
     let kind = Part::read(&[0xC6, 0xC9, 0xD3, 0xC5]).ok()?;
     Some(Name { file, kind })
 }
-
-/// The first second of 2000.
-pub const START: Stamp = Stamp {
-    year: 0,
-    month: 1,
-    day: 1,
-    hour: 0,
-    minute: 0,
-    second: 0,
-};
 
 /// Device 191 on an attached unit.
 pub fn info_of(unit: Unit, access: Access) -> UnitInfo

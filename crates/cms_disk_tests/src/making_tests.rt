@@ -1,8 +1,8 @@
 // Empty minidisks that are made on the units of a world in memory.
 use cms_disk::{AccessFault, DiskFault, Minidisk, OpenFault, UnitInfo};
-use cms_fields::{LabelFault, Stamp};
+use cms_fields::LabelFault;
 use cms_images::known::one_file;
-use cms_images::{Made, formatted};
+use cms_images::{Made, NOON, formatted};
 use cms_journal::BlockSize;
 use cms_world::{Access, MemWorld, World};
 use std::alloc::{AllocError, Global};
@@ -10,16 +10,6 @@ use std::test::Fail;
 
 // TEST01, in EBCDIC.
 const TEST01: [u8; 6] = [0xE3, 0xC5, 0xE2, 0xE3, 0xF0, 0xF1];
-
-// 1 July 26 at noon.
-const NOON: Stamp = Stamp {
-    year: 26,
-    month: 7,
-    day: 1,
-    hour: 12,
-    minute: 0,
-    second: 0,
-};
 
 #[derive(Clone, Copy, Debug, PartialEq, Eq)]
 enum Answer {

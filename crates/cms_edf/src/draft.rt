@@ -1,5 +1,5 @@
 // A file that is put into a volume while its records come.
-ghost use Rattle.std.specs.Prelude.{◌≡◌, ℕ, List, ◌≤◌, ◌<◌, ◌+◌, ◌^◌, ◌++◌, ◌∷◌, [], true, None, Some, length, position, IfOk, IfErr, OnOk};
+ghost use Rattle.std.specs.Prelude.{◌≡◌, ℕ, List, ◌≤◌, ◌<◌, ◌+◌, ◌^◌, ◌++◌, ◌∷◌, [], true, None, Some, Err, length, position, IfOk, IfErr, OnOk};
 ghost use Rattle.cms_journal.specs.Journal.{IsBlockSize};
 ghost use Rattle.cms_fields.specs.Entries.{fan_of};
 ghost use Rattle.cms_fields.specs.Limits.{most_bytes, most_files, most_records};
@@ -23,6 +23,7 @@ ghost use Rattle.cms_draft.specs.Drafting.{Drafts, IsFresh, Puts};
 ghost use Rattle.cms_model.specs.Minidisks.{same_name};
 ghost use Rattle.cms_held.specs.Opening.{HeldVolume, names_in};
 ghost use Rattle.cms_edf.specs.Lacking.{LacksRoom};
+ghost use Rattle.cms_edf.specs.declared.allotment.PlanFault.TheVariants.{Limit};
 
 use crate::allotment::{Allotment, PlanFault, allot};
 use crate::blocks::copied;
@@ -248,6 +249,8 @@ pub fn plan_draft(
     ensures some { IfOk result (IsSomeDraft held.new.volume) }
     ensures fresh { IfOk result (λ d. IsFresh held.old.volume.unit held.old.volume.disk.bsize asked.now (tree_of d) d.writer) }
     ensures refused { IfErr result (IsRefused held.old.volume name.now asked.now) }
+    ensures limited { (which : ℕ) → limit_put (count_put held.old.volume name.now) asked.now.count asked.now.bytes ≡ Some which
+        → result ≡ Err (Limit which) }
     ensures kept { Keeps held.old.volume }
     ensures volume { held.new.volume ≡ held.old.volume }
     ensures spare { OnOk result (1 ≤ held.new.spare) }

@@ -13,8 +13,8 @@ use cms_names::Name;
 use indexmap::IndexMap;
 use std::marker::Model;
 
-/// The entries of a volume's files after an update: the first `count` of the files as they are held, where another entry stands in a place or
-/// behind them. They are told one by one, and no list of them is made.
+/// The entries of a volume's files after an update: the first `count` of the files as they are held, where another entry stands in a
+/// place or behind them. They are told one by one, and no list of them is made.
 #[derive(Drop)]
 pub struct NewEntries<'a> {
     files: &'a IndexMap<Name, FileHeld>,

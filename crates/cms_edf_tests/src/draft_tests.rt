@@ -4,21 +4,11 @@ ghost use Rattle.cms_edf.specs.FileDrafts.{CanDraft};
 
 use crate::held_tests::{name_of, volume_of};
 use cms_edf::{DraftShape, PlanFault, plan_draft};
-use cms_fields::Stamp;
+use cms_images::NOON;
 use cms_images::known::{empty, one_file, two_files};
 use cms_names::Format;
 use std::alloc::{AllocError, Global};
 use std::test::Fail;
-
-/// 1 July 26 at noon.
-pub const NEW: Stamp = Stamp {
-    year: 26,
-    month: 7,
-    day: 1,
-    hour: 12,
-    minute: 0,
-    second: 0,
-};
 
 /// What a file is to be with so many records of that length or, at V, of no more, if a file may be that.
 pub fn shaped(format: Format, length: u32, count: u32, bytes: u64) -> Option<DraftShape>
@@ -28,14 +18,14 @@ pub fn shaped(format: Format, length: u32, count: u32, bytes: u64) -> Option<Dra
         Format::F => bytes == u64::from(length) * u64::from(count),
         Format::V => bytes >= 3 * u64::from(count),
     };
-    if !sized || !NEW.is_valid() || length == 0 || length > 65_535 || count == 0 {
+    if !sized || !NOON.is_valid() || length == 0 || length > 65_535 || count == 0 {
         return None;
     }
     Some(DraftShape {
         format,
         length,
         number: 1,
-        stamp: NEW,
+        stamp: NOON,
         count,
         bytes,
     })
@@ -54,7 +44,7 @@ fn refusal(
     let name = name_of(letter).ok_or("it is no name")?;
     let bytes = u64::from(length).saturating_mul(u64::from(count));
     let asked = shaped(Format::F, length, count, bytes).ok_or("it is no file")?;
-    match plan_draft(alloc, &mut held, &name, &asked, &NEW) {
+    match plan_draft(alloc, &mut held, &name, &asked, &NOON) {
         Ok(_) => Ok(None),
         Err(why) => Ok(Some(why)),
     }

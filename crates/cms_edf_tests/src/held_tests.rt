@@ -1,7 +1,7 @@
 // What is asked of a volume that is held.
 use crate::opening_tests::{open, world_of};
 use cms_edf::{FileInfo, Held, Space};
-use cms_fields::Stamp;
+use cms_images::START;
 use cms_images::known::{empty, full, long_directory, spanning};
 use cms_names::{Format, Name, Part};
 use std::alloc::{AllocError, Global};
@@ -87,14 +87,6 @@ fn a_file_is_told(rt: HostRuntime) -> Result<(), Fail> {
     if held.count() != 1 {
         panic!(rt; "there isn't one file");
     }
-    let stamp = Stamp {
-        year: 0,
-        month: 1,
-        day: 1,
-        hour: 0,
-        minute: 0,
-        second: 0,
-    };
     let told = FileInfo {
         name,
         number: 1,
@@ -102,7 +94,7 @@ fn a_file_is_told(rt: HostRuntime) -> Result<(), Fail> {
         length: 509,
         count: 2,
         blocks: 2,
-        stamp,
+        stamp: START,
     };
     assert_eq!(rt; held.info(0), told);
     assert_eq!(rt; held.leaves(0), [7, 8].as_slice());

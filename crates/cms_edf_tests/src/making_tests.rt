@@ -2,9 +2,9 @@
 ghost use Rattle.std.specs.Prelude.{◌≡◌, IfSome};
 
 use cms_edf::{Doubt, Held, OpenFault, Space, make, open_volume, plan_make, wipe};
-use cms_fields::{LabelFault, Stamp};
+use cms_fields::LabelFault;
 use cms_images::hello::HELLO;
-use cms_images::{Made, edited, formatted};
+use cms_images::{Made, NOON, edited, formatted};
 use cms_journal::BlockSize;
 use cms_world::{Access, MemWorld, World};
 use std::alloc::{AllocError, Global};
@@ -13,16 +13,6 @@ use std::test::Fail;
 
 // TEST01, in EBCDIC.
 const TEST01: [u8; 6] = [0xE3, 0xC5, 0xE2, 0xE3, 0xF0, 0xF1];
-
-// 1 July 26 at noon.
-const NOON: Stamp = Stamp {
-    year: 26,
-    month: 7,
-    day: 1,
-    hour: 12,
-    minute: 0,
-    second: 0,
-};
 
 // A volume of so many blocks of 512 bytes, whose map has one block.
 fn small(total: u32) -> Made {

@@ -5,11 +5,11 @@ ghost use Rattle.cms_edf.specs.FileDrafts.{IsSomeDraft};
 ghost use Rattle.cms_held.specs.Opening.{HeldVolume};
 
 use crate::disk::volume_on;
-use crate::draft_tests::{NEW, shaped};
+use crate::draft_tests::shaped;
 use crate::held_tests::name_of;
 use cms_edf::{Change, Draft, Held, Space, carry_out, commit, plan, plan_draft};
 use cms_images::known::{long_directory, one_file, put_number};
-use cms_images::{Disk, Event, Made, formatted, world_of};
+use cms_images::{Disk, Event, Made, NOON, formatted, world_of};
 use cms_names::Format;
 use std::alloc::{AllocError, Global};
 use std::process::Abort;
@@ -84,7 +84,7 @@ fn put_file(
     }
     let asked = shaped(format, length, u32::try_from(texts.len()).ok()?, bytes)?;
     let name = name_of(letter)?;
-    let Ok(draft) = plan_draft(alloc, &mut held, &name, &asked, &NEW) else {
+    let Ok(draft) = plan_draft(alloc, &mut held, &name, &asked, &NOON) else {
         return None;
     };
     write_file(world, &mut held, draft, texts)
@@ -163,7 +163,7 @@ fn drop_file(alloc: Global, world: &mut Disk, letter: u8) -> Option<()> {
     let name = name_of(letter)?;
     held.find(&name)?;
     let change = Change::Drop { name: &name };
-    let Ok(made) = plan(alloc, &mut held, &change, &NEW) else {
+    let Ok(made) = plan(alloc, &mut held, &change, &NOON) else {
         return None;
     };
     carry_out(world, &mut held, made).ok()

@@ -6,6 +6,7 @@ use Rattle.std.proofs.lemmas.List.Sums.{sum_by-cons, sum_by-swap_remove}
 use Rattle.cms_journal.specs.Journal.{Journal}
 use Rattle.cms_names.specs.declared.name.Name.{Name}
 use Rattle.cms_fields.specs.Entries.{passes, length_fits, counts_fit, levels_fit}
+use Rattle.cms_fields.specs.Limits.{most_files}
 use Rattle.cms_fields.specs.declared.entry.Entry.{Entry}
 use Rattle.cms_fields.specs.declared.label.Label.{Label}
 use Rattle.cms_model.specs.Lists.{In, times}
@@ -14,7 +15,7 @@ use Rattle.cms_model.specs.Minidisks.{File}
 use Rattle.cms_model.specs.Volumes.{Disk}
 use Rattle.cms_model.specs.Changes.{Change, Drop, Rename, changed_files, drop_file, change_file}
 use Rattle.cms_model.specs.Stands.{Kept, HoldsFile, HoldsFiles, Layout, NoEntryNamed, HaveNames, entries_in, mets_in, records_in, file_blocks, file_of, layout_blocks}
-use Rattle.cms_model.specs.LawsChanges.{NoneNamed, AreDistinct, IsPlace}
+use Rattle.cms_model.specs.LawsChanges.{NoneNamed, AreDistinct, IsFree, IsPlace}
 use Rattle.cms_model.specs.LawsUpdates.{now}
 use Rattle.cms_model.proofs.Changing.{place_changed, stay_distinct}
 use Rattle.cms_model.proofs.FileSizes.{passes_from, passing}
@@ -207,6 +208,27 @@ pub record Moved (before later : Image) (v : HeldVolume) (edit : Edit) (old : La
   pub held : Beside files edit.files
   pub leaves : All ReadsBack (entries_held edit.files) → LeavesFiles before later v edit old files
 
+pub moved : (before later : Image) (v : HeldVolume) (edit : Edit) (old : Layout) (change : Change) (fs : List Kept)
+    → HaveNames old.files → IsFree change (map file_of old.files) → changed_files (map file_of old.files) change ≡ map file_of fs → Beside fs edit.files → length fs ≤ most_files
+    → All (λ (f : Kept). passes v.disk.bsize f.entry ≡ true) fs → ComesFrom v.disk v.label.blocks before later (layout_blocks old) fs
+    → ((n : ℕ) → times n (file_blocks fs) + times n edit.given ≡ times n (file_blocks old.files) + times n edit.taken) → ((n : ℕ) → times n edit.given ≤ times n (file_blocks old.files))
+    → Moved before later v edit old change
+moved before later v edit old change fs names free changed held few pass come balance had = record {
+  files = fs;
+  files_are = sym changed;
+  held = held;
+  leaves = λ back. record {
+    few = few;
+    pass = All-map (λ (e : Entry). passes v.disk.bsize e ≡ true) (λ (f : Kept). f.entry) fs pass;
+    back = subst (All ReadsBack) (same_entries fs edit.files held) back;
+    names = names_from fs (subst AreDistinct changed (stay_distinct (map file_of old.files) change (names_distinct old.files names) free));
+    held = held;
+    come = come;
+    balance = balance;
+    had = had;
+  };
+}
+
 -- ---- a file that goes
 
 pub files_old : (j : Journal) (v : HeldVolume) (old : Layout) → IsHeldAt j v old → All (Old v.disk v.label.blocks (now j v.unit) (layout_blocks old)) old.files
@@ -234,26 +256,13 @@ drop_moves j v old later k h x kept there =
     let found = found_at old.files k g h.entry.name distinct less is (ap (λ (e : Entry). e.name) (sym at.held.entry_is)) in
     let dropped : drop_file h.entry.name (map file_of old.files) ≡ map file_of fs =
     (place_changed h.entry.name (map file_of old.files) k found.place).dropped d ∙ sym (map-removed file_of old.files k g d less) in
-    let names : HaveNames fs = names_from fs (subst AreDistinct dropped (stay_distinct (map file_of old.files) (Drop h.entry.name) distinct tt)) in
-    record {
-      files = fs;
-      files_are = sym dropped;
-      held = held;
-      leaves = λ back. record {
-        few = (let n = length-removed old.files k g in omega arith);
-        pass = All-map (λ (e : Entry). passes v.disk.bsize e ≡ true) (λ (f : Kept). f.entry) fs
-            (All-removed P old.files k g less (pass_all v.disk.bsize v.label.blocks old.files v.files x.held.files_are kept.each));
-        back = subst (All ReadsBack) (same_entries fs (dropping v.files k h).files held) back;
-        names = names;
-        held = held;
-        come = come_all v.disk v.label.blocks (now j v.unit) later (layout_blocks old) fs
-            (All-removed (Old v.disk v.label.blocks (now j v.unit) (layout_blocks old)) old.files k g less (files_old j v old x));
-        balance = λ n. (let r = removed_times n old.files k g less in let t = tree_times n g h at.held in let same : times n (get_or old.files k g).met.blocks ≡ times n g.met.blocks =
-            ap (λ (f : Kept). times n f.met.blocks) is in omega (arith, no_times n));
-        had = λ n. (let r = removed_times n old.files k g less in let t = tree_times n g h at.held in let same : times n (get_or old.files k g).met.blocks ≡ times n g.met.blocks =
-            ap (λ (f : Kept). times n f.met.blocks) is in omega arith);
-      };
-    }
+    let same : (n : ℕ) → times n (get_or old.files k g).met.blocks ≡ times n g.met.blocks = (λ n. ap (λ (f : Kept). times n f.met.blocks) is) in
+    moved (now j v.unit) later v (dropping v.files k h) old (Drop h.entry.name) fs x.stands.names tt dropped held (let n = length-removed old.files k g in omega arith)
+    (All-removed P old.files k g less (pass_all v.disk.bsize v.label.blocks old.files v.files x.held.files_are kept.each))
+    (come_all v.disk v.label.blocks (now j v.unit) later (layout_blocks old) fs
+    (All-removed (Old v.disk v.label.blocks (now j v.unit) (layout_blocks old)) old.files k g less (files_old j v old x)))
+    (λ n. omega (arith, removed_times n old.files k g less, tree_times n g h at.held, same n, no_times n))
+    (λ n. omega (arith, removed_times n old.files k g less, tree_times n g h at.held, same n))
 
 -- ---- a file with another name
 
@@ -297,22 +306,11 @@ rename_moves j v old later k h to number x kept there small free =
     let changed : change_file h.entry.name edit (map file_of old.files) ≡ map file_of fs =
     (place_changed h.entry.name (map file_of old.files) k found.place).changed edit d
     ∙ (ap (λ (f : File). set (map file_of old.files) k (edit f)) found.in_map ∙ sym (map-set file_of old.files k g')) in
-    let names : HaveNames fs = names_from fs (subst AreDistinct changed (stay_distinct (map file_of old.files) (Rename h.entry.name to number) distinct free)) in
-    record {
-      files = fs;
-      files_are = sym changed;
-      held = held;
-      leaves = λ back. record {
-        few = (let n = length-set old.files k g' in omega arith);
-        pass = All-map (λ (e : Entry). passes v.disk.bsize e ≡ true) (λ (f : Kept). f.entry) fs (All-set P old.files k g' (passes_renamed v.disk.bsize g.entry to number small g_passes) all);
-        back = subst (All ReadsBack) (same_entries fs (renaming v.files k h to number).files held) back;
-        names = names;
-        held = held;
-        come = come_all v.disk v.label.blocks (now j v.unit) later (layout_blocks old) fs (All-set (Old v.disk v.label.blocks (now j v.unit) (layout_blocks old)) old.files k g' g_new olds);
-        balance = λ n. ap (λ (l : List ℕ). times n l + times n []) (same_trees old.files k g' g less (ap (λ (f : Kept). f.met) (sym is)));
-        had = λ n. omega (arith, no_times n);
-      };
-    }
+    moved (now j v.unit) later v (renaming v.files k h to number) old (Rename h.entry.name to number) fs x.stands.names free changed held (let n = length-set old.files k g' in omega arith)
+    (All-set P old.files k g' (passes_renamed v.disk.bsize g.entry to number small g_passes) all)
+    (come_all v.disk v.label.blocks (now j v.unit) later (layout_blocks old) fs (All-set (Old v.disk v.label.blocks (now j v.unit) (layout_blocks old)) old.files k g' g_new olds))
+    (λ n. ap (λ (l : List ℕ). times n l + times n []) (same_trees old.files k g' g less (ap (λ (f : Kept). f.met) (sym is))))
+    (λ n. omega (arith, no_times n))
 
 pub drop_edits : DropEdits
 drop_edits j v old later k h x kept there back =

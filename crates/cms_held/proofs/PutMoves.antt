@@ -3,7 +3,7 @@ use Rattle.std.proofs.Common.{◌≡◌, inr, ℕ, zero, suc, ◌+◌, ◌*◌, 
 use Rattle.std.specs.Prelude.{nat_le}
 use Rattle.std.proofs.lemmas.Bool.{le-leb, and_from}
 use Rattle.std.proofs.lemmas.List.{length-set, map-set, map-append}
-use Rattle.std.proofs.lemmas.List.Elements.{All-nil, All-cons, All-map, All-set, All-append}
+use Rattle.std.proofs.lemmas.List.Elements.{All-nil, All-cons, All-set, All-append}
 use Rattle.cms_journal.specs.Journal.{Journal}
 use Rattle.cms_names.specs.declared.name.Format.{Format}
 use Rattle.cms_names.specs.declared.name.Format.TheVariants.{F, V}
@@ -18,10 +18,10 @@ use Rattle.cms_model.specs.Minidisks.{File}
 use Rattle.cms_model.specs.Volumes.{Disk}
 use Rattle.cms_model.specs.Records.{Fits, length_of, stored}
 use Rattle.cms_model.specs.Changes.{Put, changed_files, put_file}
-use Rattle.cms_model.specs.Stands.{Kept, HoldsFile, Layout, HaveNames, file_blocks, file_of, layout_blocks}
-use Rattle.cms_model.specs.LawsChanges.{AreDistinct, NoneNamed}
+use Rattle.cms_model.specs.Stands.{Kept, HoldsFile, Layout, file_blocks, file_of, layout_blocks}
+use Rattle.cms_model.specs.LawsChanges.{NoneNamed}
 use Rattle.cms_model.specs.LawsUpdates.{now}
-use Rattle.cms_model.proofs.Changing.{none_added, place_changed, stay_distinct}
+use Rattle.cms_model.proofs.Changing.{none_added, place_changed}
 use Rattle.cms_model.proofs.Records.{length_stored_fixed}
 use Rattle.cms_model.proofs.Repeats.{times_append, times_first, times_later}
 use Rattle.cms_fields.specs.Numbers.{up}
@@ -31,15 +31,14 @@ use Rattle.cms_tree.specs.declared.types.Mark.{Mark}
 use Rattle.cms_tree.specs.Builds.{IsBuildable}
 use Rattle.cms_held.specs.Opening.{HeldFile, HeldVolume, size_of}
 use Rattle.cms_held.specs.Kept.{Keeps}
-use Rattle.cms_held.specs.Written.{ReadsBack}
 use Rattle.cms_held.specs.Drafts.{HasAll, IsDrafted}
 use Rattle.cms_held.specs.Systems.{Systems}
 use Rattle.cms_held.specs.Renewing.{Edit, IsPlanned, blocks_in}
 use Rattle.cms_held.specs.LawsRenewing.{AreBlocks, ComesFrom, IsHeldAt, later_of, writes_of}
 use Rattle.cms_held.specs.Putting.{IsPutAs, adding, replacing}
 use Rattle.cms_held.proofs.Drafted.{draft_holds}
-use Rattle.cms_held.proofs.Edits.{Beside, Is, Moved, at_place, beside_count, beside_set, come_all, files_old, found_at, names_distinct, names_from, no_times, pass_all, tree_times}
-use Rattle.cms_held.proofs.Renewals.{IsTaking, all_of, same_entries, taken_of, taken_stay}
+use Rattle.cms_held.proofs.Edits.{Beside, Is, Moved, at_place, beside_count, beside_set, come_all, files_old, found_at, moved, names_distinct, no_times, pass_all, tree_times}
+use Rattle.cms_held.proofs.Renewals.{IsTaking, all_of, taken_of, taken_stay}
 
 -- ---- lists of files
 
@@ -227,23 +226,11 @@ replace_moves j v old g marks new s k f there named p =
     let found = found_at old.files k h new.name distinct less is file_named in
     let changed : put_file new (map file_of old.files) ≡ map file_of fs =
     (place_changed new.name (map file_of old.files) k found.place).put new refl ∙ ap (λ (x : File). set (map file_of old.files) k x) (sym placed'.file_is) ∙ sym (map-set file_of old.files k q) in
-    let names : HaveNames fs = names_from fs (subst AreDistinct changed (stay_distinct (map file_of old.files) (Put new) distinct tt)) in
-    record {
-      files = fs;
-      files_are = sym changed;
-      held = held;
-      leaves = λ back. record {
-        few = (let n = length-set old.files k q in let m = length-set v.files k g in omega arith);
-        pass = All-map (λ (e : Entry). passes v.disk.bsize e ≡ true) (λ (x : Kept). x.entry) fs (All-set P old.files k q own all);
-        back = subst (All ReadsBack) (same_entries fs (replacing v.files k f g).files held) back;
-        names = names;
-        held = held;
-        come = come_set v.disk v.label.blocks before later (layout_blocks old) old.files k q
-            (come_all v.disk v.label.blocks before later (layout_blocks old) old.files (files_old j v old p.at)) placed'.holds;
-        balance = balance_of q placed'.blocks_are;
-        had = had;
-      };
-    }
+    moved before later v (replacing v.files k f g) old (Put new) fs p.at.stands.names tt changed held (let n = length-set old.files k q in let m = length-set v.files k g in omega arith)
+    (All-set P old.files k q own all)
+    (come_set v.disk v.label.blocks before later (layout_blocks old) old.files k q
+    (come_all v.disk v.label.blocks before later (layout_blocks old) old.files (files_old j v old p.at)) placed'.holds)
+    (balance_of q placed'.blocks_are) had
 
 -- ---- as the last
 
@@ -266,23 +253,10 @@ add_moves j v old g marks new s none p =
     let P = λ (x : Kept). passes v.disk.bsize x.entry ≡ true in
     let all = pass_all v.disk.bsize v.label.blocks old.files v.files p.at.held.files_are p.kept.each in
     let own : P q = ap (passes v.disk.bsize) placed'.entry_is ∙ p.file.passes_all in
-    let distinct = names_distinct old.files p.at.stands.names in
     let changed : put_file new (map file_of old.files) ≡ map file_of fs =
     (none_added new.name (map file_of old.files) none).put new refl ∙ ap (λ (x : File). map file_of old.files ++ x ∷ []) (sym placed'.file_is) ∙ sym (map-append file_of old.files (q ∷ [])) in
-    let names : HaveNames fs = names_from fs (subst AreDistinct changed (stay_distinct (map file_of old.files) (Put new) distinct tt)) in
-    record {
-      files = fs;
-      files_are = sym changed;
-      held = held;
-      leaves = λ back. record {
-        few = omega (arith, length-append old.files (q ∷ []), length-append v.files (g ∷ []));
-        pass = All-map (λ (e : Entry). passes v.disk.bsize e ≡ true) (λ (x : Kept). x.entry) fs (All-append P old.files (q ∷ []) all (All-cons P q [] own (All-nil P)));
-        back = subst (All ReadsBack) (same_entries fs (adding v.files g).files held) back;
-        names = names;
-        held = held;
-        come = come_last v.disk v.label.blocks before later (layout_blocks old) old.files q
-            (come_all v.disk v.label.blocks before later (layout_blocks old) old.files (files_old j v old p.at)) placed'.holds;
-        balance = balance_of q placed'.blocks_are;
-        had = had;
-      };
-    }
+    moved before later v (adding v.files g) old (Put new) fs p.at.stands.names tt changed held (omega (arith, length-append old.files (q ∷ []), length-append v.files (g ∷ [])))
+    (All-append P old.files (q ∷ []) all (All-cons P q [] own (All-nil P)))
+    (come_last v.disk v.label.blocks before later (layout_blocks old) old.files q
+    (come_all v.disk v.label.blocks before later (layout_blocks old) old.files (files_old j v old p.at)) placed'.holds)
+    (balance_of q placed'.blocks_are) had

@@ -343,7 +343,8 @@ pub directory_fills : (bsize : ℕ) (s : Systems) (entries : List Entry) (stamp 
 unfolding directory_bytes_of
 directory_fills bsize s entries stamp back room =
     directory_long (system_entry directory_name 64 (directory_file bsize s (length entries)) stamp) (system_entry map_name bsize (map_file bsize s) stamp) (file_entries entries)
-    (length entries) (length s.directory.leaves * bsize) (entry_long 1 (codes "DIRECTOR") 64 (directory_file bsize s (length entries)) stamp) (entry_long 2 (codes "ALLOCMAP") bsize (map_file bsize s) stamp)
+    (length entries) (length s.directory.leaves * bsize)
+    (entry_long 1 (codes "DIRECTOR") 64 (directory_file bsize s (length entries)) stamp) (entry_long 2 (codes "ALLOCMAP") bsize (map_file bsize s) stamp)
     (length_entries entries back) room
 
 -- a directory whose parts were joined

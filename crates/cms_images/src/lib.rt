@@ -7,10 +7,14 @@ pub mod hello;
 pub mod known;
 mod many;
 mod new_volume;
+mod small;
+mod stamps;
 mod wide;
 
 pub use disk::{Disk, Event, world_of};
 pub use edits::{Edit, edited, put_edits};
 pub use many::many_files;
 pub use new_volume::{Made, formatted};
+pub use small::{SmallFile, small_volume};
+pub use stamps::{NOON, START};
 pub use wide::wide_volume;

@@ -41,8 +41,10 @@ pub coded_more : (line codes : List ℕ) (k code : ℕ) → k < length line → 
 coded_more line codes k code lt is so_far =
     let next : suc k ≡ k + 1 = omega arith in
     let d : drop k line ≡ get_or line k 0 ∷ drop (suc k) line = drop-cons line k 0 lt in
-    let c : coded_line (get_or line k 0 ∷ drop (suc k) line) ≡ option_map (λ more. code ∷ more) (coded_line (drop (suc k) line)) = ap (λ (o : Option ℕ). option_and_then (λ x. option_map (λ xs. x ∷ xs) (coded_line (drop (suc k) line))) o) is in
-    so_far ∙ ap (λ (z : List ℕ). prepend codes (coded_line z)) d ∙ ap (prepend codes) c ∙ one_more codes code (coded_line (drop (suc k) line)) ∙ ap (λ (n : ℕ). prepend (codes ++ code ∷ []) (coded_line (drop n line))) next
+    let c : coded_line (get_or line k 0 ∷ drop (suc k) line) ≡ option_map (λ more. code ∷ more) (coded_line (drop (suc k) line)) =
+    ap (λ (o : Option ℕ). option_and_then (λ x. option_map (λ xs. x ∷ xs) (coded_line (drop (suc k) line))) o) is in
+    so_far ∙ ap (λ (z : List ℕ). prepend codes (coded_line z)) d ∙ ap (prepend codes) c ∙ one_more codes code (coded_line (drop (suc k) line))
+    ∙ ap (λ (n : ℕ). prepend (codes ++ code ∷ []) (coded_line (drop n line))) next
 
 pub coded_none : (line codes : List ℕ) (k : ℕ) → k < length line → console_code (get_or line k 0) ≡ None → coded_line line ≡ prepend codes (coded_line (drop k line)) → coded_line line ≡ None
 unfolding prepend

@@ -65,16 +65,19 @@ same_rests : (m n : ℕ) → m ≡ n → replicate ((m + (255 - 1)) / 255) Rest 
 same_rests m n e = ap (λ (k : ℕ). replicate ((k + (255 - 1)) / 255) Rest) e
 
 -- the length of a line that begins with a front and goes on behind it
-front_length : (front : List ℕ) (b : ℕ) (bytes : List ℕ) (e : Bool) (p : Begun b bytes e) → length (content (front ++ b ∷ p.first) p.others e) ≡ length front + suc (length (content p.first p.others e))
+front_length : (front : List ℕ) (b : ℕ) (bytes : List ℕ) (e : Bool) (p : Begun b bytes e)
+    → length (content (front ++ b ∷ p.first) p.others e) ≡ length front + suc (length (content p.first p.others e))
 front_length front b bytes e p =
     ap length (content_front front b p.first p.others e ∙ ap (λ (z : List ℕ). front ++ z) p.belongs)
     ∙ length-append front (b ∷ content p.first p.others e)
 
-items_front : (within : ℕ) (front : List ℕ) (b : ℕ) (bytes : List ℕ) (e : Bool) → NoFeed front → (p : Begun b bytes e) → items (unread within (front ++ b ∷ bytes)) e ≡ part_items within ((front ++ b ∷ p.first) ∷ p.others) e
+items_front : (within : ℕ) (front : List ℕ) (b : ℕ) (bytes : List ℕ) (e : Bool) → NoFeed front → (p : Begun b bytes e)
+    → items (unread within (front ++ b ∷ bytes)) e ≡ part_items within ((front ++ b ∷ p.first) ∷ p.others) e
 unfolding items
 items_front within front b bytes e none p = ap (λ (z : List (List ℕ)). part_items within z e) (split_front front (b ∷ bytes) (b ∷ p.first) p.others none p.whole)
 
-items_behind : (within : ℕ) (b : ℕ) (bytes : List ℕ) (e : Bool) (p : Begun b bytes e) → items (unread (suc within) bytes) e ≡ rests (suc within) (length (content p.first p.others e)) ++ behind p.others e
+items_behind : (within : ℕ) (b : ℕ) (bytes : List ℕ) (e : Bool) (p : Begun b bytes e)
+    → items (unread (suc within) bytes) e ≡ rests (suc within) (length (content p.first p.others e)) ++ behind p.others e
 unfolding items
 items_behind within b bytes e p = ap (λ (z : List (List ℕ)). part_items (suc within) z e) p.behind_it ∙ items_within within p.first p.others e
 
@@ -158,7 +161,8 @@ gives_long count bytes ended is past =
           ∙ ap (λ (z : List ℕ). Long ∷ items (unread 255 (z ++ more)) e) (sym p.behind_it);
     }
 
-pub gives_rest : (within count : ℕ) (bytes : List ℕ) (ended : Bool) → count ≡ 255 - suc within → goes_past count bytes ended ≡ true → Gives (state (suc within) bytes ended) (state 1 (drop (count + 1) bytes) ended) (Rest ∷ [])
+pub gives_rest : (within count : ℕ) (bytes : List ℕ) (ended : Bool) → count ≡ 255 - suc within → goes_past count bytes ended ≡ true
+    → Gives (state (suc within) bytes ended) (state 1 (drop (count + 1) bytes) ended) (Rest ∷ [])
 gives_rest within count bytes ended is past =
     let p = piece count bytes ended past in
     record {
@@ -178,7 +182,8 @@ not_more count line further e none past =
     (cases_lt count (length (without_return line)))
 
 -- a line with its line feed, behind which the bytes go on
-line_more : (n within : ℕ) (bytes more : List ℕ) (e : Bool) → FeedAt bytes n → items (unread within (bytes ++ more)) e ≡ items_left within (without_return (take n bytes)) ++ items (unread 0 (drop (n + 1) bytes ++ more)) e
+line_more : (n within : ℕ) (bytes more : List ℕ) (e : Bool) → FeedAt bytes n
+    → items (unread within (bytes ++ more)) e ≡ items_left within (without_return (take n bytes)) ++ items (unread 0 (drop (n + 1) bytes ++ more)) e
 line_more n within bytes more e f =
     ap (λ (z : List ℕ). items (unread within z) e) (ap (λ (z : List ℕ). z ++ more) (cut_at bytes n f) ∙ append_assoc (take n bytes) (10 ∷ drop (n + 1) bytes) more)
     ∙ items_line within (take n bytes) (drop (n + 1) bytes ++ more) e (no_feed (take n bytes) f.none)
@@ -187,7 +192,8 @@ short_of : (n count : ℕ) (bytes : List ℕ) (ended : Bool) → FeedAt bytes n 
 short_of n count bytes ended f past =
     not_more count (take n bytes) (drop (n + 1) bytes) ended (no_feed (take n bytes) f.none) (ap (λ (z : List ℕ). goes_past count z ended) (sym (cut_at bytes n f)) ∙ past)
 
-pub gives_line : (n count : ℕ) (bytes : List ℕ) (ended : Bool) → count ≡ 255 → FeedAt bytes n → goes_past count bytes ended ≡ false → Gives (state 0 bytes ended) (state 0 (drop (n + 1) bytes) ended) (short_line (without_return (take n bytes)) ∷ [])
+pub gives_line : (n count : ℕ) (bytes : List ℕ) (ended : Bool) → count ≡ 255 → FeedAt bytes n → goes_past count bytes ended ≡ false
+    → Gives (state 0 bytes ended) (state 0 (drop (n + 1) bytes) ended) (short_line (without_return (take n bytes)) ∷ [])
 gives_line n count bytes ended is f past = record {
   ended = refl;
   told = λ more e goes.
@@ -198,12 +204,14 @@ gives_line n count bytes ended is f past = record {
 no_rests : (within count : ℕ) → count ≤ 255 - within → rests within count ≡ []
 no_rests within count le = let z : (count - (255 - within) + (255 - 1)) / 255 ≡ 0 = omega arith in rw z refl
 
-pub gives_none : (n within count : ℕ) (bytes : List ℕ) (ended : Bool) → count ≡ 255 - suc within → FeedAt bytes n → goes_past count bytes ended ≡ false → Gives (state (suc within) bytes ended) (state 0 (drop (n + 1) bytes) ended) []
+pub gives_none : (n within count : ℕ) (bytes : List ℕ) (ended : Bool) → count ≡ 255 - suc within → FeedAt bytes n → goes_past count bytes ended ≡ false
+    → Gives (state (suc within) bytes ended) (state 0 (drop (n + 1) bytes) ended) []
 gives_none n within count bytes ended is f past = record {
   ended = refl;
   told = λ more e goes.
       let short : length (without_return (take n bytes)) ≤ count = short_of n count bytes ended f past in
-      line_more n (suc within) bytes more e f ∙ ap (λ (z : List Item). z ++ items (unread 0 (drop (n + 1) bytes ++ more)) e) (no_rests (suc within) (length (without_return (take n bytes))) (omega arith));
+      line_more n (suc within) bytes more e f ∙ ap (λ (z : List Item). z ++ items (unread 0 (drop (n + 1) bytes ++ more)) e)
+      (no_rests (suc within) (length (without_return (take n bytes))) (omega arith));
 }
 
 -- ---- bytes without a line feed
@@ -223,7 +231,8 @@ none_left : items (unread 0 []) true ≡ []
 unfolding items
 none_left = refl
 
-pub gives_last : (count : ℕ) (bytes : List ℕ) (ended : Bool) → count ≡ 255 → ended ≡ true → has_feed bytes ≡ false → 0 < length bytes → goes_past count bytes ended ≡ false → Gives (state 0 bytes ended) (state 0 [] ended) (short_line bytes ∷ [])
+pub gives_last : (count : ℕ) (bytes : List ℕ) (ended : Bool) → count ≡ 255 → ended ≡ true → has_feed bytes ≡ false → 0 < length bytes → goes_past count bytes ended ≡ false
+    → Gives (state 0 bytes ended) (state 0 [] ended) (short_line bytes ∷ [])
 gives_last count bytes ended is over none some past = record {
   ended = refl;
   told = λ more e goes.
@@ -257,7 +266,8 @@ last_of_open zero [] = refl
 last_of_open zero (b ∷ bytes) = refl
 last_of_open (suc within) bytes = refl
 
-pub none_yet : (within count : ℕ) (bytes : List ℕ) → count ≡ 255 - within → has_feed bytes ≡ false → goes_past count bytes false ≡ false → (items (unread within bytes) false ≡ []) × (length bytes ≤ 256)
+pub none_yet : (within count : ℕ) (bytes : List ℕ) → count ≡ 255 - within → has_feed bytes ≡ false → goes_past count bytes false ≡ false
+    → (items (unread within bytes) false ≡ []) × (length bytes ≤ 256)
 none_yet within count bytes is none past =
     let short : length (without_return bytes) ≤ count = open_short count bytes (no_feed bytes none) past in
     let one : length bytes ≤ length (without_return bytes) + 1 = return_one bytes in

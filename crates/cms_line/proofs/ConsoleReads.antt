@@ -87,7 +87,8 @@ stayed_filled j k l was now later s yet none f =
     let after : List Event = es ++ Read f.bytes ∷ [] in
     let unended : (was.ended || is_over es) ≡ false = sym s.keeps.over ∙ yet in
     let untold : items (extended was.unread (script es)) false ≡ [] =
-    ap (λ (z : Unread). items z false) (sym (more_none (extended was.unread (script es)))) ∙ s.keeps.told [] false (λ over. let h = yet in cc) ∙ ap (λ (z : Unread). items z false) (more_none now.unread) ∙ none in
+    ap (λ (z : Unread). items z false) (sym (more_none (extended was.unread (script es)))) ∙ s.keeps.told [] false (λ over. let h = yet in cc)
+    ∙ ap (λ (z : Unread). items z false) (more_none now.unread) ∙ none in
     record {
       events = after;
       told = f.told ∙ ap (λ (z : Told). plus z (Read f.bytes ∷ [])) s.told ∙ plus_plus j es (Read f.bytes ∷ []);
@@ -101,7 +102,8 @@ stayed_filled j k l was now later s yet none f =
             ∙ s.keeps.told (f.bytes ++ more) e (λ over. let h = yet in cc)
             ∙ ap (λ (z : Unread). items z e) (sym (more_more now.unread f.bytes more))
             ∙ ap (λ (z : Unread). items (extended z more) e) (sym f.unread);
-        over = f.ended ∙ ap (λ (z : Bool). z || is_over (Read f.bytes ∷ [])) (sym unended) ∙ or_assoc was.ended (is_over es) (is_over (Read f.bytes ∷ [])) ∙ ap (λ (z : Bool). was.ended || z) (sym (is_over-append es (Read f.bytes ∷ [])));
+        over = f.ended ∙ ap (λ (z : Bool). z || is_over (Read f.bytes ∷ [])) (sym unended) ∙ or_assoc was.ended (is_over es) (is_over (Read f.bytes ∷ []))
+            ∙ ap (λ (z : Bool). was.ended || z) (sym (is_over-append es (Read f.bytes ∷ [])));
         lazy = lazy_more was.unread was.ended es f.bytes s.keeps.lazy unended untold;
       };
     }

@@ -9,7 +9,8 @@ use Rattle.std.proofs.lemmas.List.{drop-drop, drop-take, take-append-le, with_it
 use Rattle.std.proofs.Math.Seq.{take-append-add}
 
 -- without the first of them
-pub moved : (buffer : List ℕ) (start end count : ℕ) → start ≤ end → count ≤ length (take (end - start) (drop start buffer)) → take (end - (start + count)) (drop (start + count) buffer) ≡ drop count (take (end - start) (drop start buffer))
+pub moved : (buffer : List ℕ) (start end count : ℕ) → start ≤ end → count ≤ length (take (end - start) (drop start buffer))
+    → take (end - (start + count)) (drop (start + count) buffer) ≡ drop count (take (end - start) (drop start buffer))
 moved buffer start end count ordered within =
     let short : length (take (end - start) (drop start buffer)) ≤ end - start = grind (arith, common_steps) in
     let rest : ℕ = end - (start + count) in
@@ -50,7 +51,8 @@ mid_read : (n k : ℕ) (old copied into : List ℕ) (start end count : ℕ) → 
 mid_read n k old copied into start end count is ordered inside copy within =
     rw is (read_behind old copied into (post_of (end - start) k copied) start end count ordered inside copy within)
 
-pub filled_items : (v : Vec ℕ Global) (old copied into : List ℕ) (start end count : ℕ) → start ≤ end → end ≤ length old → length old ≡ v.len → copied ≡ v.items → v.items ≡ copy_within old start end 0 → length into ≡ length copied - (end - start) → count ≤ length into
+pub filled_items : (v : Vec ℕ Global) (old copied into : List ℕ) (start end count : ℕ) → start ≤ end → end ≤ length old → length old ≡ v.len → copied ≡ v.items → v.items ≡ copy_within old start end 0
+    → length into ≡ length copied - (end - start) → count ≤ length into
     → take (end - start + count) (with_items v (put_mid (end - start) (length copied - (end - start)) copied into)).items ≡ take (end - start) (drop start old) ++ take count into
 filled_items v old copied into start end count ordered inside long same is all within =
     let n : ℕ = end - start in

@@ -13,7 +13,8 @@ goes_on : (line : List ℕ) (start place b : ℕ) (rest : List ℕ) → (is_blan
 unfolding tokens_from
 goes_on line start place b rest e = rw e refl
 
-is_cut : (line : List ℕ) (start place b : ℕ) (rest : List ℕ) → (is_blank b || is_parenthesis b) ≡ true → tokens_from line start place (b ∷ rest) ≡ words_at line start place ++ (parenthesis_at line place b ++ tokens_from line (place + 1) (place + 1) rest)
+is_cut : (line : List ℕ) (start place b : ℕ) (rest : List ℕ) → (is_blank b || is_parenthesis b) ≡ true
+    → tokens_from line start place (b ∷ rest) ≡ words_at line start place ++ (parenthesis_at line place b ++ tokens_from line (place + 1) (place + 1) rest)
 unfolding tokens_from
 is_cut line start place b rest e = rw e refl
 

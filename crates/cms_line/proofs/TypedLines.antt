@@ -59,7 +59,8 @@ part_front old mid new bytes text front behind piece n p is_front is_behind is_p
     let cut : piece ++ typed_line behind ≡ typed_line text = rw (is_piece, is_front, is_behind) (line_cut n text) in
     part_then old mid new bytes piece (typed_line behind) (subst (λ (z : List ℕ). TypedTo old mid bytes z) (sym cut) p) q
 
-pub line_ended : (buffer text : List ℕ) (n : ℕ) → length text < length buffer → n ≡ length text + 1 → take (length text) buffer ≡ map host_of text → take n (set buffer (length text) 10) ≡ typed_line text
+pub line_ended : (buffer text : List ℕ) (n : ℕ) → length text < length buffer → n ≡ length text + 1 → take (length text) buffer ≡ map host_of text
+    → take n (set buffer (length text) 10) ≡ typed_line text
 unfolding typed_line
 line_ended buffer text n room is turned =
     let next : length text + 1 ≡ suc (length text) = omega arith in
@@ -69,10 +70,12 @@ pub on_err : {T E P : Type 0} (r : Result T E) → P → OnErr r P
 on_err (Ok x) p = tt
 on_err (Err e) p = p
 
-pub typed_last : {T E : Type 0} (r : Result T E) (old mid new : Told) (bytes text piece : List ℕ) → TypedTo old mid bytes (typed_line text) → piece ≡ typed_line text → OnOk r (TypedTo mid new piece []) → OnOk r (TypedTo old new bytes [])
+pub typed_last : {T E : Type 0} (r : Result T E) (old mid new : Told) (bytes text piece : List ℕ) → TypedTo old mid bytes (typed_line text) → piece ≡ typed_line text
+    → OnOk r (TypedTo mid new piece []) → OnOk r (TypedTo old new bytes [])
 typed_last (Ok x) old mid new bytes text piece p is q = typed_then old mid new bytes piece [] [] (subst (λ (z : List ℕ). TypedTo old mid bytes z) (sym is ∙ sym (append-nil piece)) p) q
 typed_last (Err e) old mid new bytes text piece p is q = q
 
-pub part_last : {T E : Type 0} (r : Result T E) (old mid new : Told) (bytes text piece : List ℕ) → TypedTo old mid bytes (typed_line text) → piece ≡ typed_line text → OnErr r (TypedPart mid new piece) → OnErr r (TypedPart old new bytes)
+pub part_last : {T E : Type 0} (r : Result T E) (old mid new : Told) (bytes text piece : List ℕ) → TypedTo old mid bytes (typed_line text) → piece ≡ typed_line text → OnErr r (TypedPart mid new piece)
+    → OnErr r (TypedPart old new bytes)
 part_last (Ok x) old mid new bytes text piece p is q = q
 part_last (Err e) old mid new bytes text piece p is q = part_then old mid new bytes piece [] (subst (λ (z : List ℕ). TypedTo old mid bytes z) (sym is ∙ sym (append-nil piece)) p) q

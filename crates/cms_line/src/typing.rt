@@ -59,17 +59,7 @@ fn type_through<W: World>(world: &mut W, bytes: &[u8], buffer: &mut [u8]) -> Res
     type_all(world, &buffer[..rest.len() + 1])
 }
 
-// Types a line that leaves room for the line feed in `ROOM` bytes.
-fn type_short<W: World>(world: &mut W, bytes: &[u8]) -> Result<(), Failed>
-    ensures ok { OnOk result (TypedTo (W.told world.old) (W.told world.new) (typed_line bytes.now) []) }
-    ensures err { OnErr result (TypedPart (W.told world.old) (W.told world.new) (typed_line bytes.now)) }
-    ensures cause { HasCause (W.edges world.old) (W.edges world.new) result }
-    ensures faults { W.faults world.new ≡ W.faults world.old }
-{
-    type_through(world, bytes, &mut [0; ROOM])
-}
-
-// The same of a longer line. A function of its own, so that only a long line pays for the room.
+// Types a long line. A function of its own, so that only such a line pays for the room.
 #[inline(never)]
 fn type_long<W: World>(world: &mut W, bytes: &[u8]) -> Result<(), Failed>
     ensures ok { OnOk result (TypedTo (W.told world.old) (W.told world.new) (typed_line bytes.now) []) }
@@ -91,7 +81,7 @@ pub fn type_line<W: World>(world: &mut W, bytes: &[u8]) -> Result<(), Failed>
     ensures faults { W.faults world.new ≡ W.faults world.old }
 {
     if bytes.len() < ROOM {
-        type_short(world, bytes)
+        type_through(world, bytes, &mut [0; ROOM])
     } else {
         type_long(world, bytes)
     }

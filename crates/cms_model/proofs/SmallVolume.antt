@@ -71,43 +71,17 @@ file = record {
 minidisk : ℕ → Minidisk
 minidisk lost = record { volid = 0xC4 ∷ 0xC9 ∷ 0xE2 ∷ 0xD2 ∷ 0xF1 ∷ 0x40 ∷ []; bsize = 512; total = 8; lost = lost; files = file ∷ [] }
 
-small_volume : state_of disk (volume (0xFE ∷ [])) ≡ Volume (minidisk 0)
+-- the volume as it stands, with block 8 marked too, with block 7 not marked, on a unit of five blocks, and on one with fewer blocks than the label says
+read : (state_of disk (volume (0xFE ∷ [])) ≡ Volume (minidisk 0))
+    × (state_of disk (volume (0xFF ∷ [])) ≡ Volume (minidisk 1))
+    × (open_of disk (volume (0xFC ∷ [])) ≡ Err (failed.MapMissing 7))
+    × (open_of (record { bsize = 512; count = 5 }) (volume (0xFE ∷ [])) ≡ Err (failed.Label label_fault.Count))
+    × (open_of (record { bsize = 512; count = 7 }) (volume (0xFE ∷ [])) ≡ Err (failed.Label label_fault.Count))
 unfolding state_of open_of label_of label_fields has_identifier is_origin word directory_of map_of is_directory is_map is_system system_fields tree pointers is_allowed bytes_at cut entries_of entry_of
     entry_fields has_name has_mode has_format length_fits counts_fit levels_fit has_pointer_size has_stamp are_packed is_stamp stamp_at days_of_month name_at format_at is_part_field is_name_character
     first_twice is_named same_name same file_trees blocks_of first_repeat holds lowest_unmarked is_marked lost_count contents_in records_of minidisk_of files_of zeros label_block system_entry
     file_entry volume disk noon file minidisk
-small_volume = refl
-
--- block 8 is marked too
-lost_block : state_of disk (volume (0xFF ∷ [])) ≡ Volume (minidisk 1)
-unfolding state_of open_of label_of label_fields has_identifier is_origin word directory_of map_of is_directory is_map is_system system_fields tree pointers is_allowed bytes_at cut entries_of entry_of
-    entry_fields has_name has_mode has_format length_fits counts_fit levels_fit has_pointer_size has_stamp are_packed is_stamp stamp_at days_of_month name_at format_at is_part_field is_name_character
-    first_twice is_named same_name same file_trees blocks_of first_repeat holds lowest_unmarked is_marked lost_count contents_in records_of minidisk_of files_of zeros label_block system_entry
-    file_entry volume disk noon file minidisk
-lost_block = refl
-
--- block 7 isn't marked
-unmarked_block : open_of disk (volume (0xFC ∷ [])) ≡ Err (failed.MapMissing 7)
-unfolding state_of open_of label_of label_fields has_identifier is_origin word directory_of map_of is_directory is_map is_system system_fields tree pointers is_allowed bytes_at cut entries_of entry_of
-    entry_fields has_name has_mode has_format length_fits counts_fit levels_fit has_pointer_size has_stamp are_packed is_stamp stamp_at days_of_month name_at format_at is_part_field is_name_character
-    first_twice is_named same_name same file_trees blocks_of first_repeat holds lowest_unmarked is_marked lost_count contents_in records_of minidisk_of files_of zeros label_block system_entry
-    file_entry volume disk noon file minidisk
-unmarked_block = refl
-
--- a unit of five blocks, and one with fewer blocks than the label says
-few_blocks : open_of (record { bsize = 512; count = 5 }) (volume (0xFE ∷ [])) ≡ Err (failed.Label label_fault.Count)
-unfolding state_of open_of label_of label_fields has_identifier is_origin word directory_of map_of is_directory is_map is_system system_fields tree pointers is_allowed bytes_at cut entries_of entry_of
-    entry_fields has_name has_mode has_format length_fits counts_fit levels_fit has_pointer_size has_stamp are_packed is_stamp stamp_at days_of_month name_at format_at is_part_field is_name_character
-    first_twice is_named same_name same file_trees blocks_of first_repeat holds lowest_unmarked is_marked lost_count contents_in records_of minidisk_of files_of zeros label_block system_entry
-    file_entry volume disk noon file minidisk
-few_blocks = refl
-
-fewer_blocks : open_of (record { bsize = 512; count = 7 }) (volume (0xFE ∷ [])) ≡ Err (failed.Label label_fault.Count)
-unfolding state_of open_of label_of label_fields has_identifier is_origin word directory_of map_of is_directory is_map is_system system_fields tree pointers is_allowed bytes_at cut entries_of entry_of
-    entry_fields has_name has_mode has_format length_fits counts_fit levels_fit has_pointer_size has_stamp are_packed is_stamp stamp_at days_of_month name_at format_at is_part_field is_name_character
-    first_twice is_named same_name same file_trees blocks_of first_repeat holds lowest_unmarked is_marked lost_count contents_in records_of minidisk_of files_of zeros label_block system_entry
-    file_entry volume disk noon file minidisk
-fewer_blocks = refl
+read = (refl, refl, refl, refl, refl)
 
 -- nothing in block 3
 wiped_unit : state_of disk (λ n. []) ≡ Not 2
@@ -137,14 +111,10 @@ free_block : (used_count (minidisk 0) ≡ 7) × (free_count (minidisk 0) ≡ 1)
 unfolding used_count free_count directory_more map_size file_size stored_size tree_size levels levels_from pointer_count pointers_to minidisk file noon
 free_block = (refl, refl)
 
-dropped_one : answer_of (minidisk 0) (Drop (record { file = 0xC1 ∷ []; kind = 0xC2 ∷ [] }))
-    ≡ Changed (record { volid = 0xC4 ∷ 0xC9 ∷ 0xE2 ∷ 0xD2 ∷ 0xF1 ∷ 0x40 ∷ []; bsize = 512; total = 8; lost = 0; files = [] })
+-- a drop where that block is free, and where it is lost
+dropped : (answer_of (minidisk 0) (Drop (record { file = 0xC1 ∷ []; kind = 0xC2 ∷ [] }))
+    ≡ Changed (record { volid = 0xC4 ∷ 0xC9 ∷ 0xE2 ∷ 0xD2 ∷ 0xF1 ∷ 0x40 ∷ []; bsize = 512; total = 8; lost = 0; files = [] }))
+    × (answer_of (minidisk 1) (Drop (record { file = 0xC1 ∷ []; kind = 0xC2 ∷ [] })) ≡ Full 1 0)
 unfolding answer_of limit is_full need changed changed_files drop_file last_first written_file same_name same used_count free_count directory_more map_size file_size stored_size tree_size levels
     levels_from pointer_count pointers_to minidisk file noon
-dropped_one = refl
-
--- with a lost block there is none
-no_room : answer_of (minidisk 1) (Drop (record { file = 0xC1 ∷ []; kind = 0xC2 ∷ [] })) ≡ Full 1 0
-unfolding answer_of limit is_full need changed changed_files drop_file last_first written_file same_name same used_count free_count directory_more map_size file_size stored_size tree_size levels
-    levels_from pointer_count pointers_to minidisk file noon
-no_room = refl
+dropped = (refl, refl)

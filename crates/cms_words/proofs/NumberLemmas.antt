@@ -32,7 +32,8 @@ too_many most high (c ∷ cs) h = ⊎_elim
     (λ (is : is_digit c ≡ false). rw (from_other high c cs is) refl)
     (cases_Bool (is_digit c))
 
-pub digit_goes_too_far : (most high i d : ℕ) (cs : List ℕ) → i < length cs → is_digit (get_or cs i d) ≡ true → most < high * 10 + (get_or cs i d - 48) → up_to most (decimal_from high (drop i cs)) ≡ None
+pub digit_goes_too_far : (most high i d : ℕ) (cs : List ℕ) → i < length cs → is_digit (get_or cs i d) ≡ true → most < high * 10 + (get_or cs i d - 48)
+    → up_to most (decimal_from high (drop i cs)) ≡ None
 digit_goes_too_far most high i d cs inside h far = ap (up_to most) (digit_goes_on high i d cs inside h) ∙ too_many most (high * 10 + (get_or cs i d - 48)) (drop (i + 1) cs) far
 
 pub at_the_end : (high : ℕ) (cs : List ℕ) (i : ℕ) → length cs ≤ i → decimal_from high (drop i cs) ≡ Some high

@@ -42,18 +42,23 @@ pub zone_fails : (e : WordFault) (rows : List Row) (units : List UnitWord) (turn
 unfolding values_of
 zone_fails e rows units turns zone n at_turns at_zone h good is = inl (rw (said_so units _ h, ← at_turns, ← good, ← at_zone, ← is) refl)
 
-pub repeat_fails : (e : WordFault) (rows : List Row) (units : List UnitWord) (turns zone : Option Text) (n : ℕ) (offset : ℤ) → turns ≡ value_in (codes "turns") rows → zone ≡ value_in (codes "zone") rows
+pub repeat_fails : (e : WordFault) (rows : List Row) (units : List UnitWord) (turns zone : Option Text) (n : ℕ) (offset : ℤ)
+    → turns ≡ value_in (codes "turns") rows → zone ≡ value_in (codes "zone") rows
     → IsAnswer (Ok units) (units_from 1 (units_in rows)) → Ok n ≡ turns_of turns → Ok offset ≡ zone_of zone → Err e ≡ without_repeat units → IsAnswer (Err e) (values_of rows)
 unfolding values_of
 repeat_fails e rows units turns zone n offset at_turns at_zone h good zoned is = inl (rw (said_so units _ h, ← at_turns, ← good, ← at_zone, ← zoned, ← is) refl)
 
-pub seed_fails : (e : WordFault) (rows : List Row) (units : List UnitWord) (turns zone seed : Option Text) (n : ℕ) (offset : ℤ) (one : ⊤) → turns ≡ value_in (codes "turns") rows → zone ≡ value_in (codes "zone") rows → seed ≡ value_in (codes "seed") rows
+pub seed_fails : (e : WordFault) (rows : List Row) (units : List UnitWord) (turns zone seed : Option Text) (n : ℕ) (offset : ℤ) (one : ⊤)
+    → turns ≡ value_in (codes "turns") rows → zone ≡ value_in (codes "zone") rows → seed ≡ value_in (codes "seed") rows
     → IsAnswer (Ok units) (units_from 1 (units_in rows)) → Ok n ≡ turns_of turns → Ok offset ≡ zone_of zone → Ok one ≡ without_repeat units → Err e ≡ seed_of seed → IsAnswer (Err e) (values_of rows)
 unfolding values_of
-seed_fails e rows units turns zone seed n offset one at_turns at_zone at_seed h good zoned alone is = inl (rw (said_so units _ h, ← at_turns, ← good, ← at_zone, ← zoned, ← alone, ← at_seed, ← is) refl)
+seed_fails e rows units turns zone seed n offset one at_turns at_zone at_seed h good zoned alone is =
+    inl (rw (said_so units _ h, ← at_turns, ← good, ← at_zone, ← zoned, ← alone, ← at_seed, ← is) refl)
 
-pub all_said : (rows : List Row) (units : List UnitWord) (turns zone seed : Option Text) (n : ℕ) (offset : ℤ) (one : ⊤) (number : Option ℕ) → turns ≡ value_in (codes "turns") rows → zone ≡ value_in (codes "zone") rows → seed ≡ value_in (codes "seed") rows
+pub all_said : (rows : List Row) (units : List UnitWord) (turns zone seed : Option Text) (n : ℕ) (offset : ℤ) (one : ⊤) (number : Option ℕ)
+    → turns ≡ value_in (codes "turns") rows → zone ≡ value_in (codes "zone") rows → seed ≡ value_in (codes "seed") rows
     → IsAnswer (Ok units) (units_from 1 (units_in rows)) → Ok n ≡ turns_of turns → Ok offset ≡ zone_of zone → Ok one ≡ without_repeat units → Ok number ≡ seed_of seed
     → IsAnswer (Ok (record { turns = n; offset = offset; seed = number; units = units })) (values_of rows)
 unfolding values_of
-all_said rows units turns zone seed n offset one number at_turns at_zone at_seed h good zoned alone is = inl (rw (said_so units _ h, ← at_turns, ← good, ← at_zone, ← zoned, ← alone, ← at_seed, ← is) refl)
+all_said rows units turns zone seed n offset one number at_turns at_zone at_seed h good zoned alone is =
+    inl (rw (said_so units _ h, ← at_turns, ← good, ← at_zone, ← zoned, ← alone, ← at_seed, ← is) refl)

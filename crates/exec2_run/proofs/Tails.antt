@@ -14,7 +14,8 @@ use Rattle.exec2_run.specs.declared.fault.Fault.TheVariants.{Memory}
 use Rattle.exec2_run.specs.declared.loops.Passes.{Passes}
 use Rattle.exec2_run.specs.declared.values.Operands.{Operands}
 
-pub range_fails : (s : Exec) (names : Binding) (range : Text) (words : List Text) (past : ℕ) (often : Passes) (f : Fault) → names ≡ seen s → end_of_range s range ≡ Ok past → passes names words ≡ Ok often
+pub range_fails : (s : Exec) (names : Binding) (range : Text) (words : List Text) (past : ℕ) (often : Passes) (f : Fault) → names ≡ seen s → end_of_range s range ≡ Ok past
+    → passes names words ≡ Ok often
     → (f ≡ Memory) ⊎ (opened s past often ≡ Err f) → (f ≡ Memory) ⊎ (range_looped s range words ≡ Err f)
 range_fails s names range words past often f is e g (inl m) = inl m
 range_fails s names range words past often f is e g (inr h) = inr (rw (← is, e, g) h)
@@ -30,7 +31,8 @@ loop_fails s names words value text behind f is e same (inr h) =
 all_taken : (xs : List Text) → take (suc (length xs) - 1) xs ≡ xs
 all_taken xs = let n : suc (length xs) - 1 ≡ length xs = omega arith in rw n (take-length xs)
 
-pub call_fails : (s : Exec) (names : Binding) (words slice : List Text) (label : Text) (f : Fault) (o : Operands) → names ≡ seen s → o ≡ operands names words → slice ≡ o.words → 1 ≤ length slice → label ≡ get_or slice 0 label
+pub call_fails : (s : Exec) (names : Binding) (words slice : List Text) (label : Text) (f : Fault) (o : Operands) → names ≡ seen s → o ≡ operands names words → slice ≡ o.words → 1 ≤ length slice
+    → label ≡ get_or slice 0 label
     → (f ≡ Memory) ⊎ (called_at s label (take (length slice - 1) (drop 1 slice)) o.is_cut ≡ Err f) → (f ≡ Memory) ⊎ (called s words ≡ Err f)
 unfolding called
 call_fails s names words [] label f o seen_is is same h at e = absurd (omega (arith, h))

@@ -93,7 +93,8 @@ returns-in_err-put_record-clause-changes g c =
     let p = err_from_is_err_and c.from_residual.result c.from_residual.ensures.1 in
     let inv = c.loop-text.invariant in
     rw (p.1, p.2)
-    (changes_then (seen g.W.World c.args.world.now) (seen g.W.World c.loop-text.world) (seen g.W.World c.put_record.new.world) IsDevices _ inv.grown inv.faults inv.edges c.in_err-put_record.ensures.changes)
+    (changes_then (seen g.W.World c.args.world.now) (seen g.W.World c.loop-text.world) (seen g.W.World c.put_record.new.world) IsDevices _
+    inv.grown inv.faults inv.edges c.in_err-put_record.ensures.changes)
 
 pub returns-clause-puts : goal.returns-clause-puts
 returns-clause-puts g c = λ start d m done records some stands goes.

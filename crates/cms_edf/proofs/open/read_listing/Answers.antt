@@ -1,6 +1,6 @@
 use Rattle.std.proofs.Common.{rules, ◌≡◌, ◌-◌, ℕ, List, [], Ok, Err, Some, None, sym, ◌∙◌, ap, subst, drop}
 use Rattle.std.proofs.lemmas.Result.{err_from_is_err_and}
-use Rattle.cms_journal.specs.Journal.{contents_of}
+use Rattle.cms_journal.specs.Journal.{Journal, contents_of}
 use Rattle.cms_model.specs.Trees.{image_of, bytes_at}
 use Rattle.cms_model.specs.Lists.{cut}
 use Rattle.cms_model.specs.Volumes.{entries_of, first_twice, absent}
@@ -10,9 +10,11 @@ use Rattle.cms_tree.specs.Walks.{tree_at, nodes_at, IsWithin}
 use Rattle.cms_tree.specs.declared.types.TreeAt.{TreeAt}
 use Rattle.cms_held.specs.Opening.{IsFaultOf}
 use Rattle.cms_edf.specs.OpeningSteps.{met_in, system_at}
-use Rattle.cms_edf.proofs.Listings.{directory_fault, tree_fault, map_fault, entries_fault, names_fault, listed_so, tree_has, leaf_block, few_files}
+use Rattle.cms_edf.proofs.Listings.{HasEntries, directory_fault, tree_fault, map_fault, entries_fault, names_fault, listed_so, tree_has, leaf_block, few_files}
 use Rattle.cms_edf.proofs.EntryTests.{entries_shaped, entries_small, entries_pass, entries_stand}
+use Rattle.cms_edf.proofs.open.read_listing.Given as given
 use Rattle.cms_edf.proofs.open.read_listing.Goals as goal
+use Rattle.cms_edf.proofs.open.read_listing.Goals.{After-names_once}
 
 pub returns-in_err-directory-clause-read : goal.returns-in_err-directory-clause-read
 returns-in_err-directory-clause-read g c = λ j told.
@@ -88,11 +90,12 @@ returns-in_err-entries-clause-read g c = λ j told.
 pub names_once-requires : goal.names_once-requires
 names_once-requires g c = few_files c.in_ok-directory.directory.count _ (search rules) (c.in_ok-directory.ensures.count.1)
 
-pub returns-in_err-names_once-clause-read : goal.returns-in_err-names_once-clause-read
-returns-in_err-names_once-clause-read g c = λ j told.
+-- the entries were read so
+has_entries : (g : given.Over) (c : After-names_once g) (j : Journal) → g.W.World.told c.args.world.now ≡ Some j
+    → HasEntries c.args.place.now (image_of (contents_of j c.args.place.now.unit)) c.in_ok-directory.directory c.in_ok-map.map (met_in c.in_ok-walked.walked) c.in_ok-entries.entries.items
+has_entries g c j told =
     let place = c.args.place.now in
     let image = image_of (contents_of j place.unit) in
-    let p = err_from_is_err_and c.from_residual-in_err-names_once.result c.from_residual-in_err-names_once.ensures.1 in
     let first : c.in_ok-first.first.items ≡ image place.origin = c.in_ok-first.ensures.bytes j told in
     let is : directory_of place.bsize place.origin c.in_ok-first.first.items ≡ Ok c.in_ok-directory.directory = search rules in
     let at : c.system_at-at.result ≡ system_at place c.in_ok-directory.directory (Some place.origin) = search rules in
@@ -100,34 +103,27 @@ returns-in_err-names_once-clause-read g c = λ j told.
     let map_is : map_of place.bsize place.total (drop 64 c.in_ok-first.first.items) ≡ Ok c.in_ok-map.map = search rules in
     let bytes : c.in_ok-bytes.bytes.items ≡ bytes_at image c.in_ok-walked.walked.leaves.items =
     c.in_ok-bytes.ensures.bytes j (c.in_ok-walked.ensures.reads.told ∙ (c.in_ok-first.ensures.reads.told ∙ told)) ∙ ap (bytes_at image) c.deref-3.ensures.value in
-    let entries : entries_of place.bsize 2 (cut (c.in_ok-directory.directory.count - 2) 64 (drop 128 c.in_ok-bytes.bytes.items)) ≡ Ok c.in_ok-entries.entries.items = search rules in
-    let bad : IsFaultOf (absent (first_twice 2 [] c.in_ok-entries.entries.items) failed.Twice) c.in_err-names_once.field-0.0 = search rules in
-    rw (p.1, p.2) (names_fault place image c.in_ok-directory.directory c.in_ok-map.map (met_in c.in_ok-walked.walked) c.in_ok-entries.entries.items c.in_err-names_once.field-0.0 (
+    let entries : entries_of place.bsize 2 (cut (c.in_ok-directory.directory.count - 2) 64 (drop 128 c.in_ok-bytes.bytes.items)) ≡ Ok c.in_ok-entries.entries.items = search rules in (
       tree_has place j c.in_ok-directory.directory c.in_ok-walked.walked c.system_at-at.result (rw first at is) (c.in_ok-directory.ensures.shape.1) at read.0,
       rw first at map_is,
       subst (λ (bs : List ℕ). entries_of place.bsize 2 (cut (c.in_ok-directory.directory.count - 2) 64 (drop 128 bs)) ≡ Ok c.in_ok-entries.entries.items) bytes entries,
     )
-    bad)
+
+pub returns-in_err-names_once-clause-read : goal.returns-in_err-names_once-clause-read
+returns-in_err-names_once-clause-read g c = λ j told.
+    let p = err_from_is_err_and c.from_residual-in_err-names_once.result c.from_residual-in_err-names_once.ensures.1 in
+    let bad : IsFaultOf (absent (first_twice 2 [] c.in_ok-entries.entries.items) failed.Twice) c.in_err-names_once.field-0.0 = search rules in
+    rw (p.1, p.2) (names_fault c.args.place.now _ c.in_ok-directory.directory c.in_ok-map.map (met_in c.in_ok-walked.walked) c.in_ok-entries.entries.items c.in_err-names_once.field-0.0
+    (has_entries g (goal.at.returns-in_err-names_once-clause-read g c).After-names_once j told) bad)
 
 pub returns-clause-read : goal.returns-clause-read
 returns-clause-read g c = λ j told.
     let place = c.args.place.now in
-    let image = image_of (contents_of j place.unit) in
-    let first : c.in_ok-first.first.items ≡ image place.origin = c.in_ok-first.ensures.bytes j told in
-    let is : directory_of place.bsize place.origin c.in_ok-first.first.items ≡ Ok c.in_ok-directory.directory = search rules in
     let at : c.system_at-at.result ≡ system_at place c.in_ok-directory.directory (Some place.origin) = search rules in
     let read = c.in_ok-walked.ensures.read j (c.in_ok-first.ensures.reads.told ∙ told) in
-    let map_is : map_of place.bsize place.total (drop 64 c.in_ok-first.first.items) ≡ Ok c.in_ok-map.map = search rules in
-    let bytes : c.in_ok-bytes.bytes.items ≡ bytes_at image c.in_ok-walked.walked.leaves.items =
-    c.in_ok-bytes.ensures.bytes j (c.in_ok-walked.ensures.reads.told ∙ (c.in_ok-first.ensures.reads.told ∙ told)) ∙ ap (bytes_at image) c.deref-3.ensures.value in
-    let entries : entries_of place.bsize 2 (cut (c.in_ok-directory.directory.count - 2) 64 (drop 128 c.in_ok-bytes.bytes.items)) ≡ Ok c.in_ok-entries.entries.items = search rules in
     let once : first_twice 2 [] c.in_ok-entries.entries.items ≡ None = search rules in (
-      listed_so place image c.in_ok-directory.directory c.in_ok-map.map (met_in c.in_ok-walked.walked) c.in_ok-entries.entries.items (
-        tree_has place j c.in_ok-directory.directory c.in_ok-walked.walked c.system_at-at.result (rw first at is) (c.in_ok-directory.ensures.shape.1) at read.0,
-        rw first at map_is,
-        subst (λ (bs : List ℕ). entries_of place.bsize 2 (cut (c.in_ok-directory.directory.count - 2) 64 (drop 128 bs)) ≡ Ok c.in_ok-entries.entries.items) bytes entries,
-      )
-          once,
+      listed_so place _ c.in_ok-directory.directory c.in_ok-map.map (met_in c.in_ok-walked.walked) c.in_ok-entries.entries.items
+          (has_entries g (goal.at.returns-clause-read g c).After-names_once j told) once,
       subst (λ (x : TreeAt). c.in_ok-walked.walked.pointers.items ≡ nodes_at (image_of (contents_of j x.unit)) x) at read.1,
     )
 

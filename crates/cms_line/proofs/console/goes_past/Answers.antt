@@ -14,4 +14,5 @@ returns-in-Some c =
 pub returns-in-None : goal.returns-in-None
 returns-in-None c =
     let bytes = c.args.bytes.now in
-    c.begins_in_line.ensures ∙ ap (λ z. begins_in_line z c.args.ended) (rest_of c.args.count bytes) ∙ past_is c.args.count bytes c.args.ended (feed_none (take c.args.count bytes) (sym c.in-None.ensures))
+    c.begins_in_line.ensures ∙ ap (λ z. begins_in_line z c.args.ended) (rest_of c.args.count bytes)
+    ∙ past_is c.args.count bytes c.args.ended (feed_none (take c.args.count bytes) (sym c.in-None.ensures))

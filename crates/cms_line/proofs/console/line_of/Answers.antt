@@ -23,4 +23,5 @@ pub take-requires : goal.take-requires
 take-requires c = omega (arith, c.loop-byte.invariant.count)
 
 pub returns : goal.returns
-returns c = ap (λ (z : Item). Some z) (ap (λ (z : List ℕ). Text z) c.take.ensures ∙ text_line c.args.bytes.now c.loop-byte.codes.items c.loop-byte.byte-index c.loop-byte-test.false c.loop-byte.invariant.coded)
+returns c = ap (λ (z : Item). Some z) (ap (λ (z : List ℕ). Text z) c.take.ensures
+    ∙ text_line c.args.bytes.now c.loop-byte.codes.items c.loop-byte.byte-index c.loop-byte-test.false c.loop-byte.invariant.coded)

@@ -21,11 +21,13 @@ loop-place-preserved c =
     let l = c.loop-place in
     record {
       ordered = omega arith;
-      so_far = word_ends c.bytes-bytes.result.now l.tokens c.end_word.new.tokens c.add_parenthesis.new.tokens l.start l.place c.loop-place-test.true (sym c.if-not-ends_word.ensures) c.in_ok-end_word.ensures c.in_ok-add_parenthesis.ensures l.invariant.so_far;
+      so_far = word_ends c.bytes-bytes.result.now l.tokens c.end_word.new.tokens c.add_parenthesis.new.tokens l.start l.place c.loop-place-test.true
+          (sym c.if-not-ends_word.ensures) c.in_ok-end_word.ensures c.in_ok-add_parenthesis.ensures l.invariant.so_far;
     }
 
 pub returns : goal.returns
 returns c =
     let l = c.loop-place in
     let line = c.bytes-bytes.result.now in
-    all_words line l.tokens c.end_word-2.new.tokens l.start l.place _ refl c.loop-place-test.false (omega (arith, l.auto.place-end)) c.in_ok-end_word-2.ensures l.invariant.so_far ∙ ap tokens_of c.bytes-bytes.ensures.bytes
+    all_words line l.tokens c.end_word-2.new.tokens l.start l.place _ refl c.loop-place-test.false (omega (arith, l.auto.place-end)) c.in_ok-end_word-2.ensures l.invariant.so_far
+    ∙ ap tokens_of c.bytes-bytes.ensures.bytes

@@ -10,4 +10,5 @@ loop-digit-preserved c =
 
 pub returns-then-count-most-clause-value : goal.returns-then-count-most-clause-value
 returns-then-count-most-clause-value c =
-    sym (ap (up_to c.args.most) c.loop-digit.invariant.value ∙ digit_goes_too_far c.args.most c.loop-digit.count c.loop-digit.digit-index 0 c.args.digits.now c.loop-digit-test.true (sym c.is_digit.ensures.digit ∙ c.if-not-is_digit.false) (omega arith))
+    sym (ap (up_to c.args.most) c.loop-digit.invariant.value ∙ digit_goes_too_far c.args.most c.loop-digit.count c.loop-digit.digit-index 0 c.args.digits.now c.loop-digit-test.true
+    (sym c.is_digit.ensures.digit ∙ c.if-not-is_digit.false) (omega arith))

@@ -21,4 +21,5 @@ text_added texts word words so_far is =
 pub loop-word-preserved : goal.loop-word-preserved
 loop-word-preserved c =
     let count : c.len.result ≡ length c.loop-word.texts.items = omega (arith, c.len.ensures, c.loop-word.texts.ok) in
-    rw (c.push.ensures.items, c.in_ok-push.was) (text_added c.loop-word.texts.items c.in-Some.word c.args.words.now c.loop-word.invariant (c.in-Some.ensures.word ∙ ap (slice_get c.args.words.now) count))
+    rw (c.push.ensures.items, c.in_ok-push.was) (text_added c.loop-word.texts.items c.in-Some.word c.args.words.now c.loop-word.invariant
+    (c.in-Some.ensures.word ∙ ap (slice_get c.args.words.now) count))

@@ -27,4 +27,5 @@ returns-in_err-append_word c =
 pub returns : goal.returns
 returns c =
     let words = c.args.words.now in
-    literal_end words (take (length words - 1) (drop 1 words)) c.loop-word.word-index c.loop-word.text.items (search rules) c.loop-word.invariant.short c.loop-word.invariant.same ∙ ap Ok (sym c.take.ensures)
+    literal_end words (take (length words - 1) (drop 1 words)) c.loop-word.word-index c.loop-word.text.items (search rules) c.loop-word.invariant.short c.loop-word.invariant.same
+    ∙ ap Ok (sym c.take.ensures)

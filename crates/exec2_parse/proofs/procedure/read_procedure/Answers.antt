@@ -12,7 +12,8 @@ pub returns-then-file-gt-MOST_LINES-clause-fault : goal.returns-then-file-gt-MOS
 returns-then-file-gt-MOST_LINES-clause-fault c = inr (λ records stands. too_many_lines c.args.file.now records stands (search rules) (sym c.in_default.ensures) (search rules))
 
 pub invariant_of-result : goal.invariant_of-result
-invariant_of-result c = few_lines c.args.file.now c.loop-record.lines (search rules) (all_read c.loop-record.lines c.loop-record.record-iterator _ c.loop-record.invariant.lines c.in-None.ensures.steps.0)
+invariant_of-result c = few_lines c.args.file.now c.loop-record.lines (search rules)
+    (all_read c.loop-record.lines c.loop-record.record-iterator _ c.loop-record.invariant.lines c.in-None.ensures.steps.0)
 
 pub returns-clause-lines : goal.returns-clause-lines
 returns-clause-lines c = λ records stands. lines_are c.args.file.now records stands c.loop-record.lines (search rules) (sym c.in_default.ensures) (search rules)

@@ -8,6 +8,7 @@ invariant-loop-self g l = record {
   file : SameFile l.fn.self l.self;
   left : l.self.left ≡ l.fn.self.left;
   some : 1 ≤ l.fn.self.left;
+  altered : l.self.altered ≡ l.fn.self.altered;
   records : OfImage (g.W.World.told l.fn.world) l.fn.self.unit (λ image. (records : List (List ℕ)) → HasLeft image l.fn.self records → HasLeft image l.self records);
   needed : (l.self.done ≡ l.fn.self.done) ⊎ (IsShort l.self.begun × (l.self.from ≡ 0));
   told : g.W.World.told l.world ≡ g.W.World.told l.fn.world;

@@ -87,13 +87,25 @@ returns-clause-changes g c =
     elim c.match-carry_out.branch [
       | in-Ok-carry_out w ↦ (
           subst (ChangesDisk (seen shows c.args.world.now) (seen shows c.carry_out.new.world) c.args.self.now _) (sym w.result-is)
-          (record { units = record { grown = grown; faults = counts.cause.later; edges = counts.edges; cause = tt }; same = (let on = leads_same before e.volume (change_of c.args.change.now) c.args.stamp.now c.in-Ok.plan (subst (λ (v : HeldVolume). IsPlanFor v (change_of c.args.change.now) c.args.stamp.now c.in-Ok.plan) (sym c.plan.ensures.volume) c.in-Ok.ensures.planned) w.in-Ok-carry_out.ensures.volume in on_same d e vdev writable (on.0 ∙ unit) (on.1 ∙ disk)); kept = tt })
+          (record {
+            units = record { grown = grown; faults = counts.cause.later; edges = counts.edges; cause = tt };
+            same = (
+                let change = change_of c.args.change.now in
+                let planned = subst (λ (v : HeldVolume). IsPlanFor v change c.args.stamp.now c.in-Ok.plan) (sym c.plan.ensures.volume) c.in-Ok.ensures.planned in
+                let on = leads_same before e.volume change c.args.stamp.now c.in-Ok.plan planned w.in-Ok-carry_out.ensures.volume in
+                on_same d e vdev writable (on.0 ∙ unit) (on.1 ∙ disk)
+                );
+            kept = tt;
+          })
           )
       | in-Err-Old w ↦ (
           subst (ChangesDisk (seen shows c.args.world.now) (seen shows c.carry_out.new.world) c.args.self.now _) (sym w.result-is)
           (record {
             units = record { grown = grown; faults = counts.cause.later; edges = counts.edges; cause = λ device. w.in-Err-Old.ensures.counts.cause.failed };
-            same = (let kept = ap (λ (h : Holding). h.volume) w.in-Err-Old.ensures.kept in on_same d e vdev writable (ap (λ (v : HeldVolume). v.unit) kept ∙ unit) (ap (λ (v : HeldVolume). v.disk) kept ∙ disk));
+            same = (
+                let kept = ap (λ (h : Holding). h.volume) w.in-Err-Old.ensures.kept in
+                on_same d e vdev writable (ap (λ (v : HeldVolume). v.unit) kept ∙ unit) (ap (λ (v : HeldVolume). v.disk) kept ∙ disk)
+                );
             kept = λ sure. search rules;
           })
           )
@@ -101,7 +113,10 @@ returns-clause-changes g c =
           subst (ChangesDisk (seen shows c.args.world.now) (seen shows c.carry_out.new.world) c.args.self.now _) (sym w.result-is)
           (record {
             units = record { grown = grown; faults = counts.cause.later; edges = counts.edges; cause = λ device. w.in-Err-Either.ensures.counts.cause.failed };
-            same = (let kept = ap (λ (h : Holding). h.volume) w.in-Err-Either.ensures.kept in on_same d e vdev writable (ap (λ (v : HeldVolume). v.unit) kept ∙ unit) (ap (λ (v : HeldVolume). v.disk) kept ∙ disk));
+            same = (
+                let kept = ap (λ (h : Holding). h.volume) w.in-Err-Either.ensures.kept in
+                on_same d e vdev writable (ap (λ (v : HeldVolume). v.unit) kept ∙ unit) (ap (λ (v : HeldVolume). v.disk) kept ∙ disk)
+                );
             kept = λ sure. absurd (sure refl);
           })
           )

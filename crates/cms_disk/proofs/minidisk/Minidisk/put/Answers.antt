@@ -83,7 +83,8 @@ pub commit-requires-clause-blocks : goal.commit-requires-clause-blocks
 commit-requires-clause-blocks g c = λ k told.
     let volume = ap (λ (a : Accessed). a.volume) c.in_ok-draft.ensures.kept in
     subst (λ (v : HeldVolume). HasBlocks k.units v.unit v.disk.count v.disk.bsize) (sym volume)
-    (units_kept (λ (units : List Attached). HasBlocks units c.args.self.now.volume.unit c.args.self.now.volume.disk.count c.args.self.now.volume.disk.bsize) _ _ c.in_ok-put_records.ensures.changes.grown c.requires.blocks k told)
+    (units_kept (λ (units : List Attached). HasBlocks units c.args.self.now.volume.unit c.args.self.now.volume.disk.count c.args.self.now.volume.disk.bsize) _ _
+    c.in_ok-put_records.ensures.changes.grown c.requires.blocks k told)
 
 pub commit-requires-clause-writable : goal.commit-requires-clause-writable
 commit-requires-clause-writable g c = λ k told.
@@ -122,7 +123,8 @@ returns-clause-fault g c =
     if_err c.commit.result IsDevices (IsPutFault c.args.self.now c.args.name.now shape) (device_is_fault c.args.self.now c.args.name.now shape) c.commit.ensures.fault
 
 pub returns-clause-read_only : goal.returns-clause-read_only
-returns-clause-read_only g c = if_err c.commit.result IsDevices (λ (e : DiskFault). e ≡ ReadOnly → c.args.self.now.writable ≡ false) (λ e device same. absurd (not_read_only e device same)) c.commit.ensures.fault
+returns-clause-read_only g c =
+    if_err c.commit.result IsDevices (λ (e : DiskFault). e ≡ ReadOnly → c.args.self.now.writable ≡ false) (λ e device same. absurd (not_read_only e device same)) c.commit.ensures.fault
 
 pub returns-clause-changes : goal.returns-clause-changes
 returns-clause-changes g c =

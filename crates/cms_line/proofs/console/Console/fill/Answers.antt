@@ -13,7 +13,8 @@ returns-in-Ok-clause-ok g c =
     let within : count ≤ length into = omega (arith, c.in-Ok.ensures.within, c.read.auto.into) in
     let size : length i.buffer.items ≡ c.copy_within.new.self.len = sym (c.copy_within.ensures.len ∙ i.buffer.ok.0) in
     let all : length into ≡ length c.deref_mut.result.now - (i.end - i.start) = c.read.auto.into ∙ rest_length c.deref_mut.result.now (i.end - i.start) in
-    let read = filled_items c.copy_within.new.self i.buffer.items c.deref_mut.result.now into i.start i.end count c.self.invariant.ordered c.self.invariant.inside size c.deref_mut.ensures.value c.copy_within.ensures.items all within in
+    let read = filled_items c.copy_within.new.self i.buffer.items c.deref_mut.result.now into i.start i.end count c.self.invariant.ordered c.self.invariant.inside size c.deref_mut.ensures.value
+    c.copy_within.ensures.items all within in
     let whole : i.end - i.start + count - 0 ≡ i.end - i.start + count = omega arith in
     record {
       bytes = take count into;

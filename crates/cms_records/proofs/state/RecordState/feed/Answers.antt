@@ -20,7 +20,8 @@ returns-in_err-size-clause-fault c =
     rw (p.1, p.2) (subst (λ (s : Begun). record_size s.fixed s.longest s.place (s.bytes ++ more) ≡ Err c.in_err-size.field-0.0) all here)
 
 -- the rest of the record's bytes was taken
-taken : (c : After-take-next-2) → IsTaken c.self.inside.fixed c.self.inside.longest c.self.inside.place c.in-Some.size c.self.inside.bytes.items (drop c.args.from c.args.piece.now) c.take-next-2.new.bytes.items
+taken : (c : After-take-next-2)
+    → IsTaken c.self.inside.fixed c.self.inside.longest c.self.inside.place c.in-Some.size c.self.inside.bytes.items (drop c.args.from c.args.piece.now) c.take-next-2.new.bytes.items
 taken c =
     let v = c.self.inside in
     let n = c.in-Some.size in

@@ -1,0 +1,23 @@
+//! The times that tests give.
+
+use cms_fields::Stamp;
+
+/// The first second of a year 00.
+pub const START: Stamp = Stamp {
+    year: 0,
+    month: 1,
+    day: 1,
+    hour: 0,
+    minute: 0,
+    second: 0,
+};
+
+/// 1 July 26 at noon.
+pub const NOON: Stamp = Stamp {
+    year: 26,
+    month: 7,
+    day: 1,
+    hour: 12,
+    minute: 0,
+    second: 0,
+};
