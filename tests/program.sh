@@ -67,7 +67,13 @@ expect 'an image is made' 0 output 'CMS733I 60 blocks formatted on B (192)' 191,
 printf 'ACCESS 192 B\nQUERY DISK B\n' >script
 expect 'it is found again' 0 output 'WORK01 192 B R/W  1024      0        6       54       60' 191,512,ro,disk.img 192,1024,rw,work.img
 expect 'an image that is there is no new one' 4 error 'work.img' 192,1024,n60,work.img
-printf 'LISTFILE\nTYPE HELLO TEXT A\n' >script
+cp "$home/examples/files.img" files.img
+cp "$home/examples/files.txt" script
+expect 'files are listed, typed, renamed and erased' 0 output 'ARCHIVE  TEXT     A1 V    10       60        2' 191,512,rw,files.img
+printf 'LISTFILE * DATA\nTYPE ARCHIVE TEXT A 60\n' >script
+expect 'they stay so' 0 output 'NOT SO NEW' 191,512,ro,files.img
+same 'erased files are gone' "$(printf 'CMS002E File * DATA A not found\nR(00028);\nNOT SO NEW\nR;')"
+printf 'COPYFILE HELLO TEXT A = = B\nTYPE HELLO TEXT A\n' >script
 expect 'a line that is not built' 6 error '' 191,512,ro,disk.img
 same 'nothing runs behind an ended session' ''
 printf '\n\n\nTYPE HELLO TEXT A\n' >script

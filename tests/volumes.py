@@ -40,13 +40,17 @@ class File(NamedTuple):
 
 
 class Kind(NamedTuple):
-    """What a volume is to be: its blocks, its origin, how many files it has, and how many blocks are to be free or lost."""
+    """What a volume is to be: its blocks, its origin, how many files it has, and how many blocks are to be free or lost.
+
+    Of as many files as `odd` says, one has the type ODD.
+    """
 
     blocks: int
     origin: int
     files: int
     lost: int
     free: int = -1
+    odd: int = 0
 
 
 # With blocks of 512 bytes a map block has the bits of 4,096 blocks, and the fan is 128 at F and 42 at V.
@@ -61,6 +65,8 @@ VOLUMES = {
     "full": Kind(blocks=8200, origin=4, files=300, lost=0, free=41),
     # the erase of the last entry leaves a directory of one block fewer
     "shrinking": Kind(blocks=40000, origin=5, files=303, lost=1),
+    # three of its files have a type of their own
+    "listed": Kind(blocks=8200, origin=5, files=40, lost=2, odd=13),
 }
 
 
@@ -73,7 +79,8 @@ def files_of(kind):
             count = 900
         text = f"FILE {nth} RECORD "
         records = [(text + str(k)).ljust(80 if form == "F" else k % 90) for k in range(count)]
-        files[f"F{nth:05}", "DATA"] = File(form, [record.encode("cp037") for record in records])
+        file_type = "ODD" if kind.odd and nth % kind.odd == 1 else "DATA"
+        files[f"F{nth:05}", file_type] = File(form, [record.encode("cp037") for record in records])
     return files
 
 

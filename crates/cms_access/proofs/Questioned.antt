@@ -14,7 +14,7 @@ use Rattle.cms_line.specs.declared.message.Message.{Message}
 use Rattle.cms_line.specs.declared.message.Message.TheVariants.{M062}
 use Rattle.cms_disk.specs.declared.unit.UnitInfo.{UnitInfo}
 use Rattle.cms_search.specs.Asking as asking
-use Rattle.cms_search.specs.Calls.{Acts, Does, IsUsable, Meaning, Spot, itself, machine_of, said}
+use Rattle.cms_search.specs.Calls.{Acts, Does, Meaning, Spot, course_of, itself, machine_of, said}
 use Rattle.cms_search.specs.Machine.{Course, Machine, Went}
 use Rattle.cms_search.specs.Shows.{device_of, devices_of}
 use Rattle.cms_search.specs.Tables.{Accesses, place_of_device, unit_of_device}
@@ -25,10 +25,10 @@ use Rattle.cms_search.specs.declared.state.End.{End}
 use Rattle.cms_search.specs.declared.state.End.TheVariants.{Memory}
 use Rattle.cms_search.specs.declared.state.State.{State}
 use Rattle.cms_world.specs.Seen.{Seen}
-use Rattle.cms_search.proofs.Acts.{acts_after, acts_done, acts_same, comes_does, comes_in, comes_none, does_stop, later_does, no_memory, usable_later}
+use Rattle.cms_search.proofs.Acts.{acts_after, acts_done, acts_same, acts_stop, comes_does, comes_in, comes_none, does_stop, no_memory}
 use Rattle.cms_search.proofs.Released.{get_map, unit_told}
-use Rattle.cms_access.specs.Format.{Ended, Labelling, goes_on, is_label, labelled, on_reply, reply, size_of}
-use Rattle.cms_access.specs.Questions.{labelling_of}
+use Rattle.cms_access.specs.Format.{Ended, Labelling, goes_on, is_label, labelled, on_reply, reply, size_of, with_label}
+use Rattle.cms_access.specs.Questions.{label_tree, labelling_of}
 use Rattle.cms_access.specs.declared.questions.Label as answers
 use Rattle.cms_access.specs.declared.questions.Label.TheVariants as label
 
@@ -133,8 +133,22 @@ pub stays_so : (s : State) (line : List ℕ) (next : Machine → Act Course) (un
     → on_reply next (asking.Given (machine_of s units) line) ≡ Done (Went (machine_of s units) (pos 8))
 stays_so s line next units is = rw is refl
 
--- the units may be used behind a question
-pub usable_asked : (old asked given : Spot) (t : Act (Unit {0})) (x : ⊤) → Does old.world asked.world t (Ok x) itself → asked.state ≡ old.state
-    → (IsUsable asked → IsUsable given) → IsUsable old → IsUsable given
-usable_asked old asked given t x does same on usable =
-    on (usable_later old asked (later_does old.world asked.world t (Ok x) itself does) (ap (λ (s : State). s.table) same) usable)
+-- ---- what follows the volume id
+
+-- none was asked for in the end
+pub acts_unlabelled : (old new : Spot) (next : Machine → List ℕ → Act Course) (e : End) → Acts {T = answers.Label} old new (label_tree old.state) (Err e) (labelling_of new.state)
+    → Acts {T = declared.Course} old new (λ units. bind (label_tree old.state units) (with_label next)) (Err e) (course_of new.state)
+acts_unlabelled old new next e a = acts_stop old new (label_tree old.state) (with_label next) e (labelling_of new.state) (course_of new.state) a
+
+-- one is given
+pub acts_labelled : (old mid new : Spot) (next : Machine → List ℕ → Act Course) (volid : List ℕ) (r : Result declared.Course End)
+    → Acts old mid (label_tree old.state) (Ok (label.Given volid)) (labelling_of mid.state) → Acts mid new (λ units. next (machine_of mid.state units) volid) r (course_of new.state)
+    → Acts old new (λ units. bind (label_tree old.state units) (with_label next)) r (course_of new.state)
+acts_labelled old mid new next volid r a b = acts_bind old mid new (label_tree old.state) (with_label next) (label.Given volid) (labelling_of mid.state) r (course_of new.state) a b
+
+-- or the command ends with the ask
+pub acts_ended : (old new : Spot) (next : Machine → List ℕ → Act Course) (c : declared.Course) → Acts old new (label_tree old.state) (Ok (label.Ended c)) (labelling_of new.state)
+    → Acts old new (λ units. bind (label_tree old.state units) (with_label next)) (Ok c) (course_of new.state)
+acts_ended old new next c a =
+    acts_bind old new new (label_tree old.state) (with_label next) (label.Ended c) (labelling_of new.state) (Ok c) (course_of new.state) a
+    (acts_over new (λ units. with_label next (labelling_of new.state units (label.Ended c))) c (course_of new.state) (λ units. refl))

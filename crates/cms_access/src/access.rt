@@ -18,8 +18,8 @@ use cms_operands::{
     without_options,
 };
 use cms_search::{
-    AccessEnd, Course, End, NO_DISK, State, device_word, letter_word, refuse, refuse_device,
-    refuse_line, refuse_no_device, refuse_not_accessed, say_message,
+    AccessEnd, Course, End, NO_DISK, State, device_word, letter_word, refuse, refuse_command,
+    refuse_device, refuse_no_device, refuse_not_accessed, say_message,
 };
 use cms_text::decimal;
 use cms_world::World;
@@ -153,7 +153,6 @@ pub fn run_access<W: World>(
 {
     match access_line(alloc, words) {
         Ok(line) => access_disk(alloc, world, state, line),
-        Err(CommandFault::Refused(why)) => refuse_line(alloc, world, words.as_slice(), why),
-        Err(CommandFault::Memory) => Err(End::Memory),
+        Err(fault) => refuse_command(alloc, world, words, fault),
     }
 }

@@ -4,28 +4,29 @@ ghost use Rattle.cms_fields.specs.Moments.{is_moment};
 ghost use Rattle.cms_machine.specs.Acts.{saying, typed_line};
 ghost use Rattle.cms_line.specs.Messages.{message_text};
 ghost use Rattle.cms_line.specs.declared.message.Message.TheVariants.{M114, M115, M603};
-ghost use Rattle.cms_search.specs.Calls.{Acts, Does, IsUsable, course_of, itself, machine_of, said, spot};
+ghost use Rattle.cms_search.specs.Calls.{Acts, Does, IsUsable, course_of, machine_of, said, spot};
 ghost use Rattle.cms_search.specs.Machine.{letter_at};
 ghost use Rattle.cms_search.specs.Refusing.{no_disk};
 ghost use Rattle.cms_search.specs.Searches.{item_at};
 ghost use Rattle.cms_search.specs.Shows.{device_of};
 ghost use Rattle.cms_search.specs.Tables.{letters_of, unit_of_device, writing};
+ghost use Rattle.cms_search.specs.Talks.{asked_of};
 ghost use Rattle.cms_search.specs.Telling.{device_text, letter_text};
 ghost use Rattle.cms_search.specs.declared.state.Course.TheVariants.{Went};
 ghost use Rattle.cms_world.specs.Seen.{seen};
 ghost use Rattle.cms_access.specs.Format as spec;
+ghost use Rattle.cms_access.specs.Questions.{question_tree};
 ghost use Rattle.cms_access.specs.Remaking.{MayRemake, is_marked};
 
 use crate::format::{FormatLine, Formatting, format_line};
-use crate::questions::{Label, ask_label, goes_on, reply};
+use crate::questions::{Label, ask_label, goes_on, question, reply};
 use crate::remaking::remake_disk;
 use cms_disk::UnitInfo;
 use cms_edf::Change;
 use cms_line::{Message, Tokens};
-use cms_operands::CommandFault;
 use cms_search::{
-    Asked, Course, End, NO_DISK, State, change_disk, device_word, letter_word, refuse, refuse_line,
-    refuse_no_device, refuse_not_accessed, refuse_read_only, say_message, tell_change,
+    Asked, Course, End, NO_DISK, State, change_disk, device_word, letter_word, refuse,
+    refuse_command, refuse_no_device, refuse_not_accessed, refuse_read_only, tell_change,
 };
 use cms_world::World;
 use std::alloc::Global;
@@ -148,14 +149,21 @@ fn erase<W: World>(
     }
 }
 
-// Types the first question.
-fn say_question<W: World>(alloc: Global, world: &mut W, line: FormatLine) -> Result<(), End>
-    ensures { Does (seen W.World world.old) (seen W.World world.new)
-        (saying (typed_line (message_text (M603 (letter_text line.letter) (device_text line.vdev))))) result itself }
+// Types the first question, and asks for a line.
+fn ask_whether<W: World>(
+    alloc: Global,
+    world: &mut W,
+    state: &mut State,
+    line: FormatLine,
+) -> Result<Asked, End>
+    ensures acts { Acts (spot W.World world.old state.old) (spot W.World world.new state.new)
+        (question_tree state.old (M603 (letter_text line.letter) (device_text line.vdev))) result (asked_of state.new) }
+    ensures kept { state.new ≡ record state.old { stack = state.new.stack; console = state.new.console; left = state.new.left } }
+    ensures left { state.new.left ≤ state.old.left }
 {
     let letter = letter_word(alloc, line.letter)?;
     let device = device_word(alloc, line.vdev)?;
-    say_message(alloc, world, &Message::M603(letter, device))
+    question(alloc, world, state, &Message::M603(letter, device))
 }
 
 // Asks whether all files are to be erased, and erases them where they are.
@@ -175,8 +183,7 @@ fn ask_first<W: World>(
     ensures offset { state.new.offset ≡ state.old.offset }
     ensures left { state.new.left ≤ state.old.left }
 {
-    say_question(alloc, world, line)?;
-    let given = match state.ask(alloc, world)? {
+    let given = match ask_whether(alloc, world, state, line)? {
         Asked::Given(given) => given,
         Asked::Spent => return Ok(Course::OutOfTurns),
     };
@@ -264,7 +271,6 @@ pub fn run_format<W: World>(
 {
     match format_line(alloc, &state.table, words) {
         Ok(asked) => format_disk(alloc, world, state, asked),
-        Err(CommandFault::Refused(why)) => refuse_line(alloc, world, words.as_slice(), why),
-        Err(CommandFault::Memory) => Err(End::Memory),
+        Err(fault) => refuse_command(alloc, world, words, fault),
     }
 }

@@ -16,7 +16,7 @@ use cms_line::{Token, Tokens};
 use cms_operands::{
     CommandFault, Refusal, coded, ended, given_or, letter_or_all, needed, operands, without_options,
 };
-use cms_search::{Course, End, State, Table, refuse_line, refuse_not_accessed, say};
+use cms_search::{Course, End, State, Table, refuse_command, refuse_not_accessed, say};
 use cms_text::is_keyword;
 use cms_world::World;
 use std::alloc::Global;
@@ -176,7 +176,6 @@ pub fn run_query<W: World>(
 {
     match query_line(alloc, words) {
         Ok(question) => tell(alloc, world, state, question),
-        Err(CommandFault::Refused(why)) => refuse_line(alloc, world, words.as_slice(), why),
-        Err(CommandFault::Memory) => Err(End::Memory),
+        Err(fault) => refuse_command(alloc, world, words, fault),
     }
 }

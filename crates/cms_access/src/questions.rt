@@ -5,9 +5,10 @@ ghost use Rattle.cms_ebcdic.specs.CodePage.{upper_of};
 ghost use Rattle.cms_names.specs.Names.{is_name_character};
 ghost use Rattle.cms_text.specs.Texts as texts;
 ghost use Rattle.cms_search.specs.Calls.{Acts, machine_of, spot};
+ghost use Rattle.cms_search.specs.Talks.{asked_of};
 ghost use Rattle.cms_search.specs.Telling.{left_in};
 ghost use Rattle.cms_access.specs.Format as spec;
-ghost use Rattle.cms_access.specs.Questions.{label_tree, labelling_of};
+ghost use Rattle.cms_access.specs.Questions.{label_tree, labelling_of, question_tree};
 
 use cms_ebcdic::fold_upper;
 use cms_line::{Line, Message, Word};
@@ -112,6 +113,22 @@ fn take_label<W: World>(
     Ok(Label::Ended(course))
 }
 
+/// Types a question, and asks for a line. The stack, the console and the turns that are left change with the ask.
+pub fn question<W: World>(
+    alloc: Global,
+    world: &mut W,
+    state: &mut State,
+    message: &Message,
+) -> Result<Asked, End>
+    ensures acts { Acts (spot W.World world.old state.old) (spot W.World world.new state.new)
+        (question_tree state.old message.now) result (asked_of state.new) }
+    ensures kept { state.new ≡ record state.old { stack = state.new.stack; console = state.new.console; left = state.new.left } }
+    ensures left { state.new.left ≤ state.old.left }
+{
+    say_message(alloc, world, message)?;
+    state.ask(alloc, world)
+}
+
 /// Asks for a volume id. The stack, the console and the turns that are left change with the ask.
 pub fn ask_label<W: World>(alloc: Global, world: &mut W, state: &mut State) -> Result<Label, End>
     ensures acts { Acts (spot W.World world.old state.old) (spot W.World world.new state.new)
@@ -119,8 +136,7 @@ pub fn ask_label<W: World>(alloc: Global, world: &mut W, state: &mut State) -> R
     ensures kept { state.new ≡ record state.old { stack = state.new.stack; console = state.new.console; left = state.new.left } }
     ensures left { state.new.left ≤ state.old.left }
 {
-    say_message(alloc, world, &Message::M605)?;
-    match state.ask(alloc, world)? {
+    match question(alloc, world, state, &Message::M605)? {
         Asked::Given(line) => {
             let text = reply(alloc, &line)?;
             take_label(alloc, world, state, text)

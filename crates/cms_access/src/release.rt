@@ -11,7 +11,7 @@ use cms_operands::{
     CommandFault, Refusal, Target, device_or_letter, ended, needed, operands, without_options,
 };
 use cms_search::{
-    Course, End, NO_DISK, State, device_word, refuse, refuse_line, refuse_no_device,
+    Course, End, NO_DISK, State, device_word, refuse, refuse_command, refuse_no_device,
     refuse_not_accessed,
 };
 use cms_world::World;
@@ -116,7 +116,6 @@ pub fn run_release<W: World>(
 {
     match release_line(alloc, words) {
         Ok(target) => release_disk(alloc, world, state, target),
-        Err(CommandFault::Refused(why)) => refuse_line(alloc, world, words.as_slice(), why),
-        Err(CommandFault::Memory) => Err(End::Memory),
+        Err(fault) => refuse_command(alloc, world, words, fault),
     }
 }

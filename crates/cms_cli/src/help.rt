@@ -27,17 +27,21 @@ There are up to 16 units, no two with one device; their images are attached in t
 The commands are read from standard input, a line each. What they type goes to standard
 output, and behind each command its ready line: R; or, with a return code, R(00028);
 
-  ACCESS v m     gives the volume of device v the letter m; with m/p, as an extension of p
-  FORMAT v m     makes an empty volume on device v and gives it the letter m, after two questions;
-                 with (LABEL it asks for another label alone
-  QUERY DISK     shows the accessed disks and their room, with a letter that disk alone
-  QUERY SEARCH   shows how disks are searched
-  RELEASE disk   gives up a disk, by its letter or its device
-  TYPE fn ft A   types the records of a file
-  ERASE fn ft A  erases a file; when its ready line is typed the file is gone for good
-  * text         is a comment
+  ACCESS v m       gives the volume of device v the letter m; with m/p, as an extension of p
+  ERASE fn ft fm   erases files; when its ready line is typed they are gone for good
+  FORMAT v m       makes an empty volume on device v and gives it the letter m, after two questions;
+                   with (LABEL it asks for another label alone
+  LISTFILE fn ft fm   lists files, by patterns as A%C*
+  QUERY DISK       shows the accessed disks and their room, with a letter that disk alone
+  QUERY SEARCH     shows how disks are searched
+  RELEASE disk     gives up a disk, by its letter or its device
+  RENAME fn ft fm fn ft fm   gives files other names or mode numbers
+  STATE fn ft fm   says whether a file is there
+  TYPE fn ft fm    types the records of a file
+  * text           is a comment
 
-Each line costs a turn.
+A mode fm is a letter, also with a number, and may be left out of all but RENAME. Each line
+costs a turn.
 
 example: what is on the image disk.img, in a shell
 

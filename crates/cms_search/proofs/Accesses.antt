@@ -1,6 +1,6 @@
 -- What an access of a volume comes to.
 use Rattle.std.proofs.Common.{◌≡◌, ◌≢◌, ◌<◌, ◌∙◌, ⊎_elim, inr, ℕ, List, [], ◌∷◌, Bool, true, false, Option, Some, None, Result, Ok, Err, length, slice_get, refl, sym, ap, subst, arith}
-use Rattle.std.specs.Prelude.{⊤, ◌==◌, ◌||◌, ◌↔◌, if◌then◌else◌, IfSome, OnErr, not, is_some, option_map}
+use Rattle.std.specs.Prelude.{⊤, ◌==◌, ◌||◌, ◌↔◌, if◌then◌else◌, IfErr, IfSome, OnErr, not, is_some, option_map}
 use Rattle.std.specs.Option.{ForSome, option_and_then, option_map_or}
 use Rattle.std.proofs.lemmas.Bool.{eqb-true}
 use Rattle.std.proofs.lemmas.List.Quantifiers.{position-Some}
@@ -28,7 +28,7 @@ use Rattle.cms_disk.specs.declared.fault.AccessFault.{AccessFault}
 use Rattle.cms_disk.specs.declared.fault.AccessFault.TheVariants.{Sync, Open}
 use Rattle.cms_disk.specs.declared.unit.UnitInfo.{UnitInfo}
 use Rattle.cms_disk.proofs.Standing.{state_stands}
-use Rattle.cms_search.specs.Accessing.{accessing_tree, disk_for, forgetting, opened, refused_as}
+use Rattle.cms_search.specs.Accessing.{IsOfAccess, accessing_tree, disk_for, forgetting, opened, refused_as}
 use Rattle.cms_search.specs.Calls.{Acts, Holds, IsLater, IsSeatOf, IsUsable, IsUsableTable, Spot, Usable, at, beside, holds, itself, machine_of}
 use Rattle.cms_search.specs.Held.{HoldsTable, HoldsUnit, StandsAs, disk_of as disk_of_unit}
 use Rattle.cms_search.specs.Machine.{Letter, Machine, Places, after_step}
@@ -480,6 +480,37 @@ Comes old w st vdev n ext fault = Acts old (spot_with w st) (accessing_tree old.
 fault_is : (x fault : SearchFault) → ◌≡◌ {A = Result ⊤ SearchFault} (Err x) (Err fault) → x ≡ fault
 fault_is x fault is = cc is
 
+abbrev wanted_in : Accesses → ℕ → ℕ → Option ℕ → Result ℕ SearchFault
+wanted_in t vdev n ext = wanted_unit vdev (place_of_device vdev t.units) (missing_parent t.seats n ext)
+
+-- no access is refused for a letter that may only be read, or a file that isn't found
+answers_access : (found : Result Accessed AccessFault) → IfErr (answer_for found) IsOfAccess
+answers_access (Ok disk) = tt
+answers_access (Err Sync) = tt
+answers_access (Err (Open failed.Device)) = tt
+answers_access (Err (Open failed.Memory)) = tt
+answers_access (Err (Open (failed.Label k))) = tt
+answers_access (Err (Open (failed.Entry m k))) = tt
+answers_access (Err (Open (failed.Pointer holder value))) = tt
+answers_access (Err (Open (failed.Crossed m))) = tt
+answers_access (Err (Open (failed.MapMissing m))) = tt
+answers_access (Err (Open (failed.Var m k))) = tt
+answers_access (Err (Open (failed.Twice m))) = tt
+answers_access (Err (Open (failed.System m))) = tt
+
+pub is_of_access : (told told' : Told) (t t' : Accesses) (vdev n : ℕ) (ext : Option ℕ) (fault : SearchFault) → EndsAccess told told' t t' n ext (Err fault) (wanted_in t vdev n ext)
+    → IsOfAccess fault
+is_of_access told told' t t' vdev n ext fault ends' =
+    cases (place_of_device vdev t.units) (missing_parent t.seats n ext) ends'
+  where
+    told_so : (r : Result ⊤ SearchFault) → Err fault ≡ r → IfErr r IsOfAccess → IsOfAccess fault
+    told_so r is of = subst (λ (x : Result ⊤ SearchFault). IfErr x IsOfAccess) (sym is) of
+
+    cases : (place missing : Option ℕ) → EndsAccess told told' t t' n ext (Err fault) (wanted_unit vdev place missing) → IsOfAccess fault
+    cases None missing e = told_so (Err (why.NoUnit vdev)) e.0 tt
+    cases (Some u) (Some parent) e = told_so (Err (why.NotAccessed parent)) e.0 tt
+    cases (Some u) None e = told_so (answer_for e.2) e.6 (answers_access e.2)
+
 -- with this table
 refused_to : (old : Spot) (w : Seen) (vdev n : ℕ) (ext : Option ℕ) (u : ℕ) (found : Result Accessed AccessFault) (l : Looked old w vdev n ext u found) (fault : SearchFault)
     → Err fault ≡ answer_for found
@@ -548,9 +579,6 @@ looked_so old w t' vdev n ext u r place free e changes = record {
   looks = e.5;
   changes = subst (λ (x : Result ⊤ SearchFault). ChangesUnits old.world w (λ f. f ≡ why.Volume failed.Device) x) e.6 changes;
 }
-
-abbrev wanted_in : Accesses → ℕ → ℕ → Option ℕ → Result ℕ SearchFault
-wanted_in t vdev n ext = wanted_unit vdev (place_of_device vdev t.units) (missing_parent t.seats n ext)
 
 -- the table refused it
 pub access_refused : (old : Spot) (w : Seen) (t' : Accesses) (vdev n : ℕ) (ext : Option ℕ) (fault : SearchFault) (r : Result AccessEnd End) → r ≡ refused_as fault

@@ -217,7 +217,7 @@ pub record Steps (old new : Told) (j : Journal) (units : List Slot) (t t' : Acce
   pub holds : Holds new t' (changed_units units s.letter.unit met.minidisk change stamp o)
 
 -- where the disk is a minidisk then
-steps_with : (old new : Told) (j later : Journal) (units : List Slot) (t : Accesses) (n : ℕ) (s : Seated) (e : Accessed) (met : Met j units t s) (change : Change) (stamp : Stamp) (o : Outcome)
+pub steps_with : (old new : Told) (j later : Journal) (units : List Slot) (t : Accesses) (n : ℕ) (s : Seated) (e : Accessed) (met : Met j units t s) (change : Change) (stamp : Stamp) (o : Outcome)
     (m : Minidisk) → old ≡ Some j → new ≡ Some later → HoldsTable j units t → item_at t.seats n ≡ Some s → IsOnSame s.disk e → IsMinidisk later e m
     → Changes old new e.volume.unit met.minidisk change stamp o → changed_slot s.letter.unit met.minidisk change stamp o ≡ Settled (Volume m)
     → Steps old new j units t (table_with t n s e) s met change stamp o

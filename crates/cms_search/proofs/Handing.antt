@@ -1,10 +1,10 @@
 -- A file that is read record by record, as a device step: what is done with each record is done while they are handed out, and how the step
 -- ends is known at the end. No command is known here.
-use Rattle.std.proofs.Common.{◌≡◌, ◌+◌, ◌≤◌, ℕ, List, [], ◌∷◌, ◌++◌, take, length, slice_get, Bool, None, Some, Result, Ok, Err, true, false, inl, inr, pos, append-nil, refl, ap, sym, ◌∙◌, subst, arith}
-use Rattle.std.proofs.Math.Seq.{take-append_seam}
+use Rattle.std.proofs.Common.{◌≡◌, ◌+◌, ◌-◌, ◌≤◌, ℕ, zero, suc, List, [], ◌∷◌, ◌++◌, take, drop, length, slice_get, Bool, None, Option, Some, Result, Ok, Err, true, false, inl, inr, pos, append-nil, refl, ap, sym, ◌∙◌, subst, arith}
+use Rattle.std.proofs.Math.Seq.{take-append_seam, take-append-add}
 use Rattle.std.proofs.lemmas.Bool.{cases_Bool}
-use Rattle.std.proofs.lemmas.List.{append_assoc, length-append}
-use Rattle.std.specs.Prelude.{IfOk, IfErr}
+use Rattle.std.proofs.lemmas.List.{append_assoc}
+use Rattle.std.specs.Prelude.{IfOk, IfErr, nat_le, nat_lt}
 use Rattle.std.specs.Option.{ForSome}
 use Rattle.cms_journal.specs.Causes.{Rose, Counted}
 use Rattle.cms_journal.specs.Journal.{Journal, HasBlocks, contents_of}
@@ -17,18 +17,23 @@ use Rattle.cms_names.specs.declared.name.Name.{Name}
 use Rattle.cms_model.specs.Minidisks.{File, Minidisk, Volume, same_name}
 use Rattle.cms_model.specs.Changes.{file_named}
 use Rattle.cms_model.specs.LawsUpdates.{after, now}
+use Rattle.cms_text.specs.Bytes.{half}
+use Rattle.cms_model.specs.Records.{varying}
+use Rattle.cms_model.specs.declared.fault.VarFault.TheVariants.{Zero, PastEnd, Left}
 use Rattle.cms_model.proofs.Changing.{name_from}
+use Rattle.cms_model.proofs.Cuts.{length_cut}
+use Rattle.cms_model.proofs.Results.{bind_then, ok_same, want_ok}
 use Rattle.cms_model.proofs.Settling.{aside_is_as_before}
 use Rattle.cms_machine.specs.Slots.{Slot, Settled}
 use Rattle.cms_machine.specs.Steps.{Get, Outcome, Good, ReadFault, MayGet, Offers, faults_in}
 use Rattle.cms_machine.specs.Acts as acts
-use Rattle.cms_machine.specs.Acts.{Act, bind, saying, typed_line}
+use Rattle.cms_machine.specs.Acts.{Act, saying, typed_line}
 use Rattle.cms_machine.specs.Points.{Point}
 use Rattle.cms_machine.specs.Runs.{Ran, Broke}
 use Rattle.cms_machine.proofs.Join.{ran_none, ran_then, broke_then}
 use Rattle.cms_machine.proofs.Single.{ran_still}
 use Rattle.cms_edf.specs.OpeningSteps.{OfImage}
-use Rattle.cms_disk.specs.Cursors.{Reading, HasLeft, HandsOut, SameFile, text_of}
+use Rattle.cms_disk.specs.Cursors.{Reading, HasLeft, HoldLeft, HandsOut, SameFile, text_of, unread}
 use Rattle.cms_line.specs.Messages.{message_text}
 use Rattle.cms_line.specs.declared.message.Message.TheVariants.{M105}
 use Rattle.cms_disk.specs.Disks.{OpensIn, StartsAt}
@@ -89,23 +94,26 @@ passes_read before now r =
 
 -- ---- what is done with records
 
--- it is done with one after another
-pub record IsEach {R : Type 0} (run : List (List ℕ) → Act R → Act R) (one : List ℕ → Act R → Act R) : Type 0 where
-  pub none : (next : Act R) → run [] next ≡ next
-  pub more : (text : List ℕ) (records : List (List ℕ)) (next : Act R) → run (text ∷ records) next ≡ one text (run records next)
+-- it is done with one after another; what is done with one may depend on how many of the file are in front of it
+pub record IsEach {R : Type 0} (run : ℕ → List (List ℕ) → Act R → Act R) (one : ℕ → List ℕ → Act R → Act R) : Type 0 where
+  pub none : (k : ℕ) (next : Act R) → run k [] next ≡ next
+  pub more : (k : ℕ) (text : List ℕ) (records : List (List ℕ)) (next : Act R) → run k (text ∷ records) next ≡ one k text (run (suc k) records next)
 
 -- with some and then with others
-run_append : {R : Type 0} (run : List (List ℕ) → Act R → Act R) (one : List ℕ → Act R → Act R) → IsEach run one → (front rest : List (List ℕ)) (next : Act R)
-    → run (front ++ rest) next ≡ run front (run rest next)
-run_append run one each [] rest next = sym (each.none (run rest next))
-run_append run one each (text ∷ front) rest next =
-    each.more text (front ++ rest) next ∙ (ap (one text) (run_append run one each front rest next) ∙ sym (each.more text front (run rest next)))
+run_append : {R : Type 0} (run : ℕ → List (List ℕ) → Act R → Act R) (one : ℕ → List ℕ → Act R → Act R) → IsEach run one → (k j : ℕ) (front rest : List (List ℕ)) (next : Act R)
+    → j ≡ k + length front → run k (front ++ rest) next ≡ run k front (run j rest next)
+run_append run one each k j [] rest next is = let e : j ≡ k = omega arith in rw e (sym (each.none k (run k rest next)))
+run_append run one each k j (text ∷ front) rest next is =
+    each.more k text (front ++ rest) next
+    ∙ (ap (one k text) (run_append run one each (suc k) j front rest next (omega arith)) ∙ sym (each.more k text front (run j rest next)))
 
 -- with some and then with one
-run_one : {R : Type 0} (run : List (List ℕ) → Act R → Act R) (one : List ℕ → Act R → Act R) → IsEach run one → (front : List (List ℕ)) (text : List ℕ) (next : Act R)
-    → run (front ++ text ∷ []) next ≡ run front (one text next)
+pub run_one : {R : Type 0} (run : ℕ → List (List ℕ) → Act R → Act R) (one : ℕ → List ℕ → Act R → Act R) → IsEach run one → (front : List (List ℕ)) (text : List ℕ) (next : Act R)
+    → run 0 (front ++ text ∷ []) next ≡ run 0 front (one (length front) text next)
 run_one run one each front text next =
-    run_append run one each front (text ∷ []) next ∙ ap (run front) (each.more text [] next ∙ ap (one text) (each.none next))
+    let j = length front in
+    run_append run one each 0 j front (text ∷ []) next (omega arith)
+    ∙ ap (run 0 front) (each.more j text [] next ∙ ap (one j text) (each.none (suc j) next))
 
 -- ---- how far a file was read
 
@@ -120,20 +128,20 @@ image_idle old new u P idle h j is =
 abbrev pub IsOpen : Told → Reading → Type 0
 IsOpen told c = ForSome told (λ j. HasBlocks j.units c.unit c.total c.bsize)
 
-open_idle : (old new : Told) (c : Reading) → Idle old new → IsOpen old c → IsOpen new c
+pub open_idle : (old new : Told) (c : Reading) → Idle old new → IsOpen old c → IsOpen new c
 open_idle None new c idle has = let e : new ≡ None = idle.told ∙ plus-none idle.events in rw e (λ j f. absurd (cc))
 open_idle (Some i) new c idle has =
     let e : new ≡ Some (after i idle.events) = idle.told ∙ plus-some i idle.events in
     rw e (λ j f. let same : after i idle.events ≡ j = some_same _ _ f in rw (← same) (has i refl))
 
-open_same : (told : Told) (c d : Reading) → SameFile c d → IsOpen told c → IsOpen told d
+pub open_same : (told : Told) (c d : Reading) → SameFile c d → IsOpen told c → IsOpen told d
 open_same told c d same has j is =
     let unit = same.unit in
     let total = same.total in
     let bsize = same.bsize in
     rw (unit, total, bsize) (has j is)
 
-same_then : (a b c : Reading) → SameFile a b → SameFile b c → SameFile a c
+pub same_then : (a b c : Reading) → SameFile a b → SameFile b c → SameFile a c
 same_then a b c x y = record {
   unit = y.unit ∙ x.unit;
   total = y.total ∙ x.total;
@@ -150,19 +158,19 @@ pub record Splits (image : Image) (c : Reading) (front all : List (List ℕ)) : 
   pub left : HasLeft image c more
 
 -- since a file was opened the records of the front were handed out, and it was done with each; the others are left
-pub record Handed {R : Type 0} (run : List (List ℕ) → Act R → Act R) (before now : Seen) (first c : Reading) : Type 0 where
+pub record Handed {R : Type 0} (run : ℕ → List (List ℕ) → Act R → Act R) (before now : Seen) (first c : Reading) : Type 0 where
   pub front : List (List ℕ)
-  pub goes : (next : Act R) → Goes before now (run front next) next
+  pub goes : (next : Act R) → Goes before now (run 0 front next) next
   pub passes : Passes before now
   pub left : OfImage before.told first.unit (λ image. (all : List (List ℕ)) → HasLeft image first all → Splits image c front all)
   pub file : SameFile first c
   pub opened : IsOpen now.told c
 
-pub handed_none : {R : Type 0} (run : List (List ℕ) → Act R → Act R) (one : List ℕ → Act R → Act R) (s : Seen) (c : Reading) → IsEach run one → IsOpen s.told c
+unfoldable pub handed_none : {R : Type 0} (run : ℕ → List (List ℕ) → Act R → Act R) (one : ℕ → List ℕ → Act R → Act R) (s : Seen) (c : Reading) → IsEach run one → IsOpen s.told c
     → Handed run s s c c
 handed_none run one s c each has = record {
   front = [];
-  goes = λ next p journal. rw (each.none next) (subst (λ (told : Told). Ran p (record p { journal = told }) next next) journal (ran_none p next));
+  goes = λ next p journal. rw (each.none 0 next) (subst (λ (told : Told). Ran p (record p { journal = told }) next next) journal (ran_none p next));
   passes = passes_none s;
   left = λ j is all left. record { more = all; is = refl; left = left };
   file = record { unit = refl; total = refl; bsize = refl; leaves = refl; fixed = refl; longest = refl };
@@ -174,20 +182,20 @@ abbrev pub Hands : Told → Reading → Reading → Result Bool DiskFault → Ty
 Hands told c d r = OfImage told c.unit (λ image. (records : List (List ℕ)) → HasLeft image c records → HandsOut image d records r)
 
 -- the same of the image in which the file was opened
-hands_first : {R : Type 0} (run : List (List ℕ) → Act R → Act R) (before now : Seen) (first c d : Reading) (r : Result Bool DiskFault) → Handed run before now first c
+pub hands_first : {R : Type 0} (run : ℕ → List (List ℕ) → Act R → Act R) (before now : Seen) (first c d : Reading) (r : Result Bool DiskFault) → Handed run before now first c
     → Hands now.told c d r → OfImage before.told first.unit (λ image. (records : List (List ℕ)) → HasLeft image c records → HandsOut image d records r)
 hands_first run before now first c d r h hands =
     let P : Image → Type 0 = λ image. (records : List (List ℕ)) → HasLeft image c records → HandsOut image d records r in
     image_idle before.told now.told first.unit P h.passes.idle (subst (λ (u : ℕ). OfImage now.told u P) h.file.unit hands)
 
 -- a further record was handed out, and it was done with it
-pub handed_more : {R : Type 0} (run : List (List ℕ) → Act R → Act R) (one : List ℕ → Act R → Act R) (before mid now : Seen) (first c d : Reading) → IsEach run one
-    → Handed run before mid first c → Hands mid.told c d (Ok true) → SameFile c d → Passes mid now
-    → ((next : Act R) → Goes mid now (one (text_of d) next) next) → Handed run before now first d
+unfoldable pub handed_more : {R : Type 0} (run : ℕ → List (List ℕ) → Act R → Act R) (one : ℕ → List ℕ → Act R → Act R) (before mid now : Seen) (first c d : Reading) → IsEach run one
+    → (h : Handed run before mid first c) → Hands mid.told c d (Ok true) → SameFile c d → Passes mid now
+    → ((next : Act R) → Goes mid now (one (length h.front) (text_of d) next) next) → Handed run before now first d
 handed_more run one before mid now first c d each h hands same passes goes = record {
   front = h.front ++ text_of d ∷ [];
   goes = λ next p journal. rw (run_one run one each h.front (text_of d) next)
-      (ran_then (h.goes (one (text_of d) next) p journal) (goes next (after_world p mid) refl));
+      (ran_then (h.goes (one (length h.front) (text_of d) next) p journal) (goes next (after_world p mid) refl));
   passes = passes_then before mid now h.passes passes;
   left = λ j is all left.
       let s = h.left j is all left in
@@ -204,27 +212,34 @@ handed_more run one before mid now first c d each h hands same passes goes = rec
 -- ---- the step
 
 -- the step is done first, with this outcome, and then what was done while it went on
-get_first : {R : Type 0} (p q : Point) (before now : Seen) (u : ℕ) (f : File) (o : Outcome) (k : Outcome → Act R) (next : Act R)
-    → Offers (slice_get p.units u) f (length f.records) → MayGet (length f.records) o → Counted p.faults (faults_in (o ∷ [])) q.faults
+get_first : {R : Type 0} (p q : Point) (before now : Seen) (u : ℕ) (f : File) (wanted : ℕ) (o : Outcome) (k : Outcome → Act R) (next : Act R)
+    → Offers (slice_get p.units u) f wanted → MayGet wanted o → Counted p.faults (faults_in (o ∷ [])) q.faults
     → p.journal ≡ before.told → q ≡ record (after_world p now) { faults = q.faults } → Goes before now (k o) next
-    → Ran p q (acts.Does (Get u f (length f.records)) k) next
-get_first p q before now u f o k next offers may counted journal is goes =
+    → Ran p q (acts.Does (Get u f wanted) k) next
+get_first p q before now u f wanted o k next offers may counted journal is goes =
     let m : Point = record p { faults = q.faults } in
     ran_then
-    (ran_still p m (Get u f (length f.records)) o k refl counted refl may offers refl refl (record { unread = refl; ended = refl }))
+    (ran_still p m (Get u f wanted) o k refl counted refl may offers refl refl (record { unread = refl; ended = refl }))
     (subst (λ (z : Point). Ran m z (k o) next) (sym is) (goes m journal))
 
--- on these units a tree reads the file of which these records are left, and goes on by the outcome
-pub record ReadsOn {R : Type 0} (old : Spot) (units : List Slot) (first : Reading) (t : Act R) (u : ℕ) (then' : File → Outcome → Act R) : Type 0 where
+-- on these units a tree reads what is wanted of the file of which these records are left, and goes on by the outcome
+pub record ReadsOn {R : Type 0} (old : Spot) (units : List Slot) (first : Reading) (t : Act R) (u : ℕ) (wanted : File → ℕ) (then' : File → Outcome → Act R) : Type 0 where
   pub file : File
-  pub offers : Offers (slice_get units u) file (length file.records)
-  pub tree : t ≡ acts.Does (Get u file (length file.records)) (then' file)
+  pub offers : Offers (slice_get units u) file (wanted file)
+  pub tree : t ≡ acts.Does (Get u file (wanted file)) (then' file)
   pub journal : Journal
   pub told : old.world.told ≡ Some journal
   pub left : HasLeft (image_of (contents_of journal first.unit)) first file.records
 
-pub record Reads {R : Type 0} (old : Spot) (first : Reading) (t : List Slot → Act R) (u : ℕ) (then' : List Slot → File → Outcome → Act R) : Type 0 where
-  pub each : (units : List Slot) → holds old units → ReadsOn old units first (t units) u (then' units)
+pub record Reads {R : Type 0} (old : Spot) (first : Reading) (t : List Slot → Act R) (u : ℕ) (wanted : File → ℕ) (then' : List Slot → File → Outcome → Act R) : Type 0 where
+  pub each : (units : List Slot) → holds old units → ReadsOn old units first (t units) u wanted (then' units)
+
+-- of each file that begins with these records at least these are wanted, or exactly these
+abbrev pub AreAmong : (File → ℕ) → List (List ℕ) → Type 0
+AreAmong wanted front = (f : File) (more : List (List ℕ)) → f.records ≡ front ++ more → length front ≤ wanted f
+
+abbrev pub AreAll : (File → ℕ) → List (List ℕ) → Type 0
+AreAll wanted front = (f : File) (more : List (List ℕ)) → f.records ≡ front ++ more → wanted f ≡ length front
 
 -- where the state stays a point is the one before, with another journal and count
 at_same : (old new : Spot) (units : List Slot) → new.state ≡ old.state → at new units ≡ record (after_world (at old units) new.world) { faults = new.world.faults }
@@ -236,81 +251,114 @@ holds_same old new units same passes h = rw same (holds_idle old.world.told new.
 read_on : {R : Type 0} (before mid now : Seen) (t u : Act R) → Goes before mid t u → IsRead mid now → Goes before now t u
 read_on before mid now t u goes read p journal = let told = read.told in rw told (goes p journal)
 
--- all records were handed out
-pub read_all : {R : Type 0} (run : List (List ℕ) → Act R → Act R) (old mid new : Spot) (first c d : Reading) (t : List Slot → Act R) (u : ℕ)
-    (then' : List Slot → File → Outcome → Act R) (rest : List Slot → Act R) → Reads old first t u then' → Handed run old.world mid.world first c
-    → Hands mid.world.told c d (Ok false) → IsRead mid.world new.world → new.state ≡ old.state
-    → ((units : List Slot) (f : File) → then' units f Good ≡ run f.records (rest units)) → Comes old new t rest
-read_all run old mid new first c d t u then' rest reads h hands read same is =
-    let passes = passes_then old.world mid.world new.world h.passes (passes_read mid.world new.world read) in
-    record {
-      each = λ units held.
-          let r = reads.each units held in
-          let s = h.left r.journal r.told r.file.records r.left in
-          let none = hands_first run old.world mid.world first c d (Ok false) h hands r.journal r.told s.more s.left in
-          let all : r.file.records ≡ h.front = s.is ∙ (ap (λ (more : List (List ℕ)). h.front ++ more) none.0 ∙ append-nil h.front) in
-          let goes : Goes old.world new.world (then' units r.file Good) (rest units) =
-          subst (λ (z : Act _). Goes old.world new.world z (rest units)) (sym (is units r.file ∙ ap (λ (rs : List (List ℕ)). run rs (rest units)) all))
-          (read_on old.world mid.world new.world (run h.front (rest units)) (rest units) (h.goes (rest units)) read) in
-          let ran = get_first (at old units) (at new units) old.world new.world u r.file Good (then' units r.file) (rest units) r.offers tt
-          (counted_none old.world.faults new.world.faults passes.later.faults) refl (at_same old new units same) goes in
-          (units, (holds_same old new units same passes held, subst (λ (z : Act _). Ran (at old units) (at new units) z (rest units)) (sym r.tree) ran));
-      later = passes.later;
-      usable = usable_later old new passes.later (ap (λ (s : State). s.table) same);
-    }
+-- those that are wanted, where these are handed out and no more are wanted
+wanted_are : (n : ℕ) (all front more : List (List ℕ)) → all ≡ front ++ more → n ≡ length front → take n all ≡ front
+wanted_are n all front more is long = ap (λ (k : ℕ). take k all) long ∙ (ap (take (length front)) is ∙ take-append_seam front more)
 
--- the device failed after some of them
-pub read_fault : {R : Type 0} (run : List (List ℕ) → Act R → Act R) (old mid new : Spot) (first c : Reading) (t : List Slot → Act R) (u : ℕ)
-    (then' : List Slot → File → Outcome → Act R) (rest : List Slot → Act R) → Reads old first t u then' → Handed run old.world mid.world first c
-    → IsRead mid.world new.world → Rose mid.world.faults new.world.faults → new.state ≡ old.state
-    → ((units : List Slot) (f : File) (k : ℕ) → then' units f (ReadFault k) ≡ run (take k f.records) (rest units)) → Comes old new t rest
-read_fault run old mid new first c t u then' rest reads h read rose same is =
-    let passes = passes_then old.world mid.world new.world h.passes (passes_read mid.world new.world read) in
-    let k = length h.front in
-    record {
-      each = λ units held.
-          let r = reads.each units held in
-          let s = h.left r.journal r.told r.file.records r.left in
-          let some : take k r.file.records ≡ h.front = ap (take k) s.is ∙ take-append_seam h.front s.more in
-          let long : length r.file.records ≡ k + length s.more = ap length s.is ∙ length-append h.front s.more in
-          let goes : Goes old.world new.world (then' units r.file (ReadFault k)) (rest units) =
-          subst (λ (z : Act _). Goes old.world new.world z (rest units)) (sym (is units r.file k ∙ ap (λ (rs : List (List ℕ)). run rs (rest units)) some))
-          (read_on old.world mid.world new.world (run h.front (rest units)) (rest units) (h.goes (rest units)) read) in
-          let ran = get_first (at old units) (at new units) old.world new.world u r.file (ReadFault k) (then' units r.file) (rest units) r.offers (omega (arith, long))
-          (counted_one old.world.faults new.world.faults passes.later.faults (rose_from old.world.faults mid.world.faults new.world.faults h.passes.later.faults rose)) refl
-          (at_same old new units same) goes in
-          (units, (holds_same old new units same passes held, subst (λ (z : Act _). Ran (at old units) (at new units) z (rest units)) (sym r.tree) ran));
-      later = passes.later;
-      usable = usable_later old new passes.later (ap (λ (s : State). s.table) same);
-    }
+-- so many as are wanted were handed out
+module _ {R : Type 0} (run : ℕ → List (List ℕ) → Act R → Act R) (old mid new : Spot) (first c : Reading) (t : List Slot → Act R) (u : ℕ) (wanted : File → ℕ)
+    (then' : List Slot → File → Outcome → Act R) (rest : List Slot → Act R) (reads : Reads old first t u wanted then') (h : Handed run old.world mid.world first c) where
+  read_so : IsRead mid.world new.world → new.state ≡ old.state → ((units : List Slot) (held : holds old units) → wanted (reads.each units held).file ≡ length h.front)
+      → ((units : List Slot) (f : File) → then' units f Good ≡ run 0 (take (wanted f) f.records) (rest units)) → Comes old new t rest
+  read_so read same long is =
+      let passes = passes_then old.world mid.world new.world h.passes (passes_read mid.world new.world read) in
+      record {
+        each = λ units held.
+            let r = reads.each units held in
+            let s = h.left r.journal r.told r.file.records r.left in
+            let all : take (wanted r.file) r.file.records ≡ h.front = wanted_are (wanted r.file) r.file.records h.front s.more s.is (long units held) in
+            let goes : Goes old.world new.world (then' units r.file Good) (rest units) =
+            subst (λ (z : Act R). Goes old.world new.world z (rest units)) (sym (is units r.file ∙ ap (λ (rs : List (List ℕ)). run 0 rs (rest units)) all))
+            (read_on old.world mid.world new.world (run 0 h.front (rest units)) (rest units) (h.goes (rest units)) read) in
+            let ran = get_first (at old units) (at new units) old.world new.world u r.file (wanted r.file) Good (then' units r.file) (rest units) r.offers tt
+            (counted_none old.world.faults new.world.faults passes.later.faults) refl (at_same old new units same) goes in
+            (units, (holds_same old new units same passes held, subst (λ (z : Act R). Ran (at old units) (at new units) z (rest units)) (sym r.tree) ran));
+        later = passes.later;
+        usable = usable_later old new passes.later (ap (λ (s : State). s.table) same);
+      }
+
+  -- no more are wanted
+  pub read_wanted : IsRead mid.world new.world → new.state ≡ old.state → AreAll wanted h.front
+      → ((units : List Slot) (f : File) → then' units f Good ≡ run 0 (take (wanted f) f.records) (rest units)) → Comes old new t rest
+  read_wanted read same all is = read_so read same
+      (λ units held.
+      let r = reads.each units held in
+      let s = h.left r.journal r.told r.file.records r.left in
+      all r.file s.more s.is) is
+
+  -- no more are there
+  pub read_all : (d : Reading) → Hands mid.world.told c d (Ok false) → IsRead mid.world new.world → new.state ≡ old.state
+      → ((f : File) → f.records ≡ h.front → wanted f ≡ length h.front)
+      → ((units : List Slot) (f : File) → then' units f Good ≡ run 0 (take (wanted f) f.records) (rest units)) → Comes old new t rest
+  read_all d hands read same all is = read_so read same
+      (λ units held.
+      let r = reads.each units held in
+      let s = h.left r.journal r.told r.file.records r.left in
+      let none = hands_first run old.world mid.world first c d (Ok false) h hands r.journal r.told s.more s.left in
+      all r.file (s.is ∙ (ap (λ (more : List (List ℕ)). h.front ++ more) none.0 ∙ append-nil h.front))) is
+
+  -- the device failed after some of them
+  pub read_fault : IsRead mid.world new.world → Rose mid.world.faults new.world.faults → new.state ≡ old.state → AreAmong wanted h.front
+      → ((units : List Slot) (f : File) (k : ℕ) → then' units f (ReadFault k) ≡ run 0 (take k f.records) (rest units)) → Comes old new t rest
+  read_fault read rose same among is =
+      let passes = passes_then old.world mid.world new.world h.passes (passes_read mid.world new.world read) in
+      let k = length h.front in
+      record {
+        each = λ units held.
+            let r = reads.each units held in
+            let s = h.left r.journal r.told r.file.records r.left in
+            let some : take k r.file.records ≡ h.front = ap (take k) s.is ∙ take-append_seam h.front s.more in
+            let goes : Goes old.world new.world (then' units r.file (ReadFault k)) (rest units) =
+            subst (λ (z : Act R). Goes old.world new.world z (rest units)) (sym (is units r.file k ∙ ap (λ (rs : List (List ℕ)). run 0 rs (rest units)) some))
+            (read_on old.world mid.world new.world (run 0 h.front (rest units)) (rest units) (h.goes (rest units)) read) in
+            let ran = get_first (at old units) (at new units) old.world new.world u r.file (wanted r.file) (ReadFault k) (then' units r.file) (rest units) r.offers
+            (among r.file s.more s.is)
+            (counted_one old.world.faults new.world.faults passes.later.faults (rose_from old.world.faults mid.world.faults new.world.faults h.passes.later.faults rose)) refl
+            (at_same old new units same) goes in
+            (units, (holds_same old new units same passes held, subst (λ (z : Act R). Ran (at old units) (at new units) z (rest units)) (sym r.tree) ran));
+        later = passes.later;
+        usable = usable_later old new passes.later (ap (λ (s : State). s.table) same);
+      }
+
+-- those that are wanted, where these were handed out and one more
+wanted_with : (n : ℕ) (all front more : List (List ℕ)) (text : List ℕ) → all ≡ (front ++ text ∷ []) ++ more → length (front ++ text ∷ []) ≤ n
+    → (rest : List (List ℕ)) × (take n all ≡ front ++ text ∷ rest)
+wanted_with n all front more text is low =
+    let begun = front ++ text ∷ [] in
+    let m = n - length begun in
+    let split : n ≡ length begun + m = omega arith in
+    (take m more, ap (λ (k : ℕ). take k all) split ∙ (ap (take (length begun + m)) is ∙ (take-append-add begun more m ∙ append_assoc front (text ∷ []) (take m more))))
 
 -- it was cut off in what is done with a record
-pub read_stops : {R T : Type 0} (run : List (List ℕ) → Act R → Act R) (one : List ℕ → Act R → Act R) (old mid new : Spot) (first c d : Reading) (t : List Slot → Act R)
-    (u : ℕ) (then' : List Slot → File → Outcome → Act R) (rest : List Slot → Act R) (e : End) (done : Meaning T R) → IsEach run one → Reads old first t u then'
-    → Handed run old.world mid.world first c → Hands mid.world.told c d (Ok true) → IsLater mid.world new.world → new.state ≡ old.state
-    → ((units : List Slot) (f : File) → then' units f Good ≡ run f.records (rest units))
-    → ((next : Act R) (p : Point) → p.journal ≡ mid.world.told → Broke p (after_world p new.world) (one (text_of d) next))
+pub read_stops : {R T : Type 0} (run : ℕ → List (List ℕ) → Act R → Act R) (one : ℕ → List ℕ → Act R → Act R) (old mid new : Spot) (first c d : Reading) (t : List Slot → Act R)
+    (u : ℕ) (wanted : File → ℕ) (then' : List Slot → File → Outcome → Act R) (rest : List Slot → Act R) (e : End) (done : Meaning T R) → IsEach run one
+    → Reads old first t u wanted then' → (h : Handed run old.world mid.world first c) → Hands mid.world.told c d (Ok true) → IsLater mid.world new.world → new.state ≡ old.state
+    → AreAmong wanted (h.front ++ text_of d ∷ []) → ((units : List Slot) (f : File) → then' units f Good ≡ run 0 (take (wanted f) f.records) (rest units))
+    → ((next : Act R) (p : Point) → p.journal ≡ mid.world.told → Broke p (after_world p new.world) (one (length h.front) (text_of d) next))
     → (e ≡ Edge → Rose mid.world.edges new.world.edges) → Acts {T = T} old new t (Err e) done
-read_stops run one old mid new first c d t u then' rest e done each reads h hands later same is stops cause =
+read_stops run one old mid new first c d t u wanted then' rest e done each reads h hands later same among is stops cause =
     let all_later = later_then old.world mid.world new.world h.passes.later later in
+    let k = length h.front in
     record {
       each = λ units held.
           let r = reads.each units held in
           let s = h.left r.journal r.told r.file.records r.left in
           let out = hands_first run old.world mid.world first c d (Ok true) h hands r.journal r.told s.more s.left in
           let text = text_of d in
-          let all : r.file.records ≡ h.front ++ text ∷ out.0 = s.is ∙ ap (λ (more : List (List ℕ)). h.front ++ more) out.1 in
-          let left = run out.0 (rest units) in
-          let good : then' units r.file Good ≡ run h.front (one text left) =
-          is units r.file ∙ (ap (λ (rs : List (List ℕ)). run rs (rest units)) all
-          ∙ (run_append run one each h.front (text ∷ out.0) (rest units) ∙ ap (run h.front) (each.more text out.0 (rest units)))) in
+          let all : r.file.records ≡ (h.front ++ text ∷ []) ++ out.0 =
+          s.is ∙ (ap (λ (more : List (List ℕ)). h.front ++ more) out.1 ∙ sym (append_assoc h.front (text ∷ []) out.0)) in
+          let w = wanted_with (wanted r.file) r.file.records h.front out.0 text all (among r.file out.0 all) in
+          let left = run (suc k) w.0 (rest units) in
+          let good : then' units r.file Good ≡ run 0 h.front (one k text left) =
+          is units r.file ∙ (ap (λ (rs : List (List ℕ)). run 0 rs (rest units)) w.1
+          ∙ (run_append run one each 0 k h.front (text ∷ w.0) (rest units) (omega arith) ∙ ap (run 0 h.front) (each.more k text w.0 (rest units)))) in
           let p : Point = record (at old units) { journal = mid.world.told; faults = new.world.faults } in
-          let goes : Goes old.world mid.world (then' units r.file Good) (one text left) =
-          subst (λ (z : Act _). Goes old.world mid.world z (one text left)) (sym good) (h.goes (one text left)) in
-          let begun = get_first (at old units) p old.world mid.world u r.file Good (then' units r.file) (one text left) r.offers tt
+          let goes : Goes old.world mid.world (then' units r.file Good) (one k text left) =
+          subst (λ (z : Act _). Goes old.world mid.world z (one k text left)) (sym good) (h.goes (one k text left)) in
+          let begun = get_first (at old units) p old.world mid.world u r.file (wanted r.file) Good (then' units r.file) (one k text left) r.offers tt
           (counted_none old.world.faults new.world.faults all_later.faults) refl refl goes in
-          let broke : Broke p (at new units) (one text left) =
-          subst (λ (z : Point). Broke p z (one text left)) (sym (at_same old new units same)) (stops left p refl) in
+          let broke : Broke p (at new units) (one k text left) =
+          subst (λ (z : Point). Broke p z (one k text left)) (sym (at_same old new units same)) (stops left p refl) in
           (units, subst (λ (z : Act _). Broke (at old units) (at new units) z) (sym r.tree) (broke_then begun broke));
       later = all_later;
       usable = λ usable. tt;
@@ -318,25 +366,47 @@ read_stops run one old mid new first c d t u then' rest e done each reads h hand
     }
 
 -- the records are never found altered
-pub never_altered : {R : Type 0} (run : List (List ℕ) → Act R → Act R) (old mid : Spot) (first c d : Reading) (t : List Slot → Act R) (u : ℕ)
-    (then' : List Slot → File → Outcome → Act R) → Reads old first t u then' → Handed run old.world mid.world first c → Hands mid.world.told c d (Err Altered)
+pub never_altered : {R : Type 0} (run : ℕ → List (List ℕ) → Act R → Act R) (old mid : Spot) (first c d : Reading) (t : List Slot → Act R) (u : ℕ) (wanted : File → ℕ)
+    (then' : List Slot → File → Outcome → Act R) → Reads old first t u wanted then' → Handed run old.world mid.world first c → Hands mid.world.told c d (Err Altered)
     → (units : List Slot) → holds old units → ⊥
-never_altered run old mid first c d t u then' reads h hands units held =
+never_altered run old mid first c d t u wanted then' reads h hands units held =
     let r = reads.each units held in
     let s = h.left r.journal r.told r.file.records r.left in
     hands_first run old.world mid.world first c d (Err Altered) h hands r.journal r.told s.more s.left
 
--- it failed so, its message was typed, and the command ended
-pub read_failed : (run : List (List ℕ) → Act Course → Act Course) (old mid read' new : Spot) (first c : Reading) (t : List Slot → Act Course) (u vdev : ℕ)
-    (then' : List Slot → File → Outcome → Act Course) (r : Result declared.Course End) → Reads old first t u then' → Handed run old.world mid.world first c
-    → IsRead mid.world read'.world → Rose mid.world.faults read'.world.faults → read'.state ≡ old.state
-    → ((units : List Slot) (f : File) (k : ℕ) → then' units f (ReadFault k) ≡ run (take k f.records) (refusal_tree read'.state (M105 (device_text vdev)) (pos 100) units))
+-- the device failed so, its message was typed, and the command ended
+pub read_failed : (run : ℕ → List (List ℕ) → Act Course → Act Course) (old mid read' new : Spot) (first c : Reading) (t : List Slot → Act Course) (u : ℕ) (wanted : File → ℕ)
+    (vdev : ℕ) (then' : List Slot → File → Outcome → Act Course) (r : Result declared.Course End) → Reads old first t u wanted then'
+    → (h : Handed run old.world mid.world first c) → IsRead mid.world read'.world → Rose mid.world.faults read'.world.faults → read'.state ≡ old.state → AreAmong wanted h.front
+    → ((units : List Slot) (f : File) (k : ℕ) → then' units f (ReadFault k) ≡ run 0 (take k f.records) (refusal_tree read'.state (M105 (device_text vdev)) (pos 100) units))
     → Does read'.world new.world (saying (typed_line (message_text (M105 (device_text vdev))))) r said → IfOk r (λ x. x ≡ course.Went (pos 100)) → new.state ≡ read'.state
     → Acts old new t r (course_of new.state)
-read_failed run old mid read' new first c t u vdev then' r reads h read rose same is does went still =
+read_failed run old mid read' new first c t u wanted vdev then' r reads h read rose same among is does went still =
     acts_after old read' new t (refusal_tree read'.state (M105 (device_text vdev)) (pos 100)) r (course_of new.state)
-    (read_fault run old mid read' first c t u then' (refusal_tree read'.state (M105 (device_text vdev)) (pos 100)) reads h read rose same is)
+    (read_fault run old mid read' first c t u wanted then' (refusal_tree read'.state (M105 (device_text vdev)) (pos 100)) reads h read rose same among is)
     (refused read' new (M105 (device_text vdev)) (pos 100) r does went still)
+
+-- ---- how many records are left
+
+varying_long : (bsize n place : ℕ) (bytes : List ℕ) (rs : List (List ℕ)) → varying bsize n place bytes ≡ Ok rs → length rs ≡ n
+unfolding varying
+varying_long bsize zero place bytes rs e =
+    let r = want_ok (nat_lt (length bytes) bsize) (Left place) (Ok []) rs e in
+    ap length (sym (ok_same [] rs r.1))
+varying_long bsize (suc n) place bytes rs e =
+    let len = half bytes 0 in
+    let p1 = want_ok (nat_le 2 (length bytes)) (PastEnd place) _ rs e in
+    let p2 = want_ok (nat_le 1 len) (Zero place) _ rs p1.1 in
+    let p3 = want_ok (nat_le (2 + len) (length bytes)) (PastEnd place) _ rs p2.1 in
+    bind_then (varying bsize n (place + (2 + len)) (drop (2 + len) bytes)) _ rs p3.1 (λ more is_more done.
+    ap length (sym (ok_same (take len (drop 2 bytes) ∷ more) rs done)) ∙ ap suc (varying_long bsize n (place + (2 + len)) (drop (2 + len) bytes) more is_more))
+
+hold_long : (bsize : ℕ) (fixed : Option ℕ) (most left place : ℕ) (bytes : List ℕ) (rs : List (List ℕ)) → HoldLeft bsize fixed most left place bytes rs → length rs ≡ left
+hold_long bsize (Some size) most left place bytes rs h = ap length h.0 ∙ length_cut left size bytes
+hold_long bsize None most left place bytes rs h = varying_long bsize left place bytes rs h.0
+
+pub left_long : (image : Image) (c : Reading) (rs : List (List ℕ)) → HasLeft image c rs → length rs ≡ c.left
+left_long image c rs h = hold_long c.bsize c.begun.fixed c.begun.longest c.left _ (unread image c) rs h.held
 
 -- ---- a file of the disk of a letter
 
@@ -349,25 +419,26 @@ named_so name (g ∷ fs) f is = elim (cases_Bool (same_name name g.name)) [
   | inr other ↦ named_so name fs f (rw other at is)
 ]
 
--- a tree that reads the file of a name on the disk s of letter n, whichever its minidisk is
-pub reads_seat : {R : Type 0} (old : Spot) (n : ℕ) (s : Seated) (name : Name) (first : Reading) (t : List Slot → Act R) (then' : List Slot → File → Outcome → Act R)
-    → item_at old.state.table.seats n ≡ Some s → OpensIn s.disk name first → first.unit ≡ s.disk.volume.unit
+-- a tree that reads some records of the file of a name on the disk s of letter n, whichever its minidisk is
+pub reads_seat : {R : Type 0} (old : Spot) (n : ℕ) (s : Seated) (name : Name) (first : Reading) (t : List Slot → Act R) (wanted : File → ℕ) (then' : List Slot → File → Outcome → Act R)
+    → item_at old.state.table.seats n ≡ Some s → OpensIn s.disk name first → first.unit ≡ s.disk.volume.unit → ((f : File) → wanted f ≤ length f.records)
     → ((units : List Slot) (m : Minidisk) (f : File) → slice_get units s.letter.unit ≡ Some (Settled (Volume m)) → file_named name m.files ≡ Some f
-    → t units ≡ acts.Does (Get s.letter.unit f (length f.records)) (then' units f)) → Reads old first t s.letter.unit then'
-reads_seat old n s name first t then' there opens unit tree = record {
+    → length f.records ≡ first.left → t units ≡ acts.Does (Get s.letter.unit f (wanted f)) (then' units f)) → Reads old first t s.letter.unit wanted then'
+reads_seat old n s name first t wanted then' there opens unit enough tree = record {
   each = λ units h.
       let k = meets_at old units n s there h in
       let m = k.met.minidisk in
-      let o = opens (now k.journal s.disk.volume.unit) m k.met.is.stands in
+      let image = now k.journal s.disk.volume.unit in
+      let o = opens image m k.met.is.stands in
       record {
         file = o.0;
         offers = record {
           minidisk = m;
           settled = k.met.slot;
           file = subst (λ (x : Name). file_named x m.files ≡ Some o.0) (sym (named_so name m.files o.0 o.1)) o.1;
-          enough = omega arith;
+          enough = enough o.0;
         };
-        tree = tree units m o.0 k.met.slot o.1;
+        tree = tree units m o.0 k.met.slot o.1 (left_long image first o.0.records o.2);
         journal = k.journal;
         told = k.told;
         left = subst (λ (u : ℕ). HasLeft (image_of (contents_of k.journal u)) first o.0.records) (sym unit) o.2;

@@ -18,6 +18,8 @@ pub mod Letters
 pub mod Staying
 pub mod Lined
 pub mod Stepped
+pub mod Came
 pub mod Seating
 pub mod Sure
 pub mod Accesses
+pub mod Updating

@@ -1,5 +1,6 @@
 -- Lines that are typed.
 use Rattle.std.proofs.Common.{◌≡◌, ◌≤◌, ℕ, List, [], Result, Ok, Err, IfErr, OnOk, OnErr, append-nil, refl, sym, ap, ◌∙◌, arith}
+use Rattle.std.specs.List.{AllByRecursion}
 use Rattle.cms_journal.specs.declared.event.Event.{Event}
 use Rattle.cms_journal.specs.declared.event.Event.TheVariants.{Read, Now, Typed, Wrote, Synced, Missed}
 use Rattle.cms_journal.specs.Told.{Told, plus, TouchesNone, NoDisk, typed}
@@ -16,16 +17,21 @@ use Rattle.cms_search.specs.declared.state.Course.{Course}
 use Rattle.cms_search.specs.Calls.{Does, after_world, itself, said}
 use Rattle.cms_world.specs.Seen.{Seen}
 
-typed_touches_none : (e : Event) → IsTyped e → TouchesNone e
-typed_touches_none (Typed b) is = tt
-typed_touches_none (Read b) is = absurd is
-typed_touches_none (Now m) is = absurd is
-typed_touches_none (Missed name size access) is = absurd is
-typed_touches_none (Wrote u k v) is = absurd is
-typed_touches_none (Synced u) is = absurd is
+-- events of a kind that is neither a write nor a sync touch no unit
+pub aside : (P : Event → Type 0) → ((u k : ℕ) (v : List ℕ) → P (Wrote u k v) → ⊥) → ((u : ℕ) → P (Synced u) → ⊥) → (es : List Event) → AllByRecursion P es → NoDisk es
+aside P wrote synced es only =
+    all_weaker P TouchesNone touches es only
+  where
+    touches : (e : Event) → P e → TouchesNone e
+    touches (Typed b) is = tt
+    touches (Read b) is = tt
+    touches (Now m) is = tt
+    touches (Missed name size access) is = tt
+    touches (Wrote u k v) is = wrote u k v is
+    touches (Synced u) is = synced u is
 
 pub typed_no_disk : (es : List Event) → OnlyTyped es → NoDisk es
-typed_no_disk es only = all_weaker IsTyped TouchesNone typed_touches_none es only
+typed_no_disk es only = aside IsTyped (λ u k v is. is) (λ u is. is) es only
 
 -- all of a line was typed, or a front of it
 pub said_line : (before now : Seen) (text : List ℕ) (r : Result (Unit {0}) End) → OnOk r (TypedTo before.told now.told (typed_line text) [])

@@ -10,8 +10,12 @@ use Rattle.cms_line.specs.Messages.{message_text}
 use Rattle.cms_line.specs.declared.message.Message.{Message}
 use Rattle.cms_search.specs.Calls.{Acts, Does, IsLater, IsUsable, Meaning, Spot, Usable, Holds, at, course_of, holds, machine_of, refusal_tree, said}
 use Rattle.cms_line.specs.declared.token.Token.{Token}
+use Rattle.cms_operands.specs.Choices.{AnswersLine}
 use Rattle.cms_operands.specs.Refusals.{code_of, message_of}
+use Rattle.cms_operands.specs.declared.choosing.CommandFault.{CommandFault}
+use Rattle.cms_operands.specs.declared.choosing.CommandFault.TheVariants as line
 use Rattle.cms_operands.specs.declared.refusal.Refusal.{Refusal}
+use Rattle.cms_search.specs.LineRefused.{RefusesLine}
 use Rattle.cms_search.specs.Machine.{Course, Machine}
 use Rattle.cms_search.specs.Refusing.{on_line}
 use Rattle.cms_search.specs.Tables.{Accesses, released}
@@ -19,6 +23,7 @@ use Rattle.cms_search.specs.declared.state.Course as declared
 use Rattle.cms_search.specs.declared.state.Course.TheVariants as course
 use Rattle.cms_search.specs.declared.state.End.{End}
 use Rattle.cms_search.specs.declared.state.End.TheVariants.{Memory}
+use Rattle.cms_search.specs.declared.state.State.{State}
 use Rattle.cms_world.specs.Seen.{Seen}
 use Rattle.cms_search.proofs.Acts.{acts_same, comes_none, later_none, no_memory, refused}
 use Rattle.cms_search.proofs.Released.{holds_left, usable_left}
@@ -80,3 +85,16 @@ acts_line_refused old new words next read why r is does went same =
 -- there was no memory, and nothing was done
 pub acts_starved : {R T : Type 0} (old : Spot) (t : List Slot → Act R) (d : Meaning T R) → Acts {T = T} old old t (Err Memory) d
 acts_starved old t d = no_memory old old t t d (comes_none old t)
+
+-- it isn't taken
+pub acts_line_fault : {A : Type 0} (old new : Spot) (words : List Token) (next : Machine → A → Act Course) (read : List Slot → Result A Refusal) (fault : CommandFault)
+    (r : Result declared.Course End) → ((units : List Slot) → AnswersLine (read units) (Err fault)) → RefusesLine old.world new.world words fault r → new.state ≡ old.state
+    → Acts old new (λ units. on_line (machine_of old.state units) words (next (machine_of old.state units)) (read units)) r (course_of new.state)
+acts_line_fault old new words next read (line.Refused why) r is done same = acts_line_refused old new words next read why r is done.0 done.1 same
+acts_line_fault old new words next read line.Memory r is done same =
+    let t : List Slot → Act Course = λ units. on_line (machine_of old.state units) words (next (machine_of old.state units)) (read units) in
+    let starved = done.0 in
+    rw starved
+    (subst (λ (w : Seen). Acts {T = declared.Course} old (record { world = w; state = new.state }) t (Err Memory) (course_of new.state)) (sym done.1)
+    (subst (λ (s : State). Acts {T = declared.Course} old (record { world = old.world; state = s }) t (Err Memory) (course_of s)) (sym same)
+    (acts_starved old t (course_of old.state))))

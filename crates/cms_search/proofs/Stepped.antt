@@ -81,7 +81,7 @@ may_change told t n s unit change at has there usable = record {
       subst (IsWritable j.units) (sym on.number) (((usable j is).units s.letter.unit unit has).writable (sym on.writable ∙ may));
 }
 
-usable_with : (j : Journal) (t : Accesses) (n : ℕ) (s : Seated) (e : Accessed) → item_at t.seats n ≡ Some s → IsOnSame s.disk e → IsUsableTable j t → IsUsableTable j (table_with t n s e)
+pub usable_with : (j : Journal) (t : Accesses) (n : ℕ) (s : Seated) (e : Accessed) → item_at t.seats n ≡ Some s → IsOnSame s.disk e → IsUsableTable j t → IsUsableTable j (table_with t n s e)
 usable_with j t n s e at same u = record {
   units = u.units;
   seats = λ a x unit is has. ⊎_elim
@@ -97,7 +97,7 @@ usable_doubted : (j : Journal) (t : Accesses) (n u : ℕ) → IsUsableTable j t 
 usable_doubted j t n u usable = record { units = usable.units; seats = λ a x unit is has. usable.seats a x unit (stays t n a x is).1 has }
 
 -- the journal has grown, and no count has fallen
-later_changes : {T E : Type 0} {P : E → Type 0} {r : Result T E} (before now : Seen) → ChangesUnits before now P r → IsLater before now
+pub later_changes : {T E : Type 0} {P : E → Type 0} {r : Result T E} (before now : Seen) → ChangesUnits before now P r → IsLater before now
 later_changes before now c = let edges = c.edges in record { grown = c.grown; faults = c.faults; edges = omega (arith, edges) }
 
 -- ---- what was asked for
@@ -141,25 +141,25 @@ seat_is old mid n s change r a =
 pub state_is : (old mid : Spot) (n : ℕ) (s : Seated) (change : Change) (r : Result ⊤ DiskFault) → (a : Asked old mid n s change r) → mid.state ≡ state_then old n s a.seat.disk
 state_is old mid n s change r a = a.state ∙ ap (λ (t : Accesses). record old.state { table = t }) (table_is old mid n s change r a)
 
-usable_then : (old mid : Spot) (n : ℕ) (s : Seated) (change : Change) (r : Result ⊤ DiskFault) → Asked old mid n s change r → IsUsable old → IsUsable mid
+pub usable_then : (old mid : Spot) (n : ℕ) (s : Seated) (change : Change) (r : Result ⊤ DiskFault) → Asked old mid n s change r → IsUsable old → IsUsable mid
 usable_then old mid n s change r a usable =
     let grown = usable_grown old.world.told mid.world.told old.state.table a.seat.does.changes.units.grown usable in
     subst (λ (t : Accesses). Usable mid.world.told t) (sym (table_is old mid n s change r a))
     (λ j is. usable_with j old.state.table n s a.seat.disk a.there a.seat.does.changes.same (grown j is))
 
 -- the machine is on the same units, with the same letters
-machine_is : (old mid : Spot) (n : ℕ) (s : Seated) (change : Change) (r : Result ⊤ DiskFault) (units : List Slot) → Asked old mid n s change r
+pub machine_is : (old mid : Spot) (n : ℕ) (s : Seated) (change : Change) (r : Result ⊤ DiskFault) (units : List Slot) → Asked old mid n s change r
     → machine_of old.state units ≡ machine_of mid.state units
 machine_is old mid n s change r units a =
     sym (ap (λ (l : List (Option Letter)). record (machine_of old.state units) { letters = l }) (letters_with old.state.table.seats n s a.seat.disk a.there))
     ∙ ap (λ (st : State). machine_of st units) (sym (state_is old mid n s change r a))
 
-console_is : (old mid : Spot) (n : ℕ) (s : Seated) (change : Change) (r : Result ⊤ DiskFault) → Asked old mid n s change r → mid.state.console ≡ old.state.console
+pub console_is : (old mid : Spot) (n : ℕ) (s : Seated) (change : Change) (r : Result ⊤ DiskFault) → Asked old mid n s change r → mid.state.console ≡ old.state.console
 console_is old mid n s change r a = ap (λ (st : State). st.console) a.state
 
 -- ---- the tree
 
-tree_is : (st : State) (n : ℕ) (s : Seated) (change : Change) (units : List Slot) (m : Minidisk) → item_at st.table.seats n ≡ Some s
+pub tree_is : (st : State) (n : ℕ) (s : Seated) (change : Change) (units : List Slot) (m : Minidisk) → item_at st.table.seats n ≡ Some s
     → slice_get units s.letter.unit ≡ Some (Settled (Volume m)) → changing_tree st n change units ≡ changing_in (machine_of st units) n s.letter change m
 tree_is st n s change units m there slot = let letter = letter_is st.table n s there in rw (letter, slot) refl
 
@@ -167,12 +167,12 @@ abbrev step_of : State → Seated → Change → Minidisk → Step
 step_of st s change m = Put s.letter.unit m change (stamp_of st.moment)
 
 -- what follows the step
-abbrev then_of : State → ℕ → Seated → Change → Minidisk → List Slot → Outcome → Act Changing
+abbrev pub then_of : State → ℕ → Seated → Change → Minidisk → List Slot → Outcome → Act Changing
 then_of st n s change m units o =
     bind (behind (after_step (machine_of st units) (step_of st s change m) o) n (vdev_of (machine_of st units) s.letter.unit) o) (λ x. answered x (answer_of m change))
 
 -- the device of the disk
-device_is : (st : State) (s : Seated) (units : List Slot) (vdev : ℕ) → option_map (λ (unit : UnitInfo). unit.vdev) (slice_get st.table.units s.letter.unit) ≡ Some vdev
+pub device_is : (st : State) (s : Seated) (units : List Slot) (vdev : ℕ) → option_map (λ (unit : UnitInfo). unit.vdev) (slice_get st.table.units s.letter.unit) ≡ Some vdev
     → vdev_of (machine_of st units) s.letter.unit ≡ vdev
 device_is st s units vdev is = go (slice_get st.table.units s.letter.unit) (slice_get-map device_of st.table.units s.letter.unit) is
   where
@@ -182,7 +182,7 @@ device_is st s units vdev is = go (slice_get st.table.units s.letter.unit) (slic
     go (Some unit) there is = rw there (some_same unit.vdev vdev is)
 
 -- its step was done
-ran_to : (old mid : Spot) (n : ℕ) (s : Seated) (change : Change) (units : List Slot) (t' : Accesses) (o : Outcome) → item_at old.state.table.seats n ≡ Some s → (k : MetAt old units s)
+pub ran_to : (old mid : Spot) (n : ℕ) (s : Seated) (change : Change) (units : List Slot) (t' : Accesses) (o : Outcome) → item_at old.state.table.seats n ≡ Some s → (k : MetAt old units s)
     → Steps old.world.told mid.world.told k.journal units old.state.table t' s k.met change (stamp_of old.state.moment) o → Counted old.world.faults (faults_in (o ∷ [])) mid.world.faults
     → mid.state.console ≡ old.state.console
     → Ran (at old units) (at mid (changed_units units s.letter.unit k.met.minidisk change (stamp_of old.state.moment) o)) (changing_tree old.state n change units)
@@ -320,7 +320,7 @@ change_cut old mid n s change why a same = record {
 abbrev pub failed_tree : State → ℕ → List Slot → Act Changing
 failed_tree st vdev units = Out (typed_line (message_text (M105 (device_text vdev)))) (Done (HasFailed (Went (machine_of st units) (pos 100))))
 
-abbrev failed_at : Machine → ℕ → Act Changing
+abbrev pub failed_at : Machine → ℕ → Act Changing
 failed_at z vdev = Out (typed_line (message_text (M105 (device_text vdev)))) (Done (HasFailed (Went z (pos 100))))
 
 -- before the label was written

@@ -2,10 +2,9 @@
 use Rattle.std.proofs.Common.{◌≡◌, ◌≤◌, ◌⊎◌, ⊎_elim, ℕ, ℤ, suc, List, [], ◌∷◌, Option, Some, None, Result, Ok, Err, arith, refl, sym, ap, ◌∙◌, subst}
 use Rattle.cms_journal.specs.Causes.{Rose}
 use Rattle.cms_journal.specs.Journal.{adds}
-use Rattle.cms_journal.specs.Told.{Told, Idle, TouchesNone, NoDisk}
+use Rattle.cms_journal.specs.Told.{Told, Idle, NoDisk}
 use Rattle.cms_journal.specs.declared.event.Event.{Event}
-use Rattle.cms_journal.specs.declared.event.Event.TheVariants.{Read, Now, Typed, Wrote, Synced, Missed}
-use Rattle.cms_journal.proofs.Events.{all_weaker}
+use Rattle.cms_journal.specs.declared.event.Event.TheVariants.{Now}
 use Rattle.cms_journal.proofs.Pieces.{idle_same, idle_then}
 use Rattle.cms_machine.specs.Acts.{Act, Done, bind, taking, turning}
 use Rattle.cms_machine.specs.Beats.{IsRead, OnlyRead}
@@ -32,6 +31,7 @@ use Rattle.cms_search.specs.declared.asking.NoLine.TheVariants as no
 use Rattle.cms_search.specs.declared.state.End.{End}
 use Rattle.cms_search.specs.declared.state.End.TheVariants.{Edge}
 use Rattle.cms_search.proofs.Acts.{rose_from}
+use Rattle.cms_search.proofs.Says.{aside}
 
 -- ---- how calls join
 
@@ -87,16 +87,8 @@ of_does before now c t r d a = record {
 
 -- ---- the console and the clock
 
-read_touches_none : (e : Event) → IsRead e → TouchesNone e
-read_touches_none (Read b) is = tt
-read_touches_none (Typed b) is = absurd is
-read_touches_none (Now m) is = absurd is
-read_touches_none (Missed name size access) is = absurd is
-read_touches_none (Wrote u k v) is = absurd is
-read_touches_none (Synced u) is = absurd is
-
 read_no_disk : (es : List Event) → OnlyRead es → NoDisk es
-read_no_disk es only = all_weaker IsRead TouchesNone read_touches_none es only
+read_no_disk es only = aside IsRead (λ u k v is. is) (λ u is. is) es only
 
 pub took : (before now : Seen) (was is : ConsoleState) (l : ConsoleLine) → Took before.told now.told was is l → now.faults ≡ before.faults → before.edges ≤ now.edges
     → Talks before now was is taking (Ok l) item_of

@@ -1,5 +1,5 @@
 -- The volume of a device is accessed as a letter.
-use Rattle.std.specs.Prelude.{ℕ, false, List, Option, Some, None, Result, Ok, Err, slice_get}
+use Rattle.std.specs.Prelude.{⊤, ℕ, false, List, Option, Some, None, Result, Ok, Err, slice_get}
 use Rattle.std.specs.Option.{option_map_or}
 use Rattle.cms_model.specs.Minidisks as model
 use Rattle.cms_model.specs.Minidisks.{Volume, Not}
@@ -68,14 +68,18 @@ abbrev pub no_volume : OpenFault → AccessEnd
 no_volume fails.Device = ends.Failed
 no_volume fault = ends.NoVolume (reason fault)
 
+-- an access writes to no letter and finds no file, so it isn't refused for one
+abbrev pub IsOfAccess : SearchFault → Type 0
+IsOfAccess (why.ReadOnly n) = ⊥
+IsOfAccess why.NotFound = ⊥
+IsOfAccess fault = ⊤
+
 -- what the table's refusal means
 abbrev pub refused_as : SearchFault → Result AccessEnd End
 refused_as (why.NoUnit vdev) = Ok ends.NoUnit
 refused_as (why.NotAccessed parent) = Ok (ends.NoParent parent)
 refused_as (why.Volume fault) = Ok (no_volume fault)
-refused_as (why.ReadOnly n) = Err Memory
-refused_as why.NotFound = Err Memory
-refused_as why.Memory = Err Memory
+refused_as fault = Err Memory
 
 -- the reading places on the disk of a device are forgotten, and those on the one whose letter it takes
 abbrev pub forgetting : Option Seat → ℕ → Places → Places

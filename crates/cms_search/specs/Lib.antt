@@ -14,6 +14,8 @@ pub mod Stepping
 pub mod Seats
 pub mod Formatting
 pub mod ChangeTold
+pub mod LineRefused
 pub mod Talks
 pub mod Leaving
 pub mod Accessing
+pub mod Putting

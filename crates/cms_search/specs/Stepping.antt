@@ -1,5 +1,5 @@
 -- Device steps as commands do them: one that fails at the device types its message, and the command ends.
-use Rattle.std.specs.Prelude.{ℕ, List, length, take, Option, Some, None, slice_get}
+use Rattle.std.specs.Prelude.{ℕ, List, take, Option, Some, None, slice_get}
 use Rattle.cms_fields.specs.Moments.{stamp_of}
 use Rattle.cms_model.specs.Minidisks.{File, Minidisk}
 use Rattle.cms_model.specs.Changes.{Change, Answer, Limited, Full, Changed, answer_of}
@@ -76,17 +76,17 @@ changing s n change = changing_on s n change (letter_at s n)
 
 -- ---- a file that is read
 
--- it is done with each record as it is handed out; behind all of them one thing follows, behind a fault of the device another
-abbrev pub handed : {R : Type 0} → (List (List ℕ) → Act R → Act R) → File → Act R → Act R → Outcome → Act R
-handed run f next failed Good = run f.records next
-handed run f next failed (ReadFault k) = run (take k f.records) failed
-handed run f next failed SyncFault = failed
-handed run f next failed OldFault = failed
-handed run f next failed (EitherFault side) = failed
+-- it is done with each record as it is handed out; behind those that are wanted one thing follows, behind a fault of the device another
+abbrev pub handed : {R : Type 0} → (List (List ℕ) → Act R → Act R) → File → ℕ → Act R → Act R → Outcome → Act R
+handed run f wanted next failed Good = run (take wanted f.records) next
+handed run f wanted next failed (ReadFault k) = run (take k f.records) failed
+handed run f wanted next failed SyncFault = failed
+handed run f wanted next failed OldFault = failed
+handed run f wanted next failed (EitherFault side) = failed
 
--- all records of a file of unit u are read
-abbrev pub reading : {R : Type 0} → (List (List ℕ) → Act R → Act R) → ℕ → File → Act R → Act R → Act R
-reading run u f next failed = Does (Get u f (length f.records)) (handed run f next failed)
+-- so many records of a file of unit u are read, from the first on
+abbrev pub reading : {R : Type 0} → (List (List ℕ) → Act R → Act R) → ℕ → File → ℕ → Act R → Act R → Act R
+reading run u f wanted next failed = Does (Get u f wanted) (handed run f wanted next failed)
 
 -- ---- the call
 

@@ -1,7 +1,7 @@
 // A volume is accessed.
 ghost use Rattle.std.specs.Prelude.{◌≡◌, ◌<◌};
 ghost use Rattle.cms_model.specs.Volumes.{reason};
-ghost use Rattle.cms_search.specs.Accessing.{accessing_tree, forgetting, no_volume, refused_as};
+ghost use Rattle.cms_search.specs.Accessing.{IsOfAccess, accessing_tree, forgetting, no_volume, refused_as};
 ghost use Rattle.cms_search.specs.Calls.{Acts, IsUsable, beside, itself, spot};
 ghost use Rattle.cms_search.specs.Searches.{has, item_at};
 ghost use Rattle.cms_search.specs.Tables.{IsTable};
@@ -61,18 +61,17 @@ fn no_volume(fault: OpenFault) -> AccessEnd
     }
 }
 
-// What an access comes to that the table refuses.
+// What an access comes to that the table refuses. It writes to no letter and finds no file.
 fn refused(fault: SearchFault) -> Result<AccessEnd, End>
+    requires { IsOfAccess fault }
     ensures { result ≡ refused_as fault }
 {
     match fault {
         SearchFault::NoUnit(_) => Ok(AccessEnd::NoUnit),
         SearchFault::NotAccessed(parent) => Ok(AccessEnd::NoParent(parent)),
         SearchFault::Volume(fault) => Ok(no_volume(fault)),
-        // an access writes to no letter and finds no file, so this is want of memory
-        SearchFault::ReadOnly(_) => Err(End::Memory),
-        SearchFault::NotFound => Err(End::Memory),
         SearchFault::Memory => Err(End::Memory),
+        SearchFault::ReadOnly(_) | SearchFault::NotFound => unreachable!(),
     }
 }
 

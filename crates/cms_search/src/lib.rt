@@ -11,6 +11,7 @@ mod leaving;
 mod order;
 mod place_key;
 mod places;
+mod putting;
 mod refusing;
 mod saying;
 mod search;
@@ -22,15 +23,19 @@ mod telling;
 
 pub use accessing::AccessEnd;
 pub use asking::{Asked, ask, clock};
-pub use change_told::tell_change;
+pub use change_told::{LIMITED, refuse_full, refuse_limit, tell_change};
 pub use fault::SearchFault;
 pub use places::Places;
-pub use refusing::{NO_DISK, refuse_line, refuse_no_device, refuse_not_accessed, refuse_read_only};
+pub use putting::{FileWrite, update_file};
+pub use refusing::{
+    NO_DISK, refuse_command, refuse_line, refuse_no_device, refuse_not_accessed, refuse_read_only,
+};
 pub use saying::{refuse, say, say_message, say_ready};
 pub use search::{Found, FoundList};
 pub use state::{Course, Device, End, State};
-pub use stepping::{Changed, change_disk, refuse_device};
+pub use stepping::{Changed, change_disk, refuse_altered, refuse_device};
 pub use table::{LETTERS, Seat, Table, UnitList};
 pub use telling::{
-    add_left, add_right, device_text, device_word, first_column, letter_text, letter_word,
+    add_left, add_right, device_text, device_word, first_column, hexadecimal_digit, letter_text,
+    letter_word,
 };

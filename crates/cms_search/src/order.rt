@@ -1,6 +1,7 @@
 // The letters of a search.
-ghost use Rattle.std.specs.Prelude.{◌≡◌, ◌∷◌, [], ◌++◌, ◌+◌, ◌<◌, length};
+ghost use Rattle.std.specs.Prelude.{◌≡◌, ◌∷◌, [], ◌++◌, ◌<◌, length};
 
+use arrayvec::ArrayVec;
 use std::marker::Model;
 
 // All letters, and one that is searched before them.
@@ -9,18 +10,15 @@ const MOST: usize = 27;
 /// The letters of a search, in its order.
 #[derive(Drop)]
 pub struct SearchOrder {
-    letters: [u8; MOST],
-    count: usize,
+    letters: ArrayVec<u8, MOST>,
 }
 
 impl Model for SearchOrder {
-    ghost use Rattle.std.specs.Prelude.{List, ℕ, ◌≤◌, take};
+    ghost use Rattle.std.specs.Prelude.{List, ℕ};
 
     ghost Value = { List ℕ };
 
-    ghost view = { λ o. take o.count o.letters };
-
-    ghost invariant = { λ o. o.count ≤ 27 };
+    ghost view = { λ o. o.letters.items };
 }
 
 impl SearchOrder {
@@ -29,8 +27,7 @@ impl SearchOrder {
         ensures { result ≡ [] }
     {
         SearchOrder {
-            letters: [0; MOST],
-            count: 0,
+            letters: ArrayVec::new(),
         }
     }
 
@@ -48,14 +45,13 @@ impl SearchOrder {
         requires { length self.old < 27 }
         ensures { self.new ≡ self.old ++ letter ∷ [] }
     {
-        self.letters[self.count] = letter;
-        self.count += 1;
+        self.letters.push(letter);
     }
 
     /// The letters.
     pub fn as_slice(&self) -> &[u8]
         ensures { result.now ≡ self.now }
     {
-        &self.letters[..self.count]
+        self.letters.as_slice()
     }
 }

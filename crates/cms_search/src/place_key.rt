@@ -1,5 +1,5 @@
 // The key of a file among reading places.
-ghost use Rattle.std.specs.Prelude.{◌≡◌, ◌∷◌, [], ◌++◌, ◌+◌, ◌<◌, ◌≤◌, Some, length, nat_eq};
+ghost use Rattle.std.specs.Prelude.{◌≡◌, ◌++◌, ◌+◌, ◌≤◌, Some, length, nat_eq};
 ghost use Rattle.std.specs.Ordering.{nat_cmp};
 ghost use Rattle.std.specs.Cmp.{partial_equiv_from_equiv, partial_order_from_agreeing_total, unsigned_ties};
 ghost use Rattle.std.specs.Cmp.Lexicographic.{pointwise, slice_cmp, nat_list_cmp_total, nat_list_eq_equiv, lists_ties};
@@ -7,6 +7,7 @@ ghost use Rattle.cms_search.specs.Machine.{place_key};
 ghost use Rattle.cms_search.specs.Reading.{is_of_device};
 ghost use Rattle.std.proofs.Common.{refl};
 
+use arrayvec::ArrayVec;
 use cms_names::Name;
 use std::cmp::Ordering;
 use std::marker::Model;
@@ -17,18 +18,25 @@ const KEY_CODES: usize = 18;
 /// The codes of a device, a file's name, a zero, and the file's type.
 #[derive(Drop)]
 pub struct PlaceKey {
-    codes: [u16; KEY_CODES],
-    count: usize,
+    codes: ArrayVec<u16, KEY_CODES>,
 }
 
 impl Model for PlaceKey {
-    ghost use Rattle.std.specs.Prelude.{List, ℕ, ◌≤◌, take};
+    ghost use Rattle.std.specs.Prelude.{List, ℕ};
 
     ghost Value = { List ℕ };
 
-    ghost view = { λ k. take k.count k.codes };
+    ghost view = { λ k. k.codes.items };
+}
 
-    ghost invariant = { λ k. k.count ≤ 18 };
+// Adds characters last.
+fn append(codes: &mut ArrayVec<u16, KEY_CODES>, text: &[u8])
+    requires { length codes.old.items + length text.now ≤ 18 }
+    ensures { codes.new.items ≡ codes.old.items ++ text.now }
+{
+    for character in text {
+        codes.push(u16::from(*character));
+    }
 }
 
 impl PlaceKey {
@@ -36,41 +44,19 @@ impl PlaceKey {
     pub fn of(vdev: u16, name: &Name) -> PlaceKey
         ensures { result ≡ place_key vdev name.now }
     {
-        let mut key = PlaceKey {
-            codes: [0; KEY_CODES],
-            count: 0,
-        };
-        key.push(vdev);
-        key.append(name.file.as_bytes());
-        key.push(0);
-        key.append(name.kind.as_bytes());
-        key
-    }
-
-    // Adds a code last.
-    fn push(&mut self, code: u16)
-        requires { length self.old < 18 }
-        ensures { self.new ≡ self.old ++ code ∷ [] }
-    {
-        self.codes[self.count] = code;
-        self.count += 1;
-    }
-
-    // Adds codes last.
-    fn append(&mut self, codes: &[u8])
-        requires { length self.old + length codes.now ≤ 18 }
-        ensures { self.new ≡ self.old ++ codes.now }
-    {
-        for code in codes {
-            self.push(u16::from(*code));
-        }
+        let mut codes = ArrayVec::new();
+        codes.push(vdev);
+        append(&mut codes, name.file.as_bytes());
+        codes.push(0);
+        append(&mut codes, name.kind.as_bytes());
+        PlaceKey { codes }
     }
 
     // The codes.
     fn as_slice(&self) -> &[u16]
         ensures { result.now ≡ self.now }
     {
-        &self.codes[..self.count]
+        self.codes.as_slice()
     }
 
     /// The device.

@@ -5,6 +5,7 @@ ghost use Rattle.cms_line.specs.Messages.{message_text};
 ghost use Rattle.cms_line.specs.declared.message.Message.TheVariants.{M037, M069, M113};
 ghost use Rattle.cms_operands.specs.Refusals.{code_of, message_of};
 ghost use Rattle.cms_search.specs.Calls.{Does, said};
+ghost use Rattle.cms_search.specs.LineRefused.{RefusesLine};
 ghost use Rattle.cms_search.specs.Refusing.{no_disk};
 ghost use Rattle.cms_search.specs.Telling.{device_text, letter_text};
 ghost use Rattle.cms_world.specs.Seen.{seen};
@@ -13,8 +14,8 @@ ghost use Rattle.cms_search.specs.declared.state.Course.TheVariants.{Went};
 use crate::saying::refuse;
 use crate::state::{Course, End};
 use crate::telling::{device_word, letter_word};
-use cms_line::{Message, Token};
-use cms_operands::Refusal;
+use cms_line::{Message, Token, Tokens};
+use cms_operands::{CommandFault, Refusal};
 use cms_world::World;
 use std::alloc::Global;
 
@@ -34,6 +35,21 @@ pub fn refuse_line<W: World>(
 {
     let message = why.message(alloc, words)?;
     refuse(alloc, world, message, why.code())
+}
+
+/// Types why a command's line isn't taken, and gives the code; there is no memory where there was none to read it.
+pub fn refuse_command<W: World>(
+    alloc: Global,
+    world: &mut W,
+    words: &Tokens,
+    fault: CommandFault,
+) -> Result<Course, End>
+    ensures { RefusesLine (seen W.World world.old) (seen W.World world.new) words.now fault result }
+{
+    match fault {
+        CommandFault::Refused(why) => refuse_line(alloc, world, words.as_slice(), why),
+        CommandFault::Memory => Err(End::Memory),
+    }
 }
 
 /// Types that no unit has the device, and gives the code.

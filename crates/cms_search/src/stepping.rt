@@ -5,7 +5,7 @@ ghost use Rattle.cms_fields.specs.Moments.{is_moment};
 ghost use Rattle.cms_machine.specs.Acts.{saying, typed_line};
 ghost use Rattle.cms_world.specs.Seen.{seen};
 ghost use Rattle.cms_line.specs.Messages.{message_text};
-ghost use Rattle.cms_line.specs.declared.message.Message.TheVariants.{M105};
+ghost use Rattle.cms_line.specs.declared.message.Message.TheVariants.{M105, M106};
 ghost use Rattle.cms_edf.specs.Planning.{CanChange, change_of};
 ghost use Rattle.cms_search.specs.Calls.{Acts, Does, IsUsable, said, spot};
 ghost use Rattle.cms_search.specs.Searches.{item_at};
@@ -24,8 +24,10 @@ use cms_line::Message;
 use cms_world::World;
 use std::alloc::Global;
 
-// The return code of a device's fault.
+// The return code of a device's fault, and that of a file whose bytes aren't its records any more.
 const FAULT: i32 = 100;
+
+const ALTERED: i32 = 104;
 
 /// What a change of an accessed disk comes to.
 #[derive(Clone, Copy, Debug, PartialEq, Eq)]
@@ -48,6 +50,17 @@ pub fn refuse_device<W: World>(alloc: Global, world: &mut W, vdev: u16) -> Resul
 {
     let device = device_word(alloc, vdev)?;
     refuse(alloc, world, Message::M105(device), FAULT)
+}
+
+/// Types that the bytes of a file on a device aren't its records any more, which is never in a world that tells its journal, and gives the
+/// code.
+pub fn refuse_altered<W: World>(alloc: Global, world: &mut W, vdev: u16) -> Result<Course, End>
+    ensures does { Does (seen W.World world.old) (seen W.World world.new)
+        (saying (typed_line (message_text (M106 (device_text vdev))))) result said }
+    ensures went { IfOk result (λ course. course ≡ Went (pos 104)) }
+{
+    let device = device_word(alloc, vdev)?;
+    refuse(alloc, world, Message::M106(device), ALTERED)
 }
 
 /// Changes the disk of an accessed letter that may be written; the file that is changed is there, and its new name is no other file's.

@@ -48,7 +48,7 @@ pub struct Seat {
 pub struct Table {
     units: UnitList,
     doubts: Vec<bool>,
-    seats: Vec<Option<Seated>>,
+    pub(crate) seats: Vec<Option<Seated>>,
 }
 
 impl Model for Table {
@@ -170,8 +170,9 @@ impl Table {
 
     /// The device of a letter's disk; 0 where the letter isn't accessed.
     pub fn vdev(&self, letter: u8) -> u16
-        ensures { IfSome (item_at self.now.seats letter) (λ s.
+        ensures accessed { IfSome (item_at self.now.seats letter) (λ s.
             option_map (λ unit. unit.vdev) (slice_get self.now.units s.letter.unit) ≡ Some result) }
+        ensures none { item_at self.now.seats letter ≡ None → result ≡ 0 }
     {
         match self.seat(letter) {
             Some(seat) => seat.vdev,

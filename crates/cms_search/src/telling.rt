@@ -21,8 +21,8 @@ pub fn letter_text(letter: u8) -> [u8; 1]
     }]
 }
 
-// A hexadecimal digit in upper case.
-fn hexadecimal_digit(digit: u8) -> u8
+/// A hexadecimal digit in upper case.
+pub fn hexadecimal_digit(digit: u8) -> u8
     requires { digit < 16 }
     ensures { result ≡ telling.hexadecimal_digit digit }
 {

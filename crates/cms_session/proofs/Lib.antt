@@ -1,11 +1,8 @@
 pub mod ReadWords
-pub mod CommandWords
 pub mod Stars
 pub mod UnitsAttached
 pub mod Starts
 pub mod Rounds
 pub mod Plays
 pub mod Ends
-pub mod Readings
-pub mod Erasures
 pub mod Procedures

@@ -1,7 +1,7 @@
 -- The parts of a round.
 use Rattle.std.proofs.Common.{◌≡◌, ℕ, ℤ, ◌≤◌, suc, List, [], ◌∷◌, slice_get, Option, Some, None, Result, Ok, Err, Bool, true, false, refl, ap, sym, ◌∙◌, subst}
 use Rattle.std.specs.FinMap.{empty}
-use Rattle.std.specs.Prelude.{negsuc, option_map, pos}
+use Rattle.std.specs.Prelude.{option_map, pos}
 use Rattle.cms_journal.specs.Causes.{Rose}
 use Rattle.cms_fields.specs.declared.time.Moment.{Moment}
 use Rattle.cms_fields.specs.Moments.{moment_of}
@@ -15,7 +15,6 @@ use Rattle.cms_line.specs.declared.console.ConsoleLine.{ConsoleLine}
 use Rattle.cms_line.specs.Messages.{message_text}
 use Rattle.cms_line.specs.Tokens.{tokens_of}
 use Rattle.cms_line.specs.declared.message.Message.{Message}
-use Rattle.cms_line.specs.declared.message.Message.TheVariants.{M001}
 use Rattle.cms_line.specs.declared.token.Token.{Token}
 use Rattle.cms_search.specs.Calls.{Spot, Meaning, Does, Acts, Comes, beside, itself, said, holds, machine_of, course_of, refusal_tree}
 use Rattle.cms_search.specs.Machine.{Machine, Course, turned}
@@ -32,10 +31,9 @@ use Rattle.cms_search.proofs.Meeting.{holds_shows}
 use Rattle.cms_search.proofs.Talking.{Came, came_none, came_on, came_off, came_to, of_does, took, stayed}
 use Rattle.cms_world.specs.Seen.{Seen}
 use Rattle.cms_session.specs.Commands.{is_comment, command_of}
-use Rattle.cms_session.specs.Machine.{Round, Ready, is_procedure, readied, on_turn, on_taken, run_command, run_item, run_words, unless_procedure}
+use Rattle.cms_session.specs.Machine.{Round, Ready, is_procedure, readied, on_turn, on_taken, run_built, run_item, run_words, unless_procedure}
 use Rattle.cms_session.specs.Calls.{machine_now, item_in, taking_tree, turning_tree, ready_tree, command_tree, line_tree, item_tree, refused_tree, round_tree, round_of}
 use Rattle.cms_session.specs.declared.command.Command.{Command}
-use Rattle.cms_session.specs.declared.command.Command.TheVariants as commands
 use Rattle.cms_session.specs.declared.round.Taken.{Taken}
 use Rattle.cms_session.specs.declared.round.Taken.TheVariants as given
 use Rattle.cms_session.specs.declared.state.Round as rounds
@@ -147,12 +145,12 @@ done_here old t x m is = acts_done old old t x m (comes_same old t (λ units. Do
 
 -- ---- a command and its ready line
 
-pub command_ready : (old mid new : Spot) (tree : List Slot → Act Course) (c : declared.Course) (r : Result rounds.Round End) → Acts old mid tree (Ok c) (course_of mid.state)
+command_ready : (old mid new : Spot) (tree : List Slot → Act Course) (c : declared.Course) (r : Result rounds.Round End) → Acts old mid tree (Ok c) (course_of mid.state)
     → Acts mid new (ready_tree mid.state c) r (round_of new.state) → Acts old new (λ units. bind (tree units) readied) r (round_of new.state)
 command_ready old mid new tree c r a b =
     acts_after old mid new (λ units. bind (tree units) readied) (ready_tree mid.state c) r (round_of new.state) (comes_in old mid tree readied c (course_of mid.state) a) b
 
-pub command_stops : (old new : Spot) (tree : List Slot → Act Course) (e : End) → Acts {T = declared.Course} old new tree (Err e) (course_of new.state)
+command_stops : (old new : Spot) (tree : List Slot → Act Course) (e : End) → Acts {T = declared.Course} old new tree (Err e) (course_of new.state)
     → Acts {T = rounds.Round} old new (λ units. bind (tree units) readied) (Err e) (round_of new.state)
 command_stops old new tree e a = acts_stop old new tree readied e (course_of new.state) (round_of new.state) a
 
@@ -188,22 +186,68 @@ procedure_so old line ts first test other are at tells found =
     (λ units h. let named : is_procedure (machine_of old.state units) first.text ≡ true = sym (tells (machine_of old.state units) (holds_shows old units h)) ∙ found in rw (other, words, named) refl)
 
 -- what is run of words, by the first of them
-words_run : (m : Machine) (line : List ℕ) (ts : List Token) (first : Token) → slice_get ts 0 ≡ Some first
-    → run_words m line ts ≡ unless_procedure (is_procedure m first.text) (run_command m ts first.text (command_of line first.text))
-words_run m line [] first at = absurd (cc at)
-words_run m line (t ∷ ts) first at = let same : t ≡ first = cc at in rw same refl
+words_run : (m : Machine) (ts : List Token) (first : Token) → slice_get ts 0 ≡ Some first
+    → run_words m ts ≡ unless_procedure (is_procedure m first.text) (run_built m ts first.text (command_of first.text))
+words_run m [] first at = absurd (cc at)
+words_run m (t ∷ ts) first at = let same : t ≡ first = cc at in rw same refl
 
-pub line_runs : (old new : Spot) (line : List ℕ) (ts : List Token) (first : Token) (test : Bool) (command : Command) {T : Type 0} (r : Result T End) (m : Meaning T Round)
-    → is_comment line ≡ false → ts ≡ tokens_of line → slice_get ts 0 ≡ Some first → Tells old first.text test → test ≡ false → command ≡ command_of line first.text
-    → Acts old new (command_tree old.state ts first.text command) r m → Acts old new (line_tree old.state line) r m
-line_runs old new line ts first test command r m other are at tells none is acts =
-    acts_same old new (line_tree old.state line) (command_tree old.state ts first.text command) r m
-    (λ units h.
-    let s = machine_of old.state units in
-    let named : is_procedure s first.text ≡ false = sym (tells s (holds_shows old units h)) ∙ none in
-    let words : tokens_of line ≡ ts = sym are in
-    rw (other, words) (words_run s line ts first at ∙ rw (named, is) refl))
-    acts
+-- the words of a line that is no comment, of which no procedure has the first, and the command that this names
+pub record Worded (old : Spot) (line : List ℕ) (ts : List Token) (first : Token) (named : Option Command) : Type 0 where
+  pub other : is_comment line ≡ false
+  pub are : ts ≡ tokens_of line
+  pub at : slice_get ts 0 ≡ Some first
+  pub unnamed : (units : List Slot) → holds old units → is_procedure (machine_of old.state units) first.text ≡ false
+  pub is : named ≡ command_of first.text
+
+-- as the calls tell it, which are given these bytes
+pub worded : (old : Spot) (line bytes word word' : List ℕ) (comment test : Bool) (ts : List Token) (first : Token) (named : Option Command) → bytes ≡ line
+    → comment ≡ is_comment bytes → comment ≡ false → ts ≡ tokens_of line → Some first ≡ slice_get ts 0 → word ≡ first.text → Tells old word test → test ≡ false
+    → word' ≡ first.text → named ≡ command_of word' → Worded old line ts first named
+worded old line bytes word word' comment test ts first named same told other are at read tells none read' is = record {
+  other = sym (rw same at told) ∙ other;
+  are = are;
+  at = sym at;
+  unnamed = λ units h. let told' : Tells old first.text test = rw read at tells in sym (told' (machine_of old.state units) (holds_shows old units h)) ∙ none;
+  is = rw read' at is;
+}
+
+-- what the line is then
+line_is : (old : Spot) (line : List ℕ) (ts : List Token) (first : Token) (named : Option Command) → Worded old line ts first named
+    → (units : List Slot) → holds old units → line_tree old.state line units ≡ run_built (machine_of old.state units) ts first.text named
+line_is old line ts first named w units h =
+    let other = w.other in
+    let unnamed = w.unnamed units h in
+    let is = w.is in
+    let words : tokens_of line ≡ ts = sym w.are in
+    rw (other, words) (words_run (machine_of old.state units) ts first w.at ∙ rw (unnamed, is) refl)
+
+pub not_built_so : (old : Spot) (line : List ℕ) (ts : List Token) (first : Token) (named : Option Command) → Worded old line ts first named → named ≡ None
+    → Acts old old (line_tree old.state line) (Ok (end.Ended finish.NotBuilt)) (round_of old.state)
+not_built_so old line ts first named w none =
+    done_here old (line_tree old.state line) (end.Ended finish.NotBuilt) (round_of old.state) (λ units h. line_is old line ts first named w units h ∙ rw none refl)
+
+-- a command and its ready line
+abbrev ended_tree : State → List Token → List ℕ → Command → List Slot → Act Round
+ended_tree s ts word command units = bind (command_tree s ts word command units) readied
+
+line_runs : (old new : Spot) (line : List ℕ) (ts : List Token) (first : Token) (named : Option Command) (command : Command) (r : Result rounds.Round End)
+    → Worded old line ts first named → named ≡ Some command → Acts old new (ended_tree old.state ts first.text command) r (round_of new.state)
+    → Acts old new (line_tree old.state line) r (round_of new.state)
+line_runs old new line ts first named command r w some acts =
+    acts_same old new (line_tree old.state line) (ended_tree old.state ts first.text command) r (round_of new.state)
+    (λ units h. line_is old line ts first named w units h ∙ rw some refl) acts
+
+pub line_ready : (old mid new : Spot) (line : List ℕ) (ts : List Token) (first : Token) (named : Option Command) (command : Command) (c : declared.Course) (r : Result rounds.Round End)
+    → Worded old line ts first named → named ≡ Some command → Acts old mid (command_tree old.state ts first.text command) (Ok c) (course_of mid.state)
+    → Acts mid new (ready_tree mid.state c) r (round_of new.state) → Acts old new (line_tree old.state line) r (round_of new.state)
+line_ready old mid new line ts first named command c r w some a b =
+    line_runs old new line ts first named command r w some (command_ready old mid new (command_tree old.state ts first.text command) c r a b)
+
+pub line_stops : (old new : Spot) (line : List ℕ) (ts : List Token) (first : Token) (named : Option Command) (command : Command) (e : End) → Worded old line ts first named
+    → named ≡ Some command → Acts {T = declared.Course} old new (command_tree old.state ts first.text command) (Err e) (course_of new.state)
+    → Acts {T = rounds.Round} old new (line_tree old.state line) (Err e) (round_of new.state)
+line_stops old new line ts first named command e w some a =
+    line_runs old new line ts first named command (Err e) w some (command_stops old new (command_tree old.state ts first.text command) e a)
 
 -- ---- a round
 
@@ -269,15 +313,3 @@ refused_course old mid new message c r does went same acts =
 pub refused_stop : (old new : Spot) (message : Message) (e : End) → Does {T = declared.Course} old.world new.world (message_tree message) (Err e) said → new.state ≡ old.state
     → Acts {T = rounds.Round} old new (refused_tree old.state message) (Err e) (round_of new.state)
 refused_stop old new message e does same = command_stops old new (refusal_tree old.state message (pos 20)) e (refused old new message (pos 20) (Err e) does tt same)
-
--- ---- a word that no command has
-
-pub unknown_course : (old mid new : Spot) (ts : List Token) (word : List ℕ) (c : declared.Course) (r : Result rounds.Round End) → Does old.world mid.world (message_tree (M001 word)) (Ok c) said
-    → c ≡ course.Went (negsuc 2) → mid.state ≡ old.state → Acts mid new (ready_tree mid.state c) r (round_of new.state)
-    → Acts old new (command_tree old.state ts word commands.Unknown) r (round_of new.state)
-unknown_course old mid new ts word c r does went same acts =
-    command_ready old mid new (refusal_tree old.state (M001 word) (negsuc 2)) c r (refused old mid (M001 word) (negsuc 2) (Ok c) does went same) acts
-
-pub unknown_stop : (old new : Spot) (ts : List Token) (word : List ℕ) (e : End) → Does {T = declared.Course} old.world new.world (message_tree (M001 word)) (Err e) said → new.state ≡ old.state
-    → Acts {T = rounds.Round} old new (command_tree old.state ts word commands.Unknown) (Err e) (round_of new.state)
-unknown_stop old new ts word e does same = command_stops old new (refusal_tree old.state (M001 word) (negsuc 2)) e (refused old new (M001 word) (negsuc 2) (Err e) does tt same)

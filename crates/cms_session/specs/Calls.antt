@@ -1,6 +1,5 @@
 -- What a call of the session does, as a part of the machine's run.
 use Rattle.std.specs.Prelude.{ℕ, List, Option}
-use Rattle.cms_names.specs.declared.name.Name.{Name}
 use Rattle.cms_machine.specs.Slots.{Slot}
 use Rattle.cms_machine.specs.Acts.{Act, Turn, Done, bind}
 use Rattle.cms_machine.specs.Items as items
@@ -8,10 +7,10 @@ use Rattle.cms_machine.specs.Items.{Item}
 use Rattle.cms_line.specs.declared.message.Message.{Message}
 use Rattle.cms_line.specs.declared.token.Token.{Token}
 use Rattle.cms_search.specs.Calls.{Meaning, course_of, machine_of}
-use Rattle.cms_search.specs.Machine.{Machine, Course, letter_at, refusal, turned}
+use Rattle.cms_search.specs.Machine.{Machine, Course, refusal, turned}
 use Rattle.cms_search.specs.declared.state.Course as declared
 use Rattle.cms_search.specs.declared.state.State.{State}
-use Rattle.cms_session.specs.Machine.{type_file, type_on, erase_file, Round, Ended, Ready, access_first, bad_line, readied, run_command, run_item, run_line, round, run_lines, started, taking}
+use Rattle.cms_session.specs.Machine.{Round, Ended, Ready, access_first, bad_line, readied, run_command, run_item, run_line, round, run_lines, started, taking}
 use Rattle.cms_session.specs.declared.command.Command.{Command}
 use Rattle.cms_session.specs.declared.round.Taken.{Taken}
 use Rattle.cms_session.specs.declared.round.Taken.TheVariants as given
@@ -21,20 +20,10 @@ use Rattle.cms_session.specs.declared.state.Finish.{Finish}
 
 -- ---- the trees of the parts of a session on the machine with these units
 
-abbrev pub type_tree : State → Name → List Slot → Act Course
-type_tree s name units = type_file (machine_of s units) name
-
--- the file of a name on the disk of a letter is typed
-abbrev pub found_tree : State → Name → ℕ → List Slot → Act Course
-found_tree s name n units = type_on (machine_of s units) name (letter_at (machine_of s units) n)
-
-abbrev pub erase_tree : State → Name → List Slot → Act Course
-erase_tree s name units = erase_file (machine_of s units) name
-
 abbrev pub ready_tree : State → declared.Course → List Slot → Act Round
 ready_tree s c units = readied (course_of s units c)
 
-abbrev pub command_tree : State → List Token → List ℕ → Command → List Slot → Act Round
+abbrev pub command_tree : State → List Token → List ℕ → Command → List Slot → Act Course
 command_tree s words word command units = run_command (machine_of s units) words word command
 
 -- a line is refused

@@ -1,35 +1,33 @@
 -- The machine: minidisks as lists of named record lists, and what a session does with them. No block occurs here.
-use Rattle.std.specs.Prelude.{ℕ, zero, suc, ℤ, pos, negsuc, Bool, true, false, if◌then◌else◌, ◌&&◌, List, [], ◌∷◌, Option, Some, None, slice_get, Result, Ok, Err}
+use Rattle.std.specs.Prelude.{ℕ, zero, suc, ℤ, negsuc, Bool, true, false, if◌then◌else◌, ◌&&◌, List, [], ◌∷◌, Option, Some, None, Result, Ok, Err}
 use Rattle.std.specs.FinMap.{empty}
 use Rattle.cms_names.specs.Names.{is_part}
 use Rattle.cms_names.specs.declared.name.Name.{Name}
-use Rattle.cms_model.specs.Minidisks.{File, Minidisk}
-use Rattle.cms_model.specs.Changes.{Drop, file_named}
 use Rattle.cms_machine.specs.Steps.{Outcome}
 use Rattle.cms_machine.specs.Items.{Item, Text, Bad, Long, Rest, items}
 use Rattle.cms_machine.specs.Acts.{Act, Done, Out, Take, Turn, bind, typed_line}
 use Rattle.cms_machine.specs.Feeds.{Fed, feed}
 use Rattle.cms_line.specs.Messages.{message_text}
 use Rattle.cms_line.specs.Tokens.{tokens_of}
-use Rattle.cms_line.specs.declared.message.Message.TheVariants.{M001, M002, M010, M011}
+use Rattle.cms_line.specs.declared.message.Message.TheVariants.{M001, M010, M011}
 use Rattle.cms_line.specs.declared.token.Token.{Token}
 use Rattle.cms_operands.specs.declared.mode.ReadMode.TheVariants as mode
 use Rattle.cms_search.specs.Accessing.{accessing}
-use Rattle.cms_search.specs.ChangeTold.{change_told}
-use Rattle.cms_search.specs.Machine.{Letter, Machine, turned, letter_at, minidisk_in, Course, Went, OutOfTurns, refusal, typing}
+use Rattle.cms_search.specs.Machine.{Machine, turned, Course, Went, OutOfTurns, refusal}
 use Rattle.cms_search.specs.Ready.{ready_line}
-use Rattle.cms_search.specs.Refusing.{device_fault, not_accessed, read_only}
-use Rattle.cms_search.specs.Releasing.{vdev_of}
 use Rattle.cms_search.specs.Searches.{look_up, shelves_in}
-use Rattle.cms_search.specs.Stepping.{changing, reading}
 use Rattle.cms_search.specs.declared.fault.SearchFault.{SearchFault}
-use Rattle.cms_search.specs.declared.fault.SearchFault.TheVariants.{NotAccessed}
 use Rattle.cms_search.specs.declared.search.Found.{Found}
 use Rattle.cms_access.specs.Access.{access}
 use Rattle.cms_access.specs.Format.{format}
 use Rattle.cms_access.specs.Query.{query}
 use Rattle.cms_access.specs.Release.{release}
-use Rattle.cms_session.specs.Commands.{is_comment, command_of, exec_word, letter_a}
+use Rattle.cms_fileops.specs.Erase.{erase}
+use Rattle.cms_fileops.specs.Rename.{rename}
+use Rattle.cms_fileops.specs.State.{state}
+use Rattle.cms_fileops.specs.Typing.{type_command}
+use Rattle.cms_listfile.specs.Listfile.{listfile}
+use Rattle.cms_session.specs.Commands.{is_comment, command_of, exec_word}
 use Rattle.cms_session.specs.declared.command.Command.{Command}
 use Rattle.cms_session.specs.declared.command.Command.TheVariants as command
 use Rattle.cms_session.specs.declared.state.Finish.{Finish}
@@ -37,56 +35,22 @@ use Rattle.cms_session.specs.declared.state.Finish.TheVariants as finish
 
 -- ---- commands
 
--- the return code of a file that isn't there
-abbrev pub not_found : ℕ
-not_found = 28
-
-abbrev pub no_file : Machine → Name → Act Course
-no_file s name = refusal s (M002 name.file name.kind letter_a) not_found
-
--- the records of a file of unit u are typed as they are handed out
-abbrev pub type_named : Machine → Name → ℕ → Option File → Act Course
-type_named s name u None = no_file s name
-type_named s name u (Some f) = reading typing u f (Done (Went s (pos 0))) (device_fault s (vdev_of s u))
-
-abbrev pub type_in : Machine → Name → ℕ → Option Minidisk → Act Course
-type_in s name u None = no_file s name
-type_in s name u (Some m) = type_named s name u (file_named name m.files)
-
-abbrev pub type_on : Machine → Name → Option Letter → Act Course
-type_on s name None = no_file s name
-type_on s name (Some disk) = type_in s name disk.unit (minidisk_in (slice_get s.units disk.unit))
-
--- the file that was found on the disk of a letter, or the reason why none was
-abbrev pub type_found : Machine → Name → Result Found SearchFault → Act Course
-type_found s name (Ok found) = type_on s name (letter_at s found.letter)
-type_found s name (Err (NotAccessed n)) = not_accessed s 0
-type_found s name (Err fault) = no_file s name
-
--- TYPE fn ft A: the first file of the name on disk A and its extensions
-abbrev pub type_file : Machine → Name → Act Course
-type_file s name = type_found s name (look_up (shelves_in s) (mode.Letter 0) name)
-
-abbrev pub erase_named : Machine → Name → Option File → Act Course
-erase_named s name None = no_file s name
-erase_named s name (Some f) = bind (changing s 0 (Drop name)) (change_told 0)
-
-abbrev pub erase_in : Machine → Name → Option Minidisk → Act Course
-erase_in s name None = no_file s name
-erase_in s name (Some m) = erase_named s name (file_named name m.files)
-
-abbrev pub erase_on : Machine → Name → Option Letter → Act Course
-erase_on s name None = not_accessed s 0
-erase_on s name (Some disk) =
-    if disk.read_only then read_only s 0 else erase_in s name (minidisk_in (slice_get s.units disk.unit))
-
--- ERASE fn ft A; the directory has the stamp of the turn's moment
-abbrev pub erase_file : Machine → Name → Act Course
-erase_file s name = erase_on s name (letter_at s 0)
-
 -- no command has this word
 abbrev pub unknown : Machine → List ℕ → Act Course
 unknown s word = Out (typed_line (message_text (M001 word))) (Done (Went s (negsuc 2)))
+
+-- the command that a line with these words asks for, the first of which is this
+abbrev pub run_command : Machine → List Token → List ℕ → Command → Act Course
+run_command s words word command.Access = access s words
+run_command s words word command.Release = release s words
+run_command s words word command.Format = format s words
+run_command s words word command.Query = query s words
+run_command s words word command.Listfile = listfile s words
+run_command s words word command.Rename = rename s words
+run_command s words word command.Erase = erase s words
+run_command s words word command.TypeFile = type_command s words
+run_command s words word command.State = state s words
+run_command s words word command.Unknown = unknown s word
 
 -- ---- lines
 
@@ -99,17 +63,6 @@ pub data Round : Type 0 where
 abbrev pub readied : Course → Act Round
 readied (Went s code) = Out (typed_line (ready_line code)) (Done (Ready (record s { places = empty })))
 readied OutOfTurns = Done (Ended finish.AtTurns)
-
--- the command that a line with these words asks for, the first of which is this
-abbrev pub run_command : Machine → List Token → List ℕ → Command → Act Round
-run_command s words word command.Access = bind (access s words) readied
-run_command s words word command.Release = bind (release s words) readied
-run_command s words word command.Format = bind (format s words) readied
-run_command s words word command.Query = bind (query s words) readied
-run_command s words word (command.TypeFile name) = bind (type_file s name) readied
-run_command s words word (command.EraseFile name) = bind (erase_file s name) readied
-run_command s words word command.NotBuilt = Done (Ended finish.NotBuilt)
-run_command s words word command.Unknown = bind (unknown s word) readied
 
 -- a file was found
 abbrev pub is_there : Result Found SearchFault → Bool
@@ -129,15 +82,20 @@ abbrev pub unless_procedure : Bool → Act Round → Act Round
 unless_procedure true next = Done (Ended finish.NotBuilt)
 unless_procedure false next = next
 
+-- a command and its ready line; one that isn't built yet ends the session
+abbrev pub run_built : Machine → List Token → List ℕ → Option Command → Act Round
+run_built s words word None = Done (Ended finish.NotBuilt)
+run_built s words word (Some command) = bind (run_command s words word command) readied
+
 -- a line with these words
-abbrev pub run_words : Machine → List ℕ → List Token → Act Round
-run_words s line [] = Done (Ready s)
-run_words s line (first ∷ words) =
-    unless_procedure (is_procedure s first.text) (run_command s (first ∷ words) first.text (command_of line first.text))
+abbrev pub run_words : Machine → List Token → Act Round
+run_words s [] = Done (Ready s)
+run_words s (first ∷ words) =
+    unless_procedure (is_procedure s first.text) (run_built s (first ∷ words) first.text (command_of first.text))
 
 -- a blank line and a comment do nothing
 abbrev pub run_line : Machine → List ℕ → Act Round
-run_line s line = if is_comment line then Done (Ready s) else run_words s line (tokens_of line)
+run_line s line = if is_comment line then Done (Ready s) else run_words s (tokens_of line)
 
 -- the code of a line that is refused
 abbrev pub bad_line : ℕ

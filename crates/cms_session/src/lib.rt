@@ -3,9 +3,7 @@
 
 mod attaching;
 mod command;
-mod erasing;
 mod laws;
-mod reading;
 mod round;
 mod session;
 mod state;

@@ -6,7 +6,7 @@ ghost use Rattle.cms_line.specs.Consoles.{item_of};
 ghost use Rattle.cms_machine.specs.Acts.{saying, typed_line};
 ghost use Rattle.cms_line.specs.Messages.{message_text};
 ghost use Rattle.cms_line.specs.declared.message.Message.TheVariants.{M001};
-ghost use Rattle.cms_search.specs.Calls.{spot, Acts, Does, IsUsable, beside, said};
+ghost use Rattle.cms_search.specs.Calls.{spot, Acts, Does, IsUsable, beside, course_of, said};
 ghost use Rattle.cms_search.specs.Machine.{Machine};
 ghost use Rattle.cms_search.specs.Shows.{Shows};
 ghost use Rattle.cms_search.specs.declared.state.Course.TheVariants.{Went};
@@ -16,12 +16,12 @@ ghost use Rattle.cms_session.specs.Machine.{is_procedure};
 ghost use Rattle.cms_session.specs.declared.state.Round.TheVariants.{Ready};
 
 use crate::command::{Command, command_of, is_comment};
-use crate::erasing::erase_file;
-use crate::reading::type_file;
 use crate::state::{Finish, Round};
 use cms_access::{run_access, run_format, run_query, run_release};
 use cms_fields::Moment;
+use cms_fileops::{run_erase, run_rename, run_state, run_type};
 use cms_line::{ConsoleLine, Line, LineFault, Message, Tokens, Word, tokens};
+use cms_listfile::run_listfile;
 use cms_names::{Name, Part};
 use cms_operands::{ReadMode, coded};
 use cms_search::{Course, End, State, Table, clock, refuse, say_ready};
@@ -141,44 +141,25 @@ fn run_command<W: World>(
     words: &Tokens,
     word: &Word,
     command: Command,
-) -> Result<Round, End>
+) -> Result<Course, End>
     requires usable { IsUsable (spot W.World world.old state.old) }
     requires moment { is_moment state.old.moment ≡ true }
     ensures acts { Acts (spot W.World world.old state.old) (spot W.World world.new state.new)
-        (command_tree state.old words.now word.now command) result (round_of state.new) }
+        (command_tree state.old words.now word.now command) result (course_of state.new) }
     ensures offset { state.new.offset ≡ state.old.offset }
     ensures left { state.new.left ≤ state.old.left }
 {
     match command {
-        Command::Access => {
-            let course = run_access(alloc, world, state, words)?;
-            ready(world, state, course)
-        }
-        Command::Release => {
-            let course = run_release(alloc, world, state, words)?;
-            ready(world, state, course)
-        }
-        Command::Format => {
-            let course = run_format(alloc, world, state, words)?;
-            ready(world, state, course)
-        }
-        Command::Query => {
-            let course = run_query(alloc, world, state, words)?;
-            ready(world, state, course)
-        }
-        Command::TypeFile(name) => {
-            let course = type_file(alloc, world, state, &name)?;
-            ready(world, state, course)
-        }
-        Command::EraseFile(name) => {
-            let course = erase_file(alloc, world, state, &name)?;
-            ready(world, state, course)
-        }
-        Command::NotBuilt => Ok(Round::Ended(Finish::NotBuilt)),
-        Command::Unknown => {
-            let course = refuse_unknown(alloc, world, word)?;
-            ready(world, state, course)
-        }
+        Command::Access => run_access(alloc, world, state, words),
+        Command::Release => run_release(alloc, world, state, words),
+        Command::Format => run_format(alloc, world, state, words),
+        Command::Query => run_query(alloc, world, state, words),
+        Command::Listfile => run_listfile(alloc, world, state, words),
+        Command::Rename => run_rename(alloc, world, state, words),
+        Command::Erase => run_erase(alloc, world, state, words),
+        Command::TypeFile => run_type(alloc, world, state, words),
+        Command::State => run_state(alloc, world, state, words),
+        Command::Unknown => refuse_unknown(alloc, world, word),
     }
 }
 
@@ -206,8 +187,11 @@ fn run_line<W: World>(
     if is_procedure(&state.table, first.text.bytes()) {
         return Ok(Round::Ended(Finish::NotBuilt));
     }
-    let command = command_of(alloc, line.bytes(), first.text.bytes())?;
-    run_command(alloc, world, state, &words, &first.text, command)
+    let Some(command) = command_of(first.text.bytes()) else {
+        return Ok(Round::Ended(Finish::NotBuilt));
+    };
+    let course = run_command(alloc, world, state, &words, &first.text, command)?;
+    ready(world, state, course)
 }
 
 // Types why a line is refused.

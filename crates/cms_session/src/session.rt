@@ -4,7 +4,6 @@ ghost use Rattle.cms_search.specs.Calls.{spot, Acts, IsUsable};
 ghost use Rattle.cms_session.specs.Calls.{access_tree, finished, lines_tree, machine_now, session_tree};
 ghost use Rattle.cms_fields.specs.Offsets.{IsOffset};
 
-use crate::reading::DISK_A;
 use crate::round::round;
 use crate::state::{Finish, Round};
 use cms_search::{End, State};
@@ -13,6 +12,8 @@ use std::alloc::Global;
 
 // The device whose volume is disk A at the start.
 const FIRST_DEVICE: u16 = 0x191;
+
+const DISK_A: u8 = 0;
 
 // Accesses the first device as A, where a unit has it and it holds a volume. Nothing is typed, and a fault leaves it without a letter.
 fn access_first<W: World>(alloc: Global, world: &mut W, state: &mut State) -> Result<(), End>

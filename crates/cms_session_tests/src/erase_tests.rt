@@ -131,22 +131,6 @@ const KEPT: &[Row] = &[
         Status::NotBuilt,
         b"arrrin",
     ),
-    (
-        WORD,
-        &[],
-        "erase hello text a\n",
-        "",
-        Status::NotBuilt,
-        b"arrrin",
-    ),
-    (
-        WORD,
-        &[],
-        "ERASE HELLO TEXT\n",
-        "",
-        Status::NotBuilt,
-        b"arrrin",
-    ),
 ];
 
 /// What a crash after so many events leaves of the unit, by these choices; none where nothing was attached.

@@ -8,6 +8,8 @@ mod disk_tests;
 #[cfg(test)]
 mod erase_tests;
 #[cfg(test)]
+mod file_tests;
+#[cfg(test)]
 mod format_tests;
 #[cfg(test)]
 mod line_tests;

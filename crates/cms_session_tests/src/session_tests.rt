@@ -70,12 +70,17 @@ const ROWS: &[Row] = &[
         "CMS002E File NO TEXT A not found\nR(00028);\n",
         Status::Done,
     ),
-    (WORD, &[], "TYPE HELLO TEXT B\n", "", Status::NotBuilt),
-    (WORD, &[], "type hello text a\n", "", Status::NotBuilt),
     (
         WORD,
         &[],
-        "TYPE HELLO TEXT A\nLISTFILE\nTYPE HELLO TEXT A\n",
+        "TYPE HELLO TEXT B\n",
+        "CMS069E Disk B is not accessed\nR(00036);\n",
+        Status::Done,
+    ),
+    (
+        WORD,
+        &[],
+        "TYPE HELLO TEXT A\nEXECIO 1 DISKR HELLO TEXT\nTYPE HELLO TEXT A\n",
         "HELLO\nWORLD\nR;\n",
         Status::NotBuilt,
     ),
@@ -210,8 +215,6 @@ CMS001E Unknown command *\nR(-0003);\nCMS001E Unknown command (\nR(-0003);\n\
 CMS001E Unknown command TYPES\nR(-0003);\n",
         Status::Done,
     ),
-    (WORD, &[], "T HELLO TEXT A\n", "", Status::NotBuilt),
-    (WORD, &[], "STATE HELLO TEXT A\n", "", Status::NotBuilt),
     (WORD, &[], "ex hello\n", "", Status::NotBuilt),
     (WORD, &[], "COPY HELLO TEXT A = = B\n", "", Status::NotBuilt),
     (
@@ -373,6 +376,34 @@ fn a_failing_read_comes_behind_the_records_before_it(rt: HostRuntime) -> Result<
             long_lines(alloc, 3)?
         )?;
         assert_eq!(rt; failing.typed(), typed.as_bytes(), "call {call}");
+    }
+    Ok(())
+}
+
+// The script types this of L FILE, by these calls behind those of the opening and the turn.
+const PARTS: [(&str, &str, &[u8]); 3] = [
+    ("TYPE L FILE A 1 2 (COL 1-1\n", "A\nB\nR;\n", b"rorooi"),
+    ("TYPE L FILE A 2 (COL 1-1\n", "B\nC\nR;\n", b"rrorooi"),
+    (
+        "TYPE L FILE A 4\n",
+        "CMS070E Operand 4 is not valid\nR(00024);\n",
+        b"ooi",
+    ),
+];
+
+#[test]
+fn no_more_is_read_than_is_typed(rt: HostRuntime) -> Result<(), Fail> {
+    let alloc = rt.alloc();
+    let image = edited(alloc, 11, &[HELLO, LONG])?;
+    for (script, typed, calls) in PARTS {
+        let mut world = world(alloc, script, &image)?;
+        assert_eq!(rt; ended(alloc, WORD, &mut world)?, Status::Done, "{script}");
+        assert_eq!(rt; world.typed(), typed.as_bytes(), "{script}");
+        assert_eq!(rt;
+            world.calls().strip_prefix(b"arrrrin".as_slice()),
+            Some(calls),
+            "{script}"
+        );
     }
     Ok(())
 }

@@ -1,5 +1,5 @@
 use Rattle.std.proofs.Common.{refl}
-use Rattle.cms_search.proofs.Staying.{acts_line, acts_line_refused, acts_starved}
+use Rattle.cms_search.proofs.Staying.{acts_line, acts_line_fault}
 use Rattle.cms_access.specs.Release.{release_disk, release_line}
 use Rattle.cms_access.proofs.release.run_release.Goals as goal
 
@@ -8,12 +8,7 @@ returns-in-Ok-clause-acts g c =
     acts_line _ _ c.args.words.now release_disk (λ units. release_line c.args.words.now) c.in-Ok.target c.release_disk.result _ (λ units. c.in-Ok.ensures)
     c.release_disk.ensures.acts
 
-pub returns-in-Err-Refused-clause-acts : goal.returns-in-Err-Refused-clause-acts
-returns-in-Err-Refused-clause-acts g c =
-    let why = rw c.in-Err-Refused.field-0-is at c.in-Err-Refused.ensures in
-    let same = c.as_slice.ensures in
-    acts_line_refused _ _ c.args.words.now release_disk (λ units. release_line c.args.words.now) c.in-Err-Refused.why c.refuse_line.result (λ units. why)
-    (rw same at c.refuse_line.ensures.does) c.refuse_line.ensures.went refl
-
-pub returns-in-Err-Memory-clause-acts : goal.returns-in-Err-Memory-clause-acts
-returns-in-Err-Memory-clause-acts g c = acts_starved _ _ _
+pub returns-in-Err-clause-acts : goal.returns-in-Err-clause-acts
+returns-in-Err-clause-acts g c =
+    acts_line_fault _ _ c.args.words.now release_disk (λ units. release_line c.args.words.now) c.in-Err.fault c.refuse_command.result (λ units. c.in-Err.ensures)
+    c.refuse_command.ensures refl

@@ -1,6 +1,5 @@
 use Rattle.std.proofs.Common.{subst}
-use Rattle.cms_session.proofs.CommandWords.{IsRead, part_read}
-use Rattle.cms_session.proofs.Procedures.{no_word, no_exec, found_so, missing_so}
+use Rattle.cms_session.proofs.Procedures.{IsRead, found_so, missing_so, no_exec, no_word, part_read}
 use Rattle.cms_session.proofs.round.is_procedure.Goals as goal
 
 pub returns-in_default : goal.returns-in_default

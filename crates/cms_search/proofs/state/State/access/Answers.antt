@@ -1,10 +1,15 @@
 use Rattle.cms_search.specs.Calls.{spot}
 use Rattle.cms_world.specs.Seen.{seen}
-use Rattle.cms_search.proofs.Accesses.{access_done, access_refused, blocks_there}
+use Rattle.cms_search.proofs.Accesses.{access_done, access_refused, blocks_there, is_of_access}
 use Rattle.cms_search.proofs.state.State.access.Goals as goal
 
 pub access-requires-clause-blocks : goal.access-requires-clause-blocks
 access-requires-clause-blocks g c = blocks_there (g.W.World.told c.args.world.now) c.args.self.now.table c.args.vdev c.requires.usable
+
+pub refused-requires : goal.refused-requires
+refused-requires g c =
+    is_of_access (g.W.World.told c.args.world.now) (g.W.World.told c.access.new.world) c.args.self.now.table c.access.new.self c.args.vdev c.args.letter c.args.parent c.in-Err.fault
+    c.in-Err.ensures.access
 
 pub returns-in-Ok-clause-acts : goal.returns-in-Ok-clause-acts
 returns-in-Ok-clause-acts g c =

@@ -1,0 +1,14 @@
+use Rattle.std.proofs.Common.{refl}
+use Rattle.cms_search.proofs.Staying.{acts_line, acts_line_fault}
+use Rattle.cms_fileops.specs.Erase.{erase_files, erase_line}
+use Rattle.cms_fileops.proofs.erase.run_erase.Goals as goal
+
+pub returns-in-Ok-clause-acts : goal.returns-in-Ok-clause-acts
+returns-in-Ok-clause-acts g c =
+    acts_line _ _ c.args.words.now (λ s line. erase_files s c.args.words.now line) (λ units. erase_line c.args.words.now) c.in-Ok.line c.erase_files.result _
+    (λ units. c.in-Ok.ensures) c.erase_files.ensures.acts
+
+pub returns-in-Err-clause-acts : goal.returns-in-Err-clause-acts
+returns-in-Err-clause-acts g c =
+    acts_line_fault _ _ c.args.words.now (λ s line. erase_files s c.args.words.now line) (λ units. erase_line c.args.words.now) c.in-Err.fault c.refuse_command.result
+    (λ units. c.in-Err.ensures) c.refuse_command.ensures refl

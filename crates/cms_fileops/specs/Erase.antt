@@ -1,0 +1,58 @@
+-- ERASE fn ft [fm] [(TYPE or NOTYPE]
+use Rattle.std.specs.Prelude.{ℕ, Bool, List, [], ◌∷◌, codes, Result, Ok}
+use Rattle.cms_names.specs.declared.name.Name.{Name}
+use Rattle.cms_fields.specs.Steps.{◌>>=◌, ◌>>◌}
+use Rattle.cms_model.specs.Changes.{Drop}
+use Rattle.cms_machine.specs.Acts.{Act, bind}
+use Rattle.cms_line.specs.declared.token.Token.{Token}
+use Rattle.cms_operands.specs.Choices.{chosen_of, form}
+use Rattle.cms_operands.specs.Operands.{ended, operands_of, writing_mode}
+use Rattle.cms_operands.specs.declared.choosing.OptionForm.{OptionForm}
+use Rattle.cms_operands.specs.declared.choosing.Parameter.TheVariants as takes
+use Rattle.cms_operands.specs.declared.refusal.Refusal.{Refusal}
+use Rattle.cms_search.specs.Machine.{Machine, Course}
+use Rattle.cms_search.specs.Refusing.{on_line}
+use Rattle.cms_search.specs.Searches.{Listed, shelves_in}
+use Rattle.cms_search.specs.Stepping.{Stepped}
+use Rattle.cms_files.specs.Files.{file_text, files_written, on_found, shelf_with}
+use Rattle.cms_files.specs.Identifiers.{is_last, mode_or_a, name_choice}
+use Rattle.cms_files.specs.Updating.{on_step, telling, updating, updating_each}
+use Rattle.cms_fileops.specs.declared.erase.EraseFiles.{EraseFiles}
+use Rattle.cms_fileops.specs.declared.erase.EraseLine.{EraseLine}
+
+-- ---- the line
+
+unfoldable pub erase_operands : List Token → Result EraseFiles Refusal
+erase_operands operands = do
+  names ← name_choice operands 1
+  mode ← writing_mode 3 (mode_or_a operands 3)
+  ended operands 4
+  Ok (record { names = names; mode = mode })
+
+abbrev pub options : List OptionForm
+options = form (codes "TYPE    ") 2 takes.Nothing ∷ form (codes "NOTYPE  ") 3 takes.Nothing ∷ []
+
+abbrev pub erase_line : List Token → Result EraseLine Refusal
+erase_line words = do
+  files ← erase_operands (operands_of words)
+  chosen ← chosen_of options words
+  Ok (record { files = files; types = is_last 0 (0 ∷ 1 ∷ []) chosen })
+
+-- ---- the command
+
+-- one file is erased: 069, 037, 002, 107, 105
+abbrev pub erase_file : Machine → List Token → ℕ → Name → Act Stepped
+erase_file s words n name = on_step s words 1 (λ shelf. updating s n (Drop name)) (shelf_with (shelves_in s) n name)
+
+-- with TYPE it is typed once it is erased
+abbrev pub erase_told : List Token → ℕ → Bool → Machine → Listed → Act Stepped
+erase_told words n types s f = bind (erase_file s words n f.name) (telling types (file_text n f.name f.number))
+
+abbrev pub erase_files : Machine → List Token → EraseLine → Act Course
+erase_files s words line =
+    on_found s words 1 (λ files. updating_each (erase_told words line.files.mode.letter line.types) files s)
+    (files_written (shelves_in s) line.files.names line.files.mode)
+
+-- files of a disk are erased, in the order in which they stood, by one update each: 069, 037, 002
+abbrev pub erase : Machine → List Token → Act Course
+erase s words = on_line s words (erase_files s words) (erase_line words)

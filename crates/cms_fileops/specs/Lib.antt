@@ -1,0 +1,4 @@
+pub mod State
+pub mod Typing
+pub mod Erase
+pub mod Rename

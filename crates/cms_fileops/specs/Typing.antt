@@ -1,0 +1,117 @@
+-- TYPE fn ft [fm [first [last]]] [(HEX] [COL a-b]
+use Rattle.std.specs.Prelude.{⊤, ℕ, pos, ◌-◌, ◌/◌, ◌%◌, nat_le, nat_lt, Bool, false, if◌then◌else◌, List, [], ◌∷◌, codes, drop, is_some, length, map, min, take, Option, Some, None, Result, Ok}
+use Rattle.std.specs.List.{flat_map}
+use Rattle.std.specs.Option.{option_and_then, option_map_or}
+use Rattle.cms_fields.specs.Steps.{◌>>=◌, ◌>>◌}
+use Rattle.cms_text.specs.Texts.{coded}
+use Rattle.cms_model.specs.Minidisks.{File}
+use Rattle.cms_machine.specs.Acts.{Act, Done, saying, typed_line}
+use Rattle.cms_line.specs.declared.token.Token.{Token}
+use Rattle.cms_operands.specs.Choices.{chosen_of, form, last_among}
+use Rattle.cms_operands.specs.Operands.{ended, given_or, number, number_or_all, operands_of}
+use Rattle.cms_operands.specs.declared.choosing.ChosenOption.{ChosenOption}
+use Rattle.cms_operands.specs.declared.choosing.OptionForm.{OptionForm}
+use Rattle.cms_operands.specs.declared.choosing.Parameter.TheVariants as takes
+use Rattle.cms_operands.specs.declared.choosing.Setting.{Setting}
+use Rattle.cms_operands.specs.declared.choosing.Setting.TheVariants as says
+use Rattle.cms_operands.specs.declared.refusal.Refusal.{Refusal}
+use Rattle.cms_operands.specs.declared.refusal.Refusal.TheVariants.{BadOperand}
+use Rattle.cms_search.specs.Machine.{Machine, Course, Went, letter_at, typing}
+use Rattle.cms_search.specs.Refusing.{device_fault, on_line}
+use Rattle.cms_search.specs.Releasing.{vdev_of}
+use Rattle.cms_search.specs.Stepping.{reading}
+use Rattle.cms_search.specs.Telling.{hexadecimal_digit}
+use Rattle.cms_files.specs.Files.{UnitFile, file_on, file_read, on_found, word_refused}
+use Rattle.cms_files.specs.Identifiers.{file_input}
+use Rattle.cms_fileops.specs.declared.typing.ColumnRange.{ColumnRange}
+use Rattle.cms_fileops.specs.declared.typing.TypeLine.{TypeLine}
+use Rattle.cms_fileops.specs.declared.typing.TypeRange.{TypeRange}
+use Rattle.cms_fileops.specs.declared.typing.TypeStyle.{TypeStyle}
+
+-- ---- the line
+
+-- the largest number that a word writes
+abbrev pub largest : ℕ
+largest = 999999999
+
+-- the file, and its first and its last record that are typed; with * all to the end
+unfoldable pub type_operands : List Token → Result TypeRange Refusal
+type_operands operands = do
+  input ← file_input operands 1
+  first ← number 1 largest 4 (given_or operands 4 (coded (codes "1")))
+  last ← number_or_all first largest 5 (given_or operands 5 (coded (codes "*")))
+  ended operands 6
+  Ok (record { input = input; first = first; last = last })
+
+abbrev pub options : List OptionForm
+options = form (codes "HEX     ") 3 takes.Nothing ∷ form (codes "COL     ") 3 takes.Columns ∷ []
+
+-- the columns that a parameter says
+abbrev pub columns_in : Setting → Option ColumnRange
+columns_in (says.Columns first last) = Some (record { first = first; last = last })
+columns_in _ = None
+
+-- in digits; some columns, or all
+abbrev pub style_of : List ChosenOption → TypeStyle
+style_of chosen = record {
+  hexadecimal = is_some (last_among (0 ∷ []) chosen);
+  columns = option_and_then (λ o. columns_in o.setting) (last_among (1 ∷ []) chosen);
+}
+
+abbrev pub type_line : List Token → Result TypeLine Refusal
+type_line words = do
+  range ← type_operands (operands_of words)
+  chosen ← chosen_of options words
+  Ok (record { range = range; style = style_of chosen })
+
+-- ---- what is typed of a record
+
+-- the bytes of some columns, which a record may have in part or not at all
+abbrev pub columns_of : Option ColumnRange → List ℕ → List ℕ
+columns_of None text = text
+columns_of (Some c) text = drop (c.first - 1) (take c.last text)
+
+-- two upper-case hexadecimal digits a byte
+abbrev pub in_digits : List ℕ → List ℕ
+in_digits text = flat_map (λ b. hexadecimal_digit (b / 16) ∷ hexadecimal_digit (b % 16) ∷ []) text
+
+abbrev pub record_text : TypeStyle → List ℕ → List ℕ
+record_text style text = if style.hexadecimal then in_digits (columns_of style.columns text) else columns_of style.columns text
+
+-- the nth record from 1 is typed, where it isn't one in front of the first that is typed
+abbrev pub typed_nth : TypeLine → ℕ → List ℕ → Act ⊤
+typed_nth line n text = if nat_lt n line.range.first then Done tt else saying (typed_line (record_text line.style text))
+
+-- ---- the command
+
+-- so many records are all that are wanted
+abbrev pub ends_at : TypeRange → ℕ → Bool
+ends_at range n = option_map_or (λ last. nat_le last n) range.last false
+
+-- how many records are read: to the last that is typed, at most to the end
+abbrev pub wanted_of : TypeRange → File → ℕ
+wanted_of range f = option_map_or (λ last. min last (length f.records)) range.last (length f.records)
+
+-- the records in front of the first aren't typed
+abbrev pub typing_from : TypeLine → List (List ℕ) → Act Course → Act Course
+typing_from line records next = typing (map (record_text line.style) (drop (line.range.first - 1) records)) next
+
+abbrev pub type_records : Machine → TypeLine → UnitFile → Act Course
+type_records s line x =
+    reading (typing_from line) x.unit x.file (wanted_of line.range x.file) (Done (Went s (pos 0))) (device_fault s (vdev_of s x.unit))
+
+-- a first record that isn't there is refused as an operand: 070
+abbrev pub type_found : Machine → List Token → TypeLine → UnitFile → Act Course
+type_found s words line x =
+    if nat_lt (length x.file.records) line.range.first then word_refused s words (BadOperand 4) else type_records s line x
+
+abbrev pub type_file : Machine → List Token → TypeLine → Act Course
+type_file s words line = on_found s words 1 (type_found s words line) (file_read s line.range.input)
+
+-- the same of the file of the line's name on the disk of letter n
+abbrev pub type_on : Machine → List Token → TypeLine → ℕ → Act Course
+type_on s words line n = on_found s words 1 (type_found s words line) (file_on s line.range.input.name (letter_at s n))
+
+-- the records of a file are typed, each as it is handed out: 069, 002, 070, 105
+abbrev pub type_command : Machine → List Token → Act Course
+type_command s words = on_line s words (type_file s words) (type_line words)

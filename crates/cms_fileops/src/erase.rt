@@ -1,0 +1,164 @@
+// ERASE.
+ghost use Rattle.std.specs.Prelude.{⊤, ◌≡◌, true};
+ghost use Rattle.cms_fields.specs.Moments.{is_moment};
+ghost use Rattle.cms_operands.specs.Choices.{AnswersLine};
+ghost use Rattle.cms_search.specs.Calls.{Acts, IsUsable, course_of, machine_of, spot};
+ghost use Rattle.cms_files.specs.Updating.{updated_of};
+ghost use Rattle.cms_fileops.specs.Erase as spec;
+
+use cms_edf::Change;
+use cms_files::{
+    FileUpdate, NameChoice, TakenFile, Updated, file_text, files_written, find_written, is_last,
+    name_choice, refuse_search, stop_search, tell_updated, update_disk, update_each,
+};
+use cms_line::{Token, Tokens};
+use cms_names::Name;
+use cms_operands::{
+    CommandFault, OptionForm, Parameter, Refusal, WriteMode, chosen_options, coded, ended,
+    given_or, operands, writing_mode,
+};
+use cms_search::{Course, End, SearchFault, State, refuse_command};
+use cms_world::World;
+use std::alloc::Global;
+
+/// The files that are erased: those of a disk that a choice of names and a number take.
+#[derive(Clone, Copy, Debug, PartialEq, Eq)]
+pub struct EraseFiles {
+    pub names: NameChoice,
+    pub mode: WriteMode,
+}
+
+/// What ERASE's line says.
+#[derive(Clone, Copy, Debug, PartialEq, Eq)]
+pub struct EraseLine {
+    pub files: EraseFiles,
+    /// each file is typed
+    pub types: bool,
+}
+
+#[tactic(auto, unfolding(crate::specs::Erase::erase_operands))]
+fn erase_operands(operands: &[Token]) -> Result<EraseFiles, Refusal>
+    ensures { result ≡ spec.erase_operands operands.now }
+{
+    let names = name_choice(operands, 1)?;
+    let mode = writing_mode(3, given_or(operands, 3, &coded(b"A")))?;
+    ended(operands, 4)?;
+    Ok(EraseFiles { names, mode })
+}
+
+fn options() -> [OptionForm; 2]
+    ensures { result ≡ spec.options }
+{
+    [
+        OptionForm::new(b"TYPE    ", 2, Parameter::Nothing),
+        OptionForm::new(b"NOTYPE  ", 3, Parameter::Nothing),
+    ]
+}
+
+/// What ERASE's line says, or why it is refused.
+pub fn erase_line(alloc: Global, words: &Tokens) -> Result<EraseLine, CommandFault>
+    ensures { AnswersLine (spec.erase_line words.now) result }
+{
+    let files = erase_operands(operands(words.as_slice()))?;
+    let chosen = chosen_options(alloc, &options(), words)?;
+    Ok(EraseLine {
+        files,
+        types: is_last(0, &[0, 1], chosen.as_slice()),
+    })
+}
+
+// The file of a name on the disk of a letter goes.
+fn erase_file<W: World>(
+    alloc: Global,
+    world: &mut W,
+    state: &mut State,
+    words: &Tokens,
+    letter: u8,
+    name: &Name,
+) -> Result<Updated, End>
+    requires usable { IsUsable (spot W.World world.old state.old) }
+    requires moment { is_moment state.old.moment ≡ true }
+    ensures acts { Acts (spot W.World world.old state.old) (spot W.World world.new state.new)
+        (λ units. spec.erase_file (machine_of state.old units) words.now letter name.now) result (updated_of state.new) }
+    ensures kept { state.new ≡ record state.old { table = state.new.table; places = state.new.places } }
+{
+    match find_written(&state.table, letter, name) {
+        Ok(()) => update_disk(alloc, world, state, letter, &Change::Drop { name }),
+        Err(fault) => stop_search(alloc, world, state, words, 1, fault),
+    }
+}
+
+// The erasure of files, as a line asks for it.
+#[derive(Clone, Copy)]
+struct Erasing<'w> {
+    words: &'w Tokens,
+    letter: u8,
+    types: bool,
+}
+
+impl FileUpdate<TakenFile> for Erasing<'_> {
+    ghost tree = { λ e. spec.erase_told e.words.now e.letter e.types };
+
+    ghost takes = { λ e f. ⊤ };
+
+    fn update<W: World>(
+        &self,
+        alloc: Global,
+        world: &mut W,
+        state: &mut State,
+        file: &TakenFile,
+    ) -> Result<Updated, End> {
+        let text = file_text(alloc, self.letter, &file.name, file.number)?;
+        let updated = erase_file(alloc, world, state, self.words, self.letter, &file.name)?;
+        tell_updated(world, state, updated, self.types, &text)
+    }
+}
+
+// The files that the line means go.
+fn erase_files<W: World>(
+    alloc: Global,
+    world: &mut W,
+    state: &mut State,
+    words: &Tokens,
+    line: &EraseLine,
+) -> Result<Course, End>
+    requires usable { IsUsable (spot W.World world.old state.old) }
+    requires moment { is_moment state.old.moment ≡ true }
+    ensures acts { Acts (spot W.World world.old state.old) (spot W.World world.new state.new)
+        (λ units. spec.erase_files (machine_of state.old units) words.now line.now) result (course_of state.new) }
+    ensures kept { state.new ≡ record state.old { table = state.new.table; places = state.new.places } }
+{
+    match files_written(alloc, &state.table, &line.files.names, &line.files.mode) {
+        Ok(files) => {
+            let erasing = Erasing {
+                words,
+                letter: line.files.mode.letter,
+                types: line.types,
+            };
+            update_each(alloc, world, state, &erasing, files.as_slice())
+        }
+        Err(fault) => match fault {
+            SearchFault::Memory => Err(End::Memory),
+            _ => refuse_search(alloc, world, words.as_slice(), 1, fault),
+        },
+    }
+}
+
+/// ERASE: files of a disk go, one update each, in the order in which they stood.
+pub fn run_erase<W: World>(
+    alloc: Global,
+    world: &mut W,
+    state: &mut State,
+    words: &Tokens,
+) -> Result<Course, End>
+    requires usable { IsUsable (spot W.World world.old state.old) }
+    requires moment { is_moment state.old.moment ≡ true }
+    ensures acts { Acts (spot W.World world.old state.old) (spot W.World world.new state.new)
+        (λ units. spec.erase (machine_of state.old units) words.now) result (course_of state.new) }
+    ensures kept { state.new ≡ record state.old { table = state.new.table; places = state.new.places } }
+{
+    match erase_line(alloc, words) {
+        Ok(line) => erase_files(alloc, world, state, words, &line),
+        Err(fault) => refuse_command(alloc, world, words, fault),
+    }
+}

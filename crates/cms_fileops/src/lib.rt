@@ -1,0 +1,12 @@
+//! The commands on files: STATE, TYPE, ERASE and RENAME.
+#![tactic(auto)]
+
+mod erase;
+mod rename;
+mod state;
+mod typing;
+
+pub use erase::{EraseFiles, EraseLine, erase_line, run_erase};
+pub use rename::{RenameFiles, RenameLine, Renaming, rename_line, run_rename};
+pub use state::{run_state, state_line};
+pub use typing::{ColumnRange, TypeLine, TypeRange, TypeStyle, run_type, type_line};

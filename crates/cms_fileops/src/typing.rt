@@ -1,0 +1,277 @@
+// TYPE.
+ghost use Rattle.std.specs.Prelude.{◌≡◌, ◌≤◌, ◌-◌, drop, take, List, IfOk};
+ghost use Rattle.cms_line.specs.declared.token.Token.{Token};
+ghost use Rattle.cms_operands.specs.Choices.{AnswersLine};
+ghost use Rattle.cms_search.specs.Calls.{Acts, Does, IsUsable, course_of, itself, machine_of, spot};
+ghost use Rattle.cms_world.specs.Seen.{seen};
+ghost use Rattle.cms_files.specs.Opening.{IsOpened};
+ghost use Rattle.cms_fileops.specs.Typing as spec;
+
+use cms_disk::DiskFault;
+use cms_files::{FileInput, OpenFile, file_input, open_file, refuse_search};
+use cms_line::{Token, Tokens};
+use cms_operands::{
+    ChosenOption, CommandFault, OptionForm, Parameter, Refusal, Setting, chosen_options, coded,
+    ended, given_or, last_among, number, number_or_all, operands,
+};
+use cms_search::{
+    Course, End, SearchFault, State, hexadecimal_digit, refuse_altered, refuse_command,
+    refuse_device, refuse_line, say,
+};
+use cms_world::World;
+use std::alloc::{AllocError, Global};
+
+/// The largest number that a word writes.
+const LARGEST: u32 = 999_999_999;
+
+/// The bytes of a record that are typed: from the first column, at least 1, to the last, at least the first.
+#[derive(Clone, Copy, Debug, PartialEq, Eq)]
+pub struct ColumnRange {
+    pub first: u32,
+    pub last: u32,
+}
+
+/// What TYPE's operands say: a file, and its records that are typed, from 1; without a last one all to the end.
+#[derive(Clone, Copy, Debug, PartialEq, Eq)]
+pub struct TypeRange {
+    pub input: FileInput,
+    pub first: u32,
+    pub last: Option<u32>,
+}
+
+/// How a record is typed.
+#[derive(Clone, Copy, Debug, PartialEq, Eq)]
+pub struct TypeStyle {
+    /// two digits a byte
+    pub hexadecimal: bool,
+    /// or whole
+    pub columns: Option<ColumnRange>,
+}
+
+/// What TYPE's line says.
+#[derive(Clone, Copy, Debug, PartialEq, Eq)]
+pub struct TypeLine {
+    pub range: TypeRange,
+    pub style: TypeStyle,
+}
+
+#[tactic(auto, unfolding(crate::specs::Typing::type_operands))]
+fn type_operands(operands: &[Token]) -> Result<TypeRange, Refusal>
+    ensures { result ≡ spec.type_operands operands.now }
+{
+    let input = file_input(operands, 1)?;
+    let first = number(1, LARGEST, 4, given_or(operands, 4, &coded(b"1")))?;
+    let last = number_or_all(first, LARGEST, 5, given_or(operands, 5, &coded(b"*")))?;
+    ended(operands, 6)?;
+    Ok(TypeRange { input, first, last })
+}
+
+fn options() -> [OptionForm; 2]
+    ensures { result ≡ spec.options }
+{
+    [
+        OptionForm::new(b"HEX     ", 3, Parameter::Nothing),
+        OptionForm::new(b"COL     ", 3, Parameter::Columns),
+    ]
+}
+
+// The columns that a parameter says.
+fn columns_in(setting: Setting) -> Option<ColumnRange>
+    ensures { result ≡ spec.columns_in setting }
+{
+    match setting {
+        Setting::Columns(first, last) => Some(ColumnRange { first, last }),
+        _ => None,
+    }
+}
+
+// How the options say that records are typed.
+fn style_of(chosen: &[ChosenOption]) -> TypeStyle
+    ensures { result ≡ spec.style_of chosen.now }
+{
+    let columns = match last_among(&[1], chosen) {
+        Some(option) => columns_in(option.setting),
+        None => None,
+    };
+    TypeStyle {
+        hexadecimal: last_among(&[0], chosen).is_some(),
+        columns,
+    }
+}
+
+/// What TYPE's line says, or why it is refused.
+pub fn type_line(alloc: Global, words: &Tokens) -> Result<TypeLine, CommandFault>
+    ensures { AnswersLine (spec.type_line words.now) result }
+{
+    let range = type_operands(operands(words.as_slice()))?;
+    let chosen = chosen_options(alloc, &options(), words)?;
+    Ok(TypeLine {
+        range,
+        style: style_of(chosen.as_slice()),
+    })
+}
+
+impl ColumnRange {
+    // The bytes of a record in these columns.
+    fn of<'a>(&self, text: &'a [u8]) -> &'a [u8]
+        ensures { result.now ≡ drop (self.now.first - 1) (take self.now.last text.now) }
+    {
+        let front = &text[..text.len().min(self.last as usize)];
+        let before = front.len().min(self.first.saturating_sub(1) as usize);
+        &front[before..]
+    }
+}
+
+impl TypeRange {
+    // Whether so many records are all that are wanted.
+    fn ends_at(&self, count: u32) -> bool
+        ensures { result ≡ spec.ends_at self.now count }
+    {
+        match self.last {
+            Some(last) => last <= count,
+            None => false,
+        }
+    }
+}
+
+impl TypeStyle {
+    // The bytes of a record that are typed.
+    fn columns_of<'a>(&self, text: &'a [u8]) -> &'a [u8]
+        ensures { result.now ≡ spec.columns_of self.now.columns text.now }
+    {
+        match self.columns {
+            Some(columns) => columns.of(text),
+            None => text,
+        }
+    }
+}
+
+// Two upper-case hexadecimal digits a byte.
+fn in_digits(alloc: Global, text: &[u8]) -> Result<Vec<u8>, AllocError>
+    ensures { IfOk result (λ digits. digits.items ≡ spec.in_digits text.now) }
+{
+    let mut digits = Vec::new(alloc);
+    for byte in text {
+        digits.push(hexadecimal_digit(*byte / 16))?;
+        digits.push(hexadecimal_digit(*byte % 16))?;
+    }
+    Ok(digits)
+}
+
+// Types the nth record from 1, where it isn't in front of the first that is typed.
+fn type_nth<W: World>(
+    alloc: Global,
+    world: &mut W,
+    line: &TypeLine,
+    nth: u32,
+    text: &[u8],
+) -> Result<(), End>
+    ensures { Does (seen W.World world.old) (seen W.World world.new) (spec.typed_nth line.now nth text.now) result itself }
+{
+    if nth < line.range.first {
+        return Ok(());
+    }
+    let columns = line.style.columns_of(text);
+    if line.style.hexadecimal {
+        say(world, &in_digits(alloc, columns)?)
+    } else {
+        say(world, columns)
+    }
+}
+
+// Types the records of a file on the disk of a letter, each as it is handed out; the first that is typed is there.
+fn type_records<W: World>(
+    alloc: Global,
+    world: &mut W,
+    state: &State,
+    letter: u8,
+    file: OpenFile,
+    line: &TypeLine,
+) -> Result<Course, End>
+    requires usable { IsUsable (spot W.World world.old state.now) }
+    requires opened { IsOpened state.now.table letter line.now.range.input.name file }
+    requires first { line.now.range.first ≤ file.count }
+    ensures { (words : List Token) → Acts (spot W.World world.old state.now) (spot W.World world.new state.now)
+        (λ units. spec.type_on (machine_of state.now units) words line.now letter) result (course_of state.now) }
+{
+    let vdev = file.vdev;
+    let mut cursor = file.cursor;
+    let mut count = 0;
+    while !line.range.ends_at(count) {
+        match cursor.next(world) {
+            Ok(true) => {
+                count += 1;
+                type_nth(alloc, world, line, count, cursor.text())?;
+            }
+            Ok(false) => return Ok(Course::Went(0)),
+            Err(fault) => match fault {
+                // never in a world that tells its journal
+                DiskFault::Altered => return refuse_altered(alloc, world, vdev),
+                _ => return refuse_device(alloc, world, vdev),
+            },
+        }
+    }
+    Ok(Course::Went(0))
+}
+
+// Types the file of the line's name on the disk of a letter.
+fn type_on<W: World>(
+    alloc: Global,
+    world: &mut W,
+    state: &State,
+    words: &Tokens,
+    line: &TypeLine,
+    letter: u8,
+) -> Result<Course, End>
+    requires usable { IsUsable (spot W.World world.old state.now) }
+    ensures { Acts (spot W.World world.old state.now) (spot W.World world.new state.now)
+        (λ units. spec.type_on (machine_of state.now units) words.now line.now letter) result (course_of state.now) }
+{
+    match open_file(alloc, &state.table, letter, &line.range.input.name) {
+        Ok(file) if file.count < line.range.first => {
+            refuse_line(alloc, world, words.as_slice(), Refusal::BadOperand(4))
+        }
+        Ok(file) => type_records(alloc, world, state, letter, file, line),
+        Err(SearchFault::NotFound) => {
+            refuse_search(alloc, world, words.as_slice(), 1, SearchFault::NotFound)
+        }
+        Err(_) => Err(End::Memory),
+    }
+}
+
+// Types the file that the line says.
+fn type_file<W: World>(
+    alloc: Global,
+    world: &mut W,
+    state: &State,
+    words: &Tokens,
+    line: &TypeLine,
+) -> Result<Course, End>
+    requires usable { IsUsable (spot W.World world.old state.now) }
+    ensures { Acts (spot W.World world.old state.now) (spot W.World world.new state.now)
+        (λ units. spec.type_file (machine_of state.now units) words.now line.now) result (course_of state.now) }
+{
+    let input = &line.range.input;
+    match state.table.find_read(&input.name, &input.mode) {
+        Ok(found) => type_on(alloc, world, state, words, line, found.letter),
+        Err(fault) => refuse_search(alloc, world, words.as_slice(), 1, fault),
+    }
+}
+
+/// TYPE: the records of a file, each as it is handed out.
+pub fn run_type<W: World>(
+    alloc: Global,
+    world: &mut W,
+    state: &mut State,
+    words: &Tokens,
+) -> Result<Course, End>
+    requires usable { IsUsable (spot W.World world.old state.old) }
+    ensures acts { Acts (spot W.World world.old state.old) (spot W.World world.new state.new)
+        (λ units. spec.type_command (machine_of state.old units) words.now) result (course_of state.new) }
+    ensures kept { state.new ≡ state.old }
+{
+    match type_line(alloc, words) {
+        Ok(line) => type_file(alloc, world, state, words, &line),
+        Err(fault) => refuse_command(alloc, world, words, fault),
+    }
+}

@@ -1,0 +1,7 @@
+pub mod Identifiers
+pub mod Opening
+pub mod Files
+pub mod Updating
+pub mod Stacking
+pub mod Pushing
+pub mod Gathering

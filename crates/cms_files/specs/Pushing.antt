@@ -1,0 +1,8 @@
+-- A line that is stacked.
+use Rattle.std.specs.Prelude.{ℕ, List, [], ◌∷◌, ◌++◌}
+use Rattle.cms_files.specs.declared.stacking.StackEnd.{StackEnd}
+use Rattle.cms_files.specs.declared.stacking.StackEnd.TheVariants.{Front, Back}
+
+abbrev pub with_line : StackEnd → List ℕ → List (List ℕ) → List (List ℕ)
+with_line Back line stack = stack ++ line ∷ []
+with_line Front line stack = line ∷ stack

@@ -1,0 +1,85 @@
+-- Updates of files: one change of a minidisk each, behind which no reading place is kept in the files that it is of.
+use Rattle.std.specs.Prelude.{ℕ, pos, Bool, List, [], ◌∷◌, Option, Some, None, Result, Ok, Err}
+use Rattle.std.specs.FinMap.{remove}
+use Rattle.cms_names.specs.declared.name.Name.{Name}
+use Rattle.cms_text.specs.Numbers.{decimal_of}
+use Rattle.cms_model.specs.Changes.{Change, Put, Add, Drop, Rename, Relabel}
+use Rattle.cms_machine.specs.Acts.{Act, Done, bind}
+use Rattle.cms_line.specs.declared.message.Message.TheVariants.{M107, M120}
+use Rattle.cms_search.specs.ChangeTold.{limited}
+use Rattle.cms_search.specs.Machine.{Letter, Machine, Places, Course, Went, letter_at, place_key, refusal}
+use Rattle.cms_search.specs.Refusing.{fault}
+use Rattle.cms_search.specs.Releasing.{vdev_of}
+use Rattle.cms_search.specs.Stepping.{Stepped, Did, Failed, Changing, IsChanged, IsLimited, IsFull, HasFailed, changing, unless_failed}
+use Rattle.cms_search.specs.Telling.{letter_text}
+use Rattle.cms_search.specs.declared.fault.SearchFault.{SearchFault}
+use Rattle.cms_line.specs.declared.token.Token.{Token}
+use Rattle.cms_machine.specs.Slots.{Slot}
+use Rattle.cms_search.specs.Calls.{Meaning, course_of, machine_of}
+use Rattle.cms_search.specs.declared.state.State.{State}
+use Rattle.cms_files.specs.declared.updating.Updated as declared
+use Rattle.cms_files.specs.declared.updating.Updated.TheVariants as came
+use Rattle.cms_files.specs.Files.{search_refused, told}
+
+-- the files that a change is of
+abbrev pub names_of : Change → List Name
+names_of (Put f) = f.name ∷ []
+names_of (Add name more stamp) = name ∷ []
+names_of (Drop name) = name ∷ []
+names_of (Rename from to number) = from ∷ to ∷ []
+names_of (Relabel volid) = []
+
+-- no reading place is kept in these files of a device
+abbrev pub places_without : ℕ → List Name → Places → Places
+places_without vdev [] places = places
+places_without vdev (name ∷ names) places = places_without vdev names (remove places (place_key vdev name))
+
+abbrev pub forgetting : Machine → ℕ → List Name → Machine
+forgetting s vdev names = record s { places = places_without vdev names s.places }
+
+-- the device of a letter's disk
+abbrev pub vdev_at : Machine → Option Letter → ℕ
+vdev_at s None = 0
+vdev_at s (Some disk) = vdev_of s disk.unit
+
+-- the command ended
+abbrev pub stopping : Act Course → Act Stepped
+stopping tree = bind tree (λ course. Done (Failed course))
+
+-- goes on with what a search found; or it is refused, and the command ended
+abbrev pub on_step : {A : Type 0} → Machine → List Token → ℕ → (A → Act Stepped) → Result A SearchFault → Act Stepped
+on_step s words place next (Ok x) = next x
+on_step s words place next (Err why) = stopping (search_refused s words place why)
+
+-- what a change came to: 120, 107; 105 is typed by then
+abbrev pub updated : ℕ → ℕ → Change → Changing → Act Stepped
+updated n vdev change (IsChanged s) = Done (Did (forgetting s vdev (names_of change)))
+updated n vdev change (IsLimited s k) = stopping (refusal s (M120 (decimal_of k)) limited)
+updated n vdev change (IsFull s need free) = stopping (refusal s (M107 (letter_text n) (decimal_of need) (decimal_of free)) fault)
+updated n vdev change (HasFailed course) = Done (Failed course)
+
+-- one update of the minidisk of letter n
+abbrev pub updating : Machine → ℕ → Change → Act Stepped
+updating s n change = bind (changing s n change) (updated n (vdev_at s (letter_at s n)) change)
+
+-- ---- files, one after another
+
+-- behind an update of a file: with TYPE it is typed
+abbrev pub telling : Bool → List ℕ → Stepped → Act Stepped
+telling types text (Did s) = told types text (Done (Did s))
+telling types text (Failed course) = Done (Failed course)
+
+-- each is updated in its turn; the first refusal stops
+unfoldable pub updating_each : {A : Type 0} → (Machine → A → Act Stepped) → List A → Machine → Act Course
+updating_each update [] s = Done (Went s (pos 0))
+updating_each update (x ∷ xs) s = bind (update s x) (unless_failed (updating_each update xs))
+
+-- ---- the calls
+
+abbrev pub updating_tree : State → ℕ → Change → List Slot → Act Stepped
+updating_tree s n change units = updating (machine_of s units) n change
+
+-- what an update came to, with the state that is left
+abbrev pub updated_of : State → Meaning declared.Updated Stepped
+updated_of s units came.Done = Did (machine_of s units)
+updated_of s units (came.Stopped course) = Failed (course_of s units course)

@@ -1,0 +1,61 @@
+// Files that are updated one after another.
+ghost use Rattle.std.specs.Prelude.{◌≡◌, true, All};
+ghost use Rattle.cms_fields.specs.Moments.{is_moment};
+ghost use Rattle.cms_search.specs.Calls.{Acts, IsUsable, course_of, machine_of, spot};
+ghost use Rattle.cms_search.specs.Machine.{Machine};
+ghost use Rattle.cms_search.specs.Stepping.{Stepped};
+ghost use Rattle.cms_machine.specs.Acts.{Act};
+ghost use Rattle.cms_files.specs.Updating.{updated_of, updating_each};
+
+use crate::updating::Updated;
+use cms_search::{Course, End, State};
+use cms_world::World;
+use std::alloc::Global;
+
+/// What a command does to each of some files, by one update a file.
+pub trait FileUpdate<F> {
+    /// what it does to a file, on a machine
+    ghost tree: { Self → Machine → F → Act Stepped };
+
+    /// what is asked of a file
+    ghost takes: { Self → F → Type 0 };
+
+    /// Updates a file. Where that is refused or fails its message is typed, and the command ends.
+    fn update<W: World>(
+        &self,
+        alloc: Global,
+        world: &mut W,
+        state: &mut State,
+        file: &F,
+    ) -> Result<Updated, End>
+        requires usable { IsUsable (spot W.World world.old state.old) }
+        requires moment { is_moment state.old.moment ≡ true }
+        requires takes { takes self.now file.now }
+        ensures acts { Acts (spot W.World world.old state.old) (spot W.World world.new state.new)
+            (λ units. tree self.now (machine_of state.old units) file.now) result (updated_of state.new) }
+        ensures kept { state.new ≡ record state.old { table = state.new.table; places = state.new.places } };
+}
+
+/// Files are updated one after another, until one is refused.
+pub fn update_each<W: World, F, U: FileUpdate<F>>(
+    alloc: Global,
+    world: &mut W,
+    state: &mut State,
+    update: &U,
+    files: &[F],
+) -> Result<Course, End>
+    requires usable { IsUsable (spot W.World world.old state.old) }
+    requires moment { is_moment state.old.moment ≡ true }
+    requires takes { All (U.takes update.now) files.now }
+    ensures acts { Acts (spot W.World world.old state.old) (spot W.World world.new state.new)
+        (λ units. updating_each (U.tree update.now) files.now (machine_of state.old units)) result (course_of state.new) }
+    ensures kept { state.new ≡ record state.old { table = state.new.table; places = state.new.places } }
+{
+    for file in files {
+        match update.update(alloc, world, state, file)? {
+            Updated::Done => {}
+            Updated::Stopped(course) => return Ok(course),
+        }
+    }
+    Ok(Course::Went(0))
+}

@@ -1,0 +1,29 @@
+//! What the commands on files share: identifiers in the words of a line, searches and their refusals, updates, records that are gathered
+//! for a file, and lines that are stacked.
+#![tactic(auto)]
+
+mod each;
+mod gathering;
+mod identifier;
+mod opening;
+mod pushing;
+mod searching;
+mod stacking;
+mod taken;
+mod telling;
+mod updating;
+mod writing;
+
+pub use each::{FileUpdate, update_each};
+pub use gathering::Gathered;
+pub use identifier::{
+    FileInput, NameChoice, file_input, full_name, is_last, name_choice, output_name, takes_number,
+};
+pub use opening::{OpenFile, open_file};
+pub use pushing::stack_lines;
+pub use searching::{NO_FILE, refuse_exists, refuse_search};
+pub use stacking::StackEnd;
+pub use taken::{TakenFile, TakenFiles, files_written, find_written};
+pub use telling::{file_text, tell_updated};
+pub use updating::{Updated, stop_exists, stop_search, update_disk};
+pub use writing::write_file;

@@ -1,0 +1,56 @@
+// Files that are opened.
+ghost use Rattle.std.specs.Prelude.{◌≡◌, ◌⊎◌, Err, IfOk, IfErr};
+ghost use Rattle.cms_search.specs.Machine.{Machine, letter_at};
+ghost use Rattle.cms_search.specs.Shows.{Shows};
+ghost use Rattle.cms_search.specs.declared.fault.SearchFault.TheVariants.{Memory, NotFound};
+ghost use Rattle.cms_files.specs.Files.{file_on};
+ghost use Rattle.cms_files.specs.Opening.{HasRecords, IsOpened};
+
+use cms_disk::Cursor;
+use cms_names::Name;
+use cms_search::{SearchFault, Table};
+use std::alloc::Global;
+
+/// A file that was opened.
+#[derive(Drop)]
+pub struct OpenFile {
+    /// its records
+    pub cursor: Cursor,
+    /// how many they are
+    pub count: u32,
+    /// the device of its disk
+    pub vdev: u16,
+}
+
+/// Opens the file of a name on the disk of a letter, before its first record: `NotFound` exactly where the letter isn't accessed or its
+/// disk has no such file; else there is no memory.
+pub fn open_file(
+    alloc: Global,
+    table: &Table,
+    letter: u8,
+    name: &Name,
+) -> Result<OpenFile, SearchFault>
+    ensures opened { IfOk result (IsOpened table.now letter name.now) }
+    ensures there { IfOk result (λ file. (s : Machine) → Shows table.now s
+        → HasRecords file.count (file_on s name.now (letter_at s letter))) }
+    ensures missing { IfErr result (λ e. e ≡ NotFound → (s : Machine) → Shows table.now s
+        → file_on s name.now (letter_at s letter) ≡ Err NotFound) }
+    ensures fault { IfErr result (λ e. (e ≡ NotFound) ⊎ (e ≡ Memory)) }
+{
+    let Some(disk) = table.disk(letter) else {
+        return Err(SearchFault::NotFound);
+    };
+    let Some(place) = disk.find(name) else {
+        return Err(SearchFault::NotFound);
+    };
+    let count = disk.info(place).count;
+    match disk.cursor(alloc, name) {
+        Ok(cursor) => Ok(OpenFile {
+            cursor,
+            count,
+            vdev: table.vdev(letter),
+        }),
+        // the file is there, so this is want of memory
+        Err(_) => Err(SearchFault::Memory),
+    }
+}

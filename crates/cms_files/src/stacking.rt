@@ -1,0 +1,10 @@
+// Lines that are stacked.
+
+/// Where lines are stacked.
+#[derive(Clone, Copy, Debug, PartialEq, Eq)]
+pub enum StackEnd {
+    /// in front of all others
+    Front,
+    /// behind all others
+    Back,
+}

@@ -1,0 +1,193 @@
+-- LISTFILE [fn [ft [fm]]] [(options]
+use Rattle.std.specs.Prelude.{ℕ, pos, ◌==◌, nat_le, Bool, true, false, if◌then◌else◌, List, [], ◌∷◌, ◌++◌, codes, is_some, map, Result, Ok, Err, ⊤}
+use Rattle.std.specs.Option.{option_map_or}
+use Rattle.cms_names.specs.declared.name.Format.{Format}
+use Rattle.cms_names.specs.declared.name.Format.TheVariants as format
+use Rattle.cms_names.specs.declared.name.Name.{Name}
+use Rattle.cms_fields.specs.Moments.{stamp_of}
+use Rattle.cms_fields.specs.Steps.{◌>>=◌, ◌>>◌}
+use Rattle.cms_text.specs.Texts.{coded}
+use Rattle.cms_model.specs.Changes.{Change, Put, Add}
+use Rattle.cms_model.specs.Minidisks.{File}
+use Rattle.cms_machine.specs.Acts.{Act, Done, bind}
+use Rattle.cms_line.specs.declared.token.Token.{Token}
+use Rattle.cms_operands.specs.Choices.{chosen_of, form, last_among}
+use Rattle.cms_operands.specs.Operands.{ended, operands_of, pattern, reading_mode}
+use Rattle.cms_operands.specs.declared.choosing.ChosenOption.{ChosenOption}
+use Rattle.cms_operands.specs.declared.choosing.OptionForm.{OptionForm}
+use Rattle.cms_operands.specs.declared.choosing.Parameter.TheVariants as takes
+use Rattle.cms_operands.specs.declared.refusal.Refusal.{Refusal}
+use Rattle.cms_search.specs.Machine.{Machine, Course, Went, letter_at, typing}
+use Rattle.cms_search.specs.Refusing.{on_line}
+use Rattle.cms_search.specs.Searches.{Shelf, fitting, search, shelves_in}
+use Rattle.cms_search.specs.Stepping.{unless_failed}
+use Rattle.cms_search.specs.declared.fault.SearchFault.{SearchFault}
+use Rattle.cms_search.specs.declared.search.Found.{Found}
+use Rattle.cms_files.specs.Files.{UnitFile, file_on, on_found, some_found, writable}
+use Rattle.cms_files.specs.Gathering.{record_in}
+use Rattle.cms_files.specs.Identifiers.{is_last, mode_or_a, part_or_all}
+use Rattle.cms_files.specs.Stacking.{stacking}
+use Rattle.cms_files.specs.Updating.{updating}
+use Rattle.cms_files.specs.declared.stacking.StackEnd.{StackEnd}
+use Rattle.cms_files.specs.declared.stacking.StackEnd.TheVariants.{Front, Back}
+use Rattle.cms_listfile.specs.Listing.{count_of, header, lines_of}
+use Rattle.cms_listfile.specs.declared.columns.Columns.{Columns}
+use Rattle.cms_listfile.specs.declared.columns.Columns.TheVariants as to
+use Rattle.cms_listfile.specs.declared.listfile.Delivery.{Delivery}
+use Rattle.cms_listfile.specs.declared.listfile.Delivery.TheVariants as goes
+use Rattle.cms_listfile.specs.declared.listfile.ListFiles.{ListFiles}
+use Rattle.cms_listfile.specs.declared.listfile.ListLine.{ListLine}
+use Rattle.cms_listfile.specs.declared.listfile.ListStyle.{ListStyle}
+
+-- ---- the line
+
+-- two patterns and a mode: * * A
+unfoldable pub list_operands : List Token → Result ListFiles Refusal
+list_operands operands = do
+  file ← pattern 1 (part_or_all operands 1)
+  kind ← pattern 2 (part_or_all operands 2)
+  mode ← reading_mode 3 (mode_or_a operands 3)
+  ended operands 4
+  Ok (record { file = file; kind = kind; mode = mode })
+
+abbrev pub flag : List ℕ → ℕ → OptionForm
+flag word least = form word least takes.Nothing
+
+abbrev pub options : List OptionForm
+options =
+    flag (codes "HEADER  ") 1 ∷ flag (codes "NOHEADER") 3
+    ∷ flag (codes "FNAME   ") 2 ∷ flag (codes "FTYPE   ") 2 ∷ flag (codes "FMODE   ") 2 ∷ flag (codes "FORMAT  ") 2
+    ∷ flag (codes "ALLOC   ") 2 ∷ flag (codes "DATE    ") 1 ∷ flag (codes "LABEL   ") 1
+    ∷ flag (codes "STACK   ") 2 ∷ flag (codes "FIFO    ") 2 ∷ flag (codes "LIFO    ") 2
+    ∷ flag (codes "EXEC    ") 2 ∷ flag (codes "APPEND  ") 2 ∷ []
+
+-- the last column of an option
+abbrev pub column_of : ℕ → Columns
+column_of nth =
+    if nth == 2 then to.Name
+    else (if nth == 3 then to.Kind
+    else (if nth == 5 then to.Format
+    else (if nth == 6 then to.Alloc
+    else (if nth == 7 then to.Date
+    else (if nth == 8 then to.Label
+    else to.Mode)))))
+
+-- FMODE where no column is given
+abbrev pub columns_of : List ChosenOption → Columns
+columns_of chosen = option_map_or (λ o. column_of o.nth) (last_among (2 ∷ 3 ∷ 4 ∷ 5 ∷ 6 ∷ 7 ∷ 8 ∷ []) chosen) to.Mode
+
+-- the header is on from FORMAT on; HEADER and NOHEADER set it
+abbrev pub header_of : Columns → List ChosenOption → Bool
+header_of last chosen = option_map_or (λ o. o.nth == 0) (last_among (0 ∷ 1 ∷ []) chosen) (nat_le (count_of to.Format) (count_of last))
+
+-- FIFO unless LIFO
+abbrev pub end_of : List ChosenOption → StackEnd
+end_of chosen = if is_last 11 (10 ∷ 11 ∷ []) chosen then Front else Back
+
+-- the lines are stacked, or written into a file, to which they are added with APPEND
+abbrev pub delivery_by : List ChosenOption → ℕ → Delivery
+delivery_by chosen nth =
+    if nat_le nth 11 then goes.Stacked (end_of chosen)
+    else goes.Written (is_some (last_among (13 ∷ []) chosen))
+
+-- the last of STACK, FIFO, LIFO, EXEC and APPEND says which; without any of them the lines are typed
+abbrev pub delivery_of : List ChosenOption → Delivery
+delivery_of chosen = option_map_or (λ o. delivery_by chosen o.nth) (last_among (9 ∷ 10 ∷ 11 ∷ 12 ∷ 13 ∷ []) chosen) goes.Typed
+
+abbrev pub style_of : List ChosenOption → ListStyle
+style_of chosen = record {
+  columns = columns_of chosen;
+  header = header_of (columns_of chosen) chosen;
+  delivery = delivery_of chosen;
+}
+
+abbrev pub list_line : List Token → Result ListLine Refusal
+list_line words = do
+  files ← list_operands (operands_of words)
+  chosen ← chosen_of options words
+  Ok (record { files = files; style = style_of chosen })
+
+-- ---- lines that are written
+
+-- CMS EXEC on disk A
+abbrev pub written_name : Name
+written_name = record { file = coded (codes "CMS"); kind = coded (codes "EXEC") }
+
+abbrev pub disk_a : ℕ
+disk_a = 0
+
+abbrev pub written_length : ℕ
+written_length = 80
+
+-- for each file a line that gives two arguments before it
+abbrev pub procedure_lines : List (List ℕ) → List (List ℕ)
+procedure_lines lines = map (λ line. coded (codes "&1 &2 ") ++ line) lines
+
+-- the records that lines are in a file of this format
+abbrev pub records_in : Format → ℕ → List (List ℕ) → List (List ℕ)
+records_in format size lines = map (record_in format size) lines
+
+-- a new procedure of fixed records of 80 bytes, with mode number 1
+abbrev pub new_procedure : Machine → List (List ℕ) → File
+new_procedure s lines = record {
+  name = written_name;
+  number = 1;
+  format = format.F;
+  length = written_length;
+  stamp = stamp_of s.moment;
+  records = records_in format.F written_length (coded (codes "&TRACE OFF") ∷ procedure_lines lines);
+}
+
+-- lines that are added to the procedure, as records of its format and length
+abbrev pub added_lines : Machine → Format → ℕ → List (List ℕ) → Change
+added_lines s format size lines = Add written_name (records_in format size (procedure_lines lines)) (stamp_of s.moment)
+
+-- with APPEND the lines are added to the file, where it is there
+abbrev pub written_change : Machine → Bool → List (List ℕ) → Result UnitFile SearchFault → Change
+written_change s false lines x = Put (new_procedure s lines)
+written_change s true lines (Err why) = Put (new_procedure s lines)
+written_change s true lines (Ok x) = added_lines s x.file.format x.file.length lines
+
+abbrev pub went : Machine → Act Course
+went s = Done (Went s (pos 0))
+
+-- one update of disk A
+abbrev pub writing : Machine → Bool → List (List ℕ) → Act Course
+writing s append lines =
+    bind (updating s disk_a (written_change s append lines (file_on s written_name (letter_at s disk_a)))) (unless_failed went)
+
+-- ---- the command
+
+abbrev pub with_header : ListStyle → List (List ℕ) → List (List ℕ)
+with_header style lines = if style.header then header style.columns ∷ lines else lines
+
+-- the lines are typed, or stacked, with their header; or they are written without one
+abbrev pub delivering : Machine → ListStyle → Delivery → List (List ℕ) → Act Course
+delivering s style goes.Typed lines = typing (with_header style lines) (went s)
+delivering s style (goes.Stacked end) lines = stacking s end (with_header style lines)
+delivering s style (goes.Written append) lines = writing s append lines
+
+-- lines that are written need disk A: 069, 037
+abbrev pub may_write : Result Shelf SearchFault → Result ⊤ SearchFault
+may_write (Ok shelf) = Ok tt
+may_write (Err why) = Err why
+
+abbrev pub has_disk : Machine → Delivery → Result ⊤ SearchFault
+has_disk s goes.Typed = Ok tt
+has_disk s (goes.Stacked end) = Ok tt
+has_disk s (goes.Written append) = may_write (writable (shelves_in s) disk_a)
+
+-- the files that two patterns and a mode find, letter by letter: 069, then that of the disk that is written, 002
+abbrev pub files_listed : Machine → ListLine → Result (List Found) SearchFault
+files_listed s line = do
+  found ← search (shelves_in s) line.files.mode (fitting line.files.file line.files.kind)
+  has_disk s line.style.delivery
+  some_found found
+
+abbrev pub list_files : Machine → List Token → ListLine → Act Course
+list_files s words line =
+    on_found s words 1 (λ found. delivering s line.style line.style.delivery (lines_of s line.style.columns found)) (files_listed s line)
+
+-- files are listed: 069, 037, 002, 120, 107, 105
+abbrev pub listfile : Machine → List Token → Act Course
+listfile s words = on_line s words (list_files s words) (list_line words)

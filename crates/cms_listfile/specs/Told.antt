@@ -1,0 +1,64 @@
+-- What a table tells of files that were found, as LISTFILE shows it.
+use Rattle.std.specs.Prelude.{◌≡◌, ℕ, List, [], ◌∷◌, codes, slice_get, Option, Ok, ⊤}
+use Rattle.std.specs.List.{flat_map}
+use Rattle.std.specs.Option.{option_and_then, option_map, option_map_or}
+use Rattle.cms_names.specs.declared.name.Name.{Name}
+use Rattle.cms_text.specs.Texts.{coded}
+use Rattle.cms_held.specs.Opening.{HeldVolume}
+use Rattle.cms_edf.specs.Asking.{infos_in}
+use Rattle.cms_edf.specs.declared.held.FileInfo.{FileInfo}
+use Rattle.cms_disk.specs.Disks.{place_of}
+use Rattle.cms_search.specs.Searches.{item_at}
+use Rattle.cms_search.specs.Tables.{Accesses, letters_of, writing}
+use Rattle.cms_search.specs.declared.search.Found.{Found}
+use Rattle.cms_listfile.specs.Listfile.{disk_a}
+use Rattle.cms_listfile.specs.Listing.{line_to, told_columns}
+use Rattle.cms_listfile.specs.declared.columns.Columns.{Columns}
+use Rattle.cms_listfile.specs.declared.columns.Columns.TheVariants as to
+use Rattle.cms_listfile.specs.declared.line.ListedFile.{ListedFile}
+use Rattle.cms_listfile.specs.declared.listfile.Delivery.{Delivery}
+use Rattle.cms_listfile.specs.declared.listfile.Delivery.TheVariants as goes
+
+-- the header of all columns as one text, and how many bytes of it the columns have up to each
+abbrev pub full_header : List ℕ
+full_header = coded (codes "FILENAME FILETYPE FM F LRECL  RECORDS   BLOCKS DATE     TIME     LABEL ")
+
+abbrev pub width : Columns → ℕ
+width to.Name = 8
+width to.Kind = 17
+width to.Mode = 20
+width to.Format = 28
+width to.Alloc = 46
+width to.Date = 64
+width to.Label = 71
+
+-- a file of the volume of a letter
+abbrev pub listed_on : ℕ → HeldVolume → FileInfo → ListedFile
+listed_on n v info = record { letter = n; volid = v.label.volid; info = info }
+
+-- the file that was found, where it is there
+abbrev pub listed_at : Accesses → Found → Option ListedFile
+listed_at t found =
+    option_and_then (λ s. option_map (listed_on found.letter s.disk.volume) (slice_get (infos_in s.disk.volume) found.place))
+    (item_at t.seats found.letter)
+
+-- its line
+abbrev pub line_told : Columns → Accesses → Found → List (List ℕ)
+line_told last t found = option_map_or (λ f. line_to last (told_columns f) ∷ []) (listed_at t found) []
+
+abbrev pub lines_told : Columns → Accesses → List Found → List (List ℕ)
+lines_told last t found = flat_map (λ f. line_told last t f) found
+
+-- ---- lines that are written
+
+-- lines that are written need disk A, which may be written
+abbrev pub MayDeliver : Accesses → Delivery → Type 0
+MayDeliver t goes.Typed = ⊤
+MayDeliver t (goes.Stacked end) = ⊤
+MayDeliver t (goes.Written append) = writing (item_at (letters_of t) disk_a) disk_a ≡ Ok tt
+
+-- what is told of the file of a name on the disk of a letter, where it is there
+abbrev pub info_named : Accesses → ℕ → Name → Option FileInfo
+info_named t n name =
+    option_and_then (λ s. option_and_then (λ place. slice_get (infos_in s.disk.volume) place) (place_of name s.disk.volume))
+    (item_at t.seats n)

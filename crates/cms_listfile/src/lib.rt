@@ -1,0 +1,13 @@
+//! LISTFILE: files are listed, to the console, onto the program stack or into a procedure.
+#![tactic(auto)]
+
+mod columns;
+mod line;
+mod listfile;
+mod listing;
+mod running;
+mod writing;
+
+pub use columns::Columns;
+pub use listfile::{Delivery, ListFiles, ListLine, ListStyle, list_line};
+pub use running::run_listfile;

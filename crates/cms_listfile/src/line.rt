@@ -1,0 +1,222 @@
+// The lines of files, and their header.
+ghost use Rattle.std.specs.Prelude.{◌≡◌, ◌+◌, ◌/◌, ◌%◌, IfOk, take};
+ghost use Rattle.cms_search.specs.Telling.{spaced};
+ghost use Rattle.cms_files.specs.Files.{mode_text};
+ghost use Rattle.cms_listfile.specs.Listing as spec;
+ghost use Rattle.cms_listfile.specs.Told as told;
+
+use crate::columns::Columns;
+use cms_disk::FileInfo;
+use cms_fields::Stamp;
+use cms_names::Format;
+use cms_operands::coded;
+use cms_search::{add_left, add_right, first_column, letter_text};
+use cms_text::{BLANK, decimal, without_trailing_blanks};
+use std::alloc::{AllocError, Global};
+
+const STROKE: u8 = 0x61;
+
+const COLON: u8 = 0x7A;
+
+const ZERO: u8 = 0xF0;
+
+/// A file as it is listed.
+#[derive(Clone, Copy, Debug)]
+pub struct ListedFile {
+    /// the letter of its disk, A is 0
+    pub letter: u8,
+    /// the volume id of its disk, in EBCDIC
+    pub volid: [u8; 6],
+    pub info: FileInfo,
+}
+
+// The tens of a number, and its ones.
+fn tens(number: u16) -> u8
+    ensures { result ≡ 0xF0 + number / 10 % 10 }
+{
+    ZERO + (number / 10 % 10) as u8
+}
+
+fn ones(number: u16) -> u8
+    ensures { result ≡ 0xF0 + number % 10 }
+{
+    ZERO + (number % 10) as u8
+}
+
+// mm/dd/yy hh:mm:ss
+fn stamp_text(stamp: &Stamp) -> [u8; 17]
+    ensures { result ≡ spec.stamp_text stamp.now }
+{
+    let month = u16::from(stamp.month);
+    let day = u16::from(stamp.day);
+    let hour = u16::from(stamp.hour);
+    let minute = u16::from(stamp.minute);
+    let second = u16::from(stamp.second);
+    [
+        tens(month),
+        ones(month),
+        STROKE,
+        tens(day),
+        ones(day),
+        STROKE,
+        tens(stamp.year),
+        ones(stamp.year),
+        BLANK,
+        tens(hour),
+        ones(hour),
+        COLON,
+        tens(minute),
+        ones(minute),
+        COLON,
+        tens(second),
+        ones(second),
+    ]
+}
+
+fn format_text(format: Format) -> [u8; 1]
+    ensures { result ≡ spec.format_text format }
+{
+    match format {
+        Format::F => coded(b"F"),
+        Format::V => coded(b"V"),
+    }
+}
+
+fn mode_text(letter: u8, number: u8) -> [u8; 2]
+    ensures { result ≡ mode_text letter number }
+{
+    let [letter] = letter_text(letter);
+    [letter, ones(u16::from(number))]
+}
+
+impl ListedFile {
+    fn to_name(&self, alloc: Global) -> Result<Vec<u8>, AllocError>
+        ensures { IfOk result (λ line. line.items ≡ spaced (take 1 (spec.told_columns self.now))) }
+    {
+        first_column(alloc, 8, self.info.name.file.as_bytes())
+    }
+
+    fn to_kind(&self, alloc: Global) -> Result<Vec<u8>, AllocError>
+        ensures { IfOk result (λ line. line.items ≡ spaced (take 2 (spec.told_columns self.now))) }
+    {
+        let mut line = self.to_name(alloc)?;
+        add_left(alloc, &mut line, 8, self.info.name.kind.as_bytes())?;
+        Ok(line)
+    }
+
+    fn to_mode(&self, alloc: Global) -> Result<Vec<u8>, AllocError>
+        ensures { IfOk result (λ line. line.items ≡ spaced (take 3 (spec.told_columns self.now))) }
+    {
+        let mut line = self.to_kind(alloc)?;
+        add_left(
+            alloc,
+            &mut line,
+            2,
+            &mode_text(self.letter, self.info.number),
+        )?;
+        Ok(line)
+    }
+
+    fn to_format(&self, alloc: Global) -> Result<Vec<u8>, AllocError>
+        ensures { IfOk result (λ line. line.items ≡ spaced (take 5 (spec.told_columns self.now))) }
+    {
+        let mut line = self.to_mode(alloc)?;
+        add_left(alloc, &mut line, 1, &format_text(self.info.format))?;
+        add_right(
+            alloc,
+            &mut line,
+            5,
+            decimal(alloc, self.info.length)?.bytes(),
+        )?;
+        Ok(line)
+    }
+
+    fn to_alloc(&self, alloc: Global) -> Result<Vec<u8>, AllocError>
+        ensures { IfOk result (λ line. line.items ≡ spaced (take 7 (spec.told_columns self.now))) }
+    {
+        let mut line = self.to_format(alloc)?;
+        add_right(
+            alloc,
+            &mut line,
+            8,
+            decimal(alloc, self.info.count)?.bytes(),
+        )?;
+        add_right(
+            alloc,
+            &mut line,
+            8,
+            decimal(alloc, self.info.blocks)?.bytes(),
+        )?;
+        Ok(line)
+    }
+
+    fn to_date(&self, alloc: Global) -> Result<Vec<u8>, AllocError>
+        ensures { IfOk result (λ line. line.items ≡ spaced (take 8 (spec.told_columns self.now))) }
+    {
+        let mut line = self.to_alloc(alloc)?;
+        add_left(alloc, &mut line, 17, &stamp_text(&self.info.stamp))?;
+        Ok(line)
+    }
+
+    fn to_label(&self, alloc: Global) -> Result<Vec<u8>, AllocError>
+        ensures { IfOk result (λ line. line.items ≡ spaced (take 9 (spec.told_columns self.now))) }
+    {
+        let mut line = self.to_date(alloc)?;
+        add_left(alloc, &mut line, 6, &self.volid)?;
+        Ok(line)
+    }
+
+    // The columns up to this one, with one blank between.
+    fn columns_to(&self, alloc: Global, last: Columns) -> Result<Vec<u8>, AllocError>
+        ensures { IfOk result (λ line. line.items ≡ spaced (take (spec.count_of last) (spec.told_columns self.now))) }
+    {
+        match last {
+            Columns::Name => self.to_name(alloc),
+            Columns::Kind => self.to_kind(alloc),
+            Columns::Mode => self.to_mode(alloc),
+            Columns::Format => self.to_format(alloc),
+            Columns::Alloc => self.to_alloc(alloc),
+            Columns::Date => self.to_date(alloc),
+            Columns::Label => self.to_label(alloc),
+        }
+    }
+
+    /// The line of the file with its columns up to this one.
+    pub fn line(&self, alloc: Global, last: Columns) -> Result<Vec<u8>, AllocError>
+        ensures { IfOk result (λ line. line.items ≡ spec.line_to last (spec.told_columns self.now)) }
+    {
+        let columns = self.columns_to(alloc, last)?;
+        without_trailing_blanks(&columns).to_vec(alloc)
+    }
+}
+
+// The header of all columns.
+fn full_header() -> [u8; 71]
+    ensures { result ≡ told.full_header }
+{
+    coded(b"FILENAME FILETYPE FM F LRECL  RECORDS   BLOCKS DATE     TIME     LABEL ")
+}
+
+// How many bytes the columns have up to this one.
+fn width(last: Columns) -> usize
+    ensures { result ≡ told.width last }
+{
+    match last {
+        Columns::Name => 8,
+        Columns::Kind => 17,
+        Columns::Mode => 20,
+        Columns::Format => 28,
+        Columns::Alloc => 46,
+        Columns::Date => 64,
+        Columns::Label => 71,
+    }
+}
+
+/// The header of the columns up to this one.
+pub fn header(alloc: Global, last: Columns) -> Result<Vec<u8>, AllocError>
+    ensures { IfOk result (λ line. line.items ≡ spec.header last) }
+{
+    let text = full_header();
+    let line = without_trailing_blanks(&text[..width(last)]).to_vec(alloc)?;
+    Ok(line)
+}

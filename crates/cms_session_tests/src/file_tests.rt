@@ -1,0 +1,1001 @@
+// Sessions of file commands, as transcripts.
+use crate::access_tests::failed_at;
+use crate::session_tests::ended;
+use cms_images::known::{empty, one_file, spanning, two_files};
+use cms_images::{SmallFile, small_volume};
+use cms_session::Status;
+use cms_world::MemWorld;
+use std::alloc::{AllocError, Global};
+use std::process::Abort;
+use std::test::Fail;
+
+const TEXTS: &[SmallFile] = &[
+    SmallFile {
+        name: "ALPHA",
+        kind: "TEXT",
+        number: 1,
+        fixed: true,
+        records: &["HELLO", "WORLD"],
+    },
+    SmallFile {
+        name: "BETA",
+        kind: "DATA",
+        number: 2,
+        fixed: false,
+        records: &["A", "BC", "DEF", "GHIJ"],
+    },
+    SmallFile {
+        name: "ALSO",
+        kind: "TEXT",
+        number: 0,
+        fixed: false,
+        records: &["X"],
+    },
+];
+
+const FIRST: &[SmallFile] = &[
+    SmallFile {
+        name: "AB",
+        kind: "FILE",
+        number: 1,
+        fixed: false,
+        records: &["FIRST"],
+    },
+    SmallFile {
+        name: "AC",
+        kind: "FILE",
+        number: 1,
+        fixed: false,
+        records: &["OTHER"],
+    },
+    SmallFile {
+        name: "AD",
+        kind: "FILE",
+        number: 1,
+        fixed: false,
+        records: &["THIRD"],
+    },
+    SmallFile {
+        name: "BX",
+        kind: "FILE",
+        number: 1,
+        fixed: false,
+        records: &["AGAIN"],
+    },
+];
+
+const SECOND: &[SmallFile] = &[
+    SmallFile {
+        name: "A",
+        kind: "FILE",
+        number: 1,
+        fixed: false,
+        records: &["FIRST"],
+    },
+    SmallFile {
+        name: "AZ",
+        kind: "FORM",
+        number: 1,
+        fixed: false,
+        records: &["OTHER"],
+    },
+];
+
+const HIDDEN: &[SmallFile] = &[
+    SmallFile {
+        name: "P",
+        kind: "PRIV",
+        number: 0,
+        fixed: false,
+        records: &["X"],
+    },
+    SmallFile {
+        name: "Q",
+        kind: "OPEN",
+        number: 1,
+        fixed: false,
+        records: &["Y"],
+    },
+];
+
+/// The image of disk A in the transcripts of this name.
+fn image(alloc: Global, name: &str) -> Result<Vec<u8>, AllocError> {
+    match name {
+        "one file" => one_file(alloc),
+        "two files" => two_files(alloc),
+        "spanning" => spanning(alloc),
+        "hidden" => empty(alloc),
+        "rows" => small_volume(alloc, "TEST01", FIRST),
+        _ => small_volume(alloc, "TEST01", TEXTS),
+    }
+}
+
+// And that of device 192.
+fn second_image(alloc: Global, name: &str) -> Result<Vec<u8>, AllocError> {
+    match name {
+        "hidden" => small_volume(alloc, "TEST02", HIDDEN),
+        _ => small_volume(alloc, "TEST02", SECOND),
+    }
+}
+
+// A world with the images of this name.
+fn world_named(alloc: Global, name: &str, script: &str) -> Result<MemWorld, AllocError> {
+    let mut world = MemWorld::new(alloc, script.as_bytes(), 946_684_800)?;
+    world.add_image("A", &image(alloc, name)?)?;
+    world.add_image("B", &second_image(alloc, name)?)?;
+    Ok(world)
+}
+
+// The program's words for the images of this name.
+fn words_named(name: &str) -> &'static str {
+    match name {
+        "texts, read only" => "191,512,ro,A 192,512,rw,B",
+        _ => "191,512,rw,A 192,512,rw,B",
+    }
+}
+
+// The lines of a transcript that begin with a sign are the script; the others are typed.
+fn parted(alloc: Global, transcript: &str) -> Result<(String, String), AllocError> {
+    let mut script = String::new(alloc);
+    let mut typed = String::new(alloc);
+    for line in transcript.lines() {
+        match line.strip_prefix("> ") {
+            Some(asked) => {
+                script.push_str(asked)?;
+                script.push_str("\n")?;
+            }
+            None => {
+                typed.push_str(line)?;
+                typed.push_str("\n")?;
+            }
+        }
+    }
+    Ok((script, typed))
+}
+
+// Each session is as its transcript says, which stands behind the name of its images.
+fn are_so(rt: &impl Abort, alloc: Global, transcripts: &str) -> Result<(), Fail> {
+    for part in transcripts.split("# ") {
+        let Some((name, transcript)) = part.split_once("\n") else {
+            continue;
+        };
+        let (script, typed) = parted(alloc, transcript)?;
+        let mut world = world_named(alloc, name, &script)?;
+        let status = ended(alloc, words_named(name), &mut world)?;
+        assert_eq!(rt; world.typed(), typed.as_bytes(), "{name}: {script}");
+        assert_eq!(rt; status, Status::Done, "{name}: {script}");
+    }
+    Ok(())
+}
+
+const LISTED: &str = "# texts
+> LISTFILE
+ALPHA    TEXT     A1
+BETA     DATA     A2
+ALSO     TEXT     A0
+R;
+> list * * *
+ALPHA    TEXT     A1
+BETA     DATA     A2
+ALSO     TEXT     A0
+R;
+> L A*
+ALPHA    TEXT     A1
+ALSO     TEXT     A0
+R;
+> L %%%%
+BETA     DATA     A2
+ALSO     TEXT     A0
+R;
+> L * *X%
+ALPHA    TEXT     A1
+ALSO     TEXT     A0
+R;
+> L * * A1
+ALPHA    TEXT     A1
+R;
+> L * T* A0
+ALSO     TEXT     A0
+R;
+> L ALPHA (FNAME
+ALPHA
+R;
+> L ALPHA (FT
+ALPHA    TEXT
+R;
+> L ALPHA (FMODE
+ALPHA    TEXT     A1
+R;
+> L * * (FORMAT
+FILENAME FILETYPE FM F LRECL
+ALPHA    TEXT     A1 F     5
+BETA     DATA     A2 V     4
+ALSO     TEXT     A0 V     1
+R;
+> L BETA (AL
+FILENAME FILETYPE FM F LRECL  RECORDS   BLOCKS
+BETA     DATA     A2 V     4        4        1
+R;
+> L BETA (D
+FILENAME FILETYPE FM F LRECL  RECORDS   BLOCKS DATE     TIME
+BETA     DATA     A2 V     4        4        1 12/31/99 23:59:59
+R;
+> L BETA (LABEL)
+FILENAME FILETYPE FM F LRECL  RECORDS   BLOCKS DATE     TIME     LABEL
+BETA     DATA     A2 V     4        4        1 12/31/99 23:59:59 TEST01
+R;
+> L BETA (HEADER
+FILENAME FILETYPE FM
+BETA     DATA     A2
+R;
+> L BETA (FNAME H
+FILENAME
+BETA
+R;
+> L BETA (FTYPE HEADER
+FILENAME FILETYPE
+BETA     DATA
+R;
+> L BETA (FORMAT NOHEADER
+BETA     DATA     A2 V     4
+R;
+> L BETA (NOH FO HEAD
+FILENAME FILETYPE FM F LRECL
+BETA     DATA     A2 V     4
+R;
+> L BETA (HEADER NOHEADER
+BETA     DATA     A2
+R;
+> L BETA (LABEL FNAME
+BETA
+R;
+";
+
+const NOT_LISTED: &str = "# texts
+> L NONE
+CMS002E File NONE * A not found
+R(00028);
+> L NONE x* A2
+CMS002E File NONE X* A2 not found
+R(00028);
+> L NONE * *
+CMS002E File NONE * * not found
+R(00028);
+> L NONE * B
+CMS069E Disk B is not accessed
+R(00036);
+> L * * B (BLUE
+CMS003E Option BLUE is not valid
+R(00024);
+> L * * =
+CMS048E Mode = is not valid
+R(00024);
+> L * * AA (BLUE
+CMS048E Mode AA is not valid
+R(00024);
+> L A! * AA
+CMS062E Name A! is not valid
+R(00020);
+> L * TOOLONGTYPE AA
+CMS062E Name TOOLONGTYPE is not valid
+R(00020);
+> L * * AA X
+CMS048E Mode AA is not valid
+R(00024);
+> L * * A X (BLUE
+CMS070E Operand X is not valid
+R(00024);
+> L (F
+CMS003E Option F is not valid
+R(00024);
+> L (DATE (
+CMS003E Option ( is not valid
+R(00024);
+> L (DATE) X
+CMS070E Operand X is not valid
+R(00024);
+> L (BLUE) X
+CMS003E Option BLUE is not valid
+R(00024);
+> L NONE (EXEC
+CMS002E File NONE * A not found
+R(00028);
+> L NONE * B (EXEC
+CMS069E Disk B is not accessed
+R(00036);
+# texts, read only
+> L
+ALPHA    TEXT     A1
+BETA     DATA     A2
+R;
+> L ALSO
+CMS002E File ALSO * A not found
+R(00028);
+> L NONE (APPEND
+CMS037E Disk A is read-only
+R(00036);
+> L * * C (EXEC
+CMS069E Disk C is not accessed
+R(00036);
+> L (BLUE EXEC
+CMS003E Option BLUE is not valid
+R(00024);
+";
+
+const STACKED: &str = "# rows
+> LISTFILE A* * A (STACK
+R;
+CMS001E Unknown command AB
+R(-0003);
+CMS070E Operand FILE is not valid
+R(00024);
+CMS001E Unknown command AD
+R(-0003);
+> L A* * A (LIFO
+R;
+CMS001E Unknown command AD
+R(-0003);
+CMS070E Operand FILE is not valid
+R(00024);
+CMS001E Unknown command AB
+R(-0003);
+> L A* * A (LI ST
+R;
+CMS001E Unknown command AD
+R(-0003);
+CMS070E Operand FILE is not valid
+R(00024);
+CMS001E Unknown command AB
+R(-0003);
+> L A* * A (LIFO FI
+R;
+CMS001E Unknown command AB
+R(-0003);
+CMS070E Operand FILE is not valid
+R(00024);
+CMS001E Unknown command AD
+R(-0003);
+> L AB * A (EXEC STACK FNAME HEADER
+R;
+CMS001E Unknown command FILENAME
+R(-0003);
+CMS001E Unknown command AB
+R(-0003);
+> STATE CMS EXEC
+CMS002E File CMS EXEC A not found
+R(00028);
+";
+
+const WRITTEN: &str = "# rows
+> L A* * A (EXEC
+R;
+> TYPE CMS EXEC A 1 1 (COL 1-10
+&TRACE OFF
+R;
+> TYPE CMS EXEC A 2 (COL 1-26
+&1 &2 AB       FILE     A1
+&1 &2 AC       FILE     A1
+&1 &2 AD       FILE     A1
+R;
+> TYPE CMS EXEC A 4 4 (HEX COL 79-99
+4040
+R;
+> L CMS * A (DATE NOHEADER
+CMS      EXEC     A1 F    80        4        1 01/01/00 00:00:00
+R;
+> L BX FILE A (APPEND FORMAT HEADER
+R;
+> TYPE CMS EXEC A 5 (COL 1-34
+&1 &2 BX       FILE     A1 V     5
+R;
+> RENAME CMS EXEC A = = A3
+R;
+> L BX FILE A (AP
+R;
+> L CMS * A (ALLOC NOHEADER
+CMS      EXEC     A3 F    80        6        1
+R;
+> L CMS * A (STACK EX FNAME
+R;
+> TYPE CMS EXEC A 2 (COL 1-9
+&1 &2 CMS
+R;
+> L CMS * A (ALLOC NOHEADER
+CMS      EXEC     A1 F    80        2        1
+R;
+# rows
+> L AB * A (APPEND
+R;
+> TYPE CMS EXEC A 1 1 (COL 1-10
+&TRACE OFF
+R;
+> TYPE CMS EXEC A 2 (COL 1-8
+&1 &2 AB
+R;
+";
+
+const STATED: &str = "# texts
+> STATE ALPHA TEXT
+R;
+> state alpha text a1
+R;
+> STATE ALSO TEXT *
+R;
+> STATE ALPHA TEXT A2
+CMS002E File ALPHA TEXT A2 not found
+R(00028);
+> STATE NONE TEXT
+CMS002E File NONE TEXT A not found
+R(00028);
+> STATE NONE TEXT *
+CMS002E File NONE TEXT * not found
+R(00028);
+> STATE NONE TEXT B
+CMS069E Disk B is not accessed
+R(00036);
+> STATE NONE TEXT B (X
+CMS003E Option X is not valid
+R(00024);
+> STATE ALPHA TEXT =
+CMS048E Mode = is not valid
+R(00024);
+> STATE ALPHA TEXT AA X
+CMS048E Mode AA is not valid
+R(00024);
+> STATE A* TEXT
+CMS062E Name A* is not valid
+R(00020);
+> STATE * TEXT
+CMS062E Name * is not valid
+R(00020);
+> STATE A!
+CMS062E Name A! is not valid
+R(00020);
+> STATE ALPHA
+CMS054E Operand is missing
+R(00024);
+> STATE ALPHA (X
+CMS054E Operand is missing
+R(00024);
+> STATE ALPHA TEXT A X (Y
+CMS070E Operand X is not valid
+R(00024);
+> STATE
+CMS054E Operand is missing
+R(00024);
+> STAT ALPHA TEXT
+CMS001E Unknown command STAT
+R(-0003);
+# texts, read only
+> STATE ALPHA TEXT
+R;
+> STATE ALSO TEXT
+CMS002E File ALSO TEXT A not found
+R(00028);
+";
+
+const TYPED: &str = "# texts
+> TYPE ALPHA TEXT
+HELLO
+WORLD
+R;
+> t alpha text a 2
+WORLD
+R;
+> TYPE BETA DATA A 2 3
+BC
+DEF
+R;
+> TYPE BETA DATA A2 3 *
+DEF
+GHIJ
+R;
+> TYPE BETA DATA * 004 999999999
+GHIJ
+R;
+> TYPE ALPHA TEXT (HEX
+C8C5D3D3D6
+E6D6D9D3C4
+R;
+> TYPE ALPHA TEXT (COL 2-3
+EL
+OR
+R;
+> TYPE ALPHA TEXT A 2 (HEX COL 1-3
+E6D6D9
+R;
+> TYPE BETA DATA (COL 2-9
+
+C
+EF
+HIJ
+R;
+> TYPE BETA DATA (COL 2-2 HEX COL 3-3
+
+
+C6
+C9
+R;
+> TYPE ALSO TEXT A0
+X
+R;
+> TYPE BETA DATA A 0
+CMS070E Operand 0 is not valid
+R(00024);
+> TYPE BETA DATA A X
+CMS070E Operand X is not valid
+R(00024);
+> TYPE BETA DATA A * 2
+CMS070E Operand * is not valid
+R(00024);
+> TYPE BETA DATA A 3 2
+CMS070E Operand 2 is not valid
+R(00024);
+> TYPE BETA DATA A 1 1234567890
+CMS070E Operand 1234567890 is not valid
+R(00024);
+> TYPE BETA DATA A 1 2 3
+CMS070E Operand 3 is not valid
+R(00024);
+> TYPE BETA DATA A 5
+CMS070E Operand 5 is not valid
+R(00024);
+> TYPE NONE DATA A 5
+CMS002E File NONE DATA A not found
+R(00028);
+> TYPE NONE DATA B 5
+CMS069E Disk B is not accessed
+R(00036);
+> TYPE BETA DATA B 5 (BLUE
+CMS003E Option BLUE is not valid
+R(00024);
+> TYPE BETA DATA A 0 (BLUE
+CMS070E Operand 0 is not valid
+R(00024);
+> TYPE BETA DATA AA 0
+CMS048E Mode AA is not valid
+R(00024);
+> TYPE B* DATA AA
+CMS062E Name B* is not valid
+R(00020);
+> TYPE BETA DATA =
+CMS048E Mode = is not valid
+R(00024);
+> TYPE BETA (BLUE
+CMS054E Operand is missing
+R(00024);
+> TYPE
+CMS054E Operand is missing
+R(00024);
+> TYPE BETA DATA (HE
+CMS003E Option HE is not valid
+R(00024);
+> TYPE BETA DATA (COL
+CMS054E Operand is missing
+R(00024);
+> TYPE BETA DATA (COL)
+CMS054E Operand is missing
+R(00024);
+> TYPE BETA DATA (col 2-1
+CMS029E Parameter 2-1 of option COL is not valid
+R(00024);
+> TYPE BETA DATA (COL 0-1
+CMS029E Parameter 0-1 of option COL is not valid
+R(00024);
+> TYPE BETA DATA (COL 2
+CMS029E Parameter 2 of option COL is not valid
+R(00024);
+> TYPE BETA DATA (COL X BLUE
+CMS029E Parameter X of option COL is not valid
+R(00024);
+> TYPE BETA DATA (BLUE COL X
+CMS003E Option BLUE is not valid
+R(00024);
+> TYPE BETA DATA (COL X COL 1-2
+CMS029E Parameter X of option COL is not valid
+R(00024);
+> TYPE BETA DATA B (COL 1-2 HEX) Y
+CMS070E Operand Y is not valid
+R(00024);
+# texts, read only
+> TYPE ALPHA TEXT
+HELLO
+WORLD
+R;
+> TYPE ALSO TEXT
+CMS002E File ALSO TEXT A not found
+R(00028);
+# spanning
+> TYPE V FILE A 2 2
+ABC
+R;
+> TYPE V FILE A (COL 509-600
+A
+
+R;
+> LISTFILE (ALLOC NOHEADER
+V        FILE     A1 V   509        2        2
+R;
+";
+
+const ERASED: &str = "# texts
+> ERASE ALPHA TEXT
+R;
+> STATE ALPHA TEXT
+CMS002E File ALPHA TEXT A not found
+R(00028);
+> L
+ALSO     TEXT     A0
+BETA     DATA     A2
+R;
+> ERA BETA DATA A2 (TYPE
+BETA DATA A2
+R;
+> erase also text a (ty
+ALSO TEXT A0
+R;
+> L
+CMS002E File * * A not found
+R(00028);
+# texts
+> ERASE * TEXT A (TYPE
+ALPHA TEXT A1
+ALSO TEXT A0
+R;
+> L
+BETA     DATA     A2
+R;
+# texts
+> ERASE * * A (TYPE
+ALPHA TEXT A1
+BETA DATA A2
+ALSO TEXT A0
+R;
+> ERASE * * A (TYPE
+CMS002E File * * A not found
+R(00028);
+# texts
+> ERASE * * A1 (TYPE
+ALPHA TEXT A1
+R;
+> ERASE BETA * A (NOTYPE TYPE
+BETA DATA A2
+R;
+> ERASE ALSO * A (TYPE NOT
+R;
+# texts
+> ERASE NONE TEXT
+CMS002E File NONE TEXT A not found
+R(00028);
+> ERASE * NONE A1
+CMS002E File * NONE A1 not found
+R(00028);
+> ERASE ALPHA TEXT A2
+CMS002E File ALPHA TEXT A2 not found
+R(00028);
+> ERASE NONE TEXT B
+CMS069E Disk B is not accessed
+R(00036);
+> ERASE NONE TEXT B (BLUE
+CMS003E Option BLUE is not valid
+R(00024);
+> ERASE ALPHA TEXT *
+CMS048E Mode * is not valid
+R(00024);
+> ERASE ALPHA TEXT = X
+CMS048E Mode = is not valid
+R(00024);
+> ERASE A* TEXT *
+CMS062E Name A* is not valid
+R(00020);
+> ERASE = TEXT
+CMS062E Name = is not valid
+R(00020);
+> ERASE A!
+CMS062E Name A! is not valid
+R(00020);
+> ERASE ALPHA (BLUE
+CMS054E Operand is missing
+R(00024);
+> ERASE
+CMS054E Operand is missing
+R(00024);
+> ERASE ALPHA TEXT A X (BLUE
+CMS070E Operand X is not valid
+R(00024);
+> ERASE ALPHA TEXT (T
+CMS003E Option T is not valid
+R(00024);
+> ERASE ALPHA TEXT (TYPE) X
+CMS070E Operand X is not valid
+R(00024);
+> ER ALPHA TEXT
+CMS001E Unknown command ER
+R(-0003);
+> L ALPHA
+ALPHA    TEXT     A1
+R;
+# texts, read only
+> ERASE NONE TEXT
+CMS037E Disk A is read-only
+R(00036);
+> ERASE ALPHA TEXT C
+CMS069E Disk C is not accessed
+R(00036);
+> ERASE ALPHA TEXT (BLUE
+CMS003E Option BLUE is not valid
+R(00024);
+";
+
+const RENAMED: &str = "# texts
+> RENAME ALPHA TEXT A OMEGA = =
+R;
+> L
+OMEGA    TEXT     A1
+BETA     DATA     A2
+ALSO     TEXT     A0
+R;
+> r omega text a alpha old a2 (type
+ALPHA OLD A2
+R;
+> R ALPHA OLD A = = A1 (TY UP
+ALPHA OLD A1
+R;
+> R * TEXT A = NEW = (TYPE
+ALSO NEW A0
+R;
+> R * * A1 = TEXT = (NOT TYPE UPDIRT
+ALPHA TEXT A1
+R;
+> R ALPHA TEXT A ALPHA TEXT A (TYPE NOTYPE
+R;
+> TYPE ALPHA TEXT
+HELLO
+WORLD
+R;
+> L (DATE NOHEADER
+ALPHA    TEXT     A1 F     5        2        1 12/31/99 23:59:59
+BETA     DATA     A2 V     4        4        1 12/31/99 23:59:59
+ALSO     NEW      A0 V     1        1        1 12/31/99 23:59:59
+R;
+# texts
+> R * TEXT A SAME = = (TYPE
+SAME TEXT A1
+CMS024E File SAME TEXT A already exists
+R(00028);
+> L
+SAME     TEXT     A1
+BETA     DATA     A2
+ALSO     TEXT     A0
+R;
+# texts
+> R * * A = OTHER A4 (TYPE
+ALPHA OTHER A4
+BETA OTHER A4
+ALSO OTHER A4
+R;
+# texts
+> R ALPHA TEXT A BETA DATA a2
+CMS024E File BETA DATA A2 already exists
+R(00028);
+> R ALPHA TEXT A BETA DATA =
+CMS024E File BETA DATA A already exists
+R(00028);
+> R NONE TEXT A BETA DATA A
+CMS002E File NONE TEXT A not found
+R(00028);
+> R ALPHA TEXT A2 X = =
+CMS002E File ALPHA TEXT A2 not found
+R(00028);
+> R NONE TEXT B X = =
+CMS069E Disk B is not accessed
+R(00036);
+> R ALPHA TEXT B X TEXT A
+CMS048E Mode A is not valid
+R(00024);
+> R ALPHA TEXT A X TEXT B
+CMS048E Mode B is not valid
+R(00024);
+> R ALPHA TEXT A X TEXT *
+CMS048E Mode * is not valid
+R(00024);
+> R ALPHA TEXT * X! = =
+CMS048E Mode * is not valid
+R(00024);
+> R ALPHA TEXT = X = =
+CMS048E Mode = is not valid
+R(00024);
+> R = TEXT AA X = =
+CMS062E Name = is not valid
+R(00020);
+> R ALPHA TEXT A * = =
+CMS062E Name * is not valid
+R(00020);
+> R ALPHA TEXT A X Y! B
+CMS062E Name Y! is not valid
+R(00020);
+> R ALPHA TEXT A X TEXT A Y (BLUE
+CMS070E Operand Y is not valid
+R(00024);
+> R ALPHA TEXT A X TEXT B Y
+CMS048E Mode B is not valid
+R(00024);
+> R NONE TEXT B X TEXT B (BLUE
+CMS003E Option BLUE is not valid
+R(00024);
+> R ALPHA TEXT A X TEXT A (U
+CMS003E Option U is not valid
+R(00024);
+> R ALPHA TEXT A X TEXT (BLUE
+CMS054E Operand is missing
+R(00024);
+> R ALPHA TEXT A X
+CMS054E Operand is missing
+R(00024);
+> R ALPHA TEXT A
+CMS054E Operand is missing
+R(00024);
+> R ALPHA TEXT
+CMS054E Operand is missing
+R(00024);
+> RENAME
+CMS054E Operand is missing
+R(00024);
+# texts, read only
+> R NONE TEXT A X = =
+CMS037E Disk A is read-only
+R(00036);
+> R ALPHA TEXT A BETA DATA =
+CMS037E Disk A is read-only
+R(00036);
+";
+
+const SESSIONS: &str = "# rows
+> ACCESS 192 B
+R;
+> ERASE AB FILE A
+R;
+> LISTFILE A%* F* * (FORMAT NOHEADER
+AC       FILE     A1 V     5
+AD       FILE     A1 V     5
+AZ       FORM     B1 V     5
+R;
+> LISTFILE * * A
+BX       FILE     A1
+AC       FILE     A1
+AD       FILE     A1
+R;
+# rows
+> ACCESS 192 B/A
+CMS723I B (192) R/O
+R;
+> STATE AZ FORM A
+R;
+> TYPE AZ FORM
+OTHER
+R;
+> LISTFILE A* * A (FNAME
+AB
+AC
+AD
+A
+AZ
+R;
+> ERASE AZ FORM A
+CMS002E File AZ FORM A not found
+R(00028);
+> ERASE AZ FORM B
+CMS037E Disk B is read-only
+R(00036);
+> RENAME AZ FORM A X = =
+CMS002E File AZ FORM A not found
+R(00028);
+# two files
+> RENAME A FILE A B FILE A
+CMS024E File B FILE A already exists
+R(00028);
+> RENAME A FILE A = = A2
+R;
+> LISTFILE
+A        FILE     A2
+B        FILE     A1
+R;
+# one file
+> FROB
+CMS001E Unknown command FROB
+R(-0003);
+> TYPE A FILE A 2
+CMS070E Operand 2 is not valid
+R(00024);
+> TYPE A! FILE A
+CMS062E Name A! is not valid
+R(00020);
+> LISTFILE (BLUE
+CMS003E Option BLUE is not valid
+R(00024);
+> ACCESS 199 C
+CMS113E Device 199 does not exist
+R(00036);
+> ERASE A FILE B
+CMS069E Disk B is not accessed
+R(00036);
+# hidden
+> ACCESS 192 B
+R;
+> LISTFILE * * B (FTYPE
+P        PRIV
+Q        OPEN
+R;
+> ACCESS 192 B/B
+CMS723I B (192) R/O
+R;
+> LISTFILE * * B (FTYPE
+Q        OPEN
+R;
+";
+
+#[test]
+fn files_are_listed(rt: HostRuntime) -> Result<(), Fail> {
+    for transcripts in [LISTED, NOT_LISTED, STACKED, WRITTEN] {
+        are_so(&rt, rt.alloc(), transcripts)?;
+    }
+    Ok(())
+}
+
+#[test]
+fn files_are_told_typed_and_changed(rt: HostRuntime) -> Result<(), Fail> {
+    for transcripts in [STATED, TYPED, ERASED, RENAMED, SESSIONS] {
+        are_so(&rt, rt.alloc(), transcripts)?;
+    }
+    Ok(())
+}
+
+// The calls of the world in sessions of one line on the texts, behind those of the opening, the script and the turn: each file of a
+// change is written and synced before it is typed, and that before the next; the script is read again where no line is left.
+const CALLS: [(&str, &[u8]); 9] = [
+    ("STATE ALPHA TEXT\n", b"oi"),
+    ("LISTFILE\n", b"ooooi"),
+    ("LISTFILE (STACK\n", b"onoonoonooi"),
+    ("LISTFILE (EXEC\n", b"wwwswsoi"),
+    ("ERASE * * A\n", b"wwswswwswswwswsoi"),
+    ("ERASE * * A (TYPE\n", b"wwswsowwswsowwswsooi"),
+    ("RENAME * TEXT A = NEW = (TYPE\n", b"wwswsowwswsooi"),
+    ("RENAME ALPHA TEXT A BETA DATA A\n", b"ooi"),
+    ("TYPE BETA DATA\n", b"roooooi"),
+];
+
+const OPENING: &[u8] = b"aarrrrrin";
+
+#[test]
+fn each_call_has_its_place(rt: HostRuntime) -> Result<(), Fail> {
+    let alloc = rt.alloc();
+    for (script, calls) in CALLS {
+        let mut world = world_named(alloc, "texts", script)?;
+        let status = ended(alloc, words_named("texts"), &mut world)?;
+        assert_eq!(rt; status, Status::Done, "{script}");
+        assert_eq!(rt;
+            world.calls().strip_prefix(OPENING),
+            Some(calls),
+            "{script}"
+        );
+    }
+    Ok(())
+}
+
+const DOUBTED: &str = "ERASE A FILE A\nSTATE A FILE A\nACCESS 191 A\nLISTFILE\n";
+
+#[test]
+fn a_doubt_ends_with_an_access(rt: HostRuntime) -> Result<(), Fail> {
+    for lands in [false, true] {
+        // the second sync of the erasure
+        let (failing, status) = failed_at(rt.alloc(), DOUBTED, 12, lands)?;
+        assert_eq!(rt; status, Status::Done);
+        assert_eq!(rt;
+            failing.typed(),
+            b"CMS105E Device fault on 191\nR(00100);\nCMS069E Disk A is not accessed\nR(00036);\nR;\n\
+CMS002E File * * A not found\nR(00028);\n"
+                .as_slice()
+        );
+    }
+    Ok(())
+}
