@@ -1,0 +1,47 @@
+use Rattle.std.proofs.Common.{rules, ◌≡◌, ◌∙◌, ℕ, Bool, true, Ok, refl, sym, subst, arith}
+use Rattle.cms_journal.specs.Journal.{contents_of}
+use Rattle.cms_model.specs.Trees.{image_of}
+use Rattle.cms_disk.specs.Cursors.{HandsOut, HasLeft}
+use Rattle.cms_copyfile.proofs.Passes.{measured_first, measured_next}
+use Rattle.cms_copyfile.proofs.measuring.measure_copies.Goals as goal
+
+pub loop-place-init : goal.loop-place-init
+loop-place-init g c =
+    let none = c.new-measure.ensures.none in
+    record {
+      to = measured_first (g.W.World.told c.args.world.now) c.args.plan.now c.args.cursor.now c.new-measure.result (c.new-measure.ensures.measured c.args.plan.now.format);
+      file = record { unit = refl; total = refl; bsize = refl; leaves = refl; fixed = refl; longest = refl };
+      few = omega arith;
+      bytes = omega arith;
+      capacity = omega arith;
+      told = refl;
+      faults = omega arith;
+      edges = refl;
+    }
+
+pub loop-place-preserved : goal.loop-place-preserved
+loop-place-preserved g c =
+    let l = c.loop-place in
+    let first = c.args.cursor.now in
+    let next = c.next.new.self in
+    let n = c.in_ok-next.ensures in
+    let yes : c.in_ok-next.field-0 ≡ true = search rules in
+    let a = l.invariant.file in
+    let b = n.file in
+    let at = a.unit in
+    let m = c.measure_copy.ensures in
+    record {
+      to = measured_next (g.W.World.told c.args.world.now) c.args.plan.now first l.cursor next l.place l.measure c.measure_copy.new.measure c.text.result.now l.invariant.to
+          (λ j is all has.
+          subst (λ (x : Bool). HandsOut (image_of (contents_of j first.unit)) next all (Ok x)) yes
+          (subst (λ (u : ℕ). HandsOut (image_of (contents_of j u)) next all (Ok c.in_ok-next.field-0)) at
+          (n.records j (l.invariant.told ∙ is) all (subst (λ (u : ℕ). HasLeft (image_of (contents_of j u)) l.cursor all) (sym at) has))))
+          c.text.ensures m.measured;
+      file = record { unit = b.unit ∙ a.unit; total = b.total ∙ a.total; bsize = b.bsize ∙ a.bsize; leaves = b.leaves ∙ a.leaves; fixed = b.fixed ∙ a.fixed; longest = b.longest ∙ a.longest };
+      few = m.few;
+      bytes = m.bytes;
+      capacity = omega (arith, l.invariant.capacity, m.capacity);
+      told = n.reads.told ∙ l.invariant.told;
+      faults = omega (arith, n.reads.faults, l.invariant.faults);
+      edges = n.reads.edges ∙ l.invariant.edges;
+    }

@@ -1,0 +1,155 @@
+-- COPYFILE: files are copied, one after another.
+use Rattle.std.specs.Prelude.{ℕ, nat_lt, Bool, false, true, if◌then◌else◌, List, length, slice_get, Option, None, Some, Result, Ok, Err, ⊤}
+use Rattle.std.specs.Option.{option_map, option_map_or}
+use Rattle.cms_names.specs.Modes.{equal_signs}
+use Rattle.cms_names.specs.declared.name.Name.{Name}
+use Rattle.cms_fields.specs.Moments.{stamp_of}
+use Rattle.cms_fields.specs.Steps.{◌>>=◌, ◌>>◌}
+use Rattle.cms_text.specs.Numbers.{decimal_of}
+use Rattle.cms_model.specs.Changes.{Change, Add, Put}
+use Rattle.cms_model.specs.Minidisks.{File, Minidisk}
+use Rattle.cms_machine.specs.Acts.{Act, bind}
+use Rattle.cms_line.specs.declared.message.Message.TheVariants.{M121}
+use Rattle.cms_line.specs.declared.token.Token.{Token}
+use Rattle.cms_operands.specs.declared.operand.WriteMode.{WriteMode}
+use Rattle.cms_search.specs.Machine.{Course, Letter, Machine, letter_at, minidisk_in, refusal}
+use Rattle.cms_search.specs.Refusing.{on_line}
+use Rattle.cms_search.specs.Releasing.{vdev_of}
+use Rattle.cms_search.specs.Searches.{Shelves, search, shelves_in}
+use Rattle.cms_search.specs.Stepping.{Stepped, failing, reading}
+use Rattle.cms_search.specs.declared.fault.SearchFault.{SearchFault}
+use Rattle.cms_search.specs.declared.fault.SearchFault.TheVariants.{NotFound}
+use Rattle.cms_search.specs.declared.search.Found.{Found}
+use Rattle.cms_files.specs.Files.{UnitFile, file_exists, file_on, on_found, some_found, unit_file, writable}
+use Rattle.cms_files.specs.Identifiers.{takes_name}
+use Rattle.cms_files.specs.Updating.{on_step, stopping, telling, updating, updating_each}
+use Rattle.cms_copyfile.specs.Lines.{copy_line}
+use Rattle.cms_copyfile.specs.Outputs.{copied_records, extended, file_with, form_for, form_of, number_for, stamp_for, wanted_of}
+use Rattle.cms_copyfile.specs.Telling.{copy_text, mode_shown}
+use Rattle.cms_copyfile.specs.declared.line.CopyLine.{CopyLine}
+use Rattle.cms_copyfile.specs.declared.line.Existing.{Existing}
+use Rattle.cms_copyfile.specs.declared.line.Existing.TheVariants.{Extended, Refused, Replaced}
+use Rattle.cms_copyfile.specs.declared.telling.FileShown.{FileShown}
+
+-- ---- a file that is copied
+
+-- the file that was found, as it is now
+abbrev pub file_in : ℕ → ℕ → Option Minidisk → Result UnitFile SearchFault
+file_in u place None = Err NotFound
+file_in u place (Some m) = unit_file u (slice_get m.files place)
+
+abbrev pub file_of : Machine → ℕ → Option Letter → Result UnitFile SearchFault
+file_of s place None = Err NotFound
+file_of s place (Some disk) = file_in disk.unit place (minidisk_in (slice_get s.units disk.unit))
+
+abbrev pub file_at : Machine → Found → Result UnitFile SearchFault
+file_at s found = file_of s found.place (letter_at s found.letter)
+
+-- a file of the disk of a letter, and where it is copied to: a letter, a name, and the file of that name, if it is there
+pub record Copying : Type 0 where
+  pub letter : ℕ
+  pub input : UnitFile
+  pub to : ℕ
+  pub name : Name
+  pub there : Option File
+
+abbrev pub there_is : Result UnitFile SearchFault → Option File
+there_is (Ok x) = Some x.file
+there_is (Err why) = None
+
+-- the output's letter, or that of the disk on which the input stands
+abbrev pub letter_for : Option WriteMode → ℕ → ℕ
+letter_for mode n = option_map_or (λ m. m.letter) mode n
+
+abbrev pub copying_of : Machine → CopyLine → Found → UnitFile → Copying
+copying_of s line found x =
+    let to = letter_for line.files.output.mode found.letter in
+    let name = equal_signs x.file.name line.files.output.name in
+    record { letter = found.letter; input = x; to = to; name = name; there = there_is (file_on s name (letter_at s to)) }
+
+-- ---- the update
+
+abbrev pub number_of : CopyLine → Copying → ℕ
+number_of line c = number_for line.files.output.mode c.input.file.number (option_map (λ f. f.number) c.there)
+
+-- the records are those of a new file, or are added to the one that is extended
+abbrev pub change_with : Machine → CopyLine → Copying → Option File → Change
+change_with s line c None =
+    let form = form_for line.style (form_of c.input.file) None in
+    Put (file_with c.name (number_of line c) form (stamp_for line.style c.input.file.stamp (stamp_of s.moment))
+    (copied_records line.style form c.input.file.records))
+change_with s line c (Some f) =
+    Add c.name (copied_records line.style (form_of f) c.input.file.records) (stamp_for line.style c.input.file.stamp (stamp_of s.moment))
+
+-- ---- one file
+
+-- nothing is typed while records are read
+abbrev pub silently : {R : Type 0} → List (List ℕ) → Act R → Act R
+silently records next = next
+
+-- its records are read, and the copy is put
+abbrev pub copy_records : Machine → CopyLine → Copying → Act Stepped
+copy_records s line c =
+    reading silently c.input.unit c.input.file (wanted_of line.style (length c.input.file.records))
+    (updating s c.to (change_with s line c (extended line.style.existing c.there))) (failing s (vdev_of s c.input.unit))
+
+-- the code of a first record that isn't there
+abbrev pub no_record_code : ℕ
+no_record_code = 24
+
+abbrev pub too_few : Machine → ℕ → Act Course
+too_few s count = refusal s (M121 (decimal_of count)) no_record_code
+
+-- the file that is there already isn't to be touched
+abbrev pub is_refused : Existing → Option File → Bool
+is_refused Refused (Some f) = true
+is_refused Refused None = false
+is_refused Replaced there = false
+is_refused Extended there = false
+
+-- 024, 121, 105, 120, 107, 105
+abbrev pub copy_into : Machine → List Token → CopyLine → Copying → Act Stepped
+copy_into s words line c =
+    if is_refused line.style.existing c.there then stopping (file_exists s c.name (mode_shown words line.files.output.mode c.to))
+    else (if nat_lt (length c.input.file.records) line.style.first then stopping (too_few s (length c.input.file.records))
+    else copy_records s line c)
+
+abbrev pub input_shown : Copying → FileShown
+input_shown c = record { letter = c.letter; name = c.input.file.name; number = c.input.file.number }
+
+abbrev pub output_shown : CopyLine → Copying → FileShown
+output_shown line c = record { letter = c.to; name = c.name; number = number_of line c }
+
+-- with TYPE it is typed once it is copied
+abbrev pub copy_told : Machine → List Token → CopyLine → Copying → Act Stepped
+copy_told s words line c = bind (copy_into s words line c) (telling line.style.types (copy_text (input_shown c) (output_shown line c)))
+
+-- the output's disk may be written: 037
+abbrev pub copy_of : Machine → List Token → CopyLine → Copying → Act Stepped
+copy_of s words line c = on_step s words 1 (λ shelf. copy_told s words line c) (writable (shelves_in s) c.to)
+
+abbrev pub copy_found : List Token → CopyLine → Machine → Found → Act Stepped
+copy_found words line s found = on_step s words 1 (λ x. copy_of s words line (copying_of s line found x)) (file_at s found)
+
+-- ---- the command
+
+-- an output letter that is given is that of a disk that may be written
+abbrev pub output_is_written : Shelves → Option WriteMode → Result ⊤ SearchFault
+output_is_written shelves None = Ok tt
+output_is_written shelves (Some mode) = do
+  shelf ← writable shelves mode.letter
+  Ok tt
+
+-- the files that are copied, letter by letter: 069, then that of the output and 037, 002
+abbrev pub files_copied : Machine → CopyLine → Result (List Found) SearchFault
+files_copied s line = do
+  found ← search (shelves_in s) line.files.mode (takes_name line.files.names)
+  output_is_written (shelves_in s) line.files.output.mode
+  some_found found
+
+abbrev pub copy_files : Machine → List Token → CopyLine → Act Course
+copy_files s words line = on_found s words 1 (λ found. updating_each (copy_found words line) found s) (files_copied s line)
+
+-- files are copied in the order in which they were found, by one update each; the first refusal stops
+abbrev pub copyfile : Machine → List Token → Act Course
+copyfile s words = on_line s words (copy_files s words) (copy_line words)

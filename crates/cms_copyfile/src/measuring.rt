@@ -1,0 +1,73 @@
+// The first pass over a file that is copied: its copies are measured.
+ghost use Rattle.std.specs.Prelude.{◌≡◌, ◌⊎◌, ◌+◌, ◌*◌, ◌^◌, ◌<◌, ◌≤◌, ◌++◌, ℕ, List, [], ◌∷◌, drop, length, map, vec_capacity, IfOk, IfErr};
+ghost use Rattle.std.specs.Option.{ForSome};
+ghost use Rattle.cms_journal.specs.Journal.{HasBlocks, contents_of};
+ghost use Rattle.cms_fields.specs.Limits.{longest_record};
+ghost use Rattle.cms_model.specs.Trees.{image_of};
+ghost use Rattle.cms_edf.specs.OpeningSteps.{OfImage};
+ghost use Rattle.cms_disk.specs.Cursors.{HasLeft};
+ghost use Rattle.cms_disk.specs.declared.fault.DiskFault.TheVariants.{Altered, Device};
+ghost use Rattle.cms_world.specs.Seen.{OnlyReads, seen};
+ghost use Rattle.cms_copyfile.specs.Measures.{measured};
+ghost use Rattle.cms_copyfile.specs.Outputs.{copies_in};
+ghost use Rattle.cms_copyfile.specs.Records.{copied, longest_fit};
+
+use crate::measure::Measure;
+use crate::output::CopyPlan;
+use crate::record::copy_record;
+use cms_disk::{Cursor, DiskFault};
+use cms_world::World;
+
+// Measures the copy of the record at a place, where it is copied.
+fn measure_copy(
+    plan: &CopyPlan,
+    place: u32,
+    text: &[u8],
+    buffer: &mut Vec<u8>,
+    measure: &mut Measure,
+)
+    requires short { length text.now ≤ longest_record }
+    requires size { longest_fit plan.now.style.fit (length text.now) ≤ longest_record }
+    requires room { longest_fit plan.now.style.fit (length text.now) ≤ vec_capacity buffer.old }
+    requires next { place + 1 < 2 ^ 32 }
+    requires few { measure.old.count ≤ place }
+    requires bytes { measure.old.bytes ≤ 65537 * place }
+    ensures measured { (front : List (List ℕ)) → length front ≡ place
+        → measure.old ≡ measured plan.now.format (map (copied plan.now.style) (drop plan.now.skipped front))
+        → measure.new ≡ measured plan.now.format (map (copied plan.now.style) (drop plan.now.skipped (front ++ text.now ∷ []))) }
+    ensures few { measure.new.count ≤ place + 1 }
+    ensures bytes { measure.new.bytes ≤ 65537 * (place + 1) }
+    ensures capacity { vec_capacity buffer.old ≤ vec_capacity buffer.new }
+{
+    if place >= plan.skipped {
+        copy_record(buffer, &plan.style, text);
+        measure.add(plan.format, buffer);
+    }
+}
+
+/// Reads the records that are wanted, and measures their copies. It takes no memory: the buffer has room for each copy.
+pub fn measure_copies<W: World>(
+    world: &mut W,
+    cursor: &mut Cursor,
+    plan: &CopyPlan,
+    buffer: &mut Vec<u8>,
+) -> Result<Measure, DiskFault>
+    requires blocks { ForSome (W.told world.old) (λ j. HasBlocks j.units cursor.old.unit cursor.old.total cursor.old.bsize) }
+    requires short { cursor.old.begun.longest ≤ longest_record }
+    requires size { longest_fit plan.now.style.fit cursor.old.begun.longest ≤ longest_record }
+    requires room { longest_fit plan.now.style.fit cursor.old.begun.longest ≤ vec_capacity buffer.old }
+    ensures measured { IfOk result (λ m. OfImage (W.told world.old) cursor.old.unit (λ image. (records : List (List ℕ))
+        → HasLeft image cursor.old records → m ≡ measured plan.now.format (copies_in plan.now records))) }
+    ensures fault { IfErr result (λ e. (e ≡ Device) ⊎ (e ≡ Altered)) }
+    ensures capacity { vec_capacity buffer.old ≤ vec_capacity buffer.new }
+    ensures reads { OnlyReads (seen W.World world.old) (seen W.World world.new) Device result }
+{
+    let mut measure = Measure::new();
+    for place in 0..plan.wanted {
+        if !cursor.next(world)? {
+            return Ok(measure);
+        }
+        measure_copy(plan, place, cursor.text(), buffer, &mut measure);
+    }
+    Ok(measure)
+}

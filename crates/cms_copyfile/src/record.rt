@@ -1,0 +1,106 @@
+// Records as they are copied.
+ghost use Rattle.std.specs.Prelude.{◌≡◌, ◌≤◌, length, map, take, vec_capacity};
+ghost use Rattle.cms_copyfile.specs.Records as spec;
+
+use cms_ebcdic::{fold_lower, fold_upper};
+
+/// Which letters of a record become others.
+#[derive(Clone, Copy, Debug, PartialEq, Eq)]
+pub enum Fold {
+    /// small letters become capitals
+    Upper,
+    /// capitals become small letters
+    Lower,
+}
+
+/// How long a record gets.
+#[derive(Clone, Copy, Debug, PartialEq, Eq)]
+pub enum Fit {
+    /// it is cut, or filled with the fill byte
+    Exactly(u32),
+    /// it is cut
+    AtMost(u32),
+    Whole,
+}
+
+/// What becomes of each record, in this order.
+#[derive(Clone, Copy, Debug, PartialEq, Eq)]
+pub struct RecordStyle {
+    pub fold: Option<Fold>,
+    /// fill bytes at the end are dropped, but for the first byte of the record
+    pub truncates: bool,
+    pub fill: u8,
+    pub fit: Fit,
+}
+
+fn folded_byte(fold: Option<Fold>, byte: u8) -> u8
+    ensures { result ≡ spec.folded_byte fold byte }
+{
+    match fold {
+        None => byte,
+        Some(Fold::Upper) => fold_upper(byte),
+        Some(Fold::Lower) => fold_lower(byte),
+    }
+}
+
+// The text without the bytes at its end that are this one.
+fn without_trailing(last: u8, text: &[u8]) -> &[u8]
+    ensures { result.now ≡ spec.without_trailing last text.now }
+{
+    let mut kept = text;
+    while let [front @ .., byte] = kept {
+        if *byte != last {
+            break;
+        }
+        kept = front;
+    }
+    kept
+}
+
+// Puts a text into a buffer that has room for it, with its letters folded.
+fn take_folded(into: &mut Vec<u8>, fold: Option<Fold>, text: &[u8])
+    requires { length text.now ≤ vec_capacity into.old }
+    ensures text { into.new.items ≡ spec.folded fold text.now }
+    ensures capacity { vec_capacity into.old ≤ vec_capacity into.new }
+{
+    into.clear();
+    for byte in text {
+        into.push(folded_byte(fold, *byte)).unwrap();
+    }
+}
+
+// Drops the fill bytes at the end, but for the first byte.
+fn truncate(text: &mut Vec<u8>, fill: u8)
+    ensures text { text.new.items ≡ spec.truncated fill text.old.items }
+    ensures capacity { vec_capacity text.old ≤ vec_capacity text.new }
+{
+    let kept = without_trailing(fill, text).len();
+    text.truncate(kept.max(1));
+}
+
+// Cuts or fills a text in a buffer that has room for it.
+fn fit_to(text: &mut Vec<u8>, fit: Fit, fill: u8)
+    requires { spec.longest_fit fit (length text.old.items) ≤ vec_capacity text.old }
+    ensures text { text.new.items ≡ spec.fitted_to fit fill text.old.items }
+    ensures capacity { vec_capacity text.old ≤ vec_capacity text.new }
+{
+    match fit {
+        Fit::Exactly(size) => text.resize(size as usize, fill).unwrap(),
+        Fit::AtMost(size) => text.truncate(size as usize),
+        Fit::Whole => {}
+    }
+}
+
+/// Puts a record as it is copied into a buffer in place of what stood there. The buffer has room for the record as it was and for the
+/// length that it gets, so this takes no memory.
+pub fn copy_record(into: &mut Vec<u8>, style: &RecordStyle, text: &[u8])
+    requires { spec.longest_fit style.now.fit (length text.now) ≤ vec_capacity into.old }
+    ensures text { into.new.items ≡ spec.copied style.now text.now }
+    ensures capacity { vec_capacity into.old ≤ vec_capacity into.new }
+{
+    take_folded(into, style.fold, text);
+    if style.truncates {
+        truncate(into, style.fill);
+    }
+    fit_to(into, style.fit, style.fill);
+}

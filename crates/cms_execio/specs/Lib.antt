@@ -1,0 +1,5 @@
+pub mod Line
+pub mod Records
+pub mod Reading
+pub mod Writing
+pub mod Execio

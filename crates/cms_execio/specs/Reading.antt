@@ -1,0 +1,96 @@
+-- DISKR: records of a file are stacked.
+use Rattle.std.specs.Prelude.{ℕ, zero, suc, pos, negsuc, ◌+◌, ◌-◌, ◌==◌, nat_lt, if◌then◌else◌, Bool, true, false, List, [], ◌∷◌, drop, length, map, min, take, Option, Some, None}
+use Rattle.std.specs.FinMap.{get, insert, remove}
+use Rattle.std.specs.Option.{option_map_or, unwrap_or}
+use Rattle.cms_names.specs.declared.name.Name.{Name}
+use Rattle.cms_model.specs.Minidisks.{File}
+use Rattle.cms_machine.specs.Acts.{Act, Done, bind}
+use Rattle.cms_line.specs.declared.token.Token.{Token}
+use Rattle.cms_search.specs.Machine.{Machine, Course, Places, Went, OutOfTurns, letter_at, place_key}
+use Rattle.cms_search.specs.Refusing.{device_fault}
+use Rattle.cms_search.specs.Releasing.{vdev_of}
+use Rattle.cms_search.specs.Stepping.{reading}
+use Rattle.cms_files.specs.Files.{UnitFile, file_on, file_read, on_found}
+use Rattle.cms_files.specs.Stacking.{stacking}
+use Rattle.cms_execio.specs.Records.{stacked_line}
+use Rattle.cms_execio.specs.declared.line.ReadLine.{ReadLine}
+use Rattle.cms_execio.specs.declared.line.ReadRange.{ReadRange}
+
+-- ---- which records
+
+-- how many records stand in front of the first that is read: by the line, else by the place that is kept, else none
+abbrev pub in_front : Places → ReadRange → ℕ → ℕ
+in_front places range vdev = option_map_or (λ first. first - 1) range.first (unwrap_or (get places (place_key vdev range.input.name)) 0)
+
+-- how many are read of so many that are left
+abbrev pub taken_of : Option ℕ → ℕ → ℕ
+taken_of None left = left
+taken_of (Some n) left = min n left
+
+-- the code where fewer records were left than a number asks for
+abbrev pub end_of_file : ℕ
+end_of_file = 2
+
+abbrev pub code_of_taken : Option ℕ → ℕ → ℕ
+code_of_taken None taken = 0
+code_of_taken (Some n) taken = if nat_lt taken n then end_of_file else 0
+
+-- ---- what is done with them
+
+-- reading goes on behind so many records; with FINIS no place is kept
+abbrev pub going_on : Bool → ℕ → Name → ℕ → Places → Places
+going_on true vdev name next places = remove places (place_key vdev name)
+going_on false vdev name next places = insert places (place_key vdev name) next
+
+-- goes on where a part of the command came to code 0; any other ends it
+abbrev pub if_good : (Machine → Act Course) → Course → Act Course
+if_good next (Went s (pos zero)) = next s
+if_good next (Went s (pos (suc code))) = Done (Went s (pos (suc code)))
+if_good next (Went s (negsuc code)) = Done (Went s (negsuc code))
+if_good next OutOfTurns = Done OutOfTurns
+
+-- where reading goes on, behind so many records
+abbrev pub places_behind : ReadLine → ℕ → ℕ → Places → Places
+places_behind line vdev next places = going_on line.style.forgets vdev line.range.input.name next places
+
+-- the command's end, behind so many records of which so many were stacked
+abbrev pub read_done : ReadLine → ℕ → ℕ → ℕ → Machine → Act Course
+read_done line vdev front taken s =
+    Done (Went (record s { places = places_behind line vdev (front + taken) s.places }) (pos (code_of_taken line.range.count taken)))
+
+-- the lines are stacked, all or none: 120
+abbrev pub stack_read : Machine → ReadLine → ℕ → ℕ → ℕ → List (List ℕ) → Act Course
+stack_read s line vdev front taken lines = bind (stacking s line.style.end lines) (if_good (read_done line vdev front taken))
+
+-- the lines that records are: so many, behind so many in front of them
+abbrev pub lines_taken : Bool → ℕ → ℕ → List (List ℕ) → List (List ℕ)
+lines_taken strips front taken records = map (stacked_line strips) (take taken (drop front records))
+
+-- the line that a record is which has so many in front of it, where it isn't one in front of those that are stacked
+abbrev pub line_of_nth : Bool → ℕ → ℕ → List ℕ → List (List ℕ)
+line_of_nth strips front nth text = if nat_lt nth front then [] else stacked_line strips text ∷ []
+
+-- nothing is done with a record before all that are wanted are there
+abbrev pub silently : {R : Type 0} → List (List ℕ) → Act R → Act R
+silently records next = next
+
+-- the records are read up to the last that is stacked, where there is one: 105
+abbrev pub read_taken : Machine → ReadLine → UnitFile → ℕ → ℕ → ℕ → Act Course
+read_taken s line x vdev front taken =
+    if taken == 0 then stack_read s line vdev front 0 []
+    else reading silently x.unit x.file (front + taken)
+    (stack_read s line vdev front taken (lines_taken line.style.strips front taken x.file.records)) (device_fault s vdev)
+
+abbrev pub read_from : Machine → ReadLine → UnitFile → ℕ → ℕ → Act Course
+read_from s line x vdev front = read_taken s line x vdev front (taken_of line.range.count (length x.file.records - front))
+
+abbrev pub read_found : Machine → ReadLine → UnitFile → Act Course
+read_found s line x = read_from s line x (vdev_of s x.unit) (in_front s.places line.range (vdev_of s x.unit))
+
+-- records of a file are stacked: 069, 002, 105, 120
+abbrev pub disk_read : Machine → List Token → ReadLine → Act Course
+disk_read s words line = on_found s words 3 (read_found s line) (file_read s line.range.input)
+
+-- the same of the file of the line's name on the disk of letter n
+abbrev pub read_on : Machine → List Token → ReadLine → ℕ → Act Course
+read_on s words line n = on_found s words 3 (read_found s line) (file_on s line.range.input.name (letter_at s n))
