@@ -1,9 +1,8 @@
 // FORMAT's questions.
 ghost use Rattle.std.specs.Prelude.{◌≡◌, ◌≤◌, length, map, IfOk};
-ghost use Rattle.std.specs.List.{list_all, prefix_len};
+ghost use Rattle.std.specs.List.{list_all};
 ghost use Rattle.cms_ebcdic.specs.CodePage.{upper_of};
 ghost use Rattle.cms_names.specs.Names.{is_name_character};
-ghost use Rattle.cms_text.specs.Texts as texts;
 ghost use Rattle.cms_search.specs.Calls.{Acts, machine_of, spot};
 ghost use Rattle.cms_search.specs.Talks.{asked_of};
 ghost use Rattle.cms_search.specs.Telling.{left_in};
@@ -14,7 +13,7 @@ use cms_ebcdic::fold_upper;
 use cms_line::{Line, Message, Word};
 use cms_names::is_name_character;
 use cms_search::{Asked, Course, End, State, refuse, say_message};
-use cms_text::{BLANK, is_keyword, without_trailing_blanks};
+use cms_text::{BLANK, is_keyword, without_leading_blanks, without_trailing_blanks};
 use cms_world::World;
 use std::alloc::{AllocError, Global};
 
@@ -40,19 +39,6 @@ fn folded(alloc: Global, line: &Line) -> Result<Word, AllocError>
     let text = line.bytes();
     let bytes: Vec<u8> = text.iter().map(|byte| fold_upper(*byte)).collect(alloc)?;
     Ok(Word::take(bytes))
-}
-
-fn leading_blanks(text: &[u8]) -> usize
-    ensures count { result ≡ prefix_len texts.is_blank text.now }
-    ensures within { result ≤ length text.now }
-{
-    text.iter().take_while(|byte| **byte == BLANK).count()
-}
-
-fn without_leading_blanks(text: &[u8]) -> &[u8]
-    ensures { result.now ≡ texts.without_leading_blanks text.now }
-{
-    &text[leading_blanks(text)..]
 }
 
 /// A line that was asked for, folded and without the blanks around it.

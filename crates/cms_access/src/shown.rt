@@ -16,7 +16,7 @@ use cms_operands::coded;
 use cms_search::{
     End, LETTERS, Seat, Table, add_left, add_right, device_text, first_column, letter_text, say,
 };
-use cms_text::decimal;
+use cms_text::{STROKE, decimal};
 use cms_world::World;
 use std::alloc::{AllocError, Global};
 
@@ -28,8 +28,6 @@ pub enum Shown {
     /// how it is searched
     Search,
 }
-
-const STROKE: u8 = 0x61;
 
 // Whether a disk may be written.
 fn status(read_only: bool) -> [u8; 3]

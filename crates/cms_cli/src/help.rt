@@ -29,6 +29,8 @@ output, and behind each command its ready line: R; or, with a return code, R(000
 
   ACCESS v m       gives the volume of device v the letter m; with m/p, as an extension of p
   ERASE fn ft fm   erases files; when its ready line is typed they are gone for good
+  EXECIO n DISKR fn ft fm   leaves n records of a file on the program stack, from which the next
+                   lines are taken; EXECIO n DISKW fn ft fm adds n lines to a file
   FORMAT v m       makes an empty volume on device v and gives it the letter m, after two questions;
                    with (LABEL it asks for another label alone
   LISTFILE fn ft fm   lists files, by patterns as A%C*

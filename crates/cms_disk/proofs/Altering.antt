@@ -25,8 +25,6 @@ use Rattle.cms_held.specs.LawsRenewing.{writes_of}
 use Rattle.cms_edf.specs.Planning.{CanChange, IsFullFor, IsPlanFor, change_of, edit_of, place_in}
 use Rattle.cms_held.specs.Renewing.{Edit, dropping, needed, renaming}
 use Rattle.cms_edf.specs.declared.step.Step.TheVariants as step
-use Rattle.cms_held.proofs.Fronts.{writes_append}
-use Rattle.cms_held.proofs.MapMarks.{lowest_free}
 use Rattle.cms_held.proofs.WritesLong.{system_blocks}
 use Rattle.cms_held.specs.Opening.{HeldVolume}
 use Rattle.cms_held.specs.Carrying.{IsHeldMinidisk}
@@ -37,6 +35,7 @@ use Rattle.cms_edf.proofs.Finished.{carried, moves, to_front, with_front, writes
 use Rattle.cms_edf.specs.declared.step.Step.{Step}
 use Rattle.cms_names.specs.declared.name.Name.{Name}
 use Rattle.cms_edf.specs.Lacking.{LacksRoom}
+use Rattle.cms_edf.specs.declared.allotment.PlanFault.{PlanFault}
 use Rattle.cms_edf.specs.declared.allotment.PlanFault.TheVariants as failed
 use Rattle.cms_edf.specs.declared.change.Change as asked
 use Rattle.cms_edf.specs.declared.change.Change.TheVariants as ask
@@ -45,14 +44,14 @@ use Rattle.cms_edf.specs.declared.doubt.Doubt.{Doubt}
 use Rattle.cms_edf.proofs.Planned.{count_is}
 use Rattle.cms_edf.proofs.Planned.{named_at as named_in}
 use Rattle.cms_held.proofs.Carried.{lacking_is_full}
-use Rattle.cms_disk.specs.Changing.{Altered, Alters, Doubted, IsChangeFault, IsOnSame, Kept, fault_of, needed_for}
+use Rattle.cms_disk.specs.Changing.{Altered, Alters, Doubted, IsChangeFault, IsOnSame, Kept, fault_of, needed_for, refusal_of}
 use Rattle.cms_disk.specs.declared.fault.DiskFault.TheVariants as refused
 use Rattle.cms_disk.specs.Disks.{Accessed, IsLookedAt, IsMinidisk, IsReadable}
 use Rattle.cms_disk.specs.Disks.{place_of as place_named}
 use Rattle.cms_disk.proofs.Courses.{Course, held_minidisk, in_doubt, made, stamped_writes, unmade}
 use Rattle.cms_disk.proofs.Finding.{none_found}
-use Rattle.cms_disk.proofs.Standing.{named_at, is_minidisk}
-use Rattle.cms_disk.proofs.StepPieces.{label_aside, only_update, told_after, AreWhole, first_stamped, front_has_stamp, high_stamped, leaves_state, stamped_behind, start_has, update_whole, whole_front}
+use Rattle.cms_disk.proofs.Standing.{named_at}
+use Rattle.cms_disk.proofs.StepPieces.{label_aside, only_update, told_after, AreWhole, update_whole}
 
 -- ---- the events of a step: those of its unit alone, with its stamp
 
@@ -238,7 +237,7 @@ some_place : (o : Option ℕ) → IsSome o → (k : ℕ) × (o ≡ Some k)
 some_place None is = absurd (false≢true is)
 some_place (Some k) is = (k, refl)
 
-pub full_is : (j : Journal) (d : Accessed) (m : Minidisk) (change : asked.Change) (need free : ℕ) → Asked j d m change → IsFullFor d.volume change (failed.Full need free)
+full_is : (j : Journal) (d : Accessed) (m : Minidisk) (change : asked.Change) (need free : ℕ) → Asked j d m change → IsFullFor d.volume change (failed.Full need free)
     → answer_of m (change_of change) ≡ Full need free
 full_is j d m (ask.Drop name) need free x lacks =
     let v = d.volume in
@@ -257,10 +256,31 @@ full_is j d m (ask.Rename from to number) need free x lacks =
     (count_is v.files (does.Rename at.0 to.now number) n.file) lacks
 full_is j d m (ask.Relabel volid) need free x lacks = absurd (cc lacks)
 
-pub room_is : (v : HeldVolume) (change : asked.Change) (need free : ℕ) → IsFullFor v change (failed.Full need free) → IsChangeFault v (needed_for v change) (refused.Full need free)
+room_is : (v : HeldVolume) (change : asked.Change) (need free : ℕ) → IsFullFor v change (failed.Full need free) → IsChangeFault v (needed_for v change) (refused.Full need free)
 room_is v (ask.Drop name) need free lacks = lacks
 room_is v (ask.Rename from to number) need free lacks = lacks
 room_is v (ask.Relabel volid) need free lacks = absurd (cc lacks)
+
+never_limited : (v : HeldVolume) (change : asked.Change) (which : ℕ) → IsFullFor v change (failed.Limit which) → ⊥
+never_limited v (ask.Drop name) which lacks = lacks
+never_limited v (ask.Rename from to number) which lacks = lacks
+never_limited v (ask.Relabel volid) which lacks = absurd (cc lacks)
+
+-- what it comes to that no plan is made
+pub not_planned : (j : Journal) (old : Told) (d e : Accessed) (m : Minidisk) (change : asked.Change) (stamp : Stamp) (why : PlanFault) → Asked j d m change → IsFullFor d.volume change why
+    → Alters old old d e m (change_of change) stamp (Err (refusal_of why))
+not_planned j old d e m change stamp (failed.Limit which) x lacks = absurd (never_limited d.volume change which lacks)
+not_planned j old d e m change stamp (failed.Full need free) x lacks = (refl, full_is j d m change need free x lacks)
+not_planned j old d e m change stamp failed.Memory x lacks = refl
+
+pub plan_fault : (v : HeldVolume) (change : asked.Change) (why : PlanFault) → IsFullFor v change why → IsChangeFault v (needed_for v change) (refusal_of why)
+plan_fault v change (failed.Limit which) lacks = absurd (never_limited v change which lacks)
+plan_fault v change (failed.Full need free) lacks = room_is v change need free lacks
+plan_fault v change failed.Memory lacks = tt
+
+pub carry_fault : (v : HeldVolume) (need : ℕ) (why : Doubt) → IsChangeFault v need (fault_of why)
+carry_fault v need Old = tt
+carry_fault v need Either = tt
 
 -- ---- files that are there, and that aren't
 

@@ -12,9 +12,9 @@ use Rattle.cms_model.specs.Minidisks.{Minidisk, State, Volume}
 use Rattle.cms_model.specs.Volumes.{Disk, Opened, minidisk_of, state_of}
 use Rattle.cms_model.specs.Changes.{Change, Changed, Answer, answer_of, changed}
 use Rattle.cms_model.specs.Stands.{Layout, opened}
-use Rattle.cms_model.specs.Settled.{IsSettled, writes, MayLeave, Write, update}
-use Rattle.cms_model.specs.LawsUpdates.{HasEither, IsFront, after, now, relabel, to_label, with_label}
-use Rattle.cms_model.proofs.Fronts.{front_of_front, after_is_told, none_front}
+use Rattle.cms_model.specs.Settled.{IsSettled, writes}
+use Rattle.cms_model.specs.LawsUpdates.{HasEither, IsFront, after, now}
+use Rattle.cms_model.proofs.Fronts.{front_of_front, none_front}
 use Rattle.cms_model.proofs.Images.{crash_now}
 use Rattle.cms_model.proofs.Renewing.{minidisk_is}
 use Rattle.cms_model.proofs.Settling.{settled_is_firm}
@@ -39,10 +39,8 @@ use Rattle.cms_held.specs.HeldAs.{IsHeldAs}
 use Rattle.cms_held.specs.LawsRenewing.{IsHeldAt}
 use Rattle.cms_disk.specs.Changing.{Altered, Changes, Doubted, HasState, Kept}
 use Rattle.cms_disk.specs.Disks.{Accessed, IsLookedAt, IsMinidisk, IsReadable}
-use Rattle.cms_disk.proofs.Standing.{is_minidisk, named_at}
-use Rattle.cms_disk.proofs.StepPieces.{first_stamped, front_has_stamp, high_stamped, leaves_state, stamped_behind, start_has, told_after, whole_front, AreWhole, front_whole, has_whole, label_aside, only_update, whole_after}
-use Rattle.cms_disk.specs.Disks.{place_of as place_named}
-use Rattle.cms_disk.proofs.Finding.{none_found}
+use Rattle.cms_disk.proofs.Standing.{is_minidisk}
+use Rattle.cms_disk.proofs.StepPieces.{first_stamped, front_has_stamp, high_stamped, leaves_state, stamped_behind, start_has, told_after, whole_front, AreWhole, front_whole, has_whole, whole_after}
 
 -- ---- a minidisk, as the volume below is held
 

@@ -39,7 +39,7 @@ use Rattle.cms_edf.proofs.DraftPut.{plan_of}
 use Rattle.cms_edf.proofs.Finished.{to_front, with_front, writes_to}
 use Rattle.cms_machine.specs.Slots.{After, Before}
 use Rattle.cms_machine.specs.Steps.{Good, OldFault}
-use Rattle.cms_disk.specs.Changing.{Altered, Alters, fault_of}
+use Rattle.cms_disk.specs.Changing.{Altered, Alters, IsDevices, fault_of}
 use Rattle.cms_disk.specs.declared.fault.DiskFault.{DiskFault}
 use Rattle.cms_disk.specs.Disks.{Accessed, IsLookedAt, IsMinidisk, IsReadable}
 use Rattle.cms_disk.specs.Drafts.{GoesOn, IsGivenUp, WritesAside, file_with}
@@ -273,6 +273,10 @@ commits_err j old new d e m draft name shape stamp records rest Either x left (i
 abbrev pub answered : Result ⊤ Doubt → Result ⊤ DiskFault
 answered (Ok x) = Ok x
 answered (Err why) = Err (fault_of why)
+
+pub commit_fault : (why : Doubt) → IsDevices (fault_of why)
+commit_fault Old = inl refl
+commit_fault Either = inr refl
 
 -- the blocks that were left are the same ones
 same_rest : (draft : FileDraft) (records : List (List ℕ)) (a b : List Write) → IsLeft draft records a → IsLeft draft records b → a ≡ b

@@ -1,6 +1,6 @@
 -- The file of a name, and its records.
 use Rattle.std.proofs.Common.{◌≡◌, ℕ, zero, suc, ◌*◌, ◌<◌, ◌≤◌, true, List, [], ◌∷◌, length, map, drop, position, slice_get, slice_index, slice_index_or, Some, None, Result, Ok, Err, refl, sym, ◌∙◌, ap, subst, arith}
-use Rattle.std.specs.Prelude.{IfOk, nat_le, not, ◌&&◌, ◌||◌}
+use Rattle.std.specs.Prelude.{IfOk, not, ◌||◌}
 use Rattle.std.proofs.lemmas.Option.{get_or_from_slice_get, slice_get_cases, slice_get-get_or}
 use Rattle.cms_journal.proofs.Sizes.{block_bounds}
 use Rattle.cms_names.specs.Names.{is_between}
@@ -8,8 +8,7 @@ use Rattle.cms_names.specs.declared.name.Name.{Name}
 use Rattle.cms_names.specs.declared.name.Format.{Format}
 use Rattle.cms_names.specs.declared.name.Format.TheVariants.{F, V}
 use Rattle.cms_fields.specs.Numbers.{up}
-use Rattle.cms_fields.specs.Stamps.{is_stamp}
-use Rattle.cms_fields.specs.Entries.{is_fixed, passes, length_fits, counts_fit, levels_fit}
+use Rattle.cms_fields.specs.Entries.{is_fixed, length_fits}
 use Rattle.cms_fields.specs.declared.entry.Entry.{Entry}
 use Rattle.cms_model.specs.Lists.{cut}
 use Rattle.cms_model.specs.Trees.{Image, bytes_at}
@@ -31,7 +30,7 @@ use Rattle.cms_held.specs.Kept.{IsKeptFile, Keeps}
 use Rattle.cms_held.specs.LawsHeld.{HasRoomOf, IsFileOf, IsFound, IsMinidiskOf, IsStored}
 use Rattle.cms_edf.proofs.Listings.{stands}
 use Rattle.cms_held.proofs.HeldFiles.{opened_is_held, opened_has_room, place_is_told}
-use Rattle.cms_disk.specs.Cursors.{AreOn, Reading, HasLeft, HoldLeft, IsFirst, fixed_of, unread}
+use Rattle.cms_disk.specs.Cursors.{AreOn, AreSized, Reading, HasLeft, HoldLeft, IsFirst, fixed_of, unread}
 use Rattle.cms_disk.specs.Disks.{Accessed, HasNone, OpensIn, StandsIn, StartsAt, place_of}
 use Rattle.cms_disk.specs.LawsDisks.{StandsTells}
 use Rattle.cms_disk.proofs.Moving.{drop_whole}
@@ -108,18 +107,19 @@ file_left bsize total image h f room is stored kept high =
     is_f V e = absurd (cc e)
 
 pub first_has : (image : Image) (c : Reading) (number most size : ℕ) (blocks : List ℕ) (format : Format) (high count : ℕ) (records : List (List ℕ))
-    → IsFirst number most size blocks format high count c
+    → IsFirst number most size blocks format high count c → AreSized image size blocks
     → HoldLeft size (fixed_of format high) high count 0 (bytes_at image blocks) records → HasLeft image c records
-first_has image c number most size blocks format high count records s held =
+first_has image c number most size blocks format high count records s sized held =
     let long = s.held.block in
     let all = s.all in
     let one = s.bsize in
     let gone : drop c.from c.block ≡ [] = drop_whole c.from c.block (omega arith) in
     let begun : bytes_so_far c.begun ≡ [] = ap bytes_so_far s.begun in
     let rest : drop c.done c.leaves ≡ blocks = ap (λ (n : ℕ). drop n c.leaves) s.done ∙ s.leaves in
-    let bytes : unread image c ≡ bytes_at image blocks = rw (begun, gone, rest) refl in
+    let bytes : unread image c ≡ bytes_at image blocks = rw (begun, gone, rest, s.over) refl in
     record {
       sound = s.altered;
+      sizes = rw (s.leaves, s.bsize) sized;
       held = rw (s.bsize, s.left, bytes) (subst (λ (b : Begun). HoldLeft size b.fixed b.longest count (next_place b) (bytes_at image blocks) records) (sym s.begun) held);
     }
 
@@ -131,12 +131,22 @@ pub record Found (image : Image) (name : Name) (d : Accessed) (m : Minidisk) (h 
   pub named : file_named name m.files ≡ Some file
   pub is : IsFileOf d.volume.disk.bsize image h file
   pub high : file.length ≡ length_of file.format file.length file.records
+  pub sized : AreSized image d.volume.disk.bsize h.tree.leaves
   pub left : HoldLeft d.volume.disk.bsize (fixed_of h.entry.format h.length) h.length h.entry.count 0 (bytes_at image h.tree.leaves) file.records
 
 pub kept_at : (v : HeldVolume) (k : ℕ) (h : HeldFile) → Keeps v → slice_get v.files k ≡ Some h → IsKeptFile v.disk.bsize v.label.blocks h
 kept_at v k h keeps at =
     let less : k < length v.files = grind (arith, slice_get_cases v.files k) in
     subst (IsKeptFile v.disk.bsize v.label.blocks) (get_or_from_slice_get v.files k h h at) (keeps.each k h less)
+
+leaves_sized : (image : Image) (d : Accessed) (m : Minidisk) (h : HeldFile) → StandsIn image d m → Keeps d.volume → IsKeptFile d.volume.disk.bsize d.volume.label.blocks h
+    → AreSized image d.volume.disk.bsize h.tree.leaves
+leaves_sized image d m h s keeps kept k less =
+    let top = keeps.within in
+    let range = kept.within (slice_index h.tree.leaves k) (stands h.tree.leaves k less) in
+    let low = range.0 in
+    let high = range.1 in
+    s.whole.each (slice_index h.tree.leaves k) (omega arith) (omega arith)
 
 pub found : (image : Image) (name : Name) (d : Accessed) (m : Minidisk) (k : ℕ) (h : HeldFile) → StandsIn image d m → Keeps d.volume → place_of name d.volume ≡ Some k
     → slice_get d.volume.files k ≡ Some h → Found image name d m h
@@ -157,6 +167,7 @@ found image name d m k h s keeps at is_h =
       named = (place_changed name m.files k place).found (any_file h);
       is = is;
       high = high;
+      sized = leaves_sized image d m h s keeps kept;
       left = file_left d.volume.disk.bsize d.volume.label.blocks image h f (omega arith) is stored kept high;
     }
   where
@@ -166,7 +177,7 @@ found image name d m k h s keeps at is_h =
 pub opens_in : (d : Accessed) (name : Name) (c : Reading) → Keeps d.volume → StartsAt name d.volume c → OpensIn d name c
 opens_in d name c keeps s image m stands =
     let it = found image name d m s.place s.file stands keeps s.place_is s.file_is in
-    (it.file, it.named, first_has image c d.volume.unit d.volume.disk.count d.volume.disk.bsize s.file.tree.leaves s.file.entry.format s.file.length s.file.entry.count it.file.records s.first it.left)
+    (it.file, it.named, first_has image c d.volume.unit d.volume.disk.count d.volume.disk.bsize s.file.tree.leaves s.file.entry.format s.file.length s.file.entry.count it.file.records s.first it.sized it.left)
 
 -- ---- the file at a place
 

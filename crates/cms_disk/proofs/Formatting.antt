@@ -36,8 +36,12 @@ use Rattle.cms_held.specs.Systems.{Systems, block_writes, directory_pieces, map_
 use Rattle.cms_held.proofs.Made.{directory_long, facts, laid_out, made_empty, map_times}
 use Rattle.cms_held.proofs.NewMap.{row_within}
 use Rattle.cms_held.proofs.WritesLong.{system_blocks}
+use Rattle.cms_edf.specs.Doubts.{IsCutOff}
+use Rattle.cms_edf.specs.declared.doubt.Doubt.{Doubt}
+use Rattle.cms_edf.specs.declared.doubt.Doubt.TheVariants.{Old, Either}
 use Rattle.cms_disk.specs.Disks.{Accessed, IsQuiet, disk_on}
-use Rattle.cms_disk.specs.Making.{DoesBoth, DoesWipe, Doubted, Emptied, GrownOf, IsReady, LeavesQuiet, Made, empty_on}
+use Rattle.cms_disk.specs.Changing.{fault_of}
+use Rattle.cms_disk.specs.Making.{DoesBoth, DoesWipe, Doubted, Emptied, Formats, GrownOf, IsMakeFault, IsReady, LeavesQuiet, Made, empty_on}
 use Rattle.cms_disk.specs.declared.fault.DiskFault.{DiskFault}
 use Rattle.cms_disk.specs.declared.fault.DiskFault.TheVariants as failed
 use Rattle.cms_disk.specs.declared.unit.UnitInfo.{UnitInfo}
@@ -396,18 +400,32 @@ made j old mid new unit before volid stamp m d x told volume =
     made_at j old mid new unit before volid stamp m.systems d (setting j old mid unit before volid stamp m x)
     (told ∙ ap (λ (k : Making). plus mid (update k.unit (made_writes k) k.systems.label_bytes)) (sym same)) (volume ∙ ap made_volume (sym same))
 
-pub emptied : (j : Journal) (old mid new : Told) (unit : UnitInfo) (before : State) (volid : List ℕ) (stamp : Stamp) (m : Making) → IsPlanned j old mid unit before volid stamp m
+emptied : (j : Journal) (old mid new : Told) (unit : UnitInfo) (before : State) (volid : List ℕ) (stamp : Stamp) (m : Making) → IsPlanned j old mid unit before volid stamp m
     → AddsFront mid new (writes m.unit (made_writes m)) → Emptied old new unit before volid stamp
 emptied j old mid new unit before volid stamp m x cut =
     emptied_at j old mid new unit before volid stamp m.systems (setting j old mid unit before volid stamp m x)
     (subst (λ (k : Making). AddsFront mid new (writes k.unit (made_writes k))) (sym (plan_is unit m x.unit_is x.disk_is)) cut)
 
-pub make_doubted : (j : Journal) (old mid new : Told) (unit : UnitInfo) (before : State) (volid : List ℕ) (stamp : Stamp) (m : Making) → IsPlanned j old mid unit before volid stamp m
+make_doubted : (j : Journal) (old mid new : Told) (unit : UnitInfo) (before : State) (volid : List ℕ) (stamp : Stamp) (m : Making) → IsPlanned j old mid unit before volid stamp m
     → (new ≡ plus mid (to_label m.unit (made_writes m))) ⊎ (new ≡ plus mid (with_label m.unit (made_writes m) m.systems.label_bytes)) → Doubted old new unit before volid stamp
 make_doubted j old mid new unit before volid stamp m x cut =
     doubted_at j old mid new unit before volid stamp m.systems (setting j old mid unit before volid stamp m x)
     (subst (λ (k : Making). (new ≡ plus mid (to_label k.unit (made_writes k))) ⊎ (new ≡ plus mid (with_label k.unit (made_writes k) k.systems.label_bytes)))
     (sym (plan_is unit m x.unit_is x.disk_is)) cut)
+
+-- it failed
+pub make_failed : (j : Journal) (old mid new : Told) (unit : UnitInfo) (before : State) (volid : List ℕ) (stamp : Stamp) (m : Making) (why : Doubt) → IsPlanned j old mid unit before volid stamp m
+    → IsCutOff mid new m.unit (made_writes m) m.systems.label_bytes why → Formats old new unit before volid stamp (Err (fault_of why))
+make_failed j old mid new unit before volid stamp m Old x cut = emptied j old mid new unit before volid stamp m x cut
+make_failed j old mid new unit before volid stamp m Either x cut = make_doubted j old mid new unit before volid stamp m x cut
+
+pub make_fault : (why : Doubt) → IsMakeFault (fault_of why)
+make_fault Old = tt
+make_fault Either = tt
+
+pub not_memory : (why : Doubt) → fault_of why ≡ failed.Memory → ⊥
+not_memory Old is = cc
+not_memory Either is = cc
 
 -- ---- the unit then
 
@@ -422,8 +440,13 @@ made_quiet old new unit before volid stamp d is_unit is_disk x =
     (subst (λ (u : ℕ). IsSettled d.volume.disk x.later u x.minidisk.stands.opened) is_unit settled) in
     leaves_at new x.later unit (Ok d) x.told (inl (x.minidisk.stands.opened, there))
 
-pub emptied_quiet : (old new : Told) (unit : UnitInfo) (before : State) (volid : List ℕ) (stamp : Stamp) → Emptied old new unit before volid stamp → LeavesQuiet new unit (Err failed.Device)
+emptied_quiet : (old new : Told) (unit : UnitInfo) (before : State) (volid : List ℕ) (stamp : Stamp) → Emptied old new unit before volid stamp → LeavesQuiet new unit (Err failed.Device)
 emptied_quiet old new unit before volid stamp x = leaves_at new x.later unit (Err failed.Device) x.told (inr (2, x.none))
+
+pub failed_quiet : (old new : Told) (unit : UnitInfo) (before : State) (volid : List ℕ) (stamp : Stamp) (why : Doubt) → Formats old new unit before volid stamp (Err (fault_of why))
+    → LeavesQuiet new unit (Err (fault_of why))
+failed_quiet old new unit before volid stamp Old x = emptied_quiet old new unit before volid stamp x
+failed_quiet old new unit before volid stamp Either x = tt
 
 -- ---- its events are of its unit alone
 
@@ -440,12 +463,12 @@ made_grown u v size ws label old mid new same wiped_is told =
     grown_then u old mid new (wipe_grown u size old mid wiped_is)
     (grown_of u mid new (update u ws label) (told ∙ ap (λ (w : ℕ). plus mid (update w ws label)) same) (only_update u ws label))
 
-pub front_grown : (u v size : ℕ) (ws : List Write) (old mid new : Told) → v ≡ u → mid ≡ plus old (wipe u size) → AddsFront mid new (writes v ws) → GrownOf u old new
+front_grown : (u v size : ℕ) (ws : List Write) (old mid new : Told) → v ≡ u → mid ≡ plus old (wipe u size) → AddsFront mid new (writes v ws) → GrownOf u old new
 front_grown u v size ws old mid new same wiped_is cut =
     grown_then u old mid new (wipe_grown u size old mid wiped_is)
     (grown_front u mid new (writes u ws) (only_writes u ws) (subst (λ (w : ℕ). AddsFront mid new (writes w ws)) same cut))
 
-pub cut_grown : (u v size : ℕ) (ws : List Write) (label : List ℕ) (old mid new : Told) → v ≡ u → mid ≡ plus old (wipe u size)
+cut_grown : (u v size : ℕ) (ws : List Write) (label : List ℕ) (old mid new : Told) → v ≡ u → mid ≡ plus old (wipe u size)
     → (new ≡ plus mid (to_label v ws)) ⊎ (new ≡ plus mid (with_label v ws label)) → GrownOf u old new
 cut_grown u v size ws label old mid new same wiped_is (inl told) =
     grown_then u old mid new (wipe_grown u size old mid wiped_is)
@@ -455,3 +478,7 @@ cut_grown u v size ws label old mid new same wiped_is (inr told) =
     grown_then u old mid new (wipe_grown u size old mid wiped_is)
     (grown_front u mid new (update u ws label) (only_update u ws label)
     (record { front = with_label u ws label; told = told ∙ ap (λ (w : ℕ). plus mid (with_label w ws label)) same; is = written_front u ws label }))
+
+pub failed_grown : (u v size : ℕ) (ws : List Write) (label : List ℕ) (why : Doubt) (old mid new : Told) → v ≡ u → mid ≡ plus old (wipe u size) → IsCutOff mid new v ws label why → GrownOf u old new
+failed_grown u v size ws label Old old mid new same wiped_is cut = front_grown u v size ws old mid new same wiped_is cut
+failed_grown u v size ws label Either old mid new same wiped_is cut = cut_grown u v size ws label old mid new same wiped_is cut

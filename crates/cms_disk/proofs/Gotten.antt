@@ -68,7 +68,7 @@ data_of info bytes most = record {
   bytes = bytes;
 }
 
-info_at : (files : List HeldFile) (k : ℕ) (info : FileInfo) (h : HeldFile) → slice_get (map info_of files) k ≡ Some info → slice_get files k ≡ Some h → info ≡ info_of h
+pub info_at : (files : List HeldFile) (k : ℕ) (info : FileInfo) (h : HeldFile) → slice_get (map info_of files) k ≡ Some info → slice_get files k ≡ Some h → info ≡ info_of h
 info_at [] k info h a b = absurd (cc a)
 info_at (f ∷ fs) zero info h a b = let one : info_of f ≡ info = cc a in let two : f ≡ h = cc b in sym one ∙ ap info_of two
 info_at (f ∷ fs) (suc k) info h a b = info_at fs k info h a b
@@ -120,7 +120,7 @@ gets_ok image name d m k info c bytes most rs stands at r only =
     let h = r.first.0 in
     let it = found image name d m k h stands r.keeps at r.first.1 in
     let f = it.file in
-    let same : f.records ≡ rs = only f.records (first_has image c d.volume.unit d.volume.disk.count d.volume.disk.bsize h.tree.leaves h.entry.format h.length h.entry.count f.records r.first.2 it.left)
+    let same : f.records ≡ rs = only f.records (first_has image c d.volume.unit d.volume.disk.count d.volume.disk.bsize h.tree.leaves h.entry.format h.length h.entry.count f.records r.first.2 it.sized it.left)
     in
     let is = info_at d.volume.files k info h r.info_is r.first.1 in
     let format : info.format ≡ f.format = ap (λ (i : FileInfo). i.format) is ∙ it.is.format_is in
@@ -142,7 +142,7 @@ pub gets_not_altered : (image : Image) (name : Name) (d : Accessed) (m : Minidis
 gets_not_altered image name d m k c stands at keeps first none =
     let h = first.0 in
     let it = found image name d m k h stands keeps at first.1 in
-    none it.file.records (first_has image c d.volume.unit d.volume.disk.count d.volume.disk.bsize h.tree.leaves h.entry.format h.length h.entry.count it.file.records first.2 it.left)
+    none it.file.records (first_has image c d.volume.unit d.volume.disk.count d.volume.disk.bsize h.tree.leaves h.entry.format h.length h.entry.count it.file.records first.2 it.sized it.left)
 
 pub gets_err : (name : Name) (m : Minidisk) (e : DiskFault) → (e ≡ Device) ⊎ (e ≡ Altered) ⊎ (e ≡ Memory) → (e ≡ Altered → ⊥) → GetsFile name m (Err e)
 gets_err name m e which sound = ⊎_elim

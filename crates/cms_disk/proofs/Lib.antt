@@ -4,6 +4,7 @@ pub mod Quieting
 pub mod Finding
 pub mod Gathering
 pub mod Gotten
+pub mod Skipping
 pub mod Standing
 pub mod Courses
 pub mod Beside

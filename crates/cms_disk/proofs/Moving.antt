@@ -1,6 +1,6 @@
 -- What a step of a read makes of the records that are left.
-use Rattle.std.proofs.Common.{◌≡◌, ℕ, zero, suc, ◌+◌, ◌-◌, ◌≤◌, ◌<◌, Bool, true, false, List, [], ◌∷◌, ◌++◌, length, drop, slice_index, refl, sym, ◌∙◌, ap, subst, arith, Err}
-use Rattle.std.proofs.lemmas.List.{drop-drop, length-drop}
+use Rattle.std.proofs.Common.{◌≡◌, ◌⊎◌, ℕ, zero, suc, ◌+◌, ◌-◌, ◌≤◌, ◌<◌, Bool, true, false, List, [], ◌∷◌, ◌++◌, length, drop, slice_index, refl, sym, ◌∙◌, ap, subst, arith, Err}
+use Rattle.std.proofs.lemmas.List.{drop-append-le, drop-drop, length-drop}
 use Rattle.cms_model.specs.Trees.{Image, bytes_at}
 use Rattle.cms_model.specs.declared.fault.VarFault.{VarFault}
 use Rattle.cms_records.specs.Pieces.{Begun, Takes, bytes_so_far, next_place, record_size}
@@ -23,26 +23,32 @@ pub take_gives : (image : Image) (c : Reading) (b : Begun) (f : ℕ) (a whole : 
     → 1 ≤ c.left → HasLeft image c records → Gives image (taken c b f a) records whole
 take_gives image c b f a true records t sound later some left =
     let held = subst (λ (n : ℕ). HoldLeft c.bsize c.begun.fixed c.begun.longest n (next_place c.begun) (unread image c) records) (some_left c.left some) left.held in
-    let h = hands_out c.bsize (c.left - 1) c.begun b (drop c.from c.block) (bytes_at image (drop c.done c.leaves)) (f - c.from) records t held in
+    let behind = drop c.over (bytes_at image (drop c.done c.leaves)) in
+    let h = hands_out c.bsize (c.left - 1) c.begun b (drop c.from c.block) behind (f - c.from) records t held in
     let rest = rest_of c f later in (
       h.more,
       h.records_are,
       record {
         sound = sound;
-        held = subst
-            (λ (l : List ℕ). HoldLeft c.bsize b.fixed b.longest (c.left - 1) (next_place b) (bytes_so_far b ++ (l ++ bytes_at image (drop c.done c.leaves))) h.more) rest h.rest;
+        sizes = left.sizes;
+        held = subst (λ (l : List ℕ). HoldLeft c.bsize b.fixed b.longest (c.left - 1) (next_place b) (bytes_so_far b ++ (l ++ behind)) h.more) rest h.rest;
       },
     )
 take_gives image c b f a false records t sound later some left =
-    let h = keeps_left c.bsize c.left c.begun b (drop c.from c.block) (bytes_at image (drop c.done c.leaves)) (f - c.from) records t left.held in
+    let behind = drop c.over (bytes_at image (drop c.done c.leaves)) in
+    let h = keeps_left c.bsize c.left c.begun b (drop c.from c.block) behind (f - c.from) records t left.held in
     let rest = rest_of c f later in
-    record { sound = sound; held = subst (λ (l : List ℕ). HoldLeft c.bsize b.fixed b.longest c.left (next_place b) (bytes_so_far b ++ (l ++ bytes_at image (drop c.done c.leaves))) records) rest h }
+    record {
+      sound = sound;
+      sizes = left.sizes;
+      held = subst (λ (l : List ℕ). HoldLeft c.bsize b.fixed b.longest c.left (next_place b) (bytes_so_far b ++ (l ++ behind)) records) rest h;
+    }
 
 pub take_altered : (image : Image) (c : Reading) (records : List (List ℕ)) (why : VarFault)
     → record_size c.begun.fixed c.begun.longest (next_place c.begun) (bytes_so_far c.begun ++ drop c.from c.block) ≡ Err why
     → 1 ≤ c.left → HasLeft image c records → ⊥
 take_altered image c records why is some left =
-    not_altered c.bsize (c.left - 1) c.begun (drop c.from c.block) (bytes_at image (drop c.done c.leaves)) records why is
+    not_altered c.bsize (c.left - 1) c.begun (drop c.from c.block) (drop c.over (bytes_at image (drop c.done c.leaves))) records why is
     (subst (λ (n : ℕ). HoldLeft c.bsize c.begun.fixed c.begun.longest n (next_place c.begun) (unread image c) records) (some_left c.left some) left.held)
 
 pub take_waits : (c : Reading) (b : Begun) (f : ℕ) (a : Bool) → Takes c.begun b (drop c.from c.block) (f - c.from) false → c.from ≤ f → f ≤ length c.block → length c.block ≡ c.bsize
@@ -67,15 +73,23 @@ drop_next zero (x ∷ xs) less = refl
 drop_next (suc n) (x ∷ xs) less = let one : suc n + 1 ≡ suc (n + 1) = omega arith in rw one (drop_next n xs (omega arith))
 
 -- all of the last block is taken, and the next one is there
-pub read_next : (image : Image) (c : Reading) (block : List ℕ) (d f : ℕ) (a : Bool) (records : List (List ℕ)) → block ≡ image (slice_index c.leaves c.done) → d ≡ c.done + 1 → f ≡ 0 → a ≡ c.altered
-    → c.done < length c.leaves
-    → length c.block ≤ c.from → HasLeft image c records → HasLeft image (record c { done = d; block = block; from = f; altered = a }) records
+pub read_next : (image : Image) (c : Reading) (block : List ℕ) (d f o : ℕ) (a : Bool) (records : List (List ℕ)) → block ≡ image (slice_index c.leaves c.done) → d ≡ c.done + 1 → f ≡ c.over → o ≡ 0
+    → a ≡ c.altered → c.done < length c.leaves → c.over ≤ c.bsize
+    → length c.block ≤ c.from → HasLeft image c records → HasLeft image (record c { done = d; block = block; from = f; over = o; altered = a }) records
 unfolding bytes_at
-read_next image c block d f a records is next first sound less all left =
+read_next image c block d f o a records is next first none sound less within all left =
     let gone : drop c.from c.block ≡ [] = drop_whole c.from c.block all in
-    let more : bytes_at image (drop c.done c.leaves) ≡ image (slice_index c.leaves c.done) ++ bytes_at image (drop (c.done + 1) c.leaves) = ap (bytes_at image) (drop_next c.done c.leaves less) in
-    let same : unread image c ≡ bytes_so_far c.begun ++ (drop f block ++ bytes_at image (drop d c.leaves)) = rw (gone, more, first, next, is) refl in
-    record { sound = sound ∙ left.sound; held = subst (λ (l : List ℕ). HoldLeft c.bsize c.begun.fixed c.begun.longest c.left (next_place c.begun) l records) same left.held }
+    let there = image (slice_index c.leaves c.done) in
+    let behind = bytes_at image (drop (c.done + 1) c.leaves) in
+    let long : length there ≡ c.bsize = left.sizes c.done less in
+    let more : bytes_at image (drop c.done c.leaves) ≡ there ++ behind = ap (bytes_at image) (drop_next c.done c.leaves less) in
+    let rest : drop c.over (bytes_at image (drop c.done c.leaves)) ≡ drop c.over there ++ behind = ap (drop c.over) more ∙ drop-append-le c.over there behind (omega (arith, within, long)) in
+    let same : unread image c ≡ bytes_so_far c.begun ++ (drop f block ++ drop o (bytes_at image (drop d c.leaves))) = rw (gone, rest, first, none, next, is) refl in
+    record {
+      sound = sound ∙ left.sound;
+      sizes = left.sizes;
+      held = subst (λ (l : List ℕ). HoldLeft c.bsize c.begun.fixed c.begun.longest c.left (next_place c.begun) l records) same left.held;
+    }
 
 -- the block may be any while all of it is taken
 pub read_failed : (image : Image) (c : Reading) (block : List ℕ) (f : ℕ) (a : Bool) (records : List (List ℕ)) → length c.block ≤ c.from → length block ≤ f → a ≡ c.altered → HasLeft image c records
@@ -84,8 +98,9 @@ read_failed image c block f a records all all' sound left =
     let gone : drop c.from c.block ≡ drop f block = drop_whole c.from c.block all ∙ sym (drop_whole f block all') in
     record {
       sound = sound ∙ left.sound;
+      sizes = left.sizes;
       held = subst (λ (l : List ℕ). HoldLeft c.bsize c.begun.fixed c.begun.longest c.left (next_place c.begun)
-          (bytes_so_far c.begun ++ (l ++ bytes_at image (drop c.done c.leaves))) records) gone left.held;
+          (bytes_so_far c.begun ++ (l ++ drop c.over (bytes_at image (drop c.done c.leaves)))) records) gone left.held;
     }
 
 pub read_ended : (image : Image) (c : Reading) (records : List (List ℕ)) → c.done ≡ length c.leaves → length c.block ≤ c.from → IsShort c.begun → 1 ≤ c.left → HasLeft image c records → ⊥
@@ -93,10 +108,18 @@ unfolding bytes_at
 read_ended image c records end all short some left =
     let gone : drop c.from c.block ≡ [] = drop_whole c.from c.block all in
     let none : drop c.done c.leaves ≡ [] = drop_whole c.done c.leaves (omega arith) in
-    let same : unread image c ≡ bytes_so_far c.begun ++ ([] ++ []) = rw (gone, none) refl in
+    let nothing : drop c.over (bytes_at image (drop c.done c.leaves)) ≡ [] = ap (λ (l : List ℕ). drop c.over (bytes_at image l)) none ∙ drop_whole c.over [] (omega arith) in
+    let same : unread image c ≡ bytes_so_far c.begun ++ ([] ++ []) = rw (gone, nothing) refl in
     not_ended c.bsize (c.left - 1) c.begun records short
     (subst (λ (l : List ℕ). HoldLeft c.bsize c.begun.fixed c.begun.longest (suc (c.left - 1)) (next_place c.begun) l records) same
     (subst (λ (n : ℕ). HoldLeft c.bsize c.begun.fixed c.begun.longest n (next_place c.begun) (unread image c) records) (some_left c.left some) left.held))
+
+-- ---- no block is read that isn't needed
+
+-- no block was read, or the last one was, for a record that needs it, and no more of it was taken than was passed over
+abbrev pub BegunAt : Reading → Reading → Type 0
+BegunAt first c = ((c.done ≡ first.done) × (c.over ≡ first.over))
+    ⊎ (IsShort c.begun × (c.from < c.bsize) × (first.done < c.done) × (c.done ≡ first.done + 1 → first.over ≤ c.from))
 
 -- ---- the unit's blocks
 

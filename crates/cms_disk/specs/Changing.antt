@@ -17,6 +17,8 @@ use Rattle.cms_machine.specs.Beats.{FitsStep, Covers}
 use Rattle.cms_map.specs.Bits.{free_blocks}
 use Rattle.cms_held.specs.Opening.{HeldVolume}
 use Rattle.cms_held.specs.Renewing.{needed}
+use Rattle.cms_edf.specs.declared.allotment.PlanFault.{PlanFault}
+use Rattle.cms_edf.specs.declared.allotment.PlanFault.TheVariants as unplanned
 use Rattle.cms_edf.specs.declared.change.Change as asked
 use Rattle.cms_edf.specs.declared.change.Change.TheVariants as ask
 use Rattle.cms_edf.specs.declared.doubt.Doubt.{Doubt}
@@ -141,6 +143,12 @@ pub record ChangesDisk (before now : Seen) (d e : Accessed) (result : Result ⊤
 abbrev pub fault_of : Doubt → DiskFault
 fault_of Old = failed.Device
 fault_of Either = failed.InDoubt
+
+-- and where it wasn't planned
+abbrev pub refusal_of : PlanFault → DiskFault
+refusal_of (unplanned.Limit which) = failed.Limit which
+refusal_of (unplanned.Full need free) = failed.Full need free
+refusal_of unplanned.Memory = failed.Memory
 
 -- ---- why a change is refused, in every world
 

@@ -1,4 +1,5 @@
 -- What the fields of a cursor are.
+use Rattle.std.specs.Prelude.{◌≡◌}
 use Rattle.cms_disk.specs.Cursors.{Reading, IsReading}
 use Rattle.cms_disk.specs.declared.cursor.Cursor.TheInside.{Inside}
 
@@ -12,11 +13,13 @@ reading_of c = record {
   done = c.done;
   block = c.block.items;
   from = c.from;
+  over = c.over;
   left = c.left;
   begun = c.begun;
   altered = c.altered;
 }
 
 -- what always holds of them
-abbrev pub AreSound : Inside → Type 0
-AreSound c = IsReading (reading_of c)
+pub record AreSound (c : Inside) : Type 0 where
+  pub reading : IsReading (reading_of c)
+  pub longest : c.longest ≡ c.begun.longest

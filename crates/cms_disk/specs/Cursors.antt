@@ -1,5 +1,5 @@
 -- A file that is read record by record.
-use Rattle.std.specs.Prelude.{◌≡◌, ◌⊎◌, ℕ, ◌+◌, ◌-◌, ◌*◌, ◌≤◌, ◌<◌, Bool, true, false, List, [], ◌∷◌, ◌++◌, length, drop, slice_index, Option, None, Some, IfSome, Result, Ok, Err}
+use Rattle.std.specs.Prelude.{◌≡◌, ◌⊎◌, ℕ, ◌+◌, ◌-◌, ◌*◌, ◌/◌, ◌≤◌, ◌<◌, min, Bool, true, false, List, [], ◌∷◌, ◌++◌, length, drop, slice_index, Option, None, Some, IfSome, Result, Ok, Err}
 use Rattle.cms_fields.specs.Limits.{most_bytes, longest_record}
 use Rattle.cms_names.specs.declared.name.Format.{Format}
 use Rattle.cms_names.specs.declared.name.Format.TheVariants.{F, V}
@@ -10,9 +10,9 @@ use Rattle.cms_records.specs.Pieces.{Begun, bytes_so_far, next_place, record_siz
 use Rattle.cms_disk.specs.declared.fault.DiskFault.{DiskFault}
 use Rattle.cms_disk.specs.declared.fault.DiskFault.TheVariants as failed
 
--- how far a file was read: its unit, with so many blocks of a size; the file's data blocks, how many of them were read, the bytes of
--- the one that was read last, and how many of these were taken; how many records are left to hand out, the record that is begun or was
--- handed out last, and whether the bytes turned out to be no records
+-- how far a file was read: its unit, with so many blocks of a size; the file's data blocks, how many of them were read or passed over,
+-- the bytes of the one that was read last, how many of these were taken, and how many bytes of the next one are passed over; how many
+-- records are left to hand out, the record that is begun or was handed out last, and whether the bytes turned out to be no records
 pub record Reading : Type 0 where
   pub unit : ℕ
   pub total : ℕ
@@ -21,6 +21,7 @@ pub record Reading : Type 0 where
   pub done : ℕ
   pub block : List ℕ
   pub from : ℕ
+  pub over : ℕ
   pub left : ℕ
   pub begun : Begun
   pub altered : Bool
@@ -51,6 +52,7 @@ pub record IsReading (c : Reading) : Type 0 where
   pub lengths : HasLengths c.begun
   pub leaves : AreOn c.total c.leaves
   pub taken : c.from ≤ c.bsize
+  pub over : c.over < c.bsize
   pub done : c.done ≤ length c.leaves
   pub few : length c.leaves * c.bsize ≤ most_bytes
   pub within : IsWithin c
@@ -63,13 +65,18 @@ abbrev pub HoldLeft : ℕ → Option ℕ → ℕ → ℕ → ℕ → List ℕ �
 HoldLeft bsize (Some size) most left place bytes records = (records ≡ cut left size bytes) × (left * size ≤ length bytes)
 HoldLeft bsize None most left place bytes records = (varying bsize left place bytes ≡ Ok records) × (longest records ≤ most)
 
--- the bytes of the file that aren't handed out, in an image of its unit
+-- the bytes of the file that aren't handed out or passed over, in an image of its unit
 abbrev pub unread : Image → Reading → List ℕ
-unread image c = bytes_so_far c.begun ++ (drop c.from c.block ++ bytes_at image (drop c.done c.leaves))
+unread image c = bytes_so_far c.begun ++ (drop c.from c.block ++ drop c.over (bytes_at image (drop c.done c.leaves)))
+
+-- each of these blocks has this size in an image
+abbrev pub AreSized : Image → ℕ → List ℕ → Type 0
+AreSized image bsize leaves = (k : ℕ) → k < length leaves → length (image (slice_index leaves k)) ≡ bsize
 
 -- these records are left to hand out, where the unit has this image
 pub record HasLeft (image : Image) (c : Reading) (records : List (List ℕ)) : Type 0 where
   pub sound : c.altered ≡ false
+  pub sizes : AreSized image c.bsize c.leaves
   pub held : HoldLeft c.bsize c.begun.fixed c.begun.longest c.left (next_place c.begun) (unread image c) records
 
 -- the record that was handed out last
@@ -102,9 +109,9 @@ pub record SameFile (old new : Reading) : Type 0 where
   pub fixed : new.begun.fixed ≡ old.begun.fixed
   pub longest : new.begun.longest ≡ old.begun.longest
 
--- no block was read, or bytes of the one that was read last were taken for the record
+-- no block was read, or bytes of the one that was read last were taken for the record, behind those that were passed over
 abbrev pub IsNeeded : Reading → Reading → Type 0
-IsNeeded old new = (new.done ≡ old.done) ⊎ (1 ≤ new.from)
+IsNeeded old new = (new.done ≡ old.done) ⊎ ((1 ≤ new.from) × (new.done ≡ old.done + 1 → old.over < new.from))
 
 -- more bytes belong to the record that is begun
 pub record IsShort (s : Begun) : Type 0 where
@@ -147,7 +154,19 @@ pub record IsFirst (number most size : ℕ) (blocks : List ℕ) (format : Format
   pub leaves : c.leaves ≡ blocks
   pub done : c.done ≡ 0
   pub all : c.from ≡ size
+  pub over : c.over ≡ 0
   pub left : c.left ≡ count
   pub begun : c.begun ≡ first_begun format high
   pub altered : c.altered ≡ false
   pub held : HoldsLittle c
+
+-- nothing was read or passed over yet, and all records have one length
+pub record IsUnread (c : Reading) : Type 0 where
+  pub done : c.done ≡ 0
+  pub all : c.from ≡ c.bsize
+  pub over : c.over ≡ 0
+  pub begun : c.begun ≡ first_begun F c.begun.longest
+
+-- the data block in which the record behind so many of a length begins, of so many blocks of a size
+abbrev pub block_behind : ℕ → ℕ → ℕ → ℕ → ℕ
+block_behind count size bsize blocks = min blocks (count * size / bsize)

@@ -14,7 +14,7 @@ ghost use Rattle.cms_disk.specs.declared.fault.DiskFault.TheVariants.{Exists, Me
 
 use crate::fault::DiskFault;
 use crate::minidisk::Minidisk;
-use cms_edf::{Change, Doubt, PlanFault, carry_out, plan};
+use cms_edf::{Change, carry_out, plan};
 use cms_fields::Stamp;
 use cms_names::Name;
 use cms_world::World;
@@ -138,16 +138,8 @@ impl Minidisk {
         ensures fault { IfErr result (IsChangeFault self.old.volume (needed_for self.old.volume change.now)) }
         ensures changes { ChangesDisk (seen W.World world.old) (seen W.World world.new) self.old self.new result }
     {
-        let plan = match plan(alloc, &mut self.held, change, stamp) {
-            Ok(plan) => plan,
-            Err(PlanFault::Limit(which)) => return Err(DiskFault::Limit(which)),
-            Err(PlanFault::Full { need, free }) => return Err(DiskFault::Full { need, free }),
-            Err(PlanFault::Memory) => return Err(DiskFault::Memory),
-        };
-        match carry_out(world, &mut self.held, plan) {
-            Ok(()) => Ok(()),
-            Err(Doubt::Old) => Err(DiskFault::Device),
-            Err(Doubt::Either) => Err(DiskFault::InDoubt),
-        }
+        let plan = plan(alloc, &mut self.held, change, stamp)?;
+        carry_out(world, &mut self.held, plan)?;
+        Ok(())
     }
 }

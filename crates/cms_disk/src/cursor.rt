@@ -6,7 +6,7 @@ ghost use Rattle.cms_fields.specs.Limits.{most_bytes, longest_record};
 ghost use Rattle.cms_names.specs.declared.name.Format.TheVariants.{F};
 ghost use Rattle.cms_model.specs.Trees.{Image, image_of};
 ghost use Rattle.cms_edf.specs.OpeningSteps.{OfImage};
-ghost use Rattle.cms_disk.specs.Cursors.{AreOn, IsFirst, HoldsLittle, HasLeft, HandsOut, Gives, SameFile, IsNeeded, IsShort, TextFits, Waits, text_of};
+ghost use Rattle.cms_disk.specs.Cursors.{AreOn, IsFirst, HoldsLittle, HasLeft, HandsOut, Gives, SameFile, IsNeeded, IsShort, IsUnread, TextFits, Waits, block_behind, text_of};
 ghost use Rattle.cms_disk.specs.declared.fault.DiskFault.TheVariants.{Device, Altered, Memory};
 ghost use Rattle.cms_world.specs.Seen.{OnlyReads, seen};
 
@@ -28,7 +28,9 @@ pub struct Cursor {
     done: usize,
     block: Vec<u8>,
     from: usize,
+    over: usize,
     left: u32,
+    longest: u32,
     begun: RecordState,
     altered: bool,
 }
@@ -73,7 +75,9 @@ impl Cursor {
             done: 0,
             block: vec![in alloc; 0; size]?,
             from: size,
+            over: 0,
             left: info.count,
+            longest: info.length,
             begun: RecordState::new(alloc, fixed, info.length)?,
             altered: false,
         })
@@ -111,6 +115,25 @@ impl Cursor {
         Ok(true)
     }
 
+    /// Passes over so many records, at most those that are left, of a file of which nothing was read yet and whose records all have one
+    /// length. No block is read: the next read begins with the block that has the first byte of the record behind them.
+    pub fn skip(&mut self, count: u32)
+        requires unread { IsUnread self.old }
+        requires few { count ≤ self.old.left }
+        ensures records { (image : Image) (records : List (List ℕ)) → HasLeft image self.old records
+            → HasLeft image self.new (drop count records) }
+        ensures left { self.new.left + count ≡ self.old.left }
+        ensures block { self.new.done ≡ block_behind count self.old.begun.longest self.old.bsize (length self.old.leaves) }
+        ensures held { HoldsLittle self.new }
+        ensures file { SameFile self.old self.new }
+    {
+        let size = self.bsize.bytes() as usize;
+        let place = count as usize * self.longest as usize;
+        self.done = self.leaves.len().min(place / size);
+        self.over = place % size;
+        self.left -= count;
+    }
+
     /// The record that `next` read, where it answered true.
     pub fn text(&self) -> &[u8]
         requires { self.now.begun.whole ≡ true }
@@ -128,7 +151,7 @@ impl Cursor {
         ensures whole { IfOk result (λ whole. whole ≡ true → self.new.begun.whole ≡ true) }
         ensures text { IfOk result (λ whole. whole ≡ true → TextFits self.new) }
         ensures waits { IfOk result (λ whole. whole ≡ false → Waits self.new) }
-        ensures some { OnOk result (IsShort self.old.begun → self.old.from ≡ 0 → 1 ≤ self.new.from) }
+        ensures some { OnOk result (IsShort self.old.begun → self.old.from < self.old.bsize → self.old.from < self.new.from) }
         ensures held { HoldsLittle self.new }
         ensures fault { IfErr result (λ e. e ≡ Altered) }
         ensures marked { OnErr result (self.new.altered ≡ true) }
@@ -167,11 +190,12 @@ impl Cursor {
         ensures marked { IfErr result (λ e. e ≡ Altered → self.new.altered ≡ true) }
         ensures sound { OnOk result (self.new.altered ≡ self.old.altered) }
         ensures done { OnOk result ((self.new.done ≡ self.old.done + 1) × (self.old.done < length self.old.leaves)) }
-        ensures from { OnOk result (self.new.from ≡ 0) }
+        ensures from { OnOk result ((self.new.from ≡ self.old.over) × (self.new.from < self.new.bsize)) }
         ensures same { self.new ≡ record self.old {
           done = self.new.done;
           block = self.new.block;
           from = self.new.from;
+          over = self.new.over;
           altered = self.new.altered;
         } }
         ensures reads { OnlyReads (seen W.World world.old) (seen W.World world.new) Device result }
@@ -184,7 +208,8 @@ impl Cursor {
         match world.read_block(self.unit.number, leaf, self.block.as_mut_slice()) {
             Ok(()) => {
                 self.done += 1;
-                self.from = 0;
+                self.from = self.over;
+                self.over = 0;
                 Ok(())
             }
             Err(_) => Err(DiskFault::Device),

@@ -22,7 +22,7 @@ ghost use Rattle.cms_disk.specs.declared.fault.DiskFault.TheVariants.{Device, Li
 
 use crate::fault::DiskFault;
 use crate::minidisk::Minidisk;
-use cms_edf::{Doubt, Draft, DraftShape, PlanFault, commit, plan_draft};
+use cms_edf::{Draft, DraftShape, commit, plan_draft};
 use cms_fields::Stamp;
 use cms_names::Name;
 use cms_world::{Failed, World};
@@ -58,12 +58,8 @@ impl Minidisk {
         if !self.is_writable() {
             return Err(DiskFault::ReadOnly);
         }
-        match plan_draft(alloc, &mut self.held, name, shape, stamp) {
-            Ok(draft) => Ok(draft),
-            Err(PlanFault::Limit(which)) => Err(DiskFault::Limit(which)),
-            Err(PlanFault::Full { need, free }) => Err(DiskFault::Full { need, free }),
-            Err(PlanFault::Memory) => Err(DiskFault::Memory),
-        }
+        let draft = plan_draft(alloc, &mut self.held, name, shape, stamp)?;
+        Ok(draft)
     }
 
     /// Makes a drafted file, whose records were all put, the minidisk's. It takes no memory.
@@ -83,11 +79,8 @@ impl Minidisk {
         ensures fault { IfErr result IsDevices }
         ensures changes { ChangesDisk (seen W.World world.old) (seen W.World world.new) self.old self.new result }
     {
-        match commit(world, &mut self.held, draft) {
-            Ok(()) => Ok(()),
-            Err(Doubt::Old) => Err(DiskFault::Device),
-            Err(Doubt::Either) => Err(DiskFault::InDoubt),
-        }
+        commit(world, &mut self.held, draft)?;
+        Ok(())
     }
 }
 

@@ -1,5 +1,5 @@
 // Why a call on a minidisk is refused.
-use cms_edf::OpenFault;
+use cms_edf::{Doubt, OpenFault, PlanFault};
 use std::alloc::AllocError;
 use thiserror::Error;
 
@@ -43,6 +43,35 @@ impl From<AllocError> for DiskFault {
 
     fn from(_want: AllocError) -> DiskFault {
         DiskFault::Memory
+    }
+}
+
+impl From<PlanFault> for DiskFault {
+    ghost use Rattle.std.specs.Prelude.{◌≡◌};
+    ghost use Rattle.cms_disk.specs.Changing.{refusal_of};
+
+    ghost from_gives = { λ why e. e ≡ refusal_of why };
+
+    fn from(why: PlanFault) -> DiskFault {
+        match why {
+            PlanFault::Limit(which) => DiskFault::Limit(which),
+            PlanFault::Full { need, free } => DiskFault::Full { need, free },
+            PlanFault::Memory => DiskFault::Memory,
+        }
+    }
+}
+
+impl From<Doubt> for DiskFault {
+    ghost use Rattle.std.specs.Prelude.{◌≡◌};
+    ghost use Rattle.cms_disk.specs.Changing.{fault_of};
+
+    ghost from_gives = { λ why e. e ≡ fault_of why };
+
+    fn from(why: Doubt) -> DiskFault {
+        match why {
+            Doubt::Old => DiskFault::Device,
+            Doubt::Either => DiskFault::InDoubt,
+        }
     }
 }
 

@@ -13,7 +13,7 @@ ghost use Rattle.cms_disk.specs.declared.fault.DiskFault.TheVariants.{Memory};
 use crate::fault::DiskFault;
 use crate::minidisk::Minidisk;
 use crate::unit::UnitInfo;
-use cms_edf::{Doubt, make, plan_make, wipe};
+use cms_edf::{make, plan_make, wipe};
 use cms_fields::Stamp;
 use cms_world::World;
 use std::alloc::Global;
@@ -48,14 +48,8 @@ impl Minidisk {
         ensures changes { ChangesUnits (seen W.World world.old) (seen W.World world.new) IsDevices result }
     {
         let plan = plan_make(alloc, &unit.unit, unit.bsize, volid, stamp)?;
-        match wipe(world, unit.unit.number, unit.bsize) {
-            Ok(()) => {}
-            Err(_) => return Err(DiskFault::InDoubt),
-        }
-        match make(world, plan) {
-            Ok(held) => Ok(Minidisk { unit: *unit, held }),
-            Err(Doubt::Old) => Err(DiskFault::Device),
-            Err(Doubt::Either) => Err(DiskFault::InDoubt),
-        }
+        wipe(world, unit.unit.number, unit.bsize)?;
+        let held = make(world, plan)?;
+        Ok(Minidisk { unit: *unit, held })
     }
 }

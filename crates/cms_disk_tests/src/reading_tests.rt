@@ -3,11 +3,12 @@ use crate::disk::{Disk, name_of, unit_of, world_of};
 use cms_disk::{AccessFault, Cursor, DiskFault, FileData, Minidisk, OpenFault, UnitInfo};
 use cms_edf::VarFault;
 use cms_fields::{EntryFault, LabelFault};
-use cms_images::known::{erased, full, long_directory, one_file, spanning, two_files};
+use cms_images::known::{erased, full, long_directory, one_file, put, spanning, two_files};
 use cms_images::{Edit, put_edits};
 use cms_journal::BlockSize;
+use cms_names::Format;
 use cms_world::{Access, MemWorld, World};
-use std::alloc::Global;
+use std::alloc::{AllocError, Global};
 use std::test::Fail;
 
 // A cursor on V FILE, with records of 509 and 3 bytes in two blocks.
@@ -75,6 +76,86 @@ fn altered_bytes_are_no_records(rt: HostRuntime) -> Result<(), Fail> {
     assert_eq!(rt; next(&mut world, &mut cursor), Ok(509));
     assert_eq!(rt; next(&mut world, &mut cursor), Err(DiskFault::Altered));
     assert_eq!(rt; next(&mut world, &mut cursor), Err(DiskFault::Altered));
+    Ok(())
+}
+
+// What gives V FILE ten records of 100 bytes: its format, length and count, and the pointers to its blocks 7 and 8.
+const FIXED: &[Edit] = &[
+    (4, 158, &[0xC6]),
+    (4, 160, &[0, 0, 0, 100]),
+    (4, 176, &[0, 0, 0, 10]),
+    (4, 181, &[4]),
+    (9, 0, &[0, 0, 0, 7, 0, 0, 0, 8, 0, 0, 0, 0]),
+    (9, 12, &[0, 0, 0, 0, 0, 0, 0, 0, 0, 0, 0, 0]),
+];
+
+// A volume with such a file; each record is one digit, 100 times.
+fn digits(alloc: Global) -> Result<Vec<u8>, AllocError> {
+    let mut image = spanning(alloc)?;
+    put_edits(image.as_mut_slice(), FIXED);
+    for place in 0..1_000 {
+        put(
+            image.as_mut_slice(),
+            7,
+            place,
+            &[0xF0 + (place / 100 % 10) as u8],
+        );
+    }
+    Ok(image)
+}
+
+// A cursor on V FILE behind so many of its records.
+fn cursor_behind(alloc: Global, world: &mut Disk, count: u32) -> Option<Cursor> {
+    let disk = Minidisk::access(alloc, world, &unit_of(12), false).ok()?;
+    let name = name_of(0xE5)?;
+    let Some(place) = disk.find(&name) else {
+        return None;
+    };
+    if place >= disk.count() {
+        return None;
+    }
+    let info = disk.info(place);
+    let Format::F = info.format else {
+        return None;
+    };
+    let Ok(mut cursor) = disk.cursor(alloc, &name) else {
+        return None;
+    };
+    if info.count < count {
+        return None;
+    }
+    cursor.skip(count);
+    Some(cursor)
+}
+
+// The first byte of the next record, 0 behind the last.
+fn first(world: &mut Disk, cursor: &mut Cursor) -> Result<u8, DiskFault> {
+    if cursor.next(world)? {
+        Ok(cursor.text().first().copied().unwrap_or(0))
+    } else {
+        Ok(0)
+    }
+}
+
+#[test]
+fn records_are_passed_over(rt: HostRuntime) -> Result<(), Fail> {
+    let alloc = rt.alloc();
+    // the sixth record ends in the second block, and the seventh begins in it
+    for (count, reads) in [(0, 1), (1, 1), (5, 2), (6, 1), (9, 1), (10, 0)] {
+        let mut world = world_of(digits(alloc)?);
+        let Some(mut cursor) = cursor_behind(alloc, &mut world, count) else {
+            panic!(rt; "no cursor");
+        };
+        assert_eq!(rt; world.calls, 4);
+        for record in count..10 {
+            assert_eq!(rt; first(&mut world, &mut cursor), Ok(0xF0 + record as u8));
+            if record == count {
+                assert_eq!(rt; world.calls, 4 + reads);
+            }
+        }
+        assert_eq!(rt; first(&mut world, &mut cursor), Ok(0));
+        assert!(rt; world.calls <= 6);
+    }
     Ok(())
 }
 

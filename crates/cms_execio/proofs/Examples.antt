@@ -17,11 +17,11 @@ use Rattle.cms_model.specs.Lists.{same}
 use Rattle.cms_model.specs.Minidisks.{File, Volume, same_name}
 use Rattle.cms_model.specs.Records.{longest}
 use Rattle.cms_model.specs.Sizes.{directory_more, file_size, free_count, map_size, stored_size, tree_size, used_count, levels, levels_from, pointer_count, pointers_to}
-use Rattle.cms_machine.specs.Acts.{Act, typed_line}
+use Rattle.cms_machine.specs.Acts.{typed_line}
 use Rattle.cms_machine.specs.Feeds.{Fed, Close, Over, WaitsForScript, WaitsForMoment, feed}
 use Rattle.cms_machine.specs.Items.{Item, Text, Bad}
 use Rattle.cms_machine.specs.Slots.{Slot, Settled, After}
-use Rattle.cms_machine.specs.Steps.{Outcome, Good, ReadFault, OldFault, EitherFault}
+use Rattle.cms_machine.specs.Steps.{Outcome, ReadFault, OldFault, EitherFault}
 use Rattle.cms_machine.specs.Traces.{bytes_of}
 use Rattle.cms_line.specs.Messages.{message_text}
 use Rattle.cms_line.specs.Options.{options_from, options_of}

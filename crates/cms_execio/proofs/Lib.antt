@@ -1,1 +1,5 @@
 pub mod Examples
+pub mod Asks
+pub mod Gathers
+pub mod Takings
+pub mod Written

@@ -1,6 +1,6 @@
 -- EXECIO n DISKR fn ft [fm [line]] and EXECIO n DISKW fn ft [fm], with [(FIFO or LIFO] [STRIP] [FINIS] [STRING text]
-use Rattle.std.specs.Prelude.{ℕ, ◌+◌, ◌==◌, Bool, if◌then◌else◌, List, [], ◌∷◌, codes, drop, is_some, length, position, slice_get, take, Option, Some, None, Result, Ok, Err}
-use Rattle.std.specs.Option.{option_and_then, option_map, option_map_or}
+use Rattle.std.specs.Prelude.{ℕ, ◌+◌, if◌then◌else◌, List, [], ◌∷◌, codes, drop, is_some, position, slice_get, take, Option, Some, None, Result, Ok, Err}
+use Rattle.std.specs.Option.{option_and_then, option_map}
 use Rattle.cms_fields.specs.Steps.{◌>>=◌, ◌>>◌}
 use Rattle.cms_text.specs.Texts.{is_blank, is_keyword}
 use Rattle.cms_line.specs.Options.{is_left}

@@ -1,5 +1,5 @@
 -- DISKW: lines are written into a file.
-use Rattle.std.specs.Prelude.{ℕ, zero, suc, pos, ◌==◌, if◌then◌else◌, List, [], ◌∷◌, ◌++◌, replicate, Option, Some, None, Result, Ok, Err}
+use Rattle.std.specs.Prelude.{ℕ, zero, suc, ◌==◌, if◌then◌else◌, List, [], ◌∷◌, ◌++◌, replicate, Option, Some, None, Result, Ok, Err}
 use Rattle.cms_names.specs.declared.name.Format.TheVariants as format
 use Rattle.cms_names.specs.declared.name.Name.{Name}
 use Rattle.cms_fields.specs.Moments.{stamp_of}
@@ -10,12 +10,11 @@ use Rattle.cms_machine.specs.Acts.{Act, Done, bind}
 use Rattle.cms_line.specs.declared.token.Token.{Token}
 use Rattle.cms_search.specs.Asking as asking
 use Rattle.cms_search.specs.Asking.{Asked, ask}
-use Rattle.cms_search.specs.Machine.{Machine, Course, Went, OutOfTurns, letter_at}
+use Rattle.cms_search.specs.Machine.{Machine, Course, OutOfTurns, letter_at}
 use Rattle.cms_search.specs.Searches.{Shelf, shelves_in}
-use Rattle.cms_search.specs.Stepping.{unless_failed}
 use Rattle.cms_search.specs.declared.fault.SearchFault.{SearchFault}
 use Rattle.cms_files.specs.Files.{UnitFile, file_on, on_found, writable}
-use Rattle.cms_files.specs.Updating.{updating}
+use Rattle.cms_files.specs.Updating.{last_update, went}
 use Rattle.cms_execio.specs.Records.{records_of}
 use Rattle.cms_execio.specs.declared.line.WriteTarget.{WriteTarget}
 
@@ -58,14 +57,10 @@ abbrev pub written_change : Machine → Name → List (List ℕ) → Result Unit
 written_change s name lines (Err why) = Put (new_file s name (records_of format.V 0 lines))
 written_change s name lines (Ok x) = Add name (records_of x.file.format x.file.length lines) (stamp_of s.moment)
 
-abbrev pub went : Machine → Act Course
-went s = Done (Went s (pos 0))
-
 -- one update: 120, 107, 105
 abbrev pub writing : WriteTarget → Machine → List (List ℕ) → Act Course
 writing target s lines =
-    bind (updating s target.mode.letter (written_change s target.name lines (file_on s target.name (letter_at s target.mode.letter))))
-    (unless_failed went)
+    last_update s target.mode.letter (written_change s target.name lines (file_on s target.name (letter_at s target.mode.letter)))
 
 abbrev pub on_asked : WriteTarget → AskedLines → Act Course
 on_asked target (All s lines) = writing target s lines

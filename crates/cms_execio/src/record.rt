@@ -1,9 +1,12 @@
 // Records that are stacked as lines, and lines that are written as records.
 ghost use Rattle.std.specs.Prelude.{◌≡◌, ◌≤◌, IfOk, length, take};
 ghost use Rattle.cms_text.specs.Limits.{longest_text};
+ghost use Rattle.cms_files.specs.Gathering.{IsGathered};
 ghost use Rattle.cms_execio.specs.Records as spec;
 
+use cms_files::Gathered;
 use cms_line::Line;
+use cms_names::Format;
 use cms_text::{BLANK, LONGEST_TEXT, without_trailing_blanks};
 use std::alloc::{AllocError, Global};
 
@@ -39,6 +42,23 @@ pub fn stacked_line(alloc: Global, text: &[u8], strips: bool) -> Result<Line, Al
 pub fn or_blank(line: &[u8]) -> &[u8]
     ensures text { result.now ≡ spec.or_blank line.now }
     ensures some { 1 ≤ length result.now }
+    ensures short { length line.now ≤ longest_text → length result.now ≤ longest_text }
 {
     if line.is_empty() { &[BLANK] } else { line }
+}
+
+/// The records that lines are in a file of a format, and of a length at F.
+pub fn gather_lines(
+    alloc: Global,
+    format: Format,
+    size: u32,
+    lines: &[Line],
+) -> Result<Gathered, AllocError>
+    ensures { IfOk result (IsGathered format size (spec.records_of format size lines.now)) }
+{
+    let mut gathered = Gathered::new(alloc, format, size);
+    for line in lines {
+        gathered.push(or_blank(line.bytes()))?;
+    }
+    Ok(gathered)
 }

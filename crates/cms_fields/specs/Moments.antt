@@ -21,6 +21,10 @@ is_moment m =
     && is_between 1 (days_of_month (is_leap_year m.year) m.month) m.day
     && nat_le m.hour 23 && nat_le m.minute 59 && nat_le m.second 59
 
+-- 1970-01-01 00:00:00
+abbrev pub first_moment : Moment
+first_moment = record { year = 1970; month = 1; day = 1; hour = 0; minute = 0; second = 0 }
+
 -- a day counted off along periods of so many days each: the period in which it lies, at most so many further on, and its place there
 unfoldable pub counted_off : (ℕ → ℕ) → ℕ → ℕ → ℕ → ℕ × ℕ
 counted_off days_of zero period day = (period, day)

@@ -12,6 +12,7 @@ use crate::packed::{has_stamp, packed_stamp, stamp_at};
 use crate::time::Stamp;
 use cms_journal::BlockSize;
 use cms_names::{Format, Name};
+use cms_text::ZERO;
 use cms_text::bytes::{put, put_word, word_at};
 
 /// What an entry says of its file, by VM/SP's published description of the file status table; its
@@ -59,9 +60,6 @@ pub enum EntryFault {
 
 /// The letter of the mode that is written.
 const LETTER_A: u8 = 0xC1;
-
-/// The digit of mode number 0.
-const DIGIT_0: u8 = 0xF0;
 
 /// Where the date stands.
 const DATE: usize = 54;
@@ -134,7 +132,7 @@ pub fn write_entry(entry: &Entry, into: &mut [u8])
     into.fill(0);
     put(into, 0, entry.name.file.padded());
     put(into, 8, entry.name.kind.padded());
-    put(into, 24, &[LETTER_A, DIGIT_0 + entry.number]);
+    put(into, 24, &[LETTER_A, ZERO + entry.number]);
     put(into, 30, &[format_byte(entry.format)]);
     put_word(into, 32, entry.length);
     put_word(into, 40, entry.root);

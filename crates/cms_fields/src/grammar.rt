@@ -9,9 +9,7 @@ use crate::levels::is_shape;
 use crate::limits::{LONGEST_RECORD, MOST_BYTES, MOST_RECORDS};
 use cms_journal::BlockSize;
 use cms_names::{Format, Name, Part, is_name_character};
-
-/// Fills up the field of a name.
-const BLANK: u8 = 0x40;
+use cms_text::BLANK;
 
 // The part in a field of 8 bytes: 1 to 8 name characters and then blanks.
 #[tactic(auto, unfolding(crate::specs::Entries::is_part_field))]

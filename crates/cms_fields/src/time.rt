@@ -21,6 +21,16 @@ pub struct Moment {
     pub second: u8,
 }
 
+/// 1970-01-01 00:00:00.
+pub const FIRST_MOMENT: Moment = Moment {
+    year: 1970,
+    month: 1,
+    day: 1,
+    hour: 0,
+    minute: 0,
+    second: 0,
+};
+
 /// 2099-12-31 23:59:59, in seconds after 1970-01-01 00:00:00.
 const LAST_SECOND: i64 = 4_102_444_799;
 

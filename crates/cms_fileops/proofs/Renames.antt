@@ -1,8 +1,7 @@
 -- The numbers and the names that files get.
-use Rattle.std.proofs.Common.{◌≡◌, ◌∙◌, ℕ, ◌-◌, ◌≤◌, List, [], ◌∷◌, Bool, true, false, Option, Some, None, Result, Ok, Err, All, inl, inr, refl, subst, sym, ap, arith}
+use Rattle.std.proofs.Common.{◌≡◌, ◌∙◌, ℕ, ◌-◌, ◌≤◌, List, [], ◌∷◌, Bool, true, false, Option, Some, None, Result, Ok, Err, inl, inr, refl, subst, sym, ap, arith}
 use Rattle.std.specs.Prelude.{⊤, ◌⊎◌, ◌↔◌, cond, not, ◌==◌, ◌&&◌, nat_le, is_some, IfSome, IsSome, IsTrue, unwrap_or}
 use Rattle.std.proofs.lemmas.Bool.{leb-true}
-use Rattle.std.proofs.lemmas.List.Elements.{All-weaker}
 use Rattle.std.specs.Option.{option_map}
 use Rattle.cms_fields.specs.Steps.{◌>>=◌, ◌>>◌}
 use Rattle.cms_names.specs.Modes.{letter_of, mode_number_of, mode_word_of, numbered_mode, short_mode_of}
@@ -131,9 +130,6 @@ renamed_number files f given own = cases files.number given
     cases : (x : Option ℕ) → HasMode x → unwrap_or x f.number ≤ 6
     cases None given = own
     cases (Some k) given = given
-
-pub renamed_numbers : (files : RenameFiles) (fs : List Listed) → HasMode files.number → All (λ f. f.number ≤ 6) fs → All (λ f. (renaming_of files f).number ≤ 6) fs
-renamed_numbers files fs given own = All-weaker (λ (f : Listed). f.number ≤ 6) (λ (f : Listed). (renaming_of files f).number ≤ 6) (λ f small. renamed_number files f given small) fs own
 
 -- ---- the names of others
 

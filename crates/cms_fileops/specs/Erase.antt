@@ -14,9 +14,9 @@ use Rattle.cms_search.specs.Machine.{Machine, Course}
 use Rattle.cms_search.specs.Refusing.{on_line}
 use Rattle.cms_search.specs.Searches.{Listed, shelves_in}
 use Rattle.cms_search.specs.Stepping.{Stepped}
-use Rattle.cms_files.specs.Files.{file_text, files_written, on_found, shelf_with}
+use Rattle.cms_files.specs.Files.{file_text, shelf_with}
 use Rattle.cms_files.specs.Identifiers.{is_last, mode_or_a, name_choice}
-use Rattle.cms_files.specs.Updating.{on_step, telling, updating, updating_each}
+use Rattle.cms_files.specs.Updating.{on_step, telling, updating, updating_taken}
 use Rattle.cms_fileops.specs.declared.erase.EraseFiles.{EraseFiles}
 use Rattle.cms_fileops.specs.declared.erase.EraseLine.{EraseLine}
 
@@ -50,8 +50,7 @@ erase_told words n types s f = bind (erase_file s words n f.name) (telling types
 
 abbrev pub erase_files : Machine → List Token → EraseLine → Act Course
 erase_files s words line =
-    on_found s words 1 (λ files. updating_each (erase_told words line.files.mode.letter line.types) files s)
-    (files_written (shelves_in s) line.files.names line.files.mode)
+    updating_taken s words line.files.names line.files.mode (erase_told words line.files.mode.letter line.types)
 
 -- files of a disk are erased, in the order in which they stood, by one update each: 069, 037, 002
 abbrev pub erase : Machine → List Token → Act Course

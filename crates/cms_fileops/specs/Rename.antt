@@ -23,9 +23,9 @@ use Rattle.cms_search.specs.Searches.{Listed, Shelf, item_at, shelves_in}
 use Rattle.cms_search.specs.Stepping.{Stepped}
 use Rattle.cms_search.specs.Tables.{Accesses, shelves_of}
 use Rattle.cms_search.specs.Telling.{letter_text}
-use Rattle.cms_files.specs.Files.{file_exists, file_text, files_written, has_name, on_found, shelf_with}
+use Rattle.cms_files.specs.Files.{file_exists, file_text, has_name, shelf_with}
 use Rattle.cms_files.specs.Identifiers.{is_last, name_choice, output_name}
-use Rattle.cms_files.specs.Updating.{on_step, stopping, telling, updating, updating_each}
+use Rattle.cms_files.specs.Updating.{on_step, stopping, telling, updating, updating_taken}
 use Rattle.cms_fileops.specs.declared.rename.RenameFiles.{RenameFiles}
 use Rattle.cms_fileops.specs.declared.rename.RenameLine.{RenameLine}
 use Rattle.cms_fileops.specs.declared.rename.Renaming.{Renaming}
@@ -95,8 +95,7 @@ rename_listed words line s f = rename_told words line.files.mode.letter line.typ
 
 abbrev pub rename_files : Machine → List Token → RenameLine → Act Course
 rename_files s words line =
-    on_found s words 1 (λ files. updating_each (rename_listed words line) files s)
-    (files_written (shelves_in s) line.files.names line.files.mode)
+    updating_taken s words line.files.names line.files.mode (rename_listed words line)
 
 -- files of a disk get other names or numbers, in the order in which they stood, by one update each: 069, 037, 002
 abbrev pub rename : Machine → List Token → Act Course

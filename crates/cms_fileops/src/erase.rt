@@ -8,8 +8,8 @@ ghost use Rattle.cms_fileops.specs.Erase as spec;
 
 use cms_edf::Change;
 use cms_files::{
-    FileUpdate, NameChoice, TakenFile, Updated, file_text, files_written, find_written, is_last,
-    name_choice, refuse_search, stop_search, tell_updated, update_disk, update_each,
+    FileUpdate, NameChoice, TakenFile, Updated, file_text, find_written, is_last, name_choice,
+    stop_search, tell_updated, update_disk, update_taken,
 };
 use cms_line::{Token, Tokens};
 use cms_names::Name;
@@ -17,7 +17,7 @@ use cms_operands::{
     CommandFault, OptionForm, Parameter, Refusal, WriteMode, chosen_options, coded, ended,
     given_or, operands, writing_mode,
 };
-use cms_search::{Course, End, SearchFault, State, refuse_command};
+use cms_search::{Course, End, State, refuse_command};
 use cms_world::World;
 use std::alloc::Global;
 
@@ -128,20 +128,13 @@ fn erase_files<W: World>(
         (λ units. spec.erase_files (machine_of state.old units) words.now line.now) result (course_of state.new) }
     ensures kept { state.new ≡ record state.old { table = state.new.table; places = state.new.places } }
 {
-    match files_written(alloc, &state.table, &line.files.names, &line.files.mode) {
-        Ok(files) => {
-            let erasing = Erasing {
-                words,
-                letter: line.files.mode.letter,
-                types: line.types,
-            };
-            update_each(alloc, world, state, &erasing, files.as_slice())
-        }
-        Err(fault) => match fault {
-            SearchFault::Memory => Err(End::Memory),
-            _ => refuse_search(alloc, world, words.as_slice(), 1, fault),
-        },
-    }
+    let EraseFiles { names, mode } = line.files;
+    let erasing = Erasing {
+        words,
+        letter: mode.letter,
+        types: line.types,
+    };
+    update_taken(alloc, world, state, words, &names, &mode, &erasing)
 }
 
 /// ERASE: files of a disk go, one update each, in the order in which they stood.

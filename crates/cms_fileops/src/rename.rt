@@ -9,9 +9,8 @@ ghost use Rattle.cms_fileops.specs.Rename as spec;
 
 use cms_edf::Change;
 use cms_files::{
-    FileUpdate, NameChoice, TakenFile, Updated, file_text, files_written, find_written, is_last,
-    name_choice, output_name, refuse_search, stop_exists, stop_search, tell_updated, update_disk,
-    update_each,
+    FileUpdate, NameChoice, TakenFile, Updated, file_text, find_written, is_last, name_choice,
+    output_name, stop_exists, stop_search, tell_updated, update_disk, update_taken,
 };
 use cms_line::{Token, Tokens, Word};
 use cms_names::{Name, OutId, equal_signs};
@@ -19,7 +18,7 @@ use cms_operands::{
     CommandFault, OptionForm, Parameter, Refusal, WriteMode, chosen_options, ended, needed,
     operands, output_mode, writing_mode,
 };
-use cms_search::{Course, End, SearchFault, State, Table, letter_word, refuse_command};
+use cms_search::{Course, End, State, Table, letter_word, refuse_command};
 use cms_world::World;
 use std::alloc::{AllocError, Global};
 
@@ -229,16 +228,17 @@ fn rename_files<W: World>(
         (λ units. spec.rename_files (machine_of state.old units) words.now line.now) result (course_of state.new) }
     ensures kept { state.new ≡ record state.old { table = state.new.table; places = state.new.places } }
 {
-    match files_written(alloc, &state.table, &line.files.names, &line.files.mode) {
-        Ok(files) => {
-            let renamer = Renamer { words, line };
-            update_each(alloc, world, state, &renamer, files.as_slice())
-        }
-        Err(fault) => match fault {
-            SearchFault::Memory => Err(End::Memory),
-            _ => refuse_search(alloc, world, words.as_slice(), 1, fault),
-        },
-    }
+    let files = &line.files;
+    let renamer = Renamer { words, line };
+    update_taken(
+        alloc,
+        world,
+        state,
+        words,
+        &files.names,
+        &files.mode,
+        &renamer,
+    )
 }
 
 /// RENAME: files of a disk get other names or numbers, one update each, in the order in which they stood.

@@ -5,3 +5,5 @@ pub mod Updates
 pub mod Records
 pub mod Forgetting
 pub mod OpenedFiles
+pub mod LastUpdates
+pub mod FileTold

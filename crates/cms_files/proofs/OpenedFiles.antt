@@ -1,6 +1,8 @@
 -- Files that are opened.
 use Rattle.std.proofs.Common.{◌≡◌, ◌≤◌, ◌∙◌, ℕ, zero, suc, List, [], ◌∷◌, Option, Some, None, Err, length, slice_get, map, refl, sym, ap, subst}
 use Rattle.std.specs.Option.{option_map}
+use Rattle.cms_names.specs.declared.name.Format.{Format}
+use Rattle.cms_names.specs.declared.name.Format.TheVariants.{F}
 use Rattle.cms_names.specs.declared.name.Name.{Name}
 use Rattle.cms_model.specs.Changes.{file_named}
 use Rattle.cms_model.specs.Minidisks.{File, Minidisk, Volume}
@@ -10,6 +12,8 @@ use Rattle.cms_machine.specs.Steps.{Get, Outcome}
 use Rattle.cms_edf.specs.Asking.{info_of, infos_in}
 use Rattle.cms_edf.specs.declared.held.FileInfo.{FileInfo}
 use Rattle.cms_held.specs.Opening.{HeldFile}
+use Rattle.cms_records.specs.Pieces.{Begun}
+use Rattle.cms_disk.specs.Cursors.{IsFirst, IsUnread, Reading, first_begun}
 use Rattle.cms_disk.specs.Disks.{Accessed, OpensIn, StartsAt, place_of}
 use Rattle.cms_disk.specs.declared.unit.UnitInfo.{UnitInfo}
 use Rattle.cms_disk.proofs.Finding.{none_found}
@@ -69,12 +73,21 @@ info_at [] k info h told is = absurd (cc is)
 info_at (x ∷ hs) zero info h told is = let e : info_of x ≡ info = some_same _ _ told in let f : x ≡ h = some_same x h is in sym e ∙ ap info_of f
 info_at (x ∷ hs) (suc k) info h told is = info_at hs k info h told is
 
+-- nothing of it was read, and its records have one length
+unread_first : (unit total bsize : ℕ) (blocks : List ℕ) (format : Format) (high count : ℕ) (c : Reading) → IsFirst unit total bsize blocks format high count c → format ≡ F → IsUnread c
+unread_first unit total bsize blocks format high count c first same = record {
+  done = first.done;
+  all = first.all ∙ sym first.bsize;
+  over = first.over;
+  begun = first.begun ∙ (ap (λ (f : Format). first_begun f high) same ∙ ap (first_begun F) (sym (ap (λ (b : Begun). b.longest) first.begun)));
+}
+
 -- it was opened where it was found
 pub opened_at : (t : Accesses) (n : ℕ) (name : Name) (d : Accessed) (place : ℕ) (info : FileInfo) (file : OpenFile)
     → Some d ≡ option_map (λ (x : Seated). x.disk) (item_at t.seats n) → Some place ≡ place_of name d.volume → slice_get (infos_in d.volume) place ≡ Some info
-    → OpensIn d name file.cursor → StartsAt name d.volume file.cursor → file.count ≡ info.count
+    → OpensIn d name file.cursor → StartsAt name d.volume file.cursor → file.count ≡ info.count → file.format ≡ info.format
     → ((s : Seated) → item_at t.seats n ≡ Some s → option_map (λ (unit : UnitInfo). unit.vdev) (slice_get t.units s.letter.unit) ≡ Some file.vdev) → IsOpened t n name file
-opened_at t n name d place info file is at told opens starts count device =
+opened_at t n name d place info file is at told opens starts count format device =
     let seat = seat_with (item_at t.seats n) d is in
     let same : place ≡ starts.place = some_same place starts.place (at ∙ starts.place_is) in
     let there : slice_get d.volume.files place ≡ Some starts.file = subst (λ (k : ℕ). slice_get d.volume.files k ≡ Some starts.file) (sym same) starts.file_is in
@@ -86,6 +99,8 @@ opened_at t n name d place info file is at told opens starts count device =
       opens = subst (λ (a : Accessed). OpensIn a name file.cursor) (sym seat.2) opens;
       starts = subst (λ (a : Accessed). StartsAt name a.volume file.cursor) (sym seat.2) starts;
       count = count ∙ (ap (λ (i : FileInfo). i.count) tells ∙ sym starts.first.left);
+      unread = λ same. unread_first _ _ _ starts.file.tree.leaves starts.file.entry.format starts.file.length starts.file.entry.count file.cursor starts.first
+          (sym (ap (λ (i : FileInfo). i.format) tells) ∙ (sym format ∙ same));
     }
 
 -- the machine finds it

@@ -79,6 +79,16 @@ pub device_at : (st : State) (n vdev : ℕ) (s : Seated) → item_at st.table.se
     → option_map (λ (unit : UnitInfo). unit.vdev) (slice_get st.table.units s.letter.unit) ≡ Some vdev → vdev_at (machine_of st []) (letter_at (machine_of st []) n) ≡ vdev
 device_at st n vdev s at is = ap (λ (x : Option Letter). vdev_at (machine_of st []) x) (letter_is st.table n s at) ∙ vdev_is st [] s.letter.unit vdev is
 
+-- what follows the change was done
+pub update_ends : (old mid new : Spot) (n vdev : ℕ) (change : Change) (x : declared_changed.Changed) (r : Result declared_updated.Updated End)
+    → Acts old mid (changing_tree old.state n change) (Ok x) (changing_of mid.state) → vdev_at (machine_of old.state []) (letter_at (machine_of old.state []) n) ≡ vdev
+    → Acts mid new (λ units. updated n vdev change (changing_of mid.state units x)) r (updated_of new.state) → Acts old new (updating_tree old.state n change) r (updated_of new.state)
+update_ends old mid new n vdev change x r a device rest =
+    acts_after old mid new (updating_tree old.state n change) (λ units. then_updated old.state n change (changing_of mid.state units x)) r (updated_of new.state)
+    (update_comes old mid n change x a)
+    (acts_same mid new (λ units. then_updated old.state n change (changing_of mid.state units x)) (λ units. updated n vdev change (changing_of mid.state units x)) r (updated_of new.state)
+    (λ units h. rw device refl) rest)
+
 -- no reading place is kept in the files then
 abbrev pub forgot : State → ℕ → Change → State
 forgot s vdev change = record s { places = places_without vdev (names_of change) s.places }

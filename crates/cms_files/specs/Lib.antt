@@ -5,3 +5,4 @@ pub mod Updating
 pub mod Stacking
 pub mod Pushing
 pub mod Gathering
+pub mod Told

@@ -8,8 +8,10 @@ use Rattle.cms_machine.specs.Acts.{Act, Done, bind}
 use Rattle.cms_line.specs.declared.message.Message.TheVariants.{M107, M120}
 use Rattle.cms_search.specs.ChangeTold.{limited}
 use Rattle.cms_search.specs.Machine.{Letter, Machine, Places, Course, Went, letter_at, place_key, refusal}
+use Rattle.cms_operands.specs.declared.operand.WriteMode.{WriteMode}
 use Rattle.cms_search.specs.Refusing.{fault}
 use Rattle.cms_search.specs.Releasing.{vdev_of}
+use Rattle.cms_search.specs.Searches.{Listed, shelves_in}
 use Rattle.cms_search.specs.Stepping.{Stepped, Did, Failed, Changing, IsChanged, IsLimited, IsFull, HasFailed, changing, unless_failed}
 use Rattle.cms_search.specs.Telling.{letter_text}
 use Rattle.cms_search.specs.declared.fault.SearchFault.{SearchFault}
@@ -19,7 +21,8 @@ use Rattle.cms_search.specs.Calls.{Meaning, course_of, machine_of}
 use Rattle.cms_search.specs.declared.state.State.{State}
 use Rattle.cms_files.specs.declared.updating.Updated as declared
 use Rattle.cms_files.specs.declared.updating.Updated.TheVariants as came
-use Rattle.cms_files.specs.Files.{search_refused, told}
+use Rattle.cms_files.specs.Files.{files_written, on_found, search_refused, told}
+use Rattle.cms_files.specs.declared.identifier.NameChoice.{NameChoice}
 
 -- the files that a change is of
 abbrev pub names_of : Change → List Name
@@ -62,6 +65,14 @@ updated n vdev change (HasFailed course) = Done (Failed course)
 abbrev pub updating : Machine → ℕ → Change → Act Stepped
 updating s n change = bind (changing s n change) (updated n (vdev_at s (letter_at s n)) change)
 
+-- the command ends well
+abbrev pub went : Machine → Act Course
+went s = Done (Went s (pos 0))
+
+-- one update of the minidisk of letter n, as the last thing of a command
+abbrev pub last_update : Machine → ℕ → Change → Act Course
+last_update s n change = bind (updating s n change) (unless_failed went)
+
 -- ---- files, one after another
 
 -- behind an update of a file: with TYPE it is typed
@@ -71,8 +82,13 @@ telling types text (Failed course) = Done (Failed course)
 
 -- each is updated in its turn; the first refusal stops
 unfoldable pub updating_each : {A : Type 0} → (Machine → A → Act Stepped) → List A → Machine → Act Course
-updating_each update [] s = Done (Went s (pos 0))
+updating_each update [] s = went s
 updating_each update (x ∷ xs) s = bind (update s x) (unless_failed (updating_each update xs))
+
+-- the files of a disk that a choice of names and a mode mean are updated, in the directory's order: 069, 037, 002
+abbrev pub updating_taken : Machine → List Token → NameChoice → WriteMode → (Machine → Listed → Act Stepped) → Act Course
+updating_taken s words names mode update =
+    on_found s words 1 (λ files. updating_each update files s) (files_written (shelves_in s) names mode)
 
 -- ---- the calls
 

@@ -1,14 +1,20 @@
 // Files that are updated one after another.
-ghost use Rattle.std.specs.Prelude.{◌≡◌, true, All};
+ghost use Rattle.std.specs.Prelude.{◌≡◌, ◌≤◌, true, All};
 ghost use Rattle.cms_fields.specs.Moments.{is_moment};
 ghost use Rattle.cms_search.specs.Calls.{Acts, IsUsable, course_of, machine_of, spot};
 ghost use Rattle.cms_search.specs.Machine.{Machine};
+ghost use Rattle.cms_search.specs.Searches.{Listed};
 ghost use Rattle.cms_search.specs.Stepping.{Stepped};
 ghost use Rattle.cms_machine.specs.Acts.{Act};
-ghost use Rattle.cms_files.specs.Updating.{updated_of, updating_each};
+ghost use Rattle.cms_files.specs.Updating.{updated_of, updating_each, updating_taken};
 
+use crate::identifier::NameChoice;
+use crate::searching::refuse_search;
+use crate::taken::{TakenFile, files_written};
 use crate::updating::Updated;
-use cms_search::{Course, End, State};
+use cms_line::Tokens;
+use cms_operands::WriteMode;
+use cms_search::{Course, End, SearchFault, State};
 use cms_world::World;
 use std::alloc::Global;
 
@@ -58,4 +64,32 @@ pub fn update_each<W: World, F, U: FileUpdate<F>>(
         }
     }
     Ok(Course::Went(0))
+}
+
+/// The files of a disk that a choice of names and a mode mean, which are the words of a line from its first operand on, are updated one
+/// after another in the directory's order, until one is refused. Refused before are a disk that isn't accessed or may only be read, and
+/// names that no file has.
+pub fn update_taken<W: World, U: FileUpdate<TakenFile>>(
+    alloc: Global,
+    world: &mut W,
+    state: &mut State,
+    words: &Tokens,
+    names: &NameChoice,
+    mode: &WriteMode,
+    update: &U,
+) -> Result<Course, End>
+    requires usable { IsUsable (spot W.World world.old state.old) }
+    requires moment { is_moment state.old.moment ≡ true }
+    requires takes { (f : Listed) → f.number ≤ 6 → U.takes update.now f }
+    ensures acts { Acts (spot W.World world.old state.old) (spot W.World world.new state.new)
+        (λ units. updating_taken (machine_of state.old units) words.now names.now mode.now (U.tree update.now)) result (course_of state.new) }
+    ensures kept { state.new ≡ record state.old { table = state.new.table; places = state.new.places } }
+{
+    match files_written(alloc, &state.table, names, mode) {
+        Ok(files) => update_each(alloc, world, state, update, files.as_slice()),
+        Err(fault) => match fault {
+            SearchFault::Memory => Err(End::Memory),
+            _ => refuse_search(alloc, world, words.as_slice(), 1, fault),
+        },
+    }
 }

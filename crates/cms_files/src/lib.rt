@@ -14,7 +14,7 @@ mod telling;
 mod updating;
 mod writing;
 
-pub use each::{FileUpdate, update_each};
+pub use each::{FileUpdate, update_each, update_taken};
 pub use gathering::Gathered;
 pub use identifier::{
     FileInput, NameChoice, file_input, full_name, is_last, name_choice, output_name, takes_number,
@@ -25,5 +25,5 @@ pub use searching::{NO_FILE, refuse_exists, refuse_search};
 pub use stacking::StackEnd;
 pub use taken::{TakenFile, TakenFiles, files_written, find_written};
 pub use telling::{file_text, tell_updated};
-pub use updating::{Updated, stop_exists, stop_search, update_disk};
-pub use writing::write_file;
+pub use updating::{Updated, stop_exists, stop_full, stop_limited, stop_search, update_disk};
+pub use writing::{end_writing, info_named, write_file, write_last};

@@ -7,7 +7,7 @@ ghost use Rattle.cms_files.specs.Files.{file_on};
 ghost use Rattle.cms_files.specs.Opening.{HasRecords, IsOpened};
 
 use cms_disk::Cursor;
-use cms_names::Name;
+use cms_names::{Format, Name};
 use cms_search::{SearchFault, Table};
 use std::alloc::Global;
 
@@ -16,6 +16,8 @@ use std::alloc::Global;
 pub struct OpenFile {
     /// its records
     pub cursor: Cursor,
+    /// whether they have one length
+    pub format: Format,
     /// how many they are
     pub count: u32,
     /// the device of its disk
@@ -43,11 +45,12 @@ pub fn open_file(
     let Some(place) = disk.find(name) else {
         return Err(SearchFault::NotFound);
     };
-    let count = disk.info(place).count;
+    let info = disk.info(place);
     match disk.cursor(alloc, name) {
         Ok(cursor) => Ok(OpenFile {
             cursor,
-            count,
+            format: info.format,
+            count: info.count,
             vdev: table.vdev(letter),
         }),
         // the file is there, so this is want of memory

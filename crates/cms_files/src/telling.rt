@@ -7,12 +7,9 @@ ghost use Rattle.cms_files.specs.Updating.{telling, updated_of};
 use crate::updating::Updated;
 use cms_names::Name;
 use cms_search::{End, State, letter_text, say};
-use cms_text::BLANK;
+use cms_text::{BLANK, ZERO};
 use cms_world::World;
 use std::alloc::{AllocError, Global};
-
-// The digit 0.
-const ZERO: u8 = 0xF0;
 
 /// A file's name, its type, and the letter, A is 0, with its mode number, with one blank between.
 pub fn file_text(alloc: Global, letter: u8, name: &Name, number: u8) -> Result<Vec<u8>, AllocError>

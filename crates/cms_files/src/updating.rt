@@ -66,8 +66,8 @@ pub fn stop_exists<W: World>(
     Ok(Updated::Stopped(course))
 }
 
-// An update would pass a limit.
-pub(crate) fn stop_limited<W: World>(
+/// An update isn't done, since it would pass a limit: 1, the files of a minidisk; 2, the records of a file; 3, its stored bytes.
+pub fn stop_limited<W: World>(
     alloc: Global,
     world: &mut W,
     state: &State,
@@ -81,8 +81,8 @@ pub(crate) fn stop_limited<W: World>(
     Ok(Updated::Stopped(course))
 }
 
-// An update has no room.
-pub(crate) fn stop_full<W: World>(
+/// An update isn't done, since it needs more blocks of the disk of a letter, A is 0, than are free.
+pub fn stop_full<W: World>(
     alloc: Global,
     world: &mut W,
     state: &State,

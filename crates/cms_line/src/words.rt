@@ -6,10 +6,8 @@ ghost use Rattle.cms_text.specs.Limits.{longest_text};
 
 use crate::{Line, Token, Tokens, Word};
 use cms_ebcdic::fold_upper;
+use cms_text::BLANK;
 use std::alloc::{AllocError, Global};
-
-// In EBCDIC.
-const BLANK: u8 = 0x40;
 
 /// A left parenthesis in EBCDIC.
 pub const LEFT: u8 = 0x4D;

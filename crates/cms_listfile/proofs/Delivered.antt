@@ -17,7 +17,8 @@ use Rattle.cms_search.proofs.Acts.{acts_same}
 use Rattle.cms_search.proofs.Lined.{Reached, acts_typed, nothing, reached_none, reached_off, reached_on, reached_to, typing_more, typing_none, typing_one, typing_then}
 use Rattle.cms_search.proofs.Meeting.{holds_shows}
 use Rattle.cms_search.proofs.Talking.{silent}
-use Rattle.cms_listfile.specs.Listfile.{went, with_header}
+use Rattle.cms_files.specs.Updating.{went}
+use Rattle.cms_listfile.specs.Listfile.{with_header}
 use Rattle.cms_listfile.specs.Listing.{header, line_to, lines_of, told_columns}
 use Rattle.cms_listfile.specs.Told.{line_told, lines_told, listed_at}
 use Rattle.cms_listfile.specs.declared.columns.Columns.{Columns}

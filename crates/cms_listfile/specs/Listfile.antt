@@ -1,5 +1,5 @@
 -- LISTFILE [fn [ft [fm]]] [(options]
-use Rattle.std.specs.Prelude.{ℕ, pos, ◌==◌, nat_le, Bool, true, false, if◌then◌else◌, List, [], ◌∷◌, ◌++◌, codes, is_some, map, Result, Ok, Err, ⊤}
+use Rattle.std.specs.Prelude.{ℕ, ◌==◌, nat_le, Bool, true, false, if◌then◌else◌, List, [], ◌∷◌, ◌++◌, codes, is_some, map, Result, Ok, Err, ⊤}
 use Rattle.std.specs.Option.{option_map_or}
 use Rattle.cms_names.specs.declared.name.Format.{Format}
 use Rattle.cms_names.specs.declared.name.Format.TheVariants as format
@@ -9,7 +9,7 @@ use Rattle.cms_fields.specs.Steps.{◌>>=◌, ◌>>◌}
 use Rattle.cms_text.specs.Texts.{coded}
 use Rattle.cms_model.specs.Changes.{Change, Put, Add}
 use Rattle.cms_model.specs.Minidisks.{File}
-use Rattle.cms_machine.specs.Acts.{Act, Done, bind}
+use Rattle.cms_machine.specs.Acts.{Act}
 use Rattle.cms_line.specs.declared.token.Token.{Token}
 use Rattle.cms_operands.specs.Choices.{chosen_of, form, last_among}
 use Rattle.cms_operands.specs.Operands.{ended, operands_of, pattern, reading_mode}
@@ -17,17 +17,16 @@ use Rattle.cms_operands.specs.declared.choosing.ChosenOption.{ChosenOption}
 use Rattle.cms_operands.specs.declared.choosing.OptionForm.{OptionForm}
 use Rattle.cms_operands.specs.declared.choosing.Parameter.TheVariants as takes
 use Rattle.cms_operands.specs.declared.refusal.Refusal.{Refusal}
-use Rattle.cms_search.specs.Machine.{Machine, Course, Went, letter_at, typing}
+use Rattle.cms_search.specs.Machine.{Machine, Course, letter_at, typing}
 use Rattle.cms_search.specs.Refusing.{on_line}
 use Rattle.cms_search.specs.Searches.{Shelf, fitting, search, shelves_in}
-use Rattle.cms_search.specs.Stepping.{unless_failed}
 use Rattle.cms_search.specs.declared.fault.SearchFault.{SearchFault}
 use Rattle.cms_search.specs.declared.search.Found.{Found}
 use Rattle.cms_files.specs.Files.{UnitFile, file_on, on_found, some_found, writable}
 use Rattle.cms_files.specs.Gathering.{record_in}
 use Rattle.cms_files.specs.Identifiers.{is_last, mode_or_a, part_or_all}
 use Rattle.cms_files.specs.Stacking.{stacking}
-use Rattle.cms_files.specs.Updating.{updating}
+use Rattle.cms_files.specs.Updating.{last_update, went}
 use Rattle.cms_files.specs.declared.stacking.StackEnd.{StackEnd}
 use Rattle.cms_files.specs.declared.stacking.StackEnd.TheVariants.{Front, Back}
 use Rattle.cms_listfile.specs.Listing.{count_of, header, lines_of}
@@ -148,13 +147,9 @@ written_change s false lines x = Put (new_procedure s lines)
 written_change s true lines (Err why) = Put (new_procedure s lines)
 written_change s true lines (Ok x) = added_lines s x.file.format x.file.length lines
 
-abbrev pub went : Machine → Act Course
-went s = Done (Went s (pos 0))
-
 -- one update of disk A
 abbrev pub writing : Machine → Bool → List (List ℕ) → Act Course
-writing s append lines =
-    bind (updating s disk_a (written_change s append lines (file_on s written_name (letter_at s disk_a)))) (unless_failed went)
+writing s append lines = last_update s disk_a (written_change s append lines (file_on s written_name (letter_at s disk_a)))
 
 -- ---- the command
 

@@ -2,12 +2,10 @@
 use Rattle.std.specs.Prelude.{◌≡◌, ℕ, List, [], ◌∷◌, codes, slice_get, Option, Ok, ⊤}
 use Rattle.std.specs.List.{flat_map}
 use Rattle.std.specs.Option.{option_and_then, option_map, option_map_or}
-use Rattle.cms_names.specs.declared.name.Name.{Name}
 use Rattle.cms_text.specs.Texts.{coded}
 use Rattle.cms_held.specs.Opening.{HeldVolume}
 use Rattle.cms_edf.specs.Asking.{infos_in}
 use Rattle.cms_edf.specs.declared.held.FileInfo.{FileInfo}
-use Rattle.cms_disk.specs.Disks.{place_of}
 use Rattle.cms_search.specs.Searches.{item_at}
 use Rattle.cms_search.specs.Tables.{Accesses, letters_of, writing}
 use Rattle.cms_search.specs.declared.search.Found.{Found}
@@ -56,9 +54,3 @@ abbrev pub MayDeliver : Accesses → Delivery → Type 0
 MayDeliver t goes.Typed = ⊤
 MayDeliver t (goes.Stacked end) = ⊤
 MayDeliver t (goes.Written append) = writing (item_at (letters_of t) disk_a) disk_a ≡ Ok tt
-
--- what is told of the file of a name on the disk of a letter, where it is there
-abbrev pub info_named : Accesses → ℕ → Name → Option FileInfo
-info_named t n name =
-    option_and_then (λ s. option_and_then (λ place. slice_get (infos_in s.disk.volume) place) (place_of name s.disk.volume))
-    (item_at t.seats n)

@@ -11,14 +11,8 @@ use cms_fields::Stamp;
 use cms_names::Format;
 use cms_operands::coded;
 use cms_search::{add_left, add_right, first_column, letter_text};
-use cms_text::{BLANK, decimal, without_trailing_blanks};
+use cms_text::{BLANK, COLON, STROKE, ZERO, decimal, without_trailing_blanks};
 use std::alloc::{AllocError, Global};
-
-const STROKE: u8 = 0x61;
-
-const COLON: u8 = 0x7A;
-
-const ZERO: u8 = 0xF0;
 
 /// A file as it is listed.
 #[derive(Clone, Copy, Debug)]

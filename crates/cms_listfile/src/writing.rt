@@ -1,20 +1,16 @@
 // Lines that are written into a procedure.
 ghost use Rattle.std.specs.Prelude.{◌≡◌, ◌++◌, ◌∷◌, ℕ, List, codes, true, IfOk, OnOk, Ok, Some};
-ghost use Rattle.std.specs.Option.{ForSome};
 ghost use Rattle.cms_fields.specs.Moments.{is_moment};
 ghost use Rattle.cms_fields.specs.Stamps.{is_stamp};
 ghost use Rattle.cms_model.specs.Changes.{Put};
-ghost use Rattle.cms_model.specs.Records.{IsValid, StandsFor};
-ghost use Rattle.cms_machine.specs.Acts.{bind};
 ghost use Rattle.cms_names.specs.declared.name.Format.{Format};
 ghost use Rattle.cms_names.specs.declared.name.Format.TheVariants.{F};
 ghost use Rattle.cms_text.specs.Texts.{coded};
 ghost use Rattle.cms_files.specs.Gathering.{AreData, IsGathered};
-ghost use Rattle.cms_files.specs.Updating.{updating};
+ghost use Rattle.cms_files.specs.Told as named;
+ghost use Rattle.cms_files.specs.Updating.{last_update};
 ghost use Rattle.cms_search.specs.Calls.{Acts, IsUsable, course_of, machine_of, spot};
-ghost use Rattle.cms_search.specs.Putting.{FitsUpdate, change_with, data_of};
 ghost use Rattle.cms_search.specs.Searches.{item_at};
-ghost use Rattle.cms_search.specs.Stepping.{unless_failed};
 ghost use Rattle.cms_search.specs.Tables.{letters_of, writing};
 ghost use Rattle.cms_listfile.specs.Listfile as spec;
 ghost use Rattle.cms_listfile.specs.Listing.{lines_of};
@@ -24,7 +20,7 @@ use crate::columns::Columns;
 use crate::listing::{listed_at, short_line};
 use cms_disk::{FileData, FileInfo};
 use cms_fields::Stamp;
-use cms_files::{Gathered, Updated, write_file};
+use cms_files::{Gathered, info_named, write_last};
 use cms_names::{Format, Name, Part};
 use cms_operands::coded;
 use cms_search::{Course, End, FileWrite, Found, State, Table};
@@ -132,41 +128,6 @@ fn more_lines(
     records.data(WRITTEN_NUMBER, stamp).ok_or(AllocError)
 }
 
-// What is told of a file of disk A; none where it isn't there.
-fn info_named(table: &Table, name: &Name) -> Option<FileInfo>
-    ensures { result ≡ told.info_named table.now spec.disk_a name.now }
-{
-    let disk = table.disk(DISK_A)?;
-    let place = disk.find(name)?;
-    Some(disk.info(place))
-}
-
-// Writes the procedure.
-fn write_procedure<W: World>(
-    alloc: Global,
-    world: &mut W,
-    state: &mut State,
-    name: &Name,
-    update: FileWrite,
-) -> Result<Course, End>
-    requires usable { IsUsable (spot W.World world.old state.old) }
-    requires writing { writing (item_at (letters_of state.old.table) spec.disk_a) spec.disk_a ≡ Ok tt }
-    requires fits { ForSome (item_at state.old.table.seats spec.disk_a) (λ s. FitsUpdate s.disk.volume name.now update) }
-    requires valid { IsValid (data_of update) }
-    requires moment { is_moment state.old.moment ≡ true }
-    ensures acts { (records : List (List ℕ)) → StandsFor (data_of update.entry) records
-        → Acts (spot W.World world.old state.old) (spot W.World world.new state.new)
-        (λ units. bind (updating (machine_of state.old units) spec.disk_a (change_with name.now update.entry records))
-        (unless_failed spec.went))
-        result (course_of state.new) }
-    ensures kept { state.new ≡ record state.old { table = state.new.table; places = state.new.places } }
-{
-    match write_file(alloc, world, state, DISK_A, name, update)? {
-        Updated::Done => Ok(Course::Went(0)),
-        Updated::Stopped(course) => Ok(course),
-    }
-}
-
 // Writes the lines of files into a new procedure.
 fn write_anew<W: World>(
     alloc: Global,
@@ -179,15 +140,21 @@ fn write_anew<W: World>(
     requires writing { writing (item_at (letters_of state.old.table) spec.disk_a) spec.disk_a ≡ Ok tt }
     requires moment { is_moment state.old.moment ≡ true }
     ensures acts { Acts (spot W.World world.old state.old) (spot W.World world.new state.new)
-        (λ units. bind (updating (machine_of state.old units) spec.disk_a
+        (λ units. last_update (machine_of state.old units) spec.disk_a
         (Put (spec.new_procedure (machine_of state.old units) (lines_of (machine_of state.old units) last found.now))))
-        (unless_failed spec.went))
         result (course_of state.new) }
     ensures kept { state.new ≡ record state.old { table = state.new.table; places = state.new.places } }
 {
     let stamp = Stamp::of(&state.moment);
     let file = new_procedure(alloc, &state.table, last, found, &stamp)?;
-    write_procedure(alloc, world, state, &written_name(), FileWrite::Put(&file))
+    write_last(
+        alloc,
+        world,
+        state,
+        DISK_A,
+        &written_name(),
+        FileWrite::Put(&file),
+    )
 }
 
 // Adds the lines of files to the procedure, of which this is told.
@@ -201,20 +168,21 @@ fn write_more<W: World>(
 ) -> Result<Course, End>
     requires usable { IsUsable (spot W.World world.old state.old) }
     requires writing { writing (item_at (letters_of state.old.table) spec.disk_a) spec.disk_a ≡ Ok tt }
-    requires there { told.info_named state.old.table spec.disk_a spec.written_name ≡ Some info.now }
+    requires there { named.info_named state.old.table spec.disk_a spec.written_name ≡ Some info.now }
     requires moment { is_moment state.old.moment ≡ true }
     ensures acts { Acts (spot W.World world.old state.old) (spot W.World world.new state.new)
-        (λ units. bind (updating (machine_of state.old units) spec.disk_a (spec.added_lines (machine_of state.old units)
-        info.now.format info.now.length (lines_of (machine_of state.old units) last found.now))) (unless_failed spec.went))
+        (λ units. last_update (machine_of state.old units) spec.disk_a (spec.added_lines (machine_of state.old units)
+        info.now.format info.now.length (lines_of (machine_of state.old units) last found.now)))
         result (course_of state.new) }
     ensures kept { state.new ≡ record state.old { table = state.new.table; places = state.new.places } }
 {
     let stamp = Stamp::of(&state.moment);
     let more = more_lines(alloc, &state.table, last, found, info, &stamp)?;
-    write_procedure(
+    write_last(
         alloc,
         world,
         state,
+        DISK_A,
         &written_name(),
         FileWrite::Append(&more),
     )
@@ -240,7 +208,7 @@ pub fn write_listing<W: World>(
     if !append {
         return write_anew(alloc, world, state, last, found);
     }
-    match info_named(&state.table, &written_name()) {
+    match info_named(&state.table, DISK_A, &written_name()) {
         Some(info) => write_more(alloc, world, state, last, found, &info),
         None => write_anew(alloc, world, state, last, found),
     }

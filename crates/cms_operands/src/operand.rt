@@ -9,15 +9,13 @@ use crate::mode::ReadMode;
 use crate::refusal::Refusal;
 use cms_line::Token;
 use cms_names::{ModeWord, Part, Pattern};
-use cms_text::magnitude;
+use cms_text::{STROKE, magnitude};
 
 const LEFT: u8 = 0x4D;
 
 const ASTERISK: u8 = 0x5C;
 
 const EQUAL_SIGN: u8 = 0x7E;
-
-const STROKE: u8 = 0x61;
 
 /// The most digits of a number.
 const MOST_DIGITS: usize = 9;

@@ -1,13 +1,12 @@
 -- What an ask does, and what a start has, computed.
 use Rattle.std.proofs.Common.{◌≡◌, ℕ, List, [], ◌∷◌, refl}
 use Rattle.std.specs.Prelude.{Some, None, true}
-use Rattle.cms_fields.specs.Moments.{is_moment}
+use Rattle.cms_fields.specs.Moments.{first_moment, is_moment}
 use Rattle.cms_fields.specs.Stamps.{days_of_month}
 use Rattle.cms_machine.specs.Items.{Bad}
 use Rattle.cms_machine.specs.Acts.{Done, Out, Take, Turn, typed_line}
 use Rattle.cms_line.specs.declared.message.Message.TheVariants.{M010}
 use Rattle.cms_line.specs.Messages.{message_text}
-use Rattle.cms_search.specs.Calls.{first_moment}
 use Rattle.cms_search.specs.Machine.{Machine}
 use Rattle.cms_search.specs.Asking.{Given, Spent, ask, asking, on_item}
 

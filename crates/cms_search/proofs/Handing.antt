@@ -3,8 +3,8 @@
 use Rattle.std.proofs.Common.{◌≡◌, ◌+◌, ◌-◌, ◌≤◌, ℕ, zero, suc, List, [], ◌∷◌, ◌++◌, take, drop, length, slice_get, Bool, None, Option, Some, Result, Ok, Err, true, false, inl, inr, pos, append-nil, refl, ap, sym, ◌∙◌, subst, arith}
 use Rattle.std.proofs.Math.Seq.{take-append_seam, take-append-add}
 use Rattle.std.proofs.lemmas.Bool.{cases_Bool}
-use Rattle.std.proofs.lemmas.List.{append_assoc}
-use Rattle.std.specs.Prelude.{IfOk, IfErr, nat_le, nat_lt}
+use Rattle.std.proofs.lemmas.List.{append_assoc, length-replicate, length-take-le, take-append-drop}
+use Rattle.std.specs.Prelude.{IfOk, IfErr, nat_le, nat_lt, replicate}
 use Rattle.std.specs.Option.{ForSome}
 use Rattle.cms_journal.specs.Causes.{Rose, Counted}
 use Rattle.cms_journal.specs.Journal.{Journal, HasBlocks, contents_of}
@@ -18,6 +18,7 @@ use Rattle.cms_model.specs.Minidisks.{File, Minidisk, Volume, same_name}
 use Rattle.cms_model.specs.Changes.{file_named}
 use Rattle.cms_model.specs.LawsUpdates.{after, now}
 use Rattle.cms_text.specs.Bytes.{half}
+use Rattle.cms_model.specs.Lists.{cut}
 use Rattle.cms_model.specs.Records.{varying}
 use Rattle.cms_model.specs.declared.fault.VarFault.TheVariants.{Zero, PastEnd, Left}
 use Rattle.cms_model.proofs.Changing.{name_from}
@@ -25,7 +26,7 @@ use Rattle.cms_model.proofs.Cuts.{length_cut}
 use Rattle.cms_model.proofs.Results.{bind_then, ok_same, want_ok}
 use Rattle.cms_model.proofs.Settling.{aside_is_as_before}
 use Rattle.cms_machine.specs.Slots.{Slot, Settled}
-use Rattle.cms_machine.specs.Steps.{Get, Outcome, Good, ReadFault, MayGet, Offers, faults_in}
+use Rattle.cms_machine.specs.Steps.{Get, Outcome, Good, ReadFault, SyncFault, OldFault, EitherFault, MayGet, Offers, faults_in}
 use Rattle.cms_machine.specs.Acts as acts
 use Rattle.cms_machine.specs.Acts.{Act, saying, typed_line}
 use Rattle.cms_machine.specs.Points.{Point}
@@ -385,6 +386,98 @@ read_failed run old mid read' new first c t u wanted vdev then' r reads h read r
     acts_after old read' new t (refusal_tree read'.state (M105 (device_text vdev)) (pos 100)) r (course_of new.state)
     (read_fault run old mid read' first c t u wanted then' (refusal_tree read'.state (M105 (device_text vdev)) (pos 100)) reads h read rose same among is)
     (refused read' new (M105 (device_text vdev)) (pos 100) r does went still)
+
+-- ---- nothing is done with a record alone
+
+abbrev pub silent : {R : Type 0} → ℕ → List (List ℕ) → Act R → Act R
+silent k records next = next
+
+abbrev pub silent_one : {R : Type 0} → ℕ → List ℕ → Act R → Act R
+silent_one k text next = next
+
+pub silent_each : {R : Type 0} → IsEach (silent {R = R}) (silent_one {R = R})
+silent_each = record { none = λ k next. refl; more = λ k text records next. refl }
+
+-- what follows a good step, whichever file it was of
+abbrev pub only : {R : Type 0} → (List Slot → Act R) → (List Slot → File → Outcome → Act R) → List Slot → File → Outcome → Act R
+only rest then' units f Good = rest units
+only rest then' units f (ReadFault k) = then' units f (ReadFault k)
+only rest then' units f SyncFault = then' units f SyncFault
+only rest then' units f OldFault = then' units f OldFault
+only rest then' units f (EitherFault side) = then' units f (EitherFault side)
+
+only_so : {R : Type 0} (rest : List Slot → Act R) (then' : List Slot → File → Outcome → Act R) (units : List Slot) (f : File) → then' units f Good ≡ rest units
+    → (o : Outcome) → then' units f o ≡ only rest then' units f o
+only_so rest then' units f same Good = same
+only_so rest then' units f same (ReadFault k) = refl
+only_so rest then' units f same SyncFault = refl
+only_so rest then' units f same OldFault = refl
+only_so rest then' units f same (EitherFault side) = refl
+
+pointwise : {A B : Type 0} {f g : A → B} → ((x : A) → f x ≡ g x) → f ≡ g
+pointwise h = λ i x. h x i
+
+-- what follows is known by the records that were handed out
+pub narrowed : {R : Type 0} (old mid : Spot) (first c : Reading) (t : List Slot → Act R) (u : ℕ) (wanted : File → ℕ) (then' : List Slot → File → Outcome → Act R) (rest : List Slot → Act R)
+    → Reads old first t u wanted then' → (h : Handed (silent {R = R}) old.world mid.world first c)
+    → ((units : List Slot) (f : File) (more : List (List ℕ)) → f.records ≡ h.front ++ more → then' units f Good ≡ rest units) → Reads old first t u wanted (only rest then')
+narrowed old mid first c t u wanted then' rest reads h same = record {
+  each = λ units held.
+      let r = reads.each units held in
+      let s = h.left r.journal r.told r.file.records r.left in
+      record {
+        file = r.file;
+        offers = r.offers;
+        tree = r.tree ∙ ap (λ (k : Outcome → Act _). acts.Does (Get u r.file (wanted r.file)) k) (pointwise (only_so rest then' units r.file (same units r.file s.more s.is)));
+        journal = r.journal;
+        told = r.told;
+        left = r.left;
+      };
+}
+
+-- the records of one length that are left
+hold_fixed : (bsize : ℕ) (fixed : Option ℕ) (size most left place : ℕ) (bytes : List ℕ) (rs : List (List ℕ)) → fixed ≡ Some size → HoldLeft bsize fixed most left place bytes rs
+    → rs ≡ cut left size bytes
+hold_fixed bsize None size most left place bytes rs is h = absurd (cc is)
+hold_fixed bsize (Some n) size most left place bytes rs is h = h.0 ∙ ap (λ (k : ℕ). cut left k bytes) (some_same n size is)
+
+fixed_left : (image : Image) (c : Reading) (size : ℕ) (records : List (List ℕ)) → c.begun.fixed ≡ Some size → HasLeft image c records → records ≡ cut c.left size (unread image c)
+fixed_left image c size records fixed h = hold_fixed c.bsize c.begun.fixed size c.begun.longest c.left _ (unread image c) records fixed h.held
+
+-- the first of them, by what the journal tells; where it tells nothing it is enough that they are so many
+abbrev first_fixed : Told → Reading → ℕ → ℕ → List (List ℕ)
+first_fixed None c size n = replicate n []
+first_fixed (Some j) c size n = take n (cut c.left size (unread (image_of (contents_of j c.unit)) c))
+
+first_long : (t : Told) (c : Reading) (size n : ℕ) → n ≤ c.left → length (first_fixed t c size n) ≡ n
+first_long None c size n low = length-replicate n []
+first_long (Some j) c size n low =
+    let all = cut c.left size (unread (image_of (contents_of j c.unit)) c) in
+    let long : length all ≡ c.left = length_cut c.left size (unread (image_of (contents_of j c.unit)) c) in
+    length-take-le n all (omega arith)
+
+-- so many of them were passed over
+pub handed_past : {R : Type 0} (s : Seen) (first c : Reading) (size n : ℕ) → first.begun.fixed ≡ Some size → n ≤ first.left
+    → ((image : Image) (records : List (List ℕ)) → HasLeft image first records → HasLeft image c (drop n records)) → SameFile first c → IsOpen s.told first
+    → (h : Handed (silent {R = R}) s s first c) × (length h.front ≡ n)
+handed_past s first c size n fixed low past same has = (
+  record {
+    front = first_fixed s.told first size n;
+    goes = λ next p journal. subst (λ (told : Told). Ran p (record p { journal = told }) next next) journal (ran_none p next);
+    passes = passes_none s;
+    left = λ j is all left.
+        let those : take n all ≡ first_fixed s.told first size n =
+        ap (take n) (fixed_left (image_of (contents_of j first.unit)) first size all fixed left) ∙ ap (λ (t : Told). first_fixed t first size n) (sym is) in
+        record {
+          more = drop n all;
+          is = sym (take-append-drop n all) ∙ ap (λ (l : List (List ℕ)). l ++ drop n all) those;
+          left = past (image_of (contents_of j first.unit)) all left;
+        };
+    file = same;
+    opened = open_same s.told first c same has;
+  },
+  first_long s.told first size n low,
+)
 
 -- ---- how many records are left
 

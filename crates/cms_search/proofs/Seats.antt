@@ -1,17 +1,13 @@
 -- The disks of units among the letters of a table.
 use Rattle.std.proofs.Common.{◌≡◌, ◌≢◌, ⊎_elim, ℕ, zero, suc, ◌<◌, List, [], ◌∷◌, get_or, length, refl, sym, ap, subst, ◌∙◌, arith}
-use Rattle.std.specs.Prelude.{⊤, Bool, true, false, cond, ◌==◌, Option, Some, None, IfSome, Result, option_map, slice_get, slice_set}
+use Rattle.std.specs.Prelude.{Bool, true, false, cond, ◌==◌, Option, Some, None, IfSome, option_map, slice_get, slice_set}
 use Rattle.std.specs.Option.{IsSome, option_and_then}
 use Rattle.std.proofs.lemmas.Bool.{eq-eqb, eqb-true, ne_eqb}
-use Rattle.cms_fields.specs.declared.time.Stamp.{Stamp}
-use Rattle.cms_model.specs.Changes.{Change}
-use Rattle.cms_world.specs.Seen.{Seen}
 use Rattle.cms_disk.specs.Disks.{Accessed}
-use Rattle.cms_disk.specs.declared.fault.DiskFault.{DiskFault}
 use Rattle.cms_search.specs.Held.{disk_of}
 use Rattle.cms_search.specs.Machine.{Letter}
 use Rattle.cms_search.specs.Searches.{item_at}
-use Rattle.cms_search.specs.Seats.{ChangesSeat, ChangesTo}
+use Rattle.cms_search.specs.Seats.{HasDisk}
 use Rattle.cms_search.specs.Tables.{Accesses, IsTable, Seated, StandOnce, cleared, letters_in, seat_with, with_disk}
 use Rattle.cms_search.proofs.Tabling.{get_set_other, item_put, length_set}
 
@@ -165,6 +161,35 @@ pub no_seat : (x : Option Seated) → x ≡ None → IsSome x → ⊥
 no_seat None is some = absurd (cc some)
 no_seat (Some s) is some = absurd (cc is)
 
-pub changes_seat : (before now : Seen) (t new : Accesses) (n : ℕ) (s : Seated) (disk : Accessed) (change : Change) (stamp : Stamp) (r : Result ⊤ DiskFault) → item_at t.seats n ≡ Some s
-    → new ≡ table_with t n s disk → ChangesTo before now s.disk disk change stamp r → IfSome (item_at t.seats n) (λ x. ChangesSeat before now t new n x change stamp r)
-changes_seat before now t new n s disk change stamp r at is does = rw at (record { disk = disk; table = is ∙ sym (with_disk_is t n s disk at); does = does })
+-- so the letter has another disk
+pub has_disk : (IsSo : Seated → Accessed → Type 0) (t new : Accesses) (n : ℕ) (s : Seated) (disk : Accessed) → item_at t.seats n ≡ Some s → new ≡ table_with t n s disk → IsSo s disk
+    → IfSome (item_at t.seats n) (λ x. HasDisk t new n (IsSo x))
+has_disk IsSo t new n s disk at is does = rw at (record { disk = disk; table = is ∙ sym (with_disk_is t n s disk at); does = does })
+
+-- it has the same disk where that is put in its own place
+set_same : {A : Type 0} (xs : List (Option A)) (n : ℕ) (e : A) → item_at xs n ≡ Some e → slice_set xs n (Some e) ≡ xs
+set_same [] n e is = refl
+set_same (x ∷ xs) zero e is = ap (λ (y : Option _). y ∷ xs) (sym is)
+set_same (x ∷ xs) (suc n) e is = ap (λ (l : List (Option _)). x ∷ l) (set_same xs n e is)
+
+pub has_same : (IsSo : Accessed → Type 0) (t : Accesses) (n : ℕ) (s : Seated) → item_at t.seats n ≡ Some s → IsSo s.disk → HasDisk t t n IsSo
+has_same IsSo t n s at does = record {
+  disk = s.disk;
+  table = sym (with_disk_is t n s s.disk at ∙ ap (λ (l : List (Option Seated)). record t { seats = l }) (set_same t.seats n s at));
+  does = does;
+}
+
+-- and the last of two disks
+pub with_disk_twice : (t : Accesses) (n : ℕ) (s : Seated) (d e : Accessed) → item_at t.seats n ≡ Some s → with_disk n e (with_disk n d t) ≡ with_disk n e t
+with_disk_twice t n s d e at =
+    let there = item_here t.seats n (Some (seat_with s d)) (item_within t.seats n s at) in
+    ap (with_disk n e) (with_disk_is t n s d at)
+    ∙ (with_disk_is (table_with t n s d) n (seat_with s d) e there
+    ∙ (ap (λ (l : List (Option Seated)). record t { seats = l }) (set_twice t.seats n (Some (seat_with s d)) (Some (seat_with s e))) ∙ sym (with_disk_is t n s e at)))
+
+-- and is accessed still, as the same unit
+pub seat_there : {IsSo : Accessed → Type 0} (t new : Accesses) (n : ℕ) (s : Seated) → item_at t.seats n ≡ Some s → (h : HasDisk t new n IsSo)
+    → item_at new.seats n ≡ Some (seat_with s h.disk)
+seat_there t new n s at h =
+    ap (λ (x : Accesses). item_at x.seats n) (h.table ∙ with_disk_is t n s h.disk at)
+    ∙ item_here t.seats n (Some (seat_with s h.disk)) (item_within t.seats n s at)

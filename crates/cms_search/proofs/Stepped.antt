@@ -1,16 +1,15 @@
--- A change of the disk of a letter, as a step of a command.
-use Rattle.std.proofs.Common.{◌≡◌, ◌≢◌, inl, inr, ⊎_elim, ◌∙◌, ℕ, List, [], ◌∷◌, Option, Some, None, Result, Ok, Err, pos, refl, sym, ap, subst, slice_get, arith}
+-- An update of the disk of a letter, as a step of a command.
+use Rattle.std.proofs.Common.{◌≡◌, ◌≢◌, inr, ⊎_elim, ◌∙◌, ℕ, List, [], ◌∷◌, Option, Some, None, Result, Ok, Err, pos, refl, sym, ap, subst, slice_get, arith}
 use Rattle.std.specs.Prelude.{⊤, IfSome, option_map}
 use Rattle.cms_journal.specs.Causes.{Counted}
 use Rattle.cms_journal.specs.Journal.{Journal, IsWritable}
 use Rattle.cms_journal.specs.Told.{Told}
 use Rattle.cms_journal.proofs.Counts.{counted_none, counted_one}
 use Rattle.cms_fields.specs.Moments.{stamp_of}
-use Rattle.cms_fields.specs.declared.time.Stamp.{Stamp}
 use Rattle.cms_model.specs.Changes.{Answer, Change, answer_of}
 use Rattle.cms_model.specs.Minidisks.{Minidisk, Volume}
 use Rattle.cms_machine.specs.Slots.{Slot, Settled}
-use Rattle.cms_machine.specs.Steps.{EitherFault, Good, OldFault, Outcome, Put, Step, faults_in, new_slot, sync_count}
+use Rattle.cms_machine.specs.Steps.{EitherFault, Good, Outcome, Put, Step, faults_in, new_slot, sync_count}
 use Rattle.cms_machine.specs.Acts.{Act, Done, Out, bind, saying, typed_line}
 use Rattle.cms_machine.specs.Runs.{Ran}
 use Rattle.cms_machine.proofs.Single.{broke_before, ran_still}
@@ -20,7 +19,7 @@ use Rattle.cms_line.specs.declared.message.Message.TheVariants.{M105}
 use Rattle.cms_world.specs.Seen.{ChangesUnits, Seen}
 use Rattle.cms_edf.specs.Planning.{CanChange}
 use Rattle.cms_edf.specs.declared.change.Change as asked
-use Rattle.cms_disk.specs.Changing.{Alters, IsOnSame}
+use Rattle.cms_disk.specs.Changing.{Appends, IsOnSame}
 use Rattle.cms_disk.specs.Disks.{Accessed}
 use Rattle.cms_disk.specs.declared.fault.DiskFault.{DiskFault}
 use Rattle.cms_disk.specs.declared.fault.DiskFault.TheVariants as failed
@@ -31,9 +30,10 @@ use Rattle.cms_search.specs.Machine.{Letter, Machine, Places, Went, after_step}
 use Rattle.cms_search.specs.Reading.{without_device}
 use Rattle.cms_search.specs.Releasing.{released, vdev_of}
 use Rattle.cms_search.specs.Searches.{item_at}
-use Rattle.cms_search.specs.Seats.{ChangesSeat, MayChange}
+use Rattle.cms_search.specs.Putting.{Updated}
+use Rattle.cms_search.specs.Seats.{MayChange}
 use Rattle.cms_search.specs.Shows.{device_of}
-use Rattle.cms_search.specs.Stepping.{Changing, Did, HasFailed, IsChanged, IsFull, IsLimited, answered, behind, changing_in, changing_of, changing_tree}
+use Rattle.cms_search.specs.Stepping.{Changing, Did, HasFailed, IsChanged, IsFull, IsLimited, answered, behind, changing_by, changing_in, changing_of, changing_tree}
 use Rattle.cms_search.specs.Tables.{Accesses, Seated, doubted, letters_in, seat_with, writing}
 use Rattle.cms_search.specs.Telling.{device_text}
 use Rattle.cms_search.specs.declared.state.Course as declared
@@ -45,10 +45,10 @@ use Rattle.cms_search.specs.declared.stepping.Changed as changes
 use Rattle.cms_search.specs.declared.stepping.Changed.TheVariants as came
 use Rattle.std.proofs.lemmas.Option.{slice_get-map}
 use Rattle.cms_search.proofs.Acts.{acts_after, acts_done, comes_does, does_stop}
-use Rattle.cms_search.proofs.Changing.{Steps, change_ran, changed_units, holds_with, on_same, steps_doubted, steps_good, steps_kept}
+use Rattle.cms_search.proofs.Changing.{Steps, change_ran, changed_units, holds_with, on_same, steps_doubted, steps_good}
 use Rattle.cms_search.proofs.Holding.{some_same, usable_grown}
 use Rattle.cms_search.proofs.Meeting.{MetAt, letter_is, meets_at, readable_seat}
-use Rattle.cms_search.proofs.Seats.{cleared_with, item_here, item_within, letters_cleared, letters_with, table_with, with_disk_is}
+use Rattle.cms_search.proofs.Seats.{cleared_with, letters_cleared, letters_with, seat_there, table_with, with_disk_is}
 use Rattle.cms_search.proofs.Searching.{item_at_map}
 use Rattle.cms_search.proofs.Tabling.{item_put, stays}
 
@@ -100,26 +100,7 @@ usable_doubted j t n u usable = record { units = usable.units; seats = λ a x un
 pub later_changes : {T E : Type 0} {P : E → Type 0} {r : Result T E} (before now : Seen) → ChangesUnits before now P r → IsLater before now
 later_changes before now c = let edges = c.edges in record { grown = c.grown; faults = c.faults; edges = omega (arith, edges) }
 
--- ---- what was asked for
-
--- the disk s of letter n was changed, which came to r; mid is behind that
-pub record Asked (old mid : Spot) (n : ℕ) (s : Seated) (change : Change) (r : Result ⊤ DiskFault) : Type 0 where
-  pub there : item_at old.state.table.seats n ≡ Some s
-  pub seat : ChangesSeat old.world mid.world old.state.table mid.state.table n s change (stamp_of old.state.moment) r
-  pub state : mid.state ≡ record old.state { table = mid.state.table }
-
-pub asked_so : (old mid : Spot) (n : ℕ) (s : Seated) (change : Change) (stamp : Stamp) (r r' : Result ⊤ DiskFault) → item_at old.state.table.seats n ≡ Some s
-    → stamp ≡ stamp_of old.state.moment → r ≡ r'
-    → IfSome (item_at old.state.table.seats n) (λ x. ChangesSeat old.world mid.world old.state.table mid.state.table n x change stamp r)
-    → mid.state ≡ record old.state { table = mid.state.table } → Asked old mid n s change r'
-asked_so old mid n s change stamp r r' there when is does state =
-    let one = if_some (item_at old.state.table.seats n) (λ x. ChangesSeat old.world mid.world old.state.table mid.state.table n x change stamp r) s there does in
-    record {
-      there = there;
-      seat = subst (λ (z : Stamp). ChangesSeat old.world mid.world old.state.table mid.state.table n s change z r') when
-          (subst (λ (q : Result ⊤ DiskFault). ChangesSeat old.world mid.world old.state.table mid.state.table n s change stamp q) is one);
-      state = state;
-    }
+-- ---- what it was updated to
 
 -- the table then
 abbrev pub table_then : Spot → ℕ → Seated → Accessed → Accesses
@@ -128,33 +109,31 @@ table_then old n s e = table_with old.state.table n s e
 abbrev pub state_then : Spot → ℕ → Seated → Accessed → State
 state_then old n s e = record old.state { table = table_then old n s e }
 
-pub table_is : (old mid : Spot) (n : ℕ) (s : Seated) (change : Change) (r : Result ⊤ DiskFault) → (a : Asked old mid n s change r) → mid.state.table ≡ table_then old n s a.seat.disk
+pub table_is : (old mid : Spot) (n : ℕ) (s : Seated) (change : List Slot → Change) (r : Result ⊤ DiskFault) → (a : Updated old mid n s change r) → mid.state.table ≡ table_then old n s a.seat.disk
 table_is old mid n s change r a = a.seat.table ∙ with_disk_is old.state.table n s a.seat.disk a.there
 
 -- the letter has the disk then
-pub seat_is : (old mid : Spot) (n : ℕ) (s : Seated) (change : Change) (r : Result ⊤ DiskFault) → (a : Asked old mid n s change r)
+pub seat_is : (old mid : Spot) (n : ℕ) (s : Seated) (change : List Slot → Change) (r : Result ⊤ DiskFault) → (a : Updated old mid n s change r)
     → item_at mid.state.table.seats n ≡ Some (seat_with s a.seat.disk)
-seat_is old mid n s change r a =
-    ap (λ (t : Accesses). item_at t.seats n) (table_is old mid n s change r a)
-    ∙ item_here old.state.table.seats n (Some (seat_with s a.seat.disk)) (item_within old.state.table.seats n s a.there)
+seat_is old mid n s change r a = seat_there old.state.table mid.state.table n s a.there a.seat
 
-pub state_is : (old mid : Spot) (n : ℕ) (s : Seated) (change : Change) (r : Result ⊤ DiskFault) → (a : Asked old mid n s change r) → mid.state ≡ state_then old n s a.seat.disk
+pub state_is : (old mid : Spot) (n : ℕ) (s : Seated) (change : List Slot → Change) (r : Result ⊤ DiskFault) → (a : Updated old mid n s change r) → mid.state ≡ state_then old n s a.seat.disk
 state_is old mid n s change r a = a.state ∙ ap (λ (t : Accesses). record old.state { table = t }) (table_is old mid n s change r a)
 
-pub usable_then : (old mid : Spot) (n : ℕ) (s : Seated) (change : Change) (r : Result ⊤ DiskFault) → Asked old mid n s change r → IsUsable old → IsUsable mid
+pub usable_then : (old mid : Spot) (n : ℕ) (s : Seated) (change : List Slot → Change) (r : Result ⊤ DiskFault) → Updated old mid n s change r → IsUsable old → IsUsable mid
 usable_then old mid n s change r a usable =
     let grown = usable_grown old.world.told mid.world.told old.state.table a.seat.does.changes.units.grown usable in
     subst (λ (t : Accesses). Usable mid.world.told t) (sym (table_is old mid n s change r a))
     (λ j is. usable_with j old.state.table n s a.seat.disk a.there a.seat.does.changes.same (grown j is))
 
 -- the machine is on the same units, with the same letters
-pub machine_is : (old mid : Spot) (n : ℕ) (s : Seated) (change : Change) (r : Result ⊤ DiskFault) (units : List Slot) → Asked old mid n s change r
+pub machine_is : (old mid : Spot) (n : ℕ) (s : Seated) (change : List Slot → Change) (r : Result ⊤ DiskFault) (units : List Slot) → Updated old mid n s change r
     → machine_of old.state units ≡ machine_of mid.state units
 machine_is old mid n s change r units a =
     sym (ap (λ (l : List (Option Letter)). record (machine_of old.state units) { letters = l }) (letters_with old.state.table.seats n s a.seat.disk a.there))
     ∙ ap (λ (st : State). machine_of st units) (sym (state_is old mid n s change r a))
 
-pub console_is : (old mid : Spot) (n : ℕ) (s : Seated) (change : Change) (r : Result ⊤ DiskFault) → Asked old mid n s change r → mid.state.console ≡ old.state.console
+pub console_is : (old mid : Spot) (n : ℕ) (s : Seated) (change : List Slot → Change) (r : Result ⊤ DiskFault) → Updated old mid n s change r → mid.state.console ≡ old.state.console
 console_is old mid n s change r a = ap (λ (st : State). st.console) a.state
 
 -- ---- the tree
@@ -196,23 +175,23 @@ ran_to old mid n s change units t' o there k steps counted console =
 
 -- ---- it is done
 
-pub change_done : (old mid : Spot) (n : ℕ) (s : Seated) (change : Change) (x : ⊤) → Asked old mid n s change (Ok x)
-    → Acts old mid (changing_tree old.state n change) (Ok came.Done) (changing_of mid.state)
+pub change_done : (old mid : Spot) (n : ℕ) (s : Seated) (change : List Slot → Change) (x : ⊤) → Updated old mid n s change (Ok x)
+    → Acts old mid (changing_by old.state n change) (Ok came.Done) (changing_of mid.state)
 change_done old mid n s change x a = record {
   each = λ units h.
       let k = meets_at old units n s a.there h in
       let m = k.met.minidisk in
       let stamp = stamp_of old.state.moment in
-      let done = a.seat.does.alters k.journal m k.told k.met.is k.met.looked in
-      let steps = steps_good old.world.told mid.world.told k.journal units old.state.table n s a.seat.disk k.met change stamp k.told k.table a.there a.seat.does.changes.same done in
-      let units' = changed_units units s.letter.unit m change stamp Good in
-      let ran = ran_to old mid n s change units (table_then old n s a.seat.disk) Good a.there k steps (counted_none old.world.faults mid.world.faults a.seat.does.changes.units.faults)
+      let done = a.seat.does.appends units h k.journal m k.told k.met.is k.met.looked in
+      let steps = steps_good old.world.told mid.world.told k.journal units old.state.table n s a.seat.disk k.met (change units) stamp k.told k.table a.there a.seat.does.changes.same done in
+      let units' = changed_units units s.letter.unit m (change units) stamp Good in
+      let ran = ran_to old mid n s (change units) units (table_then old n s a.seat.disk) Good a.there k steps (counted_none old.world.faults mid.world.faults a.seat.does.changes.units.faults)
       (console_is old mid n s change (Ok x) a) in
-      let end' : then_of old.state n s change m units Good ≡ Done (IsChanged (machine_of mid.state units')) =
+      let end' : then_of old.state n s (change units) m units Good ≡ Done (IsChanged (machine_of mid.state units')) =
       ap (λ (y : Answer). answered (Did (machine_of old.state units')) y) done.answer
       ∙ ap (λ (z : Machine). Done (IsChanged z)) (machine_is old mid n s change (Ok x) units' a) in
       let table = table_is old mid n s change (Ok x) a in
-      (units', (rw table steps.holds, subst (λ (z : Act Changing). Ran (at old units) (at mid units') (changing_tree old.state n change units) z) end' ran));
+      (units', (rw table steps.holds, subst (λ (z : Act Changing). Ran (at old units) (at mid units') (changing_tree old.state n (change units) units) z) end' ran));
   later = later_changes old.world mid.world a.seat.does.changes.units;
   usable = usable_then old mid n s change (Ok x) a;
   cause = tt;
@@ -221,7 +200,7 @@ change_done old mid n s change x a = record {
 -- ---- it is refused
 
 -- the disk is the same minidisk still
-still_held : (old mid : Spot) (n : ℕ) (s : Seated) (change : Change) (why : DiskFault) (units : List Slot) → Asked old mid n s change (Err why) → (why ≡ failed.InDoubt → ⊥)
+still_held : (old mid : Spot) (n : ℕ) (s : Seated) (change : List Slot → Change) (why : DiskFault) (units : List Slot) → Updated old mid n s change (Err why) → (why ≡ failed.InDoubt → ⊥)
     → mid.world.told ≡ old.world.told → MetAt old units s → holds mid units
 still_held old mid n s change why units a sure told k =
     let e = a.seat.disk in
@@ -232,14 +211,14 @@ still_held old mid n s change why units a sure told k =
     (holds_with k.journal units old.state.table n s e k.met a.there a.seat.does.changes.same (minidisk_same k.journal s.disk e k.met.minidisk volume k.met.is) k.table)
 
 -- a step that was refused does nothing
-ran_refused : (old mid : Spot) (n : ℕ) (s : Seated) (change : Change) (why : DiskFault) (units : List Slot) → Asked old mid n s change (Err why) → (k : MetAt old units s)
-    → mid.world.told ≡ old.world.told → sync_count (step_of old.state s change k.met.minidisk) Good ≡ 0 → new_slot (step_of old.state s change k.met.minidisk) Good ≡ None
-    → Ran (at old units) (at mid units) (changing_tree old.state n change units) (then_of old.state n s change k.met.minidisk units Good)
+ran_refused : (old mid : Spot) (n : ℕ) (s : Seated) (change : List Slot → Change) (why : DiskFault) (units : List Slot) → Updated old mid n s change (Err why) → (k : MetAt old units s)
+    → mid.world.told ≡ old.world.told → sync_count (step_of old.state s (change units) k.met.minidisk) Good ≡ 0 → new_slot (step_of old.state s (change units) k.met.minidisk) Good ≡ None
+    → Ran (at old units) (at mid units) (changing_tree old.state n (change units) units) (then_of old.state n s (change units) k.met.minidisk units Good)
 ran_refused old mid n s change why units a k told synced none =
     let m = k.met.minidisk in
     let console = console_is old mid n s change (Err why) a in
-    subst (λ (z : Act Changing). Ran (at old units) (at mid units) z (then_of old.state n s change m units Good)) (sym (tree_is old.state n s change units m a.there k.met.slot))
-    (ran_still (at old units) (at mid units) (step_of old.state s change m) Good (then_of old.state n s change m units) told
+    subst (λ (z : Act Changing). Ran (at old units) (at mid units) z (then_of old.state n s (change units) m units Good)) (sym (tree_is old.state n s (change units) units m a.there k.met.slot))
+    (ran_still (at old units) (at mid units) (step_of old.state s (change units) m) Good (then_of old.state n s (change units) m units) told
     (counted_none old.world.faults mid.world.faults a.seat.does.changes.units.faults) synced tt k.met.slot refl none
     (record { unread = ap (λ (c : ConsoleState). c.unread) console; ended = ap (λ (c : ConsoleState). c.ended) console }))
 
@@ -249,24 +228,24 @@ same_units : (st : State) (n : ℕ) (s : Seated) (change : Change) (m : Minidisk
 same_units st n s change m units none = rw none refl
 
 -- the change passes a limit
-pub change_limited : (old mid : Spot) (n : ℕ) (s : Seated) (change : Change) (which : ℕ) → Asked old mid n s change (Err (failed.Limit which))
-    → Acts old mid (changing_tree old.state n change) (Ok (came.Limited which)) (changing_of mid.state)
+pub change_limited : (old mid : Spot) (n : ℕ) (s : Seated) (change : List Slot → Change) (which : ℕ) → Updated old mid n s change (Err (failed.Limit which))
+    → Acts old mid (changing_by old.state n change) (Ok (came.Limited which)) (changing_of mid.state)
 change_limited old mid n s change which a = record {
   each = λ units h.
       let k = meets_at old units n s a.there h in
       let m = k.met.minidisk in
-      let done = a.seat.does.alters k.journal m k.told k.met.is k.met.looked in
+      let done = a.seat.does.appends units h k.journal m k.told k.met.is k.met.looked in
       let answer = done.1 in
-      let none : new_slot (step_of old.state s change m) Good ≡ None = rw answer refl in
+      let none : new_slot (step_of old.state s (change units) m) Good ≡ None = rw answer refl in
       let ran = ran_refused old mid n s change (failed.Limit which) units a k done.0 (rw answer refl) none in
-      let end' : then_of old.state n s change m units Good ≡ Done (IsLimited (machine_of mid.state units) which) =
-      ap (λ (z : Machine). answered (Did z) (answer_of m change)) (same_units old.state n s change m units none)
+      let end' : then_of old.state n s (change units) m units Good ≡ Done (IsLimited (machine_of mid.state units) which) =
+      ap (λ (z : Machine). answered (Did z) (answer_of m (change units))) (same_units old.state n s (change units) m units none)
       ∙ ap (λ (y : Answer). answered (Did (machine_of old.state units)) y) answer
       ∙ ap (λ (z : Machine). Done (IsLimited z which)) (machine_is old mid n s change (Err (failed.Limit which)) units a) in (
         units,
         (
           still_held old mid n s change (failed.Limit which) units a (λ doubt. absurd (cc doubt)) done.0 k,
-          subst (λ (z : Act Changing). Ran (at old units) (at mid units) (changing_tree old.state n change units) z) end' ran,
+          subst (λ (z : Act Changing). Ran (at old units) (at mid units) (changing_tree old.state n (change units) units) z) end' ran,
         ),
       );
   later = later_changes old.world mid.world a.seat.does.changes.units;
@@ -275,24 +254,24 @@ change_limited old mid n s change which a = record {
 }
 
 -- there are too few free blocks
-pub change_full : (old mid : Spot) (n : ℕ) (s : Seated) (change : Change) (need free : ℕ) → Asked old mid n s change (Err (failed.Full need free))
-    → Acts old mid (changing_tree old.state n change) (Ok (came.Full need free)) (changing_of mid.state)
+pub change_full : (old mid : Spot) (n : ℕ) (s : Seated) (change : List Slot → Change) (need free : ℕ) → Updated old mid n s change (Err (failed.Full need free))
+    → Acts old mid (changing_by old.state n change) (Ok (came.Full need free)) (changing_of mid.state)
 change_full old mid n s change need free a = record {
   each = λ units h.
       let k = meets_at old units n s a.there h in
       let m = k.met.minidisk in
-      let done = a.seat.does.alters k.journal m k.told k.met.is k.met.looked in
+      let done = a.seat.does.appends units h k.journal m k.told k.met.is k.met.looked in
       let answer = done.1 in
-      let none : new_slot (step_of old.state s change m) Good ≡ None = rw answer refl in
+      let none : new_slot (step_of old.state s (change units) m) Good ≡ None = rw answer refl in
       let ran = ran_refused old mid n s change (failed.Full need free) units a k done.0 (rw answer refl) none in
-      let end' : then_of old.state n s change m units Good ≡ Done (IsFull (machine_of mid.state units) need free) =
-      ap (λ (z : Machine). answered (Did z) (answer_of m change)) (same_units old.state n s change m units none)
+      let end' : then_of old.state n s (change units) m units Good ≡ Done (IsFull (machine_of mid.state units) need free) =
+      ap (λ (z : Machine). answered (Did z) (answer_of m (change units))) (same_units old.state n s (change units) m units none)
       ∙ ap (λ (y : Answer). answered (Did (machine_of old.state units)) y) answer
       ∙ ap (λ (z : Machine). Done (IsFull z need free)) (machine_is old mid n s change (Err (failed.Full need free)) units a) in (
         units,
         (
           still_held old mid n s change (failed.Full need free) units a (λ doubt. absurd (cc doubt)) done.0 k,
-          subst (λ (z : Act Changing). Ran (at old units) (at mid units) (changing_tree old.state n change units) z) end' ran,
+          subst (λ (z : Act Changing). Ran (at old units) (at mid units) (changing_tree old.state n (change units) units) z) end' ran,
         ),
       );
   later = later_changes old.world mid.world a.seat.does.changes.units;
@@ -301,14 +280,14 @@ change_full old mid n s change need free a = record {
 }
 
 -- nothing was done, and there was no memory
-pub change_cut : (old mid : Spot) (n : ℕ) (s : Seated) (change : Change) (why : DiskFault) → (a : Asked old mid n s change (Err why))
-    → ((j : Journal) (m : Minidisk) → Alters old.world.told mid.world.told s.disk a.seat.disk m change (stamp_of old.state.moment) (Err why) → mid.world.told ≡ old.world.told)
-    → Acts {T = changes.Changed} old mid (changing_tree old.state n change) (Err Memory) (changing_of mid.state)
+pub change_cut : (old mid : Spot) (n : ℕ) (s : Seated) (change : List Slot → Change) (why : DiskFault) → (a : Updated old mid n s change (Err why))
+    → ((m : Minidisk) (one : Change) → Appends old.world.told mid.world.told s.disk a.seat.disk m one (stamp_of old.state.moment) (Err why) → mid.world.told ≡ old.world.told)
+    → Acts {T = changes.Changed} old mid (changing_by old.state n change) (Err Memory) (changing_of mid.state)
 change_cut old mid n s change why a same = record {
   each = λ units h.
       let k = meets_at old units n s a.there h in
-      let told = same k.journal k.met.minidisk (a.seat.does.alters k.journal k.met.minidisk k.told k.met.is k.met.looked) in
-      (units, broke_before (at old units) (at mid units) (changing_tree old.state n change units) told a.seat.does.changes.units.faults refl);
+      let told = same k.met.minidisk (change units) (a.seat.does.appends units h k.journal k.met.minidisk k.told k.met.is k.met.looked) in
+      (units, broke_before (at old units) (at mid units) (changing_tree old.state n (change units) units) told a.seat.does.changes.units.faults refl);
   later = later_changes old.world mid.world a.seat.does.changes.units;
   usable = λ u. tt;
   cause = λ edge. absurd (cc);
@@ -322,29 +301,6 @@ failed_tree st vdev units = Out (typed_line (message_text (M105 (device_text vde
 
 abbrev pub failed_at : Machine → ℕ → Act Changing
 failed_at z vdev = Out (typed_line (message_text (M105 (device_text vdev)))) (Done (HasFailed (Went z (pos 100))))
-
--- before the label was written
-pub change_kept : (old mid : Spot) (n : ℕ) (s : Seated) (change : Change) (vdev : ℕ) → Asked old mid n s change (Err failed.Device)
-    → option_map (λ (unit : UnitInfo). unit.vdev) (slice_get old.state.table.units s.letter.unit) ≡ Some vdev
-    → Comes old mid (changing_tree old.state n change) (failed_tree mid.state vdev)
-change_kept old mid n s change vdev a device = record {
-  each = λ units h.
-      let k = meets_at old units n s a.there h in
-      let m = k.met.minidisk in
-      let stamp = stamp_of old.state.moment in
-      let done = a.seat.does.alters k.journal m k.told k.met.is k.met.looked in
-      let steps = steps_kept old.world.told mid.world.told k.journal units old.state.table n s a.seat.disk k.met change stamp k.told k.table a.there a.seat.does.changes.same done in
-      let units' = changed_units units s.letter.unit m change stamp OldFault in
-      let ran = ran_to old mid n s change units (table_then old n s a.seat.disk) OldFault a.there k steps
-      (counted_one old.world.faults mid.world.faults a.seat.does.changes.units.faults (a.seat.does.changes.units.cause (inl refl))) (console_is old mid n s change (Err failed.Device) a) in
-      let end' : then_of old.state n s change m units OldFault ≡ failed_tree mid.state vdev units' =
-      ap (λ (v : ℕ). failed_at (machine_of old.state units') v) (device_is old.state s units vdev device)
-      ∙ ap (λ (z : Machine). failed_at z vdev) (machine_is old mid n s change (Err failed.Device) units' a) in
-      let table = table_is old mid n s change (Err failed.Device) a in
-      (units', (rw table steps.holds, subst (λ (z : Act Changing). Ran (at old units) (at mid units') (changing_tree old.state n change units) z) end' ran));
-  later = later_changes old.world mid.world a.seat.does.changes.units;
-  usable = usable_then old mid n s change (Err failed.Device) a;
-}
 
 -- the state with the letter released, its unit in doubt, and no reading place of its device
 abbrev pub state_doubted : State → ℕ → ℕ → ℕ → State
@@ -368,9 +324,9 @@ released_is st n s vdev units there device =
     rw (letter, device, cleared') refl
 
 -- after the label was written
-pub change_doubted : (old mid mid' : Spot) (n : ℕ) (s : Seated) (change : Change) (vdev : ℕ) → Asked old mid n s change (Err failed.InDoubt)
+pub change_doubted : (old mid mid' : Spot) (n : ℕ) (s : Seated) (change : List Slot → Change) (vdev : ℕ) → Updated old mid n s change (Err failed.InDoubt)
     → option_map (λ (unit : UnitInfo). unit.vdev) (slice_get old.state.table.units s.letter.unit) ≡ Some vdev
-    → mid'.world ≡ mid.world → mid'.state ≡ state_doubted mid.state n s.letter.unit vdev → Comes old mid' (changing_tree old.state n change) (failed_tree mid'.state vdev)
+    → mid'.world ≡ mid.world → mid'.state ≡ state_doubted mid.state n s.letter.unit vdev → Comes old mid' (changing_by old.state n change) (failed_tree mid'.state vdev)
 change_doubted old mid mid' n s change vdev a device same doubt =
     rw same (doubted_state)
   where
@@ -385,24 +341,24 @@ change_doubted old mid mid' n s change vdev a device same doubt =
     now : Spot
     now = record { world = mid.world; state = mid'.state }
 
-    doubted_state : Comes old now (changing_tree old.state n change) (failed_tree mid'.state vdev)
+    doubted_state : Comes old now (changing_by old.state n change) (failed_tree mid'.state vdev)
     doubted_state = record {
       each = λ units h.
           let k = meets_at old units n s a.there h in
           let m = k.met.minidisk in
           let stamp = stamp_of old.state.moment in
-          let done = a.seat.does.alters k.journal m k.told k.met.is k.met.looked in
+          let done = a.seat.does.appends units h k.journal m k.told k.met.is k.met.looked in
           let o = EitherFault done.side in
-          let steps = steps_doubted old.world.told mid.world.told k.journal units old.state.table n s k.met change stamp k.told k.table a.there done in
-          let units' = changed_units units s.letter.unit m change stamp o in
-          let ran = ran_to old now n s change units (doubted n s.letter.unit old.state.table) o a.there k steps
+          let steps = steps_doubted old.world.told mid.world.told k.journal units old.state.table n s k.met (change units) stamp k.told k.table a.there done in
+          let units' = changed_units units s.letter.unit m (change units) stamp o in
+          let ran = ran_to old now n s (change units) units (doubted n s.letter.unit old.state.table) o a.there k steps
           (counted_one old.world.faults mid.world.faults a.seat.does.changes.units.faults (a.seat.does.changes.units.cause (inr refl))) (ap (λ (st : State). st.console) state') in
-          let end' : then_of old.state n s change m units o ≡ failed_tree mid'.state vdev units' =
+          let end' : then_of old.state n s (change units) m units o ≡ failed_tree mid'.state vdev units' =
           ap (λ (v : ℕ). failed_at (released n (machine_of old.state units')) v) (device_is old.state s units vdev device)
           ∙ ap (λ (z : Machine). failed_at z vdev) (released_is old.state n s vdev units' a.there (device_is old.state s units' vdev device)
           ∙ ap (λ (st : State). machine_of st units') (sym state')) in
           let table : mid'.state.table ≡ doubted n s.letter.unit old.state.table = ap (λ (st : State). st.table) state' in
-          (units', (rw table steps.holds, subst (λ (z : Act Changing). Ran (at old units) (at now units') (changing_tree old.state n change units) z) end' ran));
+          (units', (rw table steps.holds, subst (λ (z : Act Changing). Ran (at old units) (at now units') (changing_tree old.state n (change units) units) z) end' ran));
       later = later_changes old.world mid.world a.seat.does.changes.units;
       usable = λ usable.
           let grown = usable_grown old.world.told mid.world.told old.state.table a.seat.does.changes.units.grown usable in
@@ -411,21 +367,21 @@ change_doubted old mid mid' n s change vdev a device same doubt =
     }
 
 -- the message was typed
-pub change_failed : (old mid new : Spot) (n : ℕ) (change : Change) (vdev : ℕ) (c : declared.Course) → Comes old mid (changing_tree old.state n change) (failed_tree mid.state vdev)
+pub change_failed : (old mid new : Spot) (n : ℕ) (change : List Slot → Change) (vdev : ℕ) (c : declared.Course) → Comes old mid (changing_by old.state n change) (failed_tree mid.state vdev)
     → Does mid.world new.world (saying (typed_line (message_text (M105 (device_text vdev))))) (Ok c) said → c ≡ course.Went (pos 100) → new.state ≡ mid.state
-    → Acts old new (changing_tree old.state n change) (Ok (came.Failed c)) (changing_of new.state)
+    → Acts old new (changing_by old.state n change) (Ok (came.Failed c)) (changing_of new.state)
 change_failed old mid new n change vdev c comes does went same =
-    subst (λ (st : State). Acts old new (changing_tree old.state n change) (Ok (came.Failed c)) (changing_of st)) (sym same)
+    subst (λ (st : State). Acts old new (changing_by old.state n change) (Ok (came.Failed c)) (changing_of st)) (sym same)
     (rw went
-    (acts_after old mid new (changing_tree old.state n change) (failed_tree mid.state vdev) (Ok (came.Failed (course.Went (pos 100)))) (changing_of mid.state) comes
+    (acts_after old mid new (changing_by old.state n change) (failed_tree mid.state vdev) (Ok (came.Failed (course.Went (pos 100)))) (changing_of mid.state) comes
     (acts_done mid new (failed_tree mid.state vdev) (came.Failed (course.Went (pos 100))) (changing_of mid.state)
     (comes_does mid new (saying (typed_line (message_text (M105 (device_text vdev))))) (λ units y. Done (HasFailed (Went (machine_of mid.state units) (pos 100)))) c said does same))))
 
 -- or it was cut off in that
-pub change_stops : (old mid new : Spot) (n : ℕ) (change : Change) (vdev : ℕ) (e : End) → Comes old mid (changing_tree old.state n change) (failed_tree mid.state vdev)
+pub change_stops : (old mid new : Spot) (n : ℕ) (change : List Slot → Change) (vdev : ℕ) (e : End) → Comes old mid (changing_by old.state n change) (failed_tree mid.state vdev)
     → Does {T = declared.Course} mid.world new.world (saying (typed_line (message_text (M105 (device_text vdev))))) (Err e) said → new.state ≡ mid.state
-    → Acts {T = changes.Changed} old new (changing_tree old.state n change) (Err e) (changing_of new.state)
+    → Acts {T = changes.Changed} old new (changing_by old.state n change) (Err e) (changing_of new.state)
 change_stops old mid new n change vdev e comes does same =
-    acts_after old mid new (changing_tree old.state n change) (failed_tree mid.state vdev) (Err e) (changing_of new.state) comes
+    acts_after old mid new (changing_by old.state n change) (failed_tree mid.state vdev) (Err e) (changing_of new.state) comes
     (does_stop {T = declared.Course} mid new (saying (typed_line (message_text (M105 (device_text vdev))))) (λ units y. Done (HasFailed (Went (machine_of mid.state units) (pos 100))))
     e said (changing_of new.state) does same)

@@ -1,7 +1,7 @@
 -- An update of a file of the disk of a letter, as a step of a command.
 use Rattle.std.proofs.Common.{◌≡◌, inl, inr, ⊎_elim, ◌∙◌, ℕ, List, [], ◌∷◌, Option, Some, Result, Ok, Err, refl, sym, ap, subst, slice_get}
 use Rattle.std.specs.Prelude.{⊤, IfSome, None, option_map}
-use Rattle.std.specs.Option.{unwrap_or}
+use Rattle.std.specs.Option.{IsSome, unwrap_or}
 use Rattle.cms_journal.specs.Causes.{Counted}
 use Rattle.cms_journal.specs.Journal.{IsWritable}
 use Rattle.cms_journal.specs.Told.{Told}
@@ -22,20 +22,19 @@ use Rattle.cms_disk.specs.declared.fault.DiskFault.TheVariants as failed
 use Rattle.cms_disk.specs.declared.unit.UnitInfo.{UnitInfo}
 use Rattle.cms_disk.proofs.Standing.{minidisk_same}
 use Rattle.cms_world.specs.Seen.{Seen}
-use Rattle.cms_search.specs.Calls.{Comes, IsUsable, Spot, Usable, at, holds, machine_of}
-use Rattle.cms_search.specs.Machine.{Letter, Machine}
-use Rattle.cms_search.specs.Putting.{FitsUpdate, MayUpdate, UpdatesSeat, UpdatesTo}
+use Rattle.cms_search.specs.Calls.{Comes, Spot, Usable, at, holds, machine_of}
+use Rattle.cms_search.specs.Machine.{Machine}
+use Rattle.cms_search.specs.Putting.{FitsUpdate, MayUpdate, Updated, UpdatesSeat}
 use Rattle.cms_search.specs.Releasing.{vdev_of}
 use Rattle.cms_search.specs.Searches.{item_at}
-use Rattle.cms_search.specs.Stepping.{Changing, changing_tree}
-use Rattle.cms_search.specs.Tables.{Accesses, Seated}
+use Rattle.cms_search.specs.Seats.{ChangesSeat, HasDevice}
+use Rattle.cms_search.specs.Stepping.{Changing, changing_by, changing_tree}
+use Rattle.cms_search.specs.Tables.{Accesses, Seated, seat_with}
 use Rattle.cms_search.specs.declared.putting.FileWrite.{FileWrite}
-use Rattle.cms_search.specs.declared.state.State.{State}
 use Rattle.cms_search.proofs.Changing.{Steps, changed_slot, changed_units, steps_kept, steps_with}
-use Rattle.cms_search.proofs.Holding.{usable_grown}
 use Rattle.cms_search.proofs.Meeting.{MetAt, meets_at, readable_seat}
-use Rattle.cms_search.proofs.Seats.{letters_with, table_with, with_disk_is}
-use Rattle.cms_search.proofs.Stepped.{Asked, device_is, failed_at, failed_tree, if_some, later_changes, ran_to, state_then, table_then, then_of, usable_with}
+use Rattle.cms_search.proofs.Seats.{item_here, item_within, seat_there, table_with, with_disk_is}
+use Rattle.cms_search.proofs.Stepped.{console_is, device_is, failed_at, failed_tree, if_some, later_changes, machine_is, ran_to, table_is, table_then, then_of, usable_then}
 
 -- ---- what may be called
 
@@ -49,24 +48,24 @@ may_update told t n s unit name u at has fits usable = record {
       subst (IsWritable j.units) (sym on.number) (((usable j is).units s.letter.unit unit has).writable (sym on.writable ∙ may));
 }
 
--- ---- what was asked for
+-- ---- what it came to
 
--- the disk s of letter n was updated, which came to r; mid is behind that
-pub record Updated (old mid : Spot) (n : ℕ) (s : Seated) (change : Change) (r : Result ⊤ DiskFault) : Type 0 where
-  pub there : item_at old.state.table.seats n ≡ Some s
-  pub seat : UpdatesSeat old.world mid.world old.state.table mid.state.table n s change (stamp_of old.state.moment) r
-  pub state : mid.state ≡ record old.state { table = mid.state.table }
-
-pub updated_so : (old mid : Spot) (n : ℕ) (s : Seated) (change : Change) (stamp : Stamp) (r r' : Result ⊤ DiskFault) → item_at old.state.table.seats n ≡ Some s
-    → stamp ≡ stamp_of old.state.moment → r ≡ r'
+pub updated_so : (old mid : Spot) (n : ℕ) (s : Seated) (change : Change) (stamp : Stamp) (r : Result ⊤ DiskFault) → item_at old.state.table.seats n ≡ Some s → stamp ≡ stamp_of old.state.moment
     → IfSome (item_at old.state.table.seats n) (λ x. UpdatesSeat old.world mid.world old.state.table mid.state.table n x change stamp r)
-    → mid.state ≡ record old.state { table = mid.state.table } → Updated old mid n s change r'
-updated_so old mid n s change stamp r r' there when is does state =
+    → mid.state ≡ record old.state { table = mid.state.table } → Updated old mid n s (λ units. change) r
+updated_so old mid n s change stamp r there when does state =
     let one = if_some (item_at old.state.table.seats n) (λ x. UpdatesSeat old.world mid.world old.state.table mid.state.table n x change stamp r) s there does in
     record {
       there = there;
-      seat = subst (λ (z : Stamp). UpdatesSeat old.world mid.world old.state.table mid.state.table n s change z r') when
-          (subst (λ (q : Result ⊤ DiskFault). UpdatesSeat old.world mid.world old.state.table mid.state.table n s change stamp q) is one);
+      seat = record {
+        disk = one.disk;
+        table = one.table;
+        does = record {
+          appends = λ units h j m told is looked.
+              subst (λ (z : Stamp). Appends old.world.told mid.world.told s.disk one.disk m change z r) when (one.does.appends j m told is looked);
+          changes = one.does.changes;
+        };
+      };
       state = state;
     }
 
@@ -84,34 +83,52 @@ appends_of old new d e m change stamp (Err (failed.Limit k)) is = is
 appends_of old new d e m change stamp (Err (failed.Full need free)) is = is
 appends_of old new d e m change stamp (Err failed.Memory) is = is
 
--- where the device didn't fail before the label was written, it is as a change
-alters_of : (old new : Told) (d e : Accessed) (m : Minidisk) (change : Change) (stamp : Stamp) (r : Result ⊤ DiskFault) → (r ≡ Err failed.Device → ⊥)
-    → Appends old new d e m change stamp r → Alters old new d e m change stamp r
-alters_of old new d e m change stamp (Ok x) other is = is
-alters_of old new d e m change stamp (Err failed.NotFound) other is = is
-alters_of old new d e m change stamp (Err failed.Exists) other is = is
-alters_of old new d e m change stamp (Err failed.ReadOnly) other is = is
-alters_of old new d e m change stamp (Err failed.Device) other is = absurd (other refl)
-alters_of old new d e m change stamp (Err failed.InDoubt) other is = is
-alters_of old new d e m change stamp (Err failed.Altered) other is = is
-alters_of old new d e m change stamp (Err (failed.Limit k)) other is = is
-alters_of old new d e m change stamp (Err (failed.Full need free)) other is = is
-alters_of old new d e m change stamp (Err failed.Memory) other is = is
-
-pub asked_of : (old mid : Spot) (n : ℕ) (s : Seated) (change : Change) (r : Result ⊤ DiskFault) → Updated old mid n s change r → (r ≡ Err failed.Device → ⊥) → Asked old mid n s change r
-asked_of old mid n s change r u other = record {
-  there = u.there;
-  seat = record {
-    disk = u.seat.disk;
-    table = u.seat.table;
-    does = record {
-      alters = λ j m told is looked.
-          alters_of old.world.told mid.world.told s.disk u.seat.disk m change (stamp_of old.state.moment) r other (u.seat.does.appends j m told is looked);
-      changes = u.seat.does.changes;
-    };
+-- so is what came of a change that is made at once
+pub changed_so : (before now : Seen) (t t' : Accesses) (n : ℕ) (s : Seated) (change : Change) (stamp : Stamp) (r : Result ⊤ DiskFault) → ChangesSeat before now t t' n s change stamp r
+    → UpdatesSeat before now t t' n s change stamp r
+changed_so before now t t' n s change stamp r c = record {
+  disk = c.disk;
+  table = c.table;
+  does = record {
+    appends = λ j m told is looked. appends_of before.told now.told s.disk c.disk m change stamp r (c.does.alters j m told is looked);
+    changes = c.does.changes;
   };
-  state = u.state;
 }
+
+-- which answer it was
+pub came_to : (old mid : Spot) (n : ℕ) (s : Seated) (change : List Slot → Change) (r r' : Result ⊤ DiskFault) → r ≡ r' → Updated old mid n s change r → Updated old mid n s change r'
+came_to old mid n s change r r' is u = subst (λ (q : Result ⊤ DiskFault). Updated old mid n s change q) is u
+
+-- or which fault
+pub came_why : (old mid : Spot) (n : ℕ) (s : Seated) (change : List Slot → Change) (r : Result ⊤ DiskFault) (e why : DiskFault) → r ≡ Err e → e ≡ why → Updated old mid n s change r
+    → Updated old mid n s change (Err why)
+came_why old mid n s change r e why is same u = came_to old mid n s change r (Err why) (is ∙ ap (λ (x : DiskFault). Err x) same) u
+
+-- the letter is accessed still
+pub still_accessed : (old mid : Spot) (n : ℕ) (s : Seated) (change : List Slot → Change) (r : Result ⊤ DiskFault) → Updated old mid n s change r → IsSome (item_at mid.state.table.seats n)
+still_accessed old mid n s change r u = let is = seat_there old.state.table mid.state.table n s u.there u.seat in rw is refl
+
+-- as the same device
+pub device_still : (old mid : Spot) (n : ℕ) (s : Seated) (change : List Slot → Change) (r : Result ⊤ DiskFault) (vdev : ℕ) → Updated old mid n s change r → HasDevice old.state.table n vdev
+    → HasDevice mid.state.table n vdev
+device_still old mid n s change r vdev u h =
+    let t = old.state.table in
+    let e = u.seat.disk in
+    let table : mid.state.table ≡ table_with t n s e = u.seat.table ∙ with_disk_is t n s e u.there in
+    let there : item_at (table_with t n s e).seats n ≡ Some (seat_with s e) = item_here t.seats n (Some (seat_with s e)) (item_within t.seats n s u.there) in
+    let device = if_some (item_at t.seats n) (λ (x : Seated). option_map (λ (unit : UnitInfo). unit.vdev) (slice_get t.units x.letter.unit) ≡ Some vdev) s u.there h in
+    subst (λ (x : Accesses). HasDevice x n vdev) (sym table) (rw there device)
+
+-- as which it was accessed before
+pub device_was : (old mid : Spot) (n : ℕ) (s : Seated) (change : List Slot → Change) (r : Result ⊤ DiskFault) (vdev : ℕ) → Updated old mid n s change r → HasDevice mid.state.table n vdev
+    → option_map (λ (unit : UnitInfo). unit.vdev) (slice_get old.state.table.units s.letter.unit) ≡ Some vdev
+device_was old mid n s change r vdev u h =
+    let t = old.state.table in
+    let e = u.seat.disk in
+    let table : mid.state.table ≡ table_with t n s e = u.seat.table ∙ with_disk_is t n s e u.there in
+    let there : item_at (table_with t n s e).seats n ≡ Some (seat_with s e) = item_here t.seats n (Some (seat_with s e)) (item_within t.seats n s u.there) in
+    if_some (item_at (table_with t n s e).seats n) (λ (x : Seated). option_map (λ (unit : UnitInfo). unit.vdev) (slice_get t.units x.letter.unit) ≡ Some vdev) (seat_with s e) there
+    (subst (λ (x : Accesses). HasDevice x n vdev) table h)
 
 -- ---- the device failed before the label was written
 
@@ -123,77 +140,55 @@ none_unread m (Full need free) = refl
 slot_unread : (u : ℕ) (m : Minidisk) (change : Change) (stamp : Stamp) → changed_slot u m change stamp (ReadFault 0) ≡ Settled (Volume m)
 slot_unread u m change stamp = ap (λ (x : Option Slot). unwrap_or x (Settled (Volume m))) (none_unread m (answer_of m change))
 
-module _ (old mid : Spot) (n : ℕ) (s : Seated) (change : Change) (vdev : ℕ) (u : Updated old mid n s change (Err failed.Device))
+module _ (old mid : Spot) (n : ℕ) (s : Seated) (change : List Slot → Change) (vdev : ℕ) (u : Updated old mid n s change (Err failed.Device))
     (device : option_map (λ (unit : UnitInfo). unit.vdev) (slice_get old.state.table.units s.letter.unit) ≡ Some vdev) where
-  table_so : mid.state.table ≡ table_then old n s u.seat.disk
-  table_so = u.seat.table ∙ with_disk_is old.state.table n s u.seat.disk u.there
-
-  state_so : mid.state ≡ state_then old n s u.seat.disk
-  state_so = u.state ∙ ap (λ (t : Accesses). record old.state { table = t }) table_so
-
-  machine_so : (units : List Slot) → machine_of old.state units ≡ machine_of mid.state units
-  machine_so units =
-      sym (ap (λ (l : List (Option Letter)). record (machine_of old.state units) { letters = l }) (letters_with old.state.table.seats n s u.seat.disk u.there))
-      ∙ ap (λ (st : State). machine_of st units) (sym state_so)
-
-  usable_so : IsUsable old → IsUsable mid
-  usable_so usable =
-      let grown = usable_grown old.world.told mid.world.told old.state.table u.seat.does.changes.units.grown usable in
-      subst (λ (t : Accesses). Usable mid.world.told t) (sym table_so) (λ j is. usable_with j old.state.table n s u.seat.disk u.there u.seat.does.changes.same (grown j is))
-
   -- so far it came on these units
   abbrev CameOn : List Slot → Type 0
-  CameOn units = (now : List Slot) × (holds mid now × Ran (at old units) (at mid now) (changing_tree old.state n change units) (failed_tree mid.state vdev now))
+  CameOn units = (now : List Slot) × (holds mid now × Ran (at old units) (at mid now) (changing_tree old.state n (change units) units) (failed_tree mid.state vdev now))
 
   came : (units : List Slot) (k : MetAt old units s) (o : Outcome)
-      → Steps old.world.told mid.world.told k.journal units old.state.table (table_then old n s u.seat.disk) s k.met change (stamp_of old.state.moment) o
+      → Steps old.world.told mid.world.told k.journal units old.state.table (table_then old n s u.seat.disk) s k.met (change units) (stamp_of old.state.moment) o
       → Counted old.world.faults (faults_in (o ∷ [])) mid.world.faults
-      → then_of old.state n s change k.met.minidisk units o
-      ≡ failed_at (machine_of old.state (changed_units units s.letter.unit k.met.minidisk change (stamp_of old.state.moment) o)) (vdev_of (machine_of old.state units) s.letter.unit)
+      → then_of old.state n s (change units) k.met.minidisk units o
+      ≡ failed_at (machine_of old.state (changed_units units s.letter.unit k.met.minidisk (change units) (stamp_of old.state.moment) o)) (vdev_of (machine_of old.state units) s.letter.unit)
       → CameOn units
   came units k o steps counted ends =
-      let units' = changed_units units s.letter.unit k.met.minidisk change (stamp_of old.state.moment) o in
-      let ran = ran_to old mid n s change units (table_then old n s u.seat.disk) o u.there k steps counted (ap (λ (st : State). st.console) u.state) in
-      let end' : then_of old.state n s change k.met.minidisk units o ≡ failed_tree mid.state vdev units' =
+      let units' = changed_units units s.letter.unit k.met.minidisk (change units) (stamp_of old.state.moment) o in
+      let ran = ran_to old mid n s (change units) units (table_then old n s u.seat.disk) o u.there k steps counted (console_is old mid n s change (Err failed.Device) u) in
+      let end' : then_of old.state n s (change units) k.met.minidisk units o ≡ failed_tree mid.state vdev units' =
       ends
       ∙ ap (λ (v : ℕ). failed_at (machine_of old.state units') v) (device_is old.state s units vdev device)
-      ∙ ap (λ (z : Machine). failed_at z vdev) (machine_so units') in
-      let table = table_so in
-      (units', (rw table steps.holds, subst (λ (z : Act Changing). Ran (at old units) (at mid units') (changing_tree old.state n change units) z) end' ran))
+      ∙ ap (λ (z : Machine). failed_at z vdev) (machine_is old mid n s change (Err failed.Device) units' u) in
+      let table = table_is old mid n s change (Err failed.Device) u in
+      (units', (rw table steps.holds, subst (λ (z : Act Changing). Ran (at old units) (at mid units') (changing_tree old.state n (change units) units) z) end' ran))
 
   counted : Counted old.world.faults 1 mid.world.faults
   counted = counted_one old.world.faults mid.world.faults u.seat.does.changes.units.faults (u.seat.does.changes.units.cause (inl refl))
 
   -- the file wasn't read
-  unread : (units : List Slot) (k : MetAt old units s) → Unread old.world.told mid.world.told s.disk k.met.minidisk change (stamp_of old.state.moment) → CameOn units
+  unread : (units : List Slot) (k : MetAt old units s) → Unread old.world.told mid.world.told s.disk k.met.minidisk (change units) (stamp_of old.state.moment) → CameOn units
   unread units k x =
       let m = k.met.minidisk in
       let e = u.seat.disk in
       let stamp = stamp_of old.state.moment in
       let same = u.seat.does.changes.same in
       let volume : e.volume ≡ s.disk.volume = ap (λ (d : Accessed). d.volume) (u.seat.does.changes.kept (λ (d : failed.Device ≡ failed.InDoubt). absurd (cc d))) in
-      let changes = subst (λ (v : ℕ). Changes old.world.told mid.world.told v m change stamp (ReadFault 0)) (sym same.unit) x.changes in
-      let steps = steps_with old.world.told mid.world.told k.journal k.journal units old.state.table n s e k.met change stamp (ReadFault 0) m k.told (x.same ∙ k.told) k.table u.there same
-      (minidisk_same k.journal s.disk e m volume k.met.is) changes (slot_unread s.letter.unit m change stamp) in
+      let changes = subst (λ (v : ℕ). Changes old.world.told mid.world.told v m (change units) stamp (ReadFault 0)) (sym same.unit) x.changes in
+      let steps = steps_with old.world.told mid.world.told k.journal k.journal units old.state.table n s e k.met (change units) stamp (ReadFault 0) m k.told (x.same ∙ k.told) k.table u.there same
+      (minidisk_same k.journal s.disk e m volume k.met.is) changes (slot_unread s.letter.unit m (change units) stamp) in
       came units k (ReadFault 0) steps counted refl
 
-  kept : (units : List Slot) (k : MetAt old units s) → Kept old.world.told mid.world.told u.seat.disk k.met.minidisk change (stamp_of old.state.moment) → CameOn units
+  kept : (units : List Slot) (k : MetAt old units s) → Kept old.world.told mid.world.told u.seat.disk k.met.minidisk (change units) (stamp_of old.state.moment) → CameOn units
   kept units k x =
-      let steps = steps_kept old.world.told mid.world.told k.journal units old.state.table n s u.seat.disk k.met change (stamp_of old.state.moment) k.told k.table u.there
+      let steps = steps_kept old.world.told mid.world.told k.journal units old.state.table n s u.seat.disk k.met (change units) (stamp_of old.state.moment) k.told k.table u.there
       u.seat.does.changes.same x in
       came units k OldFault steps counted refl
 
-  pub update_failed : Comes old mid (changing_tree old.state n change) (failed_tree mid.state vdev)
+  pub update_failed : Comes old mid (changing_by old.state n change) (failed_tree mid.state vdev)
   update_failed = record {
     each = λ units h.
         let k = meets_at old units n s u.there h in
-        ⊎_elim (unread units k) (kept units k) (u.seat.does.appends k.journal k.met.minidisk k.told k.met.is k.met.looked);
+        ⊎_elim (unread units k) (kept units k) (u.seat.does.appends units h k.journal k.met.minidisk k.told k.met.is k.met.looked);
     later = later_changes old.world mid.world u.seat.does.changes.units;
-    usable = usable_so;
+    usable = usable_then old mid n s change (Err failed.Device) u;
   }
-
--- ---- the table
-
-pub updates_seat : (before now : Seen) (t new : Accesses) (n : ℕ) (s : Seated) (disk : Accessed) (change : Change) (stamp : Stamp) (r : Result ⊤ DiskFault) → item_at t.seats n ≡ Some s
-    → new ≡ table_with t n s disk → UpdatesTo before now s.disk disk change stamp r → IfSome (item_at t.seats n) (λ x. UpdatesSeat before now t new n x change stamp r)
-updates_seat before now t new n s disk change stamp r at is does = rw at (record { disk = disk; table = is ∙ sym (with_disk_is t n s disk at); does = does })

@@ -5,7 +5,7 @@ use Rattle.std.specs.Option.{ForSome}
 use Rattle.cms_journal.specs.Causes.{Rose}
 use Rattle.cms_journal.specs.Journal.{Journal, HasBlocks, IsWritable}
 use Rattle.cms_journal.specs.Told.{Told, Idle, Grown}
-use Rattle.cms_fields.specs.declared.time.Moment.{Moment}
+use Rattle.cms_fields.specs.Moments.{first_moment}
 use Rattle.cms_machine.specs.Slots.{Slot}
 use Rattle.cms_machine.specs.Acts.{Act, Done, Out, typed_line}
 use Rattle.cms_machine.specs.Points.{Point}
@@ -44,10 +44,6 @@ machine_of s units = record {
 }
 
 -- ---- the start
-
--- 1970-01-01 00:00:00
-abbrev pub first_moment : Moment
-first_moment = record { year = 1970; month = 1; day = 1; hour = 0; minute = 0; second = 0 }
 
 -- nothing is accessed, stacked or kept, and no script is given
 abbrev pub first_state : Words → List UnitInfo → declared.State.State

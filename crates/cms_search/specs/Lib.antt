@@ -19,3 +19,4 @@ pub mod Talks
 pub mod Leaving
 pub mod Accessing
 pub mod Putting
+pub mod Drafting

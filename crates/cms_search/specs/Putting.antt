@@ -4,17 +4,22 @@ use Rattle.std.specs.Option.{ForSome, IsSome}
 use Rattle.cms_journal.specs.Journal.{Journal, IsWritable}
 use Rattle.cms_journal.specs.Told.{Told}
 use Rattle.cms_names.specs.declared.name.Name.{Name}
+use Rattle.cms_fields.specs.Moments.{stamp_of}
 use Rattle.cms_fields.specs.declared.time.Stamp.{Stamp}
 use Rattle.cms_model.specs.Changes.{Change, Put, Add}
 use Rattle.cms_model.specs.Minidisks.{Minidisk}
 use Rattle.cms_model.specs.declared.file.FileData.{FileData}
+use Rattle.cms_machine.specs.Slots.{Slot}
 use Rattle.cms_held.specs.Opening.{HeldVolume}
 use Rattle.cms_world.specs.Seen.{Seen}
 use Rattle.cms_disk.specs.Changing.{Appends, ChangesDisk}
 use Rattle.cms_disk.specs.Disks.{Accessed, IsLookedAt, IsMinidisk, IsReadable, place_of}
 use Rattle.cms_disk.specs.Drafts.{FitsFile, file_with, shape_of}
 use Rattle.cms_disk.specs.declared.fault.DiskFault.{DiskFault}
-use Rattle.cms_search.specs.Tables.{Accesses, Seated, with_disk}
+use Rattle.cms_search.specs.Calls.{Spot, holds}
+use Rattle.cms_search.specs.Searches.{item_at}
+use Rattle.cms_search.specs.Seats.{HasDisk}
+use Rattle.cms_search.specs.Tables.{Accesses, Seated}
 use Rattle.cms_search.specs.declared.putting.FileWrite.{FileWrite}
 use Rattle.cms_search.specs.declared.putting.FileWrite.TheVariants as update
 
@@ -46,8 +51,19 @@ pub record UpdatesTo (before now : Seen) (d e : Accessed) (change : Change) (sta
   pub changes : ChangesDisk before now d e result
 
 -- the disk of letter n, which is that of s, was updated so
-pub record UpdatesSeat (before now : Seen) (t t' : Accesses) (n : ℕ) (s : Seated) (change : Change) (stamp : Stamp)
-    (result : Result ⊤ DiskFault) : Type 0 where
-  pub disk : Accessed
-  pub table : t' ≡ with_disk n disk t
-  pub does : UpdatesTo before now s.disk disk change stamp result
+abbrev pub UpdatesSeat : Seen → Seen → Accesses → Accesses → ℕ → Seated → Change → Stamp → Result ⊤ DiskFault → Type 0
+UpdatesSeat before now t t' n s change stamp result = HasDisk t t' n (λ e. UpdatesTo before now s.disk e change stamp result)
+
+-- ---- as a command's step
+
+-- what an update of a minidisk came to between two spots, with the stamp of the turn's moment; the change may depend on what is on the units
+pub record UpdatesBy (old mid : Spot) (d e : Accessed) (change : List Slot → Change) (r : Result ⊤ DiskFault) : Type 0 where
+  pub appends : (units : List Slot) → holds old units → (j : Journal) (m : Minidisk) → old.world.told ≡ Some j → IsMinidisk j d m
+      → IsLookedAt j d → Appends old.world.told mid.world.told d e m (change units) (stamp_of old.state.moment) r
+  pub changes : ChangesDisk old.world mid.world d e r
+
+-- the disk s of letter n was updated so; mid is behind that
+pub record Updated (old mid : Spot) (n : ℕ) (s : Seated) (change : List Slot → Change) (r : Result ⊤ DiskFault) : Type 0 where
+  pub there : item_at old.state.table.seats n ≡ Some s
+  pub seat : HasDisk old.state.table mid.state.table n (λ e. UpdatesBy old mid s.disk e change r)
+  pub state : mid.state ≡ record old.state { table = mid.state.table }

@@ -1,6 +1,6 @@
 -- A change of the disk of a letter, as a table makes it.
-use Rattle.std.specs.Prelude.{◌≡◌, ℕ, true, Some, Result, ⊤}
-use Rattle.std.specs.Option.{ForSome}
+use Rattle.std.specs.Prelude.{◌≡◌, ℕ, true, slice_get, Some, IfSome, Result, ⊤}
+use Rattle.std.specs.Option.{ForSome, option_map}
 use Rattle.cms_journal.specs.Journal.{Journal, IsWritable}
 use Rattle.cms_journal.specs.Told.{Told}
 use Rattle.cms_fields.specs.declared.time.Stamp.{Stamp}
@@ -12,6 +12,7 @@ use Rattle.cms_edf.specs.declared.change.Change as asked
 use Rattle.cms_disk.specs.Changing.{Alters, ChangesDisk}
 use Rattle.cms_disk.specs.Disks.{Accessed, IsLookedAt, IsMinidisk, IsReadable}
 use Rattle.cms_disk.specs.declared.fault.DiskFault.{DiskFault}
+use Rattle.cms_search.specs.Searches.{item_at}
 use Rattle.cms_search.specs.Tables.{Accesses, Seated, with_disk}
 
 -- the file that is changed is there, its new name is no other file's, and the disk's blocks may be read, and written where the disk may be
@@ -26,9 +27,16 @@ pub record ChangesTo (before now : Seen) (d e : Accessed) (change : Change) (sta
       → Alters before.told now.told d e m change stamp result
   pub changes : ChangesDisk before now d e result
 
--- the disk of letter n, which is that of s, was changed so
-pub record ChangesSeat (before now : Seen) (t t' : Accesses) (n : ℕ) (s : Seated) (change : Change) (stamp : Stamp)
-    (result : Result ⊤ DiskFault) : Type 0 where
+-- the disk of letter n is that of this device
+abbrev pub HasDevice : Accesses → ℕ → ℕ → Type 0
+HasDevice t n vdev = IfSome (item_at t.seats n) (λ s. option_map (λ unit. unit.vdev) (slice_get t.units s.letter.unit) ≡ Some vdev)
+
+-- letter n has another disk, of which this holds
+pub record HasDisk (t t' : Accesses) (n : ℕ) (IsSo : Accessed → Type 0) : Type 0 where
   pub disk : Accessed
   pub table : t' ≡ with_disk n disk t
-  pub does : ChangesTo before now s.disk disk change stamp result
+  pub does : IsSo disk
+
+-- the disk of letter n, which is that of s, was changed so
+abbrev pub ChangesSeat : Seen → Seen → Accesses → Accesses → ℕ → Seated → Change → Stamp → Result ⊤ DiskFault → Type 0
+ChangesSeat before now t t' n s change stamp result = HasDisk t t' n (λ e. ChangesTo before now s.disk e change stamp result)

@@ -93,6 +93,10 @@ reading run u f wanted next failed = Does (Get u f wanted) (handed run f wanted 
 abbrev pub changing_tree : State → ℕ → Change → List Slot → Act Changing
 changing_tree s n change units = changing (machine_of s units) n change
 
+-- with a change that may depend on what is on the units
+abbrev pub changing_by : State → ℕ → (List Slot → Change) → List Slot → Act Changing
+changing_by s n change units = changing_tree s n (change units) units
+
 -- what a change came to, with the state that is left
 abbrev pub changing_of : State → Meaning declared.Changed Changing
 changing_of s units came.Done = IsChanged (machine_of s units)

@@ -4,6 +4,7 @@
 mod accessing;
 mod asking;
 mod change_told;
+mod drafting;
 mod fault;
 mod finding;
 mod formatting;
@@ -33,7 +34,7 @@ pub use refusing::{
 pub use saying::{refuse, say, say_message, say_ready};
 pub use search::{Found, FoundList};
 pub use state::{Course, Device, End, State};
-pub use stepping::{Changed, change_disk, refuse_altered, refuse_device};
+pub use stepping::{Changed, change_disk, end_update, refuse_altered, refuse_device};
 pub use table::{LETTERS, Seat, Table, UnitList};
 pub use telling::{
     add_left, add_right, device_text, device_word, first_column, hexadecimal_digit, letter_text,

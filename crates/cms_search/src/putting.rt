@@ -12,7 +12,7 @@ ghost use Rattle.cms_search.specs.Stepping.{changing_of, changing_tree};
 ghost use Rattle.cms_search.specs.Tables.{letters_of, writing};
 
 use crate::state::{End, State};
-use crate::stepping::{Changed, refuse_device};
+use crate::stepping::{Changed, end_update};
 use crate::table::Table;
 use cms_disk::{DiskFault, FileData, Minidisk};
 use cms_fields::Stamp;
@@ -100,28 +100,9 @@ pub fn update_file<W: World>(
     ensures kept { state.new ≡ record state.old { table = state.new.table; places = state.new.places } }
 {
     let vdev = state.table.vdev(letter);
-    match state.table.update(
-        alloc,
-        world,
-        letter,
-        name,
-        update,
-        &Stamp::of(&state.moment),
-    ) {
-        Ok(()) => Ok(Changed::Done),
-        Err(DiskFault::Limit(which)) => Ok(Changed::Limited(which)),
-        Err(DiskFault::Full { need, free }) => Ok(Changed::Full { need, free }),
-        Err(DiskFault::Device) => Ok(Changed::Failed(refuse_device(alloc, world, vdev)?)),
-        Err(DiskFault::InDoubt) => {
-            state.table.doubt(letter);
-            state.places.forget_disk(vdev);
-            Ok(Changed::Failed(refuse_device(alloc, world, vdev)?))
-        }
-        // the file is there and the disk may be written, so this is want of memory
-        Err(DiskFault::NotFound) => Err(End::Memory),
-        Err(DiskFault::Exists) => Err(End::Memory),
-        Err(DiskFault::ReadOnly) => Err(End::Memory),
-        Err(DiskFault::Altered) => Err(End::Memory),
-        Err(DiskFault::Memory) => Err(End::Memory),
-    }
+    let stamp = Stamp::of(&state.moment);
+    let done = state
+        .table
+        .update(alloc, world, letter, name, update, &stamp);
+    end_update(alloc, world, state, letter, vdev, done)
 }

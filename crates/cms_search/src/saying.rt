@@ -9,6 +9,7 @@ ghost use Rattle.cms_search.specs.declared.state.Course.TheVariants.{Went};
 
 use crate::state::{Course, End};
 use cms_line::{Message, type_line, write_message};
+use cms_text::ZERO;
 use cms_world::World;
 use std::alloc::Global;
 
@@ -18,8 +19,6 @@ const R: u8 = 0xD9;
 const OPENS: u8 = 0x4D;
 
 const MINUS: u8 = 0x60;
-
-const ZERO: u8 = 0xF0;
 
 const CLOSES: u8 = 0x5D;
 

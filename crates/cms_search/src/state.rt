@@ -9,7 +9,7 @@ ghost use Rattle.cms_search.specs.declared.state.End.TheVariants.{Memory};
 use crate::asking::{Asked, ask};
 use crate::places::Places;
 use crate::table::{Table, UnitList};
-use cms_fields::Moment;
+use cms_fields::{FIRST_MOMENT, Moment};
 use cms_line::{Console, ProgStack};
 use cms_words::Words;
 use cms_world::World;
@@ -45,16 +45,6 @@ pub struct State {
     /// the turns that are left
     pub left: u64,
 }
-
-// 1970-01-01 00:00:00.
-const FIRST_MOMENT: Moment = Moment {
-    year: 1970,
-    month: 1,
-    day: 1,
-    hour: 0,
-    minute: 0,
-    second: 0,
-};
 
 impl State {
     /// The state of a session that starts on units with distinct devices: nothing is accessed, no line is stacked, no reading place is

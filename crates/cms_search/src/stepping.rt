@@ -1,16 +1,20 @@
 // Device steps as commands do them.
-ghost use Rattle.std.specs.Prelude.{◌≡◌, true, IfOk, Ok, pos};
+ghost use Rattle.std.specs.Prelude.{◌≡◌, List, true, IfOk, IsSome, Ok, pos};
 ghost use Rattle.std.specs.Option.{ForSome};
 ghost use Rattle.cms_fields.specs.Moments.{is_moment};
+ghost use Rattle.cms_model.specs.Changes as model;
 ghost use Rattle.cms_machine.specs.Acts.{saying, typed_line};
+ghost use Rattle.cms_machine.specs.Slots.{Slot};
 ghost use Rattle.cms_world.specs.Seen.{seen};
 ghost use Rattle.cms_line.specs.Messages.{message_text};
 ghost use Rattle.cms_line.specs.declared.message.Message.TheVariants.{M105, M106};
 ghost use Rattle.cms_edf.specs.Planning.{CanChange, change_of};
-ghost use Rattle.cms_search.specs.Calls.{Acts, Does, IsUsable, said, spot};
+ghost use Rattle.cms_search.specs.Calls.{Acts, Does, IsUsable, Spot, said, spot};
+ghost use Rattle.cms_search.specs.Putting.{Updated};
 ghost use Rattle.cms_search.specs.Searches.{item_at};
-ghost use Rattle.cms_search.specs.Stepping.{changing_of, changing_tree};
-ghost use Rattle.cms_search.specs.Tables.{letters_of, writing};
+ghost use Rattle.cms_search.specs.Seats.{HasDevice};
+ghost use Rattle.cms_search.specs.Stepping.{changing_by, changing_of, changing_tree};
+ghost use Rattle.cms_search.specs.Tables.{Seated, letters_of, writing};
 ghost use Rattle.cms_search.specs.Telling.{device_text};
 ghost use Rattle.cms_search.specs.declared.state.Course.TheVariants.{Went};
 
@@ -63,6 +67,44 @@ pub fn refuse_altered<W: World>(alloc: Global, world: &mut W, vdev: u16) -> Resu
     refuse(alloc, world, Message::M106(device), ALTERED)
 }
 
+/// Ends an update of the disk of an accessed letter, which is that of this device; the update came to this.
+///
+/// Where the device failed that is typed, and the command ends: the disk is as before, or its unit is in doubt and the letter released.
+pub fn end_update<W: World>(
+    alloc: Global,
+    world: &mut W,
+    state: &mut State,
+    letter: u8,
+    vdev: u16,
+    done: Result<(), DiskFault>,
+) -> Result<Changed, End>
+    requires accessed { IsSome (item_at state.old.table.seats letter) }
+    requires device { HasDevice state.old.table letter vdev }
+    ensures acts { (old : Spot) (s : Seated) (change : List Slot → model.Change) → Updated old (spot W.World world.old state.old) letter s change done
+        → Acts old (spot W.World world.new state.new) (changing_by old.state letter change) result (changing_of state.new) }
+    ensures kept { state.new ≡ record state.old { table = state.new.table; places = state.new.places } }
+{
+    match done {
+        Ok(()) => Ok(Changed::Done),
+        Err(fault) => match fault {
+            DiskFault::Limit(which) => Ok(Changed::Limited(which)),
+            DiskFault::Full { need, free } => Ok(Changed::Full { need, free }),
+            DiskFault::Device => Ok(Changed::Failed(refuse_device(alloc, world, vdev)?)),
+            DiskFault::InDoubt => {
+                state.table.doubt(letter);
+                state.places.forget_disk(vdev);
+                Ok(Changed::Failed(refuse_device(alloc, world, vdev)?))
+            }
+            // the file is there and the disk may be written, so this is want of memory
+            DiskFault::NotFound => Err(End::Memory),
+            DiskFault::Exists => Err(End::Memory),
+            DiskFault::ReadOnly => Err(End::Memory),
+            DiskFault::Altered => Err(End::Memory),
+            DiskFault::Memory => Err(End::Memory),
+        },
+    }
+}
+
 /// Changes the disk of an accessed letter that may be written; the file that is changed is there, and its new name is no other file's.
 /// A new directory has the stamp of the turn's moment.
 ///
@@ -83,24 +125,7 @@ pub fn change_disk<W: World>(
     ensures kept { state.new ≡ record state.old { table = state.new.table; places = state.new.places } }
 {
     let vdev = state.table.vdev(letter);
-    match state
-        .table
-        .change(alloc, world, letter, change, &Stamp::of(&state.moment))
-    {
-        Ok(()) => Ok(Changed::Done),
-        Err(DiskFault::Limit(which)) => Ok(Changed::Limited(which)),
-        Err(DiskFault::Full { need, free }) => Ok(Changed::Full { need, free }),
-        Err(DiskFault::Device) => Ok(Changed::Failed(refuse_device(alloc, world, vdev)?)),
-        Err(DiskFault::InDoubt) => {
-            state.table.doubt(letter);
-            state.places.forget_disk(vdev);
-            Ok(Changed::Failed(refuse_device(alloc, world, vdev)?))
-        }
-        // the file is there and the disk may be written, so this is want of memory
-        Err(DiskFault::NotFound) => Err(End::Memory),
-        Err(DiskFault::Exists) => Err(End::Memory),
-        Err(DiskFault::ReadOnly) => Err(End::Memory),
-        Err(DiskFault::Altered) => Err(End::Memory),
-        Err(DiskFault::Memory) => Err(End::Memory),
-    }
+    let stamp = Stamp::of(&state.moment);
+    let done = state.table.change(alloc, world, letter, change, &stamp);
+    end_update(alloc, world, state, letter, vdev, done)
 }

@@ -11,7 +11,7 @@ ghost use Rattle.cms_search.specs.Formatting.{vacated};
 ghost use Rattle.cms_search.specs.Searches.{has, item_at};
 ghost use Rattle.cms_fields.specs.Stamps.{is_stamp};
 ghost use Rattle.cms_edf.specs.Planning.{change_of};
-ghost use Rattle.cms_search.specs.Seats.{ChangesSeat, ChangesTo, MayChange};
+ghost use Rattle.cms_search.specs.Seats.{ChangesSeat, ChangesTo, HasDevice, MayChange};
 ghost use Rattle.cms_search.specs.Tables.{EndsAccess, HaveDistinctDevices, IsTable, LooksAt, answer_for, table_after, letter_for, letters_of, marked, missing_parent, new_table, parent_of, place_of_device, released, seated, unit_of_device, wanted_unit, writing};
 ghost use Rattle.cms_search.specs.declared.fault.SearchFault.TheVariants.{NotAccessed, Volume};
 
@@ -170,8 +170,7 @@ impl Table {
 
     /// The device of a letter's disk; 0 where the letter isn't accessed.
     pub fn vdev(&self, letter: u8) -> u16
-        ensures accessed { IfSome (item_at self.now.seats letter) (λ s.
-            option_map (λ unit. unit.vdev) (slice_get self.now.units s.letter.unit) ≡ Some result) }
+        ensures accessed { HasDevice self.now letter result }
         ensures none { item_at self.now.seats letter ≡ None → result ≡ 0 }
     {
         match self.seat(letter) {

@@ -186,10 +186,10 @@ procedure_so old line ts first test other are at tells found =
     (λ units h. let named : is_procedure (machine_of old.state units) first.text ≡ true = sym (tells (machine_of old.state units) (holds_shows old units h)) ∙ found in rw (other, words, named) refl)
 
 -- what is run of words, by the first of them
-words_run : (m : Machine) (ts : List Token) (first : Token) → slice_get ts 0 ≡ Some first
-    → run_words m ts ≡ unless_procedure (is_procedure m first.text) (run_built m ts first.text (command_of first.text))
-words_run m [] first at = absurd (cc at)
-words_run m (t ∷ ts) first at = let same : t ≡ first = cc at in rw same refl
+words_run : (m : Machine) (line : List ℕ) (ts : List Token) (first : Token) → slice_get ts 0 ≡ Some first
+    → run_words m line ts ≡ unless_procedure (is_procedure m first.text) (run_built m line ts first.text (command_of first.text))
+words_run m line [] first at = absurd (cc at)
+words_run m line (t ∷ ts) first at = let same : t ≡ first = cc at in rw same refl
 
 -- the words of a line that is no comment, of which no procedure has the first, and the command that this names
 pub record Worded (old : Spot) (line : List ℕ) (ts : List Token) (first : Token) (named : Option Command) : Type 0 where
@@ -213,13 +213,13 @@ worded old line bytes word word' comment test ts first named same told other are
 
 -- what the line is then
 line_is : (old : Spot) (line : List ℕ) (ts : List Token) (first : Token) (named : Option Command) → Worded old line ts first named
-    → (units : List Slot) → holds old units → line_tree old.state line units ≡ run_built (machine_of old.state units) ts first.text named
+    → (units : List Slot) → holds old units → line_tree old.state line units ≡ run_built (machine_of old.state units) line ts first.text named
 line_is old line ts first named w units h =
     let other = w.other in
     let unnamed = w.unnamed units h in
     let is = w.is in
     let words : tokens_of line ≡ ts = sym w.are in
-    rw (other, words) (words_run (machine_of old.state units) ts first w.at ∙ rw (unnamed, is) refl)
+    rw (other, words) (words_run (machine_of old.state units) line ts first w.at ∙ rw (unnamed, is) refl)
 
 pub not_built_so : (old : Spot) (line : List ℕ) (ts : List Token) (first : Token) (named : Option Command) → Worded old line ts first named → named ≡ None
     → Acts old old (line_tree old.state line) (Ok (end.Ended finish.NotBuilt)) (round_of old.state)
@@ -227,27 +227,27 @@ not_built_so old line ts first named w none =
     done_here old (line_tree old.state line) (end.Ended finish.NotBuilt) (round_of old.state) (λ units h. line_is old line ts first named w units h ∙ rw none refl)
 
 -- a command and its ready line
-abbrev ended_tree : State → List Token → List ℕ → Command → List Slot → Act Round
-ended_tree s ts word command units = bind (command_tree s ts word command units) readied
+abbrev ended_tree : State → List ℕ → List Token → List ℕ → Command → List Slot → Act Round
+ended_tree s line ts word command units = bind (command_tree s line ts word command units) readied
 
 line_runs : (old new : Spot) (line : List ℕ) (ts : List Token) (first : Token) (named : Option Command) (command : Command) (r : Result rounds.Round End)
-    → Worded old line ts first named → named ≡ Some command → Acts old new (ended_tree old.state ts first.text command) r (round_of new.state)
+    → Worded old line ts first named → named ≡ Some command → Acts old new (ended_tree old.state line ts first.text command) r (round_of new.state)
     → Acts old new (line_tree old.state line) r (round_of new.state)
 line_runs old new line ts first named command r w some acts =
-    acts_same old new (line_tree old.state line) (ended_tree old.state ts first.text command) r (round_of new.state)
+    acts_same old new (line_tree old.state line) (ended_tree old.state line ts first.text command) r (round_of new.state)
     (λ units h. line_is old line ts first named w units h ∙ rw some refl) acts
 
 pub line_ready : (old mid new : Spot) (line : List ℕ) (ts : List Token) (first : Token) (named : Option Command) (command : Command) (c : declared.Course) (r : Result rounds.Round End)
-    → Worded old line ts first named → named ≡ Some command → Acts old mid (command_tree old.state ts first.text command) (Ok c) (course_of mid.state)
+    → Worded old line ts first named → named ≡ Some command → Acts old mid (command_tree old.state line ts first.text command) (Ok c) (course_of mid.state)
     → Acts mid new (ready_tree mid.state c) r (round_of new.state) → Acts old new (line_tree old.state line) r (round_of new.state)
 line_ready old mid new line ts first named command c r w some a b =
-    line_runs old new line ts first named command r w some (command_ready old mid new (command_tree old.state ts first.text command) c r a b)
+    line_runs old new line ts first named command r w some (command_ready old mid new (command_tree old.state line ts first.text command) c r a b)
 
 pub line_stops : (old new : Spot) (line : List ℕ) (ts : List Token) (first : Token) (named : Option Command) (command : Command) (e : End) → Worded old line ts first named
-    → named ≡ Some command → Acts {T = declared.Course} old new (command_tree old.state ts first.text command) (Err e) (course_of new.state)
+    → named ≡ Some command → Acts {T = declared.Course} old new (command_tree old.state line ts first.text command) (Err e) (course_of new.state)
     → Acts {T = rounds.Round} old new (line_tree old.state line) (Err e) (round_of new.state)
 line_stops old new line ts first named command e w some a =
-    line_runs old new line ts first named command (Err e) w some (command_stops old new (command_tree old.state ts first.text command) e a)
+    line_runs old new line ts first named command (Err e) w some (command_stops old new (command_tree old.state line ts first.text command) e a)
 
 -- ---- a round
 

@@ -23,8 +23,8 @@ use Rattle.cms_session.specs.declared.state.Finish.{Finish}
 abbrev pub ready_tree : State → declared.Course → List Slot → Act Round
 ready_tree s c units = readied (course_of s units c)
 
-abbrev pub command_tree : State → List Token → List ℕ → Command → List Slot → Act Course
-command_tree s words word command units = run_command (machine_of s units) words word command
+abbrev pub command_tree : State → List ℕ → List Token → List ℕ → Command → List Slot → Act Course
+command_tree s line words word command units = run_command (machine_of s units) line words word command
 
 -- a line is refused
 abbrev pub refused_tree : State → Message → List Slot → Act Round

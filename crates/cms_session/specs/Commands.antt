@@ -6,7 +6,7 @@ use Rattle.cms_operands.specs.Spellings.{command_named}
 use Rattle.cms_operands.specs.declared.spelling.CommandName.{CommandName}
 use Rattle.cms_operands.specs.declared.spelling.CommandName.TheVariants as named
 use Rattle.cms_session.specs.declared.command.Command.{Command}
-use Rattle.cms_session.specs.declared.command.Command.TheVariants.{Access, Release, Format, Query, Listfile, Rename, Erase, TypeFile, State, Unknown}
+use Rattle.cms_session.specs.declared.command.Command.TheVariants.{Access, Release, Format, Query, Listfile, Rename, Erase, TypeFile, State, Execio, Unknown}
 
 -- the file type of procedures
 abbrev pub exec_word : List ℕ
@@ -29,7 +29,7 @@ command_by (Some named.Erase) = Some Erase
 command_by (Some named.TypeFile) = Some TypeFile
 command_by (Some named.State) = Some State
 command_by (Some named.Copyfile) = None
-command_by (Some named.Execio) = None
+command_by (Some named.Execio) = Some Execio
 command_by (Some named.Exec) = None
 command_by None = Some Unknown
 

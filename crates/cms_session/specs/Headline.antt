@@ -7,6 +7,7 @@ use Rattle.cms_journal.specs.declared.event.Attached.{Attached}
 use Rattle.cms_journal.specs.Causes.{Rose, Counted}
 use Rattle.cms_journal.specs.Journal.{Journal}
 use Rattle.cms_journal.specs.Told.{Told, plus, typed, script, is_over, moments}
+use Rattle.cms_fields.specs.Moments.{first_moment}
 use Rattle.cms_model.specs.Trees.{image_of}
 use Rattle.cms_model.specs.Minidisks.{State}
 use Rattle.cms_model.specs.Volumes.{disk_of, state_of}
@@ -18,7 +19,6 @@ use Rattle.cms_machine.specs.Feeds.{Fed, Over, Waits, WaitsBehind}
 use Rattle.cms_machine.specs.Points.{Leaves, HasNow, Point}
 use Rattle.cms_machine.specs.Beats.{outcomes}
 use Rattle.cms_machine.specs.Runs.{Broke, events_of}
-use Rattle.cms_search.specs.Calls.{first_moment}
 use Rattle.cms_search.specs.Machine.{Machine}
 use Rattle.cms_line.specs.ConsoleState.{ConsoleState}
 use Rattle.cms_world.specs.Seen.{Seen}

@@ -22,6 +22,7 @@ use Rattle.cms_access.specs.Access.{access}
 use Rattle.cms_access.specs.Format.{format}
 use Rattle.cms_access.specs.Query.{query}
 use Rattle.cms_access.specs.Release.{release}
+use Rattle.cms_execio.specs.Execio.{execio}
 use Rattle.cms_fileops.specs.Erase.{erase}
 use Rattle.cms_fileops.specs.Rename.{rename}
 use Rattle.cms_fileops.specs.State.{state}
@@ -40,17 +41,18 @@ abbrev pub unknown : Machine → List ℕ → Act Course
 unknown s word = Out (typed_line (message_text (M001 word))) (Done (Went s (negsuc 2)))
 
 -- the command that a line with these words asks for, the first of which is this
-abbrev pub run_command : Machine → List Token → List ℕ → Command → Act Course
-run_command s words word command.Access = access s words
-run_command s words word command.Release = release s words
-run_command s words word command.Format = format s words
-run_command s words word command.Query = query s words
-run_command s words word command.Listfile = listfile s words
-run_command s words word command.Rename = rename s words
-run_command s words word command.Erase = erase s words
-run_command s words word command.TypeFile = type_command s words
-run_command s words word command.State = state s words
-run_command s words word command.Unknown = unknown s word
+abbrev pub run_command : Machine → List ℕ → List Token → List ℕ → Command → Act Course
+run_command s line words word command.Access = access s words
+run_command s line words word command.Release = release s words
+run_command s line words word command.Format = format s words
+run_command s line words word command.Query = query s words
+run_command s line words word command.Listfile = listfile s words
+run_command s line words word command.Rename = rename s words
+run_command s line words word command.Erase = erase s words
+run_command s line words word command.TypeFile = type_command s words
+run_command s line words word command.State = state s words
+run_command s line words word command.Execio = execio s line words
+run_command s line words word command.Unknown = unknown s word
 
 -- ---- lines
 
@@ -83,19 +85,19 @@ unless_procedure true next = Done (Ended finish.NotBuilt)
 unless_procedure false next = next
 
 -- a command and its ready line; one that isn't built yet ends the session
-abbrev pub run_built : Machine → List Token → List ℕ → Option Command → Act Round
-run_built s words word None = Done (Ended finish.NotBuilt)
-run_built s words word (Some command) = bind (run_command s words word command) readied
+abbrev pub run_built : Machine → List ℕ → List Token → List ℕ → Option Command → Act Round
+run_built s line words word None = Done (Ended finish.NotBuilt)
+run_built s line words word (Some command) = bind (run_command s line words word command) readied
 
 -- a line with these words
-abbrev pub run_words : Machine → List Token → Act Round
-run_words s [] = Done (Ready s)
-run_words s (first ∷ words) =
-    unless_procedure (is_procedure s first.text) (run_built s (first ∷ words) first.text (command_of first.text))
+abbrev pub run_words : Machine → List ℕ → List Token → Act Round
+run_words s line [] = Done (Ready s)
+run_words s line (first ∷ words) =
+    unless_procedure (is_procedure s first.text) (run_built s line (first ∷ words) first.text (command_of first.text))
 
 -- a blank line and a comment do nothing
 abbrev pub run_line : Machine → List ℕ → Act Round
-run_line s line = if is_comment line then Done (Ready s) else run_words s (tokens_of line)
+run_line s line = if is_comment line then Done (Ready s) else run_words s line (tokens_of line)
 
 -- the code of a line that is refused
 abbrev pub bad_line : ℕ

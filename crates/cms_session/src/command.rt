@@ -27,6 +27,8 @@ pub enum Command {
     TypeFile,
     /// whether a file is there
     State,
+    /// that records of a file are stacked, or lines written to one
+    Execio,
     /// what no command does
     Unknown,
 }
@@ -66,7 +68,8 @@ pub fn command_of(word: &[u8]) -> Option<Command>
         Some(CommandName::Erase) => Some(Command::Erase),
         Some(CommandName::TypeFile) => Some(Command::TypeFile),
         Some(CommandName::State) => Some(Command::State),
-        Some(CommandName::Copyfile | CommandName::Execio | CommandName::Exec) => None,
+        Some(CommandName::Execio) => Some(Command::Execio),
+        Some(CommandName::Copyfile | CommandName::Exec) => None,
         None => Some(Command::Unknown),
     }
 }

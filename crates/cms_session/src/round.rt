@@ -18,6 +18,7 @@ ghost use Rattle.cms_session.specs.declared.state.Round.TheVariants.{Ready};
 use crate::command::{Command, command_of, is_comment};
 use crate::state::{Finish, Round};
 use cms_access::{run_access, run_format, run_query, run_release};
+use cms_execio::run_execio;
 use cms_fields::Moment;
 use cms_fileops::{run_erase, run_rename, run_state, run_type};
 use cms_line::{ConsoleLine, Line, LineFault, Message, Tokens, Word, tokens};
@@ -138,6 +139,7 @@ fn run_command<W: World>(
     alloc: Global,
     world: &mut W,
     state: &mut State,
+    line: &Line,
     words: &Tokens,
     word: &Word,
     command: Command,
@@ -145,7 +147,7 @@ fn run_command<W: World>(
     requires usable { IsUsable (spot W.World world.old state.old) }
     requires moment { is_moment state.old.moment ≡ true }
     ensures acts { Acts (spot W.World world.old state.old) (spot W.World world.new state.new)
-        (command_tree state.old words.now word.now command) result (course_of state.new) }
+        (command_tree state.old line.now words.now word.now command) result (course_of state.new) }
     ensures offset { state.new.offset ≡ state.old.offset }
     ensures left { state.new.left ≤ state.old.left }
 {
@@ -159,6 +161,7 @@ fn run_command<W: World>(
         Command::Erase => run_erase(alloc, world, state, words),
         Command::TypeFile => run_type(alloc, world, state, words),
         Command::State => run_state(alloc, world, state, words),
+        Command::Execio => run_execio(alloc, world, state, line, words),
         Command::Unknown => refuse_unknown(alloc, world, word),
     }
 }
@@ -190,7 +193,7 @@ fn run_line<W: World>(
     let Some(command) = command_of(first.text.bytes()) else {
         return Ok(Round::Ended(Finish::NotBuilt));
     };
-    let course = run_command(alloc, world, state, &words, &first.text, command)?;
+    let course = run_command(alloc, world, state, line, &words, &first.text, command)?;
     ready(world, state, course)
 }
 

@@ -108,9 +108,9 @@ fn run_words<W: World>(alloc: Global, world: &mut W, words: &Words) -> Status
 /// The words are those of `cms [-t TURNS] [-z ZONE] [-g NUMBER] UNIT...`, the program's name first. Where they are refused the world
 /// isn't touched; else the units are attached in their order, 1 to 16, and where one is device 191 and has a volume this is accessed as
 /// disk A, without a message. Then lines are run, each for a turn, as many as `-t` says and else 1,000,000: those of the program stack
-/// first, then those of the script. `ACCESS`, `RELEASE`, `FORMAT`, `QUERY`, `LISTFILE`, `STATE`, `TYPE`, `ERASE` and `RENAME` are built;
-/// where a device fails in them, message 105 says so. `FORMAT`, `ERASE`, `RENAME` and `LISTFILE` with `EXEC` write to the unit where it is
-/// attached so that it may be written, with the stamp of their turn in the zone of `-z`. With `-g` the script is the generated one of that
+/// first, then those of the script. `ACCESS`, `RELEASE`, `FORMAT`, `QUERY`, `LISTFILE`, `STATE`, `TYPE`, `ERASE`, `RENAME` and
+/// `EXECIO` are built; where a device fails in them, message 105 says so. `FORMAT`, `ERASE`, `RENAME`, `LISTFILE` with `EXEC` and `EXECIO`
+/// with `DISKW` write to the unit where it is attached so that it may be written, with the stamp of their turn in the zone of `-z`. With `-g` the script is the generated one of that
 /// number, and the world isn't read. A told journal must have at most 240 units.
 ///
 /// - In a world that tells its journal, with no unit and no event yet, the session is a run of the machine of minidisks as lists

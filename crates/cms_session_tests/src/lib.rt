@@ -8,16 +8,22 @@ mod disk_tests;
 #[cfg(test)]
 mod erase_tests;
 #[cfg(test)]
+mod execio_tests;
+#[cfg(test)]
 mod file_tests;
 #[cfg(test)]
 mod format_tests;
 #[cfg(test)]
 mod line_tests;
 #[cfg(test)]
+mod listing_tests;
+#[cfg(test)]
 mod option_tests;
 #[cfg(test)]
 mod session_tests;
 #[cfg(test)]
 mod status_tests;
+#[cfg(test)]
+mod transcripts;
 #[cfg(test)]
 mod unit_tests;

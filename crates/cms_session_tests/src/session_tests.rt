@@ -80,7 +80,7 @@ const ROWS: &[Row] = &[
     (
         WORD,
         &[],
-        "TYPE HELLO TEXT A\nEXECIO 1 DISKR HELLO TEXT\nTYPE HELLO TEXT A\n",
+        "TYPE HELLO TEXT A\nCOPYFILE HELLO TEXT A = = B\nTYPE HELLO TEXT A\n",
         "HELLO\nWORLD\nR;\n",
         Status::NotBuilt,
     ),

@@ -10,7 +10,10 @@ mod words;
 pub use list::Series;
 pub use numbers::{decimal, magnitude, number, written};
 pub use text::{LONGEST_TEXT, Line, ShortText, Word};
-pub use words::{BLANK, coded, ebcdic, first_word, is_keyword, without_trailing_blanks};
+pub use words::{
+    BLANK, COLON, STROKE, ZERO, coded, ebcdic, first_word, is_keyword, without_leading_blanks,
+    without_trailing_blanks,
+};
 
 /// A list of lines.
 pub type Lines = Series<Line>;

@@ -3,14 +3,12 @@ ghost use Rattle.std.specs.Prelude.{◌≡◌, ◌≤◌, ◌<◌, ◌^◌, IfOk
 ghost use Rattle.cms_text.specs.Numbers as spec;
 
 use crate::text::Word;
-use crate::words::ebcdic;
+use crate::words::{ZERO, ebcdic};
 use std::alloc::{AllocError, Global};
 
 const PLUS: u8 = 0x4E;
 
 const MINUS: u8 = 0x60;
-
-const ZERO: u8 = 0xF0;
 
 const NINE: u8 = 0xF9;
 

@@ -10,6 +10,15 @@ use std::alloc::{AllocError, Global};
 /// The blank of code page 037.
 pub const BLANK: u8 = 0x40;
 
+/// The stroke of code page 037.
+pub const STROKE: u8 = 0x61;
+
+/// The colon of code page 037.
+pub const COLON: u8 = 0x7A;
+
+/// The digit 0 of code page 037; the digits up to 9 stand behind it.
+pub const ZERO: u8 = 0xF0;
+
 /// An ASCII text in EBCDIC, without what code page 037 doesn't have.
 #[tactic(auto, unfolding(crate::specs::Texts::ebcdic))]
 pub fn ebcdic(alloc: Global, text: &str) -> Result<Vec<u8>, AllocError>
@@ -79,7 +88,8 @@ pub fn first_word(text: &[u8]) -> &[u8]
     before_blank(without_leading_blanks(text))
 }
 
-fn without_leading_blanks(text: &[u8]) -> &[u8]
+/// The text without the blanks at its beginning.
+pub fn without_leading_blanks(text: &[u8]) -> &[u8]
     ensures { result.now ≡ texts.without_leading_blanks text.now }
 {
     &text[leading_blanks(text)..]

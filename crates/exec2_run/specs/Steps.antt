@@ -5,6 +5,7 @@ use Rattle.std.specs.Ordering.{int_eq}
 use Rattle.std.specs.FinMap as finite
 use Rattle.std.specs.Global.{Global}
 use Rattle.cms_fields.specs.Steps.{◌>>=◌, ◌>>◌}
+use Rattle.cms_fields.specs.Moments.{first_moment}
 use Rattle.cms_fields.specs.declared.time.Moment.{Moment}
 use Rattle.cms_text.specs.Texts.{Text}
 use Rattle.exec2_parse.specs.Expansion.{Binding}
@@ -228,7 +229,7 @@ begun alloc lines called f = with_arguments (record {
   lines = lines;
   next = 0;
   line = 0;
-  moment = record { year = 1970; month = 1; day = 1; hour = 0; minute = 0; second = 0 };
+  moment = first_moment;
   start = at_start called f;
   variables = record { arguments = finite.empty; others = finite.empty };
   count = 0;

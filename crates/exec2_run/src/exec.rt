@@ -16,7 +16,7 @@ use crate::values::{ended, expanded_words, value, whole};
 use crate::variables::Variables;
 use crate::words::{copied, is_comment, statement_of, words_of};
 use crate::{Fault, Want};
-use cms_fields::Moment;
+use cms_fields::{FIRST_MOMENT, Moment};
 use cms_names::Name;
 use cms_text::{Line, Word, WordList, number};
 use exec2_parse::Procedure;
@@ -50,16 +50,6 @@ struct Place {
     moment: Moment,
     action: ErrorAction,
 }
-
-/// The moment of a procedure before its first statement, which no statement sees.
-const FIRST_MOMENT: Moment = Moment {
-    year: 1970,
-    month: 1,
-    day: 1,
-    hour: 0,
-    minute: 0,
-    second: 0,
-};
 
 /// A procedure that runs, a statement at a time.
 #[derive(Drop)]
@@ -102,6 +92,7 @@ impl Exec {
             lines: procedure,
             next: 0,
             line: 0,
+            // before the first statement; no statement sees it
             moment: FIRST_MOMENT,
             start: AtStart::of(alloc, called, found)?,
             variables: Variables::new(alloc),
@@ -118,6 +109,20 @@ impl Exec {
             Ok(()) => Ok(exec),
             Err(_) => Err(AllocError),
         }
+    }
+
+    /// The procedure's name.
+    pub fn name(&self) -> &Word
+        ensures { result.now ≡ self.now.start.name }
+    {
+        self.start.name()
+    }
+
+    /// The moment of the statement that ran last; 1970-01-01 00:00:00 before the first.
+    pub fn moment(&self) -> Moment
+        ensures { result ≡ self.now.moment }
+    {
+        self.moment
     }
 
     /// Finds the next line, and makes the loops' tests that are due at the moment of the last statement. It spends no turn. It answers

@@ -8,7 +8,7 @@ use crate::FileName;
 use crate::variables::Variables;
 use cms_fields::Moment;
 use cms_names::Part;
-use cms_text::{BLANK, Line, Word, ebcdic, is_keyword, written};
+use cms_text::{BLANK, COLON, Line, STROKE, Word, ZERO, ebcdic, is_keyword, written};
 use exec2_parse::Scope;
 use std::alloc::{AllocError, Global};
 
@@ -90,12 +90,6 @@ impl Predefined {
     }
 }
 
-const COLON: u8 = 0x7A;
-
-const SLASH: u8 = 0x61;
-
-const ZERO: u8 = 0xF0;
-
 /// Whether a variable is given.
 pub fn is_given(name: &[u8]) -> bool
     ensures { result ≡ spec.is_given name.now }
@@ -145,6 +139,13 @@ impl AtStart {
             rest: Word::of(alloc, without_one_blank(behind_name(called.bytes())))?,
             called: Word::of(alloc, called.bytes())?,
         })
+    }
+
+    /// The procedure's name.
+    pub fn name(&self) -> &Word
+        ensures { result.now ≡ self.now.name }
+    {
+        &self.name
     }
 }
 
@@ -295,10 +296,10 @@ fn date(alloc: Global, moment: &Moment) -> Result<Word, AllocError>
         &[
             tens(year),
             digit(year),
-            SLASH,
+            STROKE,
             tens(moment.month),
             digit(moment.month),
-            SLASH,
+            STROKE,
             tens(moment.day),
             digit(moment.day),
         ],

@@ -12,4 +12,4 @@ returns-in_err-file-clause-acts g c =
 pub returns-clause-acts : goal.returns-clause-acts
 returns-clause-acts g c =
     acts_anew _ _ c.args.last c.args.found.now _ c.of-stamp.result c.in_ok-file.file _ c.written_name.ensures c.of-stamp.ensures.value c.in_ok-file.ensures
-    (c.write_procedure.ensures.acts _ c.in_ok-file.ensures.stands)
+    (c.write_last.ensures.acts _ c.in_ok-file.ensures.stands)

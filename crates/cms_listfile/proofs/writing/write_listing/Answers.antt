@@ -1,7 +1,7 @@
 use Rattle.std.proofs.Common.{◌≡◌, ◌∙◌, true, false, Some, None, ap, sym, rules}
 use Rattle.cms_names.specs.declared.name.Name.{Name}
 use Rattle.cms_listfile.specs.Listfile.{disk_a}
-use Rattle.cms_listfile.specs.Told.{info_named}
+use Rattle.cms_files.specs.Told.{info_named}
 use Rattle.cms_listfile.proofs.Written.{writes_anew, writes_told}
 use Rattle.cms_listfile.proofs.writing.write_listing.Goals as goal
 

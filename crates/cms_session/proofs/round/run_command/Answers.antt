@@ -31,6 +31,9 @@ returns-in-TypeFile-clause-acts g c = let is = c.in-TypeFile.is in rw is c.run_t
 pub returns-in-State-clause-acts : goal.returns-in-State-clause-acts
 returns-in-State-clause-acts g c = let is = c.in-State.is in rw is c.run_state.ensures.acts
 
+pub returns-in-Execio-clause-acts : goal.returns-in-Execio-clause-acts
+returns-in-Execio-clause-acts g c = let is = c.in-Execio.is in rw is c.run_execio.ensures.acts
+
 pub returns-in-Unknown-clause-acts : goal.returns-in-Unknown-clause-acts
 returns-in-Unknown-clause-acts g c =
     let is = c.in-Unknown.is in

@@ -1,4 +1,4 @@
-use Rattle.std.proofs.Common.{rules, ◌≡◌, ◌≤◌, ◌-◌, ℕ, List, drop, Err, sym, subst, arith, length-drop, ◌++◌}
+use Rattle.std.proofs.Common.{rules, ◌≡◌, ◌≤◌, ◌-◌, ℕ, List, drop, Err, sym, ap, subst, arith, length-drop, ◌++◌}
 use Rattle.cms_records.specs.Pieces.{Takes, bytes_so_far, next_place, record_size}
 use Rattle.cms_disk.specs.Cursors.{Reading, HasLeft, IsShort}
 use Rattle.cms_disk.proofs.Taking.{takes_some}
@@ -17,18 +17,18 @@ returns-in-Ok-clause-gives c = λ image records some left.
     (subst (λ (r : Reading). 1 ≤ r.left) (sym view) some) (subst (λ (r : Reading). HasLeft image r records) (sym view) left)
 
 pub returns-in-Ok-clause-some : goal.returns-in-Ok-clause-some
-returns-in-Ok-clause-some c = λ short none.
+returns-in-Ok-clause-some c = λ short less.
     let v = c.self.inside in
     let view = c.self.view_is in
     let there : c.deref.result.now ≡ v.block.items = search rules in
     let t = subst (λ (l : List ℕ). Takes v.begun c.feed.new.self (drop v.from l) (c.in-Ok.fed.next - v.from) c.in-Ok.fed.whole) there c.in-Ok.ensures.taken in
     let d = length-drop v.from v.block.items in
-    let long = c.self.invariant.held.block in
-    let size = c.self.invariant.some in
-    let first : v.from ≡ 0 = subst (λ (r : Reading). r.from ≡ 0) (sym view) none in
+    let long = c.self.invariant.reading.held.block in
+    let from : v.from ≡ c.args.self.now.from = ap (λ (r : Reading). r.from) view in
+    let size : v.bsize ≡ c.args.self.now.bsize = ap (λ (r : Reading). r.bsize) view in
     let got = takes_some v.begun c.feed.new.self (drop v.from v.block.items) (c.in-Ok.fed.next - v.from) c.in-Ok.fed.whole (subst (λ (r : Reading). IsShort r.begun) (sym view) short)
-    (omega arith) t in
-    omega arith
+    (omega (arith, d, long, from, size, less)) t in
+    omega (arith, got, from)
 
 pub returns-in-Err-clause-altered : goal.returns-in-Err-clause-altered
 returns-in-Err-clause-altered c = λ image records some left.

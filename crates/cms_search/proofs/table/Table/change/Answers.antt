@@ -3,12 +3,13 @@ use Rattle.std.specs.Prelude.{IfSome}
 use Rattle.std.specs.Option.{IsSome}
 use Rattle.cms_world.specs.Seen.{seen}
 use Rattle.cms_edf.specs.Planning.{change_of}
+use Rattle.cms_disk.specs.Disks.{Accessed}
 use Rattle.cms_search.specs.Searches.{item_at}
-use Rattle.cms_search.specs.Seats.{ChangesSeat}
+use Rattle.cms_search.specs.Seats.{ChangesSeat, ChangesTo}
 use Rattle.cms_search.specs.Tables.{Accesses, Seated}
 use Rattle.cms_search.specs.contracts.seated.Seated as seats
 use Rattle.cms_search.specs.contracts.table.Table.{the_view}
-use Rattle.cms_search.proofs.Seats.{changes_seat, is_table_with, no_seat, read_seat}
+use Rattle.cms_search.proofs.Seats.{has_disk, is_table_with, no_seat, read_seat}
 use Rattle.cms_search.proofs.table.Table.change.Goals.{in-Some, in-None}
 use Rattle.cms_search.proofs.table.Table.change.Goals as goal
 
@@ -43,7 +44,7 @@ returns g c =
           let result = w.result-is in
           subst (λ (x : Accesses). IfSome (item_at x.seats n) (λ y. ChangesSeat (seen g.W.World c.args.world.now) (seen g.W.World c.match-index_mut.world) x new n y
           (change_of c.args.change.now) c.args.stamp.now c.match-index_mut.result)) c.self.view_is
-          (rw (world, result) (changes_seat (seen g.W.World c.args.world.now) (seen g.W.World w.change_minidisk.new.world) t new n s disk (change_of c.args.change.now) c.args.stamp.now
-          w.change_minidisk.result at same w.change_minidisk.ensures))
+          (rw (world, result) (has_disk (λ (x : Seated) (e : Accessed). ChangesTo (seen g.W.World c.args.world.now) (seen g.W.World w.change_minidisk.new.world) x.disk e
+          (change_of c.args.change.now) c.args.stamp.now w.change_minidisk.result) t new n s disk at same w.change_minidisk.ensures))
       | in-None w ↦ absurd (no_seat (item_at t.seats n) (read ∙ w.in-None.is) some)
     ]

@@ -2,13 +2,13 @@ use Rattle.std.proofs.Common.{◌≡◌, ◌∙◌, Some, sym, ap, subst}
 use Rattle.std.specs.Prelude.{IfSome}
 use Rattle.std.specs.Option.{IsSome}
 use Rattle.cms_world.specs.Seen.{seen}
+use Rattle.cms_disk.specs.Disks.{Accessed}
 use Rattle.cms_search.specs.Searches.{item_at}
-use Rattle.cms_search.specs.Putting.{UpdatesSeat, change_with}
+use Rattle.cms_search.specs.Putting.{UpdatesSeat, UpdatesTo, change_with}
 use Rattle.cms_search.specs.Tables.{Accesses, Seated}
 use Rattle.cms_search.specs.contracts.seated.Seated as seats
 use Rattle.cms_search.specs.contracts.table.Table.{the_view}
-use Rattle.cms_search.proofs.Updating.{updates_seat}
-use Rattle.cms_search.proofs.Seats.{is_table_with, no_seat, read_seat}
+use Rattle.cms_search.proofs.Seats.{has_disk, is_table_with, no_seat, read_seat}
 use Rattle.cms_search.proofs.table.Table.update.Goals.{in-Some, in-None}
 use Rattle.cms_search.proofs.table.Table.update.Goals as goal
 
@@ -43,8 +43,7 @@ returns g c = λ records stands.
           let result = w.result-is in
           subst (λ (x : Accesses). IfSome (item_at x.seats n) (λ y. UpdatesSeat (seen g.W.World c.args.world.now) (seen g.W.World c.match-index_mut.world) x new n y
           (change_with c.args.name.now c.args.update records) c.args.stamp.now c.match-index_mut.result)) c.self.view_is
-          (rw (world, result) (updates_seat (seen g.W.World c.args.world.now) (seen g.W.World w.update_minidisk.new.world) t new n s disk
-          (change_with c.args.name.now c.args.update records) c.args.stamp.now
-          w.update_minidisk.result at same (w.update_minidisk.ensures records stands)))
+          (rw (world, result) (has_disk (λ (x : Seated) (e : Accessed). UpdatesTo (seen g.W.World c.args.world.now) (seen g.W.World w.update_minidisk.new.world) x.disk e
+          (change_with c.args.name.now c.args.update records) c.args.stamp.now w.update_minidisk.result) t new n s disk at same (w.update_minidisk.ensures records stands)))
       | in-None w ↦ absurd (no_seat (item_at t.seats n) (read ∙ w.in-None.is) some)
     ]

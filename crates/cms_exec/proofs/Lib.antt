@@ -1,0 +1,4 @@
+pub mod Begun
+pub mod Named
+pub mod Starts
+pub mod Examples

@@ -1,0 +1,4 @@
+pub mod Exec
+pub mod Finding
+pub mod LawsExec
+pub mod Refused

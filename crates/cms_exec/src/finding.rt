@@ -1,0 +1,73 @@
+// Procedures that are found by their names.
+ghost use Rattle.std.specs.Prelude.{◌≡◌};
+ghost use Rattle.cms_search.specs.Machine.{Machine};
+ghost use Rattle.cms_search.specs.Shows.{Shows};
+ghost use Rattle.cms_search.specs.Tables.{shelves_of};
+ghost use Rattle.cms_exec.specs.Finding as spec;
+
+use cms_line::Token;
+use cms_names::{Name, Part};
+use cms_operands::{ReadMode, coded, given};
+use cms_search::{Found, Table};
+use exec2_run::FileName;
+
+/// The type of a procedure's file.
+pub fn exec_kind() -> Part
+    ensures { result ≡ spec.exec_kind }
+{
+    Part::read(&coded(b"EXEC")).unwrap()
+}
+
+// A file that was found, with its letter and its mode number.
+fn file_found(table: &Table, name: Name, found: Found) -> Option<FileName>
+    ensures { result ≡ spec.file_found (shelves_of table.now) name found }
+{
+    let Some(disk) = table.disk(found.letter) else {
+        return None;
+    };
+    if found.place >= disk.count() {
+        return None;
+    }
+    Some(FileName {
+        name,
+        letter: found.letter,
+        number: disk.info(found.place).number,
+    })
+}
+
+/// The procedure of a name, the first that is found over all disks; none exactly where none is found.
+pub fn find_procedure(table: &Table, file: Part) -> Option<FileName>
+    ensures { (s : Machine) → Shows table.now s → result ≡ spec.procedure_named s file }
+{
+    let name = Name {
+        file,
+        kind: exec_kind(),
+    };
+    match table.find_read(&name, &ReadMode::Any) {
+        Ok(found) => file_found(table, name, found),
+        Err(_) => None,
+    }
+}
+
+// The first word, where it is a valid file name.
+fn first_name(words: &[Token]) -> Option<Part>
+    ensures { result ≡ spec.first_name words.now }
+{
+    match given(words, 0) {
+        Some(text) => match Part::read(text) {
+            Ok(file) => Some(file),
+            Err(_) => None,
+        },
+        None => None,
+    }
+}
+
+/// The procedure that a line's first word names; none exactly where that is no valid file name, or no such procedure is found.
+pub fn find_called(table: &Table, words: &[Token]) -> Option<FileName>
+    ensures { (s : Machine) → Shows table.now s → result ≡ spec.called_by s words.now }
+{
+    match first_name(words) {
+        Some(file) => find_procedure(table, file),
+        None => None,
+    }
+}

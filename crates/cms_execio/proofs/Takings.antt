@@ -1,0 +1,378 @@
+-- DISKR: records are taken as they are handed out, and their lines are stacked together.
+use Rattle.std.proofs.Common.{◌≡◌, ◌⊎◌, ◌+◌, ◌-◌, ◌<◌, ◌≤◌, ◌∙◌, Bool, false, ℕ, zero, suc, negsuc, List, [], ◌∷◌, ◌++◌, length, drop, take, map, min, true, Option, Some, None, Result, Ok, Err, inl, inr, pos, refl, sym, ap, subst, slice_get, arith}
+use Rattle.std.specs.Prelude.{◌==◌, IfErr, IfOk, nat_lt}
+use Rattle.std.proofs.Math.Seq.{drop-nil, take-append_seam}
+use Rattle.std.proofs.lemmas.Bool.{cases_Bool, ltb-true, ltb-false, ne_eqb}
+use Rattle.std.proofs.lemmas.List.{drop-append-le, drop-take, drop_all, length-append, map-append}
+use Rattle.cms_journal.specs.Causes.{Rose}
+use Rattle.cms_journal.specs.Told.{Told}
+use Rattle.cms_fields.specs.Steps.{◌>>=◌}
+use Rattle.cms_model.specs.Changes.{file_named}
+use Rattle.cms_model.specs.LawsUpdates.{now}
+use Rattle.cms_model.specs.Minidisks.{File, Minidisk, Volume}
+use Rattle.cms_machine.specs.Acts.{Act, Done, saying, typed_line}
+use Rattle.cms_machine.specs.Runs.{Ran}
+use Rattle.cms_machine.specs.Slots.{Slot, Settled}
+use Rattle.cms_machine.specs.Steps.{Outcome}
+use Rattle.cms_machine.proofs.Join.{ran_none}
+use Rattle.cms_disk.specs.Cursors.{Reading, SameFile, text_of}
+use Rattle.cms_disk.specs.declared.fault.DiskFault.TheVariants as failed
+use Rattle.cms_line.specs.Messages.{message_text}
+use Rattle.cms_line.specs.declared.message.Message.TheVariants.{M105}
+use Rattle.cms_line.specs.declared.token.Token.{Token}
+use Rattle.cms_search.specs.Calls.{Acts, Comes, IsLater, Spot, course_of, machine_of, refusal_tree, said}
+use Rattle.cms_search.specs.Calls as calls
+use Rattle.cms_search.specs.Machine.{Course, Machine, Places, Went, letter_at}
+use Rattle.cms_search.specs.Refusing.{device_fault}
+use Rattle.cms_search.specs.Releasing.{vdev_of}
+use Rattle.cms_search.specs.Searches.{look_up, shelves_in}
+use Rattle.cms_search.specs.Shows.{Shows}
+use Rattle.cms_search.specs.Stepping.{handed, reading}
+use Rattle.cms_search.specs.Telling.{device_text}
+use Rattle.cms_search.specs.declared.fault.SearchFault.{SearchFault}
+use Rattle.cms_search.specs.declared.fault.SearchFault.TheVariants as why
+use Rattle.cms_search.specs.declared.search.Found.{Found}
+use Rattle.cms_search.specs.declared.state.Course as declared
+use Rattle.cms_search.specs.declared.state.Course.TheVariants as course
+use Rattle.cms_search.specs.declared.state.End.{End}
+use Rattle.cms_search.specs.declared.state.End.TheVariants.{Edge, Memory}
+use Rattle.cms_search.specs.declared.state.State.{State}
+use Rattle.cms_search.proofs.Acts.{acts_after, acts_done, acts_same, acts_stop, comes_in, comes_same, comes_then, cut_off, later_then, no_memory, rose_from, usable_later}
+use Rattle.cms_search.proofs.Handing.{AreAmong, Handed, Hands, IsOpen, IsRead, Reads, acts_never, handed_more, handed_none, handed_past, left_long, narrowed, never_altered, only, passes_read, read_failed, read_wanted, silent, silent_each, silent_one}
+use Rattle.cms_search.proofs.Meeting.{holds_shows, letter_is, meets_at}
+use Rattle.cms_search.proofs.Staying.{acts_refused, acts_stayed}
+use Rattle.cms_world.specs.Seen.{Seen}
+use Rattle.cms_files.specs.Files.{UnitFile, file_on, file_read, on_found, search_code, search_message}
+use Rattle.cms_files.specs.Opening.{IsOpened}
+use Rattle.cms_files.specs.Stacking.{stacking}
+use Rattle.cms_files.specs.declared.identifier.FileInput.{FileInput}
+use Rattle.cms_files.specs.declared.opening.OpenFile.{OpenFile}
+use Rattle.cms_files.proofs.Found.{found_held}
+use Rattle.cms_files.proofs.OpenedFiles.{opened_device, opened_reads}
+use Rattle.cms_execio.specs.Passing.{IsPast}
+use Rattle.cms_execio.specs.Reading.{code_of_taken, disk_read, if_good, in_front, line_of_nth, lines_taken, places_behind, read_done, read_found, read_on, read_taken, silently, stack_read, taken_of}
+use Rattle.cms_execio.specs.Records.{stacked_line}
+use Rattle.cms_execio.specs.declared.line.ReadLine.{ReadLine}
+
+-- ---- how far it has come
+
+line_added : (strips : Bool) (front : ℕ) (records : List (List ℕ)) (text : List ℕ) → map (stacked_line strips) (drop front (records ++ text ∷ []))
+    ≡ map (stacked_line strips) (drop front records) ++ line_of_nth strips front (length records) text
+line_added strips front records text = elim (cases_Bool (nat_lt (length records) front)) [
+  | inl less ↦
+      let low = ltb-true (length records) front less in
+      let long : length (records ++ text ∷ []) ≡ length records + 1 = length-append records (text ∷ []) in
+      let all : drop front (records ++ text ∷ []) ≡ [] = drop_all front (records ++ text ∷ []) (omega arith) in
+      let some : drop front records ≡ [] = drop_all front records (omega arith) in
+      rw (all, some, less) refl
+  | inr high ↦
+      let low : front ≤ length records = ltb-false (length records) front high in
+      rw high (ap (map (stacked_line strips)) (drop-append-le front records (text ∷ []) low) ∙ map-append (stacked_line strips) (drop front records) (text ∷ []))
+]
+
+-- so many records were handed out, and the lines of those that are stacked are kept
+pub record TakenSoFar (line : ReadLine) (front : ℕ) (before now : Seen) (first c : Reading) (n : ℕ) (lines : List (List ℕ)) : Type 0 where
+  pub handed : Handed (silent {R = Course}) before now first c
+  pub long : length handed.front ≡ n
+  pub lines_are : lines ≡ map (stacked_line line.style.strips) (drop front handed.front)
+  pub left : n + c.left ≡ first.left
+  pub read : IsRead before now
+
+pub taken_none : (line : ReadLine) (front : ℕ) (s : Seen) (c : Reading) (lines : List (List ℕ)) → IsOpen s.told c → lines ≡ [] → TakenSoFar line front s s c c 0 lines
+unfolding handed_none
+taken_none line front s c lines has none = record {
+  handed = handed_none silent silent_one s c silent_each has;
+  long = refl;
+  lines_are = none ∙ sym (ap (map (stacked_line line.style.strips)) (drop-nil front));
+  left = omega arith;
+  read = record { told = refl; faults = omega arith; edges = refl };
+}
+
+-- none was handed out yet, and some were passed over
+pub taken_past : (line : ReadLine) (front n : ℕ) (s : Seen) (first c : Reading) (lines : List (List ℕ)) → IsOpen s.told first → IsPast n first c → n ≤ front → lines ≡ []
+    → TakenSoFar line front s s first c n lines
+taken_past line front n s first c lines has past low none = begun past.some
+  where
+    begun : ((n ≡ 0) × (c ≡ first)) ⊎ ((size : ℕ) × (first.begun.fixed ≡ Some size)) → TakenSoFar line front s s first c n lines
+    begun (inl same) =
+        let zero = same.0 in
+        let is = same.1 in
+        rw (zero, is) (taken_none line front s first lines has none)
+    begun (inr fixed) =
+        let left = past.left in
+        let h = handed_past s first c fixed.0 n fixed.1 (omega arith) past.rest past.file has in
+        let long = h.1 in
+        record {
+          handed = h.0;
+          long = long;
+          lines_are = none ∙ sym (ap (map (stacked_line line.style.strips)) (drop_all front h.0.front (omega arith)));
+          left = left;
+          read = record { told = refl; faults = omega arith; edges = refl };
+        }
+
+pub read_then : (a b c : Seen) → IsRead a b → IsRead b c → IsRead a c
+read_then a b c x y = record { told = y.told ∙ x.told; faults = (let f = x.faults in let g = y.faults in omega arith); edges = y.edges ∙ x.edges }
+
+-- a further record was handed out
+pub taken_more : (line : ReadLine) (front : ℕ) (before mid now' : Seen) (first c d : Reading) (n : ℕ) (lines lines' : List (List ℕ)) (text : List ℕ)
+    → TakenSoFar line front before mid first c n lines → Hands mid.told c d (Ok true) → SameFile c d → c.left ≡ d.left + 1 → IsRead mid now' → text ≡ text_of d
+    → lines' ≡ lines ++ line_of_nth line.style.strips front n text → TakenSoFar line front before now' first d (n + 1) lines'
+unfolding handed_more
+taken_more line front before mid now' first c d n lines lines' text so hands same left read is added =
+    let records = so.handed.front in
+    let strips = line.style.strips in
+    let so_left = so.left in
+    let so_long = so.long in
+    let long : length (records ++ text_of d ∷ []) ≡ n + 1 = length-append records (text_of d ∷ []) ∙ (omega arith) in
+    record {
+      handed = handed_more silent silent_one before mid now' first c d silent_each so.handed hands same (passes_read mid now' read)
+          (λ next p journal. subst (λ (told : Told). Ran p (record p { journal = told }) next next) (journal ∙ sym read.told) (ran_none p next));
+      long = long;
+      lines_are = added ∙ (ap (λ (l : List (List ℕ)). l ++ line_of_nth strips front n text) so.lines_are
+          ∙ (ap (λ (k : ℕ). map (stacked_line strips) (drop front records) ++ line_of_nth strips front k text) (sym so.long)
+          ∙ (ap (λ (t : List ℕ). map (stacked_line strips) (drop front records) ++ line_of_nth strips front (length records) t) is ∙ sym (line_added strips front records (text_of d)))));
+      left = omega arith;
+      read = read_then before mid now' so.read read;
+    }
+
+-- ---- how it ends
+
+pub taken_few : (count : Option ℕ) (left : ℕ) → taken_of count left ≤ left
+taken_few None left = omega arith
+taken_few (Some n) left = omega arith
+
+-- there are some, so the file is read
+some_read : (s : Machine) (line : ReadLine) (x : UnitFile) (vdev front taken t : ℕ) → taken ≡ suc t
+    → read_taken s line x vdev front taken
+    ≡ reading silently x.unit x.file (front + taken) (stack_read s line vdev front taken (lines_taken line.style.strips front taken x.file.records)) (device_fault s vdev)
+some_read s line x vdev front taken t some =
+    let no : (taken == 0) ≡ false = ne_eqb taken 0 (λ (none : taken ≡ 0). omega (arith, none, some)) in
+    rw no refl
+
+module _ (old : Spot) (words : List Token) (n : ℕ) (line : ReadLine) (file : OpenFile) (o : IsOpened old.state.table n line.range.input.name file) (front taken : ℕ)
+    (front_is : front ≡ in_front old.state.places line.range file.vdev) (taken_is : taken ≡ taken_of line.range.count (file.count - front)) where
+  abbrev pub tree : List Slot → Act Course
+  tree units = read_on (machine_of old.state units) words line n
+
+  abbrev wanted : File → ℕ
+  wanted f = min (front + taken) (length f.records)
+
+  -- behind all of them
+  abbrev pub rest : List (List ℕ) → List Slot → Act Course
+  rest lines units = stack_read (machine_of old.state units) line file.vdev front taken lines
+
+  abbrev then' : List Slot → File → Outcome → Act Course
+  then' units f = handed silently f (wanted f) (rest (lines_taken line.style.strips front taken f.records) units) (device_fault (machine_of old.state units) file.vdev)
+
+  few : taken ≤ file.count - front
+  few = subst (λ (k : ℕ). k ≤ file.count - front) (sym taken_is) (taken_few line.range.count (file.count - front))
+
+  -- so many may be passed over
+  pub front_left : 1 ≤ taken → front ≤ file.cursor.left
+  front_left some =
+      let low = few in
+      let count = o.count in
+      omega arith
+
+  found_so : (units : List Slot) (x : UnitFile) → vdev_of (machine_of old.state units) x.unit ≡ file.vdev → length x.file.records ≡ file.count
+      → read_found (machine_of old.state units) line x ≡ read_taken (machine_of old.state units) line x file.vdev front taken
+  found_so units x vdev long =
+      let s = machine_of old.state units in
+      let places = old.state.places in
+      ap (λ (v : ℕ). read_taken s line x v (in_front places line.range v) (taken_of line.range.count (length x.file.records - in_front places line.range v))) vdev
+      ∙ (ap (λ (k : ℕ). read_taken s line x file.vdev k (taken_of line.range.count (length x.file.records - k))) (sym front_is)
+      ∙ (ap (λ (k : ℕ). read_taken s line x file.vdev front (taken_of line.range.count (k - front))) long
+      ∙ ap (λ (k : ℕ). read_taken s line x file.vdev front k) (sym taken_is)))
+
+  on_file : (units : List Slot) (m : Minidisk) (f : File) → slice_get units o.seat.letter.unit ≡ Some (Settled (Volume m)) → file_named line.range.input.name m.files ≡ Some f
+      → length f.records ≡ file.count → tree units ≡ read_taken (machine_of old.state units) line (record { unit = o.seat.letter.unit; file = f }) file.vdev front taken
+  on_file units m f slot named long =
+      let letter = letter_is old.state.table n o.seat o.there in
+      rw (letter, slot, named)
+      (found_so units (record { unit = o.seat.letter.unit; file = f }) (opened_device old.state units n line.range.input.name file o) long)
+
+  reads : (t : ℕ) → taken ≡ suc t → Reads old file.cursor tree o.seat.letter.unit wanted then'
+  reads t some = opened_reads old n line.range.input.name file o tree wanted then' (λ f. omega arith)
+      (λ units m f slot named long.
+      let s = machine_of old.state units in
+      let u = o.seat.letter.unit in
+      let low = few in
+      let all : front + taken ≡ min (front + taken) (length f.records) = omega arith in
+      on_file units m f slot named long
+      ∙ (some_read s line (record { unit = u; file = f }) file.vdev front taken t some
+      ∙ ap (λ (k : ℕ). reading silently u f k (rest (lines_taken line.style.strips front taken f.records) units) (device_fault s file.vdev)) all))
+
+  -- no record is wanted
+  pub taken_nothing : taken ≡ 0 → Comes old old tree (rest [])
+  taken_nothing none = comes_same old tree (rest [])
+      (λ units h.
+      let k = meets_at old units n o.seat o.there h in
+      let m = k.met.minidisk in
+      let image = now k.journal o.seat.disk.volume.unit in
+      let f = o.opens image m k.met.is.stands in
+      let s = machine_of old.state units in
+      let x : UnitFile = record { unit = o.seat.letter.unit; file = f.0 } in
+      on_file units m f.0 k.met.slot f.1 (left_long image file.cursor f.0.records f.2 ∙ sym o.count)
+      ∙ (ap (λ (k : ℕ). read_taken s line x file.vdev front k) none ∙ ap (λ (k : ℕ). stack_read s line file.vdev front k []) (sym none)))
+
+  among : (mid : Spot) (c : Reading) (k : ℕ) (lines : List (List ℕ)) (so : TakenSoFar line front old.world mid.world file.cursor c k lines) → k ≤ front + taken
+      → AreAmong wanted so.handed.front
+  among mid c k lines so low f more is =
+      let long : length f.records ≡ length so.handed.front + length more = ap length is ∙ length-append so.handed.front more in
+      let so_long = so.long in
+      omega arith
+
+  -- a further record is there
+  pub taken_left : 1 ≤ taken → (mid : Spot) (c : Reading) (k : ℕ) (lines : List (List ℕ)) → TakenSoFar line front old.world mid.world file.cursor c k lines → k < front + taken → 1 ≤ c.left
+  taken_left some mid c k lines so less =
+      let low = few in
+      let left = so.left in
+      let count = o.count in
+      omega arith
+
+  -- all that are wanted were handed out
+  pub taken_all : (t : ℕ) → taken ≡ suc t → (mid : Spot) (c : Reading) (k : ℕ) (lines : List (List ℕ)) → TakenSoFar line front old.world mid.world file.cursor c k lines → k ≡ front + taken
+      → mid.state ≡ old.state → Comes old mid tree (rest lines)
+  taken_all t some mid c k lines so all same =
+      let so_long : length so.handed.front ≡ front + taken = so.long ∙ all in
+      read_wanted silent old mid mid file.cursor c tree o.seat.letter.unit wanted (only (rest lines) then') (rest lines)
+      (narrowed old mid file.cursor c tree o.seat.letter.unit wanted then' (rest lines) (reads t some) so.handed
+      (λ units f more is. ap (λ (l : List (List ℕ)). rest l units)
+      (ap (map (stacked_line line.style.strips)) (sym (drop-take front taken f.records)
+      ∙ ap (drop front) (ap (λ (k : ℕ). take k f.records) (sym so_long) ∙ (ap (take (length so.handed.front)) is ∙ take-append_seam so.handed.front more)))
+      ∙ sym so.lines_are)))
+      so.handed (record { told = refl; faults = omega arith; edges = refl }) same
+      (λ f more is.
+      let long : length f.records ≡ length so.handed.front + length more = ap length is ∙ length-append so.handed.front more in
+      omega arith)
+      (λ units f. refl)
+
+  -- the device failed, which is typed
+  pub taken_fault : (t : ℕ) → taken ≡ suc t → (mid read' new : Spot) (c : Reading) (k : ℕ) (lines : List (List ℕ)) (r : Result declared.Course End)
+      → TakenSoFar line front old.world mid.world file.cursor c k lines → k ≤ front + taken
+      → IsRead mid.world read'.world → Rose mid.world.faults read'.world.faults → read'.state ≡ old.state
+      → calls.Does read'.world new.world (saying (typed_line (message_text (M105 (device_text file.vdev))))) r said → IfOk r (λ x. x ≡ course.Went (pos 100)) → new.state ≡ read'.state
+      → Acts old new tree r (course_of new.state)
+  taken_fault t some mid read' new c k lines r so low read rose same does went kept =
+      read_failed silent old mid read' new file.cursor c tree o.seat.letter.unit wanted file.vdev then' r (reads t some) so.handed read rose same (among mid c k lines so low)
+      (λ units f j. ap (λ (s : State). refusal_tree s (M105 (device_text file.vdev)) (pos 100) units) (sym same)) does went kept
+
+  -- the bytes turned out to be no records: never where the journal is told
+  pub taken_altered : (t : ℕ) → taken ≡ suc t → (mid read' new : Spot) (c d : Reading) (k : ℕ) (lines : List (List ℕ)) (r : Result declared.Course End)
+      → TakenSoFar line front old.world mid.world file.cursor c k lines → Hands mid.world.told c d (Err failed.Altered) → IsRead mid.world read'.world
+      → IsLater read'.world new.world → new.state ≡ old.state → IfErr r (λ e. e ≡ Edge → Rose read'.world.edges new.world.edges) → Acts old new tree r (course_of new.state)
+  taken_altered t some mid read' new c d k lines r so hands read later same cause =
+      let to_read = later_then old.world mid.world read'.world so.handed.passes.later (passes_read mid.world read'.world read).later in
+      let all = later_then old.world read'.world new.world to_read later in
+      acts_never old new tree r (course_of new.state)
+      (never_altered silent old mid file.cursor c d tree o.seat.letter.unit wanted then' (reads t some) so.handed hands) all
+      (usable_later old new all (ap (λ (s : State). s.table) same)) (caused r cause)
+    where
+      caused : (x : Result declared.Course End) → IfErr x (λ e. e ≡ Edge → Rose read'.world.edges new.world.edges) → IfErr x (λ e. e ≡ Edge → Rose old.world.edges new.world.edges)
+      caused (Ok y) h = tt
+      caused (Err e) h = λ edge. rose_from old.world.edges read'.world.edges new.world.edges
+          (later_then old.world mid.world read'.world so.handed.passes.later (passes_read mid.world read'.world read).later).edges (h edge)
+
+  -- there was no memory to keep a line
+  pub taken_starved : (mid new : Spot) (c : Reading) (k : ℕ) (lines : List (List ℕ)) → TakenSoFar line front old.world mid.world file.cursor c k lines
+      → IsRead mid.world new.world → Acts {T = declared.Course} old new tree (Err Memory) (course_of new.state)
+  taken_starved mid new c k lines so read =
+      let all = read_then old.world mid.world new.world so.read read in
+      let edges = all.edges in
+      cut_off old new tree (course_of new.state) all.told all.faults (omega arith)
+
+-- ---- the file that is read
+
+-- the machine that is held finds no file
+pub missing_on : (old new : Spot) (words : List Token) (n : ℕ) (line : ReadLine) (r : Result declared.Course End)
+    → ((s : Machine) → Shows old.state.table s → file_on s line.range.input.name (letter_at s n) ≡ Err why.NotFound)
+    → calls.Does old.world new.world (saying (typed_line (message_text (search_message words 3 why.NotFound)))) r said → IfOk r (λ c. c ≡ course.Went (pos (search_code why.NotFound)))
+    → new.state ≡ old.state → Acts old new (λ units. read_on (machine_of old.state units) words line n) r (course_of new.state)
+missing_on old new words n line r missing does went same =
+    acts_refused old new (λ units. read_on (machine_of old.state units) words line n) (search_message words 3 why.NotFound) (pos (search_code why.NotFound)) r does went same
+    (λ units h. (let e = missing (machine_of old.state units) (holds_shows old units h) in rw e refl))
+
+-- what a search finds on the machine that is held
+searched_so : (s : Machine) (input : FileInput) (r : Result Found SearchFault) → look_up (shelves_in s) input.mode input.name ≡ r
+    → file_read s input ≡ (r >>= (λ found. file_on s input.name (letter_at s found.letter)))
+searched_so s input r is = ap (λ (x : Result Found SearchFault). x >>= (λ found. file_on s input.name (letter_at s found.letter))) is
+
+pub found_acts : (old new : Spot) (words : List Token) (line : ReadLine) (found : Result Found SearchFault) (x : Found) (r : Result declared.Course End)
+    → ((s : Machine) → Shows old.state.table s → found ≡ look_up (shelves_in s) line.range.input.mode line.range.input.name) → found ≡ Ok x
+    → Acts old new (λ units. read_on (machine_of old.state units) words line x.letter) r (course_of new.state)
+    → Acts old new (λ units. disk_read (machine_of old.state units) words line) r (course_of new.state)
+found_acts old new words line found x r finds is acts =
+    acts_same old new (λ units. disk_read (machine_of old.state units) words line) (λ units. read_on (machine_of old.state units) words line x.letter) r (course_of new.state)
+    (λ units h.
+    let s = machine_of old.state units in
+    let there = found_held old (λ m. look_up (shelves_in m) line.range.input.mode line.range.input.name) found finds units h ∙ is in
+    ap (on_found s words 3 (read_found s line)) (searched_so s line.range.input (Ok x) there)) acts
+
+pub unfound_acts : (old new : Spot) (words : List Token) (line : ReadLine) (found : Result Found SearchFault) (fault : SearchFault) (r : Result declared.Course End)
+    → ((s : Machine) → Shows old.state.table s → found ≡ look_up (shelves_in s) line.range.input.mode line.range.input.name) → found ≡ Err fault
+    → calls.Does old.world new.world (saying (typed_line (message_text (search_message words 3 fault)))) r said → IfOk r (λ c. c ≡ course.Went (pos (search_code fault)))
+    → new.state ≡ old.state → Acts old new (λ units. disk_read (machine_of old.state units) words line) r (course_of new.state)
+unfound_acts old new words line found fault r finds is does went same =
+    acts_refused old new (λ units. disk_read (machine_of old.state units) words line) (search_message words 3 fault) (pos (search_code fault)) r does went same
+    (λ units h.
+    let s = machine_of old.state units in
+    let there = found_held old (λ m. look_up (shelves_in m) line.range.input.mode line.range.input.name) found finds units h ∙ is in
+    ap (on_found s words 3 (read_found s line)) (searched_so s line.range.input (Err fault) there))
+
+-- ---- the lines are stacked
+
+-- another code than 0 ends the command
+ends_so : (next : Machine → Act Course) (s : State) (units : List Slot) (x : declared.Course) → (x ≡ course.Went (pos 0) → ⊥) → if_good next (course_of s units x) ≡ Done (course_of s units x)
+ends_so next s units (course.Went (pos zero)) other = absurd (other refl)
+ends_so next s units (course.Went (pos (suc k))) other = refl
+ends_so next s units (course.Went (negsuc k)) other = refl
+ends_so next s units course.OutOfTurns other = refl
+
+module _ (old mid : Spot) (line : ReadLine) (vdev front taken : ℕ) (lines : List (List ℕ)) where
+  abbrev stack_tree : List Slot → Act Course
+  stack_tree units = stacking (machine_of old.state units) line.style.end lines
+
+  abbrev read_tree : List Slot → Act Course
+  read_tree units = stack_read (machine_of old.state units) line vdev front taken lines
+
+  abbrev next : Machine → Act Course
+  next = read_done line vdev front taken
+
+  abbrev with_places : Places → Spot
+  with_places p = record { world = mid.world; state = record mid.state { places = p } }
+
+  came : (x : declared.Course) → Acts old mid stack_tree (Ok x) (course_of mid.state) → Comes old mid read_tree (λ units. if_good next (course_of mid.state units x))
+  came x a = comes_in {T = declared.Course} old mid stack_tree (if_good next) x (course_of mid.state) a
+
+  -- not all of them had room
+  pub stacked_ends : (x : declared.Course) → Acts old mid stack_tree (Ok x) (course_of mid.state) → (x ≡ course.Went (pos 0) → ⊥) → Acts old mid read_tree (Ok x) (course_of mid.state)
+  stacked_ends x a other =
+      acts_done old mid read_tree x (course_of mid.state)
+      (comes_then old mid mid read_tree (λ units. if_good next (course_of mid.state units x)) (λ units. Done (course_of mid.state units x)) (came x a)
+      (comes_same mid (λ units. if_good next (course_of mid.state units x)) (λ units. Done (course_of mid.state units x)) (λ units h. ends_so next mid.state units x other)))
+
+  went : (x : declared.Course) → Acts old mid stack_tree (Ok x) (course_of mid.state) → x ≡ course.Went (pos 0) → Comes old mid read_tree (λ units. next (machine_of mid.state units))
+  went x a is = subst (λ (y : declared.Course). Comes old mid read_tree (λ units. if_good next (course_of mid.state units y))) is (came x a)
+
+  pub stacked_done : (x : declared.Course) (p : Places) (y : declared.Course) → Acts old mid stack_tree (Ok x) (course_of mid.state) → x ≡ course.Went (pos 0)
+      → p ≡ places_behind line vdev (front + taken) mid.state.places → y ≡ course.Went (pos (code_of_taken line.range.count taken))
+      → Acts old (with_places p) read_tree (Ok y) (course_of (with_places p).state)
+  stacked_done x p y a is places codes =
+      acts_after old mid (with_places p) read_tree (λ units. next (machine_of mid.state units)) (Ok y) (course_of (with_places p).state) (went x a is)
+      (acts_stayed mid (with_places p) (λ units. next (machine_of mid.state units)) y (course_of (with_places p).state) refl refl
+      (λ units h. (
+        h,
+        ap (λ (q : Places). Done (Went (record (machine_of mid.state units) { places = q }) (pos (code_of_taken line.range.count taken)))) (sym places)
+            ∙ ap (λ (z : declared.Course). Done (course_of (with_places p).state units z)) (sym codes),
+      ))
+      (λ usable. usable))
+
+  pub stacked_starved : (x : declared.Course) (p : Places) → Acts old mid stack_tree (Ok x) (course_of mid.state) → x ≡ course.Went (pos 0) → p ≡ mid.state.places
+      → Acts {T = declared.Course} old (with_places p) read_tree (Err Memory) (course_of (with_places p).state)
+  stacked_starved x p a is same =
+      subst (λ (q : Places). Acts {T = declared.Course} old (with_places q) read_tree (Err Memory) (course_of (with_places q).state)) (sym same)
+      (no_memory old mid read_tree (λ units. next (machine_of mid.state units)) (course_of mid.state) (went x a is))
+
+  pub stacked_stops : (e : End) → Acts {T = declared.Course} old mid stack_tree (Err e) (course_of mid.state)
+      → Acts {T = declared.Course} old mid read_tree (Err e) (course_of mid.state)
+  stacked_stops e a = acts_stop old mid stack_tree (if_good next) e (course_of mid.state) (course_of mid.state) a

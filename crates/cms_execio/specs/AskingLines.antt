@@ -1,0 +1,21 @@
+-- Lines that are asked for, as a call does it.
+use Rattle.std.specs.Prelude.{ℕ, List, []}
+use Rattle.cms_machine.specs.Acts.{Act}
+use Rattle.cms_machine.specs.Slots.{Slot}
+use Rattle.cms_search.specs.Calls.{Meaning, machine_of}
+use Rattle.cms_search.specs.Machine.{Machine}
+use Rattle.cms_search.specs.declared.state.State.{State}
+use Rattle.cms_execio.specs.Writing as writing
+use Rattle.cms_execio.specs.declared.asking.AskedLines.{AskedLines}
+use Rattle.cms_execio.specs.declared.asking.AskedLines.TheVariants.{All, Spent}
+
+abbrev pub asking_tree : State → ℕ → List Slot → Act writing.AskedLines
+asking_tree s count units = writing.asking_lines count [] (machine_of s units)
+
+-- what asking came to, with the machine that is left
+abbrev pub asked_in : Machine → AskedLines → writing.AskedLines
+asked_in s (All lines) = writing.All s lines
+asked_in s Spent = writing.Spent
+
+abbrev pub asked_lines_of : State → Meaning AskedLines writing.AskedLines
+asked_lines_of s units x = asked_in (machine_of s units) x

@@ -1,0 +1,230 @@
+// DISKR: records of a file are stacked.
+ghost use Rattle.std.specs.Prelude.{◌≡◌, ◌+◌, ◌-◌, ◌++◌, ◌<◌, ◌≤◌, ◌^◌, List, OnOk, false, pos, true};
+ghost use Rattle.cms_search.specs.declared.state.Course.TheVariants.{Went};
+ghost use Rattle.cms_line.specs.declared.token.Token.{Token};
+ghost use Rattle.cms_search.specs.Calls.{Acts, IsUsable, course_of, machine_of, spot};
+ghost use Rattle.cms_files.specs.Opening.{IsOpened};
+ghost use Rattle.cms_disk.specs.Cursors.{IsUnread};
+ghost use Rattle.cms_names.specs.declared.name.Format.TheVariants.{F};
+ghost use Rattle.cms_execio.specs.Passing.{IsPast};
+ghost use Rattle.cms_execio.specs.Reading as spec;
+
+use crate::line::ReadLine;
+use crate::place::{code_of_taken, go_on, in_front, taken_of};
+use crate::record::stacked_line;
+use cms_disk::{Cursor, DiskFault};
+use cms_files::{OpenFile, open_file, refuse_search, stack_lines};
+use cms_line::{Lines, Tokens};
+use cms_names::Format;
+use cms_search::{Course, End, Places, SearchFault, State, refuse_altered, refuse_device};
+use cms_world::World;
+use std::alloc::{AllocError, Global};
+
+// Which records are stacked.
+#[derive(Clone, Copy, Debug, PartialEq, Eq)]
+struct Span {
+    /// how many stand in front of them
+    front: u32,
+    taken: u32,
+}
+
+impl Span {
+    // The records of a file that the line says.
+    fn of(places: &Places, line: &ReadLine, file: &OpenFile) -> Span
+        ensures front { result.front ≡ spec.in_front places.now line.now.range file.now.vdev }
+        ensures taken { result.taken ≡ spec.taken_of line.now.range.count (file.now.count - result.front) }
+        ensures few { result.taken ≤ file.now.count - result.front }
+        ensures fits { result.front + result.taken < 2 ^ 32 }
+    {
+        let front = in_front(places, &line.range, file.vdev);
+        Span {
+            front,
+            taken: taken_of(line.range.count, file.count.saturating_sub(front)),
+        }
+    }
+}
+
+// Keeps the line of a record that has so many in front of it, where it isn't one in front of those that are stacked.
+fn keep_nth(
+    alloc: Global,
+    lines: &mut Lines,
+    line: &ReadLine,
+    front: u32,
+    nth: u32,
+    text: &[u8],
+) -> Result<(), AllocError>
+    ensures { OnOk result (lines.new ≡ lines.old ++ spec.line_of_nth line.now.style.strips front nth text.now) }
+{
+    if nth < front {
+        return Ok(());
+    }
+    lines.push(stacked_line(alloc, text, line.style.strips)?)?;
+    Ok(())
+}
+
+// Whether a part of the command came to code 0.
+fn went_well(course: Course) -> bool
+    ensures good { result ≡ true → course ≡ Went (pos 0) }
+    ensures other { result ≡ false → course ≡ Went (pos 0) → ⊥ }
+{
+    match course {
+        Course::Went(code) => code == 0,
+        Course::OutOfTurns => false,
+    }
+}
+
+// How the command ends, by what it was asked for and what it took.
+fn course_behind(count: Option<u32>, taken: u32) -> Course
+    ensures { result ≡ Went (pos (spec.code_of_taken count taken)) }
+{
+    Course::Went(code_of_taken(count, taken))
+}
+
+// Stacks the lines of records, all or none; reading goes on behind the records then.
+fn stack_read<W: World>(
+    alloc: Global,
+    world: &mut W,
+    state: &mut State,
+    line: &ReadLine,
+    vdev: u16,
+    span: Span,
+    lines: &Lines,
+) -> Result<Course, End>
+    requires { span.front + span.taken < 2 ^ 32 }
+    ensures acts { Acts (spot W.World world.old state.old) (spot W.World world.new state.new)
+        (λ units. spec.stack_read (machine_of state.old units) line.now vdev span.front span.taken lines.now) result (course_of state.new) }
+    ensures kept { state.new ≡ record state.old { stack = state.new.stack; places = state.new.places } }
+{
+    let course = stack_lines(alloc, world, state, line.style.end, lines)?;
+    if !went_well(course) {
+        return Ok(course);
+    }
+    go_on(
+        &mut state.places,
+        line.style.forgets,
+        vdev,
+        &line.range.input.name,
+        span.front + span.taken,
+    )?;
+    Ok(course_behind(line.range.count, span.taken))
+}
+
+// Passes over the records in front of those that are stacked, where all of the file have one length. Says how many it passed over.
+fn pass_front(cursor: &mut Cursor, format: Format, front: u32) -> u32
+    requires unread { format ≡ F → IsUnread cursor.old }
+    requires few { front ≤ cursor.old.left }
+    ensures past { IsPast result cursor.old cursor.new }
+    ensures few { result ≤ front }
+{
+    match format {
+        Format::F => {
+            cursor.skip(front);
+            front
+        }
+        Format::V => 0,
+    }
+}
+
+// Stacks some records of a file on the disk of a letter, once all of them were handed out.
+fn read_span<W: World>(
+    alloc: Global,
+    world: &mut W,
+    state: &mut State,
+    letter: u8,
+    line: &ReadLine,
+    file: OpenFile,
+    span: Span,
+) -> Result<Course, End>
+    requires usable { IsUsable (spot W.World world.old state.old) }
+    requires opened { IsOpened state.old.table letter line.now.range.input.name file }
+    requires front { span.front ≡ spec.in_front state.old.places line.now.range file.vdev }
+    requires taken { span.taken ≡ spec.taken_of line.now.range.count (file.count - span.front) }
+    requires some { 1 ≤ span.taken }
+    requires fits { span.front + span.taken < 2 ^ 32 }
+    ensures acts { (words : List Token) → Acts (spot W.World world.old state.old) (spot W.World world.new state.new)
+        (λ units. spec.read_on (machine_of state.old units) words line.now letter) result (course_of state.new) }
+    ensures kept { state.new ≡ record state.old { stack = state.new.stack; places = state.new.places } }
+{
+    let vdev = file.vdev;
+    let format = file.format;
+    let mut cursor = file.cursor;
+    let passed = pass_front(&mut cursor, format, span.front);
+    let mut lines = Lines::new(alloc);
+    for nth in passed..span.front + span.taken {
+        match cursor.next(world) {
+            Ok(_) => keep_nth(alloc, &mut lines, line, span.front, nth, cursor.text())?,
+            Err(fault) => match fault {
+                // never in a world that tells its journal
+                DiskFault::Altered => return refuse_altered(alloc, world, vdev),
+                _ => return refuse_device(alloc, world, vdev),
+            },
+        }
+    }
+    stack_read(alloc, world, state, line, vdev, span, &lines)
+}
+
+// Stacks the records of a file on the disk of a letter that the line says; where there are none of them the file isn't read.
+fn read_records<W: World>(
+    alloc: Global,
+    world: &mut W,
+    state: &mut State,
+    letter: u8,
+    line: &ReadLine,
+    file: OpenFile,
+) -> Result<Course, End>
+    requires usable { IsUsable (spot W.World world.old state.old) }
+    requires opened { IsOpened state.old.table letter line.now.range.input.name file }
+    ensures acts { (words : List Token) → Acts (spot W.World world.old state.old) (spot W.World world.new state.new)
+        (λ units. spec.read_on (machine_of state.old units) words line.now letter) result (course_of state.new) }
+    ensures kept { state.new ≡ record state.old { stack = state.new.stack; places = state.new.places } }
+{
+    let span = Span::of(&state.places, line, &file);
+    if span.taken == 0 {
+        let none = Lines::new(alloc);
+        return stack_read(alloc, world, state, line, file.vdev, span, &none);
+    }
+    read_span(alloc, world, state, letter, line, file, span)
+}
+
+// Reads the file of the line's name on the disk of a letter.
+fn read_on<W: World>(
+    alloc: Global,
+    world: &mut W,
+    state: &mut State,
+    words: &Tokens,
+    line: &ReadLine,
+    letter: u8,
+) -> Result<Course, End>
+    requires usable { IsUsable (spot W.World world.old state.old) }
+    ensures acts { Acts (spot W.World world.old state.old) (spot W.World world.new state.new)
+        (λ units. spec.read_on (machine_of state.old units) words.now line.now letter) result (course_of state.new) }
+    ensures kept { state.new ≡ record state.old { stack = state.new.stack; places = state.new.places } }
+{
+    match open_file(alloc, &state.table, letter, &line.range.input.name) {
+        Ok(file) => read_records(alloc, world, state, letter, line, file),
+        Err(SearchFault::NotFound) => {
+            refuse_search(alloc, world, words.as_slice(), 3, SearchFault::NotFound)
+        }
+        Err(_) => Err(End::Memory),
+    }
+}
+
+/// EXECIO's DISKR: records of a file are stacked, all that are wanted or none.
+pub fn disk_read<W: World>(
+    alloc: Global,
+    world: &mut W,
+    state: &mut State,
+    words: &Tokens,
+    line: &ReadLine,
+) -> Result<Course, End>
+    requires usable { IsUsable (spot W.World world.old state.old) }
+    ensures acts { Acts (spot W.World world.old state.old) (spot W.World world.new state.new)
+        (λ units. spec.disk_read (machine_of state.old units) words.now line.now) result (course_of state.new) }
+    ensures kept { state.new ≡ record state.old { stack = state.new.stack; places = state.new.places } }
+{
+    let input = &line.range.input;
+    match state.table.find_read(&input.name, &input.mode) {
+        Ok(found) => read_on(alloc, world, state, words, line, found.letter),
+        Err(fault) => refuse_search(alloc, world, words.as_slice(), 3, fault),
+    }
+}
