@@ -82,7 +82,8 @@ pub fn update_taken<W: World, U: FileUpdate<TakenFile>>(
     requires moment { is_moment state.old.moment ≡ true }
     requires takes { (f : Listed) → f.number ≤ 6 → U.takes update.now f }
     ensures acts { Acts (spot W.World world.old state.old) (spot W.World world.new state.new)
-        (λ units. updating_taken (machine_of state.old units) words.now names.now mode.now (U.tree update.now)) result (course_of state.new) }
+        (λ units. updating_taken (machine_of state.old units) words.now names.now mode.now (U.tree update.now))
+        result (course_of state.new) }
     ensures kept { state.new ≡ record state.old { table = state.new.table; places = state.new.places } }
 {
     match files_written(alloc, &state.table, names, mode) {

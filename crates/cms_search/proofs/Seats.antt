@@ -152,19 +152,40 @@ cleared_with t n s d = set_twice t.seats n (Some (seat_with s d)) None
 
 -- ---- a seat that is read and changed in its place
 
-pub read_seat : (xs : List (Option Seated)) (n : ℕ) (x : Option Seated) → IsSome (item_at xs n) → x ≡ get_or xs n x → item_at xs n ≡ x
+read_seat : (xs : List (Option Seated)) (n : ℕ) (x : Option Seated) → IsSome (item_at xs n) → x ≡ get_or xs n x → item_at xs n ≡ x
 read_seat [] n x some is = absurd (cc some)
 read_seat (y ∷ ys) zero x some is = sym is
 read_seat (y ∷ ys) (suc n) x some is = read_seat ys n x some is
 
-pub no_seat : (x : Option Seated) → x ≡ None → IsSome x → ⊥
+no_seat : (x : Option Seated) → x ≡ None → IsSome x → ⊥
 no_seat None is some = absurd (cc some)
 no_seat (Some s) is some = absurd (cc is)
 
--- so the letter has another disk
-pub has_disk : (IsSo : Seated → Accessed → Type 0) (t new : Accesses) (n : ℕ) (s : Seated) (disk : Accessed) → item_at t.seats n ≡ Some s → new ≡ table_with t n s disk → IsSo s disk
+has_disk : (IsSo : Seated → Accessed → Type 0) (t new : Accesses) (n : ℕ) (s : Seated) (disk : Accessed) → item_at t.seats n ≡ Some s → new ≡ table_with t n s disk → IsSo s disk
     → IfSome (item_at t.seats n) (λ x. HasDisk t new n (IsSo x))
 has_disk IsSo t new n s disk at is does = rw at (record { disk = disk; table = is ∙ sym (with_disk_is t n s disk at); does = does })
+
+-- the place of letter n, which is accessed, has x; the table of these parts is the one shown
+module _ (t shown : Accesses) (n : ℕ) (x : Option Seated) (view : t ≡ shown) (accessed : IsSome (item_at shown.seats n)) (value : x ≡ get_or t.seats n x) where
+  some_there : IsSome (item_at t.seats n)
+  some_there = subst (λ (y : Accesses). IsSome (item_at y.seats n)) (sym view) accessed
+
+  -- so it is no empty place
+  pub seat_lost : x ≡ None → ⊥
+  seat_lost none = no_seat (item_at t.seats n) (read_seat t.seats n x some_there value ∙ none) some_there
+
+  pub seat_at : (s has : Seated) → x ≡ Some has → s ≡ has → item_at t.seats n ≡ Some s
+  seat_at s has is same = read_seat t.seats n x some_there value ∙ is ∙ ap (λ (y : Seated). Some y) (sym same)
+
+  -- with another disk it is a table still
+  pub table_kept : (s has : Seated) (d : Accessed) → IsTable t → x ≡ Some has → s ≡ has → IsTable (table_with t n s d)
+  table_kept s has d table is same = is_table_with t n s d table (seat_at s has is same)
+
+  -- and the letter has that disk
+  pub seat_changed : (IsSo : Seated → Accessed → Type 0) (new : Accesses) (s has : Seated) (d : Accessed) → x ≡ Some has → s ≡ has → new ≡ table_with t n s d → IsSo s d
+      → IfSome (item_at shown.seats n) (λ y. HasDisk shown new n (IsSo y))
+  seat_changed IsSo new s has d is same put does =
+      subst (λ (y : Accesses). IfSome (item_at y.seats n) (λ z. HasDisk y new n (IsSo z))) view (has_disk IsSo t new n s d (seat_at s has is same) put does)
 
 -- it has the same disk where that is put in its own place
 set_same : {A : Type 0} (xs : List (Option A)) (n : ℕ) (e : A) → item_at xs n ≡ Some e → slice_set xs n (Some e) ≡ xs

@@ -40,8 +40,8 @@ pub record MayCommit (told : Told) (d : Accessed) (draft : FileDraft) : Type 0 w
   pub blocks : ForSome told (λ j. IsReadable j d)
   pub writable : ForSome told (λ j. IsWritable j.units d.volume.unit)
 
--- what making a drafted file a minidisk's said, as the change that puts the file, from the start of the draft on; d is the disk before it and
--- e the disk then
+-- what making a drafted file a minidisk's said, as the change that puts the file, from the start of the draft on; d is the disk before
+-- it and e the disk then
 pub record CommitsTo (before now : Seen) (d e : Accessed) (draft : FileDraft) (result : Result ⊤ DiskFault) : Type 0 where
   pub alters : (start : Told) (m : Minidisk) (name : Name) (shape : DraftShape) (stamp : Stamp) (records : List (List ℕ))
       → GoesOn start before.told d m draft records [] → IsDraftFor d.volume name shape stamp draft

@@ -56,7 +56,8 @@ UpdatesSeat before now t t' n s change stamp result = HasDisk t t' n (λ e. Upda
 
 -- ---- as a command's step
 
--- what an update of a minidisk came to between two spots, with the stamp of the turn's moment; the change may depend on what is on the units
+-- what an update of a minidisk came to between two spots, with the stamp of the turn's moment; the change may depend on what is on the
+-- units
 pub record UpdatesBy (old mid : Spot) (d e : Accessed) (change : List Slot → Change) (r : Result ⊤ DiskFault) : Type 0 where
   pub appends : (units : List Slot) → holds old units → (j : Journal) (m : Minidisk) → old.world.told ≡ Some j → IsMinidisk j d m
       → IsLookedAt j d → Appends old.world.told mid.world.told d e m (change units) (stamp_of old.state.moment) r

@@ -80,7 +80,8 @@ pub fn end_update<W: World>(
 ) -> Result<Changed, End>
     requires accessed { IsSome (item_at state.old.table.seats letter) }
     requires device { HasDevice state.old.table letter vdev }
-    ensures acts { (old : Spot) (s : Seated) (change : List Slot → model.Change) → Updated old (spot W.World world.old state.old) letter s change done
+    ensures acts { (old : Spot) (s : Seated) (change : List Slot → model.Change)
+        → Updated old (spot W.World world.old state.old) letter s change done
         → Acts old (spot W.World world.new state.new) (changing_by old.state letter change) result (changing_of state.new) }
     ensures kept { state.new ≡ record state.old { table = state.new.table; places = state.new.places } }
 {

@@ -9,42 +9,32 @@ use Rattle.cms_search.specs.Seats.{ChangesSeat, ChangesTo}
 use Rattle.cms_search.specs.Tables.{Accesses, Seated}
 use Rattle.cms_search.specs.contracts.seated.Seated as seats
 use Rattle.cms_search.specs.contracts.table.Table.{the_view}
-use Rattle.cms_search.proofs.Seats.{has_disk, is_table_with, no_seat, read_seat}
+use Rattle.cms_search.proofs.Seats.{seat_changed, seat_lost, table_kept}
 use Rattle.cms_search.proofs.table.Table.change.Goals.{in-Some, in-None}
 use Rattle.cms_search.proofs.table.Table.change.Goals as goal
 
 pub invariant_of-self : goal.invariant_of-self
 invariant_of-self g c =
     let t = the_view c.self.inside in
-    let some = subst (λ (x : Accesses). IsSome (item_at x.seats c.args.letter)) (sym c.self.view_is) c.requires.accessed in
-    let read = read_seat t.seats c.args.letter c.index_mut.result.now some c.index_mut.ensures.value in
     elim c.match-index_mut.branch [
       | in-Some w ↦
           let e = w.self-inside-is in
-          let s = seats.the_view w.seat.inside in
-          let at : item_at t.seats c.args.letter ≡ Some s = read ∙ w.in-Some.is ∙ ap (λ (x : Seated). Some x) (sym w.seat.view_is) in
-          rw e (is_table_with t c.args.letter s w.change_minidisk.new.disk c.self.invariant at)
-      | in-None w ↦ absurd (no_seat (item_at t.seats c.args.letter) (read ∙ w.in-None.is) some)
+          rw e (table_kept t _ c.args.letter _ c.self.view_is c.requires.accessed c.index_mut.ensures.value
+          (seats.the_view w.seat.inside) _ w.change_minidisk.new.disk c.self.invariant w.in-Some.is w.seat.view_is)
+      | in-None w ↦ absurd (seat_lost t _ c.args.letter _ c.self.view_is c.requires.accessed c.index_mut.ensures.value w.in-None.is)
     ]
 
 pub returns : goal.returns
 returns g c =
     let t = the_view c.self.inside in
-    let n = c.args.letter in
-    let some = subst (λ (x : Accesses). IsSome (item_at x.seats n)) (sym c.self.view_is) c.requires.accessed in
-    let read = read_seat t.seats n c.index_mut.result.now some c.index_mut.ensures.value in
     elim c.match-index_mut.branch [
       | in-Some w ↦
-          let s = seats.the_view w.seat.inside in
-          let disk = w.change_minidisk.new.disk in
-          let at : item_at t.seats n ≡ Some s = read ∙ w.in-Some.is ∙ ap (λ (x : Seated). Some x) (sym w.seat.view_is) in
-          let new = the_view c.match-index_mut.self-inside in
-          let same : new ≡ _ = ap the_view w.self-inside-is in
           let world = w.world-is in
           let result = w.result-is in
-          subst (λ (x : Accesses). IfSome (item_at x.seats n) (λ y. ChangesSeat (seen g.W.World c.args.world.now) (seen g.W.World c.match-index_mut.world) x new n y
-          (change_of c.args.change.now) c.args.stamp.now c.match-index_mut.result)) c.self.view_is
-          (rw (world, result) (has_disk (λ (x : Seated) (e : Accessed). ChangesTo (seen g.W.World c.args.world.now) (seen g.W.World w.change_minidisk.new.world) x.disk e
-          (change_of c.args.change.now) c.args.stamp.now w.change_minidisk.result) t new n s disk at same w.change_minidisk.ensures))
-      | in-None w ↦ absurd (no_seat (item_at t.seats n) (read ∙ w.in-None.is) some)
+          rw (world, result) (seat_changed t _ c.args.letter _ c.self.view_is c.requires.accessed c.index_mut.ensures.value
+          (λ (s : Seated) (e : Accessed). ChangesTo (seen g.W.World c.args.world.now) (seen g.W.World w.change_minidisk.new.world)
+          s.disk e (change_of c.args.change.now) c.args.stamp.now w.change_minidisk.result)
+          (the_view c.match-index_mut.self-inside) (seats.the_view w.seat.inside) _ w.change_minidisk.new.disk w.in-Some.is w.seat.view_is (ap the_view w.self-inside-is)
+          w.change_minidisk.ensures)
+      | in-None w ↦ absurd (seat_lost t _ c.args.letter _ c.self.view_is c.requires.accessed c.index_mut.ensures.value w.in-None.is)
     ]
