@@ -5,7 +5,7 @@ use Rattle.cms_ebcdic.specs.CodePage.{character_of, code_of, code_page, host_of,
 use Rattle.cms_names.specs.Modes.{letter_of, mode_number_of, mode_word_of, short_mode_of, equal_signs}
 use Rattle.cms_names.specs.Names.{is_name_character, text_of}
 use Rattle.cms_names.specs.declared.name.Format.{Format}
-use Rattle.cms_names.specs.declared.name.Format.TheVariants.{F, V}
+use Rattle.cms_names.specs.declared.name.Format.TheVariants.{F}
 use Rattle.cms_fields.specs.Moments.{stamp_of}
 use Rattle.cms_fields.specs.declared.time.Stamp.{Stamp}
 use Rattle.cms_text.specs.Numbers.{decimal_of, written, magnitude_of}

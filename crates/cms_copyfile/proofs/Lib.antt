@@ -1,6 +1,26 @@
+pub mod Beside
 pub mod Measured
 pub mod Passes
+pub mod CopyPasses
+pub mod ReadAside
+pub mod FilesAt
+pub mod FilesCopied
+pub mod FilesFound
+pub mod Joined
+pub mod CopiesFit
 pub mod NextPut
 pub mod Settings
 pub mod Shapes
 mod Examples
+pub mod Writes
+pub mod TwoFiles
+pub mod CopyInput
+pub mod OneRead
+pub mod FirstPass
+pub mod AllWritten
+pub mod OneCopied
+pub mod CopiesMeasured
+pub mod CopyShaped
+pub mod OwnFile
+pub mod JoinShaped
+pub mod Appended

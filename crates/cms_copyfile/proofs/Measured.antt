@@ -1,29 +1,43 @@
--- Records are measured one after another.
-use Rattle.std.proofs.Common.{◌≡◌, ℕ, ◌+◌, max, List, [], ◌∷◌, ◌++◌, length, refl, ap, ◌∙◌, arith}
-use Rattle.std.proofs.lemmas.List.{length-append}
+-- Records are measured, and others behind them.
+use Rattle.std.proofs.Common.{◌≡◌, ◌∙◌, ℕ, ◌+◌, max, List, [], ◌∷◌, ◌++◌, length, refl, sym, ap, arith, length-append}
 use Rattle.cms_names.specs.declared.name.Format.{Format}
 use Rattle.cms_names.specs.declared.name.Format.TheVariants.{F, V}
 use Rattle.cms_model.specs.Records.{longest, stored}
 use Rattle.cms_model.proofs.Records.{stored_append}
+use Rattle.cms_copyfile.specs.Joins.{joined}
 use Rattle.cms_copyfile.specs.Measures.{measured}
 use Rattle.cms_copyfile.specs.declared.measure.Measure.{Measure}
-
-pub longest_append : (a : List (List ℕ)) (text : List ℕ) → longest (a ++ (text ∷ [])) ≡ max (longest a) (length text)
-unfolding longest
-longest_append [] text = omega arith
-longest_append (x ∷ xs) text = let rest = longest_append xs text in omega (arith, rest)
 
 pub none_measured : (format : Format) → record { count = 0; bytes = 0; longest = 0 } ≡ measured format []
 unfolding longest
 none_measured F = refl
 none_measured V = refl
 
+longest_both : (a b : List (List ℕ)) → longest (a ++ b) ≡ max (longest a) (longest b)
+unfolding longest
+longest_both [] b = omega arith
+longest_both (x ∷ xs) b = let rest = longest_both xs b in omega (arith, rest)
+
+measured_both : (format : Format) (a b : List (List ℕ)) → joined (measured format a) (measured format b) ≡ measured format (a ++ b)
+measured_both format a b =
+    let count = length-append a b in
+    let bytes = ap length (stored_append format a b) ∙ length-append (stored format a) (stored format b) in
+    let long = longest_both a b in
+    rw (count, bytes, long) refl
+
+pub both_measured : (format : Format) (front behind : List (List ℕ)) (a b : Measure) (count bytes long : ℕ) → count ≡ a.count + b.count → bytes ≡ a.bytes + b.bytes
+    → long ≡ max a.longest b.longest → a ≡ measured format front → b ≡ measured format behind
+    → record { count = count; bytes = bytes; longest = long } ≡ measured format (front ++ behind)
+both_measured format front behind a b count bytes long count_is bytes_is long_is is is' = rw (count_is, bytes_is, long_is, is, is') (measured_both format front behind)
+
+longest_one : (text : List ℕ) → longest (text ∷ []) ≡ length text
+unfolding longest
+longest_one text = omega arith
+
 -- with one record more, in front of which so many bytes are stored
 pub one_measured : (format : Format) (records : List (List ℕ)) (text : List ℕ) (head : ℕ) (m : Measure) → m ≡ measured format records
     → length (stored format (text ∷ [])) ≡ head + length text
     → record { count = m.count + 1; bytes = m.bytes + (head + length text); longest = max m.longest (length text) } ≡ measured format (records ++ (text ∷ []))
 one_measured format records text head m is size =
-    let stored_is = ap length (stored_append format records (text ∷ [])) ∙ length-append (stored format records) (stored format (text ∷ [])) in
-    let count_is = length-append records (text ∷ []) in
-    let longest_is = longest_append records text in
-    simp (is, stored_is, count_is, longest_is, size)
+    both_measured format records (text ∷ []) m (measured format (text ∷ [])) (m.count + 1) (m.bytes + (head + length text)) (max m.longest (length text)) refl
+    (ap (λ (n : ℕ). m.bytes + n) (sym size)) (ap (max m.longest) (sym (longest_one text))) is refl

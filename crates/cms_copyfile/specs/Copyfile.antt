@@ -101,16 +101,19 @@ abbrev pub too_few : Machine → ℕ → Act Course
 too_few s count = refusal s (M121 (decimal_of count)) no_record_code
 
 -- the file that is there already isn't to be touched
-abbrev pub is_refused : Existing → Option File → Bool
+abbrev pub is_refused : {A : Type 0} → Existing → Option A → Bool
 is_refused Refused (Some f) = true
 is_refused Refused None = false
 is_refused Replaced there = false
 is_refused Extended there = false
 
+abbrev pub there_already : Machine → List Token → CopyLine → ℕ → Name → Act Stepped
+there_already s words line n name = stopping (file_exists s name (mode_shown words line.files.output.mode n))
+
 -- 024, 121, 105, 120, 107, 105
 abbrev pub copy_into : Machine → List Token → CopyLine → Copying → Act Stepped
 copy_into s words line c =
-    if is_refused line.style.existing c.there then stopping (file_exists s c.name (mode_shown words line.files.output.mode c.to))
+    if is_refused line.style.existing c.there then there_already s words line c.to c.name
     else (if nat_lt (length c.input.file.records) line.style.first then stopping (too_few s (length c.input.file.records))
     else copy_records s line c)
 
@@ -128,8 +131,12 @@ copy_told s words line c = bind (copy_into s words line c) (telling line.style.t
 abbrev pub copy_of : Machine → List Token → CopyLine → Copying → Act Stepped
 copy_of s words line c = on_step s words 1 (λ shelf. copy_told s words line c) (writable (shelves_in s) c.to)
 
+-- what is done with the file that was found; where it is copied to is seen first
+abbrev pub with_copying : List Token → CopyLine → Machine → Found → (Copying → Act Stepped) → Act Stepped
+with_copying words line s found next = on_step s words 1 (λ x. next (copying_of s line found x)) (file_at s found)
+
 abbrev pub copy_found : List Token → CopyLine → Machine → Found → Act Stepped
-copy_found words line s found = on_step s words 1 (λ x. copy_of s words line (copying_of s line found x)) (file_at s found)
+copy_found words line s found = with_copying words line s found (copy_of s words line)
 
 -- ---- the command
 

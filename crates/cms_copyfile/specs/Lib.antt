@@ -5,3 +5,12 @@ pub mod Outputs
 pub mod Telling
 pub mod Copyfile
 pub mod Puts
+pub mod Copies
+pub mod FileCopies
+pub mod Finding
+pub mod Writing
+pub mod Joins
+pub mod Joining
+pub mod Altered
+pub mod OneCopy
+pub mod Appending

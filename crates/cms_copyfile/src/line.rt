@@ -4,6 +4,7 @@ ghost use Rattle.cms_operands.specs.Choices.{AnswersLine};
 ghost use Rattle.cms_copyfile.specs.Lines as spec;
 
 use crate::record::Fold;
+use cms_fields::LONGEST_RECORD;
 use cms_files::{NameChoice, is_last, name_choice, output_name};
 use cms_line::{Token, Tokens};
 use cms_names::{Format, OutId};
@@ -16,9 +17,6 @@ use std::alloc::Global;
 
 /// The largest number that a word writes.
 const LARGEST: u32 = 999_999_999;
-
-/// The length of the longest record.
-const LONGEST: u32 = 65_535;
 
 /// What becomes of a file that has the output's name already.
 #[derive(Clone, Copy, Debug, PartialEq, Eq)]
@@ -143,7 +141,7 @@ fn options() -> [OptionForm; 16]
         flag(b"NOTRUNC ", 4),
         OptionForm::new(b"FILL    ", 2, Parameter::Fill),
         OptionForm::new(b"RECFM   ", 3, Parameter::Format),
-        OptionForm::new(b"LRECL   ", 2, Parameter::Number(1, LONGEST)),
+        OptionForm::new(b"LRECL   ", 2, Parameter::Number(1, LONGEST_RECORD)),
         flag(b"OLDDATE ", 4),
         flag(b"NEWDATE ", 4),
         flag(b"TYPE    ", 2),

@@ -1,8 +1,10 @@
 // The first pass over a file that is copied: its copies are measured.
-ghost use Rattle.std.specs.Prelude.{◌≡◌, ◌⊎◌, ◌+◌, ◌*◌, ◌^◌, ◌<◌, ◌≤◌, ◌++◌, ℕ, List, [], ◌∷◌, drop, length, map, vec_capacity, IfOk, IfErr};
+ghost use Rattle.std.specs.Prelude.{◌≡◌, ◌⊎◌, ◌+◌, ◌*◌, ◌^◌, ◌<◌, ◌≤◌, ◌++◌, ℕ, List, [], ◌∷◌, drop, length, map, take, vec_capacity, All, IfOk, IfErr, OnOk};
 ghost use Rattle.std.specs.Option.{ForSome};
 ghost use Rattle.cms_journal.specs.Journal.{HasBlocks, contents_of};
 ghost use Rattle.cms_fields.specs.Limits.{longest_record};
+ghost use Rattle.cms_names.specs.declared.name.Format.TheVariants.{V};
+ghost use Rattle.cms_model.specs.Records.{Fits};
 ghost use Rattle.cms_model.specs.Trees.{image_of};
 ghost use Rattle.cms_edf.specs.OpeningSteps.{OfImage};
 ghost use Rattle.cms_disk.specs.Cursors.{HasLeft};
@@ -58,7 +60,11 @@ pub fn measure_copies<W: World>(
     requires room { longest_fit plan.now.style.fit cursor.old.begun.longest ≤ vec_capacity buffer.old }
     ensures measured { IfOk result (λ m. OfImage (W.told world.old) cursor.old.unit (λ image. (records : List (List ℕ))
         → HasLeft image cursor.old records → m ≡ measured plan.now.format (copies_in plan.now records))) }
+    ensures records { OnOk result (OfImage (W.told world.old) cursor.old.unit (λ image. (records : List (List ℕ))
+        → HasLeft image cursor.old records → All (Fits V longest_record) (take plan.now.wanted records))) }
     ensures fault { IfErr result (λ e. (e ≡ Device) ⊎ (e ≡ Altered)) }
+    ensures never { IfErr result (λ e. e ≡ Altered → OfImage (W.told world.old) cursor.old.unit (λ image. (records : List (List ℕ))
+        → HasLeft image cursor.old records → ⊥)) }
     ensures capacity { vec_capacity buffer.old ≤ vec_capacity buffer.new }
     ensures reads { OnlyReads (seen W.World world.old) (seen W.World world.new) Device result }
 {

@@ -18,11 +18,9 @@ ghost use Rattle.cms_copyfile.specs.Puts.{ComesNext};
 use crate::measure::head_bytes;
 use cms_disk::{DiskFault, put_record};
 use cms_edf::{Draft, DraftShape};
+use cms_fields::LONGEST_RECORD;
 use cms_names::Format;
 use cms_world::World;
-
-/// The length of the longest record.
-const LONGEST: usize = 65_535;
 
 // Whether a file of this shape may have a record.
 fn fits(shape: &DraftShape, text: &[u8]) -> bool
@@ -30,7 +28,7 @@ fn fits(shape: &DraftShape, text: &[u8]) -> bool
 {
     match shape.format {
         Format::F => text.len() == shape.length as usize,
-        Format::V => (1..=LONGEST).contains(&text.len()),
+        Format::V => (1..=LONGEST_RECORD as usize).contains(&text.len()),
     }
 }
 

@@ -1,0 +1,61 @@
+-- The copies of a file were measured: whatever is on the units, they are those that were measured, and fit the format.
+use Rattle.std.proofs.Common.{◌≡◌, ℕ, List, drop, map, take, ap, subst, arith}
+use Rattle.std.specs.Prelude.{All}
+use Rattle.std.proofs.lemmas.List.{length-take, take_all}
+use Rattle.std.proofs.lemmas.List.Elements.{All-weaker}
+use Rattle.cms_edf.specs.OpeningSteps.{OfImage}
+use Rattle.cms_fields.specs.Limits.{longest_record}
+use Rattle.cms_names.specs.declared.name.Format.TheVariants.{V}
+use Rattle.cms_disk.specs.Cursors.{HasLeft}
+use Rattle.cms_model.specs.Records.{Fits}
+use Rattle.cms_search.specs.Calls.{Spot}
+use Rattle.cms_search.proofs.Meeting.{meets_at}
+use Rattle.cms_files.specs.Opening.{IsOpened}
+use Rattle.cms_files.specs.declared.opening.OpenFile.{OpenFile}
+use Rattle.cms_copyfile.specs.FileCopies.{plan_for}
+use Rattle.cms_copyfile.specs.Lines.{IsCopyStyle}
+use Rattle.cms_copyfile.specs.Measures.{measured}
+use Rattle.cms_copyfile.specs.OneCopy.{AreMeasured}
+use Rattle.cms_copyfile.specs.Outputs.{copies_in}
+use Rattle.cms_copyfile.specs.Records.{copied}
+use Rattle.cms_copyfile.specs.declared.copy.FileCopy.{FileCopy}
+use Rattle.cms_copyfile.specs.declared.line.CopyLine.{CopyLine}
+use Rattle.cms_copyfile.specs.declared.measure.Measure.{Measure}
+use Rattle.cms_copyfile.specs.declared.output.CopyPlan.{CopyPlan}
+use Rattle.cms_copyfile.specs.declared.output.FileForm.{FileForm}
+use Rattle.cms_copyfile.proofs.CopiesFit.{IsRecord, copies_fit}
+use Rattle.cms_copyfile.proofs.CopyInput.{input_at}
+
+-- those of the records that are wanted are all
+wanted_again : (plan : CopyPlan) (records : List (List ℕ)) → copies_in plan (take plan.wanted records) ≡ copies_in plan records
+wanted_again plan records =
+    let size = length-take plan.wanted records in
+    ap (λ (l : List (List ℕ)). map (copied plan.style) (drop plan.skipped l)) (take_all plan.wanted (take plan.wanted records) (omega (arith, size)))
+
+measured_so : (spot : Spot) (line : CopyLine) (c : FileCopy) (form : FileForm) (file : OpenFile) (m : Measure) → IsOpened spot.state.table c.found.letter c.input.name file → IsCopyStyle line.style
+    → OfImage spot.world.told file.cursor.unit (λ image. (records : List (List ℕ)) → HasLeft image file.cursor records → m ≡ measured form.format (copies_in (plan_for line form c) records))
+    → OfImage spot.world.told file.cursor.unit (λ image. (records : List (List ℕ)) → HasLeft image file.cursor records → All (Fits V longest_record) (take (plan_for line form c).wanted records))
+    → AreMeasured spot line c form m
+measured_so spot line c form file m opened can measures each units h x =
+    let plan = plan_for line form c in
+    let records = x.file.file.records in
+    let k = meets_at spot units c.found.letter opened.seat opened.there h in
+    let left = (input_at spot units line c file opened h x).left k.journal k.told in
+    let records' = All-weaker (Fits V longest_record) IsRecord (λ text fits. record { some = fits.0; short = fits.1 }) (take plan.wanted records) (each k.journal k.told records left) in
+    record {
+      measure = measures k.journal k.told records left;
+      each = subst (All (Fits form.format form.length)) (wanted_again plan records) (copies_fit line.style form c.input.count (take plan.wanted records) can records');
+    }
+
+-- by the plan that was made
+pub measured_as : (spot : Spot) (line : CopyLine) (c : FileCopy) (form : FileForm) (file : OpenFile) (m : Measure) (plan : CopyPlan) → plan ≡ plan_for line form c
+    → IsOpened spot.state.table c.found.letter c.input.name file → IsCopyStyle line.style
+    → OfImage spot.world.told file.cursor.unit (λ image. (records : List (List ℕ)) → HasLeft image file.cursor records → m ≡ measured plan.format (copies_in plan records))
+    → OfImage spot.world.told file.cursor.unit (λ image. (records : List (List ℕ)) → HasLeft image file.cursor records → All (Fits V longest_record) (take plan.wanted records))
+    → AreMeasured spot line c form m
+measured_as spot line c form file m plan planned opened can measures each =
+    measured_so spot line c form file m opened can
+    (subst (λ (p : CopyPlan). OfImage spot.world.told file.cursor.unit (λ image. (records : List (List ℕ)) → HasLeft image file.cursor records → m ≡ measured p.format (copies_in p records))) planned
+    measures)
+    (subst (λ (p : CopyPlan). OfImage spot.world.told file.cursor.unit (λ image. (records : List (List ℕ)) → HasLeft image file.cursor records → All (Fits V longest_record) (take p.wanted records)))
+    planned each)

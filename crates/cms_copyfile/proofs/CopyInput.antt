@@ -1,0 +1,117 @@
+-- The file that is copied, as a cursor reads it beside the output's draft.
+use Rattle.std.proofs.Common.{◌≡◌, ◌∙◌, inl, inr, ℕ, ◌≤◌, List, Option, Some, Ok, length, slice_get, sym, ap, subst}
+use Rattle.std.specs.Prelude.{None}
+use Rattle.std.proofs.lemmas.Bool.Decides.{eqb_tells}
+use Rattle.std.specs.Option.{ForSome}
+use Rattle.cms_journal.specs.Journal.{HasBlocks, Journal}
+use Rattle.cms_journal.specs.Told.{Told}
+use Rattle.cms_names.specs.declared.name.Name.{Name}
+use Rattle.cms_edf.specs.OpeningSteps.{OfImage}
+use Rattle.cms_machine.specs.Slots.{Settled, Slot}
+use Rattle.cms_machine.specs.Steps.{Offers}
+use Rattle.cms_model.specs.Changes.{file_named}
+use Rattle.cms_model.specs.LawsChanges.{AreDistinct}
+use Rattle.cms_model.specs.LawsUpdates.{now}
+use Rattle.cms_model.specs.Minidisks.{File, Minidisk, Volume}
+use Rattle.cms_model.specs.Settled.{Agree}
+use Rattle.cms_model.specs.Trees.{Image}
+use Rattle.cms_model.proofs.OpenedNames.{opened_distinct}
+use Rattle.cms_model.proofs.Results.{ok_same}
+use Rattle.cms_disk.specs.Cursors.{HasLeft}
+use Rattle.cms_disk.specs.Drafts.{WritesAside}
+use Rattle.cms_search.specs.Calls.{Spot, Usable, holds, machine_of}
+use Rattle.cms_search.specs.Searches.{item_at}
+use Rattle.cms_search.specs.Tables.{Accesses, Seated}
+use Rattle.cms_search.proofs.Handing.{open_seat}
+use Rattle.cms_search.proofs.Holding.{some_same}
+use Rattle.cms_search.proofs.Meeting.{letter_is, meets_at}
+use Rattle.cms_search.proofs.Stepped.{has_device}
+use Rattle.cms_files.specs.Files.{UnitFile, unit_file}
+use Rattle.cms_files.specs.Opening.{IsOpened}
+use Rattle.cms_files.specs.declared.opening.OpenFile.{OpenFile}
+use Rattle.cms_copyfile.specs.Copies.{StayBeside}
+use Rattle.cms_copyfile.specs.FileCopies.{IsCopying}
+use Rattle.cms_copyfile.specs.declared.copy.FileCopy.{FileCopy}
+use Rattle.cms_copyfile.specs.declared.line.CopyLine.{CopyLine}
+use Rattle.cms_copyfile.proofs.Beside.{else_same, leaves_agree}
+use Rattle.cms_copyfile.proofs.FilesAt.{named_here}
+
+-- the file of a unit
+unit_file_is : (u : ℕ) (y : Option File) (z : UnitFile) → unit_file u y ≡ Ok z → (y ≡ Some z.file) × (u ≡ z.unit)
+unit_file_is u None z is = absurd (cc is)
+unit_file_is u (Some f) z is =
+    let made : UnitFile = record { unit = u; file = f } in
+    let same : made ≡ z = ok_same made z is in
+    (ap (λ (y : UnitFile). Some y.file) same, ap (λ (y : UnitFile). y.unit) same)
+
+-- what the machine has of it, and what a cursor has left of it
+pub record InputAt (old : Spot) (units : List Slot) (file : OpenFile) (u : ℕ) (x : UnitFile) : Type 0 where
+  pub unit : u ≡ x.unit
+  pub left : OfImage old.world.told file.cursor.unit (λ image. HasLeft image file.cursor x.file.records)
+  pub offers : (wanted : ℕ) → wanted ≤ length x.file.records → Offers (slice_get units x.unit) x.file wanted
+
+pub input_at : (old : Spot) (units : List Slot) (line : CopyLine) (c : FileCopy) (file : OpenFile) → (opened : IsOpened old.state.table c.found.letter c.input.name file) → holds old units
+    → (x : IsCopying (machine_of old.state units) line c) → InputAt old units file opened.seat.letter.unit x.file
+input_at old units line c file opened h x =
+    let t = old.state.table in
+    let seat = opened.seat in
+    let k = meets_at old units c.found.letter seat opened.there h in
+    let m = k.met.minidisk in
+    let stands = k.met.is.stands in
+    let image = now k.journal seat.disk.volume.unit in
+    let o = opened.opens image m stands in
+    let letter = letter_is t c.found.letter seat opened.there in
+    let slot = k.met.slot in
+    let at : unit_file seat.letter.unit (slice_get m.files c.found.place) ≡ Ok x.file = rw (letter, slot) at x.found in
+    let f = unit_file_is seat.letter.unit (slice_get m.files c.found.place) x.file at in
+    let distinct : AreDistinct m.files =
+    subst (λ (y : Minidisk). AreDistinct y.files) (sym stands.minidisk_is) (opened_distinct seat.disk.volume.disk image stands.opened stands.opens) in
+    let named : file_named x.file.file.name m.files ≡ Some x.file.file = named_here m.files c.found.place x.file.file distinct f.0 in
+    let same : o.0 ≡ x.file.file = some_same o.0 x.file.file (sym o.1 ∙ (ap (λ (n : Name). file_named n m.files) x.input.name ∙ named)) in
+    let left : HasLeft image file.cursor x.file.file.records = subst (λ (y : File). HasLeft image file.cursor y.records) same o.2 in
+    record {
+      unit = f.1;
+      left = λ j told.
+          let one : k.journal ≡ j = some_same k.journal j (sym k.told ∙ told) in
+          subst (λ (u : ℕ). HasLeft (now j u) file.cursor x.file.file.records) (sym opened.starts.first.unit)
+          (subst (λ (i : Journal). HasLeft (now i seat.disk.volume.unit) file.cursor x.file.file.records) one left);
+      offers = λ wanted enough. record {
+        minidisk = m;
+        settled = subst (λ (u : ℕ). slice_get units u ≡ Some (Settled (Volume m))) f.1 slot;
+        file = named;
+        enough = enough;
+      };
+    }
+
+-- its blocks stay, whichever disk is drafted on
+pub input_stays : (old : Spot) (units : List Slot) (n : ℕ) (s : Seated) (letter : ℕ) (name : Name) (file : OpenFile) (m : Minidisk) → holds old units → item_at old.state.table.seats n ≡ Some s
+    → IsOpened old.state.table letter name file → StayBeside old.world.told s.disk m file.cursor.unit file.cursor.leaves
+input_stays old units n s letter name file m h at opened = λ j k start there aside.
+    let c = file.cursor in
+    let seat = opened.seat in
+    let first = opened.starts.first in
+    let u = s.disk.volume.unit in
+    let beside : WritesAside (Some j) (Some k) u m = subst (λ (t : Told). WritesAside t (Some k) u m) start aside in
+    elim (eqb_tells u c.unit) [
+      | inl is ↦
+          let mine = meets_at old units n s at h in
+          let its = meets_at old units letter seat opened.there h in
+          let units' : s.letter.unit ≡ seat.letter.unit = sym mine.met.own ∙ (is.1 ∙ (first.unit ∙ its.met.own)) in
+          let place : n ≡ letter = mine.table.table.once n letter s seat at opened.there units' in
+          let one : s ≡ seat = some_same s seat (sym at ∙ (ap (item_at old.state.table.seats) place ∙ opened.there)) in
+          let file_is = ap (λ (y : Seated). slice_get y.disk.volume.files opened.starts.place) one ∙ opened.starts.file_is in
+          let agree : Agree opened.starts.file.tree.leaves (now k u) (now j u) = leaves_agree j k s.disk m opened.starts.place opened.starts.file there beside file_is in
+          subst (λ (v : ℕ). Agree c.leaves (now k v) (now j v)) is.1 (subst (λ (l : List ℕ). Agree l (now k u) (now j u)) (sym first.leaves) agree)
+      | inr other ↦
+          let same = else_same j k u c.unit m other.1 beside in
+          λ p in'. ap (λ (i : Image). i p) same
+    ]
+
+-- ---- a file that was opened
+
+-- its blocks are there
+pub opened_blocks : (told : Told) (t : Accesses) (n : ℕ) (name : Name) (file : OpenFile) → IsOpened t n name file → Usable told t
+    → ForSome told (λ j. HasBlocks j.units file.cursor.unit file.cursor.total file.cursor.bsize)
+opened_blocks told t n name file opened usable =
+    let unit = has_device (slice_get t.units opened.seat.letter.unit) file.vdev opened.device in
+    open_seat told t n opened.seat unit.0 name file.cursor opened.there unit.1 opened.starts usable

@@ -1,0 +1,306 @@
+-- The file that is copied and its output, as the table tells them and as the machine has them.
+use Rattle.std.proofs.Common.{◌≡◌, ◌∙◌, ◌<◌, ◌≤◌, ℕ, zero, suc, List, [], ◌∷◌, Option, Some, None, Result, Ok, Err, length, map, slice_get, refl, sym, ap, subst, arith}
+use Rattle.std.specs.Prelude.{Bool, true, false, if◌then◌else◌, nat_lt}
+use Rattle.std.specs.Option.{option_and_then, option_map}
+use Rattle.std.proofs.lemmas.List.{length-map}
+use Rattle.std.proofs.lemmas.List.Quantifiers.{position-Some}
+use Rattle.std.proofs.lemmas.Option.{slice_get-map}
+use Rattle.cms_names.specs.Modes.{equal_signs}
+use Rattle.cms_names.specs.declared.name.Name.{Name}
+use Rattle.cms_held.specs.LawsHeld.{IsFileOf}
+use Rattle.cms_held.specs.Opening.{HeldFile, HeldVolume, names_in}
+use Rattle.cms_model.specs.Minidisks.{File, same_name}
+use Rattle.cms_model.specs.Trees.{Image}
+use Rattle.cms_machine.specs.Acts.{Act, bind}
+use Rattle.cms_machine.specs.Slots.{Slot}
+use Rattle.cms_line.specs.declared.token.Token.{Token}
+use Rattle.cms_edf.specs.Asking.{info_of, infos_in}
+use Rattle.cms_edf.specs.declared.held.FileInfo.{FileInfo}
+use Rattle.cms_disk.specs.Disks.{Accessed, place_of}
+use Rattle.cms_disk.proofs.Finding.{stands_tells}
+use Rattle.cms_search.specs.Calls.{Acts, Meaning, Spot, holds, machine_of}
+use Rattle.cms_search.specs.Machine.{Letter, Machine, letter_at}
+use Rattle.cms_search.specs.Searches.{Shelf, Shelves, item_at, shelves_in}
+use Rattle.cms_search.specs.Shows.{Shows}
+use Rattle.cms_search.specs.Stepping.{Stepped}
+use Rattle.cms_search.specs.Tables.{Accesses, Seated, letters_of, shelf_of, writing}
+use Rattle.cms_search.specs.declared.fault.SearchFault.{SearchFault}
+use Rattle.cms_search.specs.declared.fault.SearchFault.TheVariants.{NotFound}
+use Rattle.cms_search.specs.declared.search.Found.{Found}
+use Rattle.cms_search.specs.declared.state.End.{End}
+use Rattle.cms_search.proofs.Acts.{acts_same}
+use Rattle.cms_search.proofs.Meeting.{holds_shows, letter_is}
+use Rattle.cms_search.proofs.Released.{letter_told}
+use Rattle.cms_search.proofs.Shown.{shelves_shown}
+use Rattle.cms_search.proofs.Stepped.{written_at}
+use Rattle.cms_files.specs.Files.{file_on, search_refused, writable}
+use Rattle.cms_files.specs.Updating.{on_step, stopping, telling}
+use Rattle.cms_files.specs.declared.updating.Updated.{Updated}
+use Rattle.cms_files.proofs.OpenedFiles.{none_named, none_on, seat_with}
+use Rattle.cms_files.proofs.TakenFiles.{no_shelf, open_shelf}
+use Rattle.cms_copyfile.specs.Copyfile.{Copying, copy_found, copy_into, copy_of, copy_records, copy_told, copying_of, file_at, input_shown, is_refused, letter_for, output_shown, there_already, there_is, too_few, with_copying}
+use Rattle.cms_copyfile.specs.FileCopies.{IsCopying, IsFileCopy, IsInfo, IsInfoOf, copy_number, told_in, told_on}
+use Rattle.cms_copyfile.specs.Telling.{copy_text}
+use Rattle.cms_copyfile.specs.declared.copy.FileCopy.{FileCopy}
+use Rattle.cms_copyfile.specs.declared.line.CopyLine.{CopyLine}
+use Rattle.cms_copyfile.specs.declared.line.Existing.{Existing}
+use Rattle.cms_copyfile.specs.declared.line.Existing.TheVariants.{Extended, Refused, Replaced}
+use Rattle.cms_copyfile.specs.declared.telling.FileShown.{FileShown}
+use Rattle.cms_copyfile.proofs.FilesAt.{named_on, stands_at}
+
+-- ---- the machine has the files
+
+info_is : (bsize : ℕ) (image : Image) (h : HeldFile) (f : File) → IsFileOf bsize image h f → IsInfo (info_of h) f
+info_is bsize image h f is = record {
+  name = is.name_is;
+  number = is.number_is;
+  format = is.format_is;
+  size = is.length_is;
+  stamp = is.stamp_is;
+  count = is.count_is;
+}
+
+some_at : {A : Type 0} (xs : List A) (k : ℕ) → k < length xs → (x : A) × (slice_get xs k ≡ Some x)
+some_at [] k less = absurd (omega arith)
+some_at (x ∷ xs) zero less = (x, refl)
+some_at (x ∷ xs) (suc k) less = some_at xs k (omega arith)
+
+held_at : (name : Name) (v : HeldVolume) (k : ℕ) → place_of name v ≡ Some k → (h : HeldFile) × (slice_get v.files k ≡ Some h)
+held_at name v k at =
+    let long = length-map v.files (λ (h : HeldFile). h.entry.name) in
+    let within = (position-Some (same_name name) (names_in v.files) k name at).0 in
+    some_at v.files k (omega (arith, long, within))
+
+-- so is the file of the output's name
+pub there_told : (t : Accesses) (s : Machine) (n : ℕ) (name : Name) → Shows t s → IsInfoOf (told_on t n name) (there_is (file_on s name (letter_at s n)))
+there_told t s n name shows = on_seat (item_at t.seats n) refl
+  where
+    on_seat : (x : Option Seated) → item_at t.seats n ≡ x → IsInfoOf (option_and_then (λ (a : Seated). told_in name a.disk.volume) x) (there_is (file_on s name (letter_at s n)))
+    on_seat None at = let none = none_on t s n name at shows in rw none tt
+    on_seat (Some seat) at = on_place (place_of name seat.disk.volume) refl
+      where
+        v : HeldVolume
+        v = seat.disk.volume
+
+        is_disk : Some seat.disk ≡ option_map (λ (a : Seated). a.disk) (item_at t.seats n)
+        is_disk = ap (λ (x : Option Seated). option_map (λ (a : Seated). a.disk) x) (sym at)
+
+        on_place : (p : Option ℕ) → place_of name v ≡ p → IsInfoOf (option_and_then (λ (k : ℕ). slice_get (infos_in v) k) p) (there_is (file_on s name (letter_at s n)))
+        on_place None none = let missing = none_named t s n name seat.disk is_disk none shows in rw missing tt
+        on_place (Some k) is =
+            let h = held_at name v k is in
+            let on = named_on t s n name k seat h.0 shows at is h.1 in
+            let told : slice_get (infos_in v) k ≡ Some (info_of h.0) = slice_get-map info_of v.files k ∙ ap (option_map info_of) h.1 in
+            let named = on.named in
+            rw (told, named) (info_is on.bsize on.image h.0 on.file on.is)
+
+pub copying_shown : (t : Accesses) (s : Machine) (line : CopyLine) (c : FileCopy) → IsFileCopy t line c → Shows t s → IsCopying s line c
+copying_shown t s line c is shows =
+    let at = stands_at t s c.found.letter c.found.place is.seat is.held shows is.seated is.at in
+    let info : IsInfo c.input at.file = subst (λ (i : FileInfo). IsInfo i at.file) (sym is.input) (info_is at.bsize at.image is.held at.file at.is) in
+    let name : c.name ≡ equal_signs at.file.name line.files.output.name = is.name ∙ ap (λ (n : Name). equal_signs n line.files.output.name) at.is.name_is in
+    record {
+      file = record { unit = is.seat.letter.unit; file = at.file };
+      found = at.found;
+      input = info;
+      to = is.letter;
+      name = name;
+      there = subst (λ (n : Name). IsInfoOf c.there (there_is (file_on s n (letter_at s (copying_of s line c.found (record { unit = is.seat.letter.unit; file = at.file })).to)))) name
+          (subst (λ (n : ℕ). IsInfoOf c.there (there_is (file_on s c.name (letter_at s n)))) is.letter
+          (subst (λ (o : Option FileInfo). IsInfoOf o (there_is (file_on s c.name (letter_at s c.letter)))) (sym is.there) (there_told t s c.letter c.name shows)));
+    }
+
+-- at a spot
+pub copying_at : (spot : Spot) (line : CopyLine) (c : FileCopy) → IsFileCopy spot.state.table line c → (units : List Slot) → holds spot units → IsCopying (machine_of spot.state units) line c
+copying_at spot line c is units h = copying_shown spot.state.table (machine_of spot.state units) line c is (holds_shows spot units h)
+
+-- ---- the file that was found
+
+map_at : (hs : List HeldFile) (k : ℕ) (info : FileInfo) → slice_get (map info_of hs) k ≡ Some info → (h : HeldFile) × (slice_get hs k ≡ Some h) × (info ≡ info_of h)
+map_at [] k info is = absurd (cc is)
+map_at (h ∷ hs) zero info is = let same : info_of h ≡ info = cc is in (h, refl, sym same)
+map_at (h ∷ hs) (suc k) info is = map_at hs k info is
+
+-- it is there
+pub copy_there : (t : Accesses) (line : CopyLine) (d : Accessed) (c : FileCopy) → Some d ≡ option_map (λ (a : Seated). a.disk) (item_at t.seats c.found.letter)
+    → slice_get (infos_in d.volume) c.found.place ≡ Some c.input → c.letter ≡ letter_for line.files.output.mode c.found.letter
+    → c.name ≡ equal_signs c.input.name line.files.output.name → c.there ≡ told_on t c.letter c.name → IsFileCopy t line c
+copy_there t line d c is at letter name there =
+    let seat = seat_with (item_at t.seats c.found.letter) d is in
+    let held = map_at d.volume.files c.found.place c.input at in
+    record {
+      seat = seat.0;
+      held = held.0;
+      seated = seat.1;
+      at = ap (λ (a : Accessed). slice_get a.volume.files c.found.place) seat.2 ∙ held.1;
+      input = held.2;
+      letter = letter;
+      name = name ∙ ap (λ (i : FileInfo). equal_signs i.name line.files.output.name) held.2;
+      there = there;
+    }
+
+-- or it isn't: the letter isn't accessed
+pub none_accessed : (t : Accesses) (s : Machine) (found : Found) → item_at t.seats found.letter ≡ None → Shows t s → file_at s found ≡ Err NotFound
+none_accessed t s found none shows =
+    let letter : letter_at s found.letter ≡ None =
+    ap (λ (ls : List (Option Letter)). item_at ls found.letter) (sym shows.letters)
+    ∙ (letter_told t.seats found.letter ∙ ap (λ (x : Option Seated). option_map (λ (y : Seated). y.letter) x) none) in
+    rw letter refl
+
+past_end : {A : Type 0} (xs : List A) (k : ℕ) → length xs ≤ k → slice_get xs k ≡ None
+past_end [] k past = refl
+past_end (x ∷ xs) zero past = absurd (omega arith)
+past_end (x ∷ xs) (suc k) past = past_end xs k (omega arith)
+
+-- or the disk has no such place
+pub none_placed : (t : Accesses) (s : Machine) (found : Found) (d : Accessed) → Some d ≡ option_map (λ (a : Seated). a.disk) (item_at t.seats found.letter)
+    → length d.volume.files ≤ found.place → Shows t s → file_at s found ≡ Err NotFound
+none_placed t s found d is past shows =
+    let seat = seat_with (item_at t.seats found.letter) d is in
+    let x = shows.each found.letter seat.0 seat.1 in
+    let held = (stands_tells x.0 seat.0.disk x.1 x.3).held in
+    let same : length seat.0.disk.volume.files ≡ length d.volume.files = ap (λ (a : Accessed). length a.volume.files) seat.2 in
+    let count = held.count_is in
+    let none = past_end x.1.files found.place (omega (arith, same, count, past)) in
+    let letter : letter_at s found.letter ≡ Some seat.0.letter =
+    ap (λ (ls : List (Option Letter)). item_at ls found.letter) (sym shows.letters) ∙ letter_is t found.letter seat.0 seat.1 in
+    let slot = x.2 in
+    rw (letter, slot, none) refl
+
+-- ---- what is done with it
+
+pub copying_is : (words : List Token) (line : CopyLine) (s : Machine) (c : FileCopy) (next : Copying → Act Stepped) (is : IsCopying s line c)
+    → with_copying words line s c.found next ≡ next (copying_of s line c.found is.file)
+copying_is words line s c next is = let found = is.found in rw found refl
+
+-- a call does it where it does what that comes to
+pub acts_copying : (old new : Spot) (words : List Token) (line : CopyLine) (c : FileCopy) (next : Machine → Copying → Act Stepped) (tree : List Slot → Act Stepped) (r : Result Updated End)
+    (d : Meaning Updated Stepped) → IsFileCopy old.state.table line c
+    → ((units : List Slot) (x : IsCopying (machine_of old.state units) line c) → holds old units
+    → next (machine_of old.state units) (copying_of (machine_of old.state units) line c.found x.file) ≡ tree units)
+    → Acts old new tree r d → Acts old new (λ units. with_copying words line (machine_of old.state units) c.found (next (machine_of old.state units))) r d
+acts_copying old new words line c next tree r d is same a =
+    acts_same old new (λ units. with_copying words line (machine_of old.state units) c.found (next (machine_of old.state units))) tree r d
+    (λ units h.
+    (let s = machine_of old.state units in
+    let x = copying_at old line c is units h in
+    copying_is words line s c (next s) x ∙ same units x h)) a
+
+-- ---- one that is refused
+
+refused_told : (existing : Existing) (x : Option FileInfo) (y : Option File) → IsInfoOf x y → is_refused existing x ≡ is_refused existing y
+refused_told Refused None None is = refl
+refused_told Refused (Some i) (Some f) is = refl
+refused_told Refused None (Some f) is = absurd is
+refused_told Refused (Some i) None is = absurd is
+refused_told Replaced None None is = refl
+refused_told Replaced (Some i) (Some f) is = refl
+refused_told Replaced None (Some f) is = refl
+refused_told Replaced (Some i) None is = refl
+refused_told Extended None None is = refl
+refused_told Extended (Some i) (Some f) is = refl
+refused_told Extended None (Some f) is = refl
+refused_told Extended (Some i) None is = refl
+
+abbrev pub copied_to : (s : Machine) (line : CopyLine) (c : FileCopy) → IsCopying s line c → Copying
+copied_to s line c x = copying_of s line c.found x.file
+
+is_so : (s : Machine) (line : CopyLine) (c : FileCopy) (x : IsCopying s line c) (b : Bool) → is_refused line.style.existing c.there ≡ b
+    → is_refused line.style.existing (copied_to s line c x).there ≡ b
+is_so s line c x b is = sym (refused_told line.style.existing c.there (copied_to s line c x).there x.there) ∙ is
+
+few_so : (s : Machine) (line : CopyLine) (c : FileCopy) (x : IsCopying s line c) (b : Bool) → nat_lt c.input.count line.style.first ≡ b
+    → nat_lt (length (copied_to s line c x).input.file.records) line.style.first ≡ b
+few_so s line c x b is = ap (λ (n : ℕ). nat_lt n line.style.first) (sym x.input.count) ∙ is
+
+-- a file that has the output's name isn't to be touched
+pub into_there : (s : Machine) (words : List Token) (line : CopyLine) (c : FileCopy) (x : IsCopying s line c) → is_refused line.style.existing c.there ≡ true
+    → copy_into s words line (copied_to s line c x) ≡ there_already s words line c.letter c.name
+into_there s words line c x is =
+    let made = copied_to s line c x in
+    ap (λ (b : Bool). if b then there_already s words line made.to made.name
+    else (if nat_lt (length made.input.file.records) line.style.first then stopping (too_few s (length made.input.file.records)) else copy_records s line made)) (is_so s line c x true is)
+    ∙ (ap (λ (n : ℕ). there_already s words line n made.name) (sym x.to) ∙ ap (λ (n : Name). there_already s words line c.letter n) (sym x.name))
+
+into_next : (s : Machine) (words : List Token) (line : CopyLine) (c : FileCopy) (x : IsCopying s line c) (b : Bool) → is_refused line.style.existing c.there ≡ false
+    → nat_lt c.input.count line.style.first ≡ b
+    → copy_into s words line (copied_to s line c x)
+    ≡ (if b then stopping (too_few s (length (copied_to s line c x).input.file.records)) else copy_records s line (copied_to s line c x))
+into_next s words line c x b is few =
+    let made = copied_to s line c x in
+    ap (λ (b : Bool). if b then there_already s words line made.to made.name
+    else (if nat_lt (length made.input.file.records) line.style.first then stopping (too_few s (length made.input.file.records)) else copy_records s line made)) (is_so s line c x false is)
+    ∙ ap (λ (b : Bool). if b then stopping (too_few s (length made.input.file.records)) else copy_records s line made) (few_so s line c x b few)
+
+-- it has no record that is copied
+pub into_few : (s : Machine) (words : List Token) (line : CopyLine) (c : FileCopy) (x : IsCopying s line c) → is_refused line.style.existing c.there ≡ false
+    → nat_lt c.input.count line.style.first ≡ true → copy_into s words line (copied_to s line c x) ≡ stopping (too_few s c.input.count)
+into_few s words line c x is few = into_next s words line c x true is few ∙ ap (λ (n : ℕ). stopping (too_few s n)) (sym x.input.count)
+
+-- else its records are copied
+pub into_copied : (s : Machine) (words : List Token) (line : CopyLine) (c : FileCopy) (x : IsCopying s line c) → is_refused line.style.existing c.there ≡ false
+    → nat_lt c.input.count line.style.first ≡ false
+    → copy_into s words line (copied_to s line c x) ≡ with_copying words line s c.found (copy_records s line)
+into_copied s words line c x is few = into_next s words line c x false is few ∙ sym (copying_is words line s c (copy_records s line) x)
+
+-- ---- the line that is typed
+
+pub number_told : (x : Option FileInfo) (y : Option File) → IsInfoOf x y → option_map (λ (i : FileInfo). i.number) x ≡ option_map (λ (f : File). f.number) y
+number_told None None is = refl
+number_told (Some i) (Some f) is = ap (λ (n : ℕ). Some n) is.number
+number_told None (Some f) is = absurd is
+number_told (Some i) None is = absurd is
+
+abbrev pub shown_input : FileCopy → FileShown
+shown_input c = record { letter = c.found.letter; name = c.input.name; number = c.input.number }
+
+abbrev pub shown_output : CopyLine → FileCopy → FileShown
+shown_output line c = record { letter = c.letter; name = c.name; number = copy_number line c }
+
+text_so : (s : Machine) (line : CopyLine) (c : FileCopy) (x : IsCopying s line c)
+    → copy_text (input_shown (copied_to s line c x)) (output_shown line (copied_to s line c x)) ≡ copy_text (shown_input c) (shown_output line c)
+text_so s line c x =
+    let name = x.input.name in
+    let number = x.input.number in
+    let to = x.to in
+    let called = x.name in
+    let there = number_told c.there (copied_to s line c x).there x.there in
+    rw (name, number, to, called, there) refl
+
+pub told_so : (s : Machine) (words : List Token) (line : CopyLine) (c : FileCopy) (x : IsCopying s line c) (text : List ℕ) → text ≡ copy_text (shown_input c) (shown_output line c)
+    → copy_told s words line (copied_to s line c x) ≡ bind (with_copying words line s c.found (copy_into s words line)) (telling line.style.types text)
+told_so s words line c x text is =
+    ap (λ (t : List ℕ). bind (copy_into s words line (copied_to s line c x)) (telling line.style.types t)) (text_so s line c x ∙ sym is)
+    ∙ ap (λ (a : Act Stepped). bind a (telling line.style.types text)) (sym (copying_is words line s c (copy_into s words line) x))
+
+-- ---- the output's disk
+
+shelf_shown : (t : Accesses) (s : Machine) (n : ℕ) → Shows t s → writing (item_at (letters_of t) n) n ≡ Ok tt → (shelf : Shelf) × (writable (shelves_in s) n ≡ Ok shelf)
+shelf_shown t s n shows is =
+    let seat = written_at t n is in
+    (shelf_of seat.0, ap (λ (x : Shelves). writable x n) (sym (shelves_shown t s shows)) ∙ open_shelf t n seat.0 seat.1 is)
+
+pub of_written : (t : Accesses) (s : Machine) (words : List Token) (line : CopyLine) (c : FileCopy) (x : IsCopying s line c) → Shows t s
+    → writing (item_at (letters_of t) c.letter) c.letter ≡ Ok tt → copy_of s words line (copied_to s line c x) ≡ with_copying words line s c.found (copy_told s words line)
+of_written t s words line c x shows is =
+    let shelf = shelf_shown t s c.letter shows is in
+    let found : writable (shelves_in s) (copied_to s line c x).to ≡ Ok shelf.0 = ap (λ (n : ℕ). writable (shelves_in s) n) (sym x.to) ∙ shelf.1 in
+    ap (λ (r : Result Shelf SearchFault). on_step s words 1 (λ shelf. copy_told s words line (copied_to s line c x)) r) found
+    ∙ sym (copying_is words line s c (copy_told s words line) x)
+
+pub of_unwritten : (t : Accesses) (s : Machine) (words : List Token) (line : CopyLine) (c : FileCopy) (x : IsCopying s line c) (e : SearchFault) → Shows t s
+    → writing (item_at (letters_of t) c.letter) c.letter ≡ Err e → copy_of s words line (copied_to s line c x) ≡ stopping (search_refused s words 1 e)
+of_unwritten t s words line c x e shows is =
+    let none = ap (λ (x : Shelves). writable x c.letter) (sym (shelves_shown t s shows)) ∙ no_shelf t c.letter e is in
+    ap (λ (r : Result Shelf SearchFault). on_step s words 1 (λ shelf. copy_told s words line (copied_to s line c x)) r)
+    (ap (λ (n : ℕ). writable (shelves_in s) n) (sym x.to) ∙ none)
+
+-- ---- no file
+
+pub acts_missing : (old new : Spot) (words : List Token) (line : CopyLine) (found : Found) (r : Result Updated End) (d : Meaning Updated Stepped)
+    → ((s : Machine) → Shows old.state.table s → file_at s found ≡ Err NotFound)
+    → Acts old new (λ units. stopping (search_refused (machine_of old.state units) words 1 NotFound)) r d
+    → Acts old new (λ units. copy_found words line (machine_of old.state units) found) r d
+acts_missing old new words line found r d none a =
+    acts_same old new (λ units. copy_found words line (machine_of old.state units) found) (λ units. stopping (search_refused (machine_of old.state units) words 1 NotFound)) r d
+    (λ units h. (let missing = none (machine_of old.state units) (holds_shows old units h) in rw missing refl)) a

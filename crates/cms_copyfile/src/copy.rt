@@ -1,0 +1,145 @@
+// A file that is copied, and where its copy goes.
+ghost use Rattle.std.specs.Prelude.{◌≡◌, nat_lt, None, Err, IfSome};
+ghost use Rattle.cms_search.specs.Machine.{Machine};
+ghost use Rattle.cms_search.specs.Shows.{Shows};
+ghost use Rattle.cms_search.specs.declared.fault.SearchFault.TheVariants.{NotFound};
+ghost use Rattle.cms_copyfile.specs.Copyfile as spec;
+ghost use Rattle.cms_copyfile.specs.FileCopies.{IsFileCopy, copy_number, form_in, form_into, told_on};
+ghost use Rattle.cms_copyfile.specs.Outputs.{extended};
+
+use crate::line::{CopyLine, Existing};
+use crate::output::{FileForm, form_for, number_for};
+use crate::telling::FileShown;
+use cms_disk::FileInfo;
+use cms_names::{Name, equal_signs};
+use cms_operands::WriteMode;
+use cms_search::{Found, Table};
+
+/// A file that is copied, and where its copy goes.
+#[derive(Clone, Copy, Debug, PartialEq, Eq)]
+pub struct FileCopy {
+    /// the file, where a search found it
+    pub found: Found,
+    /// what its disk tells of it
+    pub input: FileInfo,
+    /// the letter of the output's disk, A is 0
+    pub letter: u8,
+    /// the output's name
+    pub name: Name,
+    /// the file of that name on that disk, if it is there already
+    pub there: Option<FileInfo>,
+}
+
+// The output's letter, or that of the disk on which the input stands.
+fn letter_for(mode: Option<WriteMode>, letter: u8) -> u8
+    ensures { result ≡ spec.letter_for mode letter }
+{
+    match mode {
+        Some(mode) => mode.letter,
+        None => letter,
+    }
+}
+
+// What is told of the file of a name on the disk of a letter.
+pub(crate) fn info_on(table: &Table, letter: u8, name: &Name) -> Option<FileInfo>
+    ensures { result ≡ told_on table.now letter name.now }
+{
+    let disk = table.disk(letter)?;
+    let place = disk.find(name)?;
+    Some(disk.info(place))
+}
+
+// The format of the records that a file has.
+pub(crate) fn form_in(info: &FileInfo) -> FileForm
+    ensures { result ≡ form_in info.now }
+{
+    FileForm {
+        format: info.format,
+        length: info.length,
+    }
+}
+
+impl FileCopy {
+    /// The file that was found, as a line copies it; none exactly where it isn't there.
+    pub fn of(table: &Table, line: &CopyLine, found: &Found) -> Option<FileCopy>
+        ensures copy { IfSome result (λ c. IsFileCopy table.now line.now c) }
+        ensures found { IfSome result (λ c. c.found ≡ found.now) }
+        ensures none { result ≡ None → (s : Machine) → Shows table.now s → spec.file_at s found.now ≡ Err NotFound }
+    {
+        let disk = table.disk(found.letter)?;
+        if found.place >= disk.count() {
+            return None;
+        }
+        let input = disk.info(found.place);
+        let letter = letter_for(line.files.output.mode, found.letter);
+        let name = equal_signs(&input.name, &line.files.output.name);
+        Some(FileCopy {
+            found: *found,
+            input,
+            letter,
+            name,
+            there: info_on(table, letter, &name),
+        })
+    }
+
+    /// The file that has the output's name, where the copies are added to it.
+    pub fn extended(&self, line: &CopyLine) -> Option<FileInfo>
+        ensures { result ≡ extended line.now.style.existing self.now.there }
+    {
+        match line.style.existing {
+            Existing::Extended => self.there,
+            Existing::Refused | Existing::Replaced => None,
+        }
+    }
+
+    /// The format that the copy gets; a file that is extended keeps its own.
+    pub fn form(&self, line: &CopyLine) -> FileForm
+        ensures { result ≡ form_into line.now self.now }
+    {
+        let own = match self.extended(line) {
+            Some(own) => Some(form_in(&own)),
+            None => None,
+        };
+        form_for(&line.style, form_in(&self.input), own)
+    }
+
+    /// The mode number that the copy gets.
+    pub fn number(&self, line: &CopyLine) -> u8
+        ensures { result ≡ copy_number line.now self.now }
+    {
+        let there = match self.there {
+            Some(there) => Some(there.number),
+            None => None,
+        };
+        number_for(line.files.output.mode, self.input.number, there)
+    }
+
+    /// Whether it has none of the records that a line copies.
+    pub fn has_too_few(&self, line: &CopyLine) -> bool
+        ensures { result ≡ nat_lt self.now.input.count line.now.style.first }
+    {
+        self.input.count < line.style.first
+    }
+
+    /// The file as it is shown.
+    pub fn input_shown(&self) -> FileShown
+        ensures { result ≡ record { letter = self.now.found.letter; name = self.now.input.name; number = self.now.input.number } }
+    {
+        FileShown {
+            letter: self.found.letter,
+            name: self.input.name,
+            number: self.input.number,
+        }
+    }
+
+    /// The output as it is shown.
+    pub fn output_shown(&self, line: &CopyLine) -> FileShown
+        ensures { result ≡ record { letter = self.now.letter; name = self.now.name; number = copy_number line.now self.now } }
+    {
+        FileShown {
+            letter: self.letter,
+            name: self.name,
+            number: self.number(line),
+        }
+    }
+}

@@ -1,0 +1,199 @@
+// The update of one file that is copied.
+ghost use Rattle.std.specs.Prelude.{◌≡◌, ◌≤◌, ℕ, true, List, None, Ok, vec_capacity};
+ghost use Rattle.cms_fields.specs.Limits.{longest_record};
+ghost use Rattle.cms_fields.specs.Moments.{is_moment};
+ghost use Rattle.cms_line.specs.declared.token.Token as tokens;
+ghost use Rattle.cms_search.specs.Calls.{Acts, IsUsable, machine_of, spot};
+ghost use Rattle.cms_search.specs.Searches.{item_at};
+ghost use Rattle.cms_search.specs.Tables.{letters_of, writing};
+ghost use Rattle.cms_files.specs.Opening.{IsOpened};
+ghost use Rattle.cms_files.specs.declared.opening.OpenFile as opened;
+ghost use Rattle.cms_files.specs.Updating.{updated_of};
+ghost use Rattle.cms_copyfile.specs.Copyfile as spec;
+ghost use Rattle.cms_copyfile.specs.FileCopies.{IsFileCopy, form_into, plan_for};
+ghost use Rattle.cms_copyfile.specs.Lines.{IsCopyStyle};
+ghost use Rattle.cms_copyfile.specs.OneCopy.{AreMeasured, AreShaped, HasRead};
+ghost use Rattle.cms_copyfile.specs.Outputs.{extended};
+ghost use Rattle.cms_copyfile.specs.Records.{longest_fit};
+ghost use Rattle.cms_copyfile.specs.declared.line.CopyLine as lines;
+ghost use Rattle.cms_world.specs.Seen.{Seen, seen};
+
+use crate::append_file::append_measured;
+use crate::copy::FileCopy;
+use crate::ending::end_output;
+use crate::line::CopyLine;
+use crate::measure::Measure;
+use crate::measuring::measure_copies;
+use crate::opening::open_input;
+use crate::output::{CopyPlan, plan_of, stamp_for};
+use crate::refusing::{stop_altered, stop_unread};
+use crate::shape::{can_draft, shape_of};
+use crate::writing::{CopyTarget, Written, write_copies};
+use cms_disk::DiskFault;
+use cms_edf::DraftShape;
+use cms_fields::{LONGEST_RECORD, Stamp};
+use cms_files::Updated;
+use cms_search::{End, State};
+use cms_world::World;
+use std::alloc::Global;
+
+// The records of a file, which were measured, are read again, and their copies are put as a file of this shape.
+fn put_copied<W: World>(
+    alloc: Global,
+    world: &mut W,
+    state: &mut State,
+    file: &FileCopy,
+    shape: &DraftShape,
+    plan: &CopyPlan,
+    buffer: &mut Vec<u8>,
+) -> Result<Updated, End>
+    requires usable { IsUsable (spot W.World world.old state.old) }
+    requires moment { is_moment state.old.moment ≡ true }
+    requires writing { writing (item_at (letters_of state.old.table) file.now.letter) file.now.letter ≡ Ok tt }
+    requires size { (most : ℕ) → most ≤ longest_record → longest_fit plan.now.style.fit most ≤ longest_record }
+    requires room { longest_record ≤ vec_capacity buffer.old }
+    ensures acts { (before : Seen) (words : List tokens.Token) (line : lines.CopyLine) → HasRead before (seen W.World world.old)
+        → IsFileCopy state.old.table line file.now → extended line.style.existing file.now.there ≡ None
+        → AreShaped (spot W.World world.old state.old) line file.now plan.now shape.now
+        → Acts (record { world = before; state = state.old }) (spot W.World world.new state.new)
+        (λ units. spec.with_copying words line (machine_of state.old units) file.now.found
+        (spec.copy_records (machine_of state.old units) line)) result (updated_of state.new) }
+    ensures kept { state.new ≡ record state.old { table = state.new.table; places = state.new.places } }
+{
+    // what a disk tells of a file is sound, so this is never
+    if !can_draft(shape) {
+        return Err(End::Memory);
+    }
+    let mut input = open_input(alloc, &state.table, file)?;
+    let vdev = state.table.vdev(file.letter);
+    let to = CopyTarget {
+        letter: file.letter,
+        name: file.name,
+        shape: *shape,
+        stamp: Stamp::of(&state.moment),
+    };
+    match write_copies(
+        alloc,
+        world,
+        &mut state.table,
+        &to,
+        &mut input.cursor,
+        plan,
+        buffer,
+    ) {
+        Written::Came(done) => end_output(alloc, world, state, file, vdev, done),
+        Written::Unread => stop_unread(alloc, world, state, input.vdev),
+        Written::Altered => stop_altered(alloc, world, state, input.vdev),
+    }
+}
+
+// The copies of a file were measured, and are put as a file of their own.
+fn copy_measured<W: World>(
+    alloc: Global,
+    world: &mut W,
+    state: &mut State,
+    line: &CopyLine,
+    file: &FileCopy,
+    plan: &CopyPlan,
+    measure: &Measure,
+    buffer: &mut Vec<u8>,
+) -> Result<Updated, End>
+    requires usable { IsUsable (spot W.World world.old state.old) }
+    requires moment { is_moment state.old.moment ≡ true }
+    requires writing { writing (item_at (letters_of state.old.table) file.now.letter) file.now.letter ≡ Ok tt }
+    requires file { IsFileCopy state.old.table line.now file.now }
+    requires whole { extended line.now.style.existing file.now.there ≡ None }
+    requires plan { plan.now ≡ plan_for line.now (form_into line.now file.now) file.now }
+    requires size { (most : ℕ) → most ≤ longest_record → longest_fit plan.now.style.fit most ≤ longest_record }
+    requires room { longest_record ≤ vec_capacity buffer.old }
+    ensures acts { (before : Seen) (words : List tokens.Token) → HasRead before (seen W.World world.old)
+        → AreMeasured (spot W.World world.old state.old) line.now file.now (form_into line.now file.now) measure.now
+        → Acts (record { world = before; state = state.old }) (spot W.World world.new state.new)
+        (λ units. spec.with_copying words line.now (machine_of state.old units) file.now.found
+        (spec.copy_records (machine_of state.old units) line.now)) result (updated_of state.new) }
+    ensures kept { state.new ≡ record state.old { table = state.new.table; places = state.new.places } }
+{
+    let turn = Stamp::of(&state.moment);
+    let stamp = stamp_for(&line.style, file.input.stamp, turn);
+    let shape = shape_of(file.form(line), file.number(line), stamp, measure);
+    put_copied(alloc, world, state, file, &shape, plan, buffer)
+}
+
+// The copies of a file were measured; they are put as a file of their own, or added to the one that is extended.
+fn put_measured<W: World>(
+    alloc: Global,
+    world: &mut W,
+    state: &mut State,
+    line: &CopyLine,
+    file: &FileCopy,
+    plan: &CopyPlan,
+    measure: &Measure,
+    buffer: &mut Vec<u8>,
+) -> Result<Updated, End>
+    requires usable { IsUsable (spot W.World world.old state.old) }
+    requires moment { is_moment state.old.moment ≡ true }
+    requires writing { writing (item_at (letters_of state.old.table) file.now.letter) file.now.letter ≡ Ok tt }
+    requires file { IsFileCopy state.old.table line.now file.now }
+    requires plan { plan.now ≡ plan_for line.now (form_into line.now file.now) file.now }
+    requires size { (most : ℕ) → most ≤ longest_record → longest_fit plan.now.style.fit most ≤ longest_record }
+    requires room { longest_record ≤ vec_capacity buffer.old }
+    ensures acts { (before : Seen) (words : List tokens.Token) (input : opened.OpenFile) → HasRead before (seen W.World world.old)
+        → IsOpened state.old.table file.now.found.letter file.now.input.name input
+        → AreMeasured (spot W.World world.old state.old) line.now file.now (form_into line.now file.now) measure.now
+        → Acts (record { world = before; state = state.old }) (spot W.World world.new state.new)
+        (λ units. spec.with_copying words line.now (machine_of state.old units) file.now.found
+        (spec.copy_records (machine_of state.old units) line.now)) result (updated_of state.new) }
+    ensures kept { state.new ≡ record state.old { table = state.new.table; places = state.new.places } }
+{
+    match file.extended(line) {
+        Some(own) => append_measured(alloc, world, state, line, file, &own, plan, measure, buffer),
+        None => copy_measured(alloc, world, state, line, file, plan, measure, buffer),
+    }
+}
+
+// The records of a file are read, and the copy is put: a file that is there already is replaced, or the copies are added to it. Its device
+// may fail, and so may the output's; a limit and want of room come before the first write.
+pub(crate) fn copy_records<W: World>(
+    alloc: Global,
+    world: &mut W,
+    state: &mut State,
+    line: &CopyLine,
+    file: &FileCopy,
+) -> Result<Updated, End>
+    requires usable { IsUsable (spot W.World world.old state.old) }
+    requires moment { is_moment state.old.moment ≡ true }
+    requires style { IsCopyStyle line.now.style }
+    requires file { IsFileCopy state.old.table line.now file.now }
+    requires writing { writing (item_at (letters_of state.old.table) file.now.letter) file.now.letter ≡ Ok tt }
+    requires some { line.now.style.first ≤ file.now.input.count }
+    ensures acts { (words : List tokens.Token) → Acts (spot W.World world.old state.old) (spot W.World world.new state.new)
+        (λ units. spec.with_copying words line.now (machine_of state.old units) file.now.found
+        (spec.copy_records (machine_of state.old units) line.now)) result (updated_of state.new) }
+    ensures kept { state.new ≡ record state.old { table = state.new.table; places = state.new.places } }
+{
+    let form = file.form(line);
+    // what a disk tells of a file is sound, so this is never
+    if form.length > LONGEST_RECORD {
+        return Err(End::Memory);
+    }
+    let plan = plan_of(&line.style, form, file.input.count);
+    let mut buffer = Vec::with_capacity(alloc, LONGEST_RECORD as usize)?;
+    let mut input = open_input(alloc, &state.table, file)?;
+    match measure_copies(world, &mut input.cursor, &plan, &mut buffer) {
+        Ok(measure) => put_measured(
+            alloc,
+            world,
+            state,
+            line,
+            file,
+            &plan,
+            &measure,
+            &mut buffer,
+        ),
+        Err(fault) => match fault {
+            // never in a world that tells its journal
+            DiskFault::Altered => stop_altered(alloc, world, state, input.vdev),
+            _ => stop_unread(alloc, world, state, input.vdev),
+        },
+    }
+}

@@ -1,0 +1,39 @@
+// What follows the update of the output's disk.
+ghost use Rattle.std.specs.Prelude.{◌≡◌, ◌∷◌, List, [], IsSome};
+ghost use Rattle.cms_machine.specs.Slots.{Slot};
+ghost use Rattle.cms_model.specs.Changes as model;
+ghost use Rattle.cms_search.specs.Calls.{Acts, Spot, machine_of, spot};
+ghost use Rattle.cms_search.specs.Putting as putting;
+ghost use Rattle.cms_search.specs.Searches.{item_at};
+ghost use Rattle.cms_search.specs.Seats.{HasDevice};
+ghost use Rattle.cms_search.specs.Tables.{Seated};
+ghost use Rattle.cms_files.specs.Updating.{names_of, updated_of, updating};
+
+use crate::copy::FileCopy;
+use cms_disk::DiskFault;
+use cms_files::{Updated, end_writing};
+use cms_search::{End, State, end_update};
+use cms_world::World;
+use std::alloc::Global;
+
+// Ends the update of the output's disk, which came to this.
+pub(crate) fn end_output<W: World>(
+    alloc: Global,
+    world: &mut W,
+    state: &mut State,
+    file: &FileCopy,
+    vdev: u16,
+    done: Result<(), DiskFault>,
+) -> Result<Updated, End>
+    requires accessed { IsSome (item_at state.old.table.seats file.now.letter) }
+    requires device { HasDevice state.old.table file.now.letter vdev }
+    ensures acts { (old : Spot) (s : Seated) (change : List Slot → model.Change)
+        → putting.Updated old (spot W.World world.old state.old) file.now.letter s change done
+        → HasDevice old.state.table file.now.letter vdev → ((units : List Slot) → names_of (change units) ≡ file.now.name ∷ [])
+        → Acts old (spot W.World world.new state.new) (λ units. updating (machine_of old.state units) file.now.letter (change units)) result
+        (updated_of state.new) }
+    ensures kept { state.new ≡ record state.old { table = state.new.table; places = state.new.places } }
+{
+    let changed = end_update(alloc, world, state, file.letter, vdev, done)?;
+    end_writing(alloc, world, state, file.letter, vdev, &file.name, changed)
+}

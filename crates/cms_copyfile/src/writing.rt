@@ -1,0 +1,116 @@
+// Copies that are written as a file.
+ghost use Rattle.std.specs.Prelude.{◌≡◌, ◌≤◌, true, vec_capacity, IfSome, IsSome};
+ghost use Rattle.std.specs.Option.{ForSome};
+ghost use Rattle.cms_journal.specs.Journal.{HasBlocks};
+ghost use Rattle.cms_fields.specs.Limits.{longest_record};
+ghost use Rattle.cms_fields.specs.Stamps.{is_stamp};
+ghost use Rattle.cms_edf.specs.FileDrafts.{CanDraft};
+ghost use Rattle.cms_search.specs.Drafting.{MayCommit};
+ghost use Rattle.cms_search.specs.Searches.{item_at};
+ghost use Rattle.cms_world.specs.Seen.{seen};
+ghost use Rattle.cms_copyfile.specs.Records.{longest_fit};
+ghost use Rattle.cms_copyfile.specs.Writing.{FillsSeat, FinishesSeat, MayWrite, WritesSeat};
+
+use crate::copying::{CopyFault, put_copies};
+use crate::output::CopyPlan;
+use cms_disk::{Cursor, DiskFault};
+use cms_edf::{Draft, DraftShape};
+use cms_fields::Stamp;
+use cms_names::Name;
+use cms_search::Table;
+use cms_world::World;
+use std::alloc::Global;
+
+/// A file that is to be written, and where.
+#[derive(Clone, Copy, Debug, PartialEq, Eq)]
+pub struct CopyTarget {
+    /// the letter of its disk, A is 0
+    pub letter: u8,
+    pub name: Name,
+    pub shape: DraftShape,
+    /// that of the directory then
+    pub stamp: Stamp,
+}
+
+/// What writing copies came to.
+#[derive(Clone, Copy, Debug, PartialEq, Eq)]
+pub enum Written {
+    /// the update of the output's disk came to this
+    Came(Result<(), DiskFault>),
+    /// the device of the input failed; the output's disk is as before
+    Unread,
+    /// the input's records aren't those that were measured; the output's disk is as before
+    Altered,
+}
+
+// Makes a draft a file of the disk of a letter, where it has all its records.
+fn finish<W: World>(world: &mut W, table: &mut Table, letter: u8, draft: Draft) -> Written
+    requires accessed { IsSome (item_at table.old.seats letter) }
+    requires may { ForSome (item_at table.old.seats letter) (λ s. MayCommit (W.told world.old) s.disk draft) }
+    ensures { IfSome (item_at table.old.seats letter) (λ s. FinishesSeat (seen W.World world.old) (seen W.World world.new)
+        table.old table.new letter s draft result) }
+{
+    if draft.records_left() != 0 {
+        return Written::Altered;
+    }
+    if draft.bytes_left() != 0 {
+        return Written::Altered;
+    }
+    Written::Came(table.commit(world, letter, draft))
+}
+
+/// Reads the records that are wanted, puts their copies in a draft, and makes it a file of the disk of a letter. It takes no memory: the
+/// buffer has room for each copy.
+pub fn fill<W: World>(
+    world: &mut W,
+    table: &mut Table,
+    letter: u8,
+    mut draft: Draft,
+    cursor: &mut Cursor,
+    plan: &CopyPlan,
+    buffer: &mut Vec<u8>,
+) -> Written
+    requires accessed { IsSome (item_at table.old.seats letter) }
+    requires may { ForSome (item_at table.old.seats letter) (λ s. MayCommit (W.told world.old) s.disk draft) }
+    requires blocks { ForSome (W.told world.old) (λ j. HasBlocks j.units cursor.old.unit cursor.old.total cursor.old.bsize) }
+    requires short { cursor.old.begun.longest ≤ longest_record }
+    requires room { longest_fit plan.now.style.fit cursor.old.begun.longest ≤ vec_capacity buffer.old }
+    ensures { IfSome (item_at table.old.seats letter) (λ s. FillsSeat (seen W.World world.old) (seen W.World world.new)
+        table.old table.new letter s draft plan.now cursor.old result) }
+{
+    match put_copies(world, cursor, plan, buffer, &mut draft) {
+        Ok(()) => finish(world, table, letter, draft),
+        Err(CopyFault::Read) => Written::Unread,
+        Err(CopyFault::Write) => Written::Came(Err(DiskFault::Device)),
+        Err(CopyFault::Altered) => Written::Altered,
+    }
+}
+
+/// Reads the records that are wanted, and writes their copies as a file: it takes the place of the one of its name, or stands last. A limit
+/// and want of room come before the first write. The buffer has room for each copy.
+///
+/// `Altered` is never in a world that tells its journal, where the copies were measured.
+pub fn write_copies<W: World>(
+    alloc: Global,
+    world: &mut W,
+    table: &mut Table,
+    to: &CopyTarget,
+    cursor: &mut Cursor,
+    plan: &CopyPlan,
+    buffer: &mut Vec<u8>,
+) -> Written
+    requires accessed { IsSome (item_at table.old.seats to.now.letter) }
+    requires may { ForSome (item_at table.old.seats to.now.letter) (λ s. MayWrite (W.told world.old) s.disk) }
+    requires stamp { is_stamp to.now.stamp ≡ true }
+    requires shape { CanDraft to.now.shape }
+    requires blocks { ForSome (W.told world.old) (λ j. HasBlocks j.units cursor.old.unit cursor.old.total cursor.old.bsize) }
+    requires short { cursor.old.begun.longest ≤ longest_record }
+    requires room { longest_fit plan.now.style.fit cursor.old.begun.longest ≤ vec_capacity buffer.old }
+    ensures { IfSome (item_at table.old.seats to.now.letter) (λ s. WritesSeat (seen W.World world.old) (seen W.World world.new)
+        table.old table.new s to.now plan.now cursor.old result) }
+{
+    match table.draft(alloc, to.letter, &to.name, &to.shape, &to.stamp) {
+        Ok(draft) => fill(world, table, to.letter, draft, cursor, plan, buffer),
+        Err(fault) => Written::Came(Err(fault)),
+    }
+}
