@@ -2,16 +2,22 @@
 """Measures the program beside tools that do the like, and prints the ratios. No part of the gate.
 
     bench/bench.py              all of them
-    bench/bench.py NAME ..      some: execio
+    bench/bench.py NAME ..      some: opening, files, copy, execio, procedure
 
+opening    a volume of 10,000 files in 262,144 blocks of 4,096 bytes, beside `dd` that reads the blocks that describe it
+files      10,000 files of a volume listed with all columns, beside `ls -l` of as many; and one of them erased, beside `dd` that writes and
+           syncs as many blocks
+copy       a file of F 80 records of 64 MiB, and one of 1 MiB, by COPYFILE, beside `cp` and `sync` of a file of that size
 execio     2,000 lines of one record each, `EXECIO 1 DISKW`, beside as many transactions of one row in SQLite with synchronous=FULL
+procedure  a procedure of 1,000,000 turns, beside the same loop in REXX, where Regina's `rexx` is installed
 
 The program is built first by `./cms --version`, where it isn't built. All files are made in a folder of their own in the folder in which
-this is started, so its file system is the one that is measured.
+this is started, so its file system is the one that is measured. Memory is told by /usr/bin/time.
 """
 
 import os
 import pathlib
+import shutil
 import sqlite3
 import subprocess
 import sys
@@ -20,34 +26,111 @@ import time
 
 HOME = pathlib.Path(__file__).resolve().parent.parent
 PROGRAM = HOME / "crates/cms_cli/out/cms_cli"
+MEBIBYTE = 1 << 20
+RECORD = 80
+FILES = 10_000
+QUESTIONS = ("CMS603R", "CMS605R", "CMS733I")
+
+sys.path.insert(0, str(HOME / "tests"))
 
 
-def spent(words, script=""):
-    """The seconds and the peak memory, in KiB, of a command that succeeds; and what it types."""
+def spent(words, script="", status=0):
+    """The seconds and the peak memory, in KiB, of a command that ends with this status; and what it types."""
     begun = time.monotonic()
-    child = subprocess.Popen(words, stdin=subprocess.PIPE, stdout=subprocess.PIPE, text=True)
-    child.stdin.write(script)
-    child.stdin.close()
-    typed = child.stdout.read()
-    _, status, used = os.wait4(child.pid, 0)
+    told = ["/usr/bin/time", "-q", "-o", "spent", "-f", "%M"]
+    ended = subprocess.run([*told, *words], input=script, capture_output=True, text=True, check=False)
     seconds = time.monotonic() - begun
-    child.returncode = os.waitstatus_to_exitcode(status)
-    if child.returncode:
-        sys.exit(f"bench: {words[0]} ended with {child.returncode}: {typed[-300:]}")
-    return seconds, used.ru_maxrss, typed
+    if ended.returncode != status:
+        sys.exit(f"bench: {words[0]} ended with {ended.returncode}: {ended.stdout[-300:]}{ended.stderr[-300:]}")
+    return seconds, int(pathlib.Path("spent").read_text()), ended.stdout
 
 
 def session(unit, lines):
     """A session of these lines, each of which is done."""
     seconds, memory, typed = spent([PROGRAM, unit], "\n".join(lines) + "\n")
-    refused = [line for line in typed.splitlines() if line.startswith(("CMS", "R(")) and "formatted" not in line and line[:7] not in ("CMS603R", "CMS605R")]
+    refused = [line for line in typed.splitlines() if line.startswith(("CMS", "R(")) and not line.startswith(QUESTIONS)]
     if refused:
         sys.exit(f"bench: {refused[:3]}")
     return seconds, memory
 
 
 def said(what, seconds, memory=None):
-    print(f"{what:<58} {seconds:8.3f} s" + (f" {memory:9,} KiB" if memory else ""))
+    print(f"{what:<70} {seconds:8.3f} s" + (f" {memory:9,} KiB" if memory else ""))
+
+
+def beside(seconds, plain):
+    print(f"  ratio {seconds / plain:.2f}")
+
+
+def opening():
+    """The label, the directory, the map and all pointer blocks stand at the volume's front, as do the small files of varying records."""
+    front = subprocess.run([HOME / "tests/volume.py", "large.img"], check=True, capture_output=True, text=True).stdout.split()[-1]
+    opened = spent([PROGRAM, "191,4096,ro,large.img"])[:2]
+    said("an opening of 10,000 files in 262,144 blocks of 4,096 bytes", *opened)
+    words = ["dd", "if=large.img", "of=/dev/null", "bs=4096", "skip=2", f"count={int(front) - 2}", "status=none"]
+    plain = spent(words)[0]
+    said(f"blocks 3 to {front} of it by dd", plain)
+    beside(opened[0], plain)
+    os.unlink("large.img")
+
+
+def files():
+    import volumes
+
+    kind = volumes.Kind(blocks=200_000, origin=4, files=FILES, lost=0)
+    image, _ = volumes.make(kind)
+    pathlib.Path("many.img").write_bytes(image)
+    needs = volumes.erase_needs(volumes.read(image, volumes.SIZE), volumes.SIZE) + 2
+    os.mkdir("many")
+    for nth in range(FILES):
+        pathlib.Path(f"many/F{nth:05}.DATA").touch()
+    os.sync()
+    listed = session("191,512,ro,many.img", ["LISTFILE * * A (LABEL"])
+    said(f"{FILES:,} files listed with all columns", *listed)
+    plain = spent(["ls", "-l", "many"])[0]
+    said(f"{FILES:,} files by ls -l", plain)
+    beside(listed[0], plain)
+    erased = session("191,512,rw,many.img", ["ERASE F00007 DATA A"])
+    said(f"one of them erased: {needs:,} blocks", *erased)
+    plain = spent(["dd", "if=/dev/zero", "of=blocks", "bs=512", f"count={needs}", "conv=fdatasync", "status=none"])[0]
+    said(f"{needs:,} blocks written and synced by dd", plain)
+    beside(erased[0], plain)
+    shutil.rmtree("many")
+    os.unlink("many.img")
+
+
+def with_records(count):
+    """The lines that make BIG FILE A, of so many records of 80 bytes, on a new volume."""
+    lines = ["FORMAT 191 A", "YES", "BENCH", f"EXECIO 10000 DISKW SRC FILE A (STRING {'X' * RECORD}"]
+    have = min(10_000, count)
+    lines.append(f"COPYFILE SRC FILE A BIG FILE A (RECFM F LRECL {RECORD} FOR {have}")
+    while have < count:
+        more = min(have, count - have)
+        lines.append(f"COPYFILE BIG FILE A BIG FILE A (APPEND FOR {more}")
+        have += more
+    return lines
+
+
+def copy():
+    times = {}
+    for size in (1, 64):
+        count = size * MEBIBYTE // RECORD
+        blocks = 3 * size * MEBIBYTE // 4096 + 4_000
+        image = f"copy{size}.img"
+        session(f"191,4096,n{blocks},{image}", with_records(count))
+        pathlib.Path("plain").write_bytes(b"X" * (count * RECORD))
+        os.sync()
+        times[size] = session(f"191,4096,rw,{image}", ["COPYFILE BIG FILE A OUT FILE A"])
+        said(f"COPYFILE of {size} MiB of F {RECORD} records", *times[size])
+        begun = time.monotonic()
+        subprocess.run(["cp", "plain", "plain2"], check=True)
+        subprocess.run(["sync", "plain2"], check=True)
+        plain = time.monotonic() - begun
+        said(f"cp and sync of {size} MiB", plain)
+        beside(times[size][0], plain)
+        for name in (image, "plain", "plain2"):
+            os.unlink(name)
+    print(f"  peak memory of 64 MiB beside that of 1 MiB: {times[64][1] / times[1][1]:.2f}")
 
 
 def execio():
@@ -65,17 +148,36 @@ def execio():
     rows = time.monotonic() - begun
     base.close()
     said(f"{count:,} transactions of one row, {count / rows:,.0f} a second", rows)
-    print(f"  ratio {seconds / rows:.1f}")
+    beside(seconds, rows)
 
 
-BENCHES = {"execio": execio}
+def procedure():
+    turns = 1_000_000
+    lines = ["FORMAT 191 A", "YES", "BENCH"]
+    for text in ("&TRACE OFF", "&LOOP 2 *", "&I = &I + 1", "&X = &I"):
+        lines.append(f"EXECIO 1 DISKW LOOP EXEC A (STRING {text}")
+    session("191,512,n60,loop.img", lines)
+    seconds, memory, _ = spent([PROGRAM, "-t", str(turns), "191,512,rw,loop.img"], "LOOP\n", status=5)
+    said(f"a procedure of {turns:,} turns, {turns / seconds:,.0f} statements a second", seconds, memory)
+    if not shutil.which("rexx"):
+        print("  no rexx to compare with")
+        return
+    pathlib.Path("loop.rexx").write_text(f"j = 0\ndo i = 1 to {turns // 2}\nj = j + 1\nx = j\nend\n")
+    plain, memory, _ = spent(["rexx", "./loop.rexx"])
+    said("the same loop in REXX", plain, memory)
+    beside(seconds, plain)
+
+
+BENCHES = {"opening": opening, "files": files, "copy": copy, "execio": execio, "procedure": procedure}
 
 
 def main():
-    names = sys.argv[1:] or list(BENCHES)
+    names = sys.argv[1:]
+    if names in ([], ["all"]):
+        names = list(BENCHES)
     unknown = [name for name in names if name not in BENCHES]
     if unknown:
-        sys.exit(f"bench: no {unknown[0]}; there are {', '.join(BENCHES)}")
+        sys.exit(f"bench: no {unknown[0]}; there are {', '.join(BENCHES)}, and all")
     if not PROGRAM.exists():
         subprocess.run([HOME / "cms", "--version"], check=True)
     with tempfile.TemporaryDirectory(dir=".") as folder:

@@ -1,12 +1,12 @@
 #!/usr/bin/env python3
-"""Stops the program at each write and each sync of an ERASE of three files, a RENAME and a LISTFILE with EXEC in one session, and looks at
-what is left, as tests/stops.py says.
+"""Stops the program at each write and each sync of a COPYFILE of three files, an ERASE of them, a RENAME and a LISTFILE with EXEC in one
+session, and looks at what is left, as tests/stops.py says.
 
     tests/files_crash.py
 
 Needs strace; it is no part of the gate. The unit is the volume `listed` of tests/volumes.py, whose directory and map have several blocks.
-Each image must be the minidisk behind one of the session's five updates, or that of the start, with its files in their order: the one that
-the lines typed by then tell of, or the next where one is under way. A session on it must list the same files.
+Each image must be the minidisk behind one of the session's eight updates, or that of the start, with its files in their order: the one
+that the lines typed by then tell of, or the next where one is under way. A session on it must list the same files.
 """
 
 import sys
@@ -16,7 +16,8 @@ import volumes
 
 SIZE = 512
 ODD = "ODD"
-SCRIPT = b"ERASE * ODD A (TYPE\nRENAME F00000 DATA A G00000 = =\nLISTFILE * * A (EXEC\n"
+EVEN = "EVEN"
+SCRIPT = b"COPYFILE * ODD A = EVEN A (TYPE\nERASE * ODD A (TYPE\nRENAME F00000 DATA A G00000 = =\nLISTFILE * * A (EXEC\n"
 LOOK = b"LISTFILE * * A (FTYPE\n"
 
 
@@ -49,6 +50,8 @@ class Trial(stops.Trial):
         super().__init__(folder, {"a": image}, SIZE, SCRIPT)
         self.states = [list(files.items())]
         self.odd = [key for key in files if key[1] == ODD]
+        for name, _ in self.odd:
+            self.states.append([*self.states[-1], ((name, EVEN), files[name, ODD])])
         for key in self.odd:
             self.states.append(without(self.states[-1], key))
         self.states.append(renamed(self.states[-1], ("F00000", "DATA"), ("G00000", "DATA")))
@@ -62,9 +65,10 @@ class Trial(stops.Trial):
         return self.states.index(files) if files in self.states else None
 
     def allowed(self, unit, typed):
-        told, ready = typed.count(b" ODD A1\n"), typed.count(stops.READY)
-        done = told + max(0, ready - 1)
-        under_way = told < len(self.odd) or ready in (1, 2)
+        copied, erased, ready = typed.count(b" TO "), typed.count(b" ODD A1\n"), typed.count(stops.READY)
+        done = copied + erased + max(0, ready - 2)
+        told = copied if ready == 0 else erased
+        under_way = ready in (2, 3) or ready < 2 and told < len(self.odd)
         return {done, done + 1} if under_way else {done}
 
     def looked(self, folder, states):

@@ -51,7 +51,7 @@ expect 'no zone' 2 output 'cms: words refused, reason 4' -z E1500 191,512,ro,dis
 expect 'a device twice' 2 error 'device 191' 191,512,ro,disk.img 191,512,ro,disk.img
 expect 'no seed' 2 output 'cms: words refused, reason 6' -g x 191,512,ro,disk.img
 expect 'two units' 0 output '' 191,512,ro,disk.img 192,512,ro,disk.img
-expect 'a generated script' 6 error '' -g 1 191,512,ro,disk.img
+expect 'a generated script' 0 output 'CMS002E File GEN EXEC * not found' -g 1 191,512,ro,disk.img
 expect 'a missing image' 4 error 'missing.img' 191,512,rw,missing.img
 same 'nothing is typed without an image' ''
 if [ -e missing.img ]; then echo 'FAILED: a missing image was made'; failed=$((failed + 1)); fi
@@ -73,9 +73,15 @@ expect 'files are listed, typed, renamed and erased' 0 output 'ARCHIVE  TEXT    
 printf 'LISTFILE * DATA\nTYPE ARCHIVE TEXT A 60\n' >script
 expect 'they stay so' 0 output 'NOT SO NEW' 191,512,ro,files.img
 same 'erased files are gone' "$(printf 'CMS002E File * DATA A not found\nR(00028);\nNOT SO NEW\nR;')"
-printf 'COPYFILE HELLO TEXT A = = B\nTYPE HELLO TEXT A\n' >script
-expect 'a line that is not built' 6 error '' 191,512,ro,disk.img
-same 'nothing runs behind an ended session' ''
+cp "$home/examples/files.img" procedure.img
+cp "$home/examples/procedure.txt" script
+expect 'a procedure runs' 0 output 'COFFEE' 191,512,rw,procedure.img
+same 'a procedure and what it types' "$(printf 'R;\nDEAR OPERATOR\nCOFFEE\nNOT SO NEW\nR;\nCMS002E File * MEMO A not found\nR(00028);')"
+cp "$home/examples/disk.img" copied.img
+printf 'COPYFILE HELLO TEXT A NEW TEXT A (TYPE LOWCASE\nTYPE NEW TEXT A\n' >script
+expect 'a file is copied' 0 output 'HELLO TEXT A1 TO NEW TEXT A1' 191,512,rw,copied.img
+printf 'TYPE NEW TEXT A\n' >script
+expect 'the copy stays' 0 output 'world' 191,512,ro,copied.img
 printf '\n\n\nTYPE HELLO TEXT A\n' >script
 expect 'the turns are spent' 5 error 'turns' -t 3 191,512,ro,disk.img
 same 'nothing runs behind the turns' ''
@@ -86,6 +92,18 @@ printf 'TYPE HELLO TEXT A\n' >script
 if [ $? = 4 ] && grep -q 'standard output' error; then passed=$((passed + 1)); else failed=$((failed + 1)); echo 'FAILED: a full output'; cat error; fi
 "$home/cms" 191,512,ro,disk.img </ >output 2>error
 if [ $? = 4 ] && grep -q 'standard input' error; then passed=$((passed + 1)); else failed=$((failed + 1)); echo 'FAILED: a folder as input'; cat error; fi
+
+# Standard streams that aren't open: nothing of theirs comes into an image.
+cp "$home/examples/files.img" streams.img
+printf 'LISTFILE\n' >script
+"$home/cms" 191,512,rw,streams.img <script >&- 2>error
+if [ $? = 4 ] && cmp -s streams.img "$home/examples/files.img"; then passed=$((passed + 1)); else failed=$((failed + 1)); echo 'FAILED: no output'; fi
+"$home/cms" 191,512,rw,streams.img <script >/dev/full 2>&-
+if [ $? = 4 ] && cmp -s streams.img "$home/examples/files.img"; then passed=$((passed + 1)); else failed=$((failed + 1)); echo 'FAILED: no error output'; fi
+"$home/cms" 191,512,rw,streams.img <&- >output 2>error
+if [ $? = 4 ] && [ ! -s output ]; then passed=$((passed + 1)); else failed=$((failed + 1)); echo 'FAILED: no input'; fi
+mkfifo pipe.img
+expect 'a pipe' 4 error 'plain file' 191,512,ro,pipe.img
 
 echo "$passed passed, $failed failed"
 [ "$failed" = 0 ]

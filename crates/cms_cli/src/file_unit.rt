@@ -5,10 +5,10 @@ ghost use Rattle.cms_journal.specs.Limits.{most_blocks};
 
 use cms_journal::MOST_BLOCKS;
 use cms_world::Access;
-use std::fs::{File, Files, OpenFile, OpenOptions};
-use std::io;
+use std::fs::{File, Files, Metadata, OpenFile, OpenOptions};
 use std::io::ErrorKind;
 use std::os::unix::fs::FileExt;
+use std::{fs, io};
 
 #[cfg(test)]
 mod tests;
@@ -78,18 +78,30 @@ fn make_image<R: Files<File = File>>(rt: &R, name: &str, bytes: u64) -> io::Resu
     Ok(file)
 }
 
-// Opens an image, or makes one.
+// Refuses what isn't a plain file.
+fn check_plain(metadata: &Metadata) -> io::Result<()> {
+    if metadata.is_file() {
+        Ok(())
+    } else {
+        Err(io::Error::from(ErrorKind::InvalidInput))
+    }
+}
+
+// Opens an image, or makes one. What has the name is looked at before: to open a pipe would wait for its other end.
 fn open_image<R: Files<File = File>>(
     rt: &R,
     name: &str,
     bsize: u32,
     access: Access,
 ) -> io::Result<File> {
-    match access {
-        Access::ReadOnly => OpenOptions::new().read(true).open(rt, name),
-        Access::ReadWrite => OpenOptions::new().read(true).write(true).open(rt, name),
-        Access::New(count) => make_image(rt, name, count as u64 * bsize as u64),
+    if let Access::New(count) = access {
+        return make_image(rt, name, count as u64 * bsize as u64);
     }
+    check_plain(&fs::metadata(rt, name)?)?;
+    OpenOptions::new()
+        .read(true)
+        .write(access == Access::ReadWrite)
+        .open(rt, name)
 }
 
 // The whole blocks in so many bytes, up to the last one that counts.
@@ -114,9 +126,7 @@ pub fn open_unit<R: Files<File = File>>(
 {
     let file = open_image(rt, name, bsize, access)?;
     let metadata = file.metadata()?;
-    if !metadata.is_file() {
-        return Err(io::Error::from(ErrorKind::InvalidInput));
-    }
+    check_plain(&metadata)?;
     let blocks = whole_blocks(metadata.len(), bsize);
     let writable = access != Access::ReadOnly;
     Ok(FileUnit {

@@ -5,7 +5,7 @@ pub const VERSION: &str = "cms 0.1.0";
 
 /// How the program is called, what it runs, and how it ends.
 pub const HELP: &str = "\
-cms: CMS minidisks in image files, with their commands.
+cms: CMS minidisks in image files, with their commands and procedures.
 
 usage: cms [-t TURNS] [-z ZONE] [-g NUMBER] VDEV,BSIZE,ACCESS,NAME ..
 
@@ -28,7 +28,9 @@ The commands are read from standard input, a line each. What they type goes to s
 output, and behind each command its ready line: R; or, with a return code, R(00028);
 
   ACCESS v m       gives the volume of device v the letter m; with m/p, as an extension of p
+  COPYFILE fn ft fm fn ft fm   copies files record by record, as they are or changed by options
   ERASE fn ft fm   erases files; when its ready line is typed they are gone for good
+  EXEC fn words    runs the procedure fn EXEC, as does a line that begins with its name
   EXECIO n DISKR fn ft fm   leaves n records of a file on the program stack, from which the next
                    lines are taken; EXECIO n DISKW fn ft fm adds n lines to a file
   FORMAT v m       makes an empty volume on device v and gives it the letter m, after two questions;
@@ -42,8 +44,8 @@ output, and behind each command its ready line: R; or, with a return code, R(000
   TYPE fn ft fm    types the records of a file
   * text           is a comment
 
-A mode fm is a letter, also with a number, and may be left out of all but RENAME. Each line
-costs a turn.
+A mode fm is a letter, also with a number, and may be left out of all but COPYFILE and RENAME.
+Each line costs a turn, and so does each statement of a procedure.
 
 example: what is on the image disk.img, in a shell
 
@@ -61,6 +63,5 @@ status:
   3  there is no memory
   4  an image couldn't be attached, or the input, the output or the clock failed
   5  the turns are spent
-  6  a line asks for what isn't built yet
 
-At 2 to 6 a line on standard error says what failed.";
+At 2 to 5 a line on standard error says what failed.";

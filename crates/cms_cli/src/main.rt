@@ -15,10 +15,13 @@ use cms_session::{Status, WordFault, run};
 use cms_world::Argv;
 use file_world::FileWorld;
 use help::{HELP, VERSION};
+use std::fs::File;
 use std::io::{ErrorKind, IsTerminal};
 use std::process::ExitCode;
 use std::{env, io};
 use telling::{tell_ending, tell_world};
+
+const FOLDER: &str = "/";
 
 /// Why the words can't be had: there is no memory, or one isn't text.
 fn argument_status(error: &io::Error) -> Status {
@@ -53,8 +56,22 @@ fn ending(status: Status, written: bool) -> Status
     if written { status } else { Status::World }
 }
 
+/// Opens a folder three times, so that no image gets the place of a standard stream that isn't open: it would be read as the script, or
+/// what is typed would be written to it. A folder gives nothing and takes nothing.
+fn hold_streams(rt: &HostRuntime) -> io::Result<[File; 3]> {
+    Ok([
+        File::open(rt, FOLDER)?,
+        File::open(rt, FOLDER)?,
+        File::open(rt, FOLDER)?,
+    ])
+}
+
 /// A session over real files. Where the world failed it says on standard error what.
 fn session(rt: &HostRuntime, words: &Argv) -> Status {
+    let Ok(_streams) = hold_streams(rt) else {
+        let _ = eprintln!(rt; "cms: {FOLDER} can't be opened");
+        return Status::World;
+    };
     let lines = rt.stdout().is_terminal();
     let Ok(mut world) = FileWorld::new(rt.alloc(), rt, lines) else {
         return Status::Memory;
@@ -77,7 +94,7 @@ fn answer(rt: &HostRuntime, words: &Argv) -> Status {
     }
 }
 
-/// The program's exit code: 0, or 2 to 6.
+/// The program's exit code: 0, or 2 to 5.
 fn exit_code(status: Status) -> u8
     ensures { result ≡ code_of status }
 {

@@ -37,7 +37,6 @@ pub fn tell_ending(rt: &HostRuntime, status: Status) {
         Status::Usage(fault) => tell_refusal(rt, fault),
         Status::Memory => eprintln!(rt; "cms: there is no memory"),
         Status::Turns => eprintln!(rt; "cms: the turns of the session are spent"),
-        Status::NotBuilt => eprintln!(rt; "cms: a line asks for what isn't built yet"),
     };
 }
 

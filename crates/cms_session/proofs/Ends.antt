@@ -38,7 +38,7 @@ use Rattle.cms_session.specs.Words.{asked_of, given_by}
 use Rattle.cms_session.specs.declared.state.Finish.{Finish}
 use Rattle.cms_session.specs.declared.state.Finish.TheVariants as finish
 use Rattle.cms_session.specs.declared.status.Status.{Status}
-use Rattle.cms_session.specs.declared.status.Status.TheVariants.{Done, Usage, Memory, World, Turns, NotBuilt}
+use Rattle.cms_session.specs.declared.status.Status.TheVariants.{Done, Usage, Memory, World, Turns}
 use Rattle.cms_session.proofs.Starts.{first_state_of, none_lettered, settled_at, left_first, now_first, holds_start, devices_start}
 
 -- ---- a run, and how it ended
@@ -93,7 +93,6 @@ runs_cut before now words infos s new cut.Edge is did units h = (was_cut before 
 ended_as : (p : Point) (edges : ℕ) (now : Seen) (t : Act Finish) (end : Finish) → CameTo p now t end → EndedAs p edges now t (status_of end)
 ended_as p edges now t finish.AtEnd came = came
 ended_as p edges now t finish.AtTurns came = came
-ended_as p edges now t finish.NotBuilt came = came
 
 pub runs_whole : (before now : Seen) (words : Words) (infos : List UnitInfo) (s new : declared.State) (end : Finish) → s ≡ start_state words infos → Did before now s new (Ok end)
     → RunsOn infos words before now (status_of end)
@@ -115,7 +114,6 @@ runs_not before words infos units h = cut_before (point_first before words units
 ended_earlier : (p : Point) (edges mid : ℕ) (now : Seen) (t : Act Finish) (status : Status) → edges ≤ mid → EndedAs p mid now t status → EndedAs p edges now t status
 ended_earlier p edges mid now t Done earlier e = e
 ended_earlier p edges mid now t Turns earlier e = e
-ended_earlier p edges mid now t NotBuilt earlier e = e
 ended_earlier p edges mid now t World earlier e = let rose = e.1 in (e.0, omega (arith, earlier, rose))
 ended_earlier p edges mid now t Memory earlier e = e
 ended_earlier p edges mid now t (Usage fault) earlier e = e
@@ -208,7 +206,6 @@ pub headline : (s : Start) (before now : Seen) (status : Status) → before.faul
     → EndedAs (start_point s) before.edges now (start_tree s) status → Headline s before now status
 headline s before now Done faults e = of_end s before now Done finish.AtEnd faults (λ events f units came. came) e
 headline s before now Turns faults e = of_end s before now Turns finish.AtTurns faults (λ events f units came. came) e
-headline s before now NotBuilt faults e = of_end s before now NotBuilt finish.NotBuilt faults (λ events f units came. came) e
 headline s before now World faults e = headline_of s before now World e.0.point e.0.broke faults e.0.shown (begins_of s e.0.point e.0.broke, e.1)
 headline s before now Memory faults e = headline_of s before now Memory e.point e.broke faults e.shown (begins_of s e.point e.broke)
 headline s before now (Usage fault) faults e = absurd e

@@ -3,6 +3,7 @@ pub mod Stars
 pub mod UnitsAttached
 pub mod Starts
 pub mod Rounds
+pub mod Requests
+pub mod Statements
 pub mod Plays
 pub mod Ends
-pub mod Procedures

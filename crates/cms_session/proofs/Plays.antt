@@ -1,5 +1,5 @@
 -- The session's rounds, one after another.
-use Rattle.std.proofs.Common.{◌≡◌, ℕ, zero, suc, ◌<◌, List, Ok, Err, refl, subst, arith}
+use Rattle.std.proofs.Common.{◌≡◌, ℕ, zero, suc, ◌<◌, List, [], ◌∷◌, Result, Ok, Err, refl, sym, subst, arith}
 use Rattle.cms_machine.specs.Slots.{Slot}
 use Rattle.cms_machine.specs.Acts.{Act, Done, bind}
 use Rattle.cms_search.specs.declared.state.End.{End}
@@ -9,72 +9,102 @@ use Rattle.cms_search.proofs.Acts.{comes_then, comes_in, comes_same, acts_done, 
 use Rattle.cms_session.specs.declared.state.Finish.{Finish}
 use Rattle.cms_session.specs.declared.state.Round as rounds
 use Rattle.cms_session.specs.declared.state.Round.TheVariants as end
-use Rattle.cms_session.specs.Machine.{then_round, session}
-use Rattle.cms_session.specs.Calls.{round_of, round_tree, finished}
+use Rattle.exec2_run.specs.declared.exec.Exec.{Exec}
+use Rattle.cms_session.specs.Machine.{round_by, rounds as rounds_from, run_lines, then_round, session}
+use Rattle.cms_session.specs.Procedures.{Round, statement}
+use Rattle.cms_session.specs.Calls.{access_tree, finished, machine_now, round_with, session_tree}
+use Rattle.cms_session.proofs.Rounds.{line_round_on}
 
--- so many rounds at most, on the machine with these units
-abbrev pub rounds_tree : ℕ → State → List Slot → Act Finish
-rounds_tree fuel s units = session fuel (machine_of s units)
+-- so many rounds at most, on the machine with these units and procedures
+abbrev pub rounds_tree : ℕ → State → List Exec → List Slot → Act Finish
+rounds_tree fuel s ps units = session fuel (record { machine = machine_of s units; procedures = ps })
 
-first_round : (fuel : ℕ) (s : State) (units : List Slot) → rounds_tree (suc fuel) s units ≡ bind (round_tree s units) (then_round (session fuel))
+abbrev pub round_on : State → List Exec → List Slot → Act Round
+round_on s ps units = round_by (machine_of s units) ps
+
+abbrev rounds_in : ℕ → State → List Exec → List Slot → Act Finish
+rounds_in fuel s ps units = bind (round_on s ps units) (then_round (session fuel))
+
+first_round : (fuel : ℕ) (s : State) (ps : List Exec) (units : List Slot) → rounds_tree (suc fuel) s ps units ≡ rounds_in fuel s ps units
 unfolding session
-first_round fuel s units = refl
+first_round fuel s ps units = refl
 
-abbrev rounds_in : ℕ → State → List Slot → Act Finish
-rounds_in fuel s units = bind (round_tree s units) (then_round (session fuel))
-
-opened : (old mid : Spot) (tree : List Slot → Act Finish) (fuel : ℕ) → Comes old mid tree (rounds_tree (suc fuel) mid.state)
-    → Comes old mid tree (rounds_in fuel mid.state)
-opened old mid tree fuel g =
-    comes_then old mid mid tree (rounds_tree (suc fuel) mid.state) (rounds_in fuel mid.state) g
-    (comes_same mid (rounds_tree (suc fuel) mid.state) (rounds_in fuel mid.state) (λ units h. first_round fuel mid.state units))
+opened : (old mid : Spot) (ps : List Exec) (tree : List Slot → Act Finish) (fuel : ℕ) → Comes old mid tree (rounds_tree (suc fuel) mid.state ps)
+    → Comes old mid tree (rounds_in fuel mid.state ps)
+opened old mid ps tree fuel g =
+    comes_then old mid mid tree (rounds_tree (suc fuel) mid.state ps) (rounds_in fuel mid.state ps) g
+    (comes_same mid (rounds_tree (suc fuel) mid.state ps) (rounds_in fuel mid.state ps) (λ units h. first_round fuel mid.state ps units))
 
 -- how far the session has come: more rounds may follow than turns are left
-pub record Going (old now : Spot) (tree : List Slot → Act Finish) : Type 0 where
+pub record Going (old now : Spot) (ps : List Exec) (tree : List Slot → Act Finish) : Type 0 where
   pub fuel : ℕ
   pub enough : now.state.left < fuel
-  pub comes : Comes old now tree (rounds_tree fuel now.state)
+  pub comes : Comes old now tree (rounds_tree fuel now.state ps)
 
 -- a round was cut off
-pub play_stops : (old mid new : Spot) (tree : List Slot → Act Finish) (e : End) → Going old mid tree
-    → Acts {T = rounds.Round} mid new (round_tree mid.state) (Err e) (round_of new.state) → Acts old new tree (Err e) finished
-play_stops old mid new tree e going a = go going.fuel going.enough going.comes
+pub play_stops : (old mid new : Spot) (ps qs : List Exec) (tree : List Slot → Act Finish) (e : End) → Going old mid ps tree
+    → Acts {T = rounds.Round} mid new (round_on mid.state ps) (Err e) (round_with new.state qs) → Acts old new tree (Err e) finished
+play_stops old mid new ps qs tree e going a = go going.fuel going.enough going.comes
   where
-    go : (fuel : ℕ) → mid.state.left < fuel → Comes old mid tree (rounds_tree fuel mid.state) → Acts old new tree (Err e) finished
+    go : (fuel : ℕ) → mid.state.left < fuel → Comes old mid tree (rounds_tree fuel mid.state ps) → Acts old new tree (Err e) finished
     go zero enough g = absurd (omega (arith, enough))
     go (suc fuel) enough g =
-        acts_after old mid new tree (rounds_in fuel mid.state) (Err e) finished (opened old mid tree fuel g)
-        (acts_stop mid new (round_tree mid.state) (then_round (session fuel)) e (round_of new.state) finished a)
+        acts_after old mid new tree (rounds_in fuel mid.state ps) (Err e) finished (opened old mid ps tree fuel g)
+        (acts_stop mid new (round_on mid.state ps) (then_round (session fuel)) e (round_with new.state qs) finished a)
 
 -- a round after which the session ends
-pub play_ends : (old mid new : Spot) (tree : List Slot → Act Finish) (r : rounds.Round) (finish : Finish) → Going old mid tree → r ≡ end.Ended finish
-    → Acts mid new (round_tree mid.state) (Ok r) (round_of new.state) → Acts old new tree (Ok finish) finished
-play_ends old mid new tree r finish going is a = go going.fuel going.enough going.comes
+pub play_ends : (old mid new : Spot) (ps qs : List Exec) (tree : List Slot → Act Finish) (r : rounds.Round) (finish : Finish) → Going old mid ps tree → r ≡ end.Ended finish
+    → Acts mid new (round_on mid.state ps) (Ok r) (round_with new.state qs) → Acts old new tree (Ok finish) finished
+play_ends old mid new ps qs tree r finish going is a = go going.fuel going.enough going.comes
   where
-    ended : Acts mid new (round_tree mid.state) (Ok (end.Ended finish)) (round_of new.state)
-    ended = subst (λ (x : rounds.Round). Acts mid new (round_tree mid.state) (Ok x) (round_of new.state)) is a
+    ended : Acts mid new (round_on mid.state ps) (Ok (end.Ended finish)) (round_with new.state qs)
+    ended = subst (λ (x : rounds.Round). Acts mid new (round_on mid.state ps) (Ok x) (round_with new.state qs)) is a
 
-    go : (fuel : ℕ) → mid.state.left < fuel → Comes old mid tree (rounds_tree fuel mid.state) → Acts old new tree (Ok finish) finished
+    go : (fuel : ℕ) → mid.state.left < fuel → Comes old mid tree (rounds_tree fuel mid.state ps) → Acts old new tree (Ok finish) finished
     go zero enough g = absurd (omega (arith, enough))
     go (suc fuel) enough g =
         acts_done old new tree finish finished
-        (comes_then old mid new tree (rounds_in fuel mid.state) (λ units. Done finish) (opened old mid tree fuel g)
-        (comes_in mid new (round_tree mid.state) (then_round (session fuel)) (end.Ended finish) (round_of new.state) ended))
+        (comes_then old mid new tree (rounds_in fuel mid.state ps) (λ units. Done finish) (opened old mid ps tree fuel g)
+        (comes_in mid new (round_on mid.state ps) (then_round (session fuel)) (end.Ended finish) (round_with new.state qs) ended))
 
 -- a round after which another may follow
-pub play_goes : (old mid new : Spot) (tree : List Slot → Act Finish) (r : rounds.Round) → Going old mid tree → new.state.left < mid.state.left
-    → r ≡ end.Ready → Acts mid new (round_tree mid.state) (Ok r) (round_of new.state) → Going old new tree
-play_goes old mid new tree r going less is a = go going.fuel going.enough going.comes
+pub play_goes : (old mid new : Spot) (ps qs : List Exec) (tree : List Slot → Act Finish) (r : rounds.Round) → Going old mid ps tree → new.state.left < mid.state.left
+    → r ≡ end.Ready → Acts mid new (round_on mid.state ps) (Ok r) (round_with new.state qs) → Going old new qs tree
+play_goes old mid new ps qs tree r going less is a = go going.fuel going.enough going.comes
   where
-    ready : Acts mid new (round_tree mid.state) (Ok end.Ready) (round_of new.state)
-    ready = subst (λ (x : rounds.Round). Acts mid new (round_tree mid.state) (Ok x) (round_of new.state)) is a
+    ready : Acts mid new (round_on mid.state ps) (Ok end.Ready) (round_with new.state qs)
+    ready = subst (λ (x : rounds.Round). Acts mid new (round_on mid.state ps) (Ok x) (round_with new.state qs)) is a
 
-    go : (fuel : ℕ) → mid.state.left < fuel → Comes old mid tree (rounds_tree fuel mid.state) → Going old new tree
+    go : (fuel : ℕ) → mid.state.left < fuel → Comes old mid tree (rounds_tree fuel mid.state ps) → Going old new qs tree
     go zero enough g = absurd (omega (arith, enough))
     go (suc fuel) enough g = record {
       fuel = fuel;
       enough = omega (arith, enough, less);
       comes =
-          comes_then old mid new tree (rounds_in fuel mid.state) (rounds_tree fuel new.state) (opened old mid tree fuel g)
-          (comes_in mid new (round_tree mid.state) (then_round (session fuel)) end.Ready (round_of new.state) ready);
+          comes_then old mid new tree (rounds_in fuel mid.state ps) (rounds_tree fuel new.state qs) (opened old mid ps tree fuel g)
+          (comes_in mid new (round_on mid.state ps) (then_round (session fuel)) end.Ready (round_with new.state qs) ready);
     }
+
+-- ---- a round
+
+-- a procedure runs
+pub round_some : (old new : Spot) (ps rest qs : List Exec) (p : Exec) (r : Result rounds.Round End) → ps ≡ p ∷ rest
+    → Acts old new (λ units. statement (machine_of old.state units) rest p) r (round_with new.state qs) → Acts old new (round_on old.state ps) r (round_with new.state qs)
+round_some old new ps rest qs p r is a = subst (λ (l : List Exec). Acts old new (round_on old.state l) r (round_with new.state qs)) (sym is) a
+
+-- or none
+pub round_none : (old new : Spot) (ps rest qs : List Exec) (r : Result rounds.Round End) → ps ≡ [] → rest ≡ []
+    → Acts old new (line_round_on old.state rest) r (round_with new.state qs) → Acts old new (round_on old.state ps) r (round_with new.state qs)
+round_none old new ps rest qs r none none' a =
+    subst (λ (l : List Exec). Acts old new (round_on old.state l) r (round_with new.state qs)) (sym none)
+    (subst (λ (l : List Exec). Acts old new (line_round_on old.state l) r (round_with new.state qs)) none' a)
+
+-- ---- the session
+
+-- the first device was accessed, and rounds followed
+pub played : (old mid new : Spot) (ps : List Exec) (x : Unit {0}) (r : Result Finish End) → ps ≡ [] → Acts old mid (access_tree old.state) (Ok x) (machine_now mid.state)
+    → Acts mid new (λ units. rounds_from (record { machine = machine_of mid.state units; procedures = ps })) r finished → Acts old new (session_tree old.state) r finished
+played old mid new ps x r none a b =
+    acts_after old mid new (session_tree old.state) (λ units. run_lines (machine_of mid.state units)) r finished
+    (comes_in old mid (access_tree old.state) run_lines x (machine_now mid.state) a)
+    (subst (λ (l : List Exec). Acts mid new (λ units. rounds_from (record { machine = machine_of mid.state units; procedures = l })) r finished) none b)

@@ -1,5 +1,5 @@
--- The parts of a round.
-use Rattle.std.proofs.Common.{◌≡◌, ℕ, ℤ, ◌≤◌, suc, List, [], ◌∷◌, slice_get, Option, Some, None, Result, Ok, Err, Bool, true, false, refl, ap, sym, ◌∙◌, subst}
+-- Lines that CMS takes, turns and the ready line.
+use Rattle.std.proofs.Common.{◌≡◌, ℕ, ℤ, ◌≤◌, suc, List, [], ◌∷◌, Option, Some, None, Result, Ok, Err, refl, ap, sym, ◌∙◌, subst}
 use Rattle.std.specs.FinMap.{empty}
 use Rattle.std.specs.Prelude.{option_map, pos}
 use Rattle.cms_journal.specs.Causes.{Rose}
@@ -13,13 +13,10 @@ use Rattle.cms_line.specs.ConsoleState.{ConsoleState}
 use Rattle.cms_line.specs.Consoles.{Took, Stayed, item_of}
 use Rattle.cms_line.specs.declared.console.ConsoleLine.{ConsoleLine}
 use Rattle.cms_line.specs.Messages.{message_text}
-use Rattle.cms_line.specs.Tokens.{tokens_of}
 use Rattle.cms_line.specs.declared.message.Message.{Message}
-use Rattle.cms_line.specs.declared.token.Token.{Token}
 use Rattle.cms_search.specs.Calls.{Spot, Meaning, Does, Acts, Comes, beside, itself, said, holds, machine_of, course_of, refusal_tree}
-use Rattle.cms_search.specs.Machine.{Machine, Course, turned}
+use Rattle.cms_search.specs.Machine.{Machine, turned}
 use Rattle.cms_search.specs.Ready.{ready_line}
-use Rattle.cms_search.specs.Shows.{Shows}
 use Rattle.cms_search.specs.Talks.{Talks}
 use Rattle.cms_search.specs.declared.state.Course as declared
 use Rattle.cms_search.specs.declared.state.Course.TheVariants as course
@@ -27,13 +24,12 @@ use Rattle.cms_search.specs.declared.state.End.{End}
 use Rattle.cms_search.specs.declared.state.End.TheVariants.{Edge}
 use Rattle.cms_search.specs.declared.state.State.{State}
 use Rattle.cms_search.proofs.Acts.{acts_talks, comes_then, comes_in, comes_same, acts_done, acts_after, acts_same, acts_stop, refused}
-use Rattle.cms_search.proofs.Meeting.{holds_shows}
 use Rattle.cms_search.proofs.Talking.{Came, came_none, came_on, came_off, came_to, of_does, took, stayed}
 use Rattle.cms_world.specs.Seen.{Seen}
-use Rattle.cms_session.specs.Commands.{is_comment, command_of}
-use Rattle.cms_session.specs.Machine.{Round, Ready, is_procedure, readied, on_turn, on_taken, run_built, run_item, run_words, unless_procedure}
-use Rattle.cms_session.specs.Calls.{machine_now, item_in, taking_tree, turning_tree, ready_tree, command_tree, line_tree, item_tree, refused_tree, round_tree, round_of}
-use Rattle.cms_session.specs.declared.command.Command.{Command}
+use Rattle.exec2_run.specs.declared.exec.Exec.{Exec}
+use Rattle.cms_session.specs.Machine.{line_round, on_turn, on_taken, run_item}
+use Rattle.cms_session.specs.Procedures.{Round, Ready, ended, readied}
+use Rattle.cms_session.specs.Calls.{machine_now, item_in, taking_tree, turning_tree, round_with}
 use Rattle.cms_session.specs.declared.round.Taken.{Taken}
 use Rattle.cms_session.specs.declared.round.Taken.TheVariants as given
 use Rattle.cms_session.specs.declared.state.Round as rounds
@@ -124,18 +120,24 @@ not_turned old new left e does console table =
 
 -- ---- the ready line
 
-pub readied_so : (old new : Spot) (code : ℤ) (x : Unit {0}) → Does old.world new.world (saying (typed_line (ready_line code))) (Ok x) itself
-    → new.state ≡ record old.state { places = empty } → Acts old new (ready_tree old.state (course.Went code)) (Ok end.Ready) (round_of new.state)
-readied_so old new code x does kept =
-    done_talks old new (saying (typed_line (ready_line code))) (λ units y. Done (Ready (record (machine_of old.state units) { places = empty }))) x itself end.Ready (round_of new.state)
+abbrev pub ready_on : State → List Exec → ℤ → List Slot → Act Round
+ready_on s ps code units = readied (record { machine = machine_of s units; procedures = ps }) code
+
+abbrev ready_behind : State → List Exec → List Slot → Unit {0} → Act Round
+ready_behind s ps units y = Done (Ready (record { machine = record (machine_of s units) { places = empty }; procedures = ps }))
+
+pub readied_so : (old new : Spot) (ps : List Exec) (code : ℤ) (x : Unit {0}) → Does old.world new.world (saying (typed_line (ready_line code))) (Ok x) itself
+    → new.state ≡ record old.state { places = empty } → Acts old new (ready_on old.state ps code) (Ok end.Ready) (round_with new.state ps)
+readied_so old new ps code x does kept =
+    done_talks old new (saying (typed_line (ready_line code))) (ready_behind old.state ps) x itself end.Ready (round_with new.state ps)
     (ap (λ (s : State). s.table) kept) (talks_kept old new (saying (typed_line (ready_line code))) (Ok x) itself (ap (λ (s : State). s.console) kept) does)
     (λ units. let machine : machine_of new.state units ≡ record (machine_of old.state units) { places = empty } = ap (λ (s : State). machine_of s units) kept in rw machine refl)
 
-pub ready_stops : (old new : Spot) (code : ℤ) (e : End) → Does {T = Unit {0}} old.world new.world (saying (typed_line (ready_line code))) (Err e) itself → new.state ≡ old.state
-    → Acts {T = rounds.Round} old new (ready_tree old.state (course.Went code)) (Err e) (round_of new.state)
-ready_stops old new code e does kept =
-    cut_talks {T = Unit {0}} {U = rounds.Round} old new (saying (typed_line (ready_line code))) (λ units y. Done (Ready (record (machine_of old.state units) { places = empty }))) e itself
-    (round_of new.state) (ap (λ (s : State). s.table) kept)
+pub ready_stops : (old new : Spot) (ps qs : List Exec) (code : ℤ) (e : End) → Does {T = Unit {0}} old.world new.world (saying (typed_line (ready_line code))) (Err e) itself
+    → new.state ≡ old.state → Acts {T = rounds.Round} old new (ready_on old.state ps code) (Err e) (round_with new.state qs)
+ready_stops old new ps qs code e does kept =
+    cut_talks {T = Unit {0}} {U = rounds.Round} old new (saying (typed_line (ready_line code))) (ready_behind old.state ps) e itself
+    (round_with new.state qs) (ap (λ (s : State). s.table) kept)
     (talks_kept {T = Unit {0}} old new (saying (typed_line (ready_line code))) (Err e) itself (ap (λ (s : State). s.console) kept) does)
 
 -- where the tree is done already
@@ -143,161 +145,65 @@ pub done_here : {R T : Type 0} (old : Spot) (t : List Slot → Act R) (x : T) (m
     → Acts old old t (Ok x) m
 done_here old t x m is = acts_done old old t x m (comes_same old t (λ units. Done (m units x)) is)
 
--- ---- a command and its ready line
+-- ---- a round of a line
 
-command_ready : (old mid new : Spot) (tree : List Slot → Act Course) (c : declared.Course) (r : Result rounds.Round End) → Acts old mid tree (Ok c) (course_of mid.state)
-    → Acts mid new (ready_tree mid.state c) r (round_of new.state) → Acts old new (λ units. bind (tree units) readied) r (round_of new.state)
-command_ready old mid new tree c r a b =
-    acts_after old mid new (λ units. bind (tree units) readied) (ready_tree mid.state c) r (round_of new.state) (comes_in old mid tree readied c (course_of mid.state) a) b
-
-command_stops : (old new : Spot) (tree : List Slot → Act Course) (e : End) → Acts {T = declared.Course} old new tree (Err e) (course_of new.state)
-    → Acts {T = rounds.Round} old new (λ units. bind (tree units) readied) (Err e) (round_of new.state)
-command_stops old new tree e a = acts_stop old new tree readied e (course_of new.state) (round_of new.state) a
-
--- ---- a line
-
-pub comment_so : (old : Spot) (line : List ℕ) → is_comment line ≡ true → Acts old old (line_tree old.state line) (Ok end.Ready) (round_of old.state)
-comment_so old line is = done_here old (line_tree old.state line) end.Ready (round_of old.state) (λ units h. rw is refl)
-
-none_first : (ts : List Token) → slice_get ts 0 ≡ None → ts ≡ []
-none_first [] e = refl
-none_first (t ∷ ts) e = absurd (cc e)
-
-pub wordless_so : (old : Spot) (line : List ℕ) (ts : List Token) → is_comment line ≡ false → ts ≡ tokens_of line → slice_get ts 0 ≡ None
-    → Acts old old (line_tree old.state line) (Ok end.Ready) (round_of old.state)
-wordless_so old line ts other are none =
-    let no_words : tokens_of line ≡ [] = sym are ∙ none_first ts none in
-    done_here old (line_tree old.state line) end.Ready (round_of old.state) (λ units h. rw (other, no_words) refl)
-
-first_is : (ts : List Token) (t : Token) → slice_get ts 0 ≡ Some t → (more : List Token) × (ts ≡ t ∷ more)
-first_is [] t e = absurd (cc e)
-first_is (u ∷ ts) t e = let same : u ≡ t = cc e in (ts, ap (λ (x : Token). x ∷ ts) same)
-
--- the test says whether a procedure has the name of a word
-abbrev pub Tells : Spot → List ℕ → Bool → Type 0
-Tells old word test = (s : Machine) → Shows old.state.table s → test ≡ is_procedure s word
-
-pub procedure_so : (old : Spot) (line : List ℕ) (ts : List Token) (first : Token) (test : Bool) → is_comment line ≡ false → ts ≡ tokens_of line → slice_get ts 0 ≡ Some first
-    → Tells old first.text test → test ≡ true → Acts old old (line_tree old.state line) (Ok (end.Ended finish.NotBuilt)) (round_of old.state)
-procedure_so old line ts first test other are at tells found =
-    let f = first_is ts first at in
-    let words : tokens_of line ≡ first ∷ f.0 = sym are ∙ f.1 in
-    done_here old (line_tree old.state line) (end.Ended finish.NotBuilt) (round_of old.state)
-    (λ units h. let named : is_procedure (machine_of old.state units) first.text ≡ true = sym (tells (machine_of old.state units) (holds_shows old units h)) ∙ found in rw (other, words, named) refl)
-
--- what is run of words, by the first of them
-words_run : (m : Machine) (line : List ℕ) (ts : List Token) (first : Token) → slice_get ts 0 ≡ Some first
-    → run_words m line ts ≡ unless_procedure (is_procedure m first.text) (run_built m line ts first.text (command_of first.text))
-words_run m line [] first at = absurd (cc at)
-words_run m line (t ∷ ts) first at = let same : t ≡ first = cc at in rw same refl
-
--- the words of a line that is no comment, of which no procedure has the first, and the command that this names
-pub record Worded (old : Spot) (line : List ℕ) (ts : List Token) (first : Token) (named : Option Command) : Type 0 where
-  pub other : is_comment line ≡ false
-  pub are : ts ≡ tokens_of line
-  pub at : slice_get ts 0 ≡ Some first
-  pub unnamed : (units : List Slot) → holds old units → is_procedure (machine_of old.state units) first.text ≡ false
-  pub is : named ≡ command_of first.text
-
--- as the calls tell it, which are given these bytes
-pub worded : (old : Spot) (line bytes word word' : List ℕ) (comment test : Bool) (ts : List Token) (first : Token) (named : Option Command) → bytes ≡ line
-    → comment ≡ is_comment bytes → comment ≡ false → ts ≡ tokens_of line → Some first ≡ slice_get ts 0 → word ≡ first.text → Tells old word test → test ≡ false
-    → word' ≡ first.text → named ≡ command_of word' → Worded old line ts first named
-worded old line bytes word word' comment test ts first named same told other are at read tells none read' is = record {
-  other = sym (rw same at told) ∙ other;
-  are = are;
-  at = sym at;
-  unnamed = λ units h. let told' : Tells old first.text test = rw read at tells in sym (told' (machine_of old.state units) (holds_shows old units h)) ∙ none;
-  is = rw read' at is;
-}
-
--- what the line is then
-line_is : (old : Spot) (line : List ℕ) (ts : List Token) (first : Token) (named : Option Command) → Worded old line ts first named
-    → (units : List Slot) → holds old units → line_tree old.state line units ≡ run_built (machine_of old.state units) line ts first.text named
-line_is old line ts first named w units h =
-    let other = w.other in
-    let unnamed = w.unnamed units h in
-    let is = w.is in
-    let words : tokens_of line ≡ ts = sym w.are in
-    rw (other, words) (words_run (machine_of old.state units) line ts first w.at ∙ rw (unnamed, is) refl)
-
-pub not_built_so : (old : Spot) (line : List ℕ) (ts : List Token) (first : Token) (named : Option Command) → Worded old line ts first named → named ≡ None
-    → Acts old old (line_tree old.state line) (Ok (end.Ended finish.NotBuilt)) (round_of old.state)
-not_built_so old line ts first named w none =
-    done_here old (line_tree old.state line) (end.Ended finish.NotBuilt) (round_of old.state) (λ units h. line_is old line ts first named w units h ∙ rw none refl)
-
--- a command and its ready line
-abbrev ended_tree : State → List ℕ → List Token → List ℕ → Command → List Slot → Act Round
-ended_tree s line ts word command units = bind (command_tree s line ts word command units) readied
-
-line_runs : (old new : Spot) (line : List ℕ) (ts : List Token) (first : Token) (named : Option Command) (command : Command) (r : Result rounds.Round End)
-    → Worded old line ts first named → named ≡ Some command → Acts old new (ended_tree old.state line ts first.text command) r (round_of new.state)
-    → Acts old new (line_tree old.state line) r (round_of new.state)
-line_runs old new line ts first named command r w some acts =
-    acts_same old new (line_tree old.state line) (ended_tree old.state line ts first.text command) r (round_of new.state)
-    (λ units h. line_is old line ts first named w units h ∙ rw some refl) acts
-
-pub line_ready : (old mid new : Spot) (line : List ℕ) (ts : List Token) (first : Token) (named : Option Command) (command : Command) (c : declared.Course) (r : Result rounds.Round End)
-    → Worded old line ts first named → named ≡ Some command → Acts old mid (command_tree old.state line ts first.text command) (Ok c) (course_of mid.state)
-    → Acts mid new (ready_tree mid.state c) r (round_of new.state) → Acts old new (line_tree old.state line) r (round_of new.state)
-line_ready old mid new line ts first named command c r w some a b =
-    line_runs old new line ts first named command r w some (command_ready old mid new (command_tree old.state line ts first.text command) c r a b)
-
-pub line_stops : (old new : Spot) (line : List ℕ) (ts : List Token) (first : Token) (named : Option Command) (command : Command) (e : End) → Worded old line ts first named
-    → named ≡ Some command → Acts {T = declared.Course} old new (command_tree old.state line ts first.text command) (Err e) (course_of new.state)
-    → Acts {T = rounds.Round} old new (line_tree old.state line) (Err e) (round_of new.state)
-line_stops old new line ts first named command e w some a =
-    line_runs old new line ts first named command (Err e) w some (command_stops old new (command_tree old.state line ts first.text command) e a)
-
--- ---- a round
-
-abbrev HasTaken : Spot → Spot → Option Taken → Type 0
+abbrev pub HasTaken : Spot → Spot → Option Taken → Type 0
 HasTaken old mid item = Acts old mid (taking_tree old.state) (Ok item) (beside mid.state (option_map item_in))
 
-pub take_stops : (old new : Spot) (e : End) → Acts {T = Option Taken} old new (taking_tree old.state) (Err e) (beside new.state (option_map item_in))
-    → Acts {T = rounds.Round} old new (round_tree old.state) (Err e) (round_of new.state)
-take_stops old new e a = acts_stop old new (taking_tree old.state) on_taken e (beside {T = Option Taken} new.state (option_map item_in)) (round_of new.state) a
+abbrev pub line_round_on : State → List Exec → List Slot → Act Round
+line_round_on s ps units = line_round (record { machine = machine_of s units; procedures = ps })
+
+pub take_stops : (old new : Spot) (ps qs : List Exec) (e : End) → Acts {T = Option Taken} old new (taking_tree old.state) (Err e) (beside new.state (option_map item_in))
+    → Acts {T = rounds.Round} old new (line_round_on old.state ps) (Err e) (round_with new.state qs)
+take_stops old new ps qs e a = acts_stop old new (taking_tree old.state) (on_taken ps) e (beside {T = Option Taken} new.state (option_map item_in)) (round_with new.state qs) a
 
 -- what follows, with the machine that is left
-abbrev taken_tree : State → Option Taken → List Slot → Act Round
-taken_tree s item units = on_taken (machine_of s units, option_map item_in item)
+abbrev taken_tree : State → List Exec → Option Taken → List Slot → Act Round
+taken_tree s ps item units = on_taken ps (machine_of s units, option_map item_in item)
 
-was_taken : (old mid : Spot) (item : Option Taken) → HasTaken old mid item → Comes old mid (round_tree old.state) (taken_tree mid.state item)
-was_taken old mid item a = comes_in old mid (taking_tree old.state) on_taken item (beside mid.state (option_map item_in)) a
+was_taken : (old mid : Spot) (ps : List Exec) (item : Option Taken) → HasTaken old mid item → Comes old mid (line_round_on old.state ps) (taken_tree mid.state ps item)
+was_taken old mid ps item a = comes_in old mid (taking_tree old.state) (on_taken ps) item (beside mid.state (option_map item_in)) a
 
-pub finished_so : (old new : Spot) → HasTaken old new None → Acts old new (round_tree old.state) (Ok (end.Ended finish.AtEnd)) (round_of new.state)
-finished_so old new a = acts_done old new (round_tree old.state) (end.Ended finish.AtEnd) (round_of new.state) (was_taken old new None a)
+pub finished_so : (old new : Spot) (ps qs : List Exec) → HasTaken old new None
+    → Acts old new (line_round_on old.state ps) (Ok (end.Ended finish.AtEnd)) (round_with new.state qs)
+finished_so old new ps qs a = acts_done old new (line_round_on old.state ps) (end.Ended finish.AtEnd) (round_with new.state qs) (was_taken old new ps None a)
 
-abbrev turn_tree : State → Item → ℕ → List Slot → Act Round
-turn_tree s item left units = on_turn (machine_of s units) item left
+abbrev turn_tree : State → List Exec → Item → ℕ → List Slot → Act Round
+turn_tree s ps item left units = on_turn (machine_of s units) ps item left
 
 -- with so many turns left
-taken_with : (old mid : Spot) (item : Taken) (n : ℕ) → HasTaken old mid (Some item) → mid.state.left ≡ n → Comes old mid (round_tree old.state) (turn_tree mid.state (item_in item) n)
-taken_with old mid item n a left =
-    subst (λ (k : ℕ). Comes old mid (round_tree old.state) (turn_tree mid.state (item_in item) k)) left (was_taken old mid (Some item) a)
+taken_with : (old mid : Spot) (ps : List Exec) (item : Taken) (n : ℕ) → HasTaken old mid (Some item) → mid.state.left ≡ n
+    → Comes old mid (line_round_on old.state ps) (turn_tree mid.state ps (item_in item) n)
+taken_with old mid ps item n a left =
+    subst (λ (k : ℕ). Comes old mid (line_round_on old.state ps) (turn_tree mid.state ps (item_in item) k)) left (was_taken old mid ps (Some item) a)
 
-pub no_turns : (old new : Spot) (item : Taken) → HasTaken old new (Some item) → new.state.left ≡ 0
-    → Acts old new (round_tree old.state) (Ok (end.Ended finish.AtTurns)) (round_of new.state)
-no_turns old new item a none =
-    acts_done old new (round_tree old.state) (end.Ended finish.AtTurns) (round_of new.state) (taken_with old new item 0 a none)
+pub no_turns : (old new : Spot) (ps qs : List Exec) (item : Taken) → HasTaken old new (Some item) → new.state.left ≡ 0
+    → Acts old new (line_round_on old.state ps) (Ok (end.Ended finish.AtTurns)) (round_with new.state qs)
+no_turns old new ps qs item a none =
+    acts_done old new (line_round_on old.state ps) (end.Ended finish.AtTurns) (round_with new.state qs) (taken_with old new ps item 0 a none)
 
-abbrev then_item : Item → Machine → Act Round
-then_item item s = run_item s item
+abbrev then_item : List Exec → Item → Machine → Act Round
+then_item ps item m = run_item (record { machine = m; procedures = ps }) item
 
-pub turn_stops : (old mid new : Spot) (n : ℕ) (item : Taken) (e : End) → HasTaken old mid (Some item) → mid.state.left ≡ suc n
-    → Acts {T = Unit {0}} mid new (turning_tree mid.state n) (Err e) (machine_now new.state) → Acts {T = rounds.Round} old new (round_tree old.state) (Err e) (round_of new.state)
-turn_stops old mid new n item e taken some a =
-    acts_after old mid new (round_tree old.state) (turn_tree mid.state (item_in item) (suc n)) (Err e) (round_of new.state) (taken_with old mid item (suc n) taken some)
-    (acts_stop mid new (turning_tree mid.state n) (then_item (item_in item)) e (machine_now {T = Unit {0}} new.state) (round_of new.state) a)
+abbrev pub item_on : State → List Exec → Item → List Slot → Act Round
+item_on s ps item units = run_item (record { machine = machine_of s units; procedures = ps }) item
+
+pub turn_stops : (old mid new : Spot) (ps qs : List Exec) (n : ℕ) (item : Taken) (e : End) → HasTaken old mid (Some item) → mid.state.left ≡ suc n
+    → Acts {T = Unit {0}} mid new (turning_tree mid.state n) (Err e) (machine_now new.state)
+    → Acts {T = rounds.Round} old new (line_round_on old.state ps) (Err e) (round_with new.state qs)
+turn_stops old mid new ps qs n item e taken some a =
+    acts_after old mid new (line_round_on old.state ps) (turn_tree mid.state ps (item_in item) (suc n)) (Err e) (round_with new.state qs) (taken_with old mid ps item (suc n) taken some)
+    (acts_stop mid new (turning_tree mid.state n) (then_item ps (item_in item)) e (machine_now {T = Unit {0}} new.state) (round_with new.state qs) a)
 
 -- what it asks for was done
-pub item_done : (old mid begun new : Spot) (n : ℕ) (item : Taken) (x : Unit {0}) (r : Result rounds.Round End) → HasTaken old mid (Some item) → mid.state.left ≡ suc n
-    → Acts mid begun (turning_tree mid.state n) (Ok x) (machine_now begun.state) → Acts begun new (item_tree begun.state (item_in item)) r (round_of new.state)
-    → Acts old new (round_tree old.state) r (round_of new.state)
-item_done old mid begun new n item x r taken some turn a =
-    acts_after old begun new (round_tree old.state) (item_tree begun.state (item_in item)) r (round_of new.state)
-    (comes_then old mid begun (round_tree old.state) (turn_tree mid.state (item_in item) (suc n)) (item_tree begun.state (item_in item)) (taken_with old mid item (suc n) taken some)
-    (comes_in mid begun (turning_tree mid.state n) (then_item (item_in item)) x (machine_now begun.state) turn))
+pub item_done : (old mid begun new : Spot) (ps qs : List Exec) (n : ℕ) (item : Taken) (x : Unit {0}) (r : Result rounds.Round End) → HasTaken old mid (Some item)
+    → mid.state.left ≡ suc n → Acts mid begun (turning_tree mid.state n) (Ok x) (machine_now begun.state)
+    → Acts begun new (item_on begun.state ps (item_in item)) r (round_with new.state qs) → Acts old new (line_round_on old.state ps) r (round_with new.state qs)
+item_done old mid begun new ps qs n item x r taken some turn a =
+    acts_after old begun new (line_round_on old.state ps) (item_on begun.state ps (item_in item)) r (round_with new.state qs)
+    (comes_then old mid begun (line_round_on old.state ps) (turn_tree mid.state ps (item_in item) (suc n)) (item_on begun.state ps (item_in item))
+    (taken_with old mid ps item (suc n) taken some)
+    (comes_in mid begun (turning_tree mid.state n) (then_item ps (item_in item)) x (machine_now begun.state) turn))
     a
 
 -- ---- refusals of what was taken
@@ -305,11 +211,21 @@ item_done old mid begun new n item x r taken some turn a =
 abbrev message_tree : Message → Act (Unit {0})
 message_tree message = saying (typed_line (message_text message))
 
-pub refused_course : (old mid new : Spot) (message : Message) (c : declared.Course) (r : Result rounds.Round End) → Does old.world mid.world (message_tree message) (Ok c) said
-    → c ≡ course.Went (pos 20) → mid.state ≡ old.state → Acts mid new (ready_tree mid.state c) r (round_of new.state) → Acts old new (refused_tree old.state message) r (round_of new.state)
-refused_course old mid new message c r does went same acts =
-    command_ready old mid new (refusal_tree old.state message (pos 20)) c r (refused old mid message (pos 20) (Ok c) does went same) acts
+abbrev refused_on : State → List Exec → Message → List Slot → Act Round
+refused_on s ps message units = bind (refusal_tree s message (pos 20) units) (ended ps)
 
-pub refused_stop : (old new : Spot) (message : Message) (e : End) → Does {T = declared.Course} old.world new.world (message_tree message) (Err e) said → new.state ≡ old.state
-    → Acts {T = rounds.Round} old new (refused_tree old.state message) (Err e) (round_of new.state)
-refused_stop old new message e does same = command_stops old new (refusal_tree old.state message (pos 20)) e (refused old new message (pos 20) (Err e) does tt same)
+abbrev pub ended_on : State → List Exec → declared.Course → List Slot → Act Round
+ended_on s ps c units = ended ps (course_of s units c)
+
+pub refused_course : (old mid new : Spot) (ps qs : List Exec) (message : Message) (c : declared.Course) (r : Result rounds.Round End)
+    → Does old.world mid.world (message_tree message) (Ok c) said → c ≡ course.Went (pos 20) → mid.state ≡ old.state
+    → Acts mid new (ended_on mid.state ps c) r (round_with new.state qs) → Acts old new (refused_on old.state ps message) r (round_with new.state qs)
+refused_course old mid new ps qs message c r does went same acts =
+    acts_after old mid new (refused_on old.state ps message) (ended_on mid.state ps c) r (round_with new.state qs)
+    (comes_in old mid (refusal_tree old.state message (pos 20)) (ended ps) c (course_of mid.state) (refused old mid message (pos 20) (Ok c) does went same)) acts
+
+pub refused_stop : (old new : Spot) (ps qs : List Exec) (message : Message) (e : End) → Does {T = declared.Course} old.world new.world (message_tree message) (Err e) said
+    → new.state ≡ old.state → Acts {T = rounds.Round} old new (refused_on old.state ps message) (Err e) (round_with new.state qs)
+refused_stop old new ps qs message e does same =
+    acts_stop old new (refusal_tree old.state message (pos 20)) (ended ps) e (course_of new.state) (round_with new.state qs)
+    (refused old new message (pos 20) (Err e) does tt same)

@@ -27,7 +27,7 @@ use Rattle.cms_session.specs.Machine.{machine, started}
 use Rattle.cms_session.specs.declared.state.Finish.{Finish}
 use Rattle.cms_session.specs.declared.state.Finish.TheVariants as finish
 use Rattle.cms_session.specs.declared.status.Status.{Status}
-use Rattle.cms_session.specs.declared.status.Status.TheVariants.{Done, Usage, Memory, World, Turns, NotBuilt}
+use Rattle.cms_session.specs.declared.status.Status.TheVariants.{Done, Usage, Memory, World, Turns}
 
 -- ---- the start
 
@@ -118,7 +118,6 @@ Begins events fed = (more : List ℕ) × (typed events ++ more ≡ bytes_of fed.
 abbrev pub EndsAs : Start → List Event → Fed Finish → List Slot → ℕ → ℕ → Status → Type 0
 EndsAs s events fed units before now Done = Came s events fed units finish.AtEnd
 EndsAs s events fed units before now Turns = Came s events fed units finish.AtTurns
-EndsAs s events fed units before now NotBuilt = Came s events fed units finish.NotBuilt
 EndsAs s events fed units before now World = Begins events fed × Rose before now
 EndsAs s events fed units before now Memory = Begins events fed
 EndsAs s events fed units before now (Usage fault) = ⊥

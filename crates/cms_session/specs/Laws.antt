@@ -7,11 +7,12 @@ use Rattle.cms_machine.specs.Slots.{Settled}
 use Rattle.cms_machine.specs.Points.{Leaves}
 use Rattle.cms_machine.specs.Feeds.{Over}
 use Rattle.cms_world.specs.Seen.{Seen}
-use Rattle.cms_session.specs.Headline.{Start, Headline, run_on}
+use Rattle.cms_session.specs.Headline.{Start, Came, Headline, run_on}
 use Rattle.cms_session.specs.Sessions.{status_of}
 use Rattle.cms_session.specs.declared.state.Finish.{Finish}
+use Rattle.cms_session.specs.declared.state.Finish.TheVariants as finish
 use Rattle.cms_session.specs.declared.status.Status.{Status}
-use Rattle.cms_session.specs.declared.status.Status.TheVariants.{Memory}
+use Rattle.cms_session.specs.declared.status.Status.TheVariants.{Done, Memory}
 
 -- a session with memory, in which no call of the console, of the clock and of the attaching failed, ends as its machine does
 abbrev pub EndsLikeMachine : Type 0
@@ -24,6 +25,15 @@ abbrev pub FaultsAreCounted : Type 0
 FaultsAreCounted =
     (s : Start) (before now : Seen) (status : Status) (h : Headline s before now status) → (Rose before.faults now.faults → ⊥)
     → faults_in h.outcomes ≡ 0
+
+-- a session with memory, in which no call failed and whose machine comes to the script's end, says so: every outcome is good, all bytes of
+-- the machine are typed, and each unit is in the machine's last state
+abbrev pub Completes : Type 0
+Completes =
+    (s : Start) (before now : Seen) (status : Status) (h : Headline s before now status) → (Rose before.edges now.edges → ⊥)
+    → (Rose before.faults now.faults → ⊥) → (run_on s h.events h.outcomes).close ≡ Over finish.AtEnd
+    → (faults_in h.outcomes ≡ 0)
+    × (((status ≡ Done) × Came s h.events (run_on s h.events h.outcomes) h.units finish.AtEnd) ⊎ (status ≡ Memory))
 
 -- at every status a crash leaves each unit that isn't in doubt in one state
 abbrev pub SettledIsOne : Type 0

@@ -1,6 +1,8 @@
 pub mod Words
 pub mod Statuses
 pub mod Commands
+pub mod Lines
+pub mod Procedures
 pub mod Machine
 pub mod Calls
 pub mod Headline

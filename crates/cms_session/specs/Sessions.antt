@@ -32,7 +32,7 @@ use Rattle.cms_session.specs.Headline.{Start, Headline, fresh, first_machine, fi
 use Rattle.cms_session.specs.declared.state.Finish.{Finish}
 use Rattle.cms_session.specs.declared.state.Finish.TheVariants as finish
 use Rattle.cms_session.specs.declared.status.Status.{Status}
-use Rattle.cms_session.specs.declared.status.Status.TheVariants.{Done, Usage, Memory, World, Turns, NotBuilt}
+use Rattle.cms_session.specs.declared.status.Status.TheVariants.{Done, Usage, Memory, World, Turns}
 
 -- ---- the words
 
@@ -135,7 +135,6 @@ pub record WorldCause (before now : Seen) (status : Status) : Type 0 where
 abbrev pub status_of : Finish → Status
 status_of finish.AtEnd = Done
 status_of finish.AtTurns = Turns
-status_of finish.NotBuilt = NotBuilt
 
 -- why a session was cut off
 abbrev pub status_at : End → Status
@@ -163,7 +162,6 @@ pub record WasCut (p : Point) (now : Seen) (tree : Act Finish) : Type 0 where
 abbrev pub EndedAs : Point → ℕ → Seen → Act Finish → Status → Type 0
 EndedAs p edges now tree Done = CameTo p now tree finish.AtEnd
 EndedAs p edges now tree Turns = CameTo p now tree finish.AtTurns
-EndedAs p edges now tree NotBuilt = CameTo p now tree finish.NotBuilt
 EndedAs p edges now tree World = WasCut p now tree × Rose edges now.edges
 EndedAs p edges now tree Memory = WasCut p now tree
 EndedAs p edges now tree (Usage why) = ⊥

@@ -1,12 +1,12 @@
 // What a line of the console asks for.
 ghost use Rattle.std.specs.Prelude.{◌≡◌, ◌==◌};
 ghost use Rattle.std.specs.List.{list_all};
-ghost use Rattle.cms_session.specs.Commands.{is_comment, command_of};
+ghost use Rattle.cms_session.specs.Commands.{is_comment, request_of};
 
 use cms_operands::{CommandName, command_named};
 use cms_text::BLANK;
 
-/// What a line asks for.
+/// A command, but EXEC.
 #[derive(Clone, Copy, Debug)]
 pub enum Command {
     /// that a volume is accessed as a letter
@@ -27,10 +27,21 @@ pub enum Command {
     TypeFile,
     /// whether a file is there
     State,
+    /// that files are copied record by record
+    Copyfile,
     /// that records of a file are stacked, or lines written to one
     Execio,
     /// what no command does
     Unknown,
+}
+
+/// What a line asks for.
+#[derive(Clone, Copy, Debug)]
+pub enum Request {
+    /// that a procedure is run
+    Exec,
+    /// what another command does
+    Command(Command),
 }
 
 const ASTERISK: u8 = 0x5C;
@@ -54,22 +65,23 @@ pub fn is_comment(line: &[u8]) -> bool
     }
 }
 
-/// The command of a line with this first word, which is in upper case; none where it isn't built yet.
-pub fn command_of(word: &[u8]) -> Option<Command>
-    ensures { result ≡ command_of word.now }
+/// What a line with this first word asks for, which is in upper case.
+pub fn request_of(word: &[u8]) -> Request
+    ensures { result ≡ request_of word.now }
 {
     match command_named(word) {
-        Some(CommandName::Access) => Some(Command::Access),
-        Some(CommandName::Release) => Some(Command::Release),
-        Some(CommandName::Format) => Some(Command::Format),
-        Some(CommandName::Query) => Some(Command::Query),
-        Some(CommandName::Listfile) => Some(Command::Listfile),
-        Some(CommandName::Rename) => Some(Command::Rename),
-        Some(CommandName::Erase) => Some(Command::Erase),
-        Some(CommandName::TypeFile) => Some(Command::TypeFile),
-        Some(CommandName::State) => Some(Command::State),
-        Some(CommandName::Execio) => Some(Command::Execio),
-        Some(CommandName::Copyfile | CommandName::Exec) => None,
-        None => Some(Command::Unknown),
+        Some(CommandName::Access) => Request::Command(Command::Access),
+        Some(CommandName::Release) => Request::Command(Command::Release),
+        Some(CommandName::Format) => Request::Command(Command::Format),
+        Some(CommandName::Query) => Request::Command(Command::Query),
+        Some(CommandName::Listfile) => Request::Command(Command::Listfile),
+        Some(CommandName::Rename) => Request::Command(Command::Rename),
+        Some(CommandName::Erase) => Request::Command(Command::Erase),
+        Some(CommandName::TypeFile) => Request::Command(Command::TypeFile),
+        Some(CommandName::State) => Request::Command(Command::State),
+        Some(CommandName::Exec) => Request::Exec,
+        Some(CommandName::Copyfile) => Request::Command(Command::Copyfile),
+        Some(CommandName::Execio) => Request::Command(Command::Execio),
+        None => Request::Command(Command::Unknown),
     }
 }

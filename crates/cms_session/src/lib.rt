@@ -3,12 +3,16 @@
 
 mod attaching;
 mod command;
+mod issuing;
 mod laws;
 mod round;
+mod running;
 mod session;
 mod state;
+mod statement;
 mod status;
 mod top;
+mod turning;
 
 pub use cms_words::WordFault;
 pub use laws::laws_of_sessions;

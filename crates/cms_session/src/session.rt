@@ -1,11 +1,11 @@
 // The session: device 191 is accessed, and rounds follow until it ends.
-ghost use Rattle.std.specs.Prelude.{◌≡◌};
+ghost use Rattle.std.specs.Prelude.{◌≡◌, []};
 ghost use Rattle.cms_search.specs.Calls.{spot, Acts, IsUsable};
-ghost use Rattle.cms_session.specs.Calls.{access_tree, finished, lines_tree, machine_now, session_tree};
+ghost use Rattle.cms_session.specs.Calls.{access_tree, finished, machine_now, procedures_of, rounds_tree, session_tree};
 ghost use Rattle.cms_fields.specs.Offsets.{IsOffset};
 
 use crate::round::round;
-use crate::state::{Finish, Round};
+use crate::state::{Finish, Round, Session};
 use cms_search::{End, State};
 use cms_world::World;
 use std::alloc::Global;
@@ -26,27 +26,28 @@ fn access_first<W: World>(alloc: Global, world: &mut W, state: &mut State) -> Re
     Ok(())
 }
 
-// Runs lines until the session ends.
-fn run_lines<W: World>(alloc: Global, world: &mut W, state: &mut State) -> Result<Finish, End>
-    requires usable { IsUsable (spot W.World world.old state.old) }
-    requires offset { IsOffset state.old.offset }
-    ensures { Acts (spot W.World world.old state.old) (spot W.World world.new state.new)
-        (lines_tree state.old) result finished }
+// Runs lines and statements until the session ends.
+fn run_lines<W: World>(alloc: Global, world: &mut W, session: &mut Session) -> Result<Finish, End>
+    requires usable { IsUsable (spot W.World world.old session.old.state) }
+    requires offset { IsOffset session.old.state.offset }
+    ensures { Acts (spot W.World world.old session.old.state) (spot W.World world.new session.new.state)
+        (rounds_tree session.old) result finished }
 {
     loop {
-        if let Round::Ended(finish) = round(alloc, world, state)? {
+        if let Round::Ended(finish) = round(alloc, world, session)? {
             return Ok(finish);
         }
     }
 }
 
-/// Runs a session: the first device is accessed, and lines are run.
-pub fn play<W: World>(alloc: Global, world: &mut W, state: &mut State) -> Result<Finish, End>
-    requires usable { IsUsable (spot W.World world.old state.old) }
-    requires offset { IsOffset state.old.offset }
-    ensures { Acts (spot W.World world.old state.old) (spot W.World world.new state.new)
-        (session_tree state.old) result finished }
+/// Runs a session in which no procedure runs yet: the first device is accessed, and lines are run.
+pub fn play<W: World>(alloc: Global, world: &mut W, session: &mut Session) -> Result<Finish, End>
+    requires usable { IsUsable (spot W.World world.old session.old.state) }
+    requires offset { IsOffset session.old.state.offset }
+    requires idle { procedures_of session.old ≡ [] }
+    ensures { Acts (spot W.World world.old session.old.state) (spot W.World world.new session.new.state)
+        (session_tree session.old.state) result finished }
 {
-    access_first(alloc, world, state)?;
-    run_lines(alloc, world, state)
+    access_first(alloc, world, &mut session.state)?;
+    run_lines(alloc, world, session)
 }

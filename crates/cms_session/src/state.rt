@@ -1,4 +1,14 @@
-// How the parts of a session end.
+// The parts of a session, and how they end.
+use crate::running::Procedures;
+use cms_search::State;
+
+/// All that a session holds apart from its world.
+#[derive(Drop)]
+pub struct Session {
+    pub state: State,
+    /// each between two statements, but those that issued the line or the command that runs
+    pub procedures: Procedures,
+}
 
 /// How a session ends that isn't cut off.
 #[derive(Clone, Copy, Debug, PartialEq, Eq)]
@@ -7,8 +17,6 @@ pub enum Finish {
     AtEnd,
     /// a turn is due, and none is left
     AtTurns,
-    /// at a line that isn't built yet
-    NotBuilt,
 }
 
 /// How a round of the session ends.

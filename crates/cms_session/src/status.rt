@@ -17,12 +17,10 @@ pub enum Status {
     World,
     /// The turns are spent and a further one is due.
     Turns,
-    /// A line asks for what isn't built yet.
-    NotBuilt,
 }
 
 impl Status {
-    /// The program's exit status: 0, or 2 to 6.
+    /// The program's exit status: 0, or 2 to 5.
     pub fn code(&self) -> u8
         ensures { result ≡ code_of self.now }
     {
@@ -32,7 +30,6 @@ impl Status {
             Status::Memory => 3,
             Status::World => 4,
             Status::Turns => 5,
-            Status::NotBuilt => 6,
         }
     }
 }

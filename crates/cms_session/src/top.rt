@@ -11,8 +11,9 @@ ghost use Rattle.cms_words.specs.declared.fault.WordFault.TheVariants.{Memory};
 ghost use Rattle.cms_session.specs.Words.{AreUnits, Asked, Runs, asked_of, given_by, read_words};
 
 use crate::attaching::attach_all;
+use crate::running::Procedures;
 use crate::session::play;
-use crate::state::Finish;
+use crate::state::{Finish, Session};
 use crate::status::Status;
 use cms_generator::script;
 use cms_line::Console;
@@ -28,7 +29,6 @@ fn status_of(finish: Finish) -> Status
     match finish {
         Finish::AtEnd => Status::Done,
         Finish::AtTurns => Status::Turns,
-        Finish::NotBuilt => Status::NotBuilt,
     }
 }
 
@@ -78,10 +78,14 @@ fn run_on<W: World>(alloc: Global, world: &mut W, words: &Words, units: UnitList
     ensures no_usage { (fault : WordFault) → result ≢ Status.Usage fault }
     ensures cause { WorldCause (seen W.World world.old) (seen W.World world.new) result }
 {
-    let Ok(mut state) = first_state(alloc, words, units) else {
+    let Ok(state) = first_state(alloc, words, units) else {
         return Status::Memory;
     };
-    match play(alloc, world, &mut state) {
+    let mut session = Session {
+        state,
+        procedures: Procedures::new(alloc),
+    };
+    match play(alloc, world, &mut session) {
         Ok(finish) => status_of(finish),
         Err(end) => status_at(end),
     }
@@ -107,11 +111,13 @@ fn run_words<W: World>(alloc: Global, world: &mut W, words: &Words) -> Status
 ///
 /// The words are those of `cms [-t TURNS] [-z ZONE] [-g NUMBER] UNIT...`, the program's name first. Where they are refused the world
 /// isn't touched; else the units are attached in their order, 1 to 16, and where one is device 191 and has a volume this is accessed as
-/// disk A, without a message. Then lines are run, each for a turn, as many as `-t` says and else 1,000,000: those of the program stack
-/// first, then those of the script. `ACCESS`, `RELEASE`, `FORMAT`, `QUERY`, `LISTFILE`, `STATE`, `TYPE`, `ERASE`, `RENAME` and
-/// `EXECIO` are built; where a device fails in them, message 105 says so. `FORMAT`, `ERASE`, `RENAME`, `LISTFILE` with `EXEC` and `EXECIO`
-/// with `DISKW` write to the unit where it is attached so that it may be written, with the stamp of their turn in the zone of `-z`. With `-g` the script is the generated one of that
-/// number, and the world isn't read. A told journal must have at most 240 units.
+/// disk A, without a message. Then lines are run, and the statements of the procedures that they begin, each for a turn, as many as `-t`
+/// says and else 1,000,000. Lines of the program stack come first, then those of the script. A line whose first word has a procedure runs
+/// it, as `EXEC` does, and up to 50 run one in another. Else the commands are `ACCESS`, `RELEASE`, `FORMAT`, `QUERY`, `LISTFILE`, `STATE`,
+/// `TYPE`, `ERASE`, `RENAME`, `COPYFILE` and `EXECIO`; where a device fails in them, message 105 says so. `FORMAT`, `ERASE`, `RENAME`,
+/// `COPYFILE`, `EXECIO` with `DISKW` and `LISTFILE` with `EXEC` write to the unit where it is attached so that it may be written, with the
+/// stamp of their turn in the zone of `-z`. With `-g` the script is the generated one of that number, and the world isn't read. A told
+/// journal must have at most 240 units.
 ///
 /// - In a world that tells its journal, with no unit and no event yet, the session is a run of the machine of minidisks as lists
 ///   of named record lists, and a crash at any moment leaves a state that the machine has there.

@@ -1,9 +1,8 @@
 // Sessions that access disks, on images in memory.
 use crate::disk_tests::{Image, Row, WORD, are_typed, world_of};
-use crate::erase_tests::crashed;
-use crate::session_tests::ended;
 use cms_images::Edit;
 use cms_session::Status;
+use cms_transcripts::{crashed, ended};
 use cms_world::MemWorld;
 use std::alloc::{AllocError, Global};
 use std::process::Abort;
@@ -140,7 +139,7 @@ pub fn finds(
 ) -> Result<(), Fail> {
     for (choice, found) in [(0, without), (u64::MAX, with)] {
         let mut next = world_of(alloc, script, &[Image::OneFile])?;
-        if let Some(left) = crashed(alloc, before, before.events(), choice)? {
+        if let Some(left) = crashed(alloc, before, 0, before.events(), choice)? {
             next.add_image("A", &left)?;
         }
         assert_eq!(rt; ended(alloc, WORD, &mut next)?, Status::Done);

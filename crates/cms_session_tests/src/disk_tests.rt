@@ -1,9 +1,9 @@
 // Sessions that release disks and ask for them, on images in memory.
-use crate::session_tests::ended;
 use cms_images::hello::hello;
 use cms_images::known::{empty, one_file, two_files};
 use cms_images::{Edit, put_edits};
 use cms_session::Status;
+use cms_transcripts::ended;
 use cms_world::MemWorld;
 use std::alloc::{AllocError, Global};
 use std::process::Abort;

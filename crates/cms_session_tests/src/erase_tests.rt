@@ -1,11 +1,12 @@
 // Sessions that erase files of disk A, on images in memory.
-use crate::session_tests::{WORD as READ_ONLY, ended, world};
+use crate::session_tests::{WORD as READ_ONLY, world};
 use cms_images::hello::{
     ERASE_EXEC, MARKED, NEW_DIRECTORY, NEW_LABEL, NEW_MAP, NO_LABEL, TYPE_EXEC, hello, three,
 };
 use cms_images::known::long_directory;
 use cms_images::{Edit, put_edits, wide_volume};
 use cms_session::Status;
+use cms_transcripts::{crashed, ended};
 use cms_world::MemWorld;
 use std::alloc::{AllocError, Global};
 use std::process::Abort;
@@ -127,25 +128,11 @@ const KEPT: &[Row] = &[
         WORD,
         ERASE_EXEC,
         "ERASE ERASE EXEC A\n",
-        "",
-        Status::NotBuilt,
-        b"arrrin",
+        "CMS086E Procedure ERASE is not run, reason 1\nR(10101);\n",
+        Status::Done,
+        b"arrrinrooi",
     ),
 ];
-
-/// What a crash after so many events leaves of the unit, by these choices; none where nothing was attached.
-pub fn crashed(
-    alloc: Global,
-    world: &MemWorld,
-    at: usize,
-    choice: u64,
-) -> Result<Option<Vec<u8>>, AllocError> {
-    if world.has_unit(0) && at <= world.events() {
-        Ok(Some(world.crash(alloc, 0, at, choice)?))
-    } else {
-        Ok(None)
-    }
-}
 
 // Each row is as it says.
 fn are_so(rt: &impl Abort, alloc: Global, rows: &[Row]) -> Result<(), Fail> {
@@ -188,7 +175,7 @@ fn the_update_is_stamped_and_written_in_order(rt: HostRuntime) -> Result<(), Fai
     ] {
         put_edits(wanted.as_mut_slice(), edits);
         assert_eq!(rt;
-            crashed(alloc, &world, at, u64::MAX)?,
+            crashed(alloc, &world, 0, at, u64::MAX)?,
             Some(wanted.to_vec(alloc)?),
             "event {at}"
         );
@@ -251,7 +238,7 @@ fn a_crash_leaves_the_old_or_the_new(rt: HostRuntime) -> Result<(), Fail> {
     assert_eq!(rt; world.events(), 19);
     for at in 0..20usize {
         for choice in 0..4u64 {
-            let Some(left) = crashed(alloc, &world, at, choice)? else {
+            let Some(left) = crashed(alloc, &world, 0, at, choice)? else {
                 panic!(rt; "a unit");
             };
             shows(
@@ -283,7 +270,7 @@ fn each_erasure_has_the_stamp_of_its_turn(rt: HostRuntime) -> Result<(), Fail> {
         let mut world = MemWorld::new(alloc, SCRIPT.as_bytes(), NOON + 34 * 60 + 56)?;
         world.add_image("disk.img", &three(alloc)?)?;
         assert_eq!(rt; ended(alloc, words, &mut world)?, Status::Done);
-        let left = crashed(alloc, &world, world.events(), u64::MAX)?;
+        let left = crashed(alloc, &world, 0, world.events(), u64::MAX)?;
         let bytes = left.as_deref().unwrap_or(&[]);
         for (at, mut stamp) in STAMPS {
             stamp[3] = hour;
@@ -328,7 +315,7 @@ fn a_session_ends_where_an_edge_fails(rt: HostRuntime) -> Result<(), Fail> {
             "call {call}"
         );
         assert_eq!(rt; failing.calls().len(), call as usize);
-        let left = crashed(alloc, &failing, failing.events(), u64::MAX)?.unwrap_or(bytes);
+        let left = crashed(alloc, &failing, 0, failing.events(), u64::MAX)?.unwrap_or(bytes);
         shows(&rt, alloc, &left, (LOOK, &SHOWN), erasures, call as usize)?;
     }
     Ok(())
@@ -421,7 +408,7 @@ fn any_volume_is_erased_from(rt: HostRuntime) -> Result<(), Fail> {
     assert_eq!(rt; erasing.events(), 35);
     for (at, erasures) in WIDE_MOMENTS {
         for (choice, erasures) in [(0, erasures[0]), (u64::MAX, erasures[1])] {
-            let Some(left) = crashed(alloc, &erasing, at, choice)? else {
+            let Some(left) = crashed(alloc, &erasing, 0, at, choice)? else {
                 panic!(rt; "a unit");
             };
             shows(&rt, alloc, &left, (WIDE_LOOK, &WIDE_SHOWN), erasures, at)?;

@@ -1,8 +1,7 @@
 // Sessions of STATE, TYPE, ERASE and RENAME, as transcripts, and the order of their calls.
 use crate::access_tests::failed_at;
-use crate::session_tests::ended;
-use crate::transcripts::{are_so, words_named, world_named};
 use cms_session::Status;
+use cms_transcripts::{ended, unlike, words_named, world_named};
 use std::test::Fail;
 
 const STATED: &str = "# texts
@@ -306,6 +305,10 @@ R(-0003);
 > L ALPHA
 ALPHA    TEXT     A1
 R;
+# full
+> ERASE A FILE A
+CMS107E Disk A is full, 1 blocks needed, 0 free
+R(00100);
 # texts, read only
 > ERASE NONE TEXT
 CMS037E Disk A is read-only
@@ -528,15 +531,16 @@ R;
 #[test]
 fn files_are_told_typed_and_changed(rt: HostRuntime) -> Result<(), Fail> {
     for transcripts in [STATED, TYPED, ERASED, RENAMED, SESSIONS] {
-        are_so(&rt, rt.alloc(), transcripts)?;
+        assert_eq!(rt; unlike(rt.alloc(), transcripts)?.as_str(), "");
     }
     Ok(())
 }
 
 // The calls of the world in sessions of one line on the texts, behind those of the opening, the script and the turn: each file of a
 // change is written and synced before it is typed, and that before the next; the script is read again where no line is left.
-const CALLS: [(&str, &[u8]); 9] = [
+const CALLS: [(&str, &[u8]); 10] = [
     ("STATE ALPHA TEXT\n", b"oi"),
+    ("EXECIO 0 DISKW Z FILE A\n", b"oi"),
     ("LISTFILE\n", b"ooooi"),
     ("LISTFILE (STACK\n", b"onoonoonooi"),
     ("LISTFILE (EXEC\n", b"wwwswsoi"),

@@ -1,9 +1,9 @@
 // Sessions that format disks, on images in memory.
 use crate::access_tests::{all_typed, failed_at, finds};
 use crate::disk_tests::{Image, Row, WORD, are_typed, world_of};
-use crate::session_tests::ended;
-use cms_images::known::empty;
+use cms_images::known::{empty, one_file};
 use cms_session::Status;
+use cms_transcripts::{crashed, ended};
 use std::test::Fail;
 
 const NEW: &str = "191,512,n9,N";
@@ -83,14 +83,26 @@ fn disks_are_kept(rt: HostRuntime) -> Result<(), Fail> {
     are_typed(&rt, rt.alloc(), KEPT)
 }
 
+// A session that makes a volume, and what it puts on it.
+const MAKING: &str = "FORMAT 191 A\nYES\nTEST01\nQUERY DISK A\n";
+
+const PUTTING: &str =
+    "FORMAT 191 A\nYES\nTEST01\nQUERY DISK A\nEXECIO 1 DISKW A FILE A (STRING HELLO\n";
+
 #[test]
-fn a_new_volume_is_the_known_one(rt: HostRuntime) -> Result<(), Fail> {
+fn new_volumes_are_the_known_ones(rt: HostRuntime) -> Result<(), Fail> {
     let alloc = rt.alloc();
-    let mut world = world_of(alloc, "FORMAT 191 A\nYES\nTEST01\n", &[])?;
-    assert_eq!(rt; ended(alloc, NEW, &mut world)?, Status::Done);
-    assert!(rt; world.has_unit(0));
-    let left = world.crash(alloc, 0, world.events(), 0)?;
-    assert_eq!(rt; left, empty(alloc)?);
+    for (script, is_put) in [(MAKING, false), (PUTTING, true)] {
+        let known = if is_put {
+            one_file(alloc)?
+        } else {
+            empty(alloc)?
+        };
+        let mut world = world_of(alloc, script, &[])?;
+        assert_eq!(rt; ended(alloc, NEW, &mut world)?, Status::Done);
+        let left = crashed(alloc, &world, 0, world.events(), 0)?;
+        assert_eq!(rt; left, Some(known));
+    }
     Ok(())
 }
 

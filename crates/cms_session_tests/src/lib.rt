@@ -24,6 +24,4 @@ mod session_tests;
 #[cfg(test)]
 mod status_tests;
 #[cfg(test)]
-mod transcripts;
-#[cfg(test)]
 mod unit_tests;

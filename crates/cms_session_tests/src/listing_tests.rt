@@ -1,5 +1,5 @@
 // Sessions of LISTFILE, as transcripts.
-use crate::transcripts::are_so;
+use cms_transcripts::unlike;
 use std::test::Fail;
 
 const LISTED: &str = "# texts
@@ -251,7 +251,7 @@ R;
 #[test]
 fn files_are_listed(rt: HostRuntime) -> Result<(), Fail> {
     for transcripts in [LISTED, NOT_LISTED, STACKED, WRITTEN] {
-        are_so(&rt, rt.alloc(), transcripts)?;
+        assert_eq!(rt; unlike(rt.alloc(), transcripts)?.as_str(), "");
     }
     Ok(())
 }

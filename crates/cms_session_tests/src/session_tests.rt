@@ -2,36 +2,18 @@
 use cms_images::hello::{HELLO, NO_LABEL, TYPE_EXEC, hello};
 use cms_images::known::{long_directory, spanning};
 use cms_images::{Edit, edited, many_files, put_edits, wide_volume};
-use cms_session::{Status, WordFault, run};
-use cms_world::{Argv, MemWorld};
+use cms_session::{Status, WordFault};
+use cms_transcripts::ended;
+use cms_world::MemWorld;
 use std::alloc::{AllocError, Global};
 use std::process::Abort;
 use std::test::Fail;
-
-// The program's name and the words that blanks part.
-fn argv(alloc: Global, line: &str) -> Result<Argv, AllocError> {
-    let mut argv = Argv::new(alloc);
-    argv.push("cms")?;
-    for word in line.split_ascii_whitespace() {
-        argv.push(word)?;
-    }
-    Ok(argv)
-}
 
 // A world with this script and this image.
 pub fn world(alloc: Global, script: &str, image: &[u8]) -> Result<MemWorld, AllocError> {
     let mut world = MemWorld::new(alloc, script.as_bytes(), 0)?;
     world.add_image("disk.img", image)?;
     Ok(world)
-}
-
-// How a session ends in a world.
-pub fn ended(alloc: Global, words: &str, world: &mut MemWorld) -> Result<Status, AllocError> {
-    let argv = argv(alloc, words)?;
-    if world.units() > 0 {
-        return Ok(Status::Memory);
-    }
-    Ok(run(alloc, &argv, world))
 }
 
 pub const WORD: &str = "191,512,ro,disk.img";
@@ -80,9 +62,9 @@ const ROWS: &[Row] = &[
     (
         WORD,
         &[],
-        "TYPE HELLO TEXT A\nCOPYFILE HELLO TEXT A = = B\nTYPE HELLO TEXT A\n",
-        "HELLO\nWORLD\nR;\n",
-        Status::NotBuilt,
+        "TYPE HELLO TEXT A\nEXECIO 1 DISKR HELLO TEXT\nTYPE HELLO TEXT A\n",
+        "HELLO\nWORLD\nR;\nR;\nCMS001E Unknown command HELLO\nR(-0003);\nHELLO\nWORLD\nR;\n",
+        Status::Done,
     ),
     (WORD, &[], "", "", Status::Done),
     (
@@ -106,7 +88,13 @@ const ROWS: &[Row] = &[
         "CMS069E Disk A is not accessed\nR(00036);\n",
         Status::Done,
     ),
-    (WORD, TYPE_EXEC, "TYPE TYPE EXEC A\n", "", Status::NotBuilt),
+    (
+        WORD,
+        TYPE_EXEC,
+        "TYPE TYPE EXEC A\n",
+        "CMS086E Procedure TYPE is not run, reason 1\nR(10101);\n",
+        Status::Done,
+    ),
     (
         "192,512,ro,disk.img",
         &[],
@@ -215,8 +203,20 @@ CMS001E Unknown command *\nR(-0003);\nCMS001E Unknown command (\nR(-0003);\n\
 CMS001E Unknown command TYPES\nR(-0003);\n",
         Status::Done,
     ),
-    (WORD, &[], "ex hello\n", "", Status::NotBuilt),
-    (WORD, &[], "COPY HELLO TEXT A = = B\n", "", Status::NotBuilt),
+    (
+        WORD,
+        &[],
+        "ex hello\n",
+        "CMS002E File HELLO EXEC * not found\nR(00028);\n",
+        Status::Done,
+    ),
+    (
+        WORD,
+        &[],
+        "COPY HELLO TEXT A = = B\n",
+        "CMS069E Disk B is not accessed\nR(00036);\n",
+        Status::Done,
+    ),
     (
         WORD,
         &[],
@@ -229,8 +229,14 @@ CMS001E Unknown command TYPES\nR(-0003);\n",
         &[],
         "TYPE HELLO TEXT A\n",
         "CMS037E Disk A is read-only\nR(00036);\n\
-CMS001E Unknown command YES\nR(-0003);\nCMS001E Unknown command GEN001\nR(-0003);\n",
-        Status::NotBuilt,
+CMS001E Unknown command YES\nR(-0003);\nCMS001E Unknown command GEN001\nR(-0003);\n\
+CMS037E Disk A is read-only\nR(00036);\nCMS037E Disk A is read-only\nR(00036);\n\
+CMS037E Disk A is read-only\nR(00036);\nCMS037E Disk A is read-only\nR(00036);\n\
+CMS037E Disk A is read-only\nR(00036);\nCMS037E Disk A is read-only\nR(00036);\n\
+CMS002E File GEN EXEC * not found\nR(00028);\n\
+LABEL  VDV M STA BLKSZ  FILES     USED     FREE    TOTAL\n\
+TEST01 191 A R/O   512      1        7        2        9\nR;\n",
+        Status::Done,
     ),
     (
         "191,512,ro,disk.img -t 2",

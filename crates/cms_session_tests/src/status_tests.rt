@@ -11,7 +11,6 @@ fn statuses_have_codes(rt: HostRuntime) {
         (Status::Memory, 3),
         (Status::World, 4),
         (Status::Turns, 5),
-        (Status::NotBuilt, 6),
     ];
     for (status, code) in rows {
         assert_eq!(rt; status.code(), code, "at {status:?}");

@@ -1,7 +1,7 @@
 // Sessions on several units.
-use crate::session_tests::ended;
 use cms_images::hello::{hello, three};
 use cms_session::Status;
+use cms_transcripts::ended;
 use cms_world::MemWorld;
 use std::alloc::{AllocError, Global};
 use std::test::Fail;

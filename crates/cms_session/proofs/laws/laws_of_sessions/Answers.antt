@@ -4,12 +4,12 @@ use Rattle.cms_journal.specs.Causes.{Rose, Counted}
 use Rattle.cms_journal.specs.declared.event.Event.{Event}
 use Rattle.cms_machine.specs.Slots.{Slot, Settled}
 use Rattle.cms_machine.specs.Feeds.{Fed, Over}
-use Rattle.cms_session.specs.Headline.{Start, EndsAs}
+use Rattle.cms_session.specs.Headline.{Start, Came, EndsAs}
 use Rattle.cms_session.specs.Sessions.{status_of}
 use Rattle.cms_session.specs.declared.state.Finish.{Finish}
 use Rattle.cms_session.specs.declared.state.Finish.TheVariants as finish
 use Rattle.cms_session.specs.declared.status.Status.{Status}
-use Rattle.cms_session.specs.declared.status.Status.TheVariants.{Done, Usage, Memory, World, Turns, NotBuilt}
+use Rattle.cms_session.specs.declared.status.Status.TheVariants.{Done, Usage, Memory, World, Turns}
 use Rattle.cms_session.proofs.laws.laws_of_sessions.Goals as goal
 
 same_finish : (f : Fed Finish) (a b : Finish) → f.close ≡ Over a → f.close ≡ Over b → a ≡ b
@@ -19,7 +19,6 @@ as_machine : (s : Start) (events : List Event) (f : Fed Finish) (units : List Sl
     → (Rose before now → ⊥) → (end : Finish) → f.close ≡ Over end → (status ≡ status_of end) ⊎ (status ≡ Memory)
 as_machine s events f units before now Done e still end close = inl (ap status_of (same_finish f finish.AtEnd end e.close close))
 as_machine s events f units before now Turns e still end close = inl (ap status_of (same_finish f finish.AtTurns end e.close close))
-as_machine s events f units before now NotBuilt e still end close = inl (ap status_of (same_finish f finish.NotBuilt end e.close close))
 as_machine s events f units before now World e still end close = absurd (still e.1)
 as_machine s events f units before now Memory e still end close = inr refl
 as_machine s events f units before now (Usage fault) e still end close = absurd e
@@ -37,6 +36,18 @@ returns-clause-ends c = λ s before now status h still finish close. as_machine 
 
 pub returns-clause-faults : goal.returns-clause-faults
 returns-clause-faults c = λ s before now status h still. none_counted before.faults now.faults _ h.counted still
+
+completed : (s : Start) (events : List Event) (f : Fed Finish) (units : List Slot) (before now : ℕ) (status : Status) → EndsAs s events f units before now status
+    → (Rose before now → ⊥) → f.close ≡ Over finish.AtEnd → ((status ≡ Done) × Came s events f units finish.AtEnd) ⊎ (status ≡ Memory)
+completed s events f units before now Done e still close = inl (refl, e)
+completed s events f units before now Turns e still close = let never = same_finish f finish.AtTurns finish.AtEnd e.close close in absurd (cc never)
+completed s events f units before now World e still close = absurd (still e.1)
+completed s events f units before now Memory e still close = inr refl
+completed s events f units before now (Usage fault) e still close = absurd e
+
+pub returns-clause-complete : goal.returns-clause-complete
+returns-clause-complete c = λ s before now status h still good close.
+    (none_counted before.faults now.faults _ h.counted good, completed s h.events _ h.units before.edges now.edges status h.ends still close)
 
 pub returns-clause-settled : goal.returns-clause-settled
 returns-clause-settled c = λ s before now status h u state slot x leaves. ⊎_elim (λ e. e) (λ none. absurd none) ((h.stands u (Settled state) slot).crash x leaves)

@@ -1,36 +1,12 @@
-use Rattle.std.proofs.lemmas.Result.{err_from_is_err_and}
-use Rattle.cms_session.proofs.Rounds.{take_stops, finished_so, no_turns, turn_stops, item_done}
+use Rattle.cms_session.proofs.Plays.{round_none, round_some}
 use Rattle.cms_session.proofs.round.round.Goals as goal
 
-pub returns-in_err-item-clause-acts : goal.returns-in_err-item-clause-acts
-returns-in_err-item-clause-acts g c =
-    let p = err_from_is_err_and c.from_residual.result c.from_residual.ensures.1 in
-    rw (p.1, p.2) (take_stops _ _ _ c.in_err-item.ensures.acts)
+pub returns-in-Some-clause-acts : goal.returns-in-Some-clause-acts
+returns-in-Some-clause-acts g c =
+    round_some _ _ c.args.session.now.procedures.running.items c.pop.new.self.running.items c.statement.new.session.procedures.running.items c.in-Some.newest
+    _ c.in-Some.ensures c.statement.ensures.acts
 
-pub returns-in_default-clause-acts : goal.returns-in_default-clause-acts
-returns-in_default-clause-acts g c =
-    let is = c.in_default.is in
-    let taken = rw is at c.in_ok-item.ensures.acts in
-    finished_so _ _ taken
-
-pub returns-then-state-eq0-clause-acts : goal.returns-then-state-eq0-clause-acts
-returns-then-state-eq0-clause-acts g c =
-    let is = c.in-Some.is in
-    let taken = rw is at c.in_ok-item.ensures.acts in
-    no_turns _ _ c.in-Some.item taken c.if-state-eq0.true
-
-pub returns-in_err-turn-clause-acts : goal.returns-in_err-turn-clause-acts
-returns-in_err-turn-clause-acts g c =
-    let p = err_from_is_err_and c.from_residual-in_err-turn.result c.from_residual-in_err-turn.ensures.1 in
-    let is = c.in-Some.is in
-    let taken = rw is at c.in_ok-item.ensures.acts in
-    rw (p.1, p.2) (turn_stops _ _ _ c.turn.new.state.left c.in-Some.item _ taken c.turn.ensures.left c.in_err-turn.ensures.acts)
-
-pub run_taken-requires-clause-usable : goal.run_taken-requires-clause-usable
-run_taken-requires-clause-usable g c = c.in_ok-turn.ensures.acts.usable (c.in_ok-item.ensures.acts.usable c.requires.usable)
-
-pub returns-clause-acts : goal.returns-clause-acts
-returns-clause-acts g c =
-    let is = c.in-Some.is in
-    let taken = rw is at c.in_ok-item.ensures.acts in
-    item_done _ _ _ _ c.turn.new.state.left c.in-Some.item _ _ taken c.turn.ensures.left c.in_ok-turn.ensures.acts c.run_taken.ensures.acts
+pub returns-in-None-clause-acts : goal.returns-in-None-clause-acts
+returns-in-None-clause-acts g c =
+    round_none _ _ c.args.session.now.procedures.running.items c.pop.new.self.running.items c.line_round.new.session.procedures.running.items
+    _ c.in-None.ensures.0 c.in-None.ensures.1 c.line_round.ensures.acts

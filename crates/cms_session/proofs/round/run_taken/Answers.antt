@@ -14,4 +14,4 @@ pub returns-in-Long-clause-acts : goal.returns-in-Long-clause-acts
 returns-in-Long-clause-acts g c = let is = c.in-Long.is in rw is c.refuse_taken-in-Long.ensures.acts
 
 pub returns-in-Rest-clause-acts : goal.returns-in-Rest-clause-acts
-returns-in-Rest-clause-acts g c = let is = c.in-Rest.is in rw is (done_here _ _ end.Ready (round_of c.args.state.now) (λ units h. refl))
+returns-in-Rest-clause-acts g c = let is = c.in-Rest.is in rw is (done_here _ _ end.Ready (round_of c.args.session.now) (λ units h. refl))
