@@ -250,8 +250,8 @@ own_failed mid now line c own s e is ext there usable why reads same = record {
             let blocks = readable_seat mid.world.told mid.state.table c.letter s k.met.unit there k.met.has usable j told in
             let aside = none_aside j mid.world.told s.disk m told minidisk blocks looked in
             subst (λ (z : Told). Appends mid.world.told z s.disk s.disk m (add_in mid.state line c own units) (stamp_of mid.state.moment) (Err e)) (sym reads.told)
-            (fails_so mid.world.told s.disk m c.name (copies_on mid.state c (plan_for line (form_in own) c) units) (stamp_for line.style c.input.stamp (stamp_of mid.state.moment)) (stamp_of mid.state.moment)
-            mid.state.table c.letter c.name e aside why (λ none. own_never mid line c own is ext none units h));
+            (fails_so mid.world.told s.disk m c.name (copies_on mid.state c (plan_for line (form_in own) c) units)
+            (stamp_for line.style c.input.stamp (stamp_of mid.state.moment)) (stamp_of mid.state.moment) mid.state.table c.letter c.name e aside why (λ none. own_never mid line c own is ext none units h));
         changes = unchanged mid.world now.world s.disk e
             (record {
               grown = grown_same mid.world.told now.world.told reads.told;

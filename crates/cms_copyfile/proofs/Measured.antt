@@ -3,7 +3,7 @@ use Rattle.std.proofs.Common.{◌≡◌, ◌∙◌, ℕ, ◌+◌, max, List, [],
 use Rattle.cms_names.specs.declared.name.Format.{Format}
 use Rattle.cms_names.specs.declared.name.Format.TheVariants.{F, V}
 use Rattle.cms_model.specs.Records.{longest, stored}
-use Rattle.cms_model.proofs.Records.{stored_append}
+use Rattle.cms_model.proofs.Records.{longest_both, stored_append}
 use Rattle.cms_copyfile.specs.Joins.{joined}
 use Rattle.cms_copyfile.specs.Measures.{measured}
 use Rattle.cms_copyfile.specs.declared.measure.Measure.{Measure}
@@ -12,11 +12,6 @@ pub none_measured : (format : Format) → record { count = 0; bytes = 0; longest
 unfolding longest
 none_measured F = refl
 none_measured V = refl
-
-longest_both : (a b : List (List ℕ)) → longest (a ++ b) ≡ max (longest a) (longest b)
-unfolding longest
-longest_both [] b = omega arith
-longest_both (x ∷ xs) b = let rest = longest_both xs b in omega (arith, rest)
 
 measured_both : (format : Format) (a b : List (List ℕ)) → joined (measured format a) (measured format b) ≡ measured format (a ++ b)
 measured_both format a b =

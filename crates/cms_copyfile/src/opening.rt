@@ -1,5 +1,5 @@
 // Files of the table's disks are opened, to be copied.
-ghost use Rattle.std.specs.Prelude.{◌≡◌, ◌≤◌, true, IfErr, IfOk, IsSome};
+ghost use Rattle.std.specs.Prelude.{◌≡◌, ◌<◌, ◌≤◌, true, false, IfErr, IfOk, IsSome};
 ghost use Rattle.std.specs.Option.{ForSome};
 ghost use Rattle.cms_fields.specs.Limits.{longest_record};
 ghost use Rattle.cms_search.specs.Machine.{Machine, letter_at};
@@ -20,6 +20,7 @@ use std::alloc::Global;
 fn is_short(info: Option<FileInfo>) -> bool
     ensures short { result ≡ true → ForSome info (λ i. i.length ≤ longest_record) }
     ensures some { result ≡ true → IsSome info }
+    ensures long { result ≡ false → ForSome info (λ i. longest_record < i.length) }
 {
     match info {
         Some(info) => info.length <= LONGEST_RECORD,

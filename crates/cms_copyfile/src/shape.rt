@@ -1,5 +1,5 @@
 // What a file is to be that is drafted of copies.
-ghost use Rattle.std.specs.Prelude.{◌≡◌, ◌↔◌, ℕ, List, true, IsTrue};
+ghost use Rattle.std.specs.Prelude.{◌≡◌, ◌↔◌, ℕ, List, true, false, IsTrue};
 ghost use Rattle.cms_names.specs.declared.name.Name as names;
 ghost use Rattle.cms_edf.specs.FileDrafts.{CanDraft, IsSized};
 ghost use Rattle.cms_disk.specs.Drafts as drafts;
@@ -36,7 +36,8 @@ fn is_sized(shape: &DraftShape) -> bool
 
 /// Whether a file may have a shape.
 pub fn can_draft(shape: &DraftShape) -> bool
-    ensures { result ≡ true → CanDraft shape.now }
+    ensures can { result ≡ true → CanDraft shape.now }
+    ensures none { result ≡ false → CanDraft shape.now → ⊥ }
 {
     if shape.number > 6 {
         return false;

@@ -15,7 +15,7 @@ use Rattle.cms_model.specs.Sizes.{directory_more, free_count, map_size}
 use Rattle.cms_model.specs.Changes.{Add, Answer, Changed, Full, Limited, Put, added_to, answer_of, change_file, changed, changed_files, file_limit, file_named, file_need, is_full, limit, need, put_file, unless_limited, written_file}
 use Rattle.cms_model.specs.declared.file.FileData.{FileData}
 use Rattle.cms_model.proofs.Changing.{name_from, name_self}
-use Rattle.cms_model.proofs.Records.{stored_append}
+use Rattle.cms_model.proofs.Records.{longest_both, stored_append}
 use Rattle.cms_machine.specs.Beats.{Covers}
 use Rattle.cms_machine.specs.Slots.{After, Before, Settled, Side, Slot, set_of}
 use Rattle.cms_machine.specs.Steps.{EitherFault, Good, MayPut, OldFault, Outcome, ReadFault, after_put, put_syncs}
@@ -187,11 +187,6 @@ unread_so told d m name more st stamp a = record {
     stays (Changed k) = refl
 
 -- ---- the records of both
-
-longest_both : (a b : List (List ℕ)) → longest (a ++ b) ≡ max (longest a) (longest b)
-unfolding longest
-longest_both [] b = omega arith
-longest_both (x ∷ xs) b = let rest = longest_both xs b in omega (arith, rest)
 
 fits_both : (format : Format) (size size' size'' : ℕ) (a b : List (List ℕ)) → (format ≡ F → size' ≡ size) → (format ≡ F → size'' ≡ size) → All (Fits format size) a → All (Fits format size') b
     → All (Fits format size'') (a ++ b)

@@ -1,5 +1,5 @@
 -- Records in bytes, both ways.
-use Rattle.std.proofs.Common.{◌≡◌, ◌↔◌, ℕ, zero, suc, ◌+◌, ◌*◌, ◌/◌, ◌%◌, ◌<◌, ◌≤◌, List, [], ◌∷◌, ◌++◌, length, take, drop, All, Ok, true, refl, sym, ◌∙◌, ap, subst, arith, append_assoc, length-append, take-append-drop, length-take-le, length-drop, get_or-drop, drop-drop, take_at, drop_at}
+use Rattle.std.proofs.Common.{◌≡◌, ◌↔◌, ℕ, zero, suc, ◌+◌, ◌*◌, ◌/◌, ◌%◌, ◌<◌, ◌≤◌, max, List, [], ◌∷◌, ◌++◌, length, take, drop, All, Ok, true, refl, sym, ◌∙◌, ap, subst, arith, append_assoc, length-append, take-append-drop, length-take-le, length-drop, get_or-drop, drop-drop, take_at, drop_at}
 use Rattle.std.specs.List.{concat}
 use Rattle.std.specs.Prelude.{nat_le, nat_lt}
 use Rattle.std.proofs.lemmas.Bool.{le-leb, leb-true, lt-ltb, ltb-true}
@@ -12,7 +12,7 @@ use Rattle.cms_names.specs.declared.name.Format.TheVariants.{F, V}
 use Rattle.cms_text.specs.Bytes.{half}
 use Rattle.cms_model.specs.Lists.{cut}
 use Rattle.cms_model.specs.Sizes.{stored_size}
-use Rattle.cms_model.specs.Records.{with_length, stored, Fits, HoldRecords, varying, records_of, StandsFor}
+use Rattle.cms_model.specs.Records.{with_length, longest, stored, Fits, HoldRecords, varying, records_of, StandsFor}
 use Rattle.cms_model.specs.LawsRecords.{AreBytes}
 use Rattle.cms_model.specs.declared.fault.VarFault.TheVariants.{Zero, PastEnd, Left}
 use Rattle.cms_model.specs.declared.file.FileData.{FileData}
@@ -25,6 +25,11 @@ stored_append F [] b = refl
 stored_append F (x ∷ xs) b = ap (λ (l : List ℕ). x ++ l) (stored_append F xs b) ∙ sym (append_assoc x (concat xs) (concat b))
 stored_append V [] b = refl
 stored_append V (x ∷ xs) b = ap (λ (l : List ℕ). with_length x ++ l) (stored_append V xs b) ∙ sym (append_assoc (with_length x) (stored V xs) (stored V b))
+
+pub longest_both : (a b : List (List ℕ)) → longest (a ++ b) ≡ max (longest a) (longest b)
+unfolding longest
+longest_both [] b = omega arith
+longest_both (x ∷ xs) b = let rest = longest_both xs b in omega (arith, rest)
 
 -- ---- records of one length
 

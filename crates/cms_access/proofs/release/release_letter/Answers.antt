@@ -9,5 +9,5 @@ returns-in-Ok-clause-acts g c =
 pub returns-in-Err-clause-acts : goal.returns-in-Err-clause-acts
 returns-in-Err-clause-acts g c =
     let none = c.in-Err.ensures.refused in
-    letter_missing _ _ c.args.state.now c.release.new.self c.args.letter c.refuse_not_accessed.result none.0 none.1
+    letter_missing _ _ c.args.state.now c.release.new.self c.args.letter c.refuse_not_accessed.result none.1 none.2
     c.refuse_not_accessed.ensures.does c.refuse_not_accessed.ensures.went
