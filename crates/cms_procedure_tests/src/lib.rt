@@ -7,3 +7,7 @@ mod copy_tests;
 mod fault_tests;
 #[cfg(test)]
 mod procedure_tests;
+#[cfg(test)]
+mod refusal_tests;
+#[cfg(test)]
+mod stack_tests;
