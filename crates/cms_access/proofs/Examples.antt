@@ -1,26 +1,22 @@
 -- Worked examples of ACCESS, RELEASE, QUERY and FORMAT.
-use Rattle.std.proofs.Common.{◌≡◌, ℕ, ℤ, pos, true, false, List, [], ◌∷◌, ◌++◌, replicate, slice_get, Option, Some, None, codes, refl}
-use Rattle.std.specs.FinMap.{empty}
+use Rattle.std.proofs.Common.{◌≡◌, ℕ, pos, true, false, List, [], ◌∷◌, replicate, slice_get, Option, Some, None, codes, refl}
 use Rattle.std.specs.Fmt.{digits}
 use Rattle.cms_ebcdic.specs.CodePage.{character_of, code_of, code_page, host_of, upper_of}
 use Rattle.cms_names.specs.Modes.{letter_of, mode_number_of, mode_word_of, short_mode_of}
 use Rattle.cms_names.specs.Names.{is_name_character}
-use Rattle.cms_fields.specs.declared.time.Moment.{Moment}
 use Rattle.cms_text.specs.Numbers.{decimal_of, written, magnitude_of}
 use Rattle.cms_text.specs.Texts.{ebcdic, is_keyword}
 use Rattle.cms_model.specs.Changes.{answer_of, changed, changed_files, is_full, limit, need, written_file}
 use Rattle.cms_model.specs.Minidisks.{State, Volume, Not}
 use Rattle.cms_model.specs.Sizes.{directory_more, file_size, free_count, map_size, stored_size, tree_size, used_count, levels, levels_from, pointer_count, pointers_to}
 use Rattle.cms_machine.specs.Acts.{Act, typed_line}
-use Rattle.cms_machine.specs.Feeds.{Fed, Close, Over, WaitsForScript, WaitsForMoment, feed}
+use Rattle.cms_machine.specs.Feeds.{Close, Over, WaitsForScript, WaitsForMoment, feed}
 use Rattle.cms_machine.specs.Items.{Item, Text, Bad, Long, Rest}
 use Rattle.cms_machine.specs.Slots.{Slot, Settled, Doubt, Before, After}
 use Rattle.cms_machine.specs.Steps.{Outcome, Good, SyncFault, ReadFault, OldFault, EitherFault}
-use Rattle.cms_machine.specs.Traces.{bytes_of}
 use Rattle.cms_line.specs.Messages.{message_text}
 use Rattle.cms_line.specs.Options.{options_from, options_of}
 use Rattle.cms_line.specs.Tokens.{tokens_from, tokens_of}
-use Rattle.cms_line.specs.declared.token.Token.{Token}
 use Rattle.cms_operands.specs.Choices.{all_valued, chosen_of, last_among, setting_in, valued}
 use Rattle.cms_operands.specs.Operands.{access_mode, access_mode_in, device, device_of, device_or_letter, ended, given, given_or, hexadecimal_of, letter, letter_or_all, needed, number_within, operands_of}
 use Rattle.cms_operands.specs.Refusals.{message_of}
@@ -28,6 +24,7 @@ use Rattle.cms_search.specs.Asking.{asking}
 use Rattle.cms_search.specs.Machine.{Letter, Machine, Course, Went, OutOfTurns, typing}
 use Rattle.cms_search.specs.Searches.{places_from}
 use Rattle.cms_search.specs.declared.state.Device.{Device}
+use Rattle.cms_search.proofs.Machines.{Answer, answer, answer_asked, machine, moment, types, words}
 use Rattle.cms_access.specs.Access.{access, access_operands}
 use Rattle.cms_access.specs.Format.{format, format_operands, goes_on, is_label}
 use Rattle.cms_access.specs.Query.{query, query_operands}
@@ -35,23 +32,8 @@ use Rattle.cms_access.specs.Release.{release, release_operands}
 
 -- ---- machines
 
-moment : Moment
-moment = record { year = 2000; month = 1; day = 1; hour = 0; minute = 0; second = 1 }
-
 abbrev unit : ℕ → Device
 unit vdev = record { vdev = vdev; bsize = 512; blocks = 9; writable = true }
-
-abbrev machine : List Slot → List Device → List (Option Letter) → Machine
-machine units devices letters = record {
-  units = units;
-  devices = devices;
-  letters = letters;
-  stack = [];
-  places = empty;
-  offset = pos 0;
-  moment = moment;
-  left = 10;
-}
 
 abbrev no_letters : List (Option Letter)
 no_letters = replicate 26 None
@@ -69,38 +51,8 @@ as_b u = disk u ∷ replicate 24 None
 abbrev volume : List ℕ → ℕ → State
 volume volid lost = Volume (record { volid = ebcdic volid; bsize = 512; total = 9; lost = lost; files = [] })
 
-abbrev words : List ℕ → List Token
-words line = tokens_of (ebcdic line)
-
--- ---- answers
-
--- what is typed, and the code where the command ended with one
-pub record Answer : Type 0 where
-  pub typed : List ℕ
-  pub code : Option ℤ
-
-abbrev code_in : Close Course → Option ℤ
-code_in (Over (Went s code)) = Some code
-code_in (Over OutOfTurns) = None
-code_in WaitsForScript = None
-code_in WaitsForMoment = None
-
-abbrev answer_in : Fed Course → Answer
-answer_in f = record { typed = bytes_of f.trace; code = code_in f.close }
-
--- where these items stand in the console, the clock tells these seconds, and the steps have these outcomes
-abbrev answer : Act Course → List Item → List ℤ → List Outcome → Answer
-answer tree console seconds outcomes = answer_in (feed tree console true seconds outcomes)
-
 abbrev text : List ℕ → Item
 text line = Text (ebcdic line)
-
-abbrev lines : List (List ℕ) → List ℕ
-lines [] = []
-lines (line ∷ more) = line ++ 10 ∷ lines more
-
-abbrev types : List (List ℕ) → ℕ → Answer
-types typed code = record { typed = lines typed; code = Some (pos code) }
 
 -- ---- FORMAT
 
@@ -109,7 +61,7 @@ abbrev new_machine : Machine
 new_machine = machine (Settled (Not 2) ∷ []) (unit 0x191 ∷ []) no_letters
 
 abbrev formats : Machine → List ℕ → List Item → List Outcome → Answer
-formats s line console outcomes = answer (format s (words line)) console (pos 7 ∷ pos 8 ∷ pos 9 ∷ []) outcomes
+formats s line console outcomes = answer_asked (format s (words line)) console (pos 7 ∷ pos 8 ∷ pos 9 ∷ []) outcomes
 
 abbrev first_question : List ℕ
 first_question = codes "CMS603R FORMAT will erase all files on disk A (191). Go on? Enter YES or NO"
@@ -227,7 +179,7 @@ one_disk lost = machine (Settled (volume (codes "TEST01") lost) ∷ []) (unit 0x
 abbrev header : List ℕ
 header = codes "LABEL  VDV M STA BLKSZ  FILES     USED     FREE    TOTAL"
 
-asked : answer (query (one_disk 0) (words (codes "QUERY DISK A"))) [] [] []
+asked : answer (query (one_disk 0) (words (codes "QUERY DISK A"))) []
     ≡ types (header ∷ codes "TEST01 191 A R/W   512      0        6        3        9" ∷ []) 0
 unfolding query_operands operands_of needed given given_or letter_or_all mode_word_of short_mode_of letter_of ended chosen_of options_of all_valued is_keyword ebcdic code_of code_page
     host_of upper_of character_of typed_line typing places_from free_count used_count directory_more map_size file_size stored_size tree_size levels levels_from pointer_count
@@ -235,7 +187,7 @@ unfolding query_operands operands_of needed given given_or letter_or_all mode_wo
 asked = refl
 
 -- a block is lost
-asked_all : answer (query (one_disk 1) (words (codes "Q DISK"))) [] [] []
+asked_all : answer (query (one_disk 1) (words (codes "Q DISK"))) []
     ≡ types (header ∷ codes "TEST01 191 A R/W   512      0        7        2        9" ∷ []) 0
 unfolding query_operands operands_of needed given given_or letter_or_all mode_word_of short_mode_of letter_of ended chosen_of options_of all_valued is_keyword ebcdic code_of code_page
     host_of upper_of character_of typed_line typing places_from free_count used_count directory_more map_size file_size stored_size tree_size levels levels_from pointer_count
@@ -243,11 +195,11 @@ unfolding query_operands operands_of needed given given_or letter_or_all mode_wo
 asked_all = refl
 
 -- with no disk the header stands alone, and a letter is refused
-asked_none : (answer (query new_machine (words (codes "Q DISK *"))) [] [] [] ≡ types (header ∷ []) 0)
-    × (answer (query new_machine (words (codes "Q DISK B"))) [] [] [] ≡ types (codes "CMS069E Disk B is not accessed" ∷ []) 36)
-    × (answer (query new_machine (words (codes "Q DISK B1 (X"))) [] [] [] ≡ types (codes "CMS048E Mode B1 is not valid" ∷ []) 24)
-    × (answer (query new_machine (words (codes "Q DISKS"))) [] [] [] ≡ types (codes "CMS070E Operand DISKS is not valid" ∷ []) 24)
-    × (answer (query new_machine (words (codes "Q SEARCH A"))) [] [] [] ≡ types (codes "CMS070E Operand A is not valid" ∷ []) 24)
+asked_none : (answer (query new_machine (words (codes "Q DISK *"))) [] ≡ types (header ∷ []) 0)
+    × (answer (query new_machine (words (codes "Q DISK B"))) [] ≡ types (codes "CMS069E Disk B is not accessed" ∷ []) 36)
+    × (answer (query new_machine (words (codes "Q DISK B1 (X"))) [] ≡ types (codes "CMS048E Mode B1 is not valid" ∷ []) 24)
+    × (answer (query new_machine (words (codes "Q DISKS"))) [] ≡ types (codes "CMS070E Operand DISKS is not valid" ∷ []) 24)
+    × (answer (query new_machine (words (codes "Q SEARCH A"))) [] ≡ types (codes "CMS070E Operand A is not valid" ∷ []) 24)
 unfolding query_operands operands_of needed given given_or letter_or_all mode_word_of short_mode_of letter_of mode_number_of ended chosen_of options_of all_valued message_of
     message_text is_keyword ebcdic code_of code_page host_of upper_of character_of typed_line typing places_from tokens_of tokens_from
 asked_none = (refl, refl, refl, refl, refl)
@@ -260,7 +212,7 @@ two_units letters =
 abbrev extended : List (Option Letter)
 extended = disk 0 ∷ Some (record { unit = 1; parent = Some 0; read_only = true }) ∷ replicate 24 None
 
-searched : answer (query (two_units extended) (words (codes "Q SEARCH"))) [] [] []
+searched : answer (query (two_units extended) (words (codes "Q SEARCH"))) []
     ≡ types (codes "TEST01 191 A   R/W" ∷ codes "T2     192 B/A R/O" ∷ []) 0
 unfolding query_operands operands_of needed given given_or ended chosen_of options_of all_valued is_keyword ebcdic code_of code_page host_of upper_of character_of typed_line typing
     places_from tokens_of tokens_from
@@ -269,7 +221,7 @@ searched = refl
 -- ---- ACCESS
 
 abbrev accesses : Machine → List ℕ → List Outcome → Answer
-accesses s line outcomes = answer (access s (words line)) [] [] outcomes
+accesses s line outcomes = answer (access s (words line)) outcomes
 
 -- a volume is accessed without a message, and read-only with one
 accessed : (accesses (two_units no_letters) (codes "ACCESS") [] ≡ types [] 0)
@@ -300,7 +252,7 @@ not_opened = (refl, refl, refl, refl, refl, refl)
 -- ---- RELEASE
 
 abbrev releases : Machine → List ℕ → Answer
-releases s line = answer (release s (words line)) [] [] []
+releases s line = answer (release s (words line)) []
 
 -- a device that isn't accessed is shown in place of a letter
 released_or_not : (releases (two_units (as_a 0)) (codes "REL A") ≡ types [] 0)

@@ -4,13 +4,12 @@ use Rattle.std.specs.Prelude.{Bool, true, false, ◌==◌, ◌↔◌, Option, So
 use Rattle.std.specs.Option.{ForSome, option_and_then}
 use Rattle.std.proofs.lemmas.Bool.{eqb-true}
 use Rattle.std.proofs.lemmas.List.Quantifiers.{position-Some}
-use Rattle.std.proofs.lemmas.Option.{get_or_from_slice_get}
+use Rattle.std.proofs.lemmas.Option.{get_or_from_slice_get, same_Some}
 use Rattle.cms_journal.specs.Told.{Told}
 use Rattle.cms_fields.specs.Moments.{stamp_of}
 use Rattle.cms_fields.specs.declared.time.Stamp.{Stamp}
 use Rattle.cms_text.specs.Numbers.{decimal_of}
-use Rattle.cms_machine.specs.Acts.{Act, saying, typed_line}
-use Rattle.cms_machine.specs.Slots.{Slot}
+use Rattle.cms_machine.specs.Acts.{saying, typed_line}
 use Rattle.cms_line.specs.Messages.{message_text}
 use Rattle.cms_line.specs.declared.message.Message.TheVariants.{M105, M733}
 use Rattle.cms_world.specs.Seen.{Seen}
@@ -34,13 +33,11 @@ use Rattle.cms_search.specs.declared.state.End.TheVariants.{Memory}
 use Rattle.cms_search.specs.declared.state.State.{State}
 use Rattle.cms_search.specs.declared.table.Seat.{Seat}
 use Rattle.cms_search.proofs.Acts.{acts_after, cut_off, refused}
-use Rattle.cms_search.proofs.Holding.{some_same}
 use Rattle.cms_search.proofs.Released.{letter_told, vdev_is}
-use Rattle.cms_access.specs.Format.{remaking}
 use Rattle.cms_access.specs.Remaking.{MayRemake, forgotten_in, is_marked, made_of}
 use Rattle.cms_access.specs.declared.format.FormatLine.{FormatLine}
 use Rattle.cms_access.proofs.Releases.{some_place}
-use Rattle.cms_access.proofs.Remade.{Remade, failed_tree, finished_tree, places_left, remade_done, remade_doubted, remade_emptied}
+use Rattle.cms_access.proofs.Remade.{Remade, failed_tree, finished_tree, places_left, remade_done, remade_doubted, remade_emptied, remaking_tree}
 
 -- ---- the unit of a device
 
@@ -69,7 +66,7 @@ may_format told t vdev unit is least writable usable other at =
       blocks = λ j told'. ((usable j told').units place.0 unit has).blocks;
       writable = λ j told'. ((usable j told').units place.0 unit has).writable writable;
     } in
-    subst (MayFormat told) (some_same unit other (sym is ∙ at)) may
+    subst (MayFormat told) (same_Some unit other (sym is ∙ at)) may
 
 -- ---- the reading places
 
@@ -186,15 +183,12 @@ remade_so old now t places line volid unit stamp r m may when p f is kept =
           ∙ ap (λ (x : Places). record old.state { table = table_made old.state.table p.place unit line.letter f.made; places = x }) kept;
     })
 
-abbrev tree_of : State → FormatLine → List ℕ → List Slot → Act Course
-tree_of st line volid units = remaking line (machine_of st units) volid
-
 -- the volume was made, and that is typed
 pub made_good : (old : Spot) (now last : Seen) (t : Accesses) (places : Places) (line : FormatLine) (volid : List ℕ) (unit : UnitInfo) (stamp : Stamp) (r : Result ⊤ DiskFault)
     (x : Result declared.Course End) → (may : MayRemake old.state line unit) → stamp ≡ stamp_of old.state.moment → Formatted old now t line volid unit stamp r → made_of r ≡ Ok true
     → ((p : Placed old.state line unit) → places ≡ places_left old.state p.place line.letter)
     → Does now last (saying (typed_line (message_text (M733 (decimal_of unit.unit.blocks) (letter_text line.letter) (device_text line.vdev))))) x said → IfOk x (λ c. c ≡ course.Went (pos 0))
-    → Acts old (left old last t places) (tree_of old.state line volid) x (course_of (left old last t places).state)
+    → Acts old (left old last t places) (remaking_tree old.state line volid) x (course_of (left old last t places).state)
 made_good old now last t places line volid unit stamp r x may when formatted is kept does went =
     let p = placed old.state line unit may in
     let f = formatted p.place unit p.place_is p.unit_is in
@@ -202,7 +196,7 @@ made_good old now last t places line volid unit stamp r x may when formatted is 
     let mid = left old now t places in
     let new = left old last t places in
     let m = remade_so old now t places line volid unit stamp r (Ok w.0) may when p f w.1 (kept p) in
-    acts_after old mid new (tree_of old.state line volid) (finished_tree mid.state line unit.unit.blocks) x (course_of new.state) (remade_done old mid line volid unit w.0 m)
+    acts_after old mid new (remaking_tree old.state line volid) (finished_tree mid.state line unit.unit.blocks) x (course_of new.state) (remade_done old mid line volid unit w.0 m)
     (refused mid new (M733 (decimal_of unit.unit.blocks) (letter_text line.letter) (device_text line.vdev)) (pos 0) x does went refl)
 
 -- or the device failed, and that is typed
@@ -210,23 +204,23 @@ pub made_bad : (old : Spot) (now last : Seen) (t : Accesses) (places : Places) (
     (x : Result declared.Course End) → (may : MayRemake old.state line unit) → stamp ≡ stamp_of old.state.moment → Formatted old now t line volid unit stamp r → made_of r ≡ Ok false
     → ((p : Placed old.state line unit) → places ≡ places_left old.state p.place line.letter)
     → Does now last (saying (typed_line (message_text (M105 (device_text line.vdev))))) x said → IfOk x (λ c. c ≡ course.Went (pos 100))
-    → Acts old (left old last t places) (tree_of old.state line volid) x (course_of (left old last t places).state)
+    → Acts old (left old last t places) (remaking_tree old.state line volid) x (course_of (left old last t places).state)
 made_bad old now last t places line volid unit stamp r x may when formatted is kept does went =
     let p = placed old.state line unit may in
     let f = formatted p.place unit p.place_is p.unit_is in
     let mid = left old now t places in
     let new = left old last t places in
-    let comes : Comes old mid (tree_of old.state line volid) (failed_tree mid.state line) = ⊎_elim
+    let comes : Comes old mid (remaking_tree old.state line volid) (failed_tree mid.state line) = ⊎_elim
     (λ (w : f.made ≡ Err failed.Device). remade_emptied old mid line volid unit (remade_so old now t places line volid unit stamp r (Err failed.Device) may when p f w (kept p)))
     (λ (w : f.made ≡ Err failed.InDoubt). remade_doubted old mid line volid unit (remade_so old now t places line volid unit stamp r (Err failed.InDoubt) may when p f w (kept p)))
     (has_failed f.made (ap made_of (sym f.answer) ∙ is)) in
-    acts_after old mid new (tree_of old.state line volid) (failed_tree mid.state line) x (course_of new.state) comes
+    acts_after old mid new (remaking_tree old.state line volid) (failed_tree mid.state line) x (course_of new.state) comes
     (refused mid new (M105 (device_text line.vdev)) (pos 100) x does went refl)
 
 -- or there was no memory
 pub made_starved : (old : Spot) (now : Seen) (t : Accesses) (st : State) (line : FormatLine) (volid : List ℕ) (unit : UnitInfo) (stamp : Stamp) (r : Result ⊤ DiskFault) (e : End)
     → MayRemake old.state line unit → Formatted old now t line volid unit stamp r → made_of r ≡ Err e
-    → Acts {T = declared.Course} old (record { world = now; state = st }) (tree_of old.state line volid) (Err e) (course_of st)
+    → Acts {T = declared.Course} old (record { world = now; state = st }) (remaking_tree old.state line volid) (Err e) (course_of st)
 made_starved old now t st line volid unit stamp r e may formatted is =
     let p = placed old.state line unit may in
     let f = formatted p.place unit p.place_is p.unit_is in
@@ -234,4 +228,4 @@ made_starved old now t st line volid unit stamp r e may formatted is =
     let told = subst (λ (x : Result Accessed DiskFault). IfErr x (λ why. why ≡ failed.Memory → now.told ≡ old.world.told)) w.0 f.nothing refl in
     let edges = f.changes.edges in
     let none = w.1 in
-    rw none (cut_off old (record { world = now; state = st }) (tree_of old.state line volid) (course_of st) told f.changes.faults (omega (arith, edges)))
+    rw none (cut_off old (record { world = now; state = st }) (remaking_tree old.state line volid) (course_of st) told f.changes.faults (omega (arith, edges)))

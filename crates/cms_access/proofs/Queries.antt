@@ -1,10 +1,11 @@
 -- QUERY's lines, as the table tells them.
-use Rattle.std.proofs.Common.{◌≡◌, ◌≤◌, ◌<◌, ◌∙◌, ℕ, suc, ◌+◌, ◌-◌, List, [], ◌∷◌, ◌++◌, Result, Ok, Err, length, map, take, refl, sym, ap, subst, append_assoc, arith}
+use Rattle.std.proofs.Common.{◌≡◌, ◌≤◌, ◌<◌, ◌∙◌, ℕ, suc, ◌+◌, ◌-◌, List, [], ◌∷◌, ◌++◌, Result, Ok, Err, length, map, take, refl, sym, ap, subst, arith}
 use Rattle.std.specs.Prelude.{Bool, true, false, cond, not, ◌&&◌, ◌==◌, Option, Some, None, IfOk, codes, count_by, is_some, pos, replicate, slice_get}
 use Rattle.std.specs.List.{flat_map}
 use Rattle.std.proofs.lemmas.List.Sums.{sum_by-cons, sum_by_more}
 use Rattle.std.proofs.lemmas.Option.{get_or_from_slice_get, slice_get_within}
 use Rattle.std.specs.Option.{option_map, option_map_or}
+use Rattle.std.proofs.lemmas.List.{length-map}
 use Rattle.cms_journal.specs.Journal.{Journal}
 use Rattle.cms_journal.specs.Told.{Told}
 use Rattle.cms_ebcdic.specs.CodePage.{code_of, code_page}
@@ -34,7 +35,7 @@ use Rattle.cms_search.specs.Releasing.{vdev_of}
 use Rattle.cms_search.specs.Searches.{item_at, places_from}
 use Rattle.cms_search.specs.Shows.{device_of}
 use Rattle.cms_search.specs.Tables.{Accesses, Seated, letters_of}
-use Rattle.cms_search.specs.Telling.{letter_text, spaced}
+use Rattle.cms_search.specs.Telling.{letter_text}
 use Rattle.cms_search.specs.declared.state.Course as declared
 use Rattle.cms_search.specs.declared.state.Course.TheVariants as course
 use Rattle.cms_search.specs.declared.state.Device.{Device}
@@ -43,26 +44,17 @@ use Rattle.cms_search.specs.declared.state.End.{End}
 use Rattle.cms_search.specs.declared.state.State.{State}
 use Rattle.cms_world.specs.Seen.{Seen}
 use Rattle.cms_search.proofs.Acts.{acts_same}
-use Rattle.cms_search.proofs.Lined.{acts_typed, nothing, reached_none, reached_off, reached_on, reached_to, typing_first, typing_more, typing_none, typing_one, typing_then, Reached}
+use Rattle.cms_search.proofs.Lined.{acts_typed, nothing, reached_none, reached_off, reached_on, reached_to, typing_first, typing_more, typing_none, typing_then, Reached}
 use Rattle.cms_search.proofs.Meeting.{meets}
 use Rattle.cms_search.proofs.Released.{get_map, letter_told}
 use Rattle.cms_search.proofs.Staying.{acts_refused}
 use Rattle.cms_search.proofs.Talking.{silent}
-use Rattle.cms_search.proofs.Tabling.{length_mapped}
 use Rattle.cms_access.specs.Query.{all_lines, disk_line, disk_text, header, line_of, query_letter, search_line, search_text, seen_count, status, with_parent}
 use Rattle.cms_access.specs.Shown.{count_seen, device_in, lines_from, seat_lines, seat_text}
 use Rattle.cms_access.specs.declared.shown.Shown.{Shown}
 use Rattle.cms_access.specs.declared.shown.Shown.TheVariants.{Disk, Search}
 
 -- ---- columns
-
-pub spaced_more : (x : List ℕ) (xs : List (List ℕ)) (y : List ℕ) → spaced (x ∷ xs) ++ 0x40 ∷ y ≡ spaced (x ∷ (xs ++ y ∷ []))
-spaced_more x [] y = refl
-spaced_more x (z ∷ zs) y = append_assoc x (0x40 ∷ spaced (z ∷ zs)) (0x40 ∷ y) ∙ ap (λ (l : List ℕ). x ++ 0x40 ∷ l) (spaced_more z zs y)
-
--- a line with a column more
-pub spaced_on : (l l' x : List ℕ) (xs : List (List ℕ)) (y : List ℕ) → l ≡ spaced (x ∷ xs) → l' ≡ l ++ 0x40 ∷ y → l' ≡ spaced (x ∷ (xs ++ y ∷ []))
-spaced_on l l' x xs y is more = more ∙ ap (λ (k : List ℕ). k ++ 0x40 ∷ y) is ∙ spaced_more x xs y
 
 pub status_coded : (read_only : Bool) → status read_only ≡ cond read_only (coded (codes "R/O")) (coded (codes "R/W"))
 unfolding ebcdic code_of code_page
@@ -219,7 +211,7 @@ pub all_told : (shown : Shown) (told : Told) (s : State) (units : List Slot) →
     → all_lines (shown_line shown) (machine_of s units) ≡ lines_from (λ n. seat_lines shown s.table n) 0 26
 all_told shown told s units h =
     let f : ℕ → List (List ℕ) = λ n. seat_lines shown s.table n in
-    let long : length (letters_of s.table) ≡ 26 = length_mapped (λ (x : Option Seated). option_map (λ s. s.letter) x) s.table.seats ∙ table_long told s.table units h in
+    let long : length (letters_of s.table) ≡ 26 = length-map s.table.seats (λ (x : Option Seated). option_map (λ s. s.letter) x) ∙ table_long told s.table units h in
     flat_same (λ n. line_of (shown_line shown) (machine_of s units) n) f (places_from is_some 0 (letters_of s.table)) (λ n. line_told shown told s units n h)
     ∙ lines_placed f 0 (letters_of s.table) (λ k none. (let e : 0 + k ≡ k = omega arith in rw e (cases k (item_at s.table.seats k) (sym (letter_told s.table.seats k) ∙ none))))
     ∙ ap (λ (n : ℕ). lines_from f 0 n) long
@@ -290,16 +282,6 @@ one_told shown t n seat d line marks is text = cases (item_at t.seats n) refl is
         let e = text s (sym m.0) (sym m.1) (cc is) in
         let v = device (slice_get t.units s.letter.unit) m.2 in
         ap (λ (w : ℕ). seat_text shown n w s ∷ []) v ∙ ap (λ (l : List ℕ). l ∷ []) (sym e)
-
-pub said_one : (before now : Seen) (line : List ℕ) (lines : List (List ℕ)) (r : Result (Unit {0}) End) → lines ≡ line ∷ [] → Does before now (saying (typed_line line)) r itself
-    → Does before now (typing lines nothing) r said
-said_one before now line lines (Ok x) is d =
-    subst (λ (l : List (List ℕ)). Does before now (typing l nothing) (Ok x) said) (sym is)
-    (subst (λ (a : Act (Unit {0})). Does before now a (Ok x) said) (sym (typing_one line)) (record { each = d.each; idle = d.idle; faults = d.faults; edges = d.edges; cause = tt }))
-said_one before now line lines (Err e) is d =
-    subst (λ (l : List (List ℕ)). Does {T = Unit {0}} before now (typing l nothing) (Err e) said) (sym is)
-    (subst (λ (a : Act (Unit {0})). Does {T = Unit {0}} before now a (Err e) said) (sym (typing_one line))
-    (record { each = d.each; idle = d.idle; faults = d.faults; edges = d.edges; cause = d.cause }))
 
 -- ---- letter after letter
 

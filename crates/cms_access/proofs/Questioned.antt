@@ -22,10 +22,9 @@ use Rattle.cms_search.specs.declared.state.Course as declared
 use Rattle.cms_search.specs.declared.state.Course.TheVariants as course
 use Rattle.cms_search.specs.declared.state.Device.{Device}
 use Rattle.cms_search.specs.declared.state.End.{End}
-use Rattle.cms_search.specs.declared.state.End.TheVariants.{Memory}
 use Rattle.cms_search.specs.declared.state.State.{State}
 use Rattle.cms_world.specs.Seen.{Seen}
-use Rattle.cms_search.proofs.Acts.{acts_after, acts_done, acts_same, acts_stop, comes_does, comes_in, comes_none, does_stop, no_memory}
+use Rattle.cms_search.proofs.Acts.{acts_after, acts_done, acts_same, acts_stop, comes_does, comes_in, comes_none, does_stop}
 use Rattle.cms_search.proofs.Released.{get_map, unit_told}
 use Rattle.cms_access.specs.Format.{Ended, Labelling, goes_on, is_label, labelled, on_reply, reply, size_of, with_label}
 use Rattle.cms_access.specs.Questions.{label_tree, labelling_of}
@@ -90,9 +89,6 @@ acts_bind old mid new s f x m r d a b = acts_after old mid new (λ units. bind (
 -- the tree is done already
 pub acts_over : {R T : Type 0} (old : Spot) (t : List Slot → Act R) (x : T) (d : Meaning T R) → ((units : List Slot) → t units ≡ Done (d units x)) → Acts old old t (Ok x) d
 acts_over old t x d is = acts_same old old t (λ units. Done (d units x)) (Ok x) d (λ units h. is units) (acts_done old old (λ units. Done (d units x)) x d (comes_none old (λ units. Done (d units x))))
-
-pub acts_starving : {R T : Type 0} (old : Spot) (t : List Slot → Act R) (d : Meaning T R) → Acts {T = T} old old t (Err Memory) d
-acts_starving old t d = no_memory old old t t d (comes_none old t)
 
 -- ---- the label
 

@@ -2,7 +2,7 @@
 use Rattle.std.proofs.Common.{◌≡◌, ◌≢◌, ◌<◌, ◌∙◌, inl, inr, ⊎_elim, ℕ, zero, suc, List, [], ◌∷◌, ◌++◌, length, Result, Ok, Err, refl, sym, ap, subst, arith, true≢false}
 use Rattle.std.specs.Prelude.{IfOk, Bool, true, false, ◌==◌, Option, Some, None, pos, option_map, slice_get, slice_set}
 use Rattle.std.proofs.lemmas.Bool.{eq-eqb}
-use Rattle.std.proofs.lemmas.Option.{slice_get_within}
+use Rattle.std.proofs.lemmas.Option.{same_Some, slice_get_within}
 use Rattle.cms_journal.specs.declared.event.Event.{Event}
 use Rattle.cms_journal.specs.declared.event.Attached.{Attached}
 use Rattle.cms_journal.specs.Causes.{Counted}
@@ -10,13 +10,13 @@ use Rattle.cms_journal.specs.Journal.{Journal}
 use Rattle.cms_journal.specs.Told.{IsOfUnit, OnlyOf, Told, plus}
 use Rattle.cms_journal.proofs.Counts.{counted_none, counted_one}
 use Rattle.cms_journal.proofs.Events.{all_join}
-use Rattle.cms_journal.proofs.Pieces.{plus-some, plus_plus}
+use Rattle.cms_journal.proofs.Pieces.{plus_plus}
 use Rattle.cms_fields.specs.Moments.{stamp_of}
 use Rattle.cms_text.specs.Numbers.{decimal_of}
 use Rattle.cms_model.specs.LawsSizes.{IsWhole}
 use Rattle.cms_model.specs.LawsUpdates.{after, now}
 use Rattle.cms_model.specs.Minidisks as disks
-use Rattle.cms_model.specs.Minidisks.{Minidisk, Not, Volume}
+use Rattle.cms_model.specs.Minidisks.{Not, Volume}
 use Rattle.cms_model.specs.Settled.{IsFirm}
 use Rattle.cms_model.specs.Volumes as volumes
 use Rattle.cms_model.specs.Volumes.{state_of}
@@ -28,6 +28,7 @@ use Rattle.cms_machine.specs.Slots.{Doubt, IsAmong, Side, Settled, Slot, set_of,
 use Rattle.cms_machine.specs.Steps.{EitherFault, Good, IsOf, Make, OldFault, Outcome, Step, Wipe, faults_in, new_slot, slot_after, unit_of, units_after}
 use Rattle.cms_machine.proofs.Join.{ran_then}
 use Rattle.cms_machine.proofs.Single.{ran_step}
+use Rattle.cms_machine.proofs.Units.{get_other, get_same, other_slot, units_put}
 use Rattle.cms_line.specs.ConsoleState.{ConsoleState}
 use Rattle.cms_line.specs.Messages.{message_text}
 use Rattle.cms_line.specs.declared.message.Message.TheVariants.{M105, M733}
@@ -48,17 +49,17 @@ use Rattle.cms_search.specs.Releasing.{forgotten, left_by, released}
 use Rattle.cms_search.specs.Searches.{item_at}
 use Rattle.cms_search.specs.Shows.{device_of}
 use Rattle.cms_search.specs.Tables as tables
-use Rattle.cms_search.specs.Tables.{Accesses, IsTable, Seated, cleared, letter_for, letters_in, letters_of, marked, place_of_device, put_on, without}
+use Rattle.cms_search.specs.Tables.{Accesses, IsTable, Seated, cleared, letter_for, letters_of, marked, place_of_device, without}
 use Rattle.cms_search.specs.Telling.{device_text, letter_text}
 use Rattle.cms_search.specs.declared.state.Device.{Device}
 use Rattle.cms_search.specs.declared.state.State.{State}
-use Rattle.cms_search.proofs.Changing.{as_many, slot_elsewhere, slot_there}
+use Rattle.cms_search.proofs.Changing.{slot_there, told_after}
 use Rattle.cms_search.proofs.Frames.{holds_touched}
-use Rattle.cms_search.proofs.Holding.{holds_some, some_same, usable_grown}
+use Rattle.cms_search.proofs.Holding.{holds_some, usable_grown}
 use Rattle.cms_search.proofs.Released.{disk_none, get_map, holds_left, quiet_seated, unit_told}
 use Rattle.cms_search.proofs.Seating.{disk_beside, disk_seated, disk_without, letters_seated, letters_without}
 use Rattle.cms_search.proofs.Seats.{letters_cleared}
-use Rattle.cms_search.proofs.Tabling.{get_set, get_set_other, get_some, item_put, item_without, stays, table_accessed, table_vacated}
+use Rattle.cms_search.proofs.Tabling.{get_some, item_put, item_without, stays, table_accessed, table_vacated}
 use Rattle.cms_access.specs.Format.{accessed, in_place, in_slot, made, remaking, remaking_in, vacated, wiped, wiping}
 use Rattle.cms_access.specs.declared.format.FormatLine.{FormatLine}
 
@@ -189,9 +190,6 @@ found old units u unit has sure h =
 abbrev Sees : Journal → ℕ → UnitInfo → Type 0
 Sees j u unit = (at : Attached) → slice_get j.units u ≡ Some at → volumes.disk_of at ≡ disk_on unit
 
-told_after : (old new : Told) (j : Journal) (es : List Event) → old ≡ Some j → new ≡ plus old es → new ≡ Some (after j es)
-told_after old new j es is grown = grown ∙ ap (λ (t : Told). plus t es) is ∙ plus-some j es
-
 -- its contents have the state that is told of them
 has_state : (new : Told) (j : Journal) (es : List Event) (u : ℕ) (unit : UnitInfo) (state x : disks.State) → new ≡ Some (after j es) → Sees j u unit → HasState new (disk_on unit) u state
     → HasNow new u x → state ≡ x
@@ -242,8 +240,8 @@ touched old new j units unit before s o is sees d there = record {
   told = d.told;
   only = d.of_unit;
   there = slot_then units before s o there;
-  others = λ v apart. slot_elsewhere units (unit_of s) v (new_slot s o) apart;
-  long = as_many units (unit_of s) (new_slot s o);
+  others = λ v apart. other_slot units (unit_of s) v (new_slot s o) apart;
+  long = units_put units (unit_of s) (new_slot s o);
   whole = d.whole;
   crash = λ x left. d.covers.whole x (subst (λ (t : Told). Leaves t (unit_of s) x) d.told left);
   has = λ x has. has_state new j d.events (unit_of s) unit (state_in (slot_after (Settled before) s o)) x (told_after old new j d.events is d.told) sees d.left has;
@@ -298,11 +296,11 @@ holds_then old new j units units' t t' u n unit slot doubt is h has x table same
 -- ---- the table then
 
 others_failed : (t : Accesses) (u n : ℕ) (doubt : Bool) → KeepsOthers t (formatting.vacated u n (marked u doubt t)) u n
-others_failed t u n doubt v apart = (get_set_other t.doubts u doubt v (λ same. apart (sym same)), disk_without u v (cleared n t.seats) apart)
+others_failed t u n doubt v apart = (get_other t.doubts u v doubt (λ same. apart (sym same)), disk_without u v (cleared n t.seats) apart)
 
 others_made : (t : Accesses) (u n : ℕ) (s : Seated) → s.letter.unit ≡ u → KeepsOthers t (tables.seated n s (marked u false t)) u n
 others_made t u n s own v apart =
-    (get_set_other t.doubts u false v (λ same. apart (sym same)), disk_beside v n s t.seats (λ same. apart (sym own ∙ same)))
+    (get_other t.doubts u v false (λ same. apart (sym same)), disk_beside v n s t.seats (λ same. apart (sym own ∙ same)))
 
 -- the unit stands on no letter
 none_failed : (t : Accesses) (u n : ℕ) (doubt : Bool) → disk_of u (formatting.vacated u n (marked u doubt t)).seats ≡ None
@@ -313,7 +311,7 @@ marked_there : (t : Accesses) (u : ℕ) (unit : UnitInfo) (doubt : Bool) → IsT
 marked_there t u unit doubt is has =
     let within = slice_get_within t.units u unit has in
     let long = is.doubts in
-    get_set t.doubts u doubt (omega (arith, within, long))
+    get_same t.doubts u u doubt (omega (arith, within, long)) refl
 
 -- what may be used may be used still
 usable_failed : (j : Journal) (t : Accesses) (u n : ℕ) (doubt : Bool) → IsUsableTable j t → IsUsableTable j (formatting.vacated u n (marked u doubt t))
@@ -328,8 +326,8 @@ usable_made j t u n unit s own has seat usable = record {
   units = usable.units;
   seats = λ a x info is has_info. ⊎_elim
       (λ (h : (a ≡ n) × (Some s ≡ Some x)).
-      let one = some_same s x h.1 in
-      let same : unit ≡ info = some_same unit info
+      let one = same_Some s x h.1 in
+      let same : unit ≡ info = same_Some unit info
       (sym has ∙ ap (λ (v : ℕ). slice_get t.units v) (sym own ∙ ap (λ (y : Seated). y.letter.unit) one) ∙ has_info) in
       subst (λ (i : UnitInfo). IsSeatOf i x) same (subst (IsSeatOf unit) one seat))
       (λ (h : (a ≢ n) × (item_at (without (λ (e : Seated). e.letter.unit == s.letter.unit) t.seats) a ≡ Some x)).
@@ -446,7 +444,7 @@ finished_tree st line blocks = refusal_tree st (M733 (decimal_of blocks) (letter
 abbrev pub failed_tree : State → FormatLine → List Slot → Act Course
 failed_tree st line = refusal_tree st (M105 (device_text line.vdev)) (pos 100)
 
-abbrev remaking_tree : State → FormatLine → List ℕ → List Slot → Act Course
+abbrev pub remaking_tree : State → FormatLine → List ℕ → List Slot → Act Course
 remaking_tree st line volid units = remaking line (machine_of st units) volid
 
 abbrev fault_at : FormatLine → Machine → Act Course
@@ -488,7 +486,7 @@ remade_done old mid line volid unit d r = record {
       let less = r.letter in
       let there : disk_of u (tables.seated n seat (marked u false t)).seats ≡ Some seat = disk_seated (marked u false t) n seat (omega (arith, letters, less)) table in
       let later : fm.later ≡ after f.journal x.events =
-      some_same fm.later (after f.journal x.events) (sym fm.told ∙ told_after old.world.told mid.world.told f.journal x.events f.told x.told) in
+      same_Some fm.later (after f.journal x.events) (sym fm.told ∙ told_after old.world.told mid.world.told f.journal x.events f.told x.told) in
       let stands : StandsAs (after f.journal x.events) u unit (Settled (Volume (empty_on unit volid))) false (Some seat) =
       (empty_on unit volid, refl, r.on, subst (λ (j : Journal). IsMinidisk j d (empty_on unit volid)) later fm.minidisk) in
       let held = holds_then old.world.told mid.world.told f.journal units units' t (tables.seated n seat (marked u false t)) u n unit (Settled (Volume (empty_on unit volid))) false f.told f.table
@@ -528,7 +526,7 @@ remade_emptied old mid line volid unit r = record {
       let ran = both_ran old mid units line volid u unit f OldFault fm.both (counted_one old.world.faults mid.world.faults r.changes.faults (r.changes.cause (inl refl)))
       (console_is old mid line volid unit (Err failed.Device) r) in
       let later : fm.later ≡ after f.journal x.events =
-      some_same fm.later (after f.journal x.events) (sym fm.told ∙ told_after old.world.told mid.world.told f.journal x.events f.told x.told) in
+      same_Some fm.later (after f.journal x.events) (sym fm.told ∙ told_after old.world.told mid.world.told f.journal x.events f.told x.told) in
       let firm : IsFirm (disk_on unit) (after f.journal x.events) u (Not 2) =
       subst (λ (v : ℕ). IsFirm (disk_on unit) (after f.journal x.events) v (Not 2)) f.line.number (subst (λ (j : Journal). IsFirm (disk_on unit) j unit.unit.number (Not 2)) later fm.none) in
       let stands : StandsAs (after f.journal x.events) u unit (Settled (Not 2)) false None = (tt, inr (2, firm)) in

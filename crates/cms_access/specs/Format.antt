@@ -18,9 +18,9 @@ use Rattle.cms_line.specs.declared.message.Message.TheVariants.{M062, M114, M115
 use Rattle.cms_line.specs.declared.token.Token.{Token}
 use Rattle.cms_search.specs.Asking.{Asked, Given, Spent, ask}
 use Rattle.cms_search.specs.ChangeTold.{change_told}
-use Rattle.cms_operands.specs.Choices.{chosen_of, form, last_among}
+use Rattle.cms_operands.specs.Choices.{chosen_of, flag, form, last_among}
 use Rattle.cms_search.specs.Machine.{Letter, Machine, Course, Went, OutOfTurns, after_step, letter_at, refusal}
-use Rattle.cms_operands.specs.Operands.{device, ended, letter, needed, operands_of}
+use Rattle.cms_operands.specs.Operands.{device, ended, largest, letter, needed, operands_of}
 use Rattle.cms_search.specs.Tables.{letter_for}
 use Rattle.cms_operands.specs.declared.choosing.OptionForm.{OptionForm}
 use Rattle.cms_operands.specs.declared.choosing.Parameter.{Parameter}
@@ -48,11 +48,11 @@ format_operands operands = do
 
 -- BLKSIZE takes a number, and where a unit has the device its block size alone
 abbrev pub block_size : Option ℕ → Parameter
-block_size None = takes.Number 0 999999999
+block_size None = takes.Number 0 largest
 block_size (Some bsize) = takes.Number bsize bsize
 
 abbrev pub options : Option ℕ → List OptionForm
-options bsize = form (codes "LABEL   ") 5 takes.Nothing ∷ form (codes "BLKSIZE ") 7 (block_size bsize) ∷ []
+options bsize = flag (codes "LABEL   ") 5 ∷ form (codes "BLKSIZE ") 7 (block_size bsize) ∷ []
 
 -- whether only the volume id is changed, where the device has this block size
 abbrev pub relabels : Option ℕ → List Token → Result Bool Refusal

@@ -6,14 +6,11 @@ ghost use Rattle.cms_access.specs.Format as spec;
 
 use cms_line::{Token, Tokens};
 use cms_operands::{
-    CommandFault, OptionForm, Parameter, Refusal, chosen_options, device, ended, last_among,
-    letter, needed, operands,
+    CommandFault, LARGEST, OptionForm, Parameter, Refusal, chosen_options, device, ended,
+    last_among, letter, needed, operands,
 };
 use cms_search::Table;
 use std::alloc::Global;
-
-/// The largest number that a word writes.
-const LARGEST: u32 = 999_999_999;
 
 /// What FORMAT's operands say: a device, and the letter as which its volume is accessed then, A is 0.
 #[derive(Clone, Copy, Debug, PartialEq, Eq)]
@@ -55,7 +52,7 @@ fn options(bsize: Option<u32>) -> [OptionForm; 2]
     ensures { result ≡ spec.options bsize }
 {
     [
-        OptionForm::new(b"LABEL   ", 5, Parameter::Nothing),
+        OptionForm::flag(b"LABEL   ", 5),
         OptionForm::new(b"BLKSIZE ", 7, block_size(bsize)),
     ]
 }

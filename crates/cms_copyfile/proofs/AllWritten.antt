@@ -17,8 +17,8 @@ use Rattle.cms_machine.specs.Steps.{Get, OldFault}
 use Rattle.cms_line.specs.declared.token.Token.{Token}
 use Rattle.cms_line.specs.ConsoleState.{ConsoleState}
 use Rattle.cms_disk.specs.Drafts as drafts
-use Rattle.cms_disk.specs.Changing.{Appends, ChangesDisk}
-use Rattle.cms_disk.specs.Disks.{Accessed, IsLookedAt, IsMinidisk}
+use Rattle.cms_disk.specs.Changing.{Appends}
+use Rattle.cms_disk.specs.Disks.{Accessed, IsMinidisk}
 use Rattle.cms_disk.specs.Drafts.{WritesAside}
 use Rattle.cms_disk.specs.declared.fault.DiskFault.{DiskFault}
 use Rattle.cms_disk.specs.declared.fault.DiskFault.TheVariants as failed
@@ -29,13 +29,14 @@ use Rattle.cms_search.specs.Putting.{Updated}
 use Rattle.cms_search.specs.Releasing.{vdev_of}
 use Rattle.cms_search.specs.Searches.{item_at}
 use Rattle.cms_search.specs.Seats.{HasDisk}
-use Rattle.cms_search.specs.Stepping.{Stepped, changing_by, changing_of, changing_tree, failing}
+use Rattle.cms_search.specs.Stepping.{HasRead, Stepped, changing_by, changing_of, changing_tree, failing}
 use Rattle.cms_search.specs.Tables.{Accesses, Seated}
 use Rattle.cms_search.specs.declared.state.End.{End}
 use Rattle.cms_search.specs.declared.state.State.{State}
 use Rattle.cms_search.specs.declared.stepping.Changed as outcomes
 use Rattle.cms_search.proofs.Acts.{acts_same, later_then, rose_from}
 use Rattle.cms_search.proofs.Changing.{changed_units, steps_kept}
+use Rattle.cms_search.proofs.Handing.{later_read}
 use Rattle.cms_search.proofs.Holding.{usable_grown}
 use Rattle.cms_search.proofs.Meeting.{meets_at}
 use Rattle.cms_search.proofs.Seats.{letters_with, table_with, with_disk_is}
@@ -46,9 +47,9 @@ use Rattle.cms_files.specs.Updating.{names_of, updated, updated_of, updating, vd
 use Rattle.cms_files.specs.declared.opening.OpenFile.{OpenFile}
 use Rattle.cms_files.specs.declared.updating.Updated as declared
 use Rattle.cms_world.specs.Seen.{Seen}
+use Rattle.cms_copyfile.specs.Ending.{ChangesAs, WritesAll, WroteAll}
 use Rattle.cms_copyfile.specs.FileCopies.{IsFileCopy}
-use Rattle.cms_copyfile.specs.OneCopy.{HasRead}
-use Rattle.cms_copyfile.specs.Writing.{CameTo, answer_in, putting}
+use Rattle.cms_copyfile.specs.Writing.{CameTo, putting}
 use Rattle.cms_copyfile.specs.declared.copy.FileCopy.{FileCopy}
 use Rattle.cms_copyfile.specs.declared.line.CopyLine.{CopyLine}
 use Rattle.cms_copyfile.specs.declared.writing.CopyTarget.{CopyTarget}
@@ -56,7 +57,7 @@ use Rattle.cms_copyfile.specs.declared.writing.Written.{Written}
 use Rattle.cms_copyfile.specs.declared.writing.Written.TheVariants.{Altered, Came, Unread}
 use Rattle.cms_copyfile.proofs.CopyInput.{input_at}
 use Rattle.cms_copyfile.proofs.FilesCopied.{copying_at}
-use Rattle.cms_copyfile.proofs.OneRead.{ChangesAs, acts_by, acts_by_stop, acts_never_so, behind_read, first, later_read, tree_at, wanted_in, wanted_low, whole}
+use Rattle.cms_copyfile.proofs.OneRead.{acts_by, acts_by_stop, acts_never_so, behind_read, first, tree_at, wanted_in, wanted_low, whole}
 use Rattle.cms_copyfile.proofs.ReadAside.{DraftedOn, read_failed_beside}
 
 -- ---- what follows the change of the output's disk
@@ -80,33 +81,19 @@ put_stops mid new n change e a =
 
 -- ---- what the writing came to
 
--- on the disk d, which is e then, whatever is on the units
-pub record WritesAll (mid now : Spot) (d e : Accessed) (to : CopyTarget) (all : List Slot → List (List ℕ)) (written : Written) : Type 0 where
-  pub came : (units : List Slot) → holds mid units → (j : Journal) (m : Minidisk) → mid.world.told ≡ Some j → IsMinidisk j d m → IsLookedAt j d
-      → CameTo mid.world.told now.world.told d e m to (all units) written
-  pub changes : ChangesDisk mid.world now.world d e (answer_in written)
-
--- on the disk s of a letter; mid is before that, and now behind it
-pub record WroteAll (mid now : Spot) (to : CopyTarget) (all : List Slot → List (List ℕ)) (s : Seated) (written : Written) : Type 0 where
-  pub there : item_at mid.state.table.seats to.letter ≡ Some s
-  pub seat : HasDisk mid.state.table now.state.table to.letter (λ e. WritesAll mid now s.disk e to all written)
-  pub state : now.state ≡ record mid.state { table = now.state.table }
-  pub stamp : to.stamp ≡ stamp_of mid.state.moment
-
 -- so it is where the disk says it
-pub wrote_all : (IsSo : Seated → Accessed → Type 0) (mid now : Spot) (to : CopyTarget) (all : List Slot → List (List ℕ)) (s : Seated) (written written' : Written) → written ≡ written'
+pub wrote_all : (IsSo : Seated → Accessed → Type 0) (mid now : Spot) (to : CopyTarget) (all : List Slot → List (List ℕ)) (s : Seated) (written : Written)
     → item_at mid.state.table.seats to.letter ≡ Some s → IfSome (item_at mid.state.table.seats to.letter) (λ x. HasDisk mid.state.table now.state.table to.letter (IsSo x))
     → now.state ≡ record mid.state { table = now.state.table } → to.stamp ≡ stamp_of mid.state.moment → ((e : Accessed) → IsSo s e → WritesAll mid now s.disk e to all written)
-    → WroteAll mid now to all s written'
-wrote_all IsSo mid now to all s written written' same there writes state stamp so =
+    → WroteAll mid now to all s written
+wrote_all IsSo mid now to all s written there writes state stamp so =
     let seat = if_some (item_at mid.state.table.seats to.letter) (λ x. HasDisk mid.state.table now.state.table to.letter (IsSo x)) s there writes in
-    subst (λ (y : Written). WroteAll mid now to all s y) same
-    (record {
+    record {
       there = there;
       seat = record { disk = seat.disk; table = seat.table; does = so seat.disk seat.does };
       state = state;
       stamp = stamp;
-    })
+    }
 
 module _ (mid now : Spot) (to : CopyTarget) (all : List Slot → List (List ℕ)) (s : Seated) (written : Written) (w : WroteAll mid now to all s written) where
   -- the disk may be used then

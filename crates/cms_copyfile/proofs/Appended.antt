@@ -1,6 +1,7 @@
 -- Copies that are added to a file of the output's disk.
-use Rattle.std.proofs.Common.{◌≡◌, ◌∙◌, inl, inr, ◌⊎◌, ℕ, List, [], ◌++◌, Option, Some, Result, Ok, Err, take, refl, sym, ap, subst, arith}
+use Rattle.std.proofs.Common.{◌≡◌, ◌∙◌, inl, inr, ◌⊎◌, ℕ, List, [], ◌∷◌, ◌++◌, Option, Some, Result, Ok, Err, take, refl, sym, ap, subst, arith}
 use Rattle.std.specs.Prelude.{All, IfErr, IfOk, IfSome, None, OnOk, ⊤}
+use Rattle.std.proofs.lemmas.Option.{same_Some}
 use Rattle.cms_journal.specs.Causes.{Rose}
 use Rattle.cms_journal.specs.Journal.{Journal}
 use Rattle.cms_journal.specs.Told.{Told}
@@ -30,11 +31,10 @@ use Rattle.cms_search.specs.Calls.{IsUsable, Spot, holds, machine_of}
 use Rattle.cms_search.specs.Machine.{Machine, letter_at}
 use Rattle.cms_search.specs.Putting.{Updated, UpdatesBy}
 use Rattle.cms_search.specs.Searches.{item_at}
-use Rattle.cms_search.specs.Seats.{HasDisk}
+use Rattle.cms_search.specs.Seats.{HasDevice, HasDisk}
 use Rattle.cms_search.specs.Shows.{Shows}
 use Rattle.cms_search.specs.Tables.{Accesses, Seated}
 use Rattle.cms_search.specs.declared.state.State.{State}
-use Rattle.cms_search.proofs.Holding.{some_same}
 use Rattle.cms_search.proofs.Meeting.{meets_at, readable_seat}
 use Rattle.cms_search.proofs.Seats.{has_same}
 use Rattle.cms_files.specs.Files.{file_on}
@@ -43,7 +43,8 @@ use Rattle.cms_files.specs.declared.opening.OpenFile.{OpenFile}
 use Rattle.cms_world.specs.Seen.{OnlyReads, Seen}
 use Rattle.cms_copyfile.specs.Appending.{AreJoined, HasNoRecords, IsOwnFault, IsOwnMeasured}
 use Rattle.cms_copyfile.specs.Copyfile.{change_with, there_is}
-use Rattle.cms_copyfile.specs.FileCopies.{IsCopying, IsFileCopy, form_in, plan_for}
+use Rattle.cms_copyfile.specs.Ending.{ChangesAs, IsWritten, WroteAll}
+use Rattle.cms_copyfile.specs.FileCopies.{IsCopying, IsFileCopy, copied_to, form_in, plan_for}
 use Rattle.cms_copyfile.specs.Joining.{JoinsInto, JoinsSeat, JoinsTo}
 use Rattle.cms_copyfile.specs.Joins.{whole_plan}
 use Rattle.cms_copyfile.specs.Measures.{measured}
@@ -56,14 +57,13 @@ use Rattle.cms_copyfile.specs.declared.output.CopyPlan.{CopyPlan}
 use Rattle.cms_copyfile.specs.declared.writing.CopyTarget.{CopyTarget}
 use Rattle.cms_copyfile.specs.declared.writing.Written.{Written}
 use Rattle.cms_copyfile.specs.declared.writing.Written.TheVariants.{Came}
-use Rattle.cms_copyfile.proofs.AllWritten.{WroteAll, all_came, wrote_all}
+use Rattle.cms_copyfile.proofs.AllWritten.{all_came, wrote_all}
 use Rattle.cms_copyfile.proofs.CopyInput.{input_at, input_stays}
 use Rattle.cms_copyfile.proofs.CopyShaped.{long_again}
-use Rattle.cms_copyfile.proofs.FilesCopied.{copied_to, copying_at}
+use Rattle.cms_copyfile.proofs.FilesCopied.{copying_at}
 use Rattle.cms_copyfile.proofs.JoinShaped.{add_so}
 use Rattle.cms_copyfile.proofs.Joined.{joined_added}
 use Rattle.cms_copyfile.proofs.OneCopied.{copies_on, copies_so}
-use Rattle.cms_copyfile.proofs.OneRead.{ChangesAs}
 use Rattle.cms_copyfile.proofs.OwnFile.{OwnAt, extended_so, extended_there, own_at}
 use Rattle.cms_copyfile.proofs.Writes.{unchanged}
 
@@ -104,7 +104,7 @@ adds_in spot line c own ext units h x =
 module _ (mid now : Spot) (line : CopyLine) (c : FileCopy) (own input : OpenFile) (to : CopyTarget) (plan : CopyPlan) (is : IsFileCopy mid.state.table line c)
     (mine : IsOpened mid.state.table c.letter c.name own) (counts : (s : Machine) → Shows mid.state.table s → HasRecords own.count (file_on s c.name (letter_at s c.letter)))
     (opened : IsOpened mid.state.table c.found.letter c.input.name input) (joined : AreJoined mid line c plan to.shape) (name : to.name ≡ c.name) (letter : to.letter ≡ c.letter) where
-  pub adding : ChangesAs mid line c (add_on mid.state c to plan)
+  adding : ChangesAs mid line c (add_on mid.state c to plan)
   adding units h x =
       let s = machine_of mid.state units in
       let made = copied_to s line c x in
@@ -167,12 +167,11 @@ module _ (mid now : Spot) (line : CopyLine) (c : FileCopy) (own input : OpenFile
         };
       }
 
-  pub wrote_both : (s : Seated) (written written' : Written) → written ≡ written' → item_at mid.state.table.seats to.letter ≡ Some s
+  wrote_both : (s : Seated) (written : Written) → item_at mid.state.table.seats to.letter ≡ Some s
       → IfSome (item_at mid.state.table.seats to.letter) (λ x. JoinsSeat mid.world now.world mid.state.table now.state.table x to own input.cursor plan written)
-      → now.state ≡ record mid.state { table = now.state.table } → to.stamp ≡ stamp_of mid.state.moment → WroteAll mid now to (both_on mid.state c plan) s written'
-  wrote_both s written written' same there writes state stamp =
-      wrote_all (λ (x : Seated) (e : Accessed). JoinsTo mid.world now.world x.disk e to own input.cursor plan written) mid now to (both_on mid.state c plan) s written written' same there writes state
-      stamp
+      → now.state ≡ record mid.state { table = now.state.table } → to.stamp ≡ stamp_of mid.state.moment → WroteAll mid now to (both_on mid.state c plan) s written
+  wrote_both s written there writes state stamp =
+      wrote_all (λ (x : Seated) (e : Accessed). JoinsTo mid.world now.world x.disk e to own input.cursor plan written) mid now to (both_on mid.state c plan) s written there writes state stamp
       (λ e does. record {
         came = λ units h j m told minidisk looked.
             subst (λ (l : List (List ℕ)). CameTo mid.world.told now.world.told s.disk e m to l written) (both_is units h)
@@ -181,19 +180,43 @@ module _ (mid now : Spot) (line : CopyLine) (c : FileCopy) (own input : OpenFile
       })
 
   -- the output's disk was updated
-  pub added : (s : Seated) (r : Result ⊤ DiskFault) → WroteAll mid now to (both_on mid.state c plan) s (Came r) → Updated mid now to.letter s (add_on mid.state c to plan) r
+  added : (s : Seated) (r : Result ⊤ DiskFault) → WroteAll mid now to (both_on mid.state c plan) s (Came r) → Updated mid now to.letter s (add_on mid.state c to plan) r
   added s r w = all_came mid now to (both_on mid.state c plan) s (add_on mid.state c to plan) r w (λ e units h j m told minidisk came.
       let x = copying units h in
       let y = joined units h x in
       let f = y.file in
       let more = copies_in plan x.file.file.records in
-      let seat : s ≡ mine.seat = some_same s mine.seat (sym w.there ∙ (ap (item_at mid.state.table.seats) letter ∙ mine.there)) in
+      let seat : s ≡ mine.seat = same_Some s mine.seat (sym w.there ∙ (ap (item_at mid.state.table.seats) letter ∙ mine.there)) in
       let named : file_named to.name m.files ≡ Some f =
       subst (λ (n : Name). file_named n m.files ≡ Some f) (sym name) ((own_is units h).named j m told (subst (λ (z : Seated). IsMinidisk j z.disk m) seat minidisk)) in
       let is' : IsAdded m to.name more to.shape.stamp (drafts.file_with to.name to.shape (f.records ++ more)) = joined_added m to.name f to.shape more named y.number y.format y.size in
       let alters = subst (λ (l : List (List ℕ)). CameTo mid.world.told now.world.told s.disk e m to l (Came r)) (sym (both_is units h)) came in
       subst (λ (l : List (List ℕ)). Appends mid.world.told now.world.told s.disk e m (Add to.name l to.shape.stamp) to.stamp r) (more_is units h)
       (adds_as mid.world.told now.world.told s.disk e m to.name more to.shape.stamp to.stamp (drafts.file_with to.name to.shape (f.records ++ more)) r is' alters))
+
+  -- what the update of that disk ends behind
+  pub both_written : (s : Seated) (vdev : ℕ) (written : Written) → HasDevice mid.state.table c.letter vdev → item_at mid.state.table.seats to.letter ≡ Some s
+      → IfSome (item_at mid.state.table.seats to.letter) (λ x. JoinsSeat mid.world now.world mid.state.table now.state.table x to own input.cursor plan written)
+      → now.state ≡ record mid.state { table = now.state.table } → to.stamp ≡ stamp_of mid.state.moment → IsWritten mid now line c vdev input.vdev written
+  both_written s vdev written device there writes state stamp =
+      let wrote = wrote_both s written there writes state stamp in
+      record {
+        to = to;
+        all = both_on mid.state c plan;
+        disk = s;
+        wrote = wrote;
+        file = input;
+        is = is;
+        opened = opened;
+        read = refl;
+        device = device;
+        change = add_on mid.state c to plan;
+        changes = adding;
+        names = λ units. ap (λ (n : Name). n ∷ []) name;
+        came = λ done came.
+            subst (λ (n : ℕ). Updated mid now n s (add_on mid.state c to plan) done) letter
+            (added s done (subst (λ (w : Written). WroteAll mid now to (both_on mid.state c plan) s w) came wrote));
+      }
 
 -- what is told of both was measured
 pub both_measured_as : (front more : Measure) (x : Option Measure) (both : Measure) → x ≡ Some both
@@ -251,7 +274,8 @@ own_failed mid now line c own s e is ext there usable why reads same = record {
             let aside = none_aside j mid.world.told s.disk m told minidisk blocks looked in
             subst (λ (z : Told). Appends mid.world.told z s.disk s.disk m (add_in mid.state line c own units) (stamp_of mid.state.moment) (Err e)) (sym reads.told)
             (fails_so mid.world.told s.disk m c.name (copies_on mid.state c (plan_for line (form_in own) c) units)
-            (stamp_for line.style c.input.stamp (stamp_of mid.state.moment)) (stamp_of mid.state.moment) mid.state.table c.letter c.name e aside why (λ none. own_never mid line c own is ext none units h));
+            (stamp_for line.style c.input.stamp (stamp_of mid.state.moment)) (stamp_of mid.state.moment) mid.state.table c.letter c.name e aside why
+            (λ none. own_never mid line c own is ext none units h));
         changes = unchanged mid.world now.world s.disk e
             (record {
               grown = grown_same mid.world.told now.world.told reads.told;

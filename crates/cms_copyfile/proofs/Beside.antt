@@ -1,6 +1,7 @@
 -- A file that is read beside a draft: none of its blocks is written while the minidisk stands, so that the same records are left to read.
-use Rattle.std.proofs.Common.{◌≡◌, ◌≢◌, ◌↔◌, ◌<◌, inl, inr, ℕ, zero, suc, List, [], ◌∷◌, ◌++◌, drop, length, slice_get, Some, refl, sym, ◌∙◌, ap, subst, arith}
+use Rattle.std.proofs.Common.{◌≡◌, ◌≢◌, ◌↔◌, inr, ℕ, zero, suc, List, [], ◌∷◌, ◌++◌, drop, length, slice_get, Some, sym, ◌∙◌, ap, subst, arith}
 use Rattle.std.specs.Prelude.{slice_index}
+use Rattle.std.proofs.lemmas.Option.{same_Some}
 use Rattle.cms_journal.specs.declared.event.Event.{Event}
 use Rattle.cms_journal.specs.declared.event.Event.TheVariants.{Read, Now, Typed, Missed, Wrote, Synced}
 use Rattle.cms_journal.specs.Journal.{Journal, IsCrashImage, contents_of, start_of}
@@ -21,6 +22,8 @@ use Rattle.cms_model.proofs.Opening.{open_ok}
 use Rattle.cms_model.proofs.Settling.{aside_is_as_before, crash_agrees}
 use Rattle.cms_model.proofs.VolumeFrame.{LeavesIn, bytes_keep, trees_inside}
 use Rattle.cms_records.specs.Pieces.{bytes_so_far, next_place}
+use Rattle.cms_tree.proofs.Own.{in_drop}
+use Rattle.cms_edf.proofs.Listings.{stands}
 use Rattle.cms_held.specs.HeldAs.{AreHeld}
 use Rattle.cms_held.specs.Opening.{HeldFile}
 use Rattle.cms_disk.specs.Cursors.{HasLeft, HoldLeft, Reading}
@@ -42,10 +45,7 @@ still_left (Typed b ∷ es) events u start image only none crash = absurd only.0
 still_left (Missed name size access ∷ es) events u start image only none crash = absurd only.0
 
 after_is : (j k : Journal) (u : ℕ) (m : Minidisk) → (aside : WritesAside (Some j) (Some k) u m) → k ≡ after j aside.events
-after_is j k u m aside = some_same k (after j aside.events) (aside.told ∙ plus-some j aside.events)
-  where
-    some_same : (a b : Journal) → Some a ≡ Some b → a ≡ b
-    some_same a b e = cc e
+after_is j k u m aside = same_Some k (after j aside.events) (aside.told ∙ plus-some j aside.events)
 
 left_before : (j k : Journal) (u : ℕ) (m : Minidisk) → WritesAside (Some j) (Some k) u m → MayLeave k u (contents_of j u)
 left_before j k u m aside =
@@ -62,10 +62,7 @@ file_inside (e ∷ es) [] cs hs ns k h held inside at n in' = absurd held
 file_inside (e ∷ es) (m ∷ ms) [] hs ns k h held inside at n in' = absurd held
 file_inside (e ∷ es) (m ∷ ms) (c ∷ cs) [] ns k h held inside at n in' = absurd held
 file_inside (e ∷ es) (m ∷ ms) (c ∷ cs) (x ∷ hs) ns zero h held inside at n in' =
-    inside.0 n (subst (λ (l : List ℕ). In n l) (sym (ap (λ (y : HeldFile). y.tree.leaves) (some_same x h at)) ∙ held.0.tree_is.leaves) in')
-  where
-    some_same : (a b : HeldFile) → Some a ≡ Some b → a ≡ b
-    some_same a b e = cc e
+    inside.0 n (subst (λ (l : List ℕ). In n l) (sym (ap (λ (y : HeldFile). y.tree.leaves) (same_Some x h at)) ∙ held.0.tree_is.leaves) in')
 file_inside (e ∷ es) (m ∷ ms) (c ∷ cs) (x ∷ hs) ns (suc k) h held inside at n in' = file_inside es ms cs hs ns k h held.1 inside.1 at n in'
 
 -- they are as they were, where the minidisk stands and was written beside
@@ -83,20 +80,10 @@ leaves_agree j k d m place h is aside at n in' =
 
 -- ---- the records that are left
 
-in_drop : (n k : ℕ) (xs : List ℕ) → In n (drop k xs) → In n xs
-in_drop n zero xs in' = in'
-in_drop n (suc k) [] in' = in'
-in_drop n (suc k) (x ∷ xs) in' = inr (in_drop n k xs in')
-
-index_in : (xs : List ℕ) (k : ℕ) → k < length xs → In (slice_index xs k) xs
-index_in [] k less = absurd (omega arith)
-index_in (x ∷ xs) zero less = inl refl
-index_in (x ∷ xs) (suc k) less = inr (index_in xs k (omega arith))
-
 pub left_there : (before later : Image) (c : Reading) (records : List (List ℕ)) → Agree c.leaves before later → HasLeft before c records → HasLeft later c records
 left_there before later c records agree left = record {
   sound = left.sound;
-  sizes = λ k less. ap length (sym (agree (slice_index c.leaves k) (index_in c.leaves k less))) ∙ left.sizes k less;
+  sizes = λ k less. ap length (sym (agree (slice_index c.leaves k) (stands c.leaves k less))) ∙ left.sizes k less;
   held = subst (λ (l : List ℕ). HoldLeft c.bsize c.begun.fixed c.begun.longest c.left (next_place c.begun) (bytes_so_far c.begun ++ (drop c.from c.block ++ drop c.over l)) records)
       (bytes_keep before later (drop c.done c.leaves) (λ n in'. agree n (in_drop n c.done c.leaves in'))) left.held;
 }

@@ -11,9 +11,10 @@ use Rattle.cms_names.specs.declared.name.Format.{Format}
 use Rattle.cms_names.specs.declared.name.Format.TheVariants.{F, V}
 use Rattle.cms_model.specs.Records.{Fits}
 use Rattle.cms_records.specs.Views.{fitted}
+use Rattle.cms_text.specs.Texts.{without_trailing}
 use Rattle.cms_copyfile.specs.Lines.{IsCopyStyle}
 use Rattle.cms_copyfile.specs.Outputs.{copies_in, fit_in, plan_of, record_style}
-use Rattle.cms_copyfile.specs.Records.{copied, fitted_to, folded, folded_byte, truncated_if, without_trailing}
+use Rattle.cms_copyfile.specs.Records.{copied, fitted_to, folded, folded_byte, truncated_if}
 use Rattle.cms_copyfile.specs.declared.line.CopyStyle.{CopyStyle}
 use Rattle.cms_copyfile.specs.declared.output.FileForm.{FileForm}
 use Rattle.cms_copyfile.specs.declared.record.Fit.TheVariants.{AtMost, Whole}

@@ -3,6 +3,7 @@ use Rattle.std.proofs.Common.{◌≡◌, ◌∙◌, inl, inr, ℕ, ◌≤◌, Li
 use Rattle.std.specs.Prelude.{None}
 use Rattle.std.proofs.lemmas.Bool.Decides.{eqb_tells}
 use Rattle.std.specs.Option.{ForSome}
+use Rattle.std.proofs.lemmas.Option.{same_Some}
 use Rattle.cms_journal.specs.Journal.{HasBlocks, Journal}
 use Rattle.cms_journal.specs.Told.{Told}
 use Rattle.cms_names.specs.declared.name.Name.{Name}
@@ -23,7 +24,6 @@ use Rattle.cms_search.specs.Calls.{Spot, Usable, holds, machine_of}
 use Rattle.cms_search.specs.Searches.{item_at}
 use Rattle.cms_search.specs.Tables.{Accesses, Seated}
 use Rattle.cms_search.proofs.Handing.{open_seat}
-use Rattle.cms_search.proofs.Holding.{some_same}
 use Rattle.cms_search.proofs.Meeting.{letter_is, meets_at}
 use Rattle.cms_search.proofs.Stepped.{has_device}
 use Rattle.cms_files.specs.Files.{UnitFile, unit_file}
@@ -67,12 +67,12 @@ input_at old units line c file opened h x =
     let distinct : AreDistinct m.files =
     subst (λ (y : Minidisk). AreDistinct y.files) (sym stands.minidisk_is) (opened_distinct seat.disk.volume.disk image stands.opened stands.opens) in
     let named : file_named x.file.file.name m.files ≡ Some x.file.file = named_here m.files c.found.place x.file.file distinct f.0 in
-    let same : o.0 ≡ x.file.file = some_same o.0 x.file.file (sym o.1 ∙ (ap (λ (n : Name). file_named n m.files) x.input.name ∙ named)) in
+    let same : o.0 ≡ x.file.file = same_Some o.0 x.file.file (sym o.1 ∙ (ap (λ (n : Name). file_named n m.files) x.input.name ∙ named)) in
     let left : HasLeft image file.cursor x.file.file.records = subst (λ (y : File). HasLeft image file.cursor y.records) same o.2 in
     record {
       unit = f.1;
       left = λ j told.
-          let one : k.journal ≡ j = some_same k.journal j (sym k.told ∙ told) in
+          let one : k.journal ≡ j = same_Some k.journal j (sym k.told ∙ told) in
           subst (λ (u : ℕ). HasLeft (now j u) file.cursor x.file.file.records) (sym opened.starts.first.unit)
           (subst (λ (i : Journal). HasLeft (now i seat.disk.volume.unit) file.cursor x.file.file.records) one left);
       offers = λ wanted enough. record {
@@ -98,7 +98,7 @@ input_stays old units n s letter name file m h at opened = λ j k start there as
           let its = meets_at old units letter seat opened.there h in
           let units' : s.letter.unit ≡ seat.letter.unit = sym mine.met.own ∙ (is.1 ∙ (first.unit ∙ its.met.own)) in
           let place : n ≡ letter = mine.table.table.once n letter s seat at opened.there units' in
-          let one : s ≡ seat = some_same s seat (sym at ∙ (ap (item_at old.state.table.seats) place ∙ opened.there)) in
+          let one : s ≡ seat = same_Some s seat (sym at ∙ (ap (item_at old.state.table.seats) place ∙ opened.there)) in
           let file_is = ap (λ (y : Seated). slice_get y.disk.volume.files opened.starts.place) one ∙ opened.starts.file_is in
           let agree : Agree opened.starts.file.tree.leaves (now k u) (now j u) = leaves_agree j k s.disk m opened.starts.place opened.starts.file there beside file_is in
           subst (λ (v : ℕ). Agree c.leaves (now k v) (now j v)) is.1 (subst (λ (l : List ℕ). Agree l (now k u) (now j u)) (sym first.leaves) agree)

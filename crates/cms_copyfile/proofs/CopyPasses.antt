@@ -4,6 +4,7 @@ use Rattle.std.specs.Prelude.{None, ⊤}
 use Rattle.std.specs.Option.{ForSome}
 use Rattle.std.proofs.Math.Seq.{drop-nil, take-append_seam, take-nil}
 use Rattle.std.proofs.lemmas.List.{length_push, map-append, take_all}
+use Rattle.std.proofs.lemmas.Option.{same_Some}
 use Rattle.cms_journal.specs.declared.event.Attached.{Attached}
 use Rattle.cms_journal.specs.Journal.{Journal}
 use Rattle.cms_journal.specs.Told.{Grown, Told}
@@ -211,11 +212,8 @@ never_altered start now' d m draft done more first c next rest stay goes same ha
 
 only_told : (start : Told) (u : ℕ) (j : Journal) (c : Reading) (records : List (List ℕ)) → start ≡ Some j → HasLeft (now j u) c records → OfImage start u (λ image. HasLeft image c records)
 only_told start u j c records is left k told =
-    let same : j ≡ k = some_same j k (sym is ∙ told) in
+    let same : j ≡ k = same_Some j k (sym is ∙ told) in
     subst (λ (x : Journal). HasLeft (now x u) c records) same left
-  where
-    some_same : (a b : Journal) → Some a ≡ Some b → a ≡ b
-    some_same a b e = cc e
 
 -- ---- one record more
 
@@ -333,8 +331,5 @@ given_up start now' d m draft done more goes = record { stands = goes.stands; as
 pub units_grown : (old new : Told) (P : List Attached → Type 0) → Grown old new → ForSome old (λ j. P j.units) → ForSome new (λ j. P j.units)
 units_grown None new P grown has j told = let e : None ≡ Some j = sym (plus-none grown.events) ∙ (sym grown.told ∙ told) in absurd (cc e)
 units_grown (Some k) new P grown has j told =
-    let same = some_same _ j (sym (plus-some k grown.events) ∙ (sym grown.told ∙ told)) in
+    let same = same_Some _ j (sym (plus-some k grown.events) ∙ (sym grown.told ∙ told)) in
     subst (λ (x : Journal). P x.units) same (has k refl)
-  where
-    some_same : (a b : Journal) → Some a ≡ Some b → a ≡ b
-    some_same a b e = cc e

@@ -17,7 +17,7 @@ use Rattle.cms_model.specs.Records.{Fits, length_of}
 use Rattle.cms_search.specs.Calls.{Spot, machine_of}
 use Rattle.cms_search.specs.Machine.{Machine}
 use Rattle.cms_copyfile.specs.Copyfile.{change_with}
-use Rattle.cms_copyfile.specs.FileCopies.{IsCopying, copy_number, form_in, form_into, plan_for}
+use Rattle.cms_copyfile.specs.FileCopies.{IsCopying, copied_to, copy_number, form_in, form_into, plan_for}
 use Rattle.cms_copyfile.specs.Measures.{measured}
 use Rattle.cms_copyfile.specs.OneCopy.{AreMeasured, AreShaped}
 use Rattle.cms_copyfile.specs.Outputs.{copies_in, extended, file_with, form_for, stamp_for}
@@ -26,11 +26,11 @@ use Rattle.cms_copyfile.specs.declared.line.CopyLine.{CopyLine}
 use Rattle.cms_copyfile.specs.declared.measure.Measure.{Measure}
 use Rattle.cms_copyfile.specs.declared.output.CopyPlan.{CopyPlan}
 use Rattle.cms_copyfile.specs.declared.output.FileForm.{FileForm}
-use Rattle.cms_copyfile.proofs.FilesCopied.{copied_to, number_told}
+use Rattle.cms_copyfile.proofs.FilesCopied.{number_told}
 
-fits_as : (format : Format) (size : ℕ) (records all : List (List ℕ)) → All (Fits format size) records → All (Fits format (length_of format size all)) records
-fits_as F size records all fits = fits
-fits_as V size records all fits = fits
+pub fits_in : (format : Format) (size : ℕ) (records all : List (List ℕ)) → All (Fits format size) records → All (Fits format (length_of format size all)) records
+fits_in F size records all fits = fits
+fits_in V size records all fits = fits
 
 pub long_again : (format : Format) (size : ℕ) (records : List (List ℕ)) → length_of format (length_of format size records) records ≡ length_of format size records
 long_again F size records = refl
@@ -74,7 +74,7 @@ shaped_so spot line c shape m turn when measures counts files units h x =
       have = record {
         count = count.count;
         bytes = count.bytes;
-        each = rw (format, size) (fits_as form.format form.length all all so.each);
+        each = rw (format, size) (fits_in form.format form.length all all so.each);
       };
       long = rw (format, size) (long_again form.format form.length all);
       change = change_so s line c turn x when ∙ ap (λ (f : File). Put f) (sym is);

@@ -29,7 +29,8 @@ use Rattle.cms_search.specs.Machine.{Machine}
 use Rattle.cms_search.specs.Searches.{places_from}
 use Rattle.cms_files.specs.Identifiers.{name_choice, output_name}
 use Rattle.cms_files.specs.Updating.{updating_each}
-use Rattle.cms_files.proofs.Machines.{Answer, answer, disk, file, machine, moment, one_disk, stamp, types, unit, units_in, volume, words}
+use Rattle.cms_search.proofs.Machines.{Answer, answer, machine, moment, types, words}
+use Rattle.cms_files.proofs.Machines.{disk, file, one_disk, stamp, unit, units_in, volume}
 use Rattle.cms_copyfile.specs.Copyfile.{copyfile}
 use Rattle.cms_copyfile.specs.Lines.{copy_operands, given_output}
 

@@ -1,24 +1,21 @@
--- The file at a place of a disk, and the file of a name, as the machine has them.
-use Rattle.std.proofs.Common.{◌≡◌, ◌≢◌, ◌∙◌, ℕ, zero, suc, List, [], ◌∷◌, Option, Some, Ok, slice_get, slice_index_or, length, refl, sym, ap, subst, arith, ◌<◌}
+-- The file of a name among others, and the file at a place of a disk as the machine has it.
+use Rattle.std.proofs.Common.{◌≡◌, ◌≢◌, ℕ, zero, suc, List, [], ◌∷◌, Some, Ok, slice_get, slice_index_or, length, refl, sym, subst, arith, ◌<◌}
 use Rattle.std.proofs.lemmas.Option.{slice_get-get_or, slice_get_within}
 use Rattle.cms_names.specs.declared.name.Name.{Name}
 use Rattle.cms_held.specs.LawsHeld.{IsFileOf}
 use Rattle.cms_held.specs.Opening.{HeldFile}
 use Rattle.cms_model.specs.Changes.{file_named}
 use Rattle.cms_model.specs.LawsChanges.{AreDistinct, NoneNamed}
-use Rattle.cms_model.specs.Minidisks.{File, Minidisk}
+use Rattle.cms_model.specs.Minidisks.{File}
 use Rattle.cms_model.specs.Trees.{Image}
 use Rattle.cms_model.proofs.Changing.{name_other, name_self}
-use Rattle.cms_model.proofs.OpenedNames.{opened_distinct}
-use Rattle.cms_disk.specs.Disks.{StandsIn, place_of}
+use Rattle.cms_disk.specs.Disks.{StandsIn}
 use Rattle.cms_disk.proofs.Finding.{stands_tells}
-use Rattle.cms_disk.proofs.Standing.{named_at}
-use Rattle.cms_search.specs.Machine.{Letter, Machine, letter_at}
+use Rattle.cms_search.specs.Machine.{Machine, letter_at}
 use Rattle.cms_search.specs.Searches.{item_at}
 use Rattle.cms_search.specs.Shows.{Shows}
 use Rattle.cms_search.specs.Tables.{Accesses, Seated}
-use Rattle.cms_search.proofs.Meeting.{letter_is}
-use Rattle.cms_files.specs.Files.{file_on}
+use Rattle.cms_files.proofs.OpenedFiles.{letter_shown}
 use Rattle.cms_copyfile.specs.Copyfile.{file_of}
 
 -- ---- names are distinct
@@ -47,16 +44,12 @@ named_here (g ∷ fs) (suc k) f distinct at =
 
 -- ---- on the disk of a letter
 
-letter_shown : (t : Accesses) (s : Machine) (n : ℕ) (seat : Seated) → Shows t s → item_at t.seats n ≡ Some seat → letter_at s n ≡ Some seat.letter
-letter_shown t s n seat shows there = ap (λ (ls : List (Option Letter)). item_at ls n) (sym shows.letters) ∙ letter_is t n seat there
-
--- the file at a place is the one of its name, and what is held of it is told
+-- the file at a place, and what is held of it is told
 pub record StandsAt (s : Machine) (n place : ℕ) (seat : Seated) (h : HeldFile) : Type 0 where
   pub file : File
   pub image : Image
   pub bsize : ℕ
   pub found : file_of s place (letter_at s n) ≡ Ok (record { unit = seat.letter.unit; file = file })
-  pub named : file_on s file.name (letter_at s n) ≡ Ok (record { unit = seat.letter.unit; file = file })
   pub is : IsFileOf bsize image h file
 
 pub stands_at : (t : Accesses) (s : Machine) (n place : ℕ) (seat : Seated) (h : HeldFile) → Shows t s → item_at t.seats n ≡ Some seat → slice_get seat.disk.volume.files place ≡ Some h
@@ -73,33 +66,11 @@ stands_at t s n place seat h shows there at =
     let any : File = record { name = h.entry.name; number = h.entry.number; format = h.entry.format; length = h.length; stamp = h.entry.stamp; records = [] } in
     let f = slice_index_or m.files place any in
     let is_f : slice_get m.files place ≡ Some f = slice_get-get_or m.files place any within in
-    let distinct : AreDistinct m.files =
-    subst (λ (y : Minidisk). AreDistinct y.files) (sym stands.minidisk_is) (opened_distinct seat.disk.volume.disk x.0 stands.opened stands.opens) in
-    let named = named_here m.files place f distinct is_f in
     let letter = letter_shown t s n seat shows there in
     record {
       file = f;
       image = x.0;
       bsize = m.bsize;
       found = rw (letter, slot, is_f) refl;
-      named = rw (letter, slot, named) refl;
       is = held.files_are place h f at is_f;
     }
-
--- the file of a name is there
-pub record NamedOn (s : Machine) (n : ℕ) (name : Name) (seat : Seated) (h : HeldFile) : Type 0 where
-  pub file : File
-  pub image : Image
-  pub bsize : ℕ
-  pub named : file_on s name (letter_at s n) ≡ Ok (record { unit = seat.letter.unit; file = file })
-  pub is : IsFileOf bsize image h file
-
-pub named_on : (t : Accesses) (s : Machine) (n : ℕ) (name : Name) (place : ℕ) (seat : Seated) (h : HeldFile) → Shows t s → item_at t.seats n ≡ Some seat
-    → place_of name seat.disk.volume ≡ Some place → slice_get seat.disk.volume.files place ≡ Some h → NamedOn s n name seat h
-named_on t s n name place seat h shows there at is_h =
-    let x = shows.each n seat there in
-    let slot = x.2 in
-    let it = named_at x.0 name seat.disk x.1 place h x.3 at is_h in
-    let named = it.named in
-    let letter = letter_shown t s n seat shows there in
-    record { file = it.file; image = x.0; bsize = x.1.bsize; named = rw (letter, slot, named) refl; is = it.is }

@@ -1,22 +1,18 @@
 -- The file that is copied and its output, as the table tells them and as the machine has them.
-use Rattle.std.proofs.Common.{◌≡◌, ◌∙◌, ◌<◌, ◌≤◌, ℕ, zero, suc, List, [], ◌∷◌, Option, Some, None, Result, Ok, Err, length, map, slice_get, refl, sym, ap, subst, arith}
+use Rattle.std.proofs.Common.{◌≡◌, ◌∙◌, inl, inr, ◌≤◌, ℕ, zero, suc, List, [], ◌∷◌, Option, Some, None, Result, Ok, Err, length, map, slice_get, refl, sym, ap, subst, arith}
 use Rattle.std.specs.Prelude.{Bool, true, false, if◌then◌else◌, nat_lt}
 use Rattle.std.specs.Option.{option_and_then, option_map}
 use Rattle.std.proofs.lemmas.List.{length-map}
-use Rattle.std.proofs.lemmas.List.Quantifiers.{position-Some}
-use Rattle.std.proofs.lemmas.Option.{slice_get-map}
+use Rattle.std.proofs.lemmas.Option.{slice_get_cases, slice_get_past}
 use Rattle.cms_names.specs.Modes.{equal_signs}
 use Rattle.cms_names.specs.declared.name.Name.{Name}
-use Rattle.cms_held.specs.LawsHeld.{IsFileOf}
-use Rattle.cms_held.specs.Opening.{HeldFile, HeldVolume, names_in}
-use Rattle.cms_model.specs.Minidisks.{File, same_name}
-use Rattle.cms_model.specs.Trees.{Image}
+use Rattle.cms_held.specs.Opening.{HeldFile}
+use Rattle.cms_model.specs.Minidisks.{File}
 use Rattle.cms_machine.specs.Acts.{Act, bind}
 use Rattle.cms_machine.specs.Slots.{Slot}
 use Rattle.cms_line.specs.declared.token.Token.{Token}
 use Rattle.cms_edf.specs.Asking.{info_of, infos_in}
 use Rattle.cms_edf.specs.declared.held.FileInfo.{FileInfo}
-use Rattle.cms_disk.specs.Disks.{Accessed, place_of}
 use Rattle.cms_disk.proofs.Finding.{stands_tells}
 use Rattle.cms_search.specs.Calls.{Acts, Meaning, Spot, holds, machine_of}
 use Rattle.cms_search.specs.Machine.{Letter, Machine, letter_at}
@@ -29,70 +25,38 @@ use Rattle.cms_search.specs.declared.fault.SearchFault.TheVariants.{NotFound}
 use Rattle.cms_search.specs.declared.search.Found.{Found}
 use Rattle.cms_search.specs.declared.state.End.{End}
 use Rattle.cms_search.proofs.Acts.{acts_same}
-use Rattle.cms_search.proofs.Meeting.{holds_shows, letter_is}
+use Rattle.cms_search.proofs.Meeting.{holds_shows}
 use Rattle.cms_search.proofs.Released.{letter_told}
 use Rattle.cms_search.proofs.Shown.{shelves_shown}
 use Rattle.cms_search.proofs.Stepped.{written_at}
-use Rattle.cms_files.specs.Files.{file_on, search_refused, writable}
+use Rattle.cms_files.specs.Files.{UnitFile, file_on, search_refused, writable}
+use Rattle.cms_files.specs.Told.{IsInfo, info_found, info_named}
 use Rattle.cms_files.specs.Updating.{on_step, stopping, telling}
 use Rattle.cms_files.specs.declared.updating.Updated.{Updated}
-use Rattle.cms_files.proofs.OpenedFiles.{none_named, none_on, seat_with}
+use Rattle.cms_files.proofs.FileTold.{IsTold, file_told, info_is}
+use Rattle.cms_files.proofs.OpenedFiles.{letter_shown}
 use Rattle.cms_files.proofs.TakenFiles.{no_shelf, open_shelf}
 use Rattle.cms_copyfile.specs.Copyfile.{Copying, copy_found, copy_into, copy_of, copy_records, copy_told, copying_of, file_at, input_shown, is_refused, letter_for, output_shown, there_already, there_is, too_few, with_copying}
-use Rattle.cms_copyfile.specs.FileCopies.{IsCopying, IsFileCopy, IsInfo, IsInfoOf, copy_number, told_in, told_on}
+use Rattle.cms_copyfile.specs.FileCopies.{IsCopying, IsFileCopy, IsInfoOf, copied_to, copy_number}
 use Rattle.cms_copyfile.specs.Telling.{copy_text}
 use Rattle.cms_copyfile.specs.declared.copy.FileCopy.{FileCopy}
 use Rattle.cms_copyfile.specs.declared.line.CopyLine.{CopyLine}
 use Rattle.cms_copyfile.specs.declared.line.Existing.{Existing}
 use Rattle.cms_copyfile.specs.declared.line.Existing.TheVariants.{Extended, Refused, Replaced}
 use Rattle.cms_copyfile.specs.declared.telling.FileShown.{FileShown}
-use Rattle.cms_copyfile.proofs.FilesAt.{named_on, stands_at}
+use Rattle.cms_copyfile.proofs.FilesAt.{stands_at}
 
 -- ---- the machine has the files
 
-info_is : (bsize : ℕ) (image : Image) (h : HeldFile) (f : File) → IsFileOf bsize image h f → IsInfo (info_of h) f
-info_is bsize image h f is = record {
-  name = is.name_is;
-  number = is.number_is;
-  format = is.format_is;
-  size = is.length_is;
-  stamp = is.stamp_is;
-  count = is.count_is;
-}
-
-some_at : {A : Type 0} (xs : List A) (k : ℕ) → k < length xs → (x : A) × (slice_get xs k ≡ Some x)
-some_at [] k less = absurd (omega arith)
-some_at (x ∷ xs) zero less = (x, refl)
-some_at (x ∷ xs) (suc k) less = some_at xs k (omega arith)
-
-held_at : (name : Name) (v : HeldVolume) (k : ℕ) → place_of name v ≡ Some k → (h : HeldFile) × (slice_get v.files k ≡ Some h)
-held_at name v k at =
-    let long = length-map v.files (λ (h : HeldFile). h.entry.name) in
-    let within = (position-Some (same_name name) (names_in v.files) k name at).0 in
-    some_at v.files k (omega (arith, long, within))
+told_there : (x : Result UnitFile SearchFault) (info : Option FileInfo) → IsTold x info → IsInfoOf info (there_is x)
+told_there (Ok x) (Some info) is = is
+told_there (Ok x) None is = absurd is
+told_there (Err why) (Some info) is = absurd is
+told_there (Err why) None is = tt
 
 -- so is the file of the output's name
-pub there_told : (t : Accesses) (s : Machine) (n : ℕ) (name : Name) → Shows t s → IsInfoOf (told_on t n name) (there_is (file_on s name (letter_at s n)))
-there_told t s n name shows = on_seat (item_at t.seats n) refl
-  where
-    on_seat : (x : Option Seated) → item_at t.seats n ≡ x → IsInfoOf (option_and_then (λ (a : Seated). told_in name a.disk.volume) x) (there_is (file_on s name (letter_at s n)))
-    on_seat None at = let none = none_on t s n name at shows in rw none tt
-    on_seat (Some seat) at = on_place (place_of name seat.disk.volume) refl
-      where
-        v : HeldVolume
-        v = seat.disk.volume
-
-        is_disk : Some seat.disk ≡ option_map (λ (a : Seated). a.disk) (item_at t.seats n)
-        is_disk = ap (λ (x : Option Seated). option_map (λ (a : Seated). a.disk) x) (sym at)
-
-        on_place : (p : Option ℕ) → place_of name v ≡ p → IsInfoOf (option_and_then (λ (k : ℕ). slice_get (infos_in v) k) p) (there_is (file_on s name (letter_at s n)))
-        on_place None none = let missing = none_named t s n name seat.disk is_disk none shows in rw missing tt
-        on_place (Some k) is =
-            let h = held_at name v k is in
-            let on = named_on t s n name k seat h.0 shows at is h.1 in
-            let told : slice_get (infos_in v) k ≡ Some (info_of h.0) = slice_get-map info_of v.files k ∙ ap (option_map info_of) h.1 in
-            let named = on.named in
-            rw (told, named) (info_is on.bsize on.image h.0 on.file on.is)
+there_told : (t : Accesses) (s : Machine) (n : ℕ) (name : Name) → Shows t s → IsInfoOf (info_named t n name) (there_is (file_on s name (letter_at s n)))
+there_told t s n name shows = told_there (file_on s name (letter_at s n)) (info_named t n name) (file_told t s n name shows)
 
 pub copying_shown : (t : Accesses) (s : Machine) (line : CopyLine) (c : FileCopy) → IsFileCopy t line c → Shows t s → IsCopying s line c
 copying_shown t s line c is shows =
@@ -116,56 +80,59 @@ copying_at spot line c is units h = copying_shown spot.state.table (machine_of s
 
 -- ---- the file that was found
 
-map_at : (hs : List HeldFile) (k : ℕ) (info : FileInfo) → slice_get (map info_of hs) k ≡ Some info → (h : HeldFile) × (slice_get hs k ≡ Some h) × (info ≡ info_of h)
-map_at [] k info is = absurd (cc is)
-map_at (h ∷ hs) zero info is = let same : info_of h ≡ info = cc is in (h, refl, sym same)
-map_at (h ∷ hs) (suc k) info is = map_at hs k info is
+info_at : (x : Option Seated) (place : ℕ) (info : FileInfo) → Some info ≡ option_and_then (λ (s : Seated). slice_get (infos_in s.disk.volume) place) x
+    → (s : Seated) × (x ≡ Some s) × (slice_get (map info_of s.disk.volume.files) place ≡ Some info)
+info_at None place info is = absurd (cc is)
+info_at (Some s) place info is = (s, refl, sym is)
+
+held_at : (hs : List HeldFile) (k : ℕ) (info : FileInfo) → slice_get (map info_of hs) k ≡ Some info → (h : HeldFile) × (slice_get hs k ≡ Some h) × (info ≡ info_of h)
+held_at [] k info is = absurd (cc is)
+held_at (h ∷ hs) zero info is = let same : info_of h ≡ info = cc is in (h, refl, sym same)
+held_at (h ∷ hs) (suc k) info is = held_at hs k info is
 
 -- it is there
-pub copy_there : (t : Accesses) (line : CopyLine) (d : Accessed) (c : FileCopy) → Some d ≡ option_map (λ (a : Seated). a.disk) (item_at t.seats c.found.letter)
-    → slice_get (infos_in d.volume) c.found.place ≡ Some c.input → c.letter ≡ letter_for line.files.output.mode c.found.letter
-    → c.name ≡ equal_signs c.input.name line.files.output.name → c.there ≡ told_on t c.letter c.name → IsFileCopy t line c
-copy_there t line d c is at letter name there =
-    let seat = seat_with (item_at t.seats c.found.letter) d is in
-    let held = map_at d.volume.files c.found.place c.input at in
+pub copy_there : (t : Accesses) (line : CopyLine) (c : FileCopy) → Some c.input ≡ info_found t c.found → c.letter ≡ letter_for line.files.output.mode c.found.letter
+    → c.name ≡ equal_signs c.input.name line.files.output.name → c.there ≡ info_named t c.letter c.name → IsFileCopy t line c
+copy_there t line c is letter name there =
+    let seat = info_at (item_at t.seats c.found.letter) c.found.place c.input is in
+    let held = held_at seat.0.disk.volume.files c.found.place c.input seat.2 in
     record {
       seat = seat.0;
       held = held.0;
       seated = seat.1;
-      at = ap (λ (a : Accessed). slice_get a.volume.files c.found.place) seat.2 ∙ held.1;
+      at = held.1;
       input = held.2;
       letter = letter;
       name = name ∙ ap (λ (i : FileInfo). equal_signs i.name line.files.output.name) held.2;
       there = there;
     }
 
--- or it isn't: the letter isn't accessed
-pub none_accessed : (t : Accesses) (s : Machine) (found : Found) → item_at t.seats found.letter ≡ None → Shows t s → file_at s found ≡ Err NotFound
-none_accessed t s found none shows =
-    let letter : letter_at s found.letter ≡ None =
-    ap (λ (ls : List (Option Letter)). item_at ls found.letter) (sym shows.letters)
-    ∙ (letter_told t.seats found.letter ∙ ap (λ (x : Option Seated). option_map (λ (y : Seated). y.letter) x) none) in
-    rw letter refl
-
-past_end : {A : Type 0} (xs : List A) (k : ℕ) → length xs ≤ k → slice_get xs k ≡ None
-past_end [] k past = refl
-past_end (x ∷ xs) zero past = absurd (omega arith)
-past_end (x ∷ xs) (suc k) past = past_end xs k (omega arith)
-
--- or the disk has no such place
-pub none_placed : (t : Accesses) (s : Machine) (found : Found) (d : Accessed) → Some d ≡ option_map (λ (a : Seated). a.disk) (item_at t.seats found.letter)
-    → length d.volume.files ≤ found.place → Shows t s → file_at s found ≡ Err NotFound
-none_placed t s found d is past shows =
-    let seat = seat_with (item_at t.seats found.letter) d is in
-    let x = shows.each found.letter seat.0 seat.1 in
-    let held = (stands_tells x.0 seat.0.disk x.1 x.3).held in
-    let same : length seat.0.disk.volume.files ≡ length d.volume.files = ap (λ (a : Accessed). length a.volume.files) seat.2 in
-    let count = held.count_is in
-    let none = past_end x.1.files found.place (omega (arith, same, count, past)) in
-    let letter : letter_at s found.letter ≡ Some seat.0.letter =
-    ap (λ (ls : List (Option Letter)). item_at ls found.letter) (sym shows.letters) ∙ letter_is t found.letter seat.0 seat.1 in
-    let slot = x.2 in
-    rw (letter, slot, none) refl
+-- or it isn't
+pub copy_missing : (t : Accesses) (s : Machine) (found : Found) → None ≡ info_found t found → Shows t s → file_at s found ≡ Err NotFound
+copy_missing t s found none shows = cases (item_at t.seats found.letter) refl
+  where
+    cases : (x : Option Seated) → item_at t.seats found.letter ≡ x → file_at s found ≡ Err NotFound
+    cases None at =
+        let letter : letter_at s found.letter ≡ None =
+        ap (λ (ls : List (Option Letter)). item_at ls found.letter) (sym shows.letters)
+        ∙ (letter_told t.seats found.letter ∙ ap (λ (x : Option Seated). option_map (λ (y : Seated). y.letter) x) at) in
+        rw letter refl
+    cases (Some seat) at =
+        let x = shows.each found.letter seat at in
+        let files = seat.disk.volume.files in
+        let missing : None ≡ slice_get (map info_of files) found.place =
+        none ∙ ap (λ (y : Option Seated). option_and_then (λ (z : Seated). slice_get (infos_in z.disk.volume) found.place) y) at in
+        let past : length (map info_of files) ≤ found.place =
+        elim (slice_get_cases (map info_of files) found.place).1 [
+          | inl there ↦ absurd (cc (missing ∙ there.2))
+          | inr behind ↦ behind.0
+        ] in
+        let long = length-map files info_of in
+        let count = (stands_tells x.0 seat.disk x.1 x.3).held.count_is in
+        let gone = slice_get_past x.1.files found.place (omega (arith, past, long, count)) in
+        let letter = letter_shown t s found.letter seat shows at in
+        let slot = x.2 in
+        rw (letter, slot, gone) refl
 
 -- ---- what is done with it
 
@@ -201,9 +168,6 @@ refused_told Extended None None is = refl
 refused_told Extended (Some i) (Some f) is = refl
 refused_told Extended None (Some f) is = refl
 refused_told Extended (Some i) None is = refl
-
-abbrev pub copied_to : (s : Machine) (line : CopyLine) (c : FileCopy) → IsCopying s line c → Copying
-copied_to s line c x = copying_of s line c.found x.file
 
 is_so : (s : Machine) (line : CopyLine) (c : FileCopy) (x : IsCopying s line c) (b : Bool) → is_refused line.style.existing c.there ≡ b
     → is_refused line.style.existing (copied_to s line c x).there ≡ b

@@ -1,5 +1,5 @@
 -- The first pass over a file that is copied, where it ends before its records are measured.
-use Rattle.std.proofs.Common.{◌∙◌, ℕ, List, Result, length, refl, sym, ap, subst, arith}
+use Rattle.std.proofs.Common.{◌≡◌, ◌⊎◌, ◌∙◌, ℕ, List, Result, inl, inr, length, refl, sym, ap, subst, arith}
 use Rattle.cms_journal.specs.Causes.{Rose}
 use Rattle.cms_journal.proofs.Counts.{counted_one}
 use Rattle.cms_edf.specs.OpeningSteps.{OfImage}
@@ -10,26 +10,30 @@ use Rattle.cms_machine.specs.Steps.{Get, ReadFault}
 use Rattle.cms_machine.proofs.Single.{ran_still}
 use Rattle.cms_line.specs.declared.token.Token.{Token}
 use Rattle.cms_disk.specs.Cursors.{HasLeft}
+use Rattle.cms_disk.specs.declared.fault.DiskFault.{DiskFault}
+use Rattle.cms_disk.specs.declared.fault.DiskFault.TheVariants as failed
 use Rattle.cms_search.specs.Calls.{Acts, Comes, Spot, at, holds, machine_of}
+use Rattle.cms_search.specs.Refusing.{unread}
 use Rattle.cms_search.specs.Releasing.{vdev_of}
-use Rattle.cms_search.specs.Stepping.{Stepped, failing}
+use Rattle.cms_search.specs.Stepping.{HasRead, Stepped, failing}
 use Rattle.cms_search.specs.declared.state.End.{End}
+use Rattle.cms_search.proofs.Acts.{acts_after}
+use Rattle.cms_search.proofs.Handing.{later_read}
 use Rattle.cms_search.proofs.Meeting.{meets_at}
 use Rattle.cms_search.proofs.Stepped.{device_is}
 use Rattle.cms_files.specs.Opening.{IsOpened}
-use Rattle.cms_files.specs.Updating.{updated_of}
+use Rattle.cms_files.specs.Updating.{stopping, updated_of}
 use Rattle.cms_files.specs.declared.opening.OpenFile.{OpenFile}
 use Rattle.cms_files.specs.declared.updating.Updated as declared
 use Rattle.cms_world.specs.Seen.{Seen}
 use Rattle.cms_copyfile.specs.Copyfile.{change_with}
-use Rattle.cms_copyfile.specs.FileCopies.{IsFileCopy}
-use Rattle.cms_copyfile.specs.OneCopy.{HasRead}
+use Rattle.cms_copyfile.specs.FileCopies.{IsFileCopy, copied_to}
 use Rattle.cms_copyfile.specs.Outputs.{extended}
 use Rattle.cms_copyfile.specs.declared.copy.FileCopy.{FileCopy}
 use Rattle.cms_copyfile.specs.declared.line.CopyLine.{CopyLine}
 use Rattle.cms_copyfile.proofs.CopyInput.{input_at}
-use Rattle.cms_copyfile.proofs.FilesCopied.{copied_to, copying_at}
-use Rattle.cms_copyfile.proofs.OneRead.{acts_never_so, behind_read, first, later_read, tree_by, wanted_in, wanted_low, whole}
+use Rattle.cms_copyfile.proofs.FilesCopied.{copying_at}
+use Rattle.cms_copyfile.proofs.OneRead.{acts_never_so, behind_read, first, tree_by, wanted_in, wanted_low, whole}
 
 -- the bytes never are others
 pub read_never : (before : Seen) (mid new : Spot) (words : List Token) (line : CopyLine) (c : FileCopy) (u : List Slot → Act Stepped) (r : Result declared.Updated End) → HasRead before mid.world
@@ -41,7 +45,7 @@ read_never before mid new words line c u r read never a =
 module _ (before : Seen) (mid : Spot) (words : List Token) (line : CopyLine) (c : FileCopy) (file : OpenFile) (read : HasRead before mid.world)
     (is : IsFileCopy mid.state.table line c) (opened : IsOpened mid.state.table c.found.letter c.input.name file) where
   -- its device failed
-  pub read_lost : Rose before.faults mid.world.faults → Comes (first before mid) mid (whole mid words line c) (λ units. failing (machine_of mid.state units) file.vdev)
+  read_lost : Rose before.faults mid.world.faults → Comes (first before mid) mid (whole mid words line c) (λ units. failing (machine_of mid.state units) file.vdev)
   read_lost rose = record {
     each = λ units h.
         let h' : holds mid units = (let told = read.told in rw told h) in
@@ -69,7 +73,7 @@ module _ (before : Seen) (mid : Spot) (words : List Token) (line : CopyLine) (c 
   }
 
   -- its records never are found altered
-  pub read_altered : (new : Spot) (u : List Slot → Act Stepped) (r : Result declared.Updated End)
+  read_altered : (new : Spot) (u : List Slot → Act Stepped) (r : Result declared.Updated End)
       → OfImage mid.world.told file.cursor.unit (λ image. (records : List (List ℕ)) → HasLeft image file.cursor records → ⊥) → Acts mid new u r (updated_of new.state)
       → Acts (first before mid) new (whole mid words line c) r (updated_of new.state)
   read_altered new u r never a =
@@ -78,3 +82,12 @@ module _ (before : Seen) (mid : Spot) (words : List Token) (line : CopyLine) (c 
       let x = copying_at mid line c is units h in
       let k = meets_at mid units c.found.letter opened.seat opened.there h in
       never k.journal k.told x.file.file.records ((input_at mid units line c file opened h x).left k.journal k.told)) a
+
+  -- it couldn't be read to its end, which is typed
+  pub read_unread : (new : Spot) (why : DiskFault) (r : Result declared.Updated End) → (why ≡ failed.Device) ⊎ (why ≡ failed.Altered) → (why ≡ failed.Device → Rose before.faults mid.world.faults)
+      → (why ≡ failed.Altered → OfImage mid.world.told file.cursor.unit (λ image. (records : List (List ℕ)) → HasLeft image file.cursor records → ⊥))
+      → Acts mid new (λ units. stopping (unread (machine_of mid.state units) file.vdev why)) r (updated_of new.state) → Acts (first before mid) new (whole mid words line c) r (updated_of new.state)
+  read_unread new why r (inl device) rose never a =
+      acts_after (first before mid) mid new (whole mid words line c) (λ units. failing (machine_of mid.state units) file.vdev) r (updated_of new.state) (read_lost (rose device))
+      (subst (λ (z : DiskFault). Acts mid new (λ units. stopping (unread (machine_of mid.state units) file.vdev z)) r (updated_of new.state)) device a)
+  read_unread new why r (inr altered) rose never a = read_altered new (λ units. stopping (unread (machine_of mid.state units) file.vdev why)) r (never altered) a

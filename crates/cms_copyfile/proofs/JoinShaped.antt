@@ -20,9 +20,10 @@ use Rattle.cms_search.specs.Calls.{Spot, machine_of}
 use Rattle.cms_search.specs.Machine.{Machine, letter_at}
 use Rattle.cms_search.proofs.Meeting.{meets_at}
 use Rattle.cms_files.specs.Files.{file_on}
+use Rattle.cms_files.specs.Told.{IsInfo}
 use Rattle.cms_copyfile.specs.Appending.{AreJoined, IsOwnMeasured}
 use Rattle.cms_copyfile.specs.Copyfile.{change_with, there_is}
-use Rattle.cms_copyfile.specs.FileCopies.{IsCopying, IsInfo, form_in, plan_for}
+use Rattle.cms_copyfile.specs.FileCopies.{IsCopying, copied_to, form_in, plan_for}
 use Rattle.cms_copyfile.specs.Measures.{measured}
 use Rattle.cms_copyfile.specs.OneCopy.{AreMeasured}
 use Rattle.cms_copyfile.specs.Outputs.{copies_in, extended, file_with, stamp_for}
@@ -30,17 +31,13 @@ use Rattle.cms_copyfile.specs.declared.copy.FileCopy.{FileCopy}
 use Rattle.cms_copyfile.specs.declared.line.CopyLine.{CopyLine}
 use Rattle.cms_copyfile.specs.declared.measure.Measure.{Measure}
 use Rattle.cms_copyfile.specs.declared.output.CopyPlan.{CopyPlan}
-use Rattle.cms_copyfile.proofs.FilesCopied.{copied_to}
+use Rattle.cms_copyfile.proofs.CopyShaped.{fits_in}
 use Rattle.cms_copyfile.proofs.Joined.{whole_copies}
 use Rattle.cms_copyfile.proofs.OwnFile.{extended_so, extended_there, own_at}
 
 own_fits : (format : Format) (size : ℕ) (records : List (List ℕ)) → (format ≡ F → All (Fits F size) records) → All (Fits V longest_record) records → All (Fits format size) records
 own_fits F size records fixed each = fixed refl
 own_fits V size records fixed each = each
-
-fits_in : (format : Format) (size : ℕ) (records all : List (List ℕ)) → All (Fits format size) records → All (Fits format (length_of format size all)) records
-fits_in F size records all fits = fits
-fits_in V size records all fits = fits
 
 -- the change adds them
 pub add_so : (s : Machine) (line : CopyLine) (c : FileCopy) (own : FileInfo) (turn : Stamp) (f : File) (x : IsCopying s line c) → turn ≡ stamp_of s.moment → IsInfo own f

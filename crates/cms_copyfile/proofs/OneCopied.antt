@@ -1,5 +1,5 @@
 -- One file that is copied: its records are read, and the copy is put.
-use Rattle.std.proofs.Common.{◌≡◌, ◌∙◌, ℕ, List, [], Option, Some, Result, Ok, Err, refl, sym, ap, subst}
+use Rattle.std.proofs.Common.{◌≡◌, ◌∙◌, ℕ, List, [], ◌∷◌, Option, Some, Result, Ok, Err, refl, sym, ap, subst}
 use Rattle.std.specs.Prelude.{IfSome, None, ⊤}
 use Rattle.cms_journal.specs.Journal.{Journal}
 use Rattle.cms_names.specs.declared.name.Name.{Name}
@@ -14,6 +14,7 @@ use Rattle.cms_disk.specs.declared.fault.DiskFault.{DiskFault}
 use Rattle.cms_search.specs.Calls.{Spot, holds, machine_of}
 use Rattle.cms_search.specs.Putting.{Updated}
 use Rattle.cms_search.specs.Searches.{item_at}
+use Rattle.cms_search.specs.Seats.{HasDevice}
 use Rattle.cms_search.specs.Tables.{Seated}
 use Rattle.cms_search.specs.declared.fault.SearchFault.{SearchFault}
 use Rattle.cms_search.specs.declared.state.State.{State}
@@ -22,7 +23,8 @@ use Rattle.cms_files.specs.Files.{UnitFile}
 use Rattle.cms_files.specs.Opening.{IsOpened}
 use Rattle.cms_files.specs.declared.opening.OpenFile.{OpenFile}
 use Rattle.cms_copyfile.specs.Copyfile.{change_with, file_at}
-use Rattle.cms_copyfile.specs.FileCopies.{IsCopying, IsFileCopy, IsInfoOf}
+use Rattle.cms_copyfile.specs.Ending.{ChangesAs, IsWritten, WroteAll}
+use Rattle.cms_copyfile.specs.FileCopies.{IsCopying, IsFileCopy, IsInfoOf, copied_to}
 use Rattle.cms_copyfile.specs.OneCopy.{AreShaped}
 use Rattle.cms_copyfile.specs.Outputs.{copies_in, extended}
 use Rattle.cms_copyfile.specs.Writing.{CameTo, CopiesInto, WritesSeat, WritesTo, putting}
@@ -34,10 +36,9 @@ use Rattle.cms_copyfile.specs.declared.output.CopyPlan.{CopyPlan}
 use Rattle.cms_copyfile.specs.declared.writing.CopyTarget.{CopyTarget}
 use Rattle.cms_copyfile.specs.declared.writing.Written.{Written}
 use Rattle.cms_copyfile.specs.declared.writing.Written.TheVariants.{Came}
-use Rattle.cms_copyfile.proofs.AllWritten.{WroteAll, all_came, wrote_all}
+use Rattle.cms_copyfile.proofs.AllWritten.{all_came, wrote_all}
 use Rattle.cms_copyfile.proofs.CopyInput.{input_at, input_stays}
-use Rattle.cms_copyfile.proofs.FilesCopied.{copied_to, copying_at}
-use Rattle.cms_copyfile.proofs.OneRead.{ChangesAs}
+use Rattle.cms_copyfile.proofs.FilesCopied.{copying_at}
 
 -- ---- the change
 
@@ -99,12 +100,11 @@ module _ (mid now : Spot) (line : CopyLine) (c : FileCopy) (file : OpenFile) (to
         left = (input_at mid units line c file opened h x).left;
       }
 
-  pub wrote_copies : (s : Seated) (written written' : Written) → written ≡ written' → item_at mid.state.table.seats to.letter ≡ Some s
+  wrote_copies : (s : Seated) (written : Written) → item_at mid.state.table.seats to.letter ≡ Some s
       → IfSome (item_at mid.state.table.seats to.letter) (λ x. WritesSeat mid.world now.world mid.state.table now.state.table x to plan file.cursor written)
-      → now.state ≡ record mid.state { table = now.state.table } → to.stamp ≡ stamp_of mid.state.moment → WroteAll mid now to (copies_on mid.state c plan) s written'
-  wrote_copies s written written' same there writes state stamp =
-      wrote_all (λ (x : Seated) (e : Accessed). WritesTo mid.world now.world x.disk e to plan file.cursor written) mid now to (copies_on mid.state c plan) s written written' same there writes state
-      stamp
+      → now.state ≡ record mid.state { table = now.state.table } → to.stamp ≡ stamp_of mid.state.moment → WroteAll mid now to (copies_on mid.state c plan) s written
+  wrote_copies s written there writes state stamp =
+      wrote_all (λ (x : Seated) (e : Accessed). WritesTo mid.world now.world x.disk e to plan file.cursor written) mid now to (copies_on mid.state c plan) s written there writes state stamp
       (λ e does. record {
         came = λ units h j m told minidisk looked.
             subst (λ (l : List (List ℕ)). CameTo mid.world.told now.world.told s.disk e m to l written) (copies_so mid.state line c plan units (copying_at mid line c is units h))
@@ -112,9 +112,33 @@ module _ (mid now : Spot) (line : CopyLine) (c : FileCopy) (file : OpenFile) (to
         changes = does.changes;
       })
 
--- the output's disk was updated
-pub copies_came : (mid now : Spot) (c : FileCopy) (to : CopyTarget) (plan : CopyPlan) (s : Seated) (r : Result ⊤ DiskFault) → WroteAll mid now to (copies_on mid.state c plan) s (Came r)
-    → Updated mid now to.letter s (put_on mid.state c to plan) r
-copies_came mid now c to plan s r w =
-    all_came mid now to (copies_on mid.state c plan) s (put_on mid.state c to plan) r w
-    (λ e units h j m told minidisk came. appends_of mid.world.told now.world.told s.disk e m (put_on mid.state c to plan units) to.stamp r came)
+  -- the output's disk was updated
+  copies_came : (s : Seated) (r : Result ⊤ DiskFault) → WroteAll mid now to (copies_on mid.state c plan) s (Came r) → Updated mid now to.letter s (put_on mid.state c to plan) r
+  copies_came s r w =
+      all_came mid now to (copies_on mid.state c plan) s (put_on mid.state c to plan) r w
+      (λ e units h j m told minidisk came. appends_of mid.world.told now.world.told s.disk e m (put_on mid.state c to plan units) to.stamp r came)
+
+  -- what the update of that disk ends behind
+  pub copies_written : (s : Seated) (vdev : ℕ) (written : Written) → extended line.style.existing c.there ≡ None → to.letter ≡ c.letter → to.name ≡ c.name → HasDevice mid.state.table c.letter vdev
+      → item_at mid.state.table.seats to.letter ≡ Some s
+      → IfSome (item_at mid.state.table.seats to.letter) (λ x. WritesSeat mid.world now.world mid.state.table now.state.table x to plan file.cursor written)
+      → now.state ≡ record mid.state { table = now.state.table } → to.stamp ≡ stamp_of mid.state.moment → IsWritten mid now line c vdev file.vdev written
+  copies_written s vdev written none letter name device there writes state stamp =
+      let wrote = wrote_copies s written there writes state stamp in
+      record {
+        to = to;
+        all = copies_on mid.state c plan;
+        disk = s;
+        wrote = wrote;
+        file = file;
+        is = is;
+        opened = opened;
+        read = refl;
+        device = device;
+        change = put_on mid.state c to plan;
+        changes = puts_as mid line c to plan none name shaped;
+        names = λ units. ap (λ (n : Name). n ∷ []) name;
+        came = λ done came.
+            subst (λ (n : ℕ). Updated mid now n s (put_on mid.state c to plan) done) letter
+            (copies_came s done (subst (λ (w : Written). WroteAll mid now to (copies_on mid.state c plan) s w) came wrote));
+      }

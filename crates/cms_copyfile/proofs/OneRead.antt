@@ -2,7 +2,6 @@
 use Rattle.std.proofs.Common.{◌≡◌, ◌∙◌, ℕ, ◌≤◌, List, [], Option, Some, Result, Ok, Err, length, refl, sym, ap, subst, arith}
 use Rattle.std.specs.Prelude.{None}
 use Rattle.cms_journal.proofs.Counts.{counted_none}
-use Rattle.cms_journal.proofs.Pieces.{grown_same}
 use Rattle.cms_model.specs.Changes.{Change}
 use Rattle.cms_machine.specs.Acts.{Act, Does, bind}
 use Rattle.cms_machine.specs.Runs.{Ran}
@@ -14,25 +13,26 @@ use Rattle.cms_line.specs.declared.token.Token.{Token}
 use Rattle.cms_search.specs.Calls.{Acts, Comes, IsLater, IsUsable, Meaning, Spot, at, holds, machine_of}
 use Rattle.cms_search.specs.Machine.{Machine}
 use Rattle.cms_search.specs.Releasing.{vdev_of}
-use Rattle.cms_search.specs.Stepping.{Stepped, failing, handed, reading}
+use Rattle.cms_search.specs.Stepping.{HasRead, Stepped, failing, handed, reading, silently}
 use Rattle.cms_search.specs.declared.state.End.{End}
 use Rattle.cms_search.specs.declared.state.End.TheVariants.{Memory}
 use Rattle.cms_search.proofs.Acts.{cut_off, later_then, rose_from}
+use Rattle.cms_search.proofs.Handing.{later_read}
 use Rattle.cms_files.specs.Files.{UnitFile}
 use Rattle.cms_files.specs.Opening.{IsOpened}
 use Rattle.cms_files.specs.Updating.{updating}
 use Rattle.cms_files.specs.declared.opening.OpenFile.{OpenFile}
 use Rattle.cms_files.specs.declared.updating.Updated as declared
 use Rattle.cms_world.specs.Seen.{Seen}
-use Rattle.cms_copyfile.specs.Copyfile.{change_with, copy_records, silently, with_copying}
-use Rattle.cms_copyfile.specs.FileCopies.{IsCopying, IsFileCopy}
-use Rattle.cms_copyfile.specs.OneCopy.{HasRead}
+use Rattle.cms_copyfile.specs.Copyfile.{change_with, copy_records, with_copying}
+use Rattle.cms_copyfile.specs.Ending.{ChangesAs}
+use Rattle.cms_copyfile.specs.FileCopies.{IsCopying, IsFileCopy, copied_to}
 use Rattle.cms_copyfile.specs.Outputs.{extended, wanted_of}
 use Rattle.cms_copyfile.specs.declared.copy.FileCopy.{FileCopy}
 use Rattle.cms_copyfile.specs.declared.line.CopyLine.{CopyLine}
 use Rattle.cms_copyfile.specs.declared.line.CopyStyle.{CopyStyle}
 use Rattle.cms_copyfile.proofs.CopyInput.{input_at}
-use Rattle.cms_copyfile.proofs.FilesCopied.{copied_to, copying_at, copying_is}
+use Rattle.cms_copyfile.proofs.FilesCopied.{copying_at, copying_is}
 
 -- ---- a call, and what follows it, where that depends on what was on the units before
 
@@ -104,12 +104,6 @@ tree_by s words line c x change is =
     ∙ (ap (λ (z : Change). reading silently x.file.unit x.file.file wanted (updating s made.to z) failed) is
     ∙ ap (λ (n : ℕ). reading silently x.file.unit x.file.file wanted (updating s n change) failed) (sym x.to))
 
--- the change of a file that is copied
-abbrev pub ChangesAs : Spot → CopyLine → FileCopy → (List Slot → Change) → Type 0
-ChangesAs spot line c change = (units : List Slot) → holds spot units → (x : IsCopying (machine_of spot.state units) line c)
-    → change_with (machine_of spot.state units) line (copied_to (machine_of spot.state units) line c x)
-    (extended line.style.existing (copied_to (machine_of spot.state units) line c x).there) ≡ change units
-
 -- ---- it is read
 
 -- before it was read
@@ -118,12 +112,6 @@ first before mid = record { world = before; state = mid.state }
 
 abbrev pub whole : Spot → List Token → CopyLine → FileCopy → List Slot → Act Stepped
 whole mid words line c units = with_copying words line (machine_of mid.state units) c.found (copy_records (machine_of mid.state units) line)
-
--- nothing but reads was done
-pub later_read : (before now : Seen) → HasRead before now → IsLater before now
-later_read before now read =
-    let edges = read.edges in
-    record { grown = grown_same before.told now.told read.told; faults = read.faults; edges = omega (arith, edges) }
 
 -- nothing was done, for want of memory
 pub cut_read : (before : Seen) (mid : Spot) (t : List Slot → Act Stepped) (d : Meaning declared.Updated Stepped) → HasRead before mid.world

@@ -1,6 +1,7 @@
 -- The file that is extended, as a cursor reads it and as the machine has it.
 use Rattle.std.proofs.Common.{◌≡◌, ◌∙◌, ℕ, List, Option, Some, length, refl, sym, ap, subst}
 use Rattle.std.specs.Prelude.{None, All}
+use Rattle.std.proofs.lemmas.Option.{same_Some}
 use Rattle.cms_journal.specs.Journal.{Journal}
 use Rattle.cms_names.specs.declared.name.Format.{Format}
 use Rattle.cms_names.specs.declared.name.Format.TheVariants.{F}
@@ -24,13 +25,13 @@ use Rattle.cms_search.specs.Calls.{Spot, holds, machine_of}
 use Rattle.cms_search.specs.Machine.{Machine, letter_at}
 use Rattle.cms_search.specs.Shows.{Shows}
 use Rattle.cms_search.specs.Tables.{Seated}
-use Rattle.cms_search.proofs.Holding.{some_same}
 use Rattle.cms_search.proofs.Meeting.{holds_shows, letter_is, meets_at}
 use Rattle.cms_files.specs.Files.{file_on, unit_file}
 use Rattle.cms_files.specs.Opening.{HasRecords, IsOpened}
+use Rattle.cms_files.specs.Told.{IsInfo}
 use Rattle.cms_files.specs.declared.opening.OpenFile.{OpenFile}
 use Rattle.cms_copyfile.specs.Copyfile.{there_is}
-use Rattle.cms_copyfile.specs.FileCopies.{IsInfo, IsInfoOf}
+use Rattle.cms_copyfile.specs.FileCopies.{IsInfoOf}
 use Rattle.cms_copyfile.specs.Outputs.{extended}
 use Rattle.cms_copyfile.specs.declared.line.Existing.{Existing}
 use Rattle.cms_copyfile.specs.declared.line.Existing.TheVariants.{Extended, Refused, Replaced}
@@ -101,16 +102,16 @@ own_at old units n name file f opened h counts there =
     let named : file_named name m.files ≡ Some f =
     there_named seat.letter.unit (file_named name m.files) f (sym (ap there_is on) ∙ there) in
     let o = opened.opens image m stands in
-    let same : o.0 ≡ f = some_same o.0 f (sym o.1 ∙ named) in
+    let same : o.0 ≡ f = same_Some o.0 f (sym o.1 ∙ named) in
     let left : HasLeft image file.cursor f.records = subst (λ (y : File). HasLeft image file.cursor y.records) same o.2 in
     let starts = opened.starts in
     let it = named_at image name seat.disk m starts.place starts.file stands starts.place_is starts.file_is in
-    let same' : it.file ≡ f = some_same it.file f (sym it.named ∙ named) in
+    let same' : it.file ≡ f = same_Some it.file f (sym it.named ∙ named) in
     let format : starts.file.entry.format ≡ f.format = it.is.format_is ∙ ap (λ (y : File). y.format) same' in
     let size : starts.file.length ≡ f.length = it.is.length_is ∙ ap (λ (y : File). y.length) same' in
     record {
       left = λ j told.
-          let one : k.journal ≡ j = some_same k.journal j (sym k.told ∙ told) in
+          let one : k.journal ≡ j = same_Some k.journal j (sym k.told ∙ told) in
           subst (λ (u : ℕ). HasLeft (now j u) file.cursor f.records) (sym starts.first.unit)
           (subst (λ (i : Journal). HasLeft (now i seat.disk.volume.unit) file.cursor f.records) one left);
       count = subst (HasRecords file.count) (on ∙ ap (unit_file seat.letter.unit) named) (counts s (holds_shows old units h));
@@ -120,7 +121,7 @@ own_at old units n name file f opened h counts there =
           ∙ (ap (λ (z : Format). fixed_of z starts.file.length) (format ∙ fix) ∙ ap (λ (z : ℕ). Some z) size) in
           held_fits file.cursor.bsize file.cursor.begun.fixed file.cursor.begun.longest file.cursor.left _ _ f.records f.length fixed left.held;
       named = λ j m' told is'.
-          let one : k.journal ≡ j = some_same k.journal j (sym k.told ∙ told) in
+          let one : k.journal ≡ j = same_Some k.journal j (sym k.told ∙ told) in
           let mine : StandsIn (now j seat.disk.volume.unit) seat.disk m = subst (λ (i : Journal). StandsIn (now i seat.disk.volume.unit) seat.disk m) one stands in
           subst (λ (z : Minidisk). file_named name z.files ≡ Some f) (minidisk_one (now j seat.disk.volume.unit) seat.disk m m' mine is'.stands) named;
     }

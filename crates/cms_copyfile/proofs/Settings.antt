@@ -14,7 +14,7 @@ use Rattle.cms_line.specs.declared.choices.Choice.{Choice}
 use Rattle.cms_line.specs.declared.choices.OptionFault.{OptionFault}
 use Rattle.cms_line.specs.declared.token.Token.{Token}
 use Rattle.cms_operands.specs.Choices.{all_valued, chosen_of, chosen_with, is_among, last_among, parameter_of, refusal_of, rule_of, setting_in, unless_refused, valued}
-use Rattle.cms_operands.specs.Operands.{number_in, number_within, or_refused}
+use Rattle.cms_operands.specs.Operands.{largest, number_in, number_within, or_refused}
 use Rattle.cms_operands.specs.Refusals.{text_at}
 use Rattle.cms_operands.specs.declared.choosing.ChosenOption.{ChosenOption}
 use Rattle.cms_operands.specs.declared.choosing.OptionForm.{OptionForm}
@@ -136,7 +136,7 @@ pub style_said : (default : Existing) (words : List Token) (chosen : List Chosen
 style_said default words chosen is =
     let all = chosen_said options words chosen is in
     record {
-      first = at_least (number_of 3 chosen) lines.largest (number_said options 3 1 lines.largest chosen refl all);
-      most = number_said options 4 1 lines.largest chosen refl all;
+      first = at_least (number_of 3 chosen) largest (number_said options 3 1 largest chosen refl all);
+      most = number_said options 4 1 largest chosen refl all;
       length = number_said options 11 1 longest_record chosen refl all;
     }

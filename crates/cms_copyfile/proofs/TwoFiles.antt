@@ -1,6 +1,6 @@
 -- Copies that are written behind a file's own records.
-use Rattle.std.proofs.Common.{◌≡◌, ℕ, List, [], ◌++◌, Result, Ok, Err, refl, sym, ap, subst, append-nil, arith}
-use Rattle.std.specs.Prelude.{⊤}
+use Rattle.std.proofs.Common.{◌≡◌, inl, inr, ℕ, List, [], ◌++◌, Result, Ok, Err, refl, sym, ap, subst, append-nil, arith}
+use Rattle.std.specs.Prelude.{IfSome, Some, ⊤}
 use Rattle.cms_journal.specs.Told.{Told}
 use Rattle.cms_journal.proofs.Pieces.{grown_same}
 use Rattle.cms_model.specs.Minidisks.{Minidisk}
@@ -15,8 +15,11 @@ use Rattle.cms_disk.proofs.Filling.{same_draft, same_some}
 use Rattle.cms_disk.specs.declared.fault.DiskFault.{DiskFault}
 use Rattle.cms_disk.proofs.FilePut.{changed_behind, given_up}
 use Rattle.cms_search.specs.Drafting.{DraftsTo}
+use Rattle.cms_search.specs.Searches.{item_at}
+use Rattle.cms_search.specs.Seats.{HasDisk}
+use Rattle.cms_search.specs.Tables.{Accesses, Seated}
 use Rattle.cms_copyfile.specs.Copies as copies
-use Rattle.cms_copyfile.specs.Copies.{Among, CopiesFrom, PutsCopies}
+use Rattle.cms_copyfile.specs.Copies.{CopiesFrom, PutsCopies}
 use Rattle.cms_copyfile.specs.Joining.{AreLeft, FillsBoth, JoinsTo}
 use Rattle.cms_copyfile.specs.Joins.{whole_plan}
 use Rattle.cms_copyfile.specs.Outputs.{copies_in}
@@ -28,7 +31,13 @@ use Rattle.cms_copyfile.specs.declared.writing.CopyTarget.{CopyTarget}
 use Rattle.cms_copyfile.specs.declared.writing.Written.{Written}
 use Rattle.cms_copyfile.specs.declared.writing.Written.TheVariants.{Altered, Came}
 use Rattle.cms_copyfile.proofs.Joined.{whole_copies}
-use Rattle.cms_copyfile.proofs.Writes.{PutsAll, came_same, failed_so, has_begun, none_begun, none_changed, not_device, stay_same, unchanged}
+use Rattle.cms_copyfile.proofs.Writes.{PutsAll, came_same, disk_kept, failed_so, has_begun, none_begun, none_changed, not_device, stay_same, unchanged}
+
+-- what the writing comes to where the file's own records weren't put
+abbrev pub came_of : CopyFault → Written
+came_of why.Read = Came (Err failed.Device)
+came_of why.Write = Came (Err failed.Device)
+came_of why.Altered = Altered
 
 abbrev own_plan : CopyPlan → OpenFile → CopyPlan
 own_plan plan own = whole_plan plan.format own.count
@@ -71,27 +80,31 @@ module _ (before mid : Seen) (d : Accessed) (draft draft' : FileDraft) (own : Op
     changes = changed_behind before mid now d d e (answer_in written) units.grown units.faults units.edges refl f.changes;
   }
 
-  -- a device failed
-  given_so : (start : Told) (m : Minidisk) (front more : List (List ℕ)) (e : CopyFault) → copies.IsDevices e → PutsCopies start mid.told d m draft' front more (Err e)
-      → IsGivenUp start mid.told d m
-  given_so start m front more why.Read device is = is
-  given_so start m front more why.Write device is = is
-  given_so start m front more why.Altered device is = absurd is
-
-  pub unread_both : (e : CopyFault) → r ≡ Err e → copies.IsDevices e → ChangesUnits before mid copies.IsDevices r → FillsBoth before mid d d draft own c plan (Came (Err failed.Device))
-  unread_both e is device units = record {
+  unread_both : (e : CopyFault) → copies.IsDevices e → r ≡ Err e → ChangesUnits before mid copies.IsDevices r
+      → ((start : Told) (m : Minidisk) (front more : List (List ℕ)) → PutsCopies start mid.told d m draft' front more (Err e) → IsGivenUp start mid.told d m)
+      → FillsBoth before mid d d draft own c plan (Came (Err failed.Device))
+  unread_both e device is units given = record {
     came = λ start m to front records left some goes drafted.
         given_up start mid.told d d m (file_with to.name to.shape (front ++ copies_in plan records)) to.stamp _
-        (given_so start m front (copies_in plan records) e device (own_put start m front records (Err e) is left some goes)) drafted.answer refl;
+        (given start m front (copies_in plan records) (own_put start m front records (Err e) is left some goes)) drafted.answer refl;
     changes = failed_so before mid d r e is device units;
   }
 
-  pub altered_both : r ≡ Err why.Altered → ChangesUnits before mid copies.IsDevices r → FillsBoth before mid d d draft own c plan Altered
-  altered_both is units = record {
+  both_failed : (e : CopyFault) → r ≡ Err e → ChangesUnits before mid copies.IsDevices r → FillsBoth before mid d d draft own c plan (came_of e)
+  both_failed why.Read is units = unread_both why.Read (inl refl) is units (λ start m front more is'. is')
+  both_failed why.Write is units = unread_both why.Write (inr refl) is units (λ start m front more is'. is')
+  both_failed why.Altered is units = record {
     came = λ start m to front records left some goes drafted. own_put start m front records (Err why.Altered) is left some goes;
     changes = unchanged before mid d failed.Altered
         (record { grown = units.grown; faults = units.faults; edges = units.edges; cause = λ device. absurd (not_device device) });
   }
+
+-- so it is on the disk of a letter
+pub seat_failed : (before now : Seen) (t : Accesses) (n : ℕ) (s : Seated) (draft draft' : FileDraft) (own : OpenFile) (c : Reading) (plan : CopyPlan) (r : Result ⊤ CopyFault)
+    (e : CopyFault) → item_at t.seats n ≡ Some s → PutsAll before.told now.told draft draft' (own_plan plan own) own.cursor r → r ≡ Err e → ChangesUnits before now copies.IsDevices r
+    → IfSome (item_at t.seats n) (λ x. HasDisk t t n (λ d. FillsBoth before now x.disk d draft own c plan (came_of e)))
+seat_failed before now t n s draft draft' own c plan r e at puts is units =
+    disk_kept (λ (x : Seated) (d : Accessed). FillsBoth before now x.disk d draft own c plan (came_of e)) t n s at (both_failed before now s.disk draft draft' own c plan r puts e is units)
 
 -- ---- a file that is drafted
 

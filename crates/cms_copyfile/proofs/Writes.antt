@@ -2,6 +2,7 @@
 use Rattle.std.proofs.Common.{◌≡◌, inl, inr, ℕ, ◌+◌, List, [], ◌++◌, Option, Some, Result, Ok, Err, length, refl, sym, ◌∙◌, ap, subst, arith, append-nil}
 use Rattle.std.specs.Prelude.{⊤, IfSome, None, option_map, slice_get}
 use Rattle.std.specs.Option.{ForSome, IsSome}
+use Rattle.std.proofs.lemmas.Option.{same_Some}
 use Rattle.cms_journal.specs.declared.event.Attached.{Attached}
 use Rattle.cms_journal.specs.Journal.{HasBlocks, IsWritable, Journal}
 use Rattle.cms_journal.specs.Told.{Grown, Told}
@@ -33,7 +34,6 @@ use Rattle.cms_search.specs.Drafting.{CommitsTo, DraftsSeat, DraftsTo, MayCommit
 use Rattle.cms_search.specs.Searches.{item_at}
 use Rattle.cms_search.specs.Seats.{HasDevice, HasDisk}
 use Rattle.cms_search.specs.Tables.{Accesses, Seated, letters_of, seat_with, with_disk, writing}
-use Rattle.cms_search.proofs.Holding.{some_same}
 use Rattle.cms_search.proofs.Meeting.{readable_seat}
 use Rattle.cms_search.proofs.Seats.{has_same, item_here, item_within, seat_there, table_with, with_disk_is, with_disk_twice}
 use Rattle.cms_search.proofs.Stepped.{has_device, if_some, written_at}
@@ -244,7 +244,7 @@ pub draft_may : (told : Told) (t t' : Accesses) (to : CopyTarget) (r : Result Fi
 draft_may told t t' to r draft is accessed drafts may = λ x at.
     let s = some_seat (item_at t.seats to.letter) accessed in
     let h = if_some (item_at t.seats to.letter) (λ (y : Seated). DraftsSeat t t' to.letter y to.name to.shape to.stamp r) s.0 s.1 drafts in
-    let same : seat_with s.0 h.disk ≡ x = some_same (seat_with s.0 h.disk) x (sym (seat_there t t' to.letter s.0 s.1 h) ∙ at) in
+    let same : seat_with s.0 h.disk ≡ x = same_Some (seat_with s.0 h.disk) x (sym (seat_there t t' to.letter s.0 s.1 h) ∙ at) in
     subst (λ (y : Seated). MayCommit told y.disk draft) same (drafted_may told s.0.disk h.disk to r h.does draft is (may s.0 s.1))
 
 given_same : (old new : Told) (d e : Accessed) (m : Minidisk) → e.volume ≡ d.volume → IsGivenUp old new e m → IsGivenUp old new d m

@@ -22,8 +22,8 @@ use Rattle.cms_search.specs.Tables.{Accesses}
 use Rattle.cms_files.specs.Files.{file_on}
 use Rattle.cms_files.specs.Opening.{HasRecords, IsOpened}
 use Rattle.cms_files.specs.declared.opening.OpenFile.{OpenFile}
-use Rattle.cms_copyfile.specs.Copyfile.{Copying, change_with, copying_of}
-use Rattle.cms_copyfile.specs.FileCopies.{IsCopying}
+use Rattle.cms_copyfile.specs.Copyfile.{Copying, change_with}
+use Rattle.cms_copyfile.specs.FileCopies.{IsCopying, copied_to}
 use Rattle.cms_copyfile.specs.Joins.{whole_plan}
 use Rattle.cms_copyfile.specs.Measures.{measured}
 use Rattle.cms_copyfile.specs.Outputs.{copies_in, extended}
@@ -79,4 +79,4 @@ pub record IsJoined (s : Machine) (line : CopyLine) (c : Copying) (plan : CopyPl
 abbrev pub AreJoined : Spot → CopyLine → FileCopy → CopyPlan → DraftShape → Type 0
 AreJoined spot line c plan shape =
     (units : List Slot) → holds spot units → (x : IsCopying (machine_of spot.state units) line c)
-    → IsJoined (machine_of spot.state units) line (copying_of (machine_of spot.state units) line c.found x.file) plan shape
+    → IsJoined (machine_of spot.state units) line (copied_to (machine_of spot.state units) line c x) plan shape

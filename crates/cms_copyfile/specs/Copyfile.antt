@@ -16,7 +16,7 @@ use Rattle.cms_search.specs.Machine.{Course, Letter, Machine, letter_at, minidis
 use Rattle.cms_search.specs.Refusing.{on_line}
 use Rattle.cms_search.specs.Releasing.{vdev_of}
 use Rattle.cms_search.specs.Searches.{Shelves, search, shelves_in}
-use Rattle.cms_search.specs.Stepping.{Stepped, failing, reading}
+use Rattle.cms_search.specs.Stepping.{Stepped, failing, reading, silently}
 use Rattle.cms_search.specs.declared.fault.SearchFault.{SearchFault}
 use Rattle.cms_search.specs.declared.fault.SearchFault.TheVariants.{NotFound}
 use Rattle.cms_search.specs.declared.search.Found.{Found}
@@ -82,10 +82,6 @@ change_with s line c (Some f) =
     Add c.name (copied_records line.style (form_of f) c.input.file.records) (stamp_for line.style c.input.file.stamp (stamp_of s.moment))
 
 -- ---- one file
-
--- nothing is typed while records are read
-abbrev pub silently : {R : Type 0} → List (List ℕ) → Act R → Act R
-silently records next = next
 
 -- its records are read, and the copy is put
 abbrev pub copy_records : Machine → CopyLine → Copying → Act Stepped

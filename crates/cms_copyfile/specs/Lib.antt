@@ -11,6 +11,6 @@ pub mod Finding
 pub mod Writing
 pub mod Joins
 pub mod Joining
-pub mod Altered
 pub mod OneCopy
 pub mod Appending
+pub mod Ending

@@ -5,8 +5,8 @@ use Rattle.cms_names.specs.declared.name.Format.{Format}
 use Rattle.cms_fields.specs.Steps.{◌>>=◌, ◌>>◌}
 use Rattle.cms_fields.specs.Limits.{longest_record}
 use Rattle.cms_line.specs.declared.token.Token.{Token}
-use Rattle.cms_operands.specs.Choices.{chosen_of, form, last_among}
-use Rattle.cms_operands.specs.Operands.{ended, given, needed, operands_of, output_mode, reading_mode}
+use Rattle.cms_operands.specs.Choices.{chosen_of, flag, form, last_among}
+use Rattle.cms_operands.specs.Operands.{ended, given, largest, needed, operands_of, output_mode, reading_mode}
 use Rattle.cms_operands.specs.declared.choosing.ChosenOption.{ChosenOption}
 use Rattle.cms_operands.specs.declared.choosing.OptionForm.{OptionForm}
 use Rattle.cms_operands.specs.declared.choosing.Parameter.TheVariants as takes
@@ -50,13 +50,6 @@ copy_operands operands = do
   Ok (record { names = names; mode = mode; output = output })
 
 -- ---- the options
-
--- the largest number that a word writes
-abbrev pub largest : ℕ
-largest = 999999999
-
-abbrev pub flag : List ℕ → ℕ → OptionForm
-flag word least = form word least takes.Nothing
 
 abbrev pub options : List OptionForm
 options =

@@ -1,5 +1,5 @@
 -- One file that is copied, as its records were measured.
-use Rattle.std.specs.Prelude.{◌≡◌, ◌≤◌, ℕ, List, All, None}
+use Rattle.std.specs.Prelude.{◌≡◌, ℕ, List, All, None}
 use Rattle.cms_draft.specs.Drafting.{HaveShape}
 use Rattle.cms_draft.specs.declared.shape.DraftShape.{DraftShape}
 use Rattle.cms_disk.specs.Drafts as drafts
@@ -8,9 +8,8 @@ use Rattle.cms_model.specs.Changes.{Put}
 use Rattle.cms_model.specs.Records.{Fits, length_of}
 use Rattle.cms_search.specs.Calls.{Spot, holds, machine_of}
 use Rattle.cms_search.specs.Machine.{Machine}
-use Rattle.cms_world.specs.Seen.{Seen}
-use Rattle.cms_copyfile.specs.Copyfile.{Copying, change_with, copying_of}
-use Rattle.cms_copyfile.specs.FileCopies.{IsCopying, plan_for}
+use Rattle.cms_copyfile.specs.Copyfile.{Copying, change_with}
+use Rattle.cms_copyfile.specs.FileCopies.{IsCopying, copied_to, plan_for}
 use Rattle.cms_copyfile.specs.Measures.{measured}
 use Rattle.cms_copyfile.specs.Outputs.{copies_in}
 use Rattle.cms_copyfile.specs.declared.copy.FileCopy.{FileCopy}
@@ -40,10 +39,4 @@ pub record IsShaped (s : Machine) (line : CopyLine) (c : Copying) (plan : CopyPl
 abbrev pub AreShaped : Spot → CopyLine → FileCopy → CopyPlan → DraftShape → Type 0
 AreShaped spot line c plan shape =
     (units : List Slot) → holds spot units → (x : IsCopying (machine_of spot.state units) line c)
-    → IsShaped (machine_of spot.state units) line (copying_of (machine_of spot.state units) line c.found x.file) plan shape
-
--- nothing was done but reads
-pub record HasRead (before now : Seen) : Type 0 where
-  pub told : now.told ≡ before.told
-  pub faults : before.faults ≤ now.faults
-  pub edges : now.edges ≡ before.edges
+    → IsShaped (machine_of spot.state units) line (copied_to (machine_of spot.state units) line c x) plan shape

@@ -1,7 +1,7 @@
 -- What becomes of a record that is copied: it is folded, then fill bytes at its end are dropped, then it is cut or filled.
-use Rattle.std.specs.Prelude.{ℕ, ◌-◌, ◌==◌, max, Bool, if◌then◌else◌, List, map, take, length, Option, None, Some}
-use Rattle.std.specs.List.{suffix_len}
+use Rattle.std.specs.Prelude.{ℕ, max, Bool, if◌then◌else◌, List, map, take, length, Option, None, Some}
 use Rattle.cms_ebcdic.specs.CodePage.{lower_of, upper_of}
+use Rattle.cms_text.specs.Texts.{without_trailing}
 use Rattle.cms_records.specs.Views.{fitted}
 use Rattle.cms_copyfile.specs.declared.record.Fit.{Fit}
 use Rattle.cms_copyfile.specs.declared.record.Fit.TheVariants.{AtMost, Exactly, Whole}
@@ -18,11 +18,7 @@ folded_byte (Some Lower) byte = lower_of byte
 abbrev pub folded : Option Fold → List ℕ → List ℕ
 folded fold text = map (folded_byte fold) text
 
--- the text without the bytes at its end that are this one
-abbrev pub without_trailing : ℕ → List ℕ → List ℕ
-without_trailing last text = take (length text - suffix_len (λ byte. byte == last) text) text
-
--- the same, but that the first byte stays
+-- the text without the bytes at its end that are this one, but that the first byte stays
 abbrev pub truncated : ℕ → List ℕ → List ℕ
 truncated last text = take (max 1 (length (without_trailing last text))) text
 

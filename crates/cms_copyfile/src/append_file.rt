@@ -6,6 +6,7 @@ ghost use Rattle.cms_line.specs.declared.token.Token as tokens;
 ghost use Rattle.cms_search.specs.Calls.{Acts, IsUsable, Usable, machine_of, spot};
 ghost use Rattle.cms_search.specs.Searches.{item_at};
 ghost use Rattle.cms_search.specs.Tables.{letters_of, writing};
+ghost use Rattle.cms_search.specs.Stepping.{HasRead};
 ghost use Rattle.cms_disk.specs.declared.fault.DiskFault.TheVariants.{Device};
 ghost use Rattle.cms_files.specs.Opening.{IsOpened};
 ghost use Rattle.cms_files.specs.declared.opening.OpenFile as opened;
@@ -13,23 +14,23 @@ ghost use Rattle.cms_files.specs.Updating.{updated_of};
 ghost use Rattle.cms_copyfile.specs.Copyfile as spec;
 ghost use Rattle.cms_copyfile.specs.FileCopies.{IsFileCopy, form_in, plan_for};
 ghost use Rattle.cms_copyfile.specs.Appending.{AreJoined, IsOwnFault, IsOwnMeasured};
-ghost use Rattle.cms_copyfile.specs.OneCopy.{AreMeasured, HasRead};
+ghost use Rattle.cms_copyfile.specs.OneCopy.{AreMeasured};
 ghost use Rattle.cms_copyfile.specs.Outputs.{extended};
 ghost use Rattle.cms_copyfile.specs.Records.{longest_fit};
 ghost use Rattle.cms_copyfile.specs.declared.line.CopyLine as lines;
 ghost use Rattle.cms_world.specs.Seen.{OnlyReads, Seen, seen};
 
 use crate::copy::{FileCopy, form_in};
-use crate::ending::end_output;
+use crate::ending::{end_output, end_written};
 use crate::joining::{whole_plan, write_joined};
 use crate::line::CopyLine;
 use crate::measure::Measure;
 use crate::measuring::measure_copies;
 use crate::opening::{open_input, open_short};
 use crate::output::{CopyPlan, stamp_for};
-use crate::refusing::{stop_altered, stop_unread};
+use crate::refusing::stop_unread;
 use crate::shape::{can_draft, shape_of};
-use crate::writing::{CopyTarget, Written};
+use crate::writing::CopyTarget;
 use cms_disk::{DiskFault, FileInfo};
 use cms_edf::DraftShape;
 use cms_fields::Stamp;
@@ -99,7 +100,7 @@ fn put_joined<W: World>(
         shape: *shape,
         stamp: Stamp::of(&state.moment),
     };
-    match write_joined(
+    let written = write_joined(
         alloc,
         world,
         &mut state.table,
@@ -108,11 +109,8 @@ fn put_joined<W: World>(
         &mut input.cursor,
         plan,
         buffer,
-    ) {
-        Written::Came(done) => end_output(alloc, world, state, file, vdev, done),
-        Written::Unread => stop_unread(alloc, world, state, input.vdev),
-        Written::Altered => stop_altered(alloc, world, state, input.vdev),
-    }
+    );
+    end_written(alloc, world, state, file, vdev, input.vdev, written)
 }
 
 // The copies of a file were measured; the file that is extended is measured too, and the copies are added to it.
@@ -159,7 +157,7 @@ pub(crate) fn append_measured<W: World>(
         }
         Err(fault) => match fault {
             // never in a world that tells its journal
-            DiskFault::Altered => stop_altered(alloc, world, state, vdev),
+            DiskFault::Altered => stop_unread(alloc, world, state, vdev, fault),
             _ => end_output(alloc, world, state, file, vdev, Err(fault)),
         },
     }

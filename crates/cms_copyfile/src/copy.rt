@@ -4,13 +4,14 @@ ghost use Rattle.cms_search.specs.Machine.{Machine};
 ghost use Rattle.cms_search.specs.Shows.{Shows};
 ghost use Rattle.cms_search.specs.declared.fault.SearchFault.TheVariants.{NotFound};
 ghost use Rattle.cms_copyfile.specs.Copyfile as spec;
-ghost use Rattle.cms_copyfile.specs.FileCopies.{IsFileCopy, copy_number, form_in, form_into, told_on};
+ghost use Rattle.cms_copyfile.specs.FileCopies.{IsFileCopy, copy_number, form_in, form_into};
 ghost use Rattle.cms_copyfile.specs.Outputs.{extended};
 
 use crate::line::{CopyLine, Existing};
 use crate::output::{FileForm, form_for, number_for};
 use crate::telling::FileShown;
 use cms_disk::FileInfo;
+use cms_files::{info_found, info_named};
 use cms_names::{Name, equal_signs};
 use cms_operands::WriteMode;
 use cms_search::{Found, Table};
@@ -40,15 +41,6 @@ fn letter_for(mode: Option<WriteMode>, letter: u8) -> u8
     }
 }
 
-// What is told of the file of a name on the disk of a letter.
-pub(crate) fn info_on(table: &Table, letter: u8, name: &Name) -> Option<FileInfo>
-    ensures { result ≡ told_on table.now letter name.now }
-{
-    let disk = table.disk(letter)?;
-    let place = disk.find(name)?;
-    Some(disk.info(place))
-}
-
 // The format of the records that a file has.
 pub(crate) fn form_in(info: &FileInfo) -> FileForm
     ensures { result ≡ form_in info.now }
@@ -66,11 +58,7 @@ impl FileCopy {
         ensures found { IfSome result (λ c. c.found ≡ found.now) }
         ensures none { result ≡ None → (s : Machine) → Shows table.now s → spec.file_at s found.now ≡ Err NotFound }
     {
-        let disk = table.disk(found.letter)?;
-        if found.place >= disk.count() {
-            return None;
-        }
-        let input = disk.info(found.place);
+        let input = info_found(table, *found)?;
         let letter = letter_for(line.files.output.mode, found.letter);
         let name = equal_signs(&input.name, &line.files.output.name);
         Some(FileCopy {
@@ -78,7 +66,7 @@ impl FileCopy {
             input,
             letter,
             name,
-            there: info_on(table, letter, &name),
+            there: info_named(table, letter, &name),
         })
     }
 

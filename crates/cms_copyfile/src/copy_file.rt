@@ -6,13 +6,14 @@ ghost use Rattle.cms_line.specs.declared.token.Token as tokens;
 ghost use Rattle.cms_search.specs.Calls.{Acts, IsUsable, machine_of, spot};
 ghost use Rattle.cms_search.specs.Searches.{item_at};
 ghost use Rattle.cms_search.specs.Tables.{letters_of, writing};
+ghost use Rattle.cms_search.specs.Stepping.{HasRead};
 ghost use Rattle.cms_files.specs.Opening.{IsOpened};
 ghost use Rattle.cms_files.specs.declared.opening.OpenFile as opened;
 ghost use Rattle.cms_files.specs.Updating.{updated_of};
 ghost use Rattle.cms_copyfile.specs.Copyfile as spec;
 ghost use Rattle.cms_copyfile.specs.FileCopies.{IsFileCopy, form_into, plan_for};
 ghost use Rattle.cms_copyfile.specs.Lines.{IsCopyStyle};
-ghost use Rattle.cms_copyfile.specs.OneCopy.{AreMeasured, AreShaped, HasRead};
+ghost use Rattle.cms_copyfile.specs.OneCopy.{AreMeasured, AreShaped};
 ghost use Rattle.cms_copyfile.specs.Outputs.{extended};
 ghost use Rattle.cms_copyfile.specs.Records.{longest_fit};
 ghost use Rattle.cms_copyfile.specs.declared.line.CopyLine as lines;
@@ -20,16 +21,15 @@ ghost use Rattle.cms_world.specs.Seen.{Seen, seen};
 
 use crate::append_file::append_measured;
 use crate::copy::FileCopy;
-use crate::ending::end_output;
+use crate::ending::end_written;
 use crate::line::CopyLine;
 use crate::measure::Measure;
 use crate::measuring::measure_copies;
 use crate::opening::open_input;
 use crate::output::{CopyPlan, plan_of, stamp_for};
-use crate::refusing::{stop_altered, stop_unread};
+use crate::refusing::stop_unread;
 use crate::shape::{can_draft, shape_of};
-use crate::writing::{CopyTarget, Written, write_copies};
-use cms_disk::DiskFault;
+use crate::writing::{CopyTarget, write_copies};
 use cms_edf::DraftShape;
 use cms_fields::{LONGEST_RECORD, Stamp};
 use cms_files::Updated;
@@ -72,7 +72,7 @@ fn put_copied<W: World>(
         shape: *shape,
         stamp: Stamp::of(&state.moment),
     };
-    match write_copies(
+    let written = write_copies(
         alloc,
         world,
         &mut state.table,
@@ -80,11 +80,8 @@ fn put_copied<W: World>(
         &mut input.cursor,
         plan,
         buffer,
-    ) {
-        Written::Came(done) => end_output(alloc, world, state, file, vdev, done),
-        Written::Unread => stop_unread(alloc, world, state, input.vdev),
-        Written::Altered => stop_altered(alloc, world, state, input.vdev),
-    }
+    );
+    end_written(alloc, world, state, file, vdev, input.vdev, written)
 }
 
 // The copies of a file were measured, and are put as a file of their own.
@@ -190,10 +187,6 @@ pub(crate) fn copy_records<W: World>(
             &measure,
             &mut buffer,
         ),
-        Err(fault) => match fault {
-            // never in a world that tells its journal
-            DiskFault::Altered => stop_altered(alloc, world, state, input.vdev),
-            _ => stop_unread(alloc, world, state, input.vdev),
-        },
+        Err(fault) => stop_unread(alloc, world, state, input.vdev, fault),
     }
 }

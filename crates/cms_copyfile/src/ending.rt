@@ -1,5 +1,6 @@
 // What follows the update of the output's disk.
 ghost use Rattle.std.specs.Prelude.{◌≡◌, ◌∷◌, List, [], IsSome};
+ghost use Rattle.cms_line.specs.declared.token.Token as tokens;
 ghost use Rattle.cms_machine.specs.Slots.{Slot};
 ghost use Rattle.cms_model.specs.Changes as model;
 ghost use Rattle.cms_search.specs.Calls.{Acts, Spot, machine_of, spot};
@@ -7,9 +8,16 @@ ghost use Rattle.cms_search.specs.Putting as putting;
 ghost use Rattle.cms_search.specs.Searches.{item_at};
 ghost use Rattle.cms_search.specs.Seats.{HasDevice};
 ghost use Rattle.cms_search.specs.Tables.{Seated};
+ghost use Rattle.cms_search.specs.Stepping.{HasRead};
 ghost use Rattle.cms_files.specs.Updating.{names_of, updated_of, updating};
+ghost use Rattle.cms_copyfile.specs.Copyfile as spec;
+ghost use Rattle.cms_copyfile.specs.Ending.{IsWritten};
+ghost use Rattle.cms_copyfile.specs.declared.line.CopyLine as lines;
+ghost use Rattle.cms_world.specs.Seen.{Seen};
 
 use crate::copy::FileCopy;
+use crate::refusing::stop_unread;
+use crate::writing::Written;
 use cms_disk::DiskFault;
 use cms_files::{Updated, end_writing};
 use cms_search::{End, State, end_update};
@@ -36,4 +44,30 @@ pub(crate) fn end_output<W: World>(
 {
     let changed = end_update(alloc, world, state, file.letter, vdev, done)?;
     end_writing(alloc, world, state, file.letter, vdev, &file.name, changed)
+}
+
+// Ends the update of the output's disk, where the writing of the copies came to this; the file that is copied is on the device `input`.
+pub(crate) fn end_written<W: World>(
+    alloc: Global,
+    world: &mut W,
+    state: &mut State,
+    file: &FileCopy,
+    vdev: u16,
+    input: u16,
+    written: Written,
+) -> Result<Updated, End>
+    requires accessed { IsSome (item_at state.old.table.seats file.now.letter) }
+    requires device { HasDevice state.old.table file.now.letter vdev }
+    ensures acts { (before : Seen) (mid : Spot) (words : List tokens.Token) (line : lines.CopyLine) → HasRead before mid.world
+        → IsWritten mid (spot W.World world.old state.old) line file.now vdev input written
+        → Acts (record { world = before; state = mid.state }) (spot W.World world.new state.new)
+        (λ units. spec.with_copying words line (machine_of mid.state units) file.now.found
+        (spec.copy_records (machine_of mid.state units) line)) result (updated_of state.new) }
+    ensures kept { state.new ≡ record state.old { table = state.new.table; places = state.new.places } }
+{
+    match written {
+        Written::Came(done) => end_output(alloc, world, state, file, vdev, done),
+        Written::Unread => stop_unread(alloc, world, state, input, DiskFault::Device),
+        Written::Altered => stop_unread(alloc, world, state, input, DiskFault::Altered),
+    }
 }

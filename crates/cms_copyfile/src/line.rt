@@ -9,14 +9,12 @@ use cms_files::{NameChoice, is_last, name_choice, output_name};
 use cms_line::{Token, Tokens};
 use cms_names::{Format, OutId};
 use cms_operands::{
-    ChosenOption, CommandFault, OptionForm, Parameter, ReadMode, Refusal, Setting, WriteMode,
-    chosen_options, ended, given, last_among, needed, operands, output_mode, reading_mode,
+    ChosenOption, CommandFault, LARGEST, OptionForm, Parameter, ReadMode, Refusal, Setting,
+    WriteMode, chosen_options, ended, given, last_among, needed, operands, output_mode,
+    reading_mode,
 };
 use cms_text::BLANK;
 use std::alloc::Global;
-
-/// The largest number that a word writes.
-const LARGEST: u32 = 999_999_999;
 
 /// What becomes of a file that has the output's name already.
 #[derive(Clone, Copy, Debug, PartialEq, Eq)]
@@ -119,33 +117,26 @@ fn copy_operands(operands: &[Token]) -> Result<CopyFiles, Refusal>
     })
 }
 
-// An option without a parameter.
-fn flag(name: &[u8; 8], least: u8) -> OptionForm
-    ensures { result ≡ spec.flag name.now least }
-{
-    OptionForm::new(name, least, Parameter::Nothing)
-}
-
 fn options() -> [OptionForm; 16]
     ensures { result ≡ spec.options }
 {
     [
-        flag(b"NEWFILE ", 4),
-        flag(b"REPLACE ", 3),
-        flag(b"APPEND  ", 2),
+        OptionForm::flag(b"NEWFILE ", 4),
+        OptionForm::flag(b"REPLACE ", 3),
+        OptionForm::flag(b"APPEND  ", 2),
         OptionForm::new(b"FROM    ", 2, Parameter::Number(1, LARGEST)),
         OptionForm::new(b"FOR     ", 3, Parameter::Number(1, LARGEST)),
-        flag(b"UPCASE  ", 2),
-        flag(b"LOWCASE ", 2),
-        flag(b"TRUNC   ", 2),
-        flag(b"NOTRUNC ", 4),
+        OptionForm::flag(b"UPCASE  ", 2),
+        OptionForm::flag(b"LOWCASE ", 2),
+        OptionForm::flag(b"TRUNC   ", 2),
+        OptionForm::flag(b"NOTRUNC ", 4),
         OptionForm::new(b"FILL    ", 2, Parameter::Fill),
         OptionForm::new(b"RECFM   ", 3, Parameter::Format),
         OptionForm::new(b"LRECL   ", 2, Parameter::Number(1, LONGEST_RECORD)),
-        flag(b"OLDDATE ", 4),
-        flag(b"NEWDATE ", 4),
-        flag(b"TYPE    ", 2),
-        flag(b"NOTYPE  ", 3),
+        OptionForm::flag(b"OLDDATE ", 4),
+        OptionForm::flag(b"NEWDATE ", 4),
+        OptionForm::flag(b"TYPE    ", 2),
+        OptionForm::flag(b"NOTYPE  ", 3),
     ]
 }
 

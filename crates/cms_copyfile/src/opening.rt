@@ -8,10 +8,10 @@ ghost use Rattle.cms_search.specs.declared.state.End.TheVariants.{Memory};
 ghost use Rattle.cms_files.specs.Files.{file_on};
 ghost use Rattle.cms_files.specs.Opening.{HasRecords, IsOpened};
 
-use crate::copy::{FileCopy, info_on};
+use crate::copy::FileCopy;
 use cms_disk::FileInfo;
 use cms_fields::LONGEST_RECORD;
-use cms_files::{OpenFile, open_file};
+use cms_files::{OpenFile, info_named, open_file};
 use cms_names::Name;
 use cms_search::{End, Table};
 use std::alloc::Global;
@@ -42,7 +42,7 @@ pub(crate) fn open_short(
     ensures fault { IfErr result (λ e. e ≡ Memory) }
 {
     // the file is there and its records are short, so this is never
-    if !is_short(info_on(table, letter, name)) {
+    if !is_short(info_named(table, letter, name)) {
         return Err(End::Memory);
     }
     match open_file(alloc, table, letter, name) {

@@ -3,6 +3,7 @@ ghost use Rattle.std.specs.Prelude.{◌≡◌, ◌≤◌, length, map, take, vec
 ghost use Rattle.cms_copyfile.specs.Records as spec;
 
 use cms_ebcdic::{fold_lower, fold_upper};
+use cms_text::without_trailing;
 
 /// Which letters of a record become others.
 #[derive(Clone, Copy, Debug, PartialEq, Eq)]
@@ -41,20 +42,6 @@ fn folded_byte(fold: Option<Fold>, byte: u8) -> u8
         Some(Fold::Upper) => fold_upper(byte),
         Some(Fold::Lower) => fold_lower(byte),
     }
-}
-
-// The text without the bytes at its end that are this one.
-fn without_trailing(last: u8, text: &[u8]) -> &[u8]
-    ensures { result.now ≡ spec.without_trailing last text.now }
-{
-    let mut kept = text;
-    while let [front @ .., byte] = kept {
-        if *byte != last {
-            break;
-        }
-        kept = front;
-    }
-    kept
 }
 
 // Puts a text into a buffer that has room for it, with its letters folded.

@@ -5,16 +5,16 @@ ghost use Rattle.cms_machine.specs.Acts.{saying, typed_line};
 ghost use Rattle.cms_line.specs.Messages.{message_text};
 ghost use Rattle.cms_line.specs.declared.message.Message.TheVariants.{M121};
 ghost use Rattle.cms_search.specs.Calls.{Acts, Does, machine_of, said, spot};
-ghost use Rattle.cms_search.specs.Refusing.{device_fault};
+ghost use Rattle.cms_search.specs.Refusing.{unread};
 ghost use Rattle.cms_search.specs.declared.state.Course.TheVariants.{Went};
 ghost use Rattle.cms_world.specs.Seen.{seen};
 ghost use Rattle.cms_files.specs.Updating.{stopping, updated_of};
-ghost use Rattle.cms_copyfile.specs.Altered.{altered};
 ghost use Rattle.cms_copyfile.specs.Copyfile as spec;
 
-use cms_files::Updated;
+use cms_disk::DiskFault;
+use cms_files::{Updated, stopped};
 use cms_line::Message;
-use cms_search::{Course, End, State, refuse, refuse_altered, refuse_device};
+use cms_search::{Course, End, State, refuse, refuse_unread};
 use cms_text::decimal;
 use cms_world::World;
 use std::alloc::Global;
@@ -32,32 +32,19 @@ fn refuse_too_few<W: World>(alloc: Global, world: &mut W, count: u32) -> Result<
     refuse(alloc, world, Message::M121(count), NO_RECORD)
 }
 
-/// The device of a file that is copied failed.
+/// A file isn't copied, since its device failed, or since its records aren't those that were measured, which is never in a world that tells
+/// its journal.
 pub fn stop_unread<W: World>(
     alloc: Global,
     world: &mut W,
     state: &State,
     vdev: u16,
+    fault: DiskFault,
 ) -> Result<Updated, End>
     ensures { Acts (spot W.World world.old state.now) (spot W.World world.new state.now)
-        (λ units. stopping (device_fault (machine_of state.now units) vdev)) result (updated_of state.now) }
+        (λ units. stopping (unread (machine_of state.now units) vdev fault)) result (updated_of state.now) }
 {
-    let course = refuse_device(alloc, world, vdev)?;
-    Ok(Updated::Stopped(course))
-}
-
-/// The records of a file on a device aren't those that were measured, which is never in a world that tells its journal.
-pub fn stop_altered<W: World>(
-    alloc: Global,
-    world: &mut W,
-    state: &State,
-    vdev: u16,
-) -> Result<Updated, End>
-    ensures { Acts (spot W.World world.old state.now) (spot W.World world.new state.now)
-        (λ units. stopping (altered (machine_of state.now units) vdev)) result (updated_of state.now) }
-{
-    let course = refuse_altered(alloc, world, vdev)?;
-    Ok(Updated::Stopped(course))
+    stopped(refuse_unread(alloc, world, vdev, fault))
 }
 
 /// A file isn't copied, since it has only so many records.
@@ -70,6 +57,5 @@ pub fn stop_too_few<W: World>(
     ensures { Acts (spot W.World world.old state.now) (spot W.World world.new state.now)
         (λ units. stopping (spec.too_few (machine_of state.now units) count)) result (updated_of state.now) }
 {
-    let course = refuse_too_few(alloc, world, count)?;
-    Ok(Updated::Stopped(course))
+    stopped(refuse_too_few(alloc, world, count))
 }

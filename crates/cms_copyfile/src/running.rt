@@ -18,7 +18,7 @@ use crate::refusing::stop_too_few;
 use crate::telling::{copy_text, mode_shown};
 use cms_disk::FileInfo;
 use cms_files::{
-    FileUpdate, Updated, refuse_search, stop_exists, stop_search, tell_updated, update_each,
+    FileUpdate, Updated, refuse_unfound, stop_exists, stop_search, tell_updated, update_each,
 };
 use cms_line::Tokens;
 use cms_search::{Course, End, Found, SearchFault, State, refuse_command};
@@ -173,10 +173,7 @@ fn copy_files<W: World>(
             let copier = Copier { words, line };
             update_each(alloc, world, state, &copier, found.as_slice())
         }
-        Err(fault) => match fault {
-            SearchFault::Memory => Err(End::Memory),
-            _ => refuse_search(alloc, world, words.as_slice(), 1, fault),
-        },
+        Err(fault) => refuse_unfound(alloc, world, words, 1, fault),
     }
 }
 

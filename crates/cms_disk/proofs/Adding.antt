@@ -2,6 +2,7 @@
 use Rattle.std.proofs.Common.{◌≡◌, inl, inr, ℕ, ◌+◌, ◌≤◌, Bool, true, false, List, [], ◌∷◌, ◌++◌, length, Option, Some, None, Result, Ok, Err, refl, sym, ◌∙◌, ap, subst, arith, length-append}
 use Rattle.std.specs.Prelude.{All, if◌then◌else◌, max, nat_lt, slice_get, unwrap_or, ⊤}
 use Rattle.std.proofs.lemmas.List.Elements.{All-append}
+use Rattle.std.proofs.lemmas.Option.{same_Some}
 use Rattle.cms_journal.specs.Told.{Told, syncs}
 use Rattle.cms_names.specs.declared.name.Name.{Name}
 use Rattle.cms_names.specs.declared.name.Format.{Format}
@@ -33,9 +34,6 @@ use Rattle.cms_disk.specs.declared.fault.DiskFault.TheVariants as failed
 
 -- ---- the files
 
-some_same : (f g : File) → Some f ≡ Some g → f ≡ g
-some_same f g e = cc e
-
 adds_so : (name : Name) (f new : File) (edit : File → File) (files : List File) → file_named name files ≡ Some f → new.name ≡ name → edit f ≡ new
     → (put_file new files ≡ change_file name edit files) × (file_named name (change_file name edit files) ≡ Some new)
 unfolding file_named put_file change_file
@@ -53,7 +51,7 @@ adds_so name f new edit (x ∷ xs) is named edits = subst
         → ((if b then new ∷ xs else x ∷ put_file new xs) ≡ (if b then edit x ∷ xs else x ∷ change_file name edit xs))
         × (file_named name (if b then edit x ∷ xs else x ∷ change_file name edit xs) ≡ Some new)
     go true at is deeper =
-        let same : edit x ≡ new = ap edit (some_same x f is) ∙ edits in (
+        let same : edit x ≡ new = ap edit (same_Some x f is) ∙ edits in (
           ap (λ (g : File). g ∷ xs) (sym same),
           subst (λ (g : File). (if same_name name g.name then Some g else file_named name xs) ≡ Some new) (sym same)
               (ap (λ (b : Bool). if b then Some new else file_named name xs) own),
@@ -277,23 +275,17 @@ named_so name f [] is = absurd (cc)
 named_so name f (x ∷ xs) is = go (same_name name x.name) refl is (λ there. named_so name f xs there)
   where
     go : (b : Bool) → same_name name x.name ≡ b → (if b then Some x else file_named name xs) ≡ Some f → (file_named name xs ≡ Some f → f.name ≡ name) → f.name ≡ name
-    go true at is deeper = ap (λ (g : File). g.name) (sym (some_same x f is)) ∙ sym (name_from name x.name at)
+    go true at is deeper = ap (λ (g : File). g.name) (sym (same_Some x f is)) ∙ sym (name_from name x.name at)
     go false at is deeper = deeper is
 
 -- what was read of a file fits behind it
 pub like_fits : (v : HeldVolume) (name : Name) (d : FileData) → IsLike v name d → FitsFile v name d
 like_fits v name d x k info place at =
-    let here : x.place ≡ k = same_place x.place k (sym x.place_is ∙ place) in
-    let same : x.info ≡ info = same_info x.info info (sym x.info_is ∙ (ap (slice_get (infos_in v)) here ∙ at)) in (
+    let here : x.place ≡ k = same_Some x.place k (sym x.place_is ∙ place) in
+    let same : x.info ≡ info = same_Some x.info info (sym x.info_is ∙ (ap (slice_get (infos_in v)) here ∙ at)) in (
       x.format ∙ ap (λ (i : FileInfo). i.format) same,
       λ fixed. x.fixed (ap (λ (i : FileInfo). i.format) same ∙ fixed) ∙ ap (λ (i : FileInfo). i.length) same,
     )
-  where
-    same_place : (a b : ℕ) → Some a ≡ Some b → a ≡ b
-    same_place a b e = cc e
-
-    same_info : (a b : FileInfo) → Some a ≡ Some b → a ≡ b
-    same_info a b e = cc e
 
 -- ---- why they aren't added
 

@@ -2,7 +2,6 @@
 use Rattle.std.proofs.Common.{◌≡◌, inl, inr, ⊎_elim, ℕ, ◌-◌, Bool, false, List, [], ◌∷◌, length, Option, Some, None, Result, Ok, Err, refl, sym, ◌∙◌, ap, subst, arith}
 use Rattle.std.specs.Prelude.{if◌then◌else◌, ◌↔◌, ⊤, IfErr, OnOk, IsSome, IsTrue, not}
 use Rattle.std.proofs.lemmas.Bool.{false≢true}
-use Rattle.std.specs.Option.{ForSome}
 use Rattle.cms_journal.specs.declared.event.Event.{Event}
 use Rattle.cms_journal.specs.declared.event.Event.TheVariants.{Wrote, Synced}
 use Rattle.cms_journal.specs.Journal.{Journal}
@@ -12,7 +11,7 @@ use Rattle.cms_fields.specs.declared.time.Stamp.{Stamp}
 use Rattle.cms_model.specs.Lists.{cut}
 use Rattle.cms_model.specs.Minidisks.{File, Minidisk}
 use Rattle.cms_model.specs.Changes.{Change, Changed, Full, Drop, Rename, answer_of, changed, file_named}
-use Rattle.cms_model.specs.Settled.{Write, update, writes}
+use Rattle.cms_model.specs.Settled.{update, writes}
 use Rattle.cms_model.specs.LawsUpdates.{IsFront, after, now, relabel, to_label, with_label}
 use Rattle.cms_model.proofs.Fronts.{none_front}
 use Rattle.cms_machine.specs.Slots.{Side}
@@ -51,7 +50,7 @@ use Rattle.cms_disk.specs.Disks.{place_of as place_named}
 use Rattle.cms_disk.proofs.Courses.{Course, held_minidisk, in_doubt, made, stamped_writes, unmade}
 use Rattle.cms_disk.proofs.Finding.{none_found}
 use Rattle.cms_disk.proofs.Standing.{named_at}
-use Rattle.cms_disk.proofs.StepPieces.{label_aside, only_update, told_after, AreWhole, update_whole}
+use Rattle.cms_disk.proofs.StepPieces.{label_aside, one_sync, only_update, told_after, AreWhole, update_whole}
 
 -- ---- the events of a step: those of its unit alone, with its stamp
 
@@ -112,9 +111,6 @@ course_of j old d m change stamp s x =
       sized = whole_step d.volume change stamp s x.plan;
     }
 
-there : (k : Journal) (new : Told) (P : Journal → Type 0) → new ≡ Some k → ForSome new P → P k
-there k new P is has = has k is
-
 -- the step's syncs
 edit_syncs : (v : HeldVolume) (edit : Edit) (change : Change) (m : Minidisk) (o : Outcome) → IsEditOf v edit change → put_syncs change (Changed m) o ≡ update_syncs o
 edit_syncs v edit change m o (drops place f is) = refl
@@ -142,8 +138,8 @@ altered j old new d e m change stamp s x told leads =
     let events = step_events d.volume s in
     let same = leads_same d.volume e.volume change stamp s x.plan leads in
     made j old new d e m change stamp (safe_events d.volume s) events x.told_is (course_of j old d m change stamp s x) told (good_syncs d.volume change stamp (changed m change) s x.plan) same.0 same.1
-    (there (after j events) new (λ k. IsHeldMinidisk k e.volume (changed m change)) (told_after j old new events x.told_is told)
-    (carried j new d.volume e.volume m change stamp s x.kept (held_of j old d m change stamp s x) x.plan (told ∙ ap (λ (t : Told). plus t events) x.told_is) leads))
+    (carried j new d.volume e.volume m change stamp s x.kept (held_of j old d m change stamp s x) x.plan (told ∙ ap (λ (t : Told). plus t events) x.told_is) leads (after j events)
+    (told_after j old new events x.told_is told))
 
 -- it was cut off before its first sync
 pub kept : (j : Journal) (old new : Told) (d e : Accessed) (m : Minidisk) (change : Change) (stamp : Stamp) (s : Step) → Setting j old d m change stamp s
@@ -157,11 +153,6 @@ kept j old new d e m change stamp (step.Edit f s) x cut same =
     let none = (syncs_counted u ws s.label_bytes 0).update_old p cut.is in
     unmade j old new d e m change stamp (to_label u ws) (update u ws s.label_bytes) p x.told_is (course_of j old d m change stamp (step.Edit f s) x) cut.told (writes_to u ws p cut.is)
     (none ∙ sym (edit_syncs d.volume edit change (changed m change) OldFault x.plan.is)) (refl, ap not (edit_is_none d.volume edit change x.plan.is)) same
-
-one_sync : (u : ℕ) (ws : List Write) → syncs (to_label u ws) ≡ 1
-unfolding writes
-one_sync u [] = refl
-one_sync u (w ∷ ws) = one_sync u ws
 
 -- it was cut off then
 doubted_at : (j : Journal) (old new : Told) (d : Accessed) (m : Minidisk) (change : Change) (stamp : Stamp) (s : Step) → Setting j old d m change stamp s → (p : List Event) → new ≡ plus old p

@@ -70,7 +70,8 @@ pub draft_refused : (T : Type 0) (j : Journal) (d : Accessed) (m : Minidisk) (na
     → Keeps d.volume → HaveCounts shape records → IsRefused d.volume name shape why
     → IsAnsweredBy {T = T} (answer_of m (Put (file_with name shape records))) (changed m (Put (file_with name shape records))) (Err (refusal_of why))
 draft_refused T j d m name shape records (unplanned.Limit which) is has kept counts refused = draft_limited j d m name shape records which is has kept counts refused
-draft_refused T j d m name shape records (unplanned.Full needs free) is has kept counts refused = draft_full j d m name shape records needs free is has kept counts refused.0 refused.1 refused.2 refused.3
+draft_refused T j d m name shape records (unplanned.Full needs free) is has kept counts refused =
+    draft_full j d m name shape records needs free is has kept counts refused.0 refused.1 refused.2 refused.3
 draft_refused T j d m name shape records unplanned.Memory is has kept counts refused = tt
 
 pub draft_fault : (d : Accessed) (name : Name) (shape : DraftShape) (why : PlanFault) → IsRefused d.volume name shape why → IsDraftFault d name shape (refusal_of why)

@@ -1,9 +1,8 @@
 -- Records of a draft are put beside a minidisk, and the draft becomes its file.
-use Rattle.std.proofs.Common.{◌≡◌, inl, inr, ⊎_elim, ℕ, zero, suc, ◌+◌, ◌*◌, ◌≤◌, List, [], ◌∷◌, ◌++◌, length, Some, None, Result, Ok, Err, refl, sym, ◌∙◌, ap, subst, arith, append-nil}
-use Rattle.std.specs.Prelude.{All, OnErr, OnOk, ⊤}
+use Rattle.std.proofs.Common.{◌≡◌, inl, inr, ℕ, zero, suc, ◌+◌, ◌*◌, ◌≤◌, List, [], ◌∷◌, ◌++◌, length, Some, None, Result, Ok, Err, refl, sym, ◌∙◌, ap, subst, arith, append-nil}
+use Rattle.std.specs.Prelude.{OnErr, OnOk, ⊤}
 use Rattle.std.specs.Option.{ForSome}
 use Rattle.std.proofs.lemmas.List.{append_assoc, append_cancel_left}
-use Rattle.std.proofs.lemmas.List.Elements.{All-head, All-tail}
 use Rattle.cms_journal.specs.declared.event.Event.{Event}
 use Rattle.cms_journal.specs.Journal.{Journal}
 use Rattle.cms_journal.specs.Told.{Told, plus, syncs}
@@ -37,6 +36,7 @@ use Rattle.cms_edf.specs.declared.doubt.Doubt.{Doubt}
 use Rattle.cms_edf.specs.declared.doubt.Doubt.TheVariants.{Old, Either}
 use Rattle.cms_edf.proofs.DraftPut.{plan_of}
 use Rattle.cms_edf.proofs.Finished.{to_front, with_front, writes_to}
+use Rattle.cms_edf.proofs.Planned.{all_in}
 use Rattle.cms_machine.specs.Slots.{After, Before}
 use Rattle.cms_machine.specs.Steps.{Good, OldFault}
 use Rattle.cms_disk.specs.Changing.{Altered, Alters, IsDevices, fault_of}
@@ -46,14 +46,10 @@ use Rattle.cms_disk.specs.Drafts.{GoesOn, IsGivenUp, WritesAside, file_with}
 use Rattle.cms_disk.proofs.Beside.{aside_behind, doubted_behind, ended_behind, stamped_any}
 use Rattle.cms_disk.proofs.Courses.{Course, covers_old, held_minidisk, in_doubt, made, stamped_writes, unmade}
 use Rattle.cms_disk.proofs.Standing.{is_minidisk}
-use Rattle.cms_held.proofs.WritesLong.{system_blocks}
-use Rattle.cms_disk.proofs.StepPieces.{both_blocks, no_directory, only_update, only_writes, own_blocks, stamped_behind, told_after, update_stamped, update_whole, whole_front}
+use Rattle.cms_held.proofs.WritesLong.{both_blocks, system_blocks}
+use Rattle.cms_disk.proofs.StepPieces.{no_directory, one_sync, only_update, only_writes, own_blocks, stamped_behind, told_after, update_stamped, update_whole, whole_front}
 
 -- ---- writes of blocks of its own
-
-all_in : (P : ℕ → Type 0) (xs : List ℕ) → All P xs → (n : ℕ) → In n xs → P n
-all_in P [] all n there = absurd there
-all_in P (x ∷ xs) all n there = ⊎_elim (λ (same : n ≡ x). subst P (sym same) (All-head P x xs all)) (λ (later : In n xs). all_in P xs (All-tail P x xs all) n later) there
 
 -- none of them begins a directory
 own_stamped : (u size : ℕ) (blocks : List ℕ) (ws : List Write) → AreOwn size blocks ws → ((n : ℕ) → In n blocks → 6 ≤ n) → AreStamped u None (writes u ws)
@@ -145,9 +141,6 @@ starts j old d m draft shape records is at has looked fresh have =
 
 -- ---- a record is put
 
-there : (k : Journal) (new : Told) (P : Journal → Type 0) → new ≡ Some k → ForSome new P → P k
-there k new P is has = has k is
-
 pub goes_on : (start old new : Told) (d : Accessed) (m : Minidisk) (draft draft' : FileDraft) (done more : List (List ℕ)) (text : List ℕ) → GoesOn start old d m draft done (text ∷ more)
     → IsSomeDraft d.volume draft → AddsOwnBlocks old new draft.writer.writer → Drafts draft'.writer (done ++ text ∷ []) more
     → ForSome new (λ k. DraftStands k draft'.writer (done ++ (text ∷ more))) → GoesOn start new d m draft' (done ++ text ∷ []) more
@@ -159,7 +152,7 @@ goes_on start old new d m draft draft' done more text g some own drafts written 
       aside = aside_behind start old new d.volume.unit m g.aside w.aside;
       drafts = drafts;
       written = subst (DraftStands w.stands.at draft'.writer) (sym (append_assoc done (text ∷ []) more))
-          (there w.stands.at new (λ k. DraftStands k draft'.writer (done ++ (text ∷ more))) w.stands.told_is written);
+          (written w.stands.at w.stands.told_is);
     }
 
 pub gives_up : (start old new : Told) (d : Accessed) (m : Minidisk) (draft : FileDraft) (done more : List (List ℕ)) → GoesOn start old d m draft done more → IsSomeDraft d.volume draft
@@ -225,11 +218,6 @@ record Committing (j : Journal) (old : Told) (d : Accessed) (m : Minidisk) (draf
   sound : IsDrafting draft.writer
   drafts : Drafts draft.writer records []
 
-to_label_front : (u : ℕ) (ws : List Write) (label : List ℕ) → syncs (to_label u ws) ≡ 1
-unfolding writes
-to_label_front u [] label = refl
-to_label_front u (w ∷ ws) label = to_label_front u ws label
-
 commits_ok : (j : Journal) (old new : Told) (d e : Accessed) (m : Minidisk) (draft : FileDraft) (name : Name) (shape : DraftShape) (stamp : Stamp) (records : List (List ℕ)) (rest : List Write)
     → Committing j old d m draft name shape stamp records → IsLeft draft records rest → new ≡ plus old (update d.volume.unit (commit_writes d.volume draft rest) draft.systems.label_bytes)
     → PutsFile j d.volume draft rest m (put_in draft records) → ForSome new (λ k. IsHeldMinidisk k e.volume (changed m (Put (put_in draft records)))) → LeadsToFile d.volume draft e.volume
@@ -244,7 +232,7 @@ commits_ok j old new d e m draft name shape stamp records rest x left told puts 
     made j old new d e m (Put file) stamp (to_label u ws) (update u ws label) x.told_is
     (commit_course j d m draft name shape stamp records rest x.looked x.held x.is x.sound x.drafts left puts) told ((syncs_counted u ws label 0).whole (Put file) (changed m (Put file)))
     (ap (λ (w : HeldVolume). w.unit) is) (ap (λ (w : HeldVolume). w.disk) is)
-    (there (after j (update u ws label)) new (λ k. IsHeldMinidisk k e.volume (changed m (Put file))) (told_after j old new (update u ws label) x.told_is told) held)
+    (held (after j (update u ws label)) (told_after j old new (update u ws label) x.told_is told))
 
 commits_err : (j : Journal) (old new : Told) (d e : Accessed) (m : Minidisk) (draft : FileDraft) (name : Name) (shape : DraftShape) (stamp : Stamp) (records : List (List ℕ)) (rest : List Write)
     (why : Doubt) → Committing j old d m draft name shape stamp records → IsLeft draft records rest → CommitEvents old new d.volume draft rest (Err why)
@@ -261,7 +249,7 @@ commits_err j old new d e m draft name shape stamp records rest Either x left (i
     let ws = commit_writes d.volume draft rest in
     let label = draft.systems.label_bytes in
     in_doubt j old new d m (Put (put_in draft records)) stamp (to_label u ws) (update u ws label) (to_label u ws) x.told_is
-    (commit_course j d m draft name shape stamp records rest x.looked x.held x.is x.sound x.drafts left puts) told (to_front u ws label) (λ side. to_label_front u ws label)
+    (commit_course j d m draft name shape stamp records rest x.looked x.held x.is x.sound x.drafts left puts) told (to_front u ws label) (λ side. one_sync u ws)
 commits_err j old new d e m draft name shape stamp records rest Either x left (inr told) puts same =
     let u = d.volume.unit in
     let ws = commit_writes d.volume draft rest in

@@ -1,7 +1,8 @@
 -- The file of a name, and its records.
 use Rattle.std.proofs.Common.{◌≡◌, ℕ, zero, suc, ◌*◌, ◌<◌, ◌≤◌, true, List, [], ◌∷◌, length, map, drop, position, slice_get, slice_index, slice_index_or, Some, None, Result, Ok, Err, refl, sym, ◌∙◌, ap, subst, arith}
 use Rattle.std.specs.Prelude.{IfOk, not, ◌||◌}
-use Rattle.std.proofs.lemmas.Option.{get_or_from_slice_get, slice_get_cases, slice_get-get_or}
+use Rattle.std.proofs.lemmas.List.{drop_all}
+use Rattle.std.proofs.lemmas.Option.{get_or_from_slice_get, same_Some, slice_get_cases, slice_get-get_or}
 use Rattle.cms_journal.proofs.Sizes.{block_bounds}
 use Rattle.cms_names.specs.Names.{is_between}
 use Rattle.cms_names.specs.declared.name.Name.{Name}
@@ -33,7 +34,6 @@ use Rattle.cms_held.proofs.HeldFiles.{opened_is_held, opened_has_room, place_is_
 use Rattle.cms_disk.specs.Cursors.{AreOn, AreSized, Reading, HasLeft, HoldLeft, IsFirst, fixed_of, unread}
 use Rattle.cms_disk.specs.Disks.{Accessed, HasNone, OpensIn, StandsIn, StartsAt, place_of}
 use Rattle.cms_disk.specs.LawsDisks.{StandsTells}
-use Rattle.cms_disk.proofs.Moving.{drop_whole}
 
 -- ---- the minidisk's files
 
@@ -61,11 +61,8 @@ unfolding files_of
 files_lengths [] cs k f is = absurd (cc is)
 files_lengths (e ∷ es) [] k f is = absurd (cc is)
 files_lengths (e ∷ es) (records ∷ more) zero f is =
-    let same = some_same _ f is in
+    let same = same_Some _ f is in
     subst (λ (x : File). x.length ≡ length_of x.format x.length x.records) same (same_length e.format e.length records)
-  where
-    some_same : (a b : File) → Some a ≡ Some b → a ≡ b
-    some_same a b e = cc e
 files_lengths (e ∷ es) (records ∷ more) (suc k) f is = files_lengths es more k f is
 
 lengths_in : (disk : Disk) (v : Opened) (m : Minidisk) (k : ℕ) (f : File) → m ≡ minidisk_of disk v → slice_get m.files k ≡ Some f → f.length ≡ length_of f.format f.length f.records
@@ -113,7 +110,7 @@ first_has image c number most size blocks format high count records s sized held
     let long = s.held.block in
     let all = s.all in
     let one = s.bsize in
-    let gone : drop c.from c.block ≡ [] = drop_whole c.from c.block (omega arith) in
+    let gone : drop c.from c.block ≡ [] = drop_all c.from c.block (omega arith) in
     let begun : bytes_so_far c.begun ≡ [] = ap bytes_so_far s.begun in
     let rest : drop c.done c.leaves ≡ blocks = ap (λ (n : ℕ). drop n c.leaves) s.done ∙ s.leaves in
     let bytes : unread image c ≡ bytes_at image blocks = rw (begun, gone, rest, s.over) refl in
@@ -176,8 +173,12 @@ found image name d m k h s keeps at is_h =
 
 pub opens_in : (d : Accessed) (name : Name) (c : Reading) → Keeps d.volume → StartsAt name d.volume c → OpensIn d name c
 opens_in d name c keeps s image m stands =
-    let it = found image name d m s.place s.file stands keeps s.place_is s.file_is in
-    (it.file, it.named, first_has image c d.volume.unit d.volume.disk.count d.volume.disk.bsize s.file.tree.leaves s.file.entry.format s.file.length s.file.entry.count it.file.records s.first it.sized it.left)
+    let it = found image name d m s.place s.file stands keeps s.place_is s.file_is in (
+      it.file,
+      it.named,
+      first_has image c d.volume.unit d.volume.disk.count d.volume.disk.bsize s.file.tree.leaves s.file.entry.format s.file.length s.file.entry.count
+          it.file.records s.first it.sized it.left,
+    )
 
 -- ---- the file at a place
 

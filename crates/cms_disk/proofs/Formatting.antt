@@ -1,5 +1,5 @@
 -- The making of an empty minidisk is two device steps of a machine.
-use Rattle.std.proofs.Common.{◌≡◌, ◌≢◌, ◌⊎◌, inl, inr, ⊎_elim, ℕ, ◌+◌, ◌≤◌, List, [], ◌∷◌, length, take, drop, replicate, append_assoc, slice_get, Some, None, Result, Ok, Err, refl, sym, ◌∙◌, ap, subst, arith}
+use Rattle.std.proofs.Common.{◌≡◌, ◌≢◌, ◌⊎◌, inl, inr, ⊎_elim, ℕ, ◌+◌, ◌≤◌, List, [], ◌∷◌, length, take, drop, replicate, slice_get, Some, None, Result, Ok, Err, refl, sym, ◌∙◌, ap, subst, arith}
 use Rattle.std.proofs.lemmas.Bool.{cases_eq}
 use Rattle.std.proofs.lemmas.List.{length-replicate}
 use Rattle.cms_journal.specs.declared.event.Event.{Event}
@@ -10,7 +10,7 @@ use Rattle.cms_journal.proofs.Crashes.{length-contents}
 use Rattle.cms_journal.proofs.Events.{all_front}
 use Rattle.cms_journal.proofs.Steps.{contents_wrote}
 use Rattle.cms_fields.specs.declared.time.Stamp.{Stamp}
-use Rattle.cms_model.specs.LawsUpdates.{AddsFront, IsFront, IsWiped, HasEither, after, now, to_label, wipe, with_label}
+use Rattle.cms_model.specs.LawsUpdates.{AddsFront, IsFront, after, now, to_label, wipe, with_label}
 use Rattle.cms_model.specs.LawsUpdates as law
 use Rattle.cms_model.specs.Lists.{cut, times}
 use Rattle.cms_model.specs.Minidisks.{Minidisk, State, Volume, Not}
@@ -37,6 +37,7 @@ use Rattle.cms_held.proofs.Made.{directory_long, facts, laid_out, made_empty, ma
 use Rattle.cms_held.proofs.NewMap.{row_within}
 use Rattle.cms_held.proofs.WritesLong.{system_blocks}
 use Rattle.cms_edf.specs.Doubts.{IsCutOff}
+use Rattle.cms_edf.proofs.Finished.{to_front, with_front}
 use Rattle.cms_edf.specs.declared.doubt.Doubt.{Doubt}
 use Rattle.cms_edf.specs.declared.doubt.Doubt.TheVariants.{Old, Either}
 use Rattle.cms_disk.specs.Disks.{Accessed, IsQuiet, disk_on}
@@ -46,7 +47,7 @@ use Rattle.cms_disk.specs.declared.fault.DiskFault.{DiskFault}
 use Rattle.cms_disk.specs.declared.fault.DiskFault.TheVariants as failed
 use Rattle.cms_disk.specs.declared.unit.UnitInfo.{UnitInfo}
 use Rattle.cms_disk.proofs.Standing.{is_minidisk}
-use Rattle.cms_disk.proofs.StepPieces.{AreWhole, covered, first_stamped, front_has_stamp, front_whole, grown_front, grown_of, grown_then, has_state, has_whole, high_stamped, label_aside, only_update, only_writes, stamped_behind, start_has, told_after, update_stamped, update_whole, whole_after, whole_front}
+use Rattle.cms_disk.proofs.StepPieces.{AreWhole, covered, first_stamped, front_has_stamp, front_whole, grown_front, grown_of, grown_then, has_state, has_whole, high_stamped, label_aside, one_sync, only_update, only_writes, stamped_behind, start_has, told_after, update_stamped, update_whole, whole_after, whole_front}
 
 -- ---- the wiping
 
@@ -180,19 +181,6 @@ unfolding writes update
 two_syncs u [] label = refl
 two_syncs u (w ∷ ws) label = two_syncs u ws label
 
-one_sync : (u : ℕ) (ws : List Write) → syncs (to_label u ws) ≡ 1
-unfolding writes
-one_sync u [] = refl
-one_sync u (w ∷ ws) = one_sync u ws
-
-label_front : (u : ℕ) (ws : List Write) (label : List ℕ) → IsFront (to_label u ws) (update u ws label)
-unfolding update
-label_front u ws label = record { rest = Wrote u 3 label ∷ Synced u ∷ []; is = append_assoc (writes u ws) (Synced u ∷ []) (Wrote u 3 label ∷ Synced u ∷ []) }
-
-written_front : (u : ℕ) (ws : List Write) (label : List ℕ) → IsFront (with_label u ws label) (update u ws label)
-unfolding update
-written_front u ws label = record { rest = Synced u ∷ []; is = append_assoc (writes u ws) (Synced u ∷ Wrote u 3 label ∷ []) (Synced u ∷ []) }
-
 -- its writes have its stamp
 stamped_made : {volid : List ℕ} (m : Making) (stamp : Stamp) → IsEmptyVolume m volid stamp → AreStamped m.unit (Some stamp) (update m.unit (made_writes m) m.systems.label_bytes)
 unfolding times
@@ -317,7 +305,7 @@ emptied_at j old mid new unit before volid stamp s x cut =
     λ q inner. wiped_is_none disk (after later q) u (m.before q (front_of_front q p (to_label u ws) inner safe)) in
     let none = firm p (whole_front p) in
     record {
-      both = making j old mid new unit before volid stamp s x OldFault p cut.told (front_of_front p (to_label u ws) (made_events unit s) safe (label_front u ws s.label_bytes))
+      both = making j old mid new unit before volid stamp s x OldFault p cut.told (front_of_front p (to_label u ws) (made_events unit s) safe (to_front u ws s.label_bytes))
           ((syncs_counted u ws s.label_bytes 0).update_old p cut.is) tt
           (covered later mid u disk mid_is x.ready.seen p (Not 2 ∷ []) (Not 2 ∷ []) (λ q inner image left. inl (inl (firm q inner image left))) (λ image left. inl (none image left)))
           (contents_have (after later p) u (λ image. state_of disk image ≡ Not 2) none);
@@ -356,14 +344,14 @@ doubted_at j old mid new unit before volid stamp s x (inl told) =
     let ws = made_writes (made_on unit s) in
     let later = after j (wipe u unit.bsize) in
     let m = moves j old mid unit before volid stamp s x in
-    cut_make j old mid new unit before volid stamp s Before (to_label u ws) x told (label_front u ws s.label_bytes) (one_sync u ws)
+    cut_make j old mid new unit before volid stamp s Before (to_label u ws) x told (to_front u ws s.label_bytes) (one_sync u ws)
     (contents_have (after later (to_label u ws)) u (λ image. state_of (disk_on unit) image ≡ Not 2)
     (wiped_is_none (disk_on unit) (after later (to_label u ws)) u (m.before (to_label u ws) (whole_front (to_label u ws)))))
 doubted_at j old mid new unit before volid stamp s x (inr told) =
     let u = unit.unit.number in
     let ws = made_writes (made_on unit s) in
     let m = moves j old mid unit before volid stamp s x in
-    cut_make j old mid new unit before volid stamp s After (with_label u ws s.label_bytes) x told (written_front u ws s.label_bytes) ((syncs_counted u ws s.label_bytes 0).update_either After)
+    cut_make j old mid new unit before volid stamp s After (with_label u ws s.label_bytes) x told (with_front u ws s.label_bytes) ((syncs_counted u ws s.label_bytes 0).update_either After)
     m.labelled
 
 -- ---- the same of a plan
@@ -473,11 +461,11 @@ cut_grown : (u v size : ℕ) (ws : List Write) (label : List ℕ) (old mid new :
 cut_grown u v size ws label old mid new same wiped_is (inl told) =
     grown_then u old mid new (wipe_grown u size old mid wiped_is)
     (grown_front u mid new (update u ws label) (only_update u ws label)
-    (record { front = to_label u ws; told = told ∙ ap (λ (w : ℕ). plus mid (to_label w ws)) same; is = label_front u ws label }))
+    (record { front = to_label u ws; told = told ∙ ap (λ (w : ℕ). plus mid (to_label w ws)) same; is = to_front u ws label }))
 cut_grown u v size ws label old mid new same wiped_is (inr told) =
     grown_then u old mid new (wipe_grown u size old mid wiped_is)
     (grown_front u mid new (update u ws label) (only_update u ws label)
-    (record { front = with_label u ws label; told = told ∙ ap (λ (w : ℕ). plus mid (with_label w ws label)) same; is = written_front u ws label }))
+    (record { front = with_label u ws label; told = told ∙ ap (λ (w : ℕ). plus mid (with_label w ws label)) same; is = with_front u ws label }))
 
 pub failed_grown : (u v size : ℕ) (ws : List Write) (label : List ℕ) (why : Doubt) (old mid new : Told) → v ≡ u → mid ≡ plus old (wipe u size) → IsCutOff mid new v ws label why → GrownOf u old new
 failed_grown u v size ws label Old old mid new same wiped_is cut = front_grown u v size ws old mid new same wiped_is cut

@@ -13,13 +13,12 @@ use Rattle.cms_model.specs.Records.{Fits, longest, stored}
 use Rattle.cms_edf.specs.OpeningSteps.{OfImage}
 use Rattle.cms_disk.specs.Cursors.{Reading, HandsOut, HasLeft, TextFits, fixed_of, text_of}
 use Rattle.cms_disk.specs.Getting.{Gathers}
-use Rattle.cms_model.proofs.Records.{stored_append}
+use Rattle.cms_model.proofs.Records.{longest_both, stored_append}
 use Rattle.cms_disk.proofs.Moving.{none_more}
 
-longest_append : (a : List (List ℕ)) (text : List ℕ) → longest (a ++ (text ∷ [])) ≡ max (longest a) (length text)
+pub longest_append : (a : List (List ℕ)) (text : List ℕ) → longest (a ++ (text ∷ [])) ≡ max (longest a) (length text)
 unfolding longest
-longest_append [] text = omega arith
-longest_append (x ∷ xs) text = let rest = longest_append xs text in omega (arith, rest)
+longest_append a text = let both = longest_both a (text ∷ []) in omega (arith, both)
 
 -- so many of the records that were left at first are gathered
 pub record GatherTo (told : Told) (format : Format) (first c : Reading) (bytes : List ℕ) (most : ℕ) : Type 0 where

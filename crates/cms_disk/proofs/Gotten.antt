@@ -120,7 +120,8 @@ gets_ok image name d m k info c bytes most rs stands at r only =
     let h = r.first.0 in
     let it = found image name d m k h stands r.keeps at r.first.1 in
     let f = it.file in
-    let same : f.records ≡ rs = only f.records (first_has image c d.volume.unit d.volume.disk.count d.volume.disk.bsize h.tree.leaves h.entry.format h.length h.entry.count f.records r.first.2 it.sized it.left)
+    let same : f.records ≡ rs = only f.records (first_has image c d.volume.unit d.volume.disk.count d.volume.disk.bsize h.tree.leaves h.entry.format h.length h.entry.count
+    f.records r.first.2 it.sized it.left)
     in
     let is = info_at d.volume.files k info h r.info_is r.first.1 in
     let format : info.format ≡ f.format = ap (λ (i : FileInfo). i.format) is ∙ it.is.format_is in

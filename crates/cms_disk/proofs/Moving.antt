@@ -1,12 +1,13 @@
 -- What a step of a read makes of the records that are left.
-use Rattle.std.proofs.Common.{◌≡◌, ◌⊎◌, ℕ, zero, suc, ◌+◌, ◌-◌, ◌≤◌, ◌<◌, Bool, true, false, List, [], ◌∷◌, ◌++◌, length, drop, slice_index, refl, sym, ◌∙◌, ap, subst, arith, Err}
-use Rattle.std.proofs.lemmas.List.{drop-append-le, drop-drop, length-drop}
+use Rattle.std.proofs.Common.{◌≡◌, ◌⊎◌, ℕ, suc, ◌+◌, ◌-◌, ◌≤◌, ◌<◌, Bool, true, false, List, [], ◌++◌, length, drop, slice_index, refl, sym, ◌∙◌, ap, subst, arith, Err}
+use Rattle.std.proofs.lemmas.List.{drop-append-le, drop-drop, drop_all, length-drop}
 use Rattle.cms_model.specs.Trees.{Image, bytes_at}
 use Rattle.cms_model.specs.declared.fault.VarFault.{VarFault}
 use Rattle.cms_records.specs.Pieces.{Begun, Takes, bytes_so_far, next_place, record_size}
 use Rattle.cms_disk.specs.Cursors.{Reading, HoldLeft, HasLeft, Gives, IsShort, Waits, AreOn, unread}
 use Rattle.cms_journal.specs.Journal.{Journal, HasBlock, HasBlocks}
-use Rattle.cms_edf.proofs.TreesRead.{on_unit}
+use Rattle.cms_edf.proofs.Listings.{on_unit}
+use Rattle.cms_edf.proofs.MetBlocks.{front_of}
 use Rattle.cms_disk.proofs.Taking.{hands_out, keeps_left, takes_all, not_altered, not_ended, none_left}
 
 some_left : (n : ℕ) → 1 ≤ n → n ≡ suc (n - 1)
@@ -61,28 +62,17 @@ take_waits c b f a t later within long =
 
 -- ---- the next block
 
-pub drop_whole : (n : ℕ) (xs : List ℕ) → length xs ≤ n → drop n xs ≡ []
-drop_whole zero [] le = refl
-drop_whole zero (x ∷ xs) le = absurd (omega arith)
-drop_whole (suc n) [] le = refl
-drop_whole (suc n) (x ∷ xs) le = drop_whole n xs (omega arith)
-
-drop_next : (n : ℕ) (xs : List ℕ) → n < length xs → drop n xs ≡ slice_index xs n ∷ drop (n + 1) xs
-drop_next n [] less = absurd (omega arith)
-drop_next zero (x ∷ xs) less = refl
-drop_next (suc n) (x ∷ xs) less = let one : suc n + 1 ≡ suc (n + 1) = omega arith in rw one (drop_next n xs (omega arith))
-
 -- all of the last block is taken, and the next one is there
 pub read_next : (image : Image) (c : Reading) (block : List ℕ) (d f o : ℕ) (a : Bool) (records : List (List ℕ)) → block ≡ image (slice_index c.leaves c.done) → d ≡ c.done + 1 → f ≡ c.over → o ≡ 0
     → a ≡ c.altered → c.done < length c.leaves → c.over ≤ c.bsize
     → length c.block ≤ c.from → HasLeft image c records → HasLeft image (record c { done = d; block = block; from = f; over = o; altered = a }) records
 unfolding bytes_at
 read_next image c block d f o a records is next first none sound less within all left =
-    let gone : drop c.from c.block ≡ [] = drop_whole c.from c.block all in
+    let gone : drop c.from c.block ≡ [] = drop_all c.from c.block all in
     let there = image (slice_index c.leaves c.done) in
     let behind = bytes_at image (drop (c.done + 1) c.leaves) in
     let long : length there ≡ c.bsize = left.sizes c.done less in
-    let more : bytes_at image (drop c.done c.leaves) ≡ there ++ behind = ap (bytes_at image) (drop_next c.done c.leaves less) in
+    let more : bytes_at image (drop c.done c.leaves) ≡ there ++ behind = ap (bytes_at image) (front_of c.leaves c.done less) in
     let rest : drop c.over (bytes_at image (drop c.done c.leaves)) ≡ drop c.over there ++ behind = ap (drop c.over) more ∙ drop-append-le c.over there behind (omega (arith, within, long)) in
     let same : unread image c ≡ bytes_so_far c.begun ++ (drop f block ++ drop o (bytes_at image (drop d c.leaves))) = rw (gone, rest, first, none, next, is) refl in
     record {
@@ -95,7 +85,7 @@ read_next image c block d f o a records is next first none sound less within all
 pub read_failed : (image : Image) (c : Reading) (block : List ℕ) (f : ℕ) (a : Bool) (records : List (List ℕ)) → length c.block ≤ c.from → length block ≤ f → a ≡ c.altered → HasLeft image c records
     → HasLeft image (record c { block = block; from = f; altered = a }) records
 read_failed image c block f a records all all' sound left =
-    let gone : drop c.from c.block ≡ drop f block = drop_whole c.from c.block all ∙ sym (drop_whole f block all') in
+    let gone : drop c.from c.block ≡ drop f block = drop_all c.from c.block all ∙ sym (drop_all f block all') in
     record {
       sound = sound ∙ left.sound;
       sizes = left.sizes;
@@ -106,9 +96,9 @@ read_failed image c block f a records all all' sound left =
 pub read_ended : (image : Image) (c : Reading) (records : List (List ℕ)) → c.done ≡ length c.leaves → length c.block ≤ c.from → IsShort c.begun → 1 ≤ c.left → HasLeft image c records → ⊥
 unfolding bytes_at
 read_ended image c records end all short some left =
-    let gone : drop c.from c.block ≡ [] = drop_whole c.from c.block all in
-    let none : drop c.done c.leaves ≡ [] = drop_whole c.done c.leaves (omega arith) in
-    let nothing : drop c.over (bytes_at image (drop c.done c.leaves)) ≡ [] = ap (λ (l : List ℕ). drop c.over (bytes_at image l)) none ∙ drop_whole c.over [] (omega arith) in
+    let gone : drop c.from c.block ≡ [] = drop_all c.from c.block all in
+    let none : drop c.done c.leaves ≡ [] = drop_all c.done c.leaves (omega arith) in
+    let nothing : drop c.over (bytes_at image (drop c.done c.leaves)) ≡ [] = ap (λ (l : List ℕ). drop c.over (bytes_at image l)) none ∙ drop_all c.over [] (omega arith) in
     let same : unread image c ≡ bytes_so_far c.begun ++ ([] ++ []) = rw (gone, nothing) refl in
     not_ended c.bsize (c.left - 1) c.begun records short
     (subst (λ (l : List ℕ). HoldLeft c.bsize c.begun.fixed c.begun.longest (suc (c.left - 1)) (next_place c.begun) l records) same
@@ -125,7 +115,7 @@ BegunAt first c = ((c.done ≡ first.done) × (c.over ≡ first.over))
 
 pub has_block : (j : Journal) (c : Reading) (n leaf size : ℕ) → HasBlocks j.units c.unit c.total c.bsize → AreOn c.total c.leaves → n < length c.leaves → leaf ≡ slice_index c.leaves n → size ≡ c.bsize
     → HasBlock j.units c.unit leaf size
-has_block j c n leaf size has on less is same = let within = on n less in rw (same, is) (on_unit j c.unit c.total c.bsize (slice_index c.leaves n) within.0 within.1 has)
+has_block j c n leaf size has on less is same = let within = on n less in rw (same, is) (on_unit j.units c.unit c.total c.bsize (slice_index c.leaves n) within.0 within.1 has)
 
 -- ---- behind the last
 

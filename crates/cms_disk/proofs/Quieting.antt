@@ -1,5 +1,6 @@
 -- A unit that is quiet.
 use Rattle.std.proofs.Common.{◌≡◌, ⊎_elim, inl, inr, ℕ, [], ◌∷◌, None, Some, Result, Ok, Err, refl, sym, ◌∙◌, ap, subst}
+use Rattle.std.proofs.lemmas.Option.{same_Some}
 use Rattle.cms_journal.specs.declared.event.Event.TheVariants.{Synced}
 use Rattle.cms_journal.specs.Journal.{Journal, adds, contents_of, start_of}
 use Rattle.cms_journal.specs.Told.{Told}
@@ -22,7 +23,7 @@ use Rattle.cms_disk.specs.declared.unit.UnitInfo.{UnitInfo}
 use Rattle.cms_disk.specs.LawsDisks.{QuietRests, SyncQuiets}
 
 -- what a quiet unit that is none holds now
-firm_now : (disk : Disk) (j : Journal) (u : ℕ) (state : State) → IsFirm disk j u state → state_of disk (now j u) ≡ state
+pub firm_now : (disk : Disk) (j : Journal) (u : ℕ) (state : State) → IsFirm disk j u state → state_of disk (now j u) ≡ state
 firm_now disk j u state firm = firm (contents_of j u) (crash_now j.events u (start_of j.units u))
 
 volume_or_none : (m : Minidisk) (k : ℕ) → Volume m ≡ Not k → ⊥
@@ -59,10 +60,7 @@ sync_quiets disk j u = go (open_of disk (now j u)) refl
 
 pub synced_told : (disk : Disk) (u : ℕ) (old : Told) (j : Journal) → adds (Synced u) old ≡ Some j → IsQuiet disk j u
 synced_told disk u None j is = absurd (cc is)
-synced_told disk u (Some before) j is = subst (λ (k : Journal). IsQuiet disk k u) (some_same _ j is) (sync_quiets disk before u)
-  where
-    some_same : (a b : Journal) → Some a ≡ Some b → a ≡ b
-    some_same a b e = cc e
+synced_told disk u (Some before) j is = subst (λ (k : Journal). IsQuiet disk k u) (same_Some _ j is) (sync_quiets disk before u)
 
 -- an access of a quiet unit leaves it settled at the volume that opens
 pub opened_leaves : (unit : UnitInfo) (j : Journal) (d : Accessed) → IsOn unit d → AnswersAccess unit (now j unit.unit.number) (Ok d) → IsWhole (disk_on unit) (now j unit.unit.number)

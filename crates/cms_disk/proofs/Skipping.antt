@@ -1,8 +1,9 @@
 -- Records that are passed over.
 use Rattle.std.proofs.Common.{◌≡◌, ℕ, zero, suc, ◌+◌, ◌-◌, ◌*◌, ◌/◌, ◌%◌, ◌≤◌, ◌<◌, List, [], ◌∷◌, ◌++◌, length, drop, Some, slice_get, refl, sym, ◌∙◌, ap, subst, arith, length-append, length-drop, div-add-mod', mul-le-mul_right}
 use Rattle.std.proofs.Math.Seq.{drop-append-add}
-use Rattle.std.proofs.lemmas.List.{drop-drop}
+use Rattle.std.proofs.lemmas.List.{drop-drop, drop_all}
 use Rattle.std.proofs.lemmas.Nat.{div_below}
+use Rattle.std.proofs.lemmas.Option.{same_Some}
 use Rattle.cms_names.specs.declared.name.Name.{Name}
 use Rattle.cms_names.specs.declared.name.Format.{Format}
 use Rattle.cms_names.specs.declared.name.Format.TheVariants.{F}
@@ -15,7 +16,6 @@ use Rattle.cms_edf.specs.declared.held.FileInfo.{FileInfo}
 use Rattle.cms_disk.specs.Cursors.{AreSized, Reading, HasLeft, HoldLeft, IsUnread, block_behind, first_begun}
 use Rattle.cms_disk.specs.Disks.{StartsAt, place_of}
 use Rattle.cms_disk.proofs.Gotten.{info_at}
-use Rattle.cms_disk.proofs.Moving.{drop_whole}
 
 -- ---- blocks that are passed over
 
@@ -83,7 +83,7 @@ skipped image c count d o left records u some long fewer is_d is_o is_left has =
     let b = c.bsize in
     let leaves = c.leaves in
     let all = u.all in
-    let gone : drop c.from c.block ≡ [] = drop_whole c.from c.block (omega (arith, all, long)) in
+    let gone : drop c.from c.block ≡ [] = drop_all c.from c.block (omega (arith, all, long)) in
     let behind = drop c.over (bytes_at image (drop c.done leaves)) in
     let start : drop c.from c.block ++ behind ≡ bytes_at image leaves = rw (gone, u.over, u.done) refl in
     let front : HoldLeft b (Some n) n c.left 0 (drop c.from c.block ++ behind) records =
@@ -95,7 +95,8 @@ skipped image c count d o left records u some long fewer is_d is_o is_left has =
     let size = length-drop (count * n) (bytes_at image leaves) in
     let few = p.few in
     let cuts : drop count records ≡ cut left n there =
-    ap (drop count) held.0 ∙ (cut_behind count c.left n (bytes_at image leaves) fewer ∙ (ap (λ (k : ℕ). cut k n (drop (count * n) (bytes_at image leaves))) (sym is_left) ∙ ap (cut left n) (sym at))) in
+    ap (drop count) held.0
+    ∙ (cut_behind count c.left n (bytes_at image leaves) fewer ∙ (ap (λ (k : ℕ). cut k n (drop (count * n) (bytes_at image leaves))) (sym is_left) ∙ ap (cut left n) (sym at))) in
     let enough : left * n ≤ length there = rw (at, is_left) (omega (arith, size, few)) in
     let then' : HoldLeft b (Some n) n left 0 (drop c.from c.block ++ there) (drop count records) =
     subst (λ (l : List ℕ). HoldLeft b (Some n) n left 0 (l ++ there) (drop count records)) (sym gone) (cuts, enough) in
@@ -116,7 +117,7 @@ pub record IsSkippable (info : FileInfo) (c : Reading) : Type 0 where
 pub is_skippable : (name : Name) (v : HeldVolume) (k : ℕ) (info : FileInfo) (c : Reading) → StartsAt name v c → place_of name v ≡ Some k → slice_get (infos_in v) k ≡ Some info → info.format ≡ F
     → IsSkippable info c
 is_skippable name v k info c s place told fix =
-    let same : s.place ≡ k = some_same s.place k (sym s.place_is ∙ place) in
+    let same : s.place ≡ k = same_Some s.place k (sym s.place_is ∙ place) in
     let there = info_at v.files k info s.file told (subst (λ (i : ℕ). slice_get v.files i ≡ Some s.file) same s.file_is) in
     let format : s.file.entry.format ≡ F = sym (ap (λ (i : FileInfo). i.format) there) ∙ fix in
     let high : c.begun.longest ≡ s.file.length = ap (λ (b : Begun). b.longest) s.first.begun in
@@ -130,6 +131,3 @@ is_skippable name v k info c s place told fix =
       left = s.first.left ∙ sym (ap (λ (i : FileInfo). i.count) there);
       longest = high ∙ sym (ap (λ (i : FileInfo). i.length) there);
     }
-  where
-    some_same : (a b : ℕ) → Some a ≡ Some b → a ≡ b
-    some_same a b e = cc e

@@ -9,7 +9,7 @@ use Rattle.cms_journal.specs.declared.event.Attached.{Attached}
 use Rattle.cms_journal.specs.declared.event.Event.{Event}
 use Rattle.cms_journal.specs.declared.event.Event.TheVariants.{Read, Now, Typed, Wrote, Synced, Missed}
 use Rattle.cms_journal.specs.Journal.{Journal, contents, start_of}
-use Rattle.cms_journal.specs.Told.{Grown, Told, plus, IsOfUnit, OnlyOf}
+use Rattle.cms_journal.specs.Told.{Grown, Told, plus, syncs, IsOfUnit, OnlyOf}
 use Rattle.cms_journal.proofs.Crashes.{length-contents}
 use Rattle.cms_journal.proofs.Events.{all_front, all_join}
 use Rattle.cms_journal.proofs.Pieces.{plus_plus}
@@ -20,7 +20,7 @@ use Rattle.cms_fields.specs.declared.entry.Entry.{Entry}
 use Rattle.cms_fields.specs.declared.time.Stamp.{Stamp}
 use Rattle.cms_model.specs.Lists.{cut, times}
 use Rattle.cms_model.specs.LawsSizes.{IsWhole}
-use Rattle.cms_model.specs.LawsUpdates.{AddsFront, IsFront, after, now}
+use Rattle.cms_model.specs.LawsUpdates.{AddsFront, IsFront, after, now, to_label}
 use Rattle.cms_model.specs.Minidisks.{State}
 use Rattle.cms_model.specs.Settled.{EachCrash, MayLeave, Write, update, writes}
 use Rattle.cms_model.specs.Trees.{image_of}
@@ -29,12 +29,12 @@ use Rattle.cms_model.proofs.Fronts.{after_is_told}
 use Rattle.cms_model.proofs.Images.{image_past, synced_contents, wrote_other}
 use Rattle.cms_model.proofs.Repeats.{times_first, times_later}
 use Rattle.cms_tree.specs.Climbs.{AreOwn}
+use Rattle.cms_tree.proofs.Own.{writes_append}
 use Rattle.cms_machine.specs.Beats.{AreStamped, Covers, HasStamp, IsStamped}
 use Rattle.cms_machine.specs.Points.{Leaves, LeavesIn}
 use Rattle.cms_machine.specs.Slots.{IsAmong}
 use Rattle.cms_held.specs.LawsRenewing.{AreBlocks}
 use Rattle.cms_held.specs.Systems.{Systems, block_writes, directory_bytes_of, system_entry}
-use Rattle.cms_held.proofs.Fronts.{writes_append}
 use Rattle.cms_disk.specs.Changing.{HasState, IsWholeAt}
 use Rattle.cms_disk.specs.Making.{GrownOf}
 
@@ -88,6 +88,12 @@ only_writes u (w ∷ ws) = (refl, only_writes u ws)
 pub only_update : (u : ℕ) (ws : List Write) (label : List ℕ) → OnlyOf u (update u ws label)
 unfolding update
 only_update u ws label = all_join (IsOfUnit u) (writes u ws) (Synced u ∷ Wrote u 3 label ∷ Synced u ∷ []) (only_writes u ws) (refl, (refl, (refl, tt)))
+
+-- an update up to its label has one sync
+pub one_sync : (u : ℕ) (ws : List Write) → syncs (to_label u ws) ≡ 1
+unfolding writes
+one_sync u [] = refl
+one_sync u (w ∷ ws) = one_sync u ws
 
 -- ---- the stamps of what is written
 
@@ -238,10 +244,6 @@ writes_whole u size (w ∷ ws) blocks = ((refl, blocks.0), writes_whole u size w
 pub own_blocks : (size : ℕ) (blocks : List ℕ) (ws : List Write) → AreOwn size blocks ws → AreBlocks size ws
 own_blocks size blocks [] own = tt
 own_blocks size blocks (w ∷ ws) own = (own.1, own_blocks size blocks ws own.2)
-
-pub both_blocks : (size : ℕ) (ws more : List Write) → AreBlocks size ws → AreBlocks size more → AreBlocks size (ws ++ more)
-both_blocks size [] more one two = two
-both_blocks size (w ∷ ws) more one two = (one.0, both_blocks size ws more one.1 two)
 
 pub update_whole : (u size : ℕ) (ws : List Write) (label : List ℕ) → AreBlocks size ws → length label ≡ size → AreWhole u size (update u ws label)
 unfolding update

@@ -1,9 +1,9 @@
 -- Bytes are taken for the next record.
-use Rattle.std.proofs.Common.{◌≡◌, ◌⊎◌, ⊎_elim, ℕ, zero, suc, ◌+◌, ◌≤◌, ◌<◌, Bool, true, false, if◌then◌else◌, List, [], ◌∷◌, ◌++◌, length, take, drop, Option, None, Some, Result, Ok, Err, refl, sym, ◌∙◌, ap, subst, arith, append_assoc, append-nil, length-append, length-drop}
+use Rattle.std.proofs.Common.{◌≡◌, ◌⊎◌, ⊎_elim, ℕ, suc, ◌+◌, ◌≤◌, ◌<◌, Bool, true, false, if◌then◌else◌, List, [], ◌∷◌, ◌++◌, length, take, drop, Option, None, Some, Result, Ok, Err, refl, sym, ◌∙◌, ap, subst, arith, append_assoc, append-nil, length-append, length-drop}
 use Rattle.std.specs.Prelude.{nat_le, nat_lt, IfSome}
-use Rattle.std.proofs.lemmas.List.{length-take-le, take-append-le, drop-append-le}
-use Rattle.std.proofs.Math.Seq.{take-append_seam, drop-append-add}
-use Rattle.std.proofs.lemmas.Bool.{leb-true, leb-false, ltb-true, ltb-false}
+use Rattle.std.proofs.lemmas.List.{length-take-le, take-append-le, drop-append-le, take_all}
+use Rattle.std.proofs.Math.Seq.{drop-length, take-append_seam, drop-append-add}
+use Rattle.std.proofs.lemmas.Bool.{cases_lt, leb-true, leb-false, ltb-true, ltb-false}
 use Rattle.cms_fields.specs.Steps.{◌>>◌, want}
 use Rattle.cms_text.specs.Bytes.{half}
 use Rattle.cms_model.specs.Lists.{cut}
@@ -24,12 +24,9 @@ behind_piece : (before more later : List ℕ) (taken size : ℕ) → length befo
 behind_piece before more later taken size is within =
     ap (λ (n : ℕ). drop n (before ++ (more ++ later))) (sym is) ∙ (drop-append-add before (more ++ later) taken ∙ drop-append-le taken more later within)
 
-joined : (before more later : List ℕ) → (before ++ more) ++ later ≡ before ++ (more ++ later)
-joined before more later = append_assoc before more later
-
 -- the record that ends in a piece
 front_of : (before more later : List ℕ) (size : ℕ) → size ≤ length (before ++ more) → take size (before ++ (more ++ later)) ≡ take size (before ++ more)
-front_of before more later size within = ap (take size) (sym (joined before more later)) ∙ take-append-le size (before ++ more) later within
+front_of before more later size within = ap (take size) (sym (append_assoc before more later)) ∙ take-append-le size (before ++ more) later within
 
 -- ---- the size of a record stays
 
@@ -81,22 +78,13 @@ text_within : (bytes text : List ℕ) → 1 ≤ length text → text_in None (ta
 text_within bytes text some is =
     let k = 2 + length text in
     ⊎_elim
-    (λ (long : k ≤ length bytes). long)
     (λ (short : length bytes < k).
-    let all : take k bytes ≡ bytes = take_short k bytes (omega arith) in
+    let all : take k bytes ≡ bytes = take_all k bytes (omega arith) in
     let e : length (drop 2 bytes) ≡ length text = ap (λ (l : List ℕ). length (drop 2 l)) (sym all) ∙ ap length is in
     let d = length-drop 2 bytes in
     absurd (omega arith))
-    (less_or k (length bytes))
-  where
-    less_or : (a b : ℕ) → (a ≤ b) ⊎ (b < a)
-    less_or a b = grind arith
-
-    take_short : (k : ℕ) (all : List ℕ) → length all ≤ k → take k all ≡ all
-    take_short zero [] le = refl
-    take_short zero (x ∷ xs) le = absurd (omega arith)
-    take_short (suc k) [] le = refl
-    take_short (suc k) (x ∷ xs) le = ap (λ (l : List ℕ). x ∷ l) (take_short k xs (omega arith))
+    (λ (long : k ≤ length bytes). long)
+    (cases_lt (length bytes) k)
 
 pub first_left : (bsize : ℕ) (fixed : Option ℕ) (most n place : ℕ) (bytes : List ℕ) (records : List (List ℕ)) → HoldLeft bsize fixed most (suc n) place bytes records
     → First bsize fixed most n place bytes records
@@ -163,12 +151,6 @@ record Goes (old new : Begun) (more : List ℕ) (taken : ℕ) : Type 0 where
   all_taken : taken ≡ length more
   short : IsShort new
 
-take_short : (k : ℕ) (all : List ℕ) → length all ≤ k → take k all ≡ all
-take_short zero [] le = refl
-take_short zero (x ∷ xs) le = absurd (omega arith)
-take_short (suc k) [] le = refl
-take_short (suc k) (x ∷ xs) le = ap (λ (l : List ℕ). x ∷ l) (take_short k xs (omega arith))
-
 goes : (old new : Begun) (more : List ℕ) (taken : ℕ) → Takes old new more taken false → Goes old new more taken
 goes old new more taken t = go t.size t.size_is t.bytes t.whole_is
   where
@@ -192,7 +174,7 @@ goes old new more taken t = go t.size t.size_is t.bytes t.whole_is
     go None is bytes whole = done None is bytes whole
     go (Some n) is bytes whole =
         let few = leb-false n (length (bytes_so_far old ++ more)) (sym whole) in
-        done (Some n) is (bytes ∙ take_short n (bytes_so_far old ++ more) (omega arith)) whole
+        done (Some n) is (bytes ∙ take_all n (bytes_so_far old ++ more) (omega arith)) whole
 
 -- a record that is whole is the first of those that are left, and the others are left then
 pub record Handed (bsize left : ℕ) (new : Begun) (later : List ℕ) (records : List (List ℕ)) : Type 0 where
@@ -207,7 +189,7 @@ hands_out bsize left old new more later taken records t held =
     let before = bytes_so_far old in
     let first = first_left bsize old.fixed old.longest left (next_place old) (before ++ (more ++ later)) records held in
     let wide : record_size old.fixed old.longest (next_place old) (before ++ (more ++ later)) ≡ Ok (Some e.size) =
-    ap (record_size old.fixed old.longest (next_place old)) (sym (joined before more later))
+    ap (record_size old.fixed old.longest (next_place old)) (sym (append_assoc before more later))
     ∙ size_stays old.fixed old.longest (next_place old) (before ++ more) later (Ok (Some e.size)) e.size_is (known_size e.size) in
     let same : first.size ≡ e.size = same_size first.size e.size (sym first.size_is ∙ wide) in
     let told = t.told in
@@ -239,13 +221,9 @@ keeps_left bsize left old new more later taken records t held =
     let before = bytes_so_far old in
     let so_far : bytes_so_far new ≡ before ++ more = rw whole g.bytes in
     let place : next_place new ≡ next_place old = rw whole told.1 in
-    let rest : drop taken more ≡ [] = ap (λ (n : ℕ). drop n more) g.all_taken ∙ drop_whole more in
-    let bytes : bytes_so_far new ++ (drop taken more ++ later) ≡ before ++ (more ++ later) = rw (so_far, rest) (joined before more later) in
+    let rest : drop taken more ≡ [] = ap (λ (n : ℕ). drop n more) g.all_taken ∙ drop-length more in
+    let bytes : bytes_so_far new ++ (drop taken more ++ later) ≡ before ++ (more ++ later) = rw (so_far, rest) (append_assoc before more later) in
     rw (told.2, told.3, place, bytes) held
-  where
-    drop_whole : (xs : List ℕ) → drop (length xs) xs ≡ []
-    drop_whole [] = refl
-    drop_whole (x ∷ xs) = drop_whole xs
 
 -- and all of the piece is taken
 pub takes_all : (old new : Begun) (more : List ℕ) (taken : ℕ) → Takes old new more taken false → (taken ≡ length more) × IsShort new
@@ -259,7 +237,7 @@ not_altered bsize left old more later records why is held =
     let before = bytes_so_far old in
     let first = first_left bsize old.fixed old.longest left (next_place old) (before ++ (more ++ later)) records held in
     let wide = size_stays old.fixed old.longest (next_place old) (before ++ more) later (Err why) is (known_fault why) in
-    clash first.size (sym first.size_is ∙ (ap (record_size old.fixed old.longest (next_place old)) (sym (joined before more later)) ∙ wide))
+    clash first.size (sym first.size_is ∙ (ap (record_size old.fixed old.longest (next_place old)) (sym (append_assoc before more later)) ∙ wide))
   where
     clash : (n : ℕ) → ◌≡◌ {A = Result (Option ℕ) VarFault} (Ok (Some n)) (Err why) → ⊥
     clash n e = cc

@@ -1,5 +1,5 @@
 // Data blocks that are written one after another while their bytes come, and the pointer blocks over them.
-ghost use Rattle.std.specs.Prelude.{◌≡◌, ◌⊎◌, ℕ, List, ◌+◌, ◌-◌, ◌*◌, ◌/◌, ◌<◌, ◌≤◌, min, take, drop, replicate, length, IfOk, OnOk};
+ghost use Rattle.std.specs.Prelude.{◌≡◌, ◌⊎◌, ℕ, List, ◌+◌, ◌-◌, ◌*◌, ◌/◌, ◌<◌, ◌≤◌, min, take, replicate, length, IfOk, OnOk};
 ghost use Rattle.std.specs.Option.{ForSome};
 ghost use Rattle.cms_world.specs.Seen.{OnUnits, seen};
 ghost use Rattle.cms_text.specs.Bytes.{overwritten};
@@ -12,7 +12,7 @@ ghost use Rattle.cms_draft.specs.BlockWriting.{AddsOwnBlocks, AreMarked, CanWrit
 
 use cms_held::TreeBlocks;
 use cms_journal::BlockSize;
-use cms_text::bytes::put;
+use cms_text::bytes::{after, put};
 use cms_tree::{Climb, Mark};
 use cms_world::{Failed, World};
 use std::alloc::{AllocError, Global};
@@ -39,15 +39,6 @@ pub struct BlockWriter {
     pub whole: u32,
     /// the mark of the data block that comes next, so far
     pub mark: Mark,
-}
-
-// The bytes from a place on.
-fn behind(bytes: &[u8], at: usize) -> &[u8]
-    requires { at ≤ length bytes.now }
-    ensures bytes { result.now ≡ drop at bytes.now }
-    ensures size { length result.now + at ≡ length bytes.now }
-{
-    &bytes[at..]
 }
 
 impl BlockWriter {
@@ -197,7 +188,7 @@ impl BlockWriter {
         let mut rest = bytes;
         'append: while !rest.is_empty() {
             match self.take(world, rest) {
-                Ok(taken) => rest = behind(rest, taken),
+                Ok(taken) => rest = after(rest, taken),
                 Err(Failed) => return Err(Failed),
             }
         }

@@ -13,7 +13,8 @@ ghost use Rattle.cms_draft.specs.Drafting.{Drafts, IsDrafting, IsFresh, Puts, ma
 use crate::block_writer::BlockWriter;
 use crate::shape::DraftShape;
 use byteorder::{BigEndian, ByteOrder};
-use cms_held::{TreeBlocks, pointer_size};
+use cms_fields::pointer_size;
+use cms_held::TreeBlocks;
 use cms_journal::BlockSize;
 use cms_names::Format;
 use cms_world::{Failed, World};

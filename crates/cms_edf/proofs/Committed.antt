@@ -1,10 +1,9 @@
 -- A file whose records were put becomes the volume's.
-use Rattle.std.proofs.Common.{◌≡◌, ◌⊎◌, inl, inr, ⊎_elim, ℕ, ◌+◌, ◌-◌, ◌*◌, ◌≤◌, List, [], ◌∷◌, ◌++◌, length, position, All, Option, None, Some, Result, Ok, Err, OnOk, OnErr, refl, sym, ◌∙◌, ap, subst, arith, append_assoc, append-nil}
-use Rattle.std.specs.Prelude.{IsSomeAnd, slice_get, ⊤}
-use Rattle.std.proofs.lemmas.List.Elements.{All-nil, All-cons, All-head, All-tail, All-append, All-set}
+use Rattle.std.proofs.Common.{◌≡◌, ◌⊎◌, inl, inr, ⊎_elim, ℕ, ◌+◌, ◌-◌, ◌*◌, ◌≤◌, List, [], ◌∷◌, ◌++◌, length, position, All, Some, Result, Ok, Err, OnOk, OnErr, refl, sym, ◌∙◌, ap, subst, arith, append_assoc, append-nil}
+use Rattle.std.specs.Prelude.{⊤}
+use Rattle.std.proofs.lemmas.List.Elements.{All-nil, All-cons, All-head, All-tail}
 use Rattle.cms_journal.specs.Causes.{HasCause, Rose}
 use Rattle.cms_journal.specs.declared.event.Event.{Event}
-use Rattle.cms_journal.specs.declared.event.Event.TheVariants.{Synced, Wrote}
 use Rattle.cms_journal.specs.declared.event.Attached.{Attached}
 use Rattle.cms_journal.specs.declared.event.Failed.{Failed}
 use Rattle.cms_journal.specs.Journal.{HasBlock, HasBlocks, IsBlockSize, IsWritable, Journal}
@@ -18,7 +17,6 @@ use Rattle.cms_fields.specs.Numbers.{up}
 use Rattle.cms_fields.specs.declared.entry.Entry.{Entry}
 use Rattle.cms_fields.specs.declared.label.Label.{Label}
 use Rattle.cms_fields.specs.declared.time.Stamp.{Stamp}
-use Rattle.cms_model.specs.Lists.{In}
 use Rattle.cms_model.specs.Minidisks.{File, Minidisk, State, Volume, same_name}
 use Rattle.cms_model.specs.Changes.{Put, changed, need}
 use Rattle.cms_model.specs.Records.{Fits, length_of, stored}
@@ -26,7 +24,6 @@ use Rattle.cms_model.specs.Settled.{Write, update, writes}
 use Rattle.cms_model.specs.Stands.{opened}
 use Rattle.cms_model.specs.LawsUpdates.{AddsFront, HasEither, IsFront, after, now, to_label, with_label}
 use Rattle.cms_model.proofs.Fronts.{Cut, after_append, cons_front, cut_front, none_front}
-use Rattle.cms_model.proofs.Quotients.{up_spec}
 use Rattle.cms_model.proofs.Renewing.{minidisk_is}
 use Rattle.cms_model.proofs.Settling.{settled_is_firm}
 use Rattle.cms_tree.specs.declared.types.Mark.{Mark}
@@ -42,7 +39,7 @@ use Rattle.cms_held.specs.Carrying.{Carries, IsHeldMinidisk, written_count}
 use Rattle.cms_held.specs.Putting.{GoesOn, IsPutAs, IsPutReady}
 use Rattle.cms_held.proofs.DraftOwn.{part_own}
 use Rattle.cms_held.proofs.Drafting.{draft_has_all}
-use Rattle.cms_held.proofs.Fronts.{failed_behind, failed_before, writes_append}
+use Rattle.cms_held.proofs.Fronts.{failed_before}
 use Rattle.cms_held.proofs.PutAsides.{free_is_aside}
 use Rattle.cms_held.proofs.PutCarried.{put_is_carried}
 use Rattle.cms_held.proofs.PutSmall.{put_is_small}
@@ -51,26 +48,17 @@ use Rattle.cms_draft.specs.Drafting.{Drafts, IsDrafting, marks_in}
 use Rattle.cms_draft.specs.declared.block_writer.BlockWriter.{BlockWriter}
 use Rattle.cms_draft.specs.declared.shape.DraftShape.{DraftShape}
 use Rattle.cms_edf.specs.Doubts.{IsCutOff, Updates, UpdatesSystems}
-use Rattle.cms_edf.specs.FileDrafts.{CommitEvents, Commits, DraftStands, FileDraft, IsCommitted, IsCommittedAt, IsDraftFor, IsLeft, IsSomeDraft, PutsFile, commit_writes, file_for, files_with, put_in, put_writes, tree_of}
+use Rattle.cms_edf.specs.FileDrafts.{CommitEvents, Commits, DraftStands, FileDraft, IsCommitted, IsCommittedAt, IsDraftFor, IsLeft, IsSomeDraft, PutsFile, commit_writes, file_for, list_with, put_in, put_writes, tree_of}
 use Rattle.cms_edf.specs.declared.doubt.Doubt.{Doubt}
 use Rattle.cms_edf.specs.declared.doubt.Doubt.TheVariants.{Old, Either}
-use Rattle.cms_edf.proofs.DraftPlanned.{limits}
+use Rattle.cms_edf.proofs.CutOff.{to_label_behind, update_behind, updates_behind}
+use Rattle.cms_edf.proofs.DraftPlanned.{all_with, limits, whole_blocks}
 use Rattle.cms_edf.proofs.DraftPut.{goes_on, plan_of}
 use Rattle.cms_edf.proofs.Finished.{to_front, told_so, with_front, writes_to}
-use Rattle.cms_edf.proofs.Planned.{new_bits}
+use Rattle.cms_edf.proofs.Listings.{fewer_on, on_unit}
+use Rattle.cms_edf.proofs.Planned.{all_in, left_of, ready_keeps, right_of}
 
 -- ---- the volume after it is kept
-
-whole_blocks : (size bytes : ℕ) → IsBlockSize size → bytes ≤ most_bytes → up bytes size * size ≤ most_bytes
-whole_blocks size bytes (inl is) low = subst (λ (b : ℕ). up bytes b * b ≤ most_bytes) (sym is) (let s = (up_spec bytes 512 (omega arith)).1 in omega arith)
-whole_blocks size bytes (inr (inl is)) low = subst (λ (b : ℕ). up bytes b * b ≤ most_bytes) (sym is) (let s = (up_spec bytes 1024 (omega arith)).1 in omega arith)
-whole_blocks size bytes (inr (inr (inl is))) low = subst (λ (b : ℕ). up bytes b * b ≤ most_bytes) (sym is) (let s = (up_spec bytes 2048 (omega arith)).1 in omega arith)
-whole_blocks size bytes (inr (inr (inr is))) low = subst (λ (b : ℕ). up bytes b * b ≤ most_bytes) (sym is) (let s = (up_spec bytes 4096 (omega arith)).1 in omega arith)
-
-in_left : (P : ℕ → Type 0) (xs ys : List ℕ) → All P (xs ++ ys) → (n : ℕ) → In n xs → P n
-in_left P [] ys all n in' = absurd in'
-in_left P (x ∷ xs) ys all n (inl is) = subst P (sym is) (All-head P x (xs ++ ys) all)
-in_left P (x ∷ xs) ys all n (inr more) = in_left P xs ys (All-tail P x (xs ++ ys) all) n more
 
 kept_file : (v : HeldVolume) (name : Name) (shape : DraftShape) (stamp : Stamp) (d : FileDraft) → IsDraftFor v name shape stamp d → IsBlockSize v.disk.bsize
     → IsKeptFile v.disk.bsize v.label.blocks (file_for v.disk.bsize name shape (tree_of d))
@@ -81,7 +69,8 @@ kept_file v name shape stamp d p size =
     record {
       entry = f.passes_all;
       count = refl;
-      within = in_left (λ n. (6 ≤ n) × (n ≤ v.label.blocks)) (tree_of d).leaves (tree_of d).pointers f.within;
+      within =
+          all_in (λ n. (6 ≤ n) × (n ≤ v.label.blocks)) (tree_of d).leaves (left_of (λ n. (6 ≤ n) × (n ≤ v.label.blocks)) (tree_of d).leaves (tree_of d).pointers f.within);
       room = subst (λ (n : ℕ). n * v.disk.bsize ≤ most_bytes) (sym f.leaves_are) whole;
       some = f.asked.low;
       short = f.asked.high;
@@ -89,48 +78,18 @@ kept_file v name shape stamp d p size =
       size = l.2;
     }
 
-with_kept : (bsize total : ℕ) (files : List HeldFile) (place : Option ℕ) (g : HeldFile) → All (IsKeptFile bsize total) files → IsKeptFile bsize total g
-    → All (IsKeptFile bsize total) (files_with files place g)
-with_kept bsize total files None g all own = All-append (IsKeptFile bsize total) files (g ∷ []) all (All-cons (IsKeptFile bsize total) g [] own (All-nil (IsKeptFile bsize total)))
-with_kept bsize total files (Some place) g all own = All-set (IsKeptFile bsize total) files place g own all
-
 pub commit_keeps : (v : HeldVolume) (d : FileDraft) (some : IsSomeDraft v d) (edit : Edit) → IsBlockSize v.disk.bsize
-    → edit.files ≡ files_with v.files (position (same_name some.name) (names_in v.files)) (file_for v.disk.bsize some.name some.shape (tree_of d)) → Keeps (renewed v edit d.systems)
+    → edit.files ≡ list_with v.files (position (same_name some.name) (names_in v.files)) (file_for v.disk.bsize some.name some.shape (tree_of d)) → Keeps (renewed v edit d.systems)
 commit_keeps v d some edit size files =
     let p = some.is in
-    let r = p.file.ready in
-    let k = r.kept in
-    let low = k.origin_low in let high = k.origin_high in
-    let blocks : d.systems.label.blocks ≡ v.label.blocks = ap (λ (l : Label). l.blocks) r.planned.label in
-    let origin : d.systems.label.origin ≡ 9 - v.label.origin = ap (λ (l : Label). l.origin) r.planned.label in
-    let total = k.within in let large = k.size in
-    let same : edit.files ≡ p.file.edit.files = files ∙ sym p.file.files_are in
     let few = p.file.few in
-    let count = ap (λ (l : List HeldFile). length l) same in
-    record {
-      within = omega arith;
-      size = omega arith;
-      origin_low = omega arith;
-      origin_high = omega arith;
-      label_long = p.file.label_long;
-      bits_are = new_bits v (length p.file.edit.files) p.file.edit.given p.file.edit.taken d.systems.directory d.systems.map d.systems.bits r.planned.blocks ∙ (k.bits_are ∙ sym blocks);
-      few = omega arith;
-      each = subst (λ (n : ℕ). All (IsKeptFile v.disk.bsize n) edit.files) (sym blocks) (subst (All (IsKeptFile v.disk.bsize v.label.blocks)) (sym files)
-          (with_kept v.disk.bsize v.label.blocks v.files (position (same_name some.name) (names_in v.files)) (file_for v.disk.bsize some.name some.shape (tree_of d)) k.each
-          (kept_file v some.name some.shape some.stamp d p size)));
-    }
+    let count = ap (λ (l : List HeldFile). length l) (files ∙ sym p.file.files_are) in
+    ready_keeps v edit p.file.edit some.stamp d.systems p.file.ready p.file.label_long (omega arith)
+    (subst (All (IsKeptFile v.disk.bsize v.label.blocks)) (sym files)
+    (all_with (IsKeptFile v.disk.bsize v.label.blocks) v.files (position (same_name some.name) (names_in v.files)) (file_for v.disk.bsize some.name some.shape (tree_of d)) p.file.ready.kept.each
+    (kept_file v some.name some.shape some.stamp d p size)))
 
 -- ---- the unit has its blocks
-
-on_unit : (o : Option Attached) (n count size : ℕ) → 1 ≤ n → n ≤ count → (let P : Attached → Type 0 = λ unit. (unit.bsize ≡ size) × (count ≤ length unit.start) in IsSomeAnd o P)
-    → (let Q : Attached → Type 0 = λ unit. (unit.bsize ≡ size) × (1 ≤ n) × (n ≤ length unit.start) in IsSomeAnd o Q)
-on_unit None n count size low high has = has
-on_unit (Some unit) n count size low high has = let many = has.1 in (has.0, low, omega arith)
-
-fewer : (o : Option Attached) (few many size : ℕ) → few ≤ many → (let P : Attached → Type 0 = λ unit. (unit.bsize ≡ size) × (many ≤ length unit.start) in IsSomeAnd o P)
-    → (let Q : Attached → Type 0 = λ unit. (unit.bsize ≡ size) × (few ≤ length unit.start) in IsSomeAnd o Q)
-fewer None few many size less has = has
-fewer (Some unit) few many size less has = (has.0, omega (arith, has.1))
 
 each_there : (units : List Attached) (u total count size : ℕ) (ns : List ℕ) → total ≤ count → HasBlocks units u count size → All (λ n. (6 ≤ n) × (n ≤ total)) ns → HasEach units u size ns
 each_there units u total count size [] top has all = All-nil (λ n. HasBlock units u n size)
@@ -138,24 +97,16 @@ each_there units u total count size (n ∷ ns) top has all =
     let here = All-head (λ n. (6 ≤ n) × (n ≤ total)) n ns all in
     let low = here.0 in
     let high = here.1 in
-    All-cons (λ n. HasBlock units u n size) n ns (on_unit (slice_get units u) n count size (omega arith) (omega arith) has)
+    All-cons (λ n. HasBlock units u n size) n ns (on_unit units u count size n (omega arith) (omega arith) has)
     (each_there units u total count size ns top has (All-tail (λ n. (6 ≤ n) × (n ≤ total)) n ns all))
-
-left_all : (P : ℕ → Type 0) (xs ys : List ℕ) → All P (xs ++ ys) → All P xs
-left_all P [] ys all = All-nil P
-left_all P (x ∷ xs) ys all = All-cons P x xs (All-head P x (xs ++ ys) all) (left_all P xs ys (All-tail P x (xs ++ ys) all))
-
-right_all : (P : ℕ → Type 0) (xs ys : List ℕ) → All P (xs ++ ys) → All P ys
-right_all P [] ys all = all
-right_all P (x ∷ xs) ys all = right_all P xs ys (All-tail P x (xs ++ ys) all)
 
 pub can_write : (units : List Attached) (v : HeldVolume) (d : FileDraft) → IsSomeDraft v d → HasBlocks units v.unit v.disk.count v.disk.bsize → IsWritable units v.unit → CanWrite units d.writer.writer
 can_write units v d some has may =
     let p = some.is in
     let P = λ (n : ℕ). (6 ≤ n) × (n ≤ v.label.blocks) in
-    let leaves = each_there units v.unit v.label.blocks v.disk.count v.disk.bsize (tree_of d).leaves p.file.ready.kept.within has (left_all P (tree_of d).leaves (tree_of d).pointers p.file.within) in
+    let leaves = each_there units v.unit v.label.blocks v.disk.count v.disk.bsize (tree_of d).leaves p.file.ready.kept.within has (left_of P (tree_of d).leaves (tree_of d).pointers p.file.within) in
     let nodes = each_there units v.unit v.label.blocks v.disk.count v.disk.bsize (tree_of d).pointers p.file.ready.kept.within has
-    (right_all P (tree_of d).leaves (tree_of d).pointers p.file.within) in
+    (right_of P (tree_of d).leaves (tree_of d).pointers p.file.within) in
     record {
       leaves = rw (p.unit_is, p.bsize_is) leaves;
       nodes = rw (p.unit_is, p.bsize_is) nodes;
@@ -168,48 +119,17 @@ system_there units v d some has =
     let p = some.is in
     let blocks : d.systems.label.blocks ≡ v.label.blocks = ap (λ (l : Label). l.blocks) p.file.ready.planned.label in
     let top = p.file.ready.kept.within in
-    subst (λ (n : ℕ). HasBlocks units v.unit d.systems.label.blocks n) (sym p.file.label_long) (fewer (slice_get units v.unit) d.systems.label.blocks v.disk.count v.disk.bsize (omega arith) has)
+    subst (λ (n : ℕ). HasBlocks units v.unit d.systems.label.blocks n) (sym p.file.label_long) (fewer_on units v.unit d.systems.label.blocks v.disk.count v.disk.bsize (omega arith) has)
 
 -- ---- the events
-
-to_label_behind : (u : ℕ) (rest ws : List Write) → to_label u (rest ++ ws) ≡ writes u rest ++ to_label u ws
-to_label_behind u rest ws = ap (λ (l : List Event). l ++ Synced u ∷ []) (writes_append u rest ws) ∙ append_assoc (writes u rest) (writes u ws) (Synced u ∷ [])
-
-update_behind : (u : ℕ) (rest ws : List Write) (label : List ℕ) → update u (rest ++ ws) label ≡ writes u rest ++ update u ws label
-unfolding update
-update_behind u rest ws label =
-    ap (λ (l : List Event). l ++ Synced u ∷ Wrote u 3 label ∷ Synced u ∷ []) (writes_append u rest ws) ∙ append_assoc (writes u rest) (writes u ws) (Synced u ∷ Wrote u 3 label ∷ Synced u ∷ [])
-
-with_label_behind : (u : ℕ) (rest ws : List Write) (label : List ℕ) → with_label u (rest ++ ws) label ≡ writes u rest ++ with_label u ws label
-with_label_behind u rest ws label =
-    ap (λ (l : List Event). l ++ Synced u ∷ Wrote u 3 label ∷ []) (writes_append u rest ws) ∙ append_assoc (writes u rest) (writes u ws) (Synced u ∷ Wrote u 3 label ∷ [])
-
-behind : (old mid new : Told) (a b whole : List Event) → mid ≡ plus old a → new ≡ plus mid b → whole ≡ a ++ b → new ≡ plus old whole
-behind old mid new a b whole before after' is = after' ∙ ap (λ (t : Told). plus t b) before ∙ plus_plus old a b ∙ ap (plus old) (sym is)
-
-cut_behind : (old mid new : Told) (u : ℕ) (rest ws : List Write) (label : List ℕ) (why : Doubt) → mid ≡ plus old (writes u rest) → IsCutOff mid new u ws label why
-    → IsCutOff old new u (rest ++ ws) label why
-cut_behind old mid new u rest ws label Old before f = failed_behind old mid new u rest ws before f
-cut_behind old mid new u rest ws label Either before (inl told) = inl (behind old mid new (writes u rest) (to_label u ws) (to_label u (rest ++ ws)) before told (to_label_behind u rest ws))
-cut_behind old mid new u rest ws label Either before (inr told) =
-    inr (behind old mid new (writes u rest) (with_label u ws label) (with_label u (rest ++ ws) label) before told (with_label_behind u rest ws label))
 
 -- all that is left of the file was written, and then the update
 pub events_behind : (old mid new : Told) (v : HeldVolume) (d : FileDraft) (rest : List Write) (r : Result ⊤ Doubt) → IsSomeDraft v d → mid ≡ plus old (writes d.writer.writer.unit rest)
     → UpdatesSystems mid new v.unit d.systems r → CommitEvents old new v d rest r
-events_behind old mid new v d rest r some before ups = answer r (subst (λ (ws : List Write). Updates mid new v.unit ws d.systems.label_bytes r) size ups)
-  where
-    size : system_writes (length d.systems.label_bytes) d.systems ≡ writes_of v d.systems
-    size = ap (λ (n : ℕ). system_writes n d.systems) some.is.file.label_long
-
-    before' : mid ≡ plus old (writes v.unit rest)
-    before' = before ∙ ap (λ (u : ℕ). plus old (writes u rest)) some.is.unit_is
-
-    answer : (r : Result ⊤ Doubt) → Updates mid new v.unit (writes_of v d.systems) d.systems.label_bytes r → CommitEvents old new v d rest r
-    answer (Ok x) done =
-        behind old mid new (writes v.unit rest) (update v.unit (writes_of v d.systems) d.systems.label_bytes) (update v.unit (commit_writes v d rest) d.systems.label_bytes) before' done
-        (update_behind v.unit rest (writes_of v d.systems) d.systems.label_bytes)
-    answer (Err why) cut = cut_behind old mid new v.unit rest (writes_of v d.systems) d.systems.label_bytes why before' cut
+events_behind old mid new v d rest r some before ups =
+    let size : system_writes (length d.systems.label_bytes) d.systems ≡ writes_of v d.systems = ap (λ (n : ℕ). system_writes n d.systems) some.is.file.label_long in
+    updates_behind old mid new v.unit rest (writes_of v d.systems) d.systems.label_bytes r (before ∙ ap (λ (u : ℕ). plus old (writes u rest)) some.is.unit_is)
+    (subst (λ (ws : List Write). Updates mid new v.unit ws d.systems.label_bytes r) size ups)
 
 -- a part of what is left failed
 pub events_failed : (old new : Told) (v : HeldVolume) (d : FileDraft) (rest : List Write) → IsSomeDraft v d → AddsFront old new (writes d.writer.writer.unit rest)
@@ -428,14 +348,14 @@ built g e t long bytes a b c d = λ i. record { entry = a i; tree = b i; length 
 
 -- an edit of these files is one that puts it
 pub same_files : (v : HeldVolume) (d : FileDraft) (some : IsSomeDraft v d) (t : HeldTree) (long bytes : ℕ) → t ≡ tree_of d → long ≡ d.writer.shape.length → bytes ≡ d.writer.shape.bytes
-    → files_with v.files (position (same_name d.entry.name) (names_in v.files)) (record { entry = d.entry; tree = t; length = long; size = bytes })
-    ≡ files_with v.files (position (same_name some.name) (names_in v.files)) (file_for v.disk.bsize some.name some.shape (tree_of d))
+    → list_with v.files (position (same_name d.entry.name) (names_in v.files)) (record { entry = d.entry; tree = t; length = long; size = bytes })
+    ≡ list_with v.files (position (same_name some.name) (names_in v.files)) (file_for v.disk.bsize some.name some.shape (tree_of d))
 same_files v d some t long bytes tree size count =
     let p = some.is in
     let g = file_for v.disk.bsize some.name some.shape (tree_of d) in
     let name : d.entry.name ≡ some.name = ap (λ (x : Entry). x.name) p.entry_is in
-    ap (λ (n : Name). files_with v.files (position (same_name n) (names_in v.files)) (record { entry = d.entry; tree = t; length = long; size = bytes })) name
-    ∙ ap (files_with v.files (position (same_name some.name) (names_in v.files)))
+    ap (λ (n : Name). list_with v.files (position (same_name n) (names_in v.files)) (record { entry = d.entry; tree = t; length = long; size = bytes })) name
+    ∙ ap (list_with v.files (position (same_name some.name) (names_in v.files)))
     (built g d.entry t long bytes p.entry_is tree (size ∙ ap (λ (x : DraftShape). x.length) p.shape_is) (count ∙ ap (λ (x : DraftShape). x.bytes) p.shape_is))
 
 -- ---- in every world

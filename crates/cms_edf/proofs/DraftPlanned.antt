@@ -3,7 +3,9 @@ use Rattle.std.proofs.Common.{◌≡◌, inl, inr, ⊎_elim, ℕ, zero, suc, get
 use Rattle.std.specs.Prelude.{nat_le, nat_lt, ◌&&◌, ◌==◌, if◌then◌else◌}
 use Rattle.std.proofs.lemmas.Bool.{and_from, le-leb, eq-eqb, cases_lt, ltb-false}
 use Rattle.std.proofs.lemmas.List.{length-set, map-append, map-set}
-use Rattle.std.proofs.lemmas.List.Elements.{All-nil, All-cons, All-set, All-append}
+use Rattle.std.proofs.Math.Nat.{le-div_iff_mul-le}
+use Rattle.std.proofs.lemmas.List.Elements.{All-push, All-set}
+use Rattle.std.proofs.lemmas.Option.{same_Some}
 use Rattle.cms_journal.specs.Journal.{IsBlockSize}
 use Rattle.cms_names.specs.declared.name.Name.{Name}
 use Rattle.cms_names.specs.declared.name.Format.{Format}
@@ -18,7 +20,7 @@ use Rattle.cms_fields.specs.declared.time.Stamp.{Stamp}
 use Rattle.cms_model.specs.Lists.{In, times}
 use Rattle.cms_model.specs.Minidisks.{same_name}
 use Rattle.cms_model.specs.Sizes.{levels, pointer_count, tree_size}
-use Rattle.cms_model.proofs.FileSizes.{passes_from}
+use Rattle.cms_model.proofs.FileSizes.{fan_wide, passes_from}
 use Rattle.cms_model.proofs.Quotients.{up_below, up_some, up_spec}
 use Rattle.cms_model.proofs.Repeats.{held_from, in_from, times_append}
 use Rattle.cms_model.proofs.Shapes.{shape_least}
@@ -28,26 +30,25 @@ use Rattle.cms_held.proofs.Renewals.{all_of}
 use Rattle.cms_held.specs.Kept.{Keeps}
 use Rattle.cms_held.specs.Opening.{HeldFile, HeldTree, HeldVolume, names_in}
 use Rattle.cms_held.specs.Systems.{Systems}
-use Rattle.cms_held.specs.Written.{CanWrite}
 use Rattle.cms_held.specs.Renewing.{Edit, IsAllotted, blocks_in, entries_held, fresh, needed}
 use Rattle.cms_held.specs.Putting.{AreFree, IsPutOf, adding, adds, count_put, count_with, limit_put, need_put, replaces, replacing}
 use Rattle.cms_held.proofs.MapMarks.{take_fewer}
 use Rattle.cms_draft.specs.declared.shape.DraftShape.{DraftShape}
 use Rattle.cms_edf.specs.declared.allotment.Allotment.{Allotment}
-use Rattle.cms_edf.specs.FileDrafts.{CanDraft, GivenAt, IsFilePlanned, IsFilled, IsSized, entries_with, entry_for, file_for, files_with}
+use Rattle.cms_edf.specs.FileDrafts.{CanDraft, GivenAt, IsFilePlanned, IsFilled, IsSized, list_with, entry_for, file_for}
 use Rattle.cms_edf.proofs.Planned.{entries_count, named_at, ready_of}
 
 -- ---- the entries
 
-pub each_with : (es : List Entry) (place : Option ℕ) (e : Entry) → All CanWrite es → CanWrite e → All CanWrite (entries_with es place e)
-each_with es None e all own = All-append CanWrite es (e ∷ []) all (All-cons CanWrite e [] own (All-nil CanWrite))
-each_with es (Some place) e all own = All-set CanWrite es place e own all
+pub all_with : {A : Type 0} (P : A → Type 0) (xs : List A) (place : Option ℕ) (x : A) → All P xs → P x → All P (list_with xs place x)
+all_with P xs None x all own = All-push P xs x all own
+all_with P xs (Some place) x all own = All-set P xs place x own all
 
-count_entries : (es : List Entry) (place : Option ℕ) (e : Entry) → length (entries_with es place e) ≡ count_with place (length es)
+count_entries : (es : List Entry) (place : Option ℕ) (e : Entry) → length (list_with es place e) ≡ count_with place (length es)
 count_entries es None e = length-append es (e ∷ [])
 count_entries es (Some place) e = length-set es place e
 
-pub count_held : (fs : List HeldFile) (place : Option ℕ) (e : Entry) → length (entries_with (entries_held fs) place e) ≡ count_with place (length fs)
+pub count_held : (fs : List HeldFile) (place : Option ℕ) (e : Entry) → length (list_with (entries_held fs) place e) ≡ count_with place (length fs)
 count_held fs place e = count_entries (entries_held fs) place e ∙ ap (count_with place) (entries_count fs)
 
 -- ---- an entry passes its tests
@@ -65,15 +66,14 @@ limits files records bytes none = first (nat_lt most_files files) (nat_lt most_r
 between : (low high n : ℕ) → low ≤ n → n ≤ high → is_between low high n ≡ true
 between low high n small large = and_from (nat_le low n) (nat_le n high) (le-leb low n small) (le-leb n high large)
 
-few_blocks : (size bytes : ℕ) → IsBlockSize size → bytes ≤ most_bytes → up bytes size ≤ most_bytes / size
-few_blocks size bytes (inl is) low = subst (λ (b : ℕ). up bytes b ≤ most_bytes / b) (sym is) (let s = (up_spec bytes 512 (omega arith)).1 in omega arith)
-few_blocks size bytes (inr (inl is)) low = subst (λ (b : ℕ). up bytes b ≤ most_bytes / b) (sym is) (let s = (up_spec bytes 1024 (omega arith)).1 in omega arith)
-few_blocks size bytes (inr (inr (inl is))) low = subst (λ (b : ℕ). up bytes b ≤ most_bytes / b) (sym is) (let s = (up_spec bytes 2048 (omega arith)).1 in omega arith)
-few_blocks size bytes (inr (inr (inr is))) low = subst (λ (b : ℕ). up bytes b ≤ most_bytes / b) (sym is) (let s = (up_spec bytes 4096 (omega arith)).1 in omega arith)
+pub whole_blocks : (size bytes : ℕ) → IsBlockSize size → bytes ≤ most_bytes → up bytes size * size ≤ most_bytes
+whole_blocks size bytes (inl is) low = subst (λ (b : ℕ). up bytes b * b ≤ most_bytes) (sym is) (let s = (up_spec bytes 512 (omega arith)).1 in omega arith)
+whole_blocks size bytes (inr (inl is)) low = subst (λ (b : ℕ). up bytes b * b ≤ most_bytes) (sym is) (let s = (up_spec bytes 1024 (omega arith)).1 in omega arith)
+whole_blocks size bytes (inr (inr (inl is))) low = subst (λ (b : ℕ). up bytes b * b ≤ most_bytes) (sym is) (let s = (up_spec bytes 2048 (omega arith)).1 in omega arith)
+whole_blocks size bytes (inr (inr (inr is))) low = subst (λ (b : ℕ). up bytes b * b ≤ most_bytes) (sym is) (let s = (up_spec bytes 4096 (omega arith)).1 in omega arith)
 
-wide_fan : (size : ℕ) (format : Format) → IsBlockSize size → 2 ≤ fan_of size format
-wide_fan size F is = omega (arith, is)
-wide_fan size V is = omega (arith, is)
+few_blocks : (size bytes : ℕ) → IsBlockSize size → bytes ≤ most_bytes → up bytes size ≤ most_bytes / size
+few_blocks size bytes is low = (le-div_iff_mul-le {k = size} {x = up bytes size} {y = most_bytes} (omega (arith, is))).1 (whole_blocks size bytes is low)
 
 some_bytes : (format : Format) (size count bytes : ℕ) → IsSized format size count bytes → 1 ≤ size → 1 ≤ count → 1 ≤ bytes
 some_bytes F size count bytes is low some = subst (λ (n : ℕ). 1 ≤ n) (sym is) (mul-pos low some)
@@ -116,7 +116,7 @@ entry_passes bsize name shape tree size can many high leaves =
       fits = record {
         long = lengths shape.format e refl can.low can.high;
         counts = counts bsize shape.format e shape.bytes size refl can.sized can.some many some high leaves;
-        levels = shapes bsize e (wide_fan bsize shape.format size) (omega arith) refl;
+        levels = shapes bsize e (fan_wide bsize shape.format size) (omega arith) refl;
       };
       stamp = can.stamp;
     })
@@ -174,7 +174,7 @@ pub record Parts (v : HeldVolume) (name : Name) (asked : DraftShape) (stamp : St
   pub entry : e ≡ entry_for v.disk.bsize name asked tree
   pub allotted : (given : List ℕ) → GivenAt v.files place given → IsAllotted v (count_with place (length v.files)) given a.file.items a.directory a.map_tree a.map
   pub room : length a.file.items + needed v (count_with place (length v.files)) ≤ length (free_blocks v.bits)
-  pub filled : IsFilled v (entries_with (entries_held v.files) place e) a stamp s
+  pub filled : IsFilled v (list_with (entries_held v.files) place e) a stamp s
 
 -- an edit of the files that puts the new one in the place
 record Edits (v : HeldVolume) (g : HeldFile) (place : Option ℕ) : Type 0 where
@@ -182,12 +182,9 @@ record Edits (v : HeldVolume) (g : HeldFile) (place : Option ℕ) : Type 0 where
   put : IsPutOf v g edit
   given : GivenAt v.files place edit.given
   taken : edit.taken ≡ blocks_in g.tree
-  files : edit.files ≡ files_with v.files place g
-  entries : entries_held edit.files ≡ entries_with (entries_held v.files) place g.entry
+  files : edit.files ≡ list_with v.files place g
+  entries : entries_held edit.files ≡ list_with (entries_held v.files) place g.entry
   count : length edit.files ≡ count_with place (length v.files)
-
-same_some : (a b : HeldFile) → Some a ≡ Some b → a ≡ b
-same_some a b e = cc e
 
 edits : (v : HeldVolume) (g : HeldFile) (place : Option ℕ) → place ≡ position (same_name g.entry.name) (names_in v.files) → Edits v g place
 edits v g None at = record {
@@ -204,7 +201,7 @@ edits v g (Some k) at =
     record {
       edit = replacing v.files k n.file g;
       put = replaces k n.file n.there n.named;
-      given = λ f there. ap (λ (x : HeldFile). blocks_in x.tree) (same_some n.file f (sym n.there ∙ there));
+      given = λ f there. ap (λ (x : HeldFile). blocks_in x.tree) (same_Some n.file f (sym n.there ∙ there));
       taken = refl;
       files = refl;
       entries = map-set (λ (f : HeldFile). f.entry) v.files k g;
@@ -226,7 +223,7 @@ planned_parts v name asked stamp place tree a e s p =
     let same : a.file.items ≡ d.edit.taken = sym p.blocks ∙ sym d.taken in
     let allotted : IsAllotted v (length d.edit.files) d.edit.given d.edit.taken s.directory s.map s.bits =
     rw (d.count, f.directory_is, f.map_is, f.bits_are) (subst (λ (t : List ℕ). IsAllotted v (count_with place (length v.files)) d.edit.given t a.directory a.map_tree a.map) same all) in
-    let entries : entries_held d.edit.files ≡ entries_with (entries_held v.files) place e = d.entries ∙ ap (entries_with (entries_held v.files) place) (sym p.entry) in
+    let entries : entries_held d.edit.files ≡ list_with (entries_held v.files) place e = d.entries ∙ ap (list_with (entries_held v.files) place) (sym p.entry) in
     let long = length-append tree.leaves tree.pointers in
     let whole : length (tree.leaves ++ tree.pointers) ≡ length a.file.items = ap (λ (t : List ℕ). length t) p.blocks in
     let number = p.count in
@@ -239,9 +236,9 @@ planned_parts v name asked stamp place tree a e s p =
       asked = p.can;
       edit = d.edit;
       put = d.put;
-      files_are = d.files ∙ ap (λ (o : Option ℕ). files_with v.files o g) p.at;
+      files_are = d.files ∙ ap (λ (o : Option ℕ). list_with v.files o g) p.at;
       few = omega arith;
-      ready = ready_of v d.edit (entries_with (entries_held v.files) place e) stamp s p.kept p.stamped allotted f.systems entries;
+      ready = ready_of v d.edit (list_with (entries_held v.files) place e) stamp s p.kept p.stamped allotted f.systems entries;
       label_long = f.systems.label_long;
       passes_all = entry_passes v.disk.bsize name asked tree p.size p.can l.1 l.2 p.leaves;
       leaves_are = p.leaves;
@@ -270,7 +267,7 @@ pub some_given : (v : HeldVolume) (name : Name) (place : Option ℕ) → place �
 some_given v name None at = ([], refl)
 some_given v name (Some k) at =
     let n = named_at v.files name k (sym at) in
-    (blocks_in n.file.tree, λ f there. ap (λ (x : HeldFile). blocks_in x.tree) (same_some n.file f (sym n.there ∙ there)))
+    (blocks_in n.file.tree, λ f there. ap (λ (x : HeldFile). blocks_in x.tree) (same_Some n.file f (sym n.there ∙ there)))
 
 -- a limit that is passed, or none
 pub count_files : (v : HeldVolume) (name : Name) (place : Option ℕ) (files : ℕ) → place ≡ position (same_name name) (names_in v.files) → files ≡ count_with place (length v.files)

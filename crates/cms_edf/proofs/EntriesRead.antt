@@ -1,5 +1,5 @@
 -- Entries read one after another.
-use Rattle.std.proofs.Common.{◌≡◌, ℕ, suc, ◌+◌, ◌-◌, ◌*◌, ◌<◌, ◌≤◌, List, [], ◌∷◌, ◌++◌, take, drop, Result, Ok, Err, refl, sym, ◌∙◌, ap, arith, append-nil, append_assoc}
+use Rattle.std.proofs.Common.{◌≡◌, ℕ, suc, ◌+◌, ◌-◌, ◌*◌, ◌<◌, ◌≤◌, List, [], ◌∷◌, ◌++◌, take, drop, Result, Ok, Err, refl, ◌∙◌, ap, arith, append-nil}
 use Rattle.std.proofs.lemmas.List.{drop-drop}
 use Rattle.cms_fields.specs.Steps.{◌>>=◌}
 use Rattle.cms_fields.specs.Entries.{entry_of}
@@ -11,6 +11,7 @@ use Rattle.cms_model.specs.declared.fault.OpenFault.TheVariants as failed
 use Rattle.cms_held.specs.Opening.{IsFaultOf}
 use Rattle.cms_edf.specs.OpeningSteps.{behind}
 use Rattle.cms_edf.proofs.Faults.{fault_is}
+use Rattle.cms_edf.proofs.FileTrees.{behind_more, behind_none}
 
 -- what is left to read from a place on
 abbrev pub left_at : ℕ → ℕ → List ℕ → ℕ → Result (List Entry) OpenFault
@@ -19,10 +20,6 @@ left_at bsize count bytes place = entries_of bsize (place + 2) (cut (count - pla
 -- those that were read, and what is left to read
 abbrev pub Comes : ℕ → ℕ → List ℕ → ℕ → List Entry → Type 0
 Comes bsize count bytes place entries = entries_of bsize 2 (cut count 64 bytes) ≡ behind entries (left_at bsize count bytes place)
-
-behind_none : (r : Result (List Entry) OpenFault) → r ≡ behind [] r
-behind_none (Ok es) = refl
-behind_none (Err e) = refl
 
 pub comes_first : (bsize count : ℕ) (bytes : List ℕ) → Comes bsize count bytes 0 []
 comes_first bsize count bytes = let e : count - 0 ≡ count = omega arith in rw e (behind_none (entries_of bsize 2 (cut count 64 bytes)))
@@ -39,17 +36,13 @@ left_one bsize count bytes place less =
     let behind' : drop 64 (drop (place * 64) bytes) ≡ drop ((place + 1) * 64) bytes = drop-drop 64 (place * 64) bytes ∙ ap (λ (n : ℕ). drop n bytes) on in
     rw (one, next, behind') refl
 
-again : (entries : List Entry) (entry : Entry) (r : Result (List Entry) OpenFault) → behind entries (r >>= λ more. Ok (entry ∷ more)) ≡ behind (entries ++ (entry ∷ [])) r
-again entries entry (Ok more) = ap Ok (sym (append_assoc entries (entry ∷ []) more))
-again entries entry (Err e) = refl
-
 pub comes_next : (bsize count : ℕ) (bytes : List ℕ) (place : ℕ) (entries : List Entry) (entry : Entry) → place < count
     → blamed (failed.Entry (place + 2)) (entry_of bsize (take 64 (drop (place * 64) bytes))) ≡ Ok entry → Comes bsize count bytes place entries
     → Comes bsize count bytes (place + 1) (entries ++ (entry ∷ []))
 comes_next bsize count bytes place entries entry less is comes =
     let step : left_at bsize count bytes place ≡ (left_at bsize count bytes (place + 1) >>= λ more. Ok (entry ∷ more)) =
     left_one bsize count bytes place less ∙ ap (λ (r : Result Entry OpenFault). r >>= λ e. left_at bsize count bytes (place + 1) >>= λ more. Ok (e ∷ more)) is in
-    comes ∙ (ap (behind entries) step ∙ again entries entry (left_at bsize count bytes (place + 1)))
+    comes ∙ (ap (behind entries) step ∙ behind_more entries entry (left_at bsize count bytes (place + 1)))
 
 pub comes_bad : (bsize count : ℕ) (bytes : List ℕ) (place : ℕ) (entries : List Entry) (why : OpenFault) → place < count
     → blamed (failed.Entry (place + 2)) (entry_of bsize (take 64 (drop (place * 64) bytes))) ≡ Err why → Comes bsize count bytes place entries → IsFaultOf (entries_of bsize 2 (cut count 64 bytes)) why

@@ -1,11 +1,8 @@
 -- The trees of files, read one after another.
-use Rattle.std.proofs.Common.{◌≡◌, ◌⊎◌, inl, inr, ℕ, zero, suc, ◌+◌, ◌*◌, ◌/◌, ◌<◌, ◌≤◌, List, [], ◌∷◌, ◌++◌, length, take, drop, map, get_or, None, Result, Ok, Err, refl, sym, ◌∙◌, ap, subst, arith, append-nil, append_assoc}
-use Rattle.std.specs.List.{All}
-use Rattle.std.proofs.lemmas.List.{map-append}
-use Rattle.std.proofs.lemmas.List.Elements.{All-append}
+use Rattle.std.proofs.Common.{◌≡◌, inl, inr, ℕ, ◌+◌, ◌*◌, ◌/◌, ◌<◌, ◌≤◌, List, [], ◌∷◌, ◌++◌, length, take, drop, map, get_or, None, Result, Ok, Err, refl, sym, ◌∙◌, ap, subst, arith, append-nil, append_assoc}
+use Rattle.std.proofs.lemmas.List.{drop_all, drop_more, map-append, take_all, take_more}
 use Rattle.cms_journal.specs.Journal.{Journal, IsBlockSize, contents_of}
 use Rattle.cms_names.specs.declared.name.Format.{Format}
-use Rattle.cms_names.specs.declared.name.Format.TheVariants.{F, V}
 use Rattle.cms_fields.specs.Steps.{◌>>=◌}
 use Rattle.cms_fields.specs.Entries.{fan_of, pointer_size}
 use Rattle.cms_fields.specs.declared.entry.Entry.{Entry}
@@ -21,6 +18,7 @@ use Rattle.cms_held.specs.Opening.{IsFaultOf}
 use Rattle.cms_edf.specs.OpeningSteps.{met_in, behind, ReadsTree}
 use Rattle.cms_edf.specs.EntryShapes.{HasShape}
 use Rattle.cms_edf.specs.OpeningFiles.{file_at, file_tree, file_nodes, pointers_in, ReadsFile, HasFiles, HaveCounts}
+use Rattle.cms_held.proofs.Drafted.{fan_is}
 use Rattle.cms_edf.proofs.Faults.{fault_passes}
 
 -- ---- where an entry stands
@@ -41,14 +39,6 @@ place_in bsize n number (inr (inr (inl is))) less = let l = in_place bsize n num
 place_in bsize n number (inr (inr (inr is))) less = let l = in_place bsize n number less 4096 is in rw is (omega arith)
 
 -- ---- a file
-
-pub pointer_is : (f : Format) → (pointer_size f ≡ 4) ⊎ (pointer_size f ≡ 12)
-pointer_is F = inl refl
-pointer_is V = inr refl
-
-fan_is : (bsize : ℕ) (f : Format) → bsize / pointer_size f ≡ fan_of bsize f
-fan_is bsize F = refl
-fan_is bsize V = refl
 
 form_is : (bsize total fan : ℕ) (f : Format) → fan ≡ fan_of bsize f → ◌≡◌ {A = Form} (record { fan = fan; stride = pointer_size f; last = total }) (form_of bsize total f)
 form_is bsize total fan f is = rw is refl
@@ -79,26 +69,10 @@ file_read place j holder e at result shape same read =
 -- ---- lists from a place on
 
 pub front_of : {A : Type 0} (all : List A) (k : ℕ) (e : A) → k < length all → e ≡ get_or all k e → drop k all ≡ e ∷ drop (k + 1) all
-front_of [] k e less is = absurd (omega arith)
-front_of {A = A} (x ∷ xs) zero e less is = ap (λ (y : A). y ∷ xs) (sym is)
-front_of (x ∷ xs) (suc k) e less is = let next : suc k + 1 ≡ suc (k + 1) = omega arith in rw next (front_of xs k e (omega arith) is)
+front_of {A = A} all k e less is = drop_more all k e less ∙ ap (λ (x : A). x ∷ drop (k + 1) all) (sym is)
 
 pub taken_next : {A : Type 0} (all : List A) (k : ℕ) (e : A) → k < length all → e ≡ get_or all k e → take (k + 1) all ≡ take k all ++ (e ∷ [])
-taken_next [] k e less is = absurd (omega arith)
-taken_next {A = A} (x ∷ xs) zero e less is = ap (λ (y : A). y ∷ []) (sym is)
-taken_next {A = A} (x ∷ xs) (suc k) e less is = let next : suc k + 1 ≡ suc (k + 1) = omega arith in rw next (ap (λ (l : List A). x ∷ l) (taken_next xs k e (omega arith) is))
-
-pub past_last : {A : Type 0} (all : List A) (k : ℕ) → length all ≤ k → drop k all ≡ []
-past_last [] zero le = refl
-past_last [] (suc k) le = refl
-past_last (x ∷ xs) zero le = absurd (omega arith)
-past_last (x ∷ xs) (suc k) le = past_last xs k (omega arith)
-
-pub all_taken : {A : Type 0} (all : List A) (k : ℕ) → length all ≤ k → take k all ≡ all
-all_taken [] zero le = refl
-all_taken [] (suc k) le = refl
-all_taken (x ∷ xs) zero le = absurd (omega arith)
-all_taken {A = A} (x ∷ xs) (suc k) le = ap (λ (l : List A). x ∷ l) (all_taken xs k (omega arith))
+taken_next {A = A} all k e less is = take_more all k e less ∙ ap (λ (x : A). take k all ++ x ∷ []) (sym is)
 
 pub behind_none : {A : Type 0} (r : Result (List A) OpenFault) → r ≡ behind [] r
 behind_none (Ok xs) = refl
@@ -162,9 +136,9 @@ pub files_last : (place : Place) (image : Image) (leaves : List ℕ) (entries : 
     → HasFiles place image leaves entries walks
 unfolding file_trees
 files_last place image leaves entries k walks past files = record {
-  trees = files.trees ∙ (ap (λ (l : List Entry). behind (map met_in walks) (file_trees place.bsize place.total image leaves (k + 2) l)) (past_last entries k past)
+  trees = files.trees ∙ (ap (λ (l : List Entry). behind (map met_in walks) (file_trees place.bsize place.total image leaves (k + 2) l)) (drop_all k entries past)
       ∙ ap Ok (append-nil (map met_in walks)));
-  nodes_are = files.nodes_are ∙ ap (map (file_nodes place image)) (all_taken entries k past);
+  nodes_are = files.nodes_are ∙ ap (map (file_nodes place image)) (take_all k entries past);
 }
 
 -- ---- all blocks of some trees
@@ -185,14 +159,7 @@ pub blocks_last : (directory m : List ℕ) (walks : List Walked) (k : ℕ) (bloc
     → blocks ≡ directory ++ (m ++ blocks_of (map met_in walks))
 unfolding blocks_of
 blocks_last directory m walks k blocks past to =
-    sym (append-nil blocks) ∙ (sym (ap (λ (l : List Walked). blocks ++ blocks_of (map met_in l)) (past_last walks k past)) ∙ (sym to ∙ append_assoc directory m (blocks_of (map met_in walks))))
-
-pub all_more : {X : Type 0} (P : X → Type 0) (xs : List X) (x : X) → All P xs → P x → All P (xs ++ (x ∷ []))
-all_more P xs x each is = All-append P xs (x ∷ []) each one
-  where
-    one : All P (x ∷ [])
-    one zero d less = is
-    one (suc k) d less = absurd (omega arith)
+    sym (append-nil blocks) ∙ (sym (ap (λ (l : List Walked). blocks ++ blocks_of (map met_in l)) (drop_all k walks past)) ∙ (sym to ∙ append_assoc directory m (blocks_of (map met_in walks))))
 
 pub counts_next : (entries : List Entry) (k : ℕ) (e : Entry) (walks : List Walked) (walked : Walked) → k < length entries → e ≡ get_or entries k e → length walked.leaves.items ≡ e.blocks
     → HaveCounts (take k entries) walks → HaveCounts (take (k + 1) entries) (walks ++ (walked ∷ []))
@@ -203,4 +170,4 @@ counts_next entries k e walks walked less is count counts =
     ∙ (sym (map-append (λ (x : Entry). x.blocks) (take k entries) (e ∷ [])) ∙ ap (map (λ (x : Entry). x.blocks)) (sym (taken_next entries k e less is)))))
 
 pub counts_last : (entries : List Entry) (k : ℕ) (walks : List Walked) → length entries ≤ k → HaveCounts (take k entries) walks → HaveCounts entries walks
-counts_last entries k walks past counts = counts ∙ ap (map (λ (x : Entry). x.blocks)) (all_taken entries k past)
+counts_last entries k walks past counts = counts ∙ ap (map (λ (x : Entry). x.blocks)) (take_all k entries past)

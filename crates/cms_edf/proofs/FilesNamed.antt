@@ -1,6 +1,7 @@
 -- Files that are kept under their names, and what is asked of them.
 use Rattle.std.proofs.Common.{◌≡◌, ⊎_elim, ℕ, ◌≤◌, true, List, [], ◌∷◌, ◌++◌, length, None, Some, refl, sym, ◌∙◌, ap, subst}
 use Rattle.std.specs.Map.{keys_of, values_of}
+use Rattle.std.proofs.lemmas.List.{map_push}
 use Rattle.cms_names.specs.declared.name.Name.{Name}
 use Rattle.cms_names.specs.declared.name.Format.TheVariants.{F}
 use Rattle.cms_fields.specs.Entries.{passes}
@@ -8,7 +9,7 @@ use Rattle.cms_fields.specs.declared.entry.Entry.{Entry}
 use Rattle.cms_records.specs.declared.sizes.VarSizes.{VarSizes}
 use Rattle.cms_tree.specs.Walks.{AreWithin}
 use Rattle.cms_tree.specs.declared.types.Walked.{Walked}
-use Rattle.cms_held.specs.Opening.{HeldFile, by_name, names_in}
+use Rattle.cms_held.specs.Opening.{HeldFile, Holding, by_name, names_in}
 use Rattle.cms_edf.specs.EntryShapes.{HasSize}
 use Rattle.cms_held.specs.Kept.{IsKeptFile}
 use Rattle.cms_edf.proofs.RecordsRead.{made}
@@ -22,22 +23,18 @@ pub values_named : (files : List HeldFile) → values_of (by_name files) ≡ fil
 values_named [] = refl
 values_named (f ∷ fs) = ap (λ (l : List HeldFile). f ∷ l) (values_named fs)
 
+-- the keys of a map of the files that are held
+pub keys_held : (es : List (Name × HeldFile)) (inside h : Holding) → es ≡ by_name inside.volume.files → inside ≡ h → keys_of es ≡ names_in h.volume.files
+keys_held es inside h named is = ap keys_of named ∙ (keys_named inside.volume.files ∙ ap (λ (x : Holding). names_in x.volume.files) is)
+
 -- one more
-more_named : (files : List HeldFile) (f : HeldFile) → by_name files ++ ((f.entry.name, f) ∷ []) ≡ by_name (files ++ (f ∷ []))
-more_named [] f = refl
-more_named (x ∷ xs) f = ap (λ (l : List (Name × HeldFile)). (x.entry.name, x) ∷ l) (more_named xs f)
-
-more_values : (es : List (Name × HeldFile)) (name : Name) (f : HeldFile) → values_of (es ++ ((name, f) ∷ [])) ≡ values_of es ++ (f ∷ [])
-more_values [] name f = refl
-more_values (e ∷ es) name f = ap (λ (l : List HeldFile). e.1 ∷ l) (more_values es name f)
-
 pub values_next : (es es' : List (Name × HeldFile)) (f : HeldFile) → es' ≡ es ++ ((f.entry.name, f) ∷ []) → values_of es' ≡ values_of es ++ (f ∷ [])
-values_next es es' f is = ap values_of is ∙ more_values es f.entry.name f
+values_next es es' f is = ap values_of is ∙ map_push (λ (e : Name × HeldFile). e.1) es (f.entry.name, f)
 
 pub named_next : (es es' : List (Name × HeldFile)) (f : HeldFile) → es' ≡ es ++ ((f.entry.name, f) ∷ []) → es ≡ by_name (values_of es) → es' ≡ by_name (values_of es')
 named_next es es' f is named =
     is ∙ (ap (λ (l : List (Name × HeldFile)). l ++ ((f.entry.name, f) ∷ [])) named
-    ∙ (more_named (values_of es) f ∙ ap by_name (sym (values_next es es' f is))))
+    ∙ (sym (map_push (λ (g : HeldFile). (g.entry.name, g)) (values_of es) f) ∙ ap by_name (sym (values_next es es' f is))))
 
 -- a file that was read is one that is kept
 pub file_kept : (bsize total : ℕ) (e : Entry) (w : Walked) (sizes : VarSizes) (f : HeldFile) → f ≡ made e w sizes → passes bsize e ≡ true → HasSize bsize e → length w.leaves.items ≡ e.blocks

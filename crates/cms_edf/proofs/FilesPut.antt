@@ -7,7 +7,7 @@ use Rattle.indexmap.proofs.MapLemmas.{Found-position, absent_from_lookup, insert
 use Rattle.cms_names.specs.declared.name.Name.{Name}
 use Rattle.cms_model.specs.Minidisks.{is_named, same_name}
 use Rattle.cms_held.specs.Opening.{HeldFile, by_name, names_in}
-use Rattle.cms_edf.specs.FileDrafts.{files_with}
+use Rattle.cms_edf.specs.FileDrafts.{list_with}
 use Rattle.cms_edf.proofs.FilesNamed.{keys_named, values_named}
 use Rattle.cms_edf.proofs.NamesMet.{none_there, place_there, same_as}
 use Rattle.cms_edf.proofs.PlanParts.{not_named}
@@ -20,10 +20,10 @@ value_set (x ∷ fs) zero f g there is =
     ap (λ (n : Name). (n, g) ∷ by_name fs) (ap (λ (y : HeldFile). y.entry.name) same ∙ is)
 value_set (x ∷ fs) (suc i) f g there is = ap (λ (l : List (Name × HeldFile)). (x.entry.name, x) ∷ l) (value_set fs i f g there is)
 
-pub inserted : (fs : List HeldFile) (g : HeldFile) → insert_entry same_as (by_name fs) g.entry.name g ≡ by_name (files_with fs (position (same_name g.entry.name) (names_in fs)) g)
+pub inserted : (fs : List HeldFile) (g : HeldFile) → insert_entry same_as (by_name fs) g.entry.name g ≡ by_name (list_with fs (position (same_name g.entry.name) (names_in fs)) g)
 inserted fs g = at (position (same_name g.entry.name) (names_in fs)) refl
   where
-    at : (o : Option ℕ) → position (same_name g.entry.name) (names_in fs) ≡ o → insert_entry same_as (by_name fs) g.entry.name g ≡ by_name (files_with fs o g)
+    at : (o : Option ℕ) → position (same_name g.entry.name) (names_in fs) ≡ o → insert_entry same_as (by_name fs) g.entry.name g ≡ by_name (list_with fs o g)
     at None none =
         insert_entry-absent same_as g.entry.name g (by_name fs) (absent_from_lookup (same_as g.entry.name) (by_name fs)
         (none_there g.entry.name (by_name fs) (ap (is_named g.entry.name) (keys_named fs) ∙ not_named g.entry.name (names_in fs) none)))
@@ -36,12 +36,12 @@ inserted fs g = at (position (same_name g.entry.name) (names_in fs)) refl
 
 -- the files of a map in which it was put
 pub record Puts (es es' : List (Name × HeldFile)) (g : HeldFile) : Type 0 where
-  pub values : values_of es' ≡ files_with (values_of es) (position (same_name g.entry.name) (names_in (values_of es))) g
+  pub values : values_of es' ≡ list_with (values_of es) (position (same_name g.entry.name) (names_in (values_of es))) g
   pub named : es' ≡ by_name (values_of es')
 
 pub puts : (es es' : List (Name × HeldFile)) (g : HeldFile) → es ≡ by_name (values_of es) → es' ≡ insert_entry same_as es g.entry.name g → Puts es es' g
 puts es es' g is put =
-    let fs = files_with (values_of es) (position (same_name g.entry.name) (names_in (values_of es))) g in
+    let fs = list_with (values_of es) (position (same_name g.entry.name) (names_in (values_of es))) g in
     let e : es' ≡ by_name fs = put ∙ ap (λ (l : List (Name × HeldFile)). insert_entry same_as l g.entry.name g) is ∙ inserted (values_of es) g in
     let values = ap values_of e ∙ values_named fs in
     record { values = values; named = e ∙ ap by_name (sym values) }

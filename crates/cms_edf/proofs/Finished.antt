@@ -1,7 +1,8 @@
 -- A change that was planned and is carried out.
-use Rattle.std.proofs.Common.{◌≡◌, inl, inr, ⊎_elim, ℕ, ◌+◌, ◌≤◌, List, [], ◌∷◌, ◌++◌, All, length, slice_get, Option, None, Some, Ok, Err, Result, OnOk, OnErr, Vec, Global, refl, sym, ◌∙◌, ap, subst, append_assoc, arith}
-use Rattle.std.specs.Prelude.{IfErr, IsSomeAnd, ⊤}
+use Rattle.std.proofs.Common.{◌≡◌, inl, inr, ⊎_elim, ℕ, ◌+◌, ◌≤◌, List, [], ◌∷◌, ◌++◌, All, length, slice_get, Some, Ok, Err, Result, OnOk, OnErr, Vec, Global, refl, sym, ◌∙◌, ap, subst, append_assoc, arith}
+use Rattle.std.specs.Prelude.{IfErr, ⊤}
 use Rattle.std.specs.Option.{ForSome}
+use Rattle.std.proofs.lemmas.Option.{same_Some}
 use Rattle.cms_journal.specs.declared.event.Event.{Event}
 use Rattle.cms_journal.specs.declared.event.Event.TheVariants.{Wrote, Synced}
 use Rattle.cms_journal.specs.declared.event.Attached.{Attached}
@@ -30,6 +31,7 @@ use Rattle.cms_held.specs.Renewing.{renewed}
 use Rattle.cms_held.specs.Systems.{Systems, system_writes}
 use Rattle.cms_edf.specs.Doubts.{Updates, UpdatesSystems}
 use Rattle.cms_edf.proofs.CutOff.{updates_cut, updates_done}
+use Rattle.cms_edf.proofs.Listings.{fewer_on}
 use Rattle.cms_edf.proofs.Planned.{renewed_keeps}
 use Rattle.cms_edf.specs.declared.change.FileEdit.{FileEdit}
 use Rattle.cms_edf.specs.declared.doubt.Doubt.{Doubt}
@@ -41,10 +43,7 @@ use Rattle.cms_held.proofs.Relabelling.{changed_is, relabel_is_held}
 
 -- what holds of a told journal
 pub told_so : (j : Journal) (new : Told) (p : List Event) (P : Journal → Type 0) → new ≡ plus (Some j) p → P (after j p) → ForSome new P
-told_so j new p P is has = λ k told. subst P (same (after j p) k (sym (is ∙ after_is_told j p) ∙ told)) has
-  where
-    same : (a b : Journal) → Some a ≡ Some b → a ≡ b
-    same a b e = cc e
+told_so j new p P is has = λ k told. subst P (same_Some (after j p) k (sym (is ∙ after_is_told j p) ∙ told)) has
 
 -- ---- fronts
 
@@ -170,10 +169,8 @@ edit_keeps v change stamp e e' s s' same_e same_s p f there =
     let there' : slice_get v.files (place_of e) ≡ Some f = sym (ap (λ (x : FileEdit). slice_get v.files (place_of x)) same_e) ∙ there in
     let has = renewed_keeps v e p.file stamp s p.may p.there p.ready p.label_long in
     subst (λ (x : FileEdit). Keeps (renewed v (edit_of v.files x f) s')) (sym same_e)
-    (subst (λ (x : Systems). Keeps (renewed v (edit_of v.files e f) x)) (sym same_s) (subst (λ (g : HeldFile). Keeps (renewed v (edit_of v.files e g) s)) (one p.file f (sym p.there ∙ there')) has))
-  where
-    one : (a b : HeldFile) → Some a ≡ Some b → a ≡ b
-    one a b e = cc e
+    (subst (λ (x : Systems). Keeps (renewed v (edit_of v.files e f) x)) (sym same_s)
+    (subst (λ (g : HeldFile). Keeps (renewed v (edit_of v.files e g) s)) (same_Some p.file f (sym p.there ∙ there')) has))
 
 pub label_keeps : (v : HeldVolume) (volid : List ℕ) (label : Label) (bytes bytes' : List ℕ) → bytes' ≡ bytes → IsReadyLabel v volid label bytes → Keeps (with_label_bytes v label bytes')
 label_keeps v volid label bytes bytes' same r =
@@ -199,12 +196,7 @@ label_blocks units v volid label bytes bytes' same r has =
     let k = r.kept in
     let at = k.within in let size = k.size in
     let long : length bytes' ≡ v.disk.bsize = ap (λ (l : List ℕ). length l) same ∙ r.bytes_long in
-    subst (λ (n : ℕ). HasBlocks units v.unit 3 n) (sym long) (fewer (slice_get units v.unit) 3 v.disk.count v.disk.bsize (omega arith) has)
-  where
-    fewer : (o : Option Attached) (few many size : ℕ) → few ≤ many → IsSomeAnd o (λ unit. (unit.bsize ≡ size) × (many ≤ length unit.start))
-        → IsSomeAnd o (λ unit. (unit.bsize ≡ size) × (few ≤ length unit.start))
-    fewer None few many size less has = has
-    fewer (Some unit) few many size less has = (has.0, omega (arith, has.1))
+    subst (λ (n : ℕ). HasBlocks units v.unit 3 n) (sym long) (fewer_on units v.unit 3 v.disk.count v.disk.bsize (omega arith) has)
 
 -- the volume of a plan is kept
 pub plan_keeps : (v : HeldVolume) (change : Change) (stamp : Stamp) (s : Step) → IsPlanFor v change stamp s → Keeps v

@@ -1,8 +1,8 @@
 -- The bytes of blocks, read one after another.
 use Rattle.std.proofs.Common.{◌≡◌, ℕ, ◌+◌, ◌*◌, ◌<◌, ◌≤◌, List, [], ◌++◌, length, drop, slice_index, refl, sym, ◌∙◌, ap, arith, append-nil, append_assoc}
-use Rattle.std.proofs.lemmas.List.{length-append}
+use Rattle.std.proofs.lemmas.List.{drop_all, length-append}
 use Rattle.cms_model.specs.Trees.{Image, bytes_at}
-use Rattle.cms_edf.proofs.MetBlocks.{front_of, past_last}
+use Rattle.cms_edf.proofs.MetBlocks.{front_of}
 
 -- what was read, and what is left to read
 abbrev pub Reads : Image → List ℕ → ℕ → List ℕ → Type 0
@@ -21,7 +21,7 @@ reads_next image blocks k bytes block less is reads =
 pub reads_last : (image : Image) (blocks : List ℕ) (k : ℕ) (bytes : List ℕ) → length blocks ≤ k → Reads image blocks k bytes → bytes ≡ bytes_at image blocks
 unfolding bytes_at
 reads_last image blocks k bytes past reads =
-    sym (reads ∙ (ap (λ (l : List ℕ). bytes ++ bytes_at image l) (past_last blocks k past) ∙ append-nil bytes))
+    sym (reads ∙ (ap (λ (l : List ℕ). bytes ++ bytes_at image l) (drop_all k blocks past) ∙ append-nil bytes))
 
 pub size_next : (size k : ℕ) (bytes block : List ℕ) → length bytes ≡ size * k → length block ≡ size → length (bytes ++ block) ≡ size * (k + 1)
 size_next size k bytes block some more = length-append bytes block ∙ omega (arith, some, more)

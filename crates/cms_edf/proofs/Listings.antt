@@ -1,5 +1,6 @@
 -- What the directory says, test by test.
 use Rattle.std.proofs.Common.{◌≡◌, ◌⊎◌, inl, inr, ℕ, zero, suc, ◌-◌, ◌/◌, ◌<◌, ◌≤◌, List, [], ◌∷◌, length, drop, slice_index, slice_get, IsSomeAnd, Option, Some, None, Result, Ok, Err, refl, sym, ◌∙◌, subst, arith}
+use Rattle.std.proofs.lemmas.Option.{same_Some}
 use Rattle.cms_names.specs.declared.name.Format.TheVariants.{F}
 use Rattle.cms_fields.specs.declared.entry.Entry.{Entry}
 use Rattle.cms_model.specs.Lists.{In, cut}
@@ -91,30 +92,35 @@ tree_has place j d walked at is shape same read =
 -- a data block of the directory stands on the unit
 pub leaf_low : (total origin n : ℕ) → 6 ≤ total → (origin ≡ 4) ⊎ (origin ≡ 5) → ((6 ≤ n) × (n ≤ total)) ⊎ (Some origin ≡ Some n) → (1 ≤ n) × (n ≤ total)
 leaf_low total origin n some at (inl range) = let low = range.0 in (omega arith, range.1)
-leaf_low total origin n some (inl at) (inr same) = let e : origin ≡ n = some_same origin n same in (omega arith, omega arith)
-  where
-    some_same : (a b : ℕ) → Some a ≡ Some b → a ≡ b
-    some_same a b e = cc
-leaf_low total origin n some (inr at) (inr same) = let e : origin ≡ n = some_same origin n same in (omega arith, omega arith)
-  where
-    some_same : (a b : ℕ) → Some a ≡ Some b → a ≡ b
-    some_same a b e = cc
+leaf_low total origin n some (inl at) (inr same) = let e = same_Some origin n same in (omega arith, omega arith)
+leaf_low total origin n some (inr at) (inr same) = let e = same_Some origin n same in (omega arith, omega arith)
 
 pub stands : (xs : List ℕ) (k : ℕ) → k < length xs → In (slice_index xs k) xs
 stands [] k less = absurd (omega arith)
 stands (x ∷ xs) zero less = inl refl
 stands (x ∷ xs) (suc k) less = inr (stands xs k (omega arith))
 
+-- each block of a unit is one of it, and so are fewer of them
+pub on_unit : (units : List Attached) (unit total bsize n : ℕ) → 1 ≤ n → n ≤ total → HasBlocks units unit total bsize → HasBlock units unit n bsize
+on_unit units unit total bsize n low high has = go (slice_get units unit) has
+  where
+    go : (o : Option Attached) → IsSomeAnd o (λ u. (u.bsize ≡ bsize) × (total ≤ length u.start)) → IsSomeAnd o (λ u. (u.bsize ≡ bsize) × (1 ≤ n) × (n ≤ length u.start))
+    go (Some u) h = let long = h.1 in (h.0, low, omega arith)
+    go None h = absurd h
+
+pub fewer_on : (units : List Attached) (unit few many bsize : ℕ) → few ≤ many → HasBlocks units unit many bsize → HasBlocks units unit few bsize
+fewer_on units unit few many bsize less has = go (slice_get units unit) has
+  where
+    go : (o : Option Attached) → IsSomeAnd o (λ u. (u.bsize ≡ bsize) × (many ≤ length u.start)) → IsSomeAnd o (λ u. (u.bsize ≡ bsize) × (few ≤ length u.start))
+    go (Some u) h = (h.0, omega (arith, h.1))
+    go None h = h
+
 pub leaf_block : (j : Journal) (unit total origin bsize : ℕ) (walked : Walked) (leaves : List ℕ) (k : ℕ) → leaves ≡ walked.leaves.items → k < length leaves → 6 ≤ total → (origin ≡ 4) ⊎ (origin ≡ 5)
     → IsWithin total (Some origin) walked → HasBlocks j.units unit total bsize → HasBlock j.units unit (slice_index leaves k) bsize
 leaf_block j unit total origin bsize walked leaves k same less some at within has =
     let n = slice_index leaves k in
     let range = leaf_low total origin n some at (within.leaves n (subst (λ (l : List ℕ). In n l) same (stands leaves k less))) in
-    go n range.0 range.1 (slice_get j.units unit) has
-  where
-    go : (n : ℕ) → 1 ≤ n → n ≤ total → (o : Option Attached) → IsSomeAnd o (λ u. (u.bsize ≡ bsize) × (total ≤ length u.start)) → IsSomeAnd o (λ u. (u.bsize ≡ bsize) × (1 ≤ n) × (n ≤ length u.start))
-    go n low high (Some u) h = let long = h.1 in (h.0, low, omega arith)
-    go n low high None h = absurd h
+    on_unit j.units unit total bsize n range.0 range.1 has
 
 pub few_files : (count n : ℕ) → n ≡ count - 2 → count ≤ 16386 → n ≤ 16384
 few_files count n is few = omega arith

@@ -1,24 +1,15 @@
 -- Blocks that were met, told by bits.
-use Rattle.std.proofs.Common.{◌≡◌, ⊎_elim, inl, inr, ℕ, zero, suc, ◌+◌, ◌-◌, ◌<◌, ◌≤◌, Bool, true, false, List, [], ◌∷◌, length, drop, slice_index, slice_index_or, slice_set, Some, None, refl, sym, ◌∙◌, ap, subst, arith}
+use Rattle.std.proofs.Common.{◌≡◌, ⊎_elim, ℕ, zero, suc, ◌+◌, ◌-◌, ◌<◌, ◌≤◌, Bool, true, false, List, [], ◌∷◌, length, drop, slice_index, slice_index_or, slice_set, Some, None, refl, sym, ◌∙◌, ap, subst, arith}
 use Rattle.std.specs.Prelude.{◌==◌, ◌||◌}
-use Rattle.std.proofs.lemmas.Bool.{cases_Bool, cases_eq, eqb-true, eq-eqb}
+use Rattle.std.proofs.lemmas.Bool.{cases_eq, eq-eqb, ne_eqb}
+use Rattle.std.proofs.lemmas.List.{drop_all, drop_more}
 use Rattle.cms_model.specs.Lists.{In, holds, first_repeat}
 use Rattle.cms_edf.specs.OpeningSteps.{AreBlocks, AreClear, Tells}
+use Rattle.cms_edf.proofs.Listings.{stands}
 
 -- a list from a place on
-front_at : (xs : List ℕ) (k : ℕ) → k < length xs → drop k xs ≡ slice_index xs k ∷ drop (suc k) xs
-front_at [] k less = absurd (omega arith)
-front_at (x ∷ xs) zero less = refl
-front_at (x ∷ xs) (suc k) less = front_at xs k (omega arith)
-
 pub front_of : (xs : List ℕ) (k : ℕ) → k < length xs → drop k xs ≡ slice_index xs k ∷ drop (k + 1) xs
-front_of xs k less = let next : k + 1 ≡ suc k = omega arith in rw next (front_at xs k less)
-
-pub past_last : (xs : List ℕ) (k : ℕ) → length xs ≤ k → drop k xs ≡ []
-past_last [] zero le = refl
-past_last [] (suc k) le = refl
-past_last (x ∷ xs) zero le = absurd (omega arith)
-past_last (x ∷ xs) (suc k) le = past_last xs k (omega arith)
+front_of xs k less = drop_more xs k 0 less
 
 -- so far: the bits tell those that were met, and what is left is looked at behind them
 pub record Meets (bits : List Bool) (left all : List ℕ) : Type 0 where
@@ -40,7 +31,7 @@ told_more : (bits : List Bool) (others : List ℕ) (b : ℕ) → 1 ≤ b → b -
 unfolding holds
 told_more bits others b some within told n least = ⊎_elim
     (λ (e : n ≡ b). rw (eq-eqb n b e) (subst (λ (k : ℕ). slice_index_or (slice_set bits (b - 1) true) (k - 1) false ≡ true) (sym e) (set_here bits (b - 1) within)))
-    (λ (ne : n ≡ b → ⊥). rw (other n b ne) (set_aside bits (b - 1) (n - 1) (λ e. ne (omega arith)) ∙ told n least))
+    (λ (ne : n ≡ b → ⊥). rw (ne_eqb n b ne) (set_aside bits (b - 1) (n - 1) (λ e. ne (omega arith)) ∙ told n least))
     (cases_eq n b)
   where
     set_here : (bs : List Bool) (k : ℕ) → k < length bs → slice_index_or (slice_set bs k true) k false ≡ true
@@ -54,9 +45,6 @@ told_more bits others b some within told n least = ⊎_elim
     set_aside (x ∷ bs) zero (suc i) ne = refl
     set_aside (x ∷ bs) (suc k) zero ne = refl
     set_aside (x ∷ bs) (suc k) (suc i) ne = set_aside bs k i (λ e. ne (ap suc e))
-
-    other : (a b : ℕ) → (a ≡ b → ⊥) → (a == b) ≡ false
-    other a b ne = ⊎_elim (λ (same : (a == b) ≡ true). absurd (ne (eqb-true a b same))) (λ (is : (a == b) ≡ false). is) (cases_Bool (a == b))
 
 bit_held : (bits : List Bool) (others : List ℕ) (b : ℕ) (bit : Bool) → Tells bits others → 1 ≤ b → slice_index_or bits (b - 1) false ≡ bit → holds others b ≡ bit
 bit_held bits others b bit told some is = sym (told b some) ∙ is
@@ -94,17 +82,12 @@ meets_next bits all k b less at some within is m =
 -- all were met, none twice
 pub meets_last : (bits : List Bool) (all : List ℕ) (k : ℕ) → length all ≤ k → Meets bits (drop k all) all → None ≡ first_repeat [] all
 unfolding first_repeat
-meets_last bits all k past m = ap (λ (l : List ℕ). first_repeat m.others l) (sym (past_last all k past)) ∙ m.first
+meets_last bits all k past m = ap (λ (l : List ℕ). first_repeat m.others l) (sym (drop_all k all past)) ∙ m.first
 
 pub meets_all : (bits : List Bool) (all : List ℕ) (k : ℕ) → length all ≤ k → Meets bits (drop k all) all → Tells bits all
 unfolding holds
-meets_all bits all k past m n some = m.told n some ∙ (ap (λ (l : List ℕ). holds l n || holds m.others n) (sym (past_last all k past)) ∙ m.every n)
+meets_all bits all k past m n some = m.told n some ∙ (ap (λ (l : List ℕ). holds l n || holds m.others n) (sym (drop_all k all past)) ∙ m.every n)
 
 -- a block of the list is one of so many
 pub block_within : (count : ℕ) (all : List ℕ) (k b : ℕ) → k < length all → b ≡ slice_index all k → AreBlocks count all → (1 ≤ b) × (b ≤ count)
-block_within count all k b less at within = within b (stands all k b less at)
-  where
-    stands : (xs : List ℕ) (k b : ℕ) → k < length xs → b ≡ slice_index xs k → In b xs
-    stands [] k b less at = absurd (omega arith)
-    stands (x ∷ xs) zero b less at = inl at
-    stands (x ∷ xs) (suc k) b less at = inr (stands xs k b (omega arith) at)
+block_within count all k b less at within = within b (subst (λ (n : ℕ). In n all) (sym at) (stands all k less))

@@ -5,11 +5,13 @@ use Rattle.std.specs.Str.{bytes_eq}
 use Rattle.std.specs.List.{list_any}
 use Rattle.std.specs.Map.{keys_of, lookup}
 use Rattle.std.proofs.lemmas.Bool.{or_parts, cases_Bool, eqb-true, eq-eqb}
+use Rattle.std.proofs.lemmas.List.{drop_all}
 use Rattle.cms_names.specs.declared.name.Name.{Name}
 use Rattle.cms_fields.specs.declared.entry.Entry.{Entry}
 use Rattle.cms_model.specs.Lists.{same}
 use Rattle.cms_model.specs.Minidisks.{same_name, is_named}
 use Rattle.cms_model.specs.Volumes.{first_twice}
+use Rattle.cms_edf.proofs.FileTrees.{front_of}
 
 -- the test of a set of names
 abbrev pub same_as : Name → Name → Bool
@@ -86,14 +88,6 @@ pub names_first : (keys : List Name) (all : List Entry) → keys ≡ [] → Name
 unfolding is_named
 names_first keys all none = record { before = []; told = λ q. ap (λ (l : List Name). list_any (same_as q) l) none; first = refl }
 
-front_at : (all : List Entry) (k : ℕ) (e : Entry) → k < length all → e ≡ get_or all k e → drop k all ≡ e ∷ drop (suc k) all
-front_at [] k e less is = absurd (omega arith)
-front_at (x ∷ xs) zero e less is = ap (λ (y : Entry). y ∷ xs) (sym is)
-front_at (x ∷ xs) (suc k) e less is = front_at xs k e (omega arith) is
-
-front_of : (all : List Entry) (k : ℕ) (e : Entry) → k < length all → e ≡ get_or all k e → drop k all ≡ e ∷ drop (k + 1) all
-front_of all k e less is = let next : k + 1 ≡ suc k = omega arith in rw next (front_at all k e less is)
-
 pub names_again : (keys : List Name) (all : List Entry) (k : ℕ) (e : Entry) → k < length all → e ≡ get_or all k e → list_any (same_as e.name) keys ≡ true → Names keys k (drop k all) all
     → Some (k + 2) ≡ first_twice 2 [] all
 unfolding first_twice
@@ -121,12 +115,6 @@ names_next keys keys' all k e less is met put n =
     either true b = refl
     either false b = refl
 
-past_last : (all : List Entry) (k : ℕ) → length all ≤ k → drop k all ≡ []
-past_last [] zero le = refl
-past_last [] (suc k) le = refl
-past_last (x ∷ xs) zero le = absurd (omega arith)
-past_last (x ∷ xs) (suc k) le = past_last xs k (omega arith)
-
 pub names_last : (keys : List Name) (all : List Entry) (k : ℕ) → length all ≤ k → Names keys k (drop k all) all → None ≡ first_twice 2 [] all
 unfolding first_twice
-names_last keys all k past n = ap (λ (l : List Entry). first_twice (k + 2) n.before l) (sym (past_last all k past)) ∙ n.first
+names_last keys all k past n = ap (λ (l : List Entry). first_twice (k + 2) n.before l) (sym (drop_all k all past)) ∙ n.first

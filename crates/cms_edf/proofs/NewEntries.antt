@@ -1,7 +1,7 @@
 -- The entries after an edit are those of the files, of which one is another.
 use Rattle.std.proofs.Common.{◌≡◌, ℕ, ◌-◌, ◌<◌, ◌≤◌, List, [], ◌∷◌, length, take, set, slice_get, get_or, Some, sym, ◌∙◌, ap, arith, swap_remove}
 use Rattle.std.proofs.lemmas.List.{length-set, set-append_left, take_all, take-append-le}
-use Rattle.std.proofs.lemmas.Option.{get_or_from_slice_get}
+use Rattle.std.proofs.lemmas.Option.{get_or_from_slice_get, same_Some}
 use Rattle.cms_fields.specs.declared.entry.Entry.{Entry}
 use Rattle.cms_held.specs.Opening.{HeldFile}
 use Rattle.cms_held.specs.Renewing.{entries_held}
@@ -35,7 +35,4 @@ without_place fs n place f x e all within is own =
 
 -- what is read of a file is what its entry is
 pub same_entry : (fs : List HeldFile) (k : ℕ) (f : HeldFile) (x y : Entry) → slice_get fs k ≡ Some f → y ≡ f.entry → slice_get (entries_held fs) k ≡ Some x → y ≡ x
-same_entry fs k f x y is own there = own ∙ some_same f.entry x (sym (entry_at fs k f is) ∙ there)
-  where
-    some_same : {X : Type 0} (a b : X) → Some a ≡ Some b → a ≡ b
-    some_same a b e = cc e
+same_entry fs k f x y is own there = own ∙ same_Some f.entry x (sym (entry_at fs k f is) ∙ there)

@@ -1,6 +1,8 @@
 -- Files and their entries under an edit.
-use Rattle.std.proofs.Common.{◌≡◌, ⊎_elim, ℕ, zero, suc, ◌+◌, true, false, List, [], ◌∷◌, ◌++◌, take, position, slice_get, Some, None, refl, sym, ◌∙◌, ap, arith}
+use Rattle.std.proofs.Common.{◌≡◌, ⊎_elim, ℕ, ◌+◌, true, false, List, [], ◌∷◌, ◌++◌, take, position, slice_get, Some, None, refl, sym, ◌∙◌, ap}
 use Rattle.std.proofs.lemmas.Bool.{cases_Bool}
+use Rattle.std.proofs.lemmas.List.{take_more}
+use Rattle.std.proofs.lemmas.Option.{get_or_from_slice_get, slice_get_within}
 use Rattle.std.specs.List.{position_from}
 use Rattle.std.proofs.lemmas.Iterator.Adapters.{position_from-zero}
 use Rattle.cms_names.specs.declared.name.Name.{Name}
@@ -8,12 +10,7 @@ use Rattle.cms_model.specs.Minidisks.{is_named, same_name}
 
 -- one more
 pub one_more : {X : Type 0} (xs : List X) (k : ℕ) (x : X) → slice_get xs k ≡ Some x → take (k + 1) xs ≡ take k xs ++ x ∷ []
-one_more xs k x is = let e : k + 1 ≡ suc k = omega arith in rw e (go xs k x is)
-  where
-    go : {X : Type 0} (xs : List X) (k : ℕ) (x : X) → slice_get xs k ≡ Some x → take (suc k) xs ≡ take k xs ++ x ∷ []
-    go [] k x is = absurd (cc is)
-    go (z ∷ zs) zero x is = let e : z ≡ x = cc is in ap (λ y. y ∷ []) e
-    go (z ∷ zs) (suc k) x is = ap (λ l. z ∷ l) (go zs k x is)
+one_more {X = X} xs k x is = take_more xs k x (slice_get_within xs k x is) ∙ ap (λ (y : X). take k xs ++ y ∷ []) (get_or_from_slice_get xs k x x is)
 
 -- a name that has no place is none of the names
 none_from : (name : Name) (k : ℕ) (names : List Name) → position_from (same_name name) k names ≡ None → is_named name names ≡ false

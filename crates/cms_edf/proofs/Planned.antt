@@ -1,8 +1,8 @@
 -- What is planned for an edit is ready, and the volume after it is held.
 use Rattle.std.proofs.Common.{◌≡◌, ◌⊎◌, ⊎_elim, inl, inr, ℕ, zero, suc, ◌+◌, ◌-◌, ◌*◌, ◌^◌, ◌<◌, ◌≤◌, Bool, true, List, [], ◌∷◌, ◌++◌, length, map, take, drop, slice_get, get_or, All, None, Some, refl, sym, ◌∙◌, ap, subst, arith, append-nil, replicate, append_assoc, length-append}
-use Rattle.std.proofs.lemmas.List.{length-map, length-replicate, length-set, map-set}
-use Rattle.std.proofs.lemmas.List.Elements.{All-nil, All-cons, All-head, All-tail, All-set, All-append, All-take}
-use Rattle.std.proofs.lemmas.Option.{slice_get_within}
+use Rattle.std.proofs.lemmas.List.{length-map, length-replicate, length-set, map-set, nil_from_length}
+use Rattle.std.proofs.lemmas.List.Elements.{All-nil, All-cons, All-get_or, All-head, All-tail, All-set, All-append, All-take}
+use Rattle.std.proofs.lemmas.Option.{get_or_from_slice_get, same_Some, slice_get-map, slice_get_within}
 use Rattle.cms_journal.specs.Journal.{IsBlockSize}
 use Rattle.cms_journal.proofs.Sizes.{block_bounds}
 use Rattle.cms_names.specs.declared.name.Name.{Name}
@@ -14,7 +14,7 @@ use Rattle.cms_fields.specs.declared.label.Label.{Label}
 use Rattle.cms_fields.specs.declared.time.Stamp.{Stamp}
 use Rattle.cms_model.specs.Lists.{In}
 use Rattle.cms_map.specs.Bits.{free_blocks, with_marked}
-use Rattle.cms_map.proofs.Free.{free_are_unused}
+use Rattle.cms_map.proofs.Free.{free_are_unused, length-with_marked}
 use Rattle.cms_held.specs.Opening.{HeldFile, HeldTree, HeldVolume, names_in}
 use Rattle.cms_model.specs.Changes.{Change, Drop, Rename, Relabel}
 use Rattle.cms_model.specs.Minidisks.{same_name}
@@ -34,10 +34,9 @@ use Rattle.cms_edf.specs.declared.change.FileEdit.TheVariants as does
 use Rattle.cms_edf.specs.declared.step.Step.{Step}
 use Rattle.cms_edf.specs.declared.step.Step.TheVariants as planned
 use Rattle.std.specs.Prelude.{option_map}
-use Rattle.std.proofs.lemmas.Option.{slice_get-map}
 use Rattle.cms_held.proofs.Allotting.{directory_small, directory_some, map_some}
 use Rattle.cms_held.proofs.Edits.{passes_renamed}
-use Rattle.cms_held.proofs.MapMarks.{length_freed, length_marked}
+use Rattle.cms_held.proofs.MapMarks.{length_freed}
 use Rattle.cms_held.proofs.Removing.{All-removed, length-removed, map-removed}
 use Rattle.cms_edf.proofs.PlanParts.{one_more}
 use Rattle.cms_model.proofs.FileSizes.{passing}
@@ -125,12 +124,6 @@ whole_long all whole size enough is =
     let both = ap length is in
     omega (arith, length-append all (replicate (size - length all) 0), length-replicate {A = ℕ} (size - length all) 0)
 
--- the file at a place
-pub at_place : (fs : List HeldFile) (k : ℕ) (f : HeldFile) → slice_get fs k ≡ Some f → get_or (entries_held fs) k f.entry ≡ f.entry
-at_place [] k f is = absurd (cc is)
-at_place (g ∷ fs) zero f is = let e : g ≡ f = cc is in ap (λ (x : HeldFile). x.entry) e
-at_place (g ∷ fs) (suc k) f is = at_place fs k f is
-
 -- the entries of the edited files are the edited entries
 pub edited_are : (fs : List HeldFile) (e : FileEdit) (f : HeldFile) → slice_get fs (place_of e) ≡ Some f → entries_held (edit_of fs e f).files ≡ edited (entries_held fs) e f.entry
 edited_are fs (does.Drop place) f is = map-removed (λ (g : HeldFile). g.entry) fs place f f.entry (slice_get_within fs place f is)
@@ -158,9 +151,7 @@ kept_renamed bsize total f to number small k = record {
 }
 
 kept_at : (P : HeldFile → Type 0) (fs : List HeldFile) (k : ℕ) (f : HeldFile) → slice_get fs k ≡ Some f → All P fs → P f
-kept_at P [] k f is all = absurd (cc is)
-kept_at P (g ∷ fs) zero f is all = let e : g ≡ f = cc is in subst P e (All-head P g fs all)
-kept_at P (g ∷ fs) (suc k) f is all = kept_at P fs k f is (All-tail P g fs all)
+kept_at P fs k f is all = subst P (get_or_from_slice_get fs k f f is) (All-get_or P fs k f (slice_get_within fs k f is) all)
 
 -- the files after an edit are kept
 pub edited_kept : (bsize total : ℕ) (fs : List HeldFile) (e : FileEdit) (f : HeldFile) → slice_get fs (place_of e) ≡ Some f → MayEdit fs e → All (IsKeptFile bsize total) fs
@@ -214,40 +205,41 @@ edited_of v e before entries kept may had edits =
 
 pub new_bits : (v : HeldVolume) (files : ℕ) (given taken : List ℕ) (directory map : HeldTree) (bits : List Bool) → IsAllotted v files given taken directory map bits → length bits ≡ length v.bits
 new_bits v files given taken directory map bits a =
-    ap length a.marks ∙ (length_freed (released v given) (with_marked (fresh taken directory map) v.bits) ∙ length_marked (fresh taken directory map) v.bits)
+    ap length a.marks ∙ (length_freed (released v given) (with_marked (fresh taken directory map) v.bits) ∙ length-with_marked (fresh taken directory map) v.bits)
 
-pub renewed_keeps : (v : HeldVolume) (e : FileEdit) (f : HeldFile) (stamp : Stamp) (s : Systems) → MayEdit v.files e → slice_get v.files (place_of e) ≡ Some f
-    → IsReadyFor v (edit_of v.files e f) stamp s → length s.label_bytes ≡ v.disk.bsize → Keeps (renewed v (edit_of v.files e f) s)
-renewed_keeps v e f stamp s may there r long =
+-- in place of the files that were made ready other such files may stand
+pub ready_keeps : (v : HeldVolume) (edit ready : Edit) (stamp : Stamp) (s : Systems) → IsReadyFor v ready stamp s → length s.label_bytes ≡ v.disk.bsize → length edit.files ≤ 16384
+    → All (IsKeptFile v.disk.bsize v.label.blocks) edit.files → Keeps (renewed v edit s)
+ready_keeps v edit ready stamp s r long few each =
     let k = r.kept in
     let low = k.origin_low in let high = k.origin_high in
-    let few = k.few in
     let blocks : s.label.blocks ≡ v.label.blocks = ap (λ (l : Label). l.blocks) r.planned.label in
     let origin : s.label.origin ≡ 9 - v.label.origin = ap (λ (l : Label). l.origin) r.planned.label in
     let total = k.within in let some = k.size in
-    let count = count_is v.files e f in
-    let fewer = count_few v.files e few in
     record {
       within = omega arith;
       size = omega arith;
       origin_low = omega arith;
       origin_high = omega arith;
       label_long = long;
-      bits_are = new_bits v (length (edit_of v.files e f).files) (edit_of v.files e f).given (edit_of v.files e f).taken s.directory s.map s.bits r.planned.blocks ∙ (k.bits_are ∙ sym blocks);
-      few = omega arith;
-      each = subst (λ (n : ℕ). All (IsKeptFile v.disk.bsize n) (edit_of v.files e f).files) (sym blocks) (edited_kept v.disk.bsize v.label.blocks v.files e f there may k.each);
+      bits_are = new_bits v (length ready.files) ready.given ready.taken s.directory s.map s.bits r.planned.blocks ∙ (k.bits_are ∙ sym blocks);
+      few = few;
+      each = subst (λ (n : ℕ). All (IsKeptFile v.disk.bsize n) edit.files) (sym blocks) each;
     }
+
+pub renewed_keeps : (v : HeldVolume) (e : FileEdit) (f : HeldFile) (stamp : Stamp) (s : Systems) → MayEdit v.files e → slice_get v.files (place_of e) ≡ Some f
+    → IsReadyFor v (edit_of v.files e f) stamp s → length s.label_bytes ≡ v.disk.bsize → Keeps (renewed v (edit_of v.files e f) s)
+renewed_keeps v e f stamp s may there r long =
+    let count = count_is v.files e f in
+    let few = count_few v.files e r.kept.few in
+    ready_keeps v (edit_of v.files e f) (edit_of v.files e f) stamp s r long (omega arith) (edited_kept v.disk.bsize v.label.blocks v.files e f there may r.kept.each)
 
 -- ---- what is prepared
 
 -- the edit's own blocks
-no_more : (xs : List ℕ) → length xs ≡ 0 → xs ≡ []
-no_more [] is = refl
-no_more (x ∷ xs) is = absurd (omega (arith, is))
-
 pub nothing_taken : (v : HeldVolume) (files : ℕ) (given taken : List ℕ) (directory map : HeldTree) (bits : List Bool) → length taken ≡ 0 → IsAllotted v files given taken directory map bits
     → IsAllotted v files given [] directory map bits
-nothing_taken v files given taken directory map bits none a = subst (λ (l : List ℕ). IsAllotted v files given l directory map bits) (no_more taken none) a
+nothing_taken v files given taken directory map bits none a = subst (λ (l : List ℕ). IsAllotted v files given l directory map bits) (nil_from_length taken none) a
 
 -- what is written for the entries of an edit is ready, where its blocks are allotted
 pub ready_of : (v : HeldVolume) (edit : Edit) (entries : List Entry) (stamp : Stamp) (s : Systems) → Keeps v → is_stamp stamp ≡ true
@@ -275,9 +267,6 @@ ready_for v edit entries given stamp s kept stamped p are gives takes =
     (subst (λ (l : List ℕ). IsAllotted v (length edit.files) l [] s.directory s.map s.bits) (sym gives) (subst (λ (n : ℕ). IsAllotted v n given [] s.directory s.map s.bits) count p.blocks)))
     p.systems are
 
-some_same : (a b : HeldFile) → Some a ≡ Some b → a ≡ b
-some_same a b e = cc e
-
 none_taken : (fs : List HeldFile) (e : FileEdit) (f : HeldFile) → (edit_of fs e f).taken ≡ []
 none_taken fs (does.Drop place) f = refl
 none_taken fs (does.Rename place to number) f = refl
@@ -286,7 +275,7 @@ none_taken fs (does.Rename place to number) f = refl
 pub given_drop : (v : HeldVolume) (e : FileEdit) (place : ℕ) (f file : HeldFile) → e ≡ does.Drop place → slice_get v.files place ≡ Some f → slice_get v.files (place_of e) ≡ Some file
     → (leaves pointers : List ℕ) → leaves ≡ f.tree.leaves → pointers ≡ f.tree.pointers → (edit_of v.files e file).given ≡ leaves ++ pointers
 given_drop v e place f file is at there leaves pointers own above =
-    let same : file ≡ f = some_same file f (sym there ∙ (ap (λ (x : FileEdit). slice_get v.files (place_of x)) is ∙ at)) in
+    let same : file ≡ f = same_Some file f (sym there ∙ (ap (λ (x : FileEdit). slice_get v.files (place_of x)) is ∙ at)) in
     ap (λ (x : FileEdit). (edit_of v.files x file).given) is
     ∙ (ap (λ (x : HeldFile). blocks_in x.tree) same ∙ (ap (λ (l : List ℕ). l ++ f.tree.pointers) (sym own) ∙ ap (λ (l : List ℕ). leaves ++ l) (sym above)))
 
@@ -298,7 +287,7 @@ pub ready_at : (v : HeldVolume) (e : FileEdit) (stamp : Stamp) (s : Systems) (en
     → (edit_of v.files e x.file).given ≡ given → IsPrepared v entries given stamp s → IsReadyAt v e stamp s
 ready_at v e stamp s entries given kept stamped x gives p = (
   p.systems.label_long,
-  λ f there. subst (λ (g : HeldFile). IsReadyFor v (edit_of v.files e g) stamp s) (some_same x.file f (sym x.there ∙ there))
+  λ f there. subst (λ (g : HeldFile). IsReadyFor v (edit_of v.files e g) stamp s) (same_Some x.file f (sym x.there ∙ there))
       (ready_for v (edit_of v.files e x.file) entries given stamp s kept stamped p x.are gives (none_taken v.files e x.file)),
 )
 
@@ -311,11 +300,16 @@ free_within bits = each (free_blocks bits) (λ n met. let f = (free_are_unused b
     each [] has = All-nil (IsBlockOf (length bits))
     each (n ∷ ns) has = All-cons (IsBlockOf (length bits)) n ns (has n (inl refl)) (each ns (λ k met. has k (inr met)))
 
+pub all_in : (P : ℕ → Type 0) (ns : List ℕ) → All P ns → (n : ℕ) → In n ns → P n
+all_in P [] all n met = absurd met
+all_in P (m ∷ ns) all n (inl here) = subst P (sym here) (All-head P m ns all)
+all_in P (m ∷ ns) all n (inr later) = all_in P ns (All-tail P m ns all) n later
+
 pub left_of : (P : ℕ → Type 0) (xs ys : List ℕ) → All P (xs ++ ys) → All P xs
 left_of P [] ys all = All-nil P
 left_of P (x ∷ xs) ys all = All-cons P x xs (All-head P x (xs ++ ys) all) (left_of P xs ys (All-tail P x (xs ++ ys) all))
 
-right_of : (P : ℕ → Type 0) (xs ys : List ℕ) → All P (xs ++ ys) → All P ys
+pub right_of : (P : ℕ → Type 0) (xs ys : List ℕ) → All P (xs ++ ys) → All P ys
 right_of P [] ys all = all
 right_of P (x ∷ xs) ys all = right_of P xs ys (All-tail P x (xs ++ ys) all)
 
@@ -378,9 +372,8 @@ is_ready v files given taken s x =
 -- ---- the edit of a change
 
 name_at : (fs : List HeldFile) (k : ℕ) (f : HeldFile) → slice_get fs k ≡ Some f → get_or (names_in fs) k f.entry.name ≡ f.entry.name
-name_at [] k f is = absurd (cc is)
-name_at (g ∷ fs) zero f is = let e : g ≡ f = cc is in ap (λ (x : HeldFile). x.entry.name) e
-name_at (g ∷ fs) (suc k) f is = name_at fs k f is
+name_at fs k f is =
+    get_or_from_slice_get (names_in fs) k f.entry.name f.entry.name (slice_get-map (λ (g : HeldFile). g.entry.name) fs k ∙ ap (option_map (λ (g : HeldFile). g.entry.name)) is)
 
 -- the file in the place of a name
 pub record Named (fs : List HeldFile) (name : Name) (k : ℕ) : Type 0 where
@@ -417,10 +410,7 @@ drop_for v name k stamp s is ready =
 pub may_rename : (fs : List HeldFile) (from to : Name) (number k : ℕ) → place_in from fs ≡ Some k → number ≤ 6 → (place_in to fs ≡ None) ⊎ (to ≡ from) → MayEdit fs (does.Rename k to number)
 may_rename fs from to number k is small free =
     let n = named_at fs from k is in
-    (n.within, small, ⊎_elim (λ none. inl none) (λ own. inr (λ f there. own ∙ (sym n.named ∙ ap (λ (x : HeldFile). x.entry.name) (same n.file f (sym n.there ∙ there))))) free)
-  where
-    same : (a b : HeldFile) → Some a ≡ Some b → a ≡ b
-    same a b e = cc e
+    (n.within, small, ⊎_elim (λ none. inl none) (λ own. inr (λ f there. own ∙ (sym n.named ∙ ap (λ (x : HeldFile). x.entry.name) (same_Some n.file f (sym n.there ∙ there))))) free)
 
 pub rename_for : (v : HeldVolume) (from to : Name) (number k : ℕ) (stamp : Stamp) (s : Systems) → place_in from v.files ≡ Some k → number ≤ 6 → (place_in to v.files ≡ None) ⊎ (to ≡ from)
     → IsReadyAt v (does.Rename k to number) stamp s → IsEditFor v (Rename from to number) stamp (does.Rename k to number) s

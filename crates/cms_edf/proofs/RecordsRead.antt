@@ -2,6 +2,7 @@
 use Rattle.std.proofs.Common.{◌≡◌, ℕ, zero, suc, ◌+◌, ◌*◌, ◌<◌, ◌≤◌, List, [], ◌∷◌, ◌++◌, length, take, drop, map, get_or, slice_index, Option, Some, Result, Ok, Err, refl, sym, ◌∙◌, ap, subst, arith, append-nil, length-append, length-drop, length-take-le}
 use Rattle.std.specs.Prelude.{IfOk, IfErr, nat_le}
 use Rattle.std.proofs.lemmas.Bool.{leb-true}
+use Rattle.std.proofs.lemmas.List.{drop_all, take_all}
 use Rattle.cms_journal.specs.Journal.{Journal}
 use Rattle.cms_names.specs.declared.name.Format.TheVariants.{F, V}
 use Rattle.cms_text.specs.Bytes.{half}
@@ -26,7 +27,7 @@ use Rattle.cms_model.proofs.Results.{ok_same, want_ok, bind_then}
 use Rattle.cms_model.proofs.Opening.{blamed_ok}
 use Rattle.cms_edf.proofs.Faults.{fault_is, fault_passes}
 use Rattle.cms_edf.proofs.Gathered.{Reads, reads_first, reads_next, reads_last}
-use Rattle.cms_edf.proofs.FileTrees.{front_of, taken_next, past_last, all_taken, behind_none, behind_more}
+use Rattle.cms_edf.proofs.FileTrees.{front_of, taken_next, behind_none, behind_more}
 
 -- ---- the blocks of a file
 
@@ -162,12 +163,6 @@ told_more (x ∷ es) [] cs e w c a b = absurd (omega arith)
 told_more (x ∷ es) (y ∷ ws) [] e w c a b = absurd (omega arith)
 told_more (x ∷ es) (y ∷ ws) (z ∷ cs) e w c a b = ap (λ (l : List HeldFile). told_file x y z ∷ l) (told_more es ws cs e w c (omega arith) (omega arith))
 
-taken_long : {A : Type 0} (xs : List A) (k : ℕ) → k ≤ length xs → length (take k xs) ≡ k
-taken_long [] zero le = refl
-taken_long [] (suc k) le = absurd (omega arith)
-taken_long (x ∷ xs) zero le = refl
-taken_long (x ∷ xs) (suc k) le = ap suc (taken_long xs k (omega arith))
-
 contents_step : (bsize : ℕ) (image : Image) (entries : List Entry) (walks : List Walked) (k : ℕ) (e : Entry) (w : Walked) → k < length entries → e ≡ get_or entries k e → k < length walks
     → w ≡ get_or walks k w
     → contents_in bsize image (k + 2) (drop k entries) (map met_in (drop k walks))
@@ -197,8 +192,8 @@ contents_next bsize image entries walks k number e w leaves sizes files file les
     let here : records_in bsize image (k + 2) e w.leaves.items ≡ Ok has.records =
     subst (λ (l : List ℕ). records_in bsize image (k + 2) e l ≡ Ok has.records) same (subst (λ (n : ℕ). records_in bsize image n e leaves ≡ Ok has.records) numbered has.are) in
     let step = contents_step bsize image entries walks k e w less is less' is' ∙ ap (λ (r : Result (List (List ℕ)) OpenFault). r >>= λ records. rest >>= λ more. Ok (records ∷ more)) here in
-    let es = taken_long entries k (omega arith) in
-    let ws = taken_long walks k (omega arith) in
+    let es = length-take-le k entries (omega arith) in
+    let ws = length-take-le k walks (omega arith) in
     let cs = to.many in
     record {
       contents = to.contents ++ (has.records ∷ []);
@@ -230,9 +225,9 @@ pub contents_last : (bsize : ℕ) (image : Image) (entries : List Entry) (walks 
 unfolding contents_in
 contents_last bsize image entries walks k files past past' to = record {
   contents = to.contents;
-  are = to.are ∙ (ap (λ (l : List Entry). behind to.contents (contents_in bsize image (k + 2) l (map met_in (drop k walks)))) (past_last entries k past) ∙ ap Ok (append-nil to.contents));
-  files_are = to.files_are ∙ (ap (λ (l : List Entry). told_files l (take k walks) to.contents) (all_taken entries k past)
-      ∙ ap (λ (l : List Walked). told_files entries l to.contents) (all_taken walks k past'));
+  are = to.are ∙ (ap (λ (l : List Entry). behind to.contents (contents_in bsize image (k + 2) l (map met_in (drop k walks)))) (drop_all k entries past) ∙ ap Ok (append-nil to.contents));
+  files_are = to.files_are ∙ (ap (λ (l : List Entry). told_files l (take k walks) to.contents) (take_all k entries past)
+      ∙ ap (λ (l : List Walked). told_files entries l to.contents) (take_all k walks past'));
 }
 
 -- the data blocks of a tree by its entry
@@ -259,11 +254,3 @@ taken_is {A = A} before x rest all is = subst (λ (l : List A). (length before <
     at : (b : List A) → x ≡ get_or (b ++ (x ∷ rest)) (length b) x
     at [] = refl
     at (y ∷ ys) = at ys
-
-pub ok_maps : {A : Type 0} (r : Result A OpenFault) (P Q : A → Type 0) → ((x : A) → P x → Q x) → IfOk r P → IfOk r Q
-ok_maps (Ok x) P Q maps p = maps x p
-ok_maps (Err e) P Q maps p = tt
-
-pub err_maps : {A : Type 0} (r : Result A OpenFault) (P Q : OpenFault → Type 0) → ((e : OpenFault) → P e → Q e) → IfErr r P → IfErr r Q
-err_maps (Ok x) P Q maps p = tt
-err_maps (Err e) P Q maps p = maps e p

@@ -6,6 +6,7 @@ use Rattle.std.specs.Map.{keys_of, lookup, values_of}
 use Rattle.std.proofs.lemmas.Bool.{cases_eq, eq-eqb, ne_eqb}
 use Rattle.std.proofs.lemmas.List.{ext_get_or, get_or-take, get_or_append_left, get_or-append_right, get_or-set_same, get_or-set_other, length-set, length-map, map-set}
 use Rattle.std.proofs.lemmas.List.Edits.{length-swap}
+use Rattle.std.proofs.lemmas.Option.{same_Some}
 use Rattle.indexmap.proofs.ReorderLemmas.{exchange, get_or-swap}
 use Rattle.cms_names.specs.declared.name.Name.{Name}
 use Rattle.cms_model.specs.Minidisks.{is_named}
@@ -132,9 +133,6 @@ file_there es k p is there = go (values_of es) k (there ∙ ap (λ (l : List Pai
 
 -- ---- the whole
 
-some_same : (a b : HeldFile) → Some a ≡ Some b → a ≡ b
-some_same a b e = cc e
-
 -- the file f was taken out, as p, and put last as g, under a name that is free
 pub record Goes (es es1 es2 es3 : List Pair) (k : ℕ) (p : Pair) (to : Name) (number : ℕ) (g : HeldFile) : Type 0 where
   pub named : es ≡ by_name (values_of es)
@@ -150,7 +148,7 @@ pub goes : (es es1 es2 es3 : List Pair) (k : ℕ) (p : Pair) (to : Name) (number
 goes es es1 es2 es3 k p to number g x =
     let r = renames es es1 es2 es3 k p g x.named x.within x.gone x.last x.back in
     let at = (file_there es k p x.named x.there).0 in
-    (r.named, λ f is. r.values ∙ ap (λ (h : HeldFile). set (values_of es) k h) (x.same ∙ ap (renamed to number) (some_same p.1 f (sym at ∙ is))))
+    (r.named, λ f is. r.values ∙ ap (λ (h : HeldFile). set (values_of es) k h) (x.same ∙ ap (renamed to number) (same_Some p.1 f (sym at ∙ is))))
 
 -- the name is free behind the file that went
 pub free_then : (es : List Pair) (k : ℕ) (p : Pair) (to : Name) → es ≡ by_name (values_of es) → Some p ≡ slice_get es k

@@ -1,5 +1,5 @@
 -- The directory's and the map's trees: their shapes and their sizes.
-use Rattle.std.proofs.Common.{◌≡◌, ⊎_elim, ℕ, zero, suc, ◌*◌, ◌/◌, ◌^◌, ◌<◌, ◌≤◌, Bool, true, false, List, Ok, eqb, refl, sym, ◌∙◌, ap, subst, arith}
+use Rattle.std.proofs.Common.{◌≡◌, ⊎_elim, ℕ, zero, suc, ◌*◌, ◌/◌, ◌^◌, ◌<◌, ◌≤◌, Bool, true, false, List, Ok, eqb, refl, sym, ◌∙◌, ap, subst, mul-pos, arith}
 use Rattle.std.specs.Prelude.{◌&&◌, nat_le, nat_lt, nat_eq}
 use Rattle.std.proofs.lemmas.Bool.{cases_Bool, cases_eq, ltb-true}
 use Rattle.cms_journal.specs.Journal.{IsBlockSize}
@@ -65,13 +65,8 @@ map_shape bsize total bytes s size some small is =
     let held : s.count * bsize ≤ s.blocks * bsize = subst (λ (n : ℕ). s.count * bsize ≤ n * bsize) (sym blocks) records in
     let counted : up total 8 ≤ s.count * bsize = subst (λ (n : ℕ). up total 8 ≤ n * bsize) (sym count) second in
     let each : 1 ≤ s.count = subst (λ (n : ℕ). 1 ≤ n) (sym count) many in
-    let least' : 1 ≤ s.count * bsize = one_product s.count bsize each (omega arith) in
+    let least' : 1 ≤ s.count * bsize = mul-pos each (omega arith) in
     (subst (λ (n : ℕ). 1 ≤ n) (sym blocks) (up_some (s.count * bsize) bsize (omega arith) least'), (shape_least (bsize / 4) s.blocks s.levels (wide_fan bsize least) small).0 f.fits.shape, omega arith)
-  where
-    one_product : (a b : ℕ) → 1 ≤ a → 1 ≤ b → 1 ≤ a * b
-    one_product (suc a) (suc b) x y = omega arith
-    one_product zero b x y = absurd (omega arith)
-    one_product (suc a) zero x y = absurd (omega arith)
 
 -- the same by the tests
 directory_tested : (bsize origin : ℕ) (bytes : List ℕ) → is_directory bsize origin bytes ≡ true → directory_of bsize origin bytes ≡ Ok (system_fields bytes)

@@ -1,8 +1,7 @@
 -- The trees of a volume, and the blocks that they have.
-use Rattle.std.proofs.Common.{◌≡◌, ◌⊎◌, inl, inr, ⊎_elim, ℕ, suc, ◌<◌, ◌≤◌, List, [], ◌∷◌, ◌++◌, length, map, slice_index, slice_get, IsSomeAnd, Option, Some, None, Ok, Err, refl, subst, arith}
+use Rattle.std.proofs.Common.{◌≡◌, ◌⊎◌, inl, inr, ⊎_elim, ℕ, suc, ◌<◌, ◌≤◌, List, [], ◌∷◌, ◌++◌, length, map, slice_index, Some, None, Ok, Err, refl, subst, arith}
 use Rattle.std.specs.List.{All}
 use Rattle.cms_journal.specs.Journal.{Journal, HasBlock, HasBlocks}
-use Rattle.cms_journal.specs.declared.event.Attached.{Attached}
 use Rattle.cms_names.specs.declared.name.Format.TheVariants.{F}
 use Rattle.cms_model.specs.Lists.{In}
 use Rattle.cms_model.specs.Trees.{Image, form_of, tree}
@@ -18,16 +17,9 @@ use Rattle.cms_held.specs.Opening.{IsFaultOf}
 use Rattle.cms_edf.specs.OpeningSteps.{AreBlocks, ReadsMap, met_in, listed, trees_in}
 use Rattle.cms_edf.specs.OpeningFiles.{HasFiles, HasTrees}
 use Rattle.cms_edf.proofs.Faults.{fault_passes}
-use Rattle.cms_edf.proofs.Listings.{leaf_low, stands}
+use Rattle.cms_edf.proofs.Listings.{leaf_low, on_unit, stands}
 
 -- ---- on the unit
-
-pub on_unit : (j : Journal) (unit total bsize n : ℕ) → 1 ≤ n → n ≤ total → HasBlocks j.units unit total bsize → HasBlock j.units unit n bsize
-on_unit j unit total bsize n low high has = go (slice_get j.units unit) has
-  where
-    go : (o : Option Attached) → IsSomeAnd o (λ u. (u.bsize ≡ bsize) × (total ≤ length u.start)) → IsSomeAnd o (λ u. (u.bsize ≡ bsize) × (1 ≤ n) × (n ≤ length u.start))
-    go (Some u) h = let long = h.1 in (h.0, low, omega arith)
-    go None h = absurd h
 
 plain_low : (total n : ℕ) → ((6 ≤ n) × (n ≤ total)) ⊎ (None ≡ Some n) → (1 ≤ n) × (n ≤ total)
 plain_low total n (inl range) = let low = range.0 in (omega arith, range.1)
@@ -38,7 +30,7 @@ pub plain_block : (j : Journal) (unit total bsize : ℕ) (walked : Walked) (leav
 plain_block j unit total bsize walked leaves k same less within has =
     let n = slice_index leaves k in
     let range = plain_low total n (within.leaves n (subst (λ (l : List ℕ). In n l) same (stands leaves k less))) in
-    on_unit j unit total bsize n range.0 range.1 has
+    on_unit j.units unit total bsize n range.0 range.1 has
 
 -- ---- all of them are blocks of the volume
 

@@ -96,15 +96,10 @@ abbrev pub GivenAt : List HeldFile → Option ℕ → List ℕ → Type 0
 GivenAt files None given = given ≡ []
 GivenAt files (Some place) given = (f : HeldFile) → slice_get files place ≡ Some f → given ≡ blocks_in f.tree
 
--- the entries with another in a place, or behind them
-abbrev pub entries_with : List Entry → Option ℕ → Entry → List Entry
-entries_with entries None e = entries ++ e ∷ []
-entries_with entries (Some place) e = slice_set entries place e
-
--- the files with another in a place, or behind them
-abbrev pub files_with : List HeldFile → Option ℕ → HeldFile → List HeldFile
-files_with files None g = files ++ g ∷ []
-files_with files (Some place) g = slice_set files place g
+-- a list with another element in a place, or behind its own
+abbrev pub list_with : {A : Type 0} → List A → Option ℕ → A → List A
+list_with xs None x = xs ++ x ∷ []
+list_with xs (Some place) x = slice_set xs place x
 
 -- a place is that of a file
 abbrev pub IsPlaceIn : List HeldFile → Option ℕ → Type 0
@@ -129,7 +124,7 @@ pub record IsFilePlanned (v : HeldVolume) (name : Name) (shape : DraftShape) (st
   pub asked : CanDraft shape
   pub edit : Edit
   pub put : IsPutOf v (file_for v.disk.bsize name shape tree) edit
-  pub files_are : edit.files ≡ files_with v.files (position (same_name name) (names_in v.files)) (file_for v.disk.bsize name shape tree)
+  pub files_are : edit.files ≡ list_with v.files (position (same_name name) (names_in v.files)) (file_for v.disk.bsize name shape tree)
   pub few : length edit.files ≤ most_files
   pub ready : IsReadyFor v edit stamp s
   pub label_long : length s.label_bytes ≡ v.disk.bsize

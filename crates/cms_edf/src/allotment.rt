@@ -7,7 +7,7 @@ ghost use Rattle.cms_map.specs.Bits.{HasFixed, free_blocks, with_marked};
 ghost use Rattle.cms_held.specs.Renewing.{IsAllotted, fresh, needed, released, with_freed};
 ghost use Rattle.cms_edf.specs.Lacking.{LacksRoom};
 
-use crate::blocks::copied;
+use crate::blocks::{copied, tree_in};
 use crate::held::{Held, TreeBlocks};
 use cms_journal::BlockSize;
 use cms_map::Map;
@@ -146,17 +146,13 @@ fn take_trees(
     let (own, rest) = blocks.split_at(file as usize);
     let (more, rest) = rest.split_at(counts.directory as usize - 1);
     let (nodes, rest) = rest.split_at(counts.directory_nodes as usize);
-    let (map, map_nodes) = rest.split_at(counts.map as usize);
     Ok(Trees {
         file: copied(alloc, own)?,
         directory: TreeBlocks {
             leaves: joined(alloc, origin, more)?,
             pointers: copied(alloc, nodes)?,
         },
-        map: TreeBlocks {
-            leaves: copied(alloc, map)?,
-            pointers: copied(alloc, map_nodes)?,
-        },
+        map: tree_in(alloc, rest, counts.map)?,
     })
 }
 

@@ -18,14 +18,13 @@ ghost use Rattle.cms_held.specs.Renewing.{renewed};
 ghost use Rattle.cms_edf.specs.declared.doubt.Doubt.TheVariants.{Either};
 ghost use Rattle.cms_world.specs.Seen.{OnUnits, seen};
 
-use crate::blocks::LABEL;
 use crate::change::FileEdit;
-use crate::doubt::Doubt;
+use crate::doubt::{Doubt, write_label_block};
 use crate::held::Held;
 use crate::step::{Plan, Step};
 use crate::system_blocks::SystemBlocks;
 use cms_fields::Label;
-use cms_world::{Failed, World};
+use cms_world::World;
 
 impl Held {
     // The volume after an edit of its files.
@@ -43,25 +42,6 @@ impl Held {
         self.directory = systems.directory;
         self.map_tree = systems.map_tree;
         self.map = systems.map;
-    }
-}
-
-// Writes a label, and syncs.
-fn write_label_block<W: World>(world: &mut W, unit: u8, bytes: &[u8]) -> Result<(), Doubt>
-    requires blocks { ForSome (W.told world.old) (λ j. HasBlocks j.units unit 3 (length bytes.now)) }
-    requires writable { ForSome (W.told world.old) (λ j. IsWritable j.units unit) }
-    ensures done { OnOk result (W.told world.new ≡ plus (W.told world.old) (relabel unit bytes.now)) }
-    ensures either { IfErr result (λ why. why ≡ Either) }
-    ensures cut_off { OnErr result (MayAdd (Wrote unit 3 bytes.now) (W.told world.old) (W.told world.new)) }
-    ensures counts { OnUnits (seen W.World world.old) (seen W.World world.new) result }
-{
-    match world.write_block(unit, LABEL, bytes) {
-        Ok(()) => {}
-        Err(Failed) => return Err(Doubt::Either),
-    }
-    match world.sync(unit) {
-        Ok(()) => Ok(()),
-        Err(Failed) => Err(Doubt::Either),
     }
 }
 

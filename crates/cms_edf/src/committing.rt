@@ -14,7 +14,7 @@ ghost use Rattle.cms_held.specs.Renewing.{Edit, renewed};
 ghost use Rattle.cms_draft.specs.BlockWriting.{came};
 ghost use Rattle.cms_draft.specs.Drafting.{Drafts, IsDrafting};
 ghost use Rattle.cms_edf.specs.Doubts.{UpdatesSystems};
-ghost use Rattle.cms_edf.specs.FileDrafts.{DraftStands, IsCommitted, IsCommittedAt, IsSomeDraft, LeadsToFile, files_with};
+ghost use Rattle.cms_edf.specs.FileDrafts.{DraftStands, IsCommitted, IsCommittedAt, IsSomeDraft, LeadsToFile, list_with};
 
 use crate::doubt::Doubt;
 use crate::draft::Draft;
@@ -29,7 +29,7 @@ fn put_file(files: &mut IndexMap<Name, FileHeld>, file: FileHeld)
     requires named { files.old.entries ≡ by_name (values files.old) }
     requires room { 1 ≤ spare files.old }
     ensures files { values files.new
-        ≡ files_with (values files.old) (position (same_name file.entry.name) (names_in (values files.old))) file }
+        ≡ list_with (values files.old) (position (same_name file.entry.name) (names_in (values files.old))) file }
     ensures named { files.new.entries ≡ by_name (values files.new) }
 {
     let name = file.entry().name;
@@ -40,9 +40,9 @@ impl Held {
     // The volume with a file that was put.
     fn renew_with(&mut self, file: FileHeld, systems: SystemBlocks)
         requires room { 1 ≤ self.old.spare }
-        requires kept { (edit : Edit) → edit.files ≡ files_with self.old.volume.files
+        requires kept { (edit : Edit) → edit.files ≡ list_with self.old.volume.files
             (position (same_name file.entry.name) (names_in self.old.volume.files)) file → Keeps (renewed self.old.volume edit systems) }
-        ensures { (edit : Edit) → edit.files ≡ files_with self.old.volume.files
+        ensures { (edit : Edit) → edit.files ≡ list_with self.old.volume.files
             (position (same_name file.entry.name) (names_in self.old.volume.files)) file
             → self.new.volume ≡ renewed self.old.volume edit systems }
     {
@@ -62,13 +62,13 @@ impl Held {
         systems: SystemBlocks,
     ) -> Result<(), Doubt>
         requires room { 1 ≤ self.old.spare }
-        requires kept { (edit : Edit) → edit.files ≡ files_with self.old.volume.files
+        requires kept { (edit : Edit) → edit.files ≡ list_with self.old.volume.files
             (position (same_name file.entry.name) (names_in self.old.volume.files)) file → Keeps (renewed self.old.volume edit systems) }
         requires blocks { ForSome (W.told world.old) (λ j. HasBlocks j.units self.old.volume.unit systems.label.blocks
             (length systems.label_bytes)) }
         requires writable { ForSome (W.told world.old) (λ j. IsWritable j.units self.old.volume.unit) }
         ensures updates { UpdatesSystems (W.told world.old) (W.told world.new) self.old.volume.unit systems result }
-        ensures volume { OnOk result ((edit : Edit) → edit.files ≡ files_with self.old.volume.files
+        ensures volume { OnOk result ((edit : Edit) → edit.files ≡ list_with self.old.volume.files
             (position (same_name file.entry.name) (names_in self.old.volume.files)) file
             → self.new.volume ≡ renewed self.old.volume edit systems) }
         ensures kept { OnErr result (self.new ≡ self.old) }

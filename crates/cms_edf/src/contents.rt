@@ -19,9 +19,9 @@ ghost use Rattle.cms_edf.specs.OpeningFiles.{records_in, HasRecords, HasContents
 ghost use Rattle.cms_fields.specs.Limits.{longest_record, most_bytes, most_files};
 ghost use Rattle.cms_world.specs.Seen.{OnlyReads, seen};
 
-use crate::held::{FileHeld, TreeBlocks};
+use crate::held::FileHeld;
 use crate::open::Place;
-use crate::trees::block_of;
+use crate::trees::{block_of, tree_held};
 use cms_fields::Entry;
 use cms_model::OpenFault;
 use cms_names::{Format, Name};
@@ -136,10 +136,7 @@ fn file_of(entry: Entry, tree: Walked, sizes: &VarSizes) -> FileHeld
 {
     FileHeld {
         entry,
-        tree: TreeBlocks {
-            leaves: tree.leaves,
-            pointers: tree.pointers,
-        },
+        tree: tree_held(tree),
         length: sizes.longest,
         size: sizes.stored,
     }

@@ -8,7 +8,7 @@ ghost use Rattle.cms_held.specs.Systems.{file_at, system_entry};
 ghost use Rattle.cms_held.specs.Written.{CanWrite, ReadsBack, directory_name, map_name, system_name};
 
 use crate::held::TreeBlocks;
-use crate::system::{ENTRY_SIZE, FIXED, System};
+use crate::system::{ENTRY_SIZE, FIXED, POINTER_SIZE, System};
 use cms_fields::{Entry, Stamp, put_stamp, write_entry};
 use cms_journal::BlockSize;
 use cms_text::bytes::{put, put_word};
@@ -18,9 +18,6 @@ use std::alloc::AllocError;
 
 /// The mode A1.
 const MODE: [u8; 2] = [0xC1, 0xF1];
-
-/// Bytes of a pointer of fixed records.
-const POINTER_SIZE: u8 = 4;
 
 // The name of a system file of this number.
 fn system_name(number: u32, letters: &[u8; 8]) -> [u8; 16]

@@ -11,7 +11,7 @@ ghost use Rattle.cms_held.specs.Kept.{Keeps};
 ghost use Rattle.cms_held.specs.Putting.{count_put, count_with, limit_put, need_put};
 ghost use Rattle.cms_held.specs.Renewing.{IsAllotted, entries_held, needed};
 ghost use Rattle.cms_held.specs.Written.{CanWrite};
-ghost use Rattle.cms_edf.specs.FileDrafts.{CanDraft, DraftStands, GivenAt, IsSomeDraft, StandsThen, StaysHeld, IsAllottedSo, IsDraftFor, IsFilled, IsPlaceIn, IsRefused, entries_with, entry_for, tree_of};
+ghost use Rattle.cms_edf.specs.FileDrafts.{CanDraft, DraftStands, GivenAt, IsSomeDraft, StandsThen, StaysHeld, IsAllottedSo, IsDraftFor, IsFilled, IsPlaceIn, IsRefused, list_with, entry_for, tree_of};
 ghost use Rattle.std.specs.Option.{ForSome};
 ghost use Rattle.cms_world.specs.Seen.{OnUnits, seen};
 ghost use Rattle.cms_journal.specs.Journal.{Journal};
@@ -26,15 +26,14 @@ ghost use Rattle.cms_edf.specs.Lacking.{LacksRoom};
 ghost use Rattle.cms_edf.specs.declared.allotment.PlanFault.TheVariants.{Limit};
 
 use crate::allotment::{Allotment, PlanFault, allot};
-use crate::blocks::copied;
+use crate::blocks::tree_in;
 use crate::directory_bytes::root;
 use crate::held::{Held, TreeBlocks};
 use crate::new_entries::NewEntries;
 use crate::planning::fill_systems;
 use crate::system_blocks::SystemBlocks;
 use cms_draft::{DraftShape, FileWriter};
-use cms_fields::{Entry, MOST_BYTES, MOST_FILES, MOST_RECORDS, Stamp};
-use cms_held::pointer_size;
+use cms_fields::{Entry, MOST_BYTES, MOST_FILES, MOST_RECORDS, Stamp, pointer_size};
 use cms_journal::BlockSize;
 use cms_names::Name;
 use cms_tree::shape;
@@ -137,19 +136,6 @@ fn allot_file(
     }
 }
 
-// A tree of these blocks, of which the first so many are its data blocks.
-fn tree_in(alloc: Global, blocks: &[u32], count: u32) -> Result<TreeBlocks, AllocError>
-    requires { count ≤ length blocks.now }
-    ensures blocks { IfOk result (λ t. t.leaves ++ t.pointers ≡ blocks.now) }
-    ensures count { IfOk result (λ t. length t.leaves ≡ count) }
-{
-    let (leaves, pointers) = blocks.split_at(count as usize);
-    Ok(TreeBlocks {
-        leaves: copied(alloc, leaves)?,
-        pointers: copied(alloc, pointers)?,
-    })
-}
-
 // The entry of a file over a tree of so many levels.
 fn entry_for(name: &Name, asked: &DraftShape, tree: &TreeBlocks, height: u8) -> Entry
     requires some { 1 ≤ length tree.now.leaves }
@@ -185,7 +171,7 @@ fn plan_entry(
     requires entry { CanWrite entry.now }
     requires allotted { IsAllottedSo held.now.volume (count_with place (length held.now.volume.files)) allotment }
     requires map_few { length allotment.map_tree.leaves < 2 ^ 32 }
-    ensures { IfOk result (IsFilled held.now.volume (entries_with (entries_held held.now.volume.files) place entry.now)
+    ensures { IfOk result (IsFilled held.now.volume (list_with (entries_held held.now.volume.files) place entry.now)
         allotment stamp.now) }
 {
     let entries = NewEntries::with(held, place, entry);

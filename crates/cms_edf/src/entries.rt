@@ -1,5 +1,5 @@
 // The label and the files' entries of any volume.
-ghost use Rattle.std.specs.Prelude.{◌≡◌, ◌⊎◌, ◌≤◌, ◌<◌, ◌+◌, ◌*◌, ◌++◌, ◌∷◌, ◌^◌, [], ℕ, true, length, take, IfOk, IfErr, OnOk};
+ghost use Rattle.std.specs.Prelude.{◌≡◌, ◌⊎◌, ◌≤◌, ◌<◌, ◌+◌, ◌*◌, ◌^◌, [], ℕ, true, length, take, IfOk, IfErr};
 ghost use Rattle.cms_fields.specs.Labels.{label_of};
 ghost use Rattle.cms_fields.specs.Entries.{entry_of};
 ghost use Rattle.cms_model.specs.Lists.{cut};
@@ -8,11 +8,12 @@ ghost use Rattle.cms_model.specs.declared.fault.OpenFault.TheVariants as failed;
 ghost use Rattle.cms_held.specs.Opening.{IsFaultOf};
 ghost use Rattle.cms_fields.specs.Limits.{most_files};
 
-use crate::blocks::after;
+use crate::blocks::push;
 use cms_fields::{Entry, Label, read_entry, read_label};
 use cms_journal::BlockSize;
 use cms_model::OpenFault;
 use cms_names::Name;
+use cms_text::bytes::after;
 use std::alloc::{AllocError, Global};
 use std::collections::HashSet;
 
@@ -39,17 +40,6 @@ fn entry_at(bsize: BlockSize, number: u32, bytes: &[u8]) -> Result<Entry, OpenFa
     match read_entry(&bytes[..64], bsize) {
         Ok(entry) => Ok(entry),
         Err(fault) => Err(OpenFault::Entry(number, fault)),
-    }
-}
-
-// Appends an entry.
-fn push(entries: &mut Vec<Entry>, entry: Entry) -> Result<(), OpenFault>
-    ensures ok { OnOk result (entries.new.items ≡ entries.old.items ++ (entry ∷ [])) }
-    ensures fault { IfErr result (λ e. e ≡ failed.Memory) }
-{
-    match entries.push(entry) {
-        Ok(()) => Ok(()),
-        Err(_) => Err(OpenFault::Memory),
     }
 }
 

@@ -1,5 +1,5 @@
 // The files of any volume: their trees, and what is told of their records.
-ghost use Rattle.std.specs.Prelude.{◌≡◌, ◌⊎◌, ◌≤◌, ◌<◌, ◌+◌, ◌*◌, ◌++◌, ◌∷◌, [], ℕ, List, All, length, map, Ok, IfOk, IfErr, OnOk, None};
+ghost use Rattle.std.specs.Prelude.{◌≡◌, ◌⊎◌, ◌≤◌, ◌<◌, ◌+◌, ◌*◌, ℕ, List, All, length, map, Ok, IfOk, IfErr, None};
 ghost use Rattle.std.specs.Option.{ForSome};
 ghost use Rattle.cms_journal.specs.Journal.{HasBlocks, contents_of};
 ghost use Rattle.cms_model.specs.Trees.{image_of};
@@ -13,11 +13,11 @@ ghost use Rattle.cms_edf.specs.OpeningFiles.{file_at, ReadsFile, HasFiles, HaveC
 ghost use Rattle.cms_fields.specs.Limits.{most_files};
 ghost use Rattle.cms_world.specs.Seen.{OnlyReads, seen};
 
+use crate::blocks::{append, push};
 use crate::open::Place;
 use crate::system::ENTRY_SIZE;
 use crate::trees::tree_of;
-use cms_fields::Entry;
-use cms_held::pointer_size;
+use cms_fields::{Entry, pointer_size};
 use cms_journal::BlockSize;
 use cms_model::OpenFault;
 use cms_tree::{TreeAt, Walked};
@@ -68,17 +68,6 @@ fn read_file<W: World>(
     tree_of(alloc, world, &file_at(place, holder, entry))
 }
 
-// Appends a tree.
-fn push(trees: &mut Vec<Walked>, tree: Walked) -> Result<(), OpenFault>
-    ensures ok { OnOk result (trees.new.items ≡ trees.old.items ++ (tree ∷ [])) }
-    ensures fault { IfErr result (λ e. e ≡ Memory) }
-{
-    match trees.push(tree) {
-        Ok(()) => Ok(()),
-        Err(_) => Err(OpenFault::Memory),
-    }
-}
-
 /// The trees of the files of these entries, in order; the directory has these data blocks.
 pub fn read_files<W: World>(
     alloc: Global,
@@ -107,17 +96,6 @@ pub fn read_files<W: World>(
         push(&mut trees, tree)?;
     }
     Ok(trees)
-}
-
-// Appends block numbers.
-fn append(into: &mut Vec<u32>, more: &[u32]) -> Result<(), OpenFault>
-    ensures ok { OnOk result (into.new.items ≡ into.old.items ++ more.now) }
-    ensures fault { IfErr result (λ e. e ≡ Memory) }
-{
-    match into.extend_from_slice(more) {
-        Ok(()) => Ok(()),
-        Err(_) => Err(OpenFault::Memory),
-    }
 }
 
 /// All blocks of the trees of the directory, of the map and of the files, each tree in preorder.

@@ -1,8 +1,8 @@
 // An empty volume is planned and made.
-ghost use Rattle.std.specs.Prelude.{◌≡◌, ◌⊎◌, ℕ, ◌≤◌, ◌<◌, ◌+◌, ◌-◌, ◌/◌, ◌^◌, ◌∷◌, ◌++◌, List, [], true, length, replicate, Some, OnOk, IfOk, IfErr};
+ghost use Rattle.std.specs.Prelude.{◌≡◌, ℕ, ◌≤◌, ◌<◌, ◌+◌, ◌-◌, ◌/◌, ◌^◌, ◌∷◌, ◌++◌, List, [], true, length, replicate, Some, OnOk, OnErr, IfOk, IfErr};
 ghost use Rattle.std.specs.List.{range_with_len};
 ghost use Rattle.std.specs.Option.{ForSome};
-ghost use Rattle.cms_journal.specs.Journal.{Journal, HasBlocks, IsWritable};
+ghost use Rattle.cms_journal.specs.Journal.{Journal, HasBlocks, IsWritable, MayAdd};
 ghost use Rattle.cms_journal.specs.declared.event.Event.TheVariants.{Wrote};
 ghost use Rattle.cms_journal.specs.Told.{plus};
 ghost use Rattle.cms_fields.specs.NewLabels.{first_label};
@@ -22,9 +22,9 @@ ghost use Rattle.cms_edf.specs.declared.doubt.Doubt.TheVariants.{Either};
 ghost use Rattle.cms_world.specs.Seen.{OnUnits, seen};
 
 use crate::allotment::take_blocks;
-use crate::blocks::{LABEL, copied};
+use crate::blocks::tree_in;
 use crate::directory_bytes::{append_systems, fill};
-use crate::doubt::Doubt;
+use crate::doubt::{Doubt, write_label_block};
 use crate::held::{FileHeld, Held, TreeBlocks};
 use crate::system_blocks::{LARGEST, SystemBlocks};
 use cms_fields::{Label, Stamp, first_fields};
@@ -32,7 +32,7 @@ use cms_journal::BlockSize;
 use cms_map::Map;
 use cms_names::Name;
 use cms_tree::shape;
-use cms_world::{Failed, Unit, World};
+use cms_world::{Unit, World};
 use indexmap::IndexMap;
 use std::alloc::{AllocError, Global};
 use std::marker::Model;
@@ -95,13 +95,8 @@ fn first_map(alloc: Global, bsize: BlockSize, total: u32) -> Result<FirstMap, Al
     let data = total.div_ceil(8).div_ceil(bsize.bytes());
     let count = data + shape(data, bsize.bytes() / 4).pointers;
     let taken = take_blocks(alloc, &blank_map(alloc, total)?, count)?;
-    let (leaves, pointers) = taken.blocks.split_at(data as usize);
-    let tree = TreeBlocks {
-        leaves: copied(alloc, leaves)?,
-        pointers: copied(alloc, pointers)?,
-    };
     Ok(FirstMap {
-        tree,
+        tree: tree_in(alloc, &taken.blocks, data)?,
         map: taken.map,
         used: FIXED_BLOCKS + count,
     })
@@ -205,21 +200,13 @@ pub fn wipe<W: World>(world: &mut W, unit: u8, bsize: BlockSize) -> Result<(), D
     requires writable { ForSome (W.told world.old) (λ j. IsWritable j.units unit) }
     ensures done { OnOk result (W.told world.new ≡ plus (W.told world.old) (wipe unit bsize)) }
     ensures either { IfErr result (λ why. why ≡ Either) }
-    ensures cut_off { IfErr result (λ why. (W.told world.new ≡ W.told world.old)
-        ⊎ (W.told world.new ≡ plus (W.told world.old) (Wrote unit 3 (replicate bsize 0) ∷ []))) }
+    ensures cut_off { OnErr result (MayAdd (Wrote unit 3 (replicate bsize 0)) (W.told world.old) (W.told world.new)) }
     ensures moments { (j : Journal) (disk : Disk) (before : State) → W.told world.old ≡ Some j → IsFirm disk j unit before
         → Wipes disk j unit bsize before }
     ensures counts { OnUnits (seen W.World world.old) (seen W.World world.new) result }
 {
     let zeros = [0; LARGEST];
-    match world.write_block(unit, LABEL, &zeros[..bsize.bytes() as usize]) {
-        Ok(()) => {}
-        Err(Failed) => return Err(Doubt::Either),
-    }
-    match world.sync(unit) {
-        Ok(()) => Ok(()),
-        Err(Failed) => Err(Doubt::Either),
-    }
+    write_label_block(world, unit, &zeros[..bsize.bytes() as usize])
 }
 
 /// Makes the empty volume that was planned on a unit that is wiped: its map and its directory, a sync, the label, a sync. Takes no memory.

@@ -3,7 +3,7 @@ ghost use Rattle.std.specs.Prelude.{◌≡◌, ◌<◌, Some, length, slice_get,
 ghost use Rattle.cms_fields.specs.declared.entry.Entry.{Entry};
 ghost use Rattle.cms_held.specs.Kept.{Keeps};
 ghost use Rattle.cms_held.specs.Renewing.{entries_held};
-ghost use Rattle.cms_edf.specs.FileDrafts.{IsPlaceIn, entries_with};
+ghost use Rattle.cms_edf.specs.FileDrafts.{IsPlaceIn, list_with};
 ghost use Rattle.cms_edf.specs.Planning.{Edited, MayEdit};
 
 use crate::change::FileEdit;
@@ -41,7 +41,7 @@ impl<'a> NewEntries<'a> {
     /// The entries with another in a place, or behind them.
     pub fn with(held: &'a Held, place: Option<u32>, entry: &Entry) -> NewEntries<'a>
         requires { IsPlaceIn held.now.volume.files place }
-        ensures entries { result ≡ entries_with (entries_held held.now.volume.files) place entry.now }
+        ensures entries { result ≡ list_with (entries_held held.now.volume.files) place entry.now }
         ensures kept { Keeps held.now.volume }
     {
         let count = held.files.len() as u32;

@@ -14,13 +14,13 @@ ghost use Rattle.cms_edf.specs.EntryShapes.{HasShape, HasSize};
 ghost use Rattle.cms_fields.specs.Limits.{most_files};
 ghost use Rattle.cms_world.specs.Seen.{OnlyReads, seen};
 
-use crate::blocks::after;
 use crate::entries::{entries_of, name_twice};
-use crate::system::{System, directory_in, map_in};
+use crate::system::{POINTER_SIZE, System, directory_in, map_in};
 use crate::trees::{block_of, directory_bytes, tree_of};
 use cms_fields::Entry;
 use cms_journal::BlockSize;
 use cms_model::OpenFault;
+use cms_text::bytes::after;
 use cms_tree::{TreeAt, Walked};
 use cms_world::World;
 use std::alloc::Global;
@@ -58,7 +58,7 @@ fn system_at(place: &Place, system: &System, first: Option<u32>) -> TreeAt
         holder: place.origin,
         root: system.root,
         count: system.blocks,
-        psize: 4,
+        psize: POINTER_SIZE,
         first,
     }
 }

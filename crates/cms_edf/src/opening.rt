@@ -13,26 +13,15 @@ ghost use Rattle.cms_world.specs.Seen.{OnlyReads, seen};
 use crate::blocks::LABEL;
 use crate::contents::read_contents;
 use crate::entries::label_of;
-use crate::held::{Held, TreeBlocks};
+use crate::held::Held;
 use crate::open::{Place, read_listing};
-use crate::trees::block_of;
+use crate::trees::{block_of, tree_held};
 use crate::volume::{read_marks, read_trees};
 use cms_fields::{Label, LabelFault};
 use cms_journal::BlockSize;
 use cms_model::OpenFault;
-use cms_tree::Walked;
 use cms_world::{Unit, World};
 use std::alloc::Global;
-
-// The blocks of a tree that was read, but for their joint order.
-fn held(walked: Walked) -> TreeBlocks
-    ensures { result ≡ record { leaves = walked.leaves.items; pointers = walked.pointers.items } }
-{
-    TreeBlocks {
-        leaves: walked.leaves,
-        pointers: walked.pointers,
-    }
-}
 
 // Where the volume of a label stands.
 fn place_of(unit: &Unit, bsize: BlockSize, label: &Label) -> Place
@@ -81,8 +70,8 @@ fn open_labelled<W: World>(
         blocks: unit.blocks,
         label,
         label_bytes,
-        directory: held(listing.walked),
-        map_tree: held(trees.map),
+        directory: tree_held(listing.walked),
+        map_tree: tree_held(trees.map),
         map: marks.map,
         files,
         lost: marks.lost,

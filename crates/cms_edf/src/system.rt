@@ -17,6 +17,9 @@ use std::marker::Model;
 /// Bytes of an entry.
 pub const ENTRY_SIZE: u32 = 64;
 
+/// Bytes of a pointer of fixed records.
+pub const POINTER_SIZE: u8 = 4;
+
 /// Fixed records, in EBCDIC.
 pub const FIXED: u8 = 0xC6;
 

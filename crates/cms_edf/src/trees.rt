@@ -8,7 +8,8 @@ ghost use Rattle.cms_world.specs.Seen.{OnlyReads, seen};
 ghost use Rattle.cms_tree.specs.Walks.{IsWithin, image_at};
 ghost use Rattle.cms_edf.specs.OpeningSteps.{OfImage, ReadsTree, AreBlocks};
 
-use crate::blocks::{ReadFault, read_block};
+use crate::blocks::{ReadFault, append, read_block};
+use crate::held::TreeBlocks;
 use crate::open::Place;
 use cms_journal::BlockSize;
 use cms_model::OpenFault;
@@ -57,14 +58,13 @@ pub fn tree_of<W: World>(alloc: Global, world: &mut W, at: &TreeAt) -> Result<Wa
     }
 }
 
-// Appends bytes.
-fn append(into: &mut Vec<u8>, more: &[u8]) -> Result<(), OpenFault>
-    ensures ok { OnOk result (into.new.items ≡ into.old.items ++ more.now) }
-    ensures fault { IfErr result (λ e. e ≡ Memory) }
+/// The blocks of a tree that was read, but for their joint order.
+pub fn tree_held(walked: Walked) -> TreeBlocks
+    ensures { result ≡ record { leaves = walked.leaves.items; pointers = walked.pointers.items } }
 {
-    match into.extend_from_slice(more) {
-        Ok(()) => Ok(()),
-        Err(_) => Err(OpenFault::Memory),
+    TreeBlocks {
+        leaves: walked.leaves,
+        pointers: walked.pointers,
     }
 }
 

@@ -9,6 +9,7 @@ ghost use Rattle.cms_edf.specs.Doubts.{directory_writes, map_writes, first_write
 ghost use Rattle.cms_edf.specs.Writing.{IsBlockOf, MayWrite, Writes};
 
 use crate::held::TreeBlocks;
+use crate::system::POINTER_SIZE;
 use cms_journal::BlockSize;
 use cms_map::Map;
 use cms_tree::build;
@@ -21,9 +22,6 @@ pub struct Target {
     pub total: u32,
     pub bsize: BlockSize,
 }
-
-/// Bytes of a pointer of fixed records.
-const POINTER_SIZE: u8 = 4;
 
 /// Writes bytes into blocks, a block's bytes into each.
 pub fn write_pieces<W: World>(

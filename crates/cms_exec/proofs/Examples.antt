@@ -22,7 +22,8 @@ use Rattle.cms_operands.specs.Operands.{given, name, needed}
 use Rattle.cms_operands.specs.Refusals.{message_of}
 use Rattle.cms_search.specs.Machine.{Machine, Went, OutOfTurns}
 use Rattle.cms_search.specs.Searches.{places_from}
-use Rattle.cms_files.proofs.Machines.{disk, file, lines, one_disk, two_disks, words}
+use Rattle.cms_search.proofs.Machines.{lines, words}
+use Rattle.cms_files.proofs.Machines.{disk, file, one_disk, two_disks}
 use Rattle.exec2_parse.specs.Procedures.{begins_with_trace, procedure_of}
 use Rattle.exec2_run.specs.Given.{behind_name}
 use Rattle.exec2_run.specs.Steps.{begun}

@@ -48,7 +48,7 @@ use Rattle.cms_search.specs.Refusing.{device_fault}
 use Rattle.cms_search.specs.Releasing.{vdev_of}
 use Rattle.cms_search.specs.Searches.{item_at}
 use Rattle.cms_search.specs.Shows.{Shows}
-use Rattle.cms_search.specs.Stepping.{handed}
+use Rattle.cms_search.specs.Stepping.{HasRead, handed, silently}
 use Rattle.cms_search.specs.Tables.{Seated}
 use Rattle.cms_search.specs.Telling.{device_text}
 use Rattle.cms_search.specs.declared.state.Course as declared
@@ -58,12 +58,13 @@ use Rattle.cms_search.specs.declared.state.End.TheVariants.{Edge}
 use Rattle.cms_search.specs.declared.state.State.{State}
 use Rattle.cms_search.proofs.Acts as joins
 use Rattle.cms_search.proofs.Acts.{acts_after, acts_done, acts_same, acts_stop, comes_in, later_then, usable_later}
-use Rattle.cms_search.proofs.Handing.{IsRead, acts_never, named_so, passes_read}
+use Rattle.cms_search.proofs.Handing.{acts_never, later_read, named_so, passes_read}
 use Rattle.cms_search.proofs.Meeting.{holds_shows, letter_is, meets_at, readable_seat}
 use Rattle.cms_search.proofs.Released.{vdev_is}
 use Rattle.cms_search.proofs.Staying.{acts_stayed}
 use Rattle.cms_search.proofs.Stepped.{has_device}
 use Rattle.cms_files.specs.Files.{no_file_code}
+use Rattle.cms_files.specs.Identifiers.{exec_kind}
 use Rattle.cms_files.proofs.Found.{found_held}
 use Rattle.cms_files.proofs.OpenedFiles.{none_named, none_on, none_with, seat_with}
 use Rattle.exec2_parse.specs.Procedures.{procedure_of}
@@ -72,8 +73,8 @@ use Rattle.exec2_parse.specs.declared.procedure.ProcFault.TheVariants as refuses
 use Rattle.exec2_run.specs.Steps.{begun}
 use Rattle.exec2_run.specs.declared.exec.Exec.{Exec}
 use Rattle.exec2_run.specs.declared.exec.FileName.{FileName}
-use Rattle.cms_exec.specs.Exec.{IsRefused, Starting, beginning, exec_command, exec_operand, exec_operands, line_from, no_procedure, not_run_code, on_procedure, read_there, reason_of, refused, silently, start_named, started_of, starting}
-use Rattle.cms_exec.specs.Finding.{exec_kind, procedure_named}
+use Rattle.cms_exec.specs.Exec.{IsRefused, Starting, beginning, exec_command, exec_operand, exec_operands, line_from, no_procedure, not_run_code, on_procedure, read_there, reason_of, refused, start_named, started_of, starting}
+use Rattle.cms_exec.specs.Finding.{procedure_named}
 use Rattle.cms_exec.specs.Refused.{with_refused}
 use Rattle.cms_exec.specs.declared.started.Started as came
 use Rattle.cms_exec.specs.declared.started.Started.TheVariants.{Begun}
@@ -115,7 +116,7 @@ pub record ReadsAll {R : Type 0} (units : List Slot) (t : Act R) (o : Outcome) (
   pub is : then' o ≡ next
 
 -- units were read alone, and the step has come to this outcome
-comes_read : {R : Type 0} (old : Spot) (now : Seen) (t next : List Slot → Act R) (o : Outcome) → IsRead old.world now → ((n : ℕ) → MayGet n o)
+comes_read : {R : Type 0} (old : Spot) (now : Seen) (t next : List Slot → Act R) (o : Outcome) → HasRead old.world now → ((n : ℕ) → MayGet n o)
     → Counted old.world.faults (faults_in (o ∷ [])) now.faults → ((units : List Slot) → holds old units → ReadsAll units (t units) o (next units))
     → Comes old (seen_now old now) t next
 comes_read old now t next o read may counted reads =
@@ -209,7 +210,7 @@ module _ (old : Spot) (alloc : Global) (called : Text) (f : FileName) where
         }
 
     -- its data were read
-    pub comes_data : (now : Seen) (stored : FileData) → IsRead old.world now → OfImage old.world.told d.volume.unit (λ image. GetsIn image d f.name (Ok stored))
+    pub comes_data : (now : Seen) (stored : FileData) → HasRead old.world now → OfImage old.world.told d.volume.unit (λ image. GetsIn image d f.name (Ok stored))
         → Comes old (seen_now old now) tree (begins_in (records_in stored))
     comes_data now stored read got =
         comes_read old now tree (begins_in (records_in stored)) Good read (λ n. tt) (counted_none old.world.faults now.faults read.faults)
@@ -221,7 +222,7 @@ module _ (old : Spot) (alloc : Global) (called : Text) (f : FileName) where
         reads_so units h Good (begins_in (records_in stored) units) x.0 x.1 (ap (λ (records : List (List ℕ)). begins_in records units) same))
 
     -- the device failed
-    pub comes_fault : (now : Seen) (vdev : ℕ) → IsRead old.world now → Rose old.world.faults now.faults → (place_of f.name d.volume ≡ None → ⊥)
+    pub comes_fault : (now : Seen) (vdev : ℕ) → HasRead old.world now → Rose old.world.faults now.faults → (place_of f.name d.volume ≡ None → ⊥)
         → IfSome (item_at old.state.table.seats f.letter) (λ s. option_map (λ (unit : UnitInfo). unit.vdev) (slice_get old.state.table.units s.letter.unit) ≡ Some vdev)
         → Comes old (seen_now old now) tree (λ units. refused (refusal_tree old.state (M105 (device_text vdev)) (pos 100) units))
     comes_fault now vdev read rose some device =
@@ -255,13 +256,13 @@ module _ (old : Spot) (alloc : Global) (called : Text) (f : FileName) where
     -- ---- how the read ends
 
     -- the procedure in its data begins, or is none
-    pub read_data : (now : Seen) (new : Spot) (stored : FileData) (r : Result came.Started End) → IsRead old.world now
+    pub read_data : (now : Seen) (new : Spot) (stored : FileData) (r : Result came.Started End) → HasRead old.world now
         → OfImage old.world.told d.volume.unit (λ image. GetsIn image d f.name (Ok stored)) → Acts (seen_now old now) new (begins_in (records_in stored)) r (started_of new.state)
         → Acts old new tree r (started_of new.state)
     read_data now new stored r read got a = acts_after old (seen_now old now) new tree (begins_in (records_in stored)) r (started_of new.state) (comes_data now stored read got) a
 
     -- the fault of the device is typed
-    pub read_fault : (now : Seen) (new : Spot) (vdev : ℕ) (r : Result declared.Course End) (x : Result came.Started End) → IsRead old.world now → Rose old.world.faults now.faults
+    pub read_fault : (now : Seen) (new : Spot) (vdev : ℕ) (r : Result declared.Course End) (x : Result came.Started End) → HasRead old.world now → Rose old.world.faults now.faults
         → (place_of f.name d.volume ≡ None → ⊥)
         → IfSome (item_at old.state.table.seats f.letter) (λ s. option_map (λ (unit : UnitInfo). unit.vdev) (slice_get old.state.table.units s.letter.unit) ≡ Some vdev)
         → Does now new.world (saying (typed_line (message_text (M105 (device_text vdev))))) r said → IfOk r (λ c. c ≡ course.Went (pos 100)) → new.state ≡ old.state
@@ -272,11 +273,11 @@ module _ (old : Spot) (alloc : Global) (called : Text) (f : FileName) where
         (rw is (starts_refused (seen_now old now) new failed r new.state (joins.refused (seen_now old now) new (M105 (device_text vdev)) (pos 100) r does went same)))
 
     -- that the records are altered, which never comes
-    pub read_altered : (now : Seen) (new : Spot) (r : Result declared.Course End) (x : Result came.Started End) → IsRead old.world now
+    pub read_altered : (now : Seen) (new : Spot) (r : Result declared.Course End) (x : Result came.Started End) → HasRead old.world now
         → OfImage old.world.told d.volume.unit (λ image. GetsIn image d f.name (Err failed.Altered)) → IsLater now new.world
         → IfErr r (λ e. e ≡ Edge → Rose now.edges new.world.edges) → new.state ≡ old.state → x ≡ with_refused r → Acts old new tree x (started_of new.state)
     read_altered now new r x read got more cause same is =
-        let later = later_then old.world now new.world (passes_read old.world now read).later more in
+        let later = later_then old.world now new.world (later_read old.world now read) more in
         rw is
         (acts_never old new tree (with_refused r) (started_of new.state) (never_altered got) later (usable_later old new later (ap (λ (s : State). s.table) same)) (caused r cause))
       where

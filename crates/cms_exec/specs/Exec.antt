@@ -16,10 +16,11 @@ use Rattle.cms_search.specs.ChangeTold.{limited}
 use Rattle.cms_search.specs.Machine.{Machine, Course, Went, letter_at, refusal}
 use Rattle.cms_search.specs.Refusing.{device_fault}
 use Rattle.cms_search.specs.Releasing.{vdev_of}
-use Rattle.cms_search.specs.Stepping.{reading}
+use Rattle.cms_search.specs.Stepping.{reading, silently}
 use Rattle.cms_search.specs.declared.fault.SearchFault.{SearchFault}
 use Rattle.cms_search.specs.declared.state.State.{State}
 use Rattle.cms_files.specs.Files.{UnitFile, file_on, no_file_code}
+use Rattle.cms_files.specs.Identifiers.{exec_kind}
 use Rattle.exec2_parse.specs.Procedures.{procedure_of}
 use Rattle.exec2_parse.specs.declared.procedure.ProcFault.{ProcFault}
 use Rattle.exec2_parse.specs.declared.procedure.ProcFault.TheVariants.{NotExec2, LineTooLong, TooManyLines, Memory}
@@ -28,7 +29,7 @@ use Rattle.exec2_run.specs.Steps.{begun}
 use Rattle.exec2_run.specs.declared.exec.Exec.{Exec}
 use Rattle.exec2_run.specs.declared.exec.FileName.{FileName}
 use Rattle.exec2_run.specs.declared.fault.Fault.{Fault}
-use Rattle.cms_exec.specs.Finding.{exec_kind, procedure_named}
+use Rattle.cms_exec.specs.Finding.{procedure_named}
 use Rattle.cms_exec.specs.declared.started.Started as declared
 use Rattle.cms_exec.specs.declared.started.Started.TheVariants as came
 
@@ -91,10 +92,6 @@ begins s (Err fault) = Done (IsRefused (Went s (pos (stopped_code + number_of_fa
 abbrev pub beginning : Global → Machine → Text → FileName → Result (List Text) ProcFault → Act Starting
 beginning alloc s called f (Ok lines) = begins s (begun alloc lines called f)
 beginning alloc s called f (Err why) = refused (not_run s f.name.file (reason_of why))
-
--- nothing is done with a record before all are there
-abbrev pub silently : {R : Type 0} → List (List ℕ) → Act R → Act R
-silently records next = next
 
 -- all records of a file are read, and the procedure in them begins: 105, 086
 abbrev pub read_whole : Global → Machine → Text → FileName → UnitFile → Act Starting

@@ -1,10 +1,9 @@
 -- Procedures, as they are found by their names.
-use Rattle.std.specs.Prelude.{ℕ, List, codes, slice_get, Option, Some, None, Result, Ok, Err}
+use Rattle.std.specs.Prelude.{ℕ, List, slice_get, Option, Some, None, Result, Ok, Err}
 use Rattle.std.specs.Option.{option_and_then, option_map}
 use Rattle.cms_names.specs.Names.{part_of}
 use Rattle.cms_names.specs.declared.fault.NameFault.{NameFault}
 use Rattle.cms_names.specs.declared.name.Name.{Name}
-use Rattle.cms_text.specs.Texts.{coded}
 use Rattle.cms_line.specs.declared.token.Token.{Token}
 use Rattle.cms_operands.specs.Operands.{given}
 use Rattle.cms_operands.specs.declared.mode.ReadMode.TheVariants.{Any}
@@ -12,11 +11,8 @@ use Rattle.cms_search.specs.Machine.{Machine}
 use Rattle.cms_search.specs.Searches.{Listed, Shelves, item_at, look_up, shelves_in}
 use Rattle.cms_search.specs.declared.fault.SearchFault.{SearchFault}
 use Rattle.cms_search.specs.declared.search.Found.{Found}
+use Rattle.cms_files.specs.Identifiers.{exec_kind}
 use Rattle.exec2_run.specs.declared.exec.FileName.{FileName}
-
--- the type of a procedure's file
-abbrev pub exec_kind : List ℕ
-exec_kind = coded (codes "EXEC")
 
 abbrev pub exec_name : List ℕ → Name
 exec_name file = record { file = file; kind = exec_kind }

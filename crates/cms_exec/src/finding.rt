@@ -5,33 +5,22 @@ ghost use Rattle.cms_search.specs.Shows.{Shows};
 ghost use Rattle.cms_search.specs.Tables.{shelves_of};
 ghost use Rattle.cms_exec.specs.Finding as spec;
 
+use cms_files::{exec_kind, info_found};
 use cms_line::Token;
 use cms_names::{Name, Part};
-use cms_operands::{ReadMode, coded, given};
+use cms_operands::{ReadMode, given};
 use cms_search::{Found, Table};
 use exec2_run::FileName;
-
-/// The type of a procedure's file.
-pub fn exec_kind() -> Part
-    ensures { result ≡ spec.exec_kind }
-{
-    Part::read(&coded(b"EXEC")).unwrap()
-}
 
 // A file that was found, with its letter and its mode number.
 fn file_found(table: &Table, name: Name, found: Found) -> Option<FileName>
     ensures { result ≡ spec.file_found (shelves_of table.now) name found }
 {
-    let Some(disk) = table.disk(found.letter) else {
-        return None;
-    };
-    if found.place >= disk.count() {
-        return None;
-    }
+    let info = info_found(table, found)?;
     Some(FileName {
         name,
         letter: found.letter,
-        number: disk.info(found.place).number,
+        number: info.number,
     })
 }
 

@@ -9,11 +9,10 @@ ghost use Rattle.cms_text.specs.Numbers.{decimal_of};
 ghost use Rattle.cms_text.specs.Texts.{coded};
 ghost use Rattle.cms_world.specs.Seen.{seen};
 ghost use Rattle.cms_files.specs.Files.{no_file_code};
+ghost use Rattle.cms_files.specs.Identifiers.{exec_kind};
 ghost use Rattle.cms_exec.specs.Exec.{not_run_code, reason_of};
-ghost use Rattle.cms_exec.specs.Finding.{exec_kind};
 
-use crate::finding::exec_kind;
-use cms_files::NO_FILE;
+use cms_files::{NO_FILE, exec_kind};
 use cms_line::{Message, Word};
 use cms_names::Part;
 use cms_operands::coded;

@@ -34,7 +34,8 @@ use Rattle.cms_search.specs.Machine.{Machine, Course, Places, Went, OutOfTurns, 
 use Rattle.cms_search.specs.Reading.{without_device}
 use Rattle.cms_search.specs.Searches.{places_from}
 use Rattle.cms_files.specs.Identifiers.{file_input, full_name}
-use Rattle.cms_files.proofs.Machines.{code_in, disk, file, lines, machine, moment, one_disk, two_disks, unit, words}
+use Rattle.cms_search.proofs.Machines.{code_in, lines, machine, moment, words}
+use Rattle.cms_files.proofs.Machines.{disk, file, one_disk, stack_in, two_disks, unit}
 use Rattle.cms_execio.specs.Execio.{execio}
 use Rattle.cms_execio.specs.Line.{execio_operands, read_operands, string_place, text_in, write_operands}
 use Rattle.cms_execio.specs.Records.{record_of, stacked_line}
@@ -55,12 +56,6 @@ name_of name kind = record { file = ebcdic name; kind = ebcdic kind }
 -- A FILE on 191
 abbrev key : List ℕ
 key = place_key 0x191 (name_of (codes "A") (codes "FILE"))
-
-abbrev stack_in : Close Course → List (List ℕ)
-stack_in (Over (Went s code)) = s.stack
-stack_in (Over OutOfTurns) = []
-stack_in WaitsForScript = []
-stack_in WaitsForMoment = []
 
 abbrev places_in : Close Course → Places
 places_in (Over (Went s code)) = s.places

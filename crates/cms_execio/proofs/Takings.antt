@@ -1,12 +1,10 @@
 -- DISKR: records are taken as they are handed out, and their lines are stacked together.
 use Rattle.std.proofs.Common.{◌≡◌, ◌⊎◌, ◌+◌, ◌-◌, ◌<◌, ◌≤◌, ◌∙◌, Bool, false, ℕ, zero, suc, negsuc, List, [], ◌∷◌, ◌++◌, length, drop, take, map, min, true, Option, Some, None, Result, Ok, Err, inl, inr, pos, refl, sym, ap, subst, slice_get, arith}
-use Rattle.std.specs.Prelude.{◌==◌, IfErr, IfOk, nat_lt}
+use Rattle.std.specs.Prelude.{◌==◌, IfOk, nat_lt}
 use Rattle.std.proofs.Math.Seq.{drop-nil, take-append_seam}
 use Rattle.std.proofs.lemmas.Bool.{cases_Bool, ltb-true, ltb-false, ne_eqb}
 use Rattle.std.proofs.lemmas.List.{drop-append-le, drop-take, drop_all, length-append, map-append}
-use Rattle.cms_journal.specs.Causes.{Rose}
 use Rattle.cms_journal.specs.Told.{Told}
-use Rattle.cms_fields.specs.Steps.{◌>>=◌}
 use Rattle.cms_model.specs.Changes.{file_named}
 use Rattle.cms_model.specs.LawsUpdates.{now}
 use Rattle.cms_model.specs.Minidisks.{File, Minidisk, Volume}
@@ -16,41 +14,35 @@ use Rattle.cms_machine.specs.Slots.{Slot, Settled}
 use Rattle.cms_machine.specs.Steps.{Outcome}
 use Rattle.cms_machine.proofs.Join.{ran_none}
 use Rattle.cms_disk.specs.Cursors.{Reading, SameFile, text_of}
+use Rattle.cms_disk.specs.declared.fault.DiskFault.{DiskFault}
 use Rattle.cms_disk.specs.declared.fault.DiskFault.TheVariants as failed
 use Rattle.cms_line.specs.Messages.{message_text}
 use Rattle.cms_line.specs.declared.message.Message.TheVariants.{M105}
 use Rattle.cms_line.specs.declared.token.Token.{Token}
-use Rattle.cms_search.specs.Calls.{Acts, Comes, IsLater, Spot, course_of, machine_of, refusal_tree, said}
+use Rattle.cms_search.specs.Calls.{Acts, Comes, Spot, course_of, machine_of, refusal_tree, said}
 use Rattle.cms_search.specs.Calls as calls
-use Rattle.cms_search.specs.Machine.{Course, Machine, Places, Went, letter_at}
-use Rattle.cms_search.specs.Refusing.{device_fault}
+use Rattle.cms_search.specs.Machine.{Course, Machine, Places, Went}
+use Rattle.cms_search.specs.Refusing.{device_fault, unread_code, unread_message}
 use Rattle.cms_search.specs.Releasing.{vdev_of}
-use Rattle.cms_search.specs.Searches.{look_up, shelves_in}
-use Rattle.cms_search.specs.Shows.{Shows}
-use Rattle.cms_search.specs.Stepping.{handed, reading}
+use Rattle.cms_search.specs.Stepping.{HasRead, handed, reading, silently}
 use Rattle.cms_search.specs.Telling.{device_text}
-use Rattle.cms_search.specs.declared.fault.SearchFault.{SearchFault}
-use Rattle.cms_search.specs.declared.fault.SearchFault.TheVariants as why
-use Rattle.cms_search.specs.declared.search.Found.{Found}
 use Rattle.cms_search.specs.declared.state.Course as declared
 use Rattle.cms_search.specs.declared.state.Course.TheVariants as course
 use Rattle.cms_search.specs.declared.state.End.{End}
-use Rattle.cms_search.specs.declared.state.End.TheVariants.{Edge, Memory}
+use Rattle.cms_search.specs.declared.state.End.TheVariants.{Memory}
 use Rattle.cms_search.specs.declared.state.State.{State}
-use Rattle.cms_search.proofs.Acts.{acts_after, acts_done, acts_same, acts_stop, comes_in, comes_same, comes_then, cut_off, later_then, no_memory, rose_from, usable_later}
-use Rattle.cms_search.proofs.Handing.{AreAmong, Handed, Hands, IsOpen, IsRead, Reads, acts_never, handed_more, handed_none, handed_past, left_long, narrowed, never_altered, only, passes_read, read_failed, read_wanted, silent, silent_each, silent_one}
-use Rattle.cms_search.proofs.Meeting.{holds_shows, letter_is, meets_at}
-use Rattle.cms_search.proofs.Staying.{acts_refused, acts_stayed}
-use Rattle.cms_world.specs.Seen.{Seen}
-use Rattle.cms_files.specs.Files.{UnitFile, file_on, file_read, on_found, search_code, search_message}
+use Rattle.cms_search.proofs.Acts.{acts_after, acts_done, acts_stop, comes_in, comes_same, comes_then, cut_off, no_memory}
+use Rattle.cms_search.proofs.Handing.{AreAmong, Handed, Hands, IsOpen, Reads, handed_more, handed_none, handed_past, left_long, narrowed, only, only_read, passes_read, read_wanted, reads_none, reads_then, silent, silent_each, silent_one, unread_ends}
+use Rattle.cms_search.proofs.Meeting.{letter_is, meets_at}
+use Rattle.cms_search.proofs.Staying.{acts_stayed}
+use Rattle.cms_world.specs.Seen.{OnlyReads, Seen}
+use Rattle.cms_files.specs.Files.{UnitFile}
 use Rattle.cms_files.specs.Opening.{IsOpened}
 use Rattle.cms_files.specs.Stacking.{stacking}
-use Rattle.cms_files.specs.declared.identifier.FileInput.{FileInput}
 use Rattle.cms_files.specs.declared.opening.OpenFile.{OpenFile}
-use Rattle.cms_files.proofs.Found.{found_held}
 use Rattle.cms_files.proofs.OpenedFiles.{opened_device, opened_reads}
 use Rattle.cms_execio.specs.Passing.{IsPast}
-use Rattle.cms_execio.specs.Reading.{code_of_taken, disk_read, if_good, in_front, line_of_nth, lines_taken, places_behind, read_done, read_found, read_on, read_taken, silently, stack_read, taken_of}
+use Rattle.cms_execio.specs.Reading.{code_of_taken, if_good, in_front, line_of_nth, lines_taken, places_behind, read_done, read_found, read_on, read_taken, stack_read, taken_of}
 use Rattle.cms_execio.specs.Records.{stacked_line}
 use Rattle.cms_execio.specs.declared.line.ReadLine.{ReadLine}
 
@@ -76,7 +68,7 @@ pub record TakenSoFar (line : ReadLine) (front : ℕ) (before now : Seen) (first
   pub long : length handed.front ≡ n
   pub lines_are : lines ≡ map (stacked_line line.style.strips) (drop front handed.front)
   pub left : n + c.left ≡ first.left
-  pub read : IsRead before now
+  pub read : HasRead before now
 
 pub taken_none : (line : ReadLine) (front : ℕ) (s : Seen) (c : Reading) (lines : List (List ℕ)) → IsOpen s.told c → lines ≡ [] → TakenSoFar line front s s c c 0 lines
 unfolding handed_none
@@ -85,7 +77,7 @@ taken_none line front s c lines has none = record {
   long = refl;
   lines_are = none ∙ sym (ap (map (stacked_line line.style.strips)) (drop-nil front));
   left = omega arith;
-  read = record { told = refl; faults = omega arith; edges = refl };
+  read = reads_none s;
 }
 
 -- none was handed out yet, and some were passed over
@@ -107,15 +99,12 @@ taken_past line front n s first c lines has past low none = begun past.some
           long = long;
           lines_are = none ∙ sym (ap (map (stacked_line line.style.strips)) (drop_all front h.0.front (omega arith)));
           left = left;
-          read = record { told = refl; faults = omega arith; edges = refl };
+          read = reads_none s;
         }
-
-pub read_then : (a b c : Seen) → IsRead a b → IsRead b c → IsRead a c
-read_then a b c x y = record { told = y.told ∙ x.told; faults = (let f = x.faults in let g = y.faults in omega arith); edges = y.edges ∙ x.edges }
 
 -- a further record was handed out
 pub taken_more : (line : ReadLine) (front : ℕ) (before mid now' : Seen) (first c d : Reading) (n : ℕ) (lines lines' : List (List ℕ)) (text : List ℕ)
-    → TakenSoFar line front before mid first c n lines → Hands mid.told c d (Ok true) → SameFile c d → c.left ≡ d.left + 1 → IsRead mid now' → text ≡ text_of d
+    → TakenSoFar line front before mid first c n lines → Hands mid.told c d (Ok true) → SameFile c d → c.left ≡ d.left + 1 → HasRead mid now' → text ≡ text_of d
     → lines' ≡ lines ++ line_of_nth line.style.strips front n text → TakenSoFar line front before now' first d (n + 1) lines'
 unfolding handed_more
 taken_more line front before mid now' first c d n lines lines' text so hands same left read is added =
@@ -132,7 +121,7 @@ taken_more line front before mid now' first c d n lines lines' text so hands sam
           ∙ (ap (λ (k : ℕ). map (stacked_line strips) (drop front records) ++ line_of_nth strips front k text) (sym so.long)
           ∙ (ap (λ (t : List ℕ). map (stacked_line strips) (drop front records) ++ line_of_nth strips front (length records) t) is ∙ sym (line_added strips front records (text_of d)))));
       left = omega arith;
-      read = read_then before mid now' so.read read;
+      read = reads_then before mid now' so.read read;
     }
 
 -- ---- how it ends
@@ -241,83 +230,30 @@ module _ (old : Spot) (words : List Token) (n : ℕ) (line : ReadLine) (file : O
       (ap (map (stacked_line line.style.strips)) (sym (drop-take front taken f.records)
       ∙ ap (drop front) (ap (λ (k : ℕ). take k f.records) (sym so_long) ∙ (ap (take (length so.handed.front)) is ∙ take-append_seam so.handed.front more)))
       ∙ sym so.lines_are)))
-      so.handed (record { told = refl; faults = omega arith; edges = refl }) same
+      so.handed (reads_none mid.world) same
       (λ f more is.
       let long : length f.records ≡ length so.handed.front + length more = ap length is ∙ length-append so.handed.front more in
       omega arith)
       (λ units f. refl)
 
-  -- the device failed, which is typed
-  pub taken_fault : (t : ℕ) → taken ≡ suc t → (mid read' new : Spot) (c : Reading) (k : ℕ) (lines : List (List ℕ)) (r : Result declared.Course End)
-      → TakenSoFar line front old.world mid.world file.cursor c k lines → k ≤ front + taken
-      → IsRead mid.world read'.world → Rose mid.world.faults read'.world.faults → read'.state ≡ old.state
-      → calls.Does read'.world new.world (saying (typed_line (message_text (M105 (device_text file.vdev))))) r said → IfOk r (λ x. x ≡ course.Went (pos 100)) → new.state ≡ read'.state
-      → Acts old new tree r (course_of new.state)
-  taken_fault t some mid read' new c k lines r so low read rose same does went kept =
-      read_failed silent old mid read' new file.cursor c tree o.seat.letter.unit wanted file.vdev then' r (reads t some) so.handed read rose same (among mid c k lines so low)
-      (λ units f j. ap (λ (s : State). refusal_tree s (M105 (device_text file.vdev)) (pos 100) units) (sym same)) does went kept
-
-  -- the bytes turned out to be no records: never where the journal is told
-  pub taken_altered : (t : ℕ) → taken ≡ suc t → (mid read' new : Spot) (c d : Reading) (k : ℕ) (lines : List (List ℕ)) (r : Result declared.Course End)
-      → TakenSoFar line front old.world mid.world file.cursor c k lines → Hands mid.world.told c d (Err failed.Altered) → IsRead mid.world read'.world
-      → IsLater read'.world new.world → new.state ≡ old.state → IfErr r (λ e. e ≡ Edge → Rose read'.world.edges new.world.edges) → Acts old new tree r (course_of new.state)
-  taken_altered t some mid read' new c d k lines r so hands read later same cause =
-      let to_read = later_then old.world mid.world read'.world so.handed.passes.later (passes_read mid.world read'.world read).later in
-      let all = later_then old.world read'.world new.world to_read later in
-      acts_never old new tree r (course_of new.state)
-      (never_altered silent old mid file.cursor c d tree o.seat.letter.unit wanted then' (reads t some) so.handed hands) all
-      (usable_later old new all (ap (λ (s : State). s.table) same)) (caused r cause)
-    where
-      caused : (x : Result declared.Course End) → IfErr x (λ e. e ≡ Edge → Rose read'.world.edges new.world.edges) → IfErr x (λ e. e ≡ Edge → Rose old.world.edges new.world.edges)
-      caused (Ok y) h = tt
-      caused (Err e) h = λ edge. rose_from old.world.edges read'.world.edges new.world.edges
-          (later_then old.world mid.world read'.world so.handed.passes.later (passes_read mid.world read'.world read).later).edges (h edge)
+  -- the file couldn't be read any further, which is typed
+  pub taken_unread : (t : ℕ) → taken ≡ suc t → (mid read' new : Spot) (c d : Reading) (k : ℕ) (lines : List (List ℕ)) (why : DiskFault) (r : Result declared.Course End)
+      → TakenSoFar line front old.world mid.world file.cursor c k lines → k ≤ front + taken → (why ≡ failed.Device) ⊎ (why ≡ failed.Altered) → Hands mid.world.told c d (Err why)
+      → OnlyReads {T = Bool} mid.world read'.world failed.Device (Err why) → read'.state ≡ old.state
+      → calls.Does read'.world new.world (saying (typed_line (message_text (unread_message why file.vdev)))) r said → IfOk r (λ x. x ≡ course.Went (pos (unread_code why)))
+      → new.state ≡ read'.state → Acts old new tree r (course_of new.state)
+  taken_unread t some mid read' new c d k lines why r so low fault hands looks same does went kept =
+      unread_ends silent old mid read' new file.cursor c d tree o.seat.letter.unit wanted file.vdev then' r (reads t some) so.handed
+      (only_read {T = Bool} mid.world read'.world failed.Device (Err why) looks) same kept why fault hands looks.cause (among mid c k lines so low)
+      (λ units f j. ap (λ (s : State). refusal_tree s (M105 (device_text file.vdev)) (pos 100) units) (sym same)) does went
 
   -- there was no memory to keep a line
   pub taken_starved : (mid new : Spot) (c : Reading) (k : ℕ) (lines : List (List ℕ)) → TakenSoFar line front old.world mid.world file.cursor c k lines
-      → IsRead mid.world new.world → Acts {T = declared.Course} old new tree (Err Memory) (course_of new.state)
+      → HasRead mid.world new.world → Acts {T = declared.Course} old new tree (Err Memory) (course_of new.state)
   taken_starved mid new c k lines so read =
-      let all = read_then old.world mid.world new.world so.read read in
+      let all = reads_then old.world mid.world new.world so.read read in
       let edges = all.edges in
       cut_off old new tree (course_of new.state) all.told all.faults (omega arith)
-
--- ---- the file that is read
-
--- the machine that is held finds no file
-pub missing_on : (old new : Spot) (words : List Token) (n : ℕ) (line : ReadLine) (r : Result declared.Course End)
-    → ((s : Machine) → Shows old.state.table s → file_on s line.range.input.name (letter_at s n) ≡ Err why.NotFound)
-    → calls.Does old.world new.world (saying (typed_line (message_text (search_message words 3 why.NotFound)))) r said → IfOk r (λ c. c ≡ course.Went (pos (search_code why.NotFound)))
-    → new.state ≡ old.state → Acts old new (λ units. read_on (machine_of old.state units) words line n) r (course_of new.state)
-missing_on old new words n line r missing does went same =
-    acts_refused old new (λ units. read_on (machine_of old.state units) words line n) (search_message words 3 why.NotFound) (pos (search_code why.NotFound)) r does went same
-    (λ units h. (let e = missing (machine_of old.state units) (holds_shows old units h) in rw e refl))
-
--- what a search finds on the machine that is held
-searched_so : (s : Machine) (input : FileInput) (r : Result Found SearchFault) → look_up (shelves_in s) input.mode input.name ≡ r
-    → file_read s input ≡ (r >>= (λ found. file_on s input.name (letter_at s found.letter)))
-searched_so s input r is = ap (λ (x : Result Found SearchFault). x >>= (λ found. file_on s input.name (letter_at s found.letter))) is
-
-pub found_acts : (old new : Spot) (words : List Token) (line : ReadLine) (found : Result Found SearchFault) (x : Found) (r : Result declared.Course End)
-    → ((s : Machine) → Shows old.state.table s → found ≡ look_up (shelves_in s) line.range.input.mode line.range.input.name) → found ≡ Ok x
-    → Acts old new (λ units. read_on (machine_of old.state units) words line x.letter) r (course_of new.state)
-    → Acts old new (λ units. disk_read (machine_of old.state units) words line) r (course_of new.state)
-found_acts old new words line found x r finds is acts =
-    acts_same old new (λ units. disk_read (machine_of old.state units) words line) (λ units. read_on (machine_of old.state units) words line x.letter) r (course_of new.state)
-    (λ units h.
-    let s = machine_of old.state units in
-    let there = found_held old (λ m. look_up (shelves_in m) line.range.input.mode line.range.input.name) found finds units h ∙ is in
-    ap (on_found s words 3 (read_found s line)) (searched_so s line.range.input (Ok x) there)) acts
-
-pub unfound_acts : (old new : Spot) (words : List Token) (line : ReadLine) (found : Result Found SearchFault) (fault : SearchFault) (r : Result declared.Course End)
-    → ((s : Machine) → Shows old.state.table s → found ≡ look_up (shelves_in s) line.range.input.mode line.range.input.name) → found ≡ Err fault
-    → calls.Does old.world new.world (saying (typed_line (message_text (search_message words 3 fault)))) r said → IfOk r (λ c. c ≡ course.Went (pos (search_code fault)))
-    → new.state ≡ old.state → Acts old new (λ units. disk_read (machine_of old.state units) words line) r (course_of new.state)
-unfound_acts old new words line found fault r finds is does went same =
-    acts_refused old new (λ units. disk_read (machine_of old.state units) words line) (search_message words 3 fault) (pos (search_code fault)) r does went same
-    (λ units h.
-    let s = machine_of old.state units in
-    let there = found_held old (λ m. look_up (shelves_in m) line.range.input.mode line.range.input.name) found finds units h ∙ is in
-    ap (on_found s words 3 (read_found s line)) (searched_so s line.range.input (Err fault) there))
 
 -- ---- the lines are stacked
 

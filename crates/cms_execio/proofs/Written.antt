@@ -44,7 +44,7 @@ change_told s name lines None = Put (new_file s name (records_of V 0 lines))
 change_told s name lines (Some info) = Add name (records_of info.format info.length lines) (stamp_of s.moment)
 
 change_is : (s : Machine) (name : Name) (lines : List (List ℕ)) (x : Result UnitFile SearchFault) (i : Option FileInfo) → IsTold x i → written_change s name lines x ≡ change_told s name lines i
-change_is s name lines (Ok x) (Some info) is = let format = is.0 in let size = is.1 in rw (format, size) refl
+change_is s name lines (Ok x) (Some info) is = let format = is.format in let size = is.size in rw (format, size) refl
 change_is s name lines (Ok x) None is = absurd is
 change_is s name lines (Err why) (Some info) is = absurd is
 change_is s name lines (Err why) None is = refl

@@ -2,14 +2,13 @@
 use Rattle.std.specs.Prelude.{ℕ, ◌+◌, if◌then◌else◌, List, [], ◌∷◌, codes, drop, is_some, position, slice_get, take, Option, Some, None, Result, Ok, Err}
 use Rattle.std.specs.Option.{option_and_then, option_map}
 use Rattle.cms_fields.specs.Steps.{◌>>=◌, ◌>>◌}
-use Rattle.cms_text.specs.Texts.{is_blank, is_keyword}
-use Rattle.cms_line.specs.Options.{is_left}
+use Rattle.cms_text.specs.Texts.{is_keyword, without_one_blank}
+use Rattle.cms_line.specs.Options.{first_left}
 use Rattle.cms_line.specs.declared.token.Token.{Token}
-use Rattle.cms_operands.specs.Choices.{chosen_of, form, last_among}
-use Rattle.cms_operands.specs.Operands.{ended, given, needed, number, number_or_all, operands_of, or_refused, writing_mode}
+use Rattle.cms_operands.specs.Choices.{chosen_of, flag, last_among}
+use Rattle.cms_operands.specs.Operands.{ended, given, largest, needed, number, number_or_all, operands_of, or_refused, writing_mode}
 use Rattle.cms_operands.specs.declared.choosing.ChosenOption.{ChosenOption}
 use Rattle.cms_operands.specs.declared.choosing.OptionForm.{OptionForm}
-use Rattle.cms_operands.specs.declared.choosing.Parameter.TheVariants as takes
 use Rattle.cms_operands.specs.declared.refusal.Refusal.{Refusal}
 use Rattle.cms_operands.specs.declared.refusal.Refusal.TheVariants.{BadOperand}
 use Rattle.cms_files.specs.Identifiers.{file_input, full_name, is_last, mode_or_a}
@@ -30,10 +29,6 @@ use Rattle.cms_execio.specs.declared.line.WriteTarget.{WriteTarget}
 -- the most records or lines that a number asks for
 abbrev pub most_wanted : ℕ
 most_wanted = 10000
-
--- the largest number that a word writes
-abbrev pub largest : ℕ
-largest = 999999999
 
 abbrev pub direction_of : ℕ → List ℕ → Result Direction Refusal
 direction_of place text =
@@ -78,9 +73,6 @@ execio_operands operands = do
 -- ---- options
 
 -- in full spelling
-abbrev pub flag : List ℕ → ℕ → OptionForm
-flag word least = form word least takes.Nothing
-
 abbrev pub options : List OptionForm
 options =
     flag (codes "FIFO    ") 4 ∷ flag (codes "LIFO    ") 4 ∷ flag (codes "STRIP   ") 5 ∷ flag (codes "FINIS   ") 5
@@ -91,7 +83,7 @@ abbrev pub string_behind : List Token → ℕ → Option ℕ
 string_behind words left = option_map (λ k. left + 1 + k) (position (λ word. is_keyword (codes "STRING") word.text) (drop (left + 1) words))
 
 unfoldable pub string_place : List Token → Option ℕ
-string_place words = option_and_then (string_behind words) (position (λ word. is_left word.text) words)
+string_place words = option_and_then (string_behind words) (first_left words)
 
 -- STRING is the last option: what stands behind it is its text and no further one
 abbrev pub up_to : List Token → Option ℕ → List Token
@@ -101,14 +93,9 @@ up_to words (Some place) = take (place + 1) words
 abbrev pub before_text : List Token → List Token
 before_text words = up_to words (string_place words)
 
--- without the one blank that it may begin with
-abbrev pub without_blank : List ℕ → List ℕ
-without_blank [] = []
-without_blank (b ∷ text) = if is_blank b then text else b ∷ text
-
 -- what a line has behind a word and one blank, as it stands there
 abbrev pub text_behind : List ℕ → Token → List ℕ
-text_behind line word = without_blank (drop word.end line)
+text_behind line word = without_one_blank (drop word.end line)
 
 abbrev pub string_word : List Token → Option Token
 string_word words = option_and_then (slice_get words) (string_place words)

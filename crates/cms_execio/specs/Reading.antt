@@ -8,7 +8,7 @@ use Rattle.cms_line.specs.declared.token.Token.{Token}
 use Rattle.cms_search.specs.Machine.{Machine, Course, Places, Went, OutOfTurns, letter_at, place_key}
 use Rattle.cms_search.specs.Refusing.{device_fault}
 use Rattle.cms_search.specs.Releasing.{vdev_of}
-use Rattle.cms_search.specs.Stepping.{reading}
+use Rattle.cms_search.specs.Stepping.{reading, silently}
 use Rattle.cms_files.specs.Files.{UnitFile, file_on, file_read, on_found}
 use Rattle.cms_files.specs.Stacking.{stacking}
 use Rattle.cms_execio.specs.Records.{stacked_line}
@@ -68,10 +68,6 @@ lines_taken strips front taken records = map (stacked_line strips) (take taken (
 -- the line that a record is which has so many in front of it, where it isn't one in front of those that are stacked
 abbrev pub line_of_nth : Bool → ℕ → ℕ → List ℕ → List (List ℕ)
 line_of_nth strips front nth text = if nat_lt nth front then [] else stacked_line strips text ∷ []
-
--- nothing is done with a record before all that are wanted are there
-abbrev pub silently : {R : Type 0} → List (List ℕ) → Act R → Act R
-silently records next = next
 
 -- the records are read up to the last that is stacked, where there is one: 105
 abbrev pub read_taken : Machine → ReadLine → UnitFile → ℕ → ℕ → ℕ → Act Course

@@ -9,17 +9,14 @@ use cms_files::{FileInput, StackEnd, file_input, full_name};
 use cms_line::{Line, Token, Tokens};
 use cms_names::Name;
 use cms_operands::{
-    ChosenOption, CommandFault, Refusal, WriteMode, coded, ended, given, given_or, needed, number,
-    number_or_all, operands, writing_mode,
+    ChosenOption, CommandFault, LARGEST, Refusal, WriteMode, coded, ended, given, given_or, needed,
+    number, number_or_all, operands, writing_mode,
 };
 use cms_text::is_keyword;
 use std::alloc::Global;
 
 /// The most records or lines that a number asks for.
 const MOST_WANTED: u32 = 10_000;
-
-/// The largest number that a word writes.
-const LARGEST: u32 = 999_999_999;
 
 /// Whether records are read or written.
 #[derive(Clone, Copy, Debug, PartialEq, Eq)]

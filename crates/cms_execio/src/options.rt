@@ -1,53 +1,36 @@
 // EXECIO's options. STRING is the last: what the line has behind it is a text.
 ghost use Rattle.std.specs.Prelude.{◌≡◌, ◌≤◌, ◌<◌, IfOk, IfSome, codes, length, position};
 ghost use Rattle.std.specs.Option.{option_copied};
-ghost use Rattle.cms_line.specs.Options.{is_left};
 ghost use Rattle.cms_text.specs.Texts.{is_keyword};
 ghost use Rattle.cms_operands.specs.Choices.{AnswersLine, chosen_of};
 ghost use Rattle.cms_execio.specs.Line as spec;
 
 use crate::line::StackStyle;
 use cms_files::{StackEnd, is_last};
-use cms_line::{Line, Token, Tokens, Word};
+use cms_line::{Line, Token, Tokens, Word, first_left};
 use cms_operands::{
-    ChosenOption, ChosenOptions, CommandFault, OptionForm, Parameter, chosen_options, last_among,
+    ChosenOption, ChosenOptions, CommandFault, OptionForm, chosen_options, last_among,
 };
-use cms_text::{BLANK, is_keyword};
+use cms_text::{is_keyword, without_one_blank};
 use std::alloc::{AllocError, Global};
-
-const LEFT: u8 = 0x4D;
 
 // Each in full spelling.
 fn options() -> [OptionForm; 5]
     ensures { result ≡ spec.options }
 {
     [
-        OptionForm::new(b"FIFO    ", 4, Parameter::Nothing),
-        OptionForm::new(b"LIFO    ", 4, Parameter::Nothing),
-        OptionForm::new(b"STRIP   ", 5, Parameter::Nothing),
-        OptionForm::new(b"FINIS   ", 5, Parameter::Nothing),
-        OptionForm::new(b"STRING  ", 6, Parameter::Nothing),
+        OptionForm::flag(b"FIFO    ", 4),
+        OptionForm::flag(b"LIFO    ", 4),
+        OptionForm::flag(b"STRIP   ", 5),
+        OptionForm::flag(b"FINIS   ", 5),
+        OptionForm::flag(b"STRING  ", 6),
     ]
-}
-
-fn is_left(word: &Token) -> bool
-    ensures { result ≡ is_left word.now.text }
-{
-    word.text.bytes() == [LEFT].as_slice()
 }
 
 fn is_string(word: &Token) -> bool
     ensures { result ≡ is_keyword (codes "STRING") word.now.text }
 {
     is_keyword(word.text.bytes(), "STRING")
-}
-
-// The first left parenthesis.
-fn first_left(words: &[Token]) -> Option<usize>
-    ensures place { result ≡ position (λ word. is_left word.text) words.now }
-    ensures within { IfSome result (λ left. left < length words.now) }
-{
-    words.iter().position(is_left)
 }
 
 // The first word STRING.
@@ -101,24 +84,13 @@ pub fn options_before_text(alloc: Global, words: &Tokens) -> Result<ChosenOption
     }
 }
 
-// Without the one blank that it may begin with.
-fn without_blank(text: &[u8]) -> &[u8]
-    ensures text { result.now ≡ spec.without_blank text.now }
-    ensures short { length result.now ≤ length text.now }
-{
-    match text {
-        [BLANK, rest @ ..] => rest,
-        _ => text,
-    }
-}
-
 // What stands in a line behind a word and one blank.
 fn text_behind<'l>(line: &'l [u8], word: &Token) -> &'l [u8]
     ensures text { result.now ≡ spec.text_behind line.now word.now }
     ensures short { length result.now ≤ length line.now }
 {
     let end = usize::from(word.end).min(line.len());
-    without_blank(&line[end..])
+    without_one_blank(&line[end..])
 }
 
 // The word STRING among the options.

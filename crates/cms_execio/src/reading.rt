@@ -12,11 +12,11 @@ ghost use Rattle.cms_execio.specs.Reading as spec;
 use crate::line::ReadLine;
 use crate::place::{code_of_taken, go_on, in_front, taken_of};
 use crate::record::stacked_line;
-use cms_disk::{Cursor, DiskFault};
-use cms_files::{OpenFile, open_file, refuse_search, stack_lines};
+use cms_disk::Cursor;
+use cms_files::{OpenFile, open_file, refuse_unfound, stack_lines};
 use cms_line::{Lines, Tokens};
 use cms_names::Format;
-use cms_search::{Course, End, Places, SearchFault, State, refuse_altered, refuse_device};
+use cms_search::{Course, End, Places, State, refuse_unread};
 use cms_world::World;
 use std::alloc::{AllocError, Global};
 
@@ -153,11 +153,7 @@ fn read_span<W: World>(
     for nth in passed..span.front + span.taken {
         match cursor.next(world) {
             Ok(_) => keep_nth(alloc, &mut lines, line, span.front, nth, cursor.text())?,
-            Err(fault) => match fault {
-                // never in a world that tells its journal
-                DiskFault::Altered => return refuse_altered(alloc, world, vdev),
-                _ => return refuse_device(alloc, world, vdev),
-            },
+            Err(fault) => return refuse_unread(alloc, world, vdev, fault),
         }
     }
     stack_read(alloc, world, state, line, vdev, span, &lines)
@@ -202,10 +198,7 @@ fn read_on<W: World>(
 {
     match open_file(alloc, &state.table, letter, &line.range.input.name) {
         Ok(file) => read_records(alloc, world, state, letter, line, file),
-        Err(SearchFault::NotFound) => {
-            refuse_search(alloc, world, words.as_slice(), 3, SearchFault::NotFound)
-        }
-        Err(_) => Err(End::Memory),
+        Err(fault) => refuse_unfound(alloc, world, words, 3, fault),
     }
 }
 
@@ -225,6 +218,6 @@ pub fn disk_read<W: World>(
     let input = &line.range.input;
     match state.table.find_read(&input.name, &input.mode) {
         Ok(found) => read_on(alloc, world, state, words, line, found.letter),
-        Err(fault) => refuse_search(alloc, world, words.as_slice(), 3, fault),
+        Err(fault) => refuse_unfound(alloc, world, words, 3, fault),
     }
 }

@@ -19,7 +19,7 @@ use crate::line::WriteTarget;
 use crate::record::gather_lines;
 use cms_disk::{FileData, FileInfo};
 use cms_fields::Stamp;
-use cms_files::{info_named, refuse_search, write_last};
+use cms_files::{info_named, refuse_unfound, write_last};
 use cms_line::{Line, Lines, Tokens};
 use cms_names::Format;
 use cms_search::{Course, End, FileWrite, State};
@@ -217,6 +217,6 @@ pub fn disk_write<W: World>(
 {
     match state.table.find_write(target.mode.letter) {
         Ok(()) => write_lines(alloc, world, state, target, text),
-        Err(fault) => refuse_search(alloc, world, words.as_slice(), 3, fault),
+        Err(fault) => refuse_unfound(alloc, world, words, 3, fault),
     }
 }

@@ -7,12 +7,12 @@ use Rattle.cms_fields.specs.declared.entry.Entry.{Entry}
 use Rattle.cms_fields.specs.declared.entry.EntryFault.TheVariants as failed
 
 -- a test that passed, and what follows it
-passed : {B E : Type 0} (b : Bool) (d : E) (r : Result B E) (y : B) → (want b d >> r) ≡ Ok y → (b ≡ true) × (r ≡ Ok y)
-passed true d r y e = (refl, e)
-passed false d r y e = absurd (cc)
+pub want_ok : {B E : Type 0} (b : Bool) (d : E) (r : Result B E) (y : B) → (want b d >> r) ≡ Ok y → (b ≡ true) × (r ≡ Ok y)
+want_ok true d r y e = (refl, e)
+want_ok false d r y e = absurd (cc)
 
-spelled : {B E : Type 0} (x y : B) → ◌≡◌ {A = Result B E} (Ok x) (Ok y) → x ≡ y
-spelled x y e = cc
+pub ok_same : {B E : Type 0} (x y : B) → ◌≡◌ {A = Result B E} (Ok x) (Ok y) → x ≡ y
+ok_same x y e = cc
 
 -- each test passes, and the fields are what the bytes say
 pub record EntryIs (bsize : ℕ) (bytes : List ℕ) (e : Entry) : Type 0 where
@@ -29,12 +29,12 @@ pub record EntryIs (bsize : ℕ) (bytes : List ℕ) (e : Entry) : Type 0 where
 pub entry_is : (bsize : ℕ) (bytes : List ℕ) (e : Entry) → entry_of bsize bytes ≡ Ok e → EntryIs bsize bytes e
 unfolding entry_of
 entry_is bsize bytes e is =
-    let a = passed (has_name bytes) failed.Name _ e is in
-    let b = passed (has_mode bytes) failed.Mode _ e a.1 in
-    let c = passed (has_format bytes) failed.Format _ e b.1 in
-    let d = passed (length_fits (entry_fields bytes)) failed.Length _ e c.1 in
-    let f = passed (counts_fit bsize (entry_fields bytes)) failed.Counts _ e d.1 in
-    let g = passed (levels_fit bsize (entry_fields bytes)) failed.Levels _ e f.1 in
-    let h = passed (has_pointer_size bytes) failed.PointerSize _ e g.1 in
-    let i = passed (has_stamp bytes 54) failed.Date _ e h.1 in
-    record { name = a.0; mode = b.0; format = c.0; long = d.0; counts = f.0; levels = g.0; pointers = h.0; stamp = i.0; fields = spelled (entry_fields bytes) e i.1 }
+    let a = want_ok (has_name bytes) failed.Name _ e is in
+    let b = want_ok (has_mode bytes) failed.Mode _ e a.1 in
+    let c = want_ok (has_format bytes) failed.Format _ e b.1 in
+    let d = want_ok (length_fits (entry_fields bytes)) failed.Length _ e c.1 in
+    let f = want_ok (counts_fit bsize (entry_fields bytes)) failed.Counts _ e d.1 in
+    let g = want_ok (levels_fit bsize (entry_fields bytes)) failed.Levels _ e f.1 in
+    let h = want_ok (has_pointer_size bytes) failed.PointerSize _ e g.1 in
+    let i = want_ok (has_stamp bytes 54) failed.Date _ e h.1 in
+    record { name = a.0; mode = b.0; format = c.0; long = d.0; counts = f.0; levels = g.0; pointers = h.0; stamp = i.0; fields = ok_same (entry_fields bytes) e i.1 }

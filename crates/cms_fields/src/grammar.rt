@@ -87,8 +87,8 @@ pub(crate) fn format_byte(format: Format) -> u8
     }
 }
 
-// The bytes of a pointer.
-pub(crate) fn pointer_size(format: Format) -> u8
+/// The bytes of a pointer to a block of a file of this format.
+pub fn pointer_size(format: Format) -> u8
     ensures { result ≡ pointer_size format }
 {
     match format {

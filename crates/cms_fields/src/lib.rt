@@ -14,6 +14,7 @@ mod tests;
 mod time;
 
 pub use entry::{Entry, EntryFault, read_entry, write_entry};
+pub use grammar::pointer_size;
 pub use label::{Label, LabelFault, read_label, write_label};
 pub use limits::{LONGEST_RECORD, MOST_BYTES, MOST_FILES, MOST_RECORDS};
 pub use new_label::first_fields;

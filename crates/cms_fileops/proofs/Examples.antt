@@ -27,7 +27,8 @@ use Rattle.cms_fileops.specs.Erase.{erase, erase_operands}
 use Rattle.cms_fileops.specs.Rename.{rename, rename_operands}
 use Rattle.cms_fileops.specs.State.{state, state_operands}
 use Rattle.cms_fileops.specs.Typing.{type_command, type_operands}
-use Rattle.cms_files.proofs.Machines.{Answer, Named, answer, disk, file, left, moment, named, one_disk, two_disks, types, words}
+use Rattle.cms_search.proofs.Machines.{Answer, answer, moment, types, words}
+use Rattle.cms_files.proofs.Machines.{Named, disk, file, left, named, one_disk, two_disks}
 
 -- ---- STATE
 

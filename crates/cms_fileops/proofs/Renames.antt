@@ -23,7 +23,7 @@ use Rattle.cms_search.specs.Tables.{Accesses, Seated, shelves_of}
 use Rattle.cms_search.proofs.Shown.{position_named, shelf_at, shelf_none}
 use Rattle.cms_files.specs.Identifiers.{is_last, name_choice, output_name}
 use Rattle.cms_files.specs.declared.identifier.NameChoice.{NameChoice}
-use Rattle.cms_files.proofs.TakenFiles.{seat_with_disk}
+use Rattle.cms_files.proofs.OpenedFiles.{seat_with}
 use Rattle.cms_fileops.specs.Rename.{AreOthers, HasMode, is_others, number_for, options, rename_line, rename_operands, renaming_of}
 use Rattle.cms_fileops.specs.declared.rename.RenameFiles.{RenameFiles}
 use Rattle.cms_fileops.specs.declared.rename.RenameLine.{RenameLine}
@@ -150,7 +150,7 @@ none_other t n from to same = cases (item_at (shelves_of t) n)
 pub others_on : (t : Accesses) (n : ℕ) (from to : Name) (d : Accessed) (b : Bool) → same_name from to ≡ false → Some d ≡ option_map (λ (s : Seated). s.disk) (item_at t.seats n)
     → (IsTrue b ↔ IsSome (place_of to d.volume)) → AreOthers t n from to b
 others_on t n from to d b other there has =
-    let s = seat_with_disk (item_at t.seats n) d there in
+    let s = seat_with (item_at t.seats n) d there in
     let shelf = shelf_at t n s.0 s.1 in
     let place = position_named to s.0.disk.volume in
     let same : place_of to s.0.disk.volume ≡ place_of to d.volume = ap (λ (x : Accessed). place_of to x.volume) s.2 in

@@ -1,6 +1,6 @@
 -- TYPE: records are typed as they are handed out.
-use Rattle.std.proofs.Common.{◌≡◌, ◌+◌, ◌-◌, ◌<◌, ◌≤◌, ◌∙◌, ℕ, suc, List, [], ◌∷◌, ◌++◌, length, drop, take, map, min, true, false, Option, Some, None, Result, Ok, Err, inl, inr, pos, refl, sym, ap, subst, add-one, arith}
-use Rattle.std.specs.Prelude.{IfErr, IfOk, nat_le, nat_lt}
+use Rattle.std.proofs.Common.{◌≡◌, ◌⊎◌, ◌+◌, ◌-◌, ◌<◌, ◌≤◌, ◌∙◌, ℕ, suc, List, [], ◌∷◌, ◌++◌, length, drop, take, map, min, true, false, Option, Some, None, Result, Ok, Err, inl, inr, pos, refl, sym, ap, subst, add-one, Bool, arith}
+use Rattle.std.specs.Prelude.{IfOk, nat_le, nat_lt}
 use Rattle.std.specs.Option.{option_map_or}
 use Rattle.std.proofs.Math.Seq.{drop-nil}
 use Rattle.std.proofs.lemmas.Bool.{cases_Bool, leb-true, leb-false, le-ltb, lt-ltb, ltb-true, ltb-false}
@@ -13,41 +13,35 @@ use Rattle.cms_machine.specs.Slots.{Slot}
 use Rattle.cms_machine.specs.Steps.{Outcome}
 use Rattle.cms_machine.proofs.Join.{ran_bind, broke_bind}
 use Rattle.cms_disk.specs.Cursors.{Reading, SameFile, text_of}
+use Rattle.cms_disk.specs.declared.fault.DiskFault.{DiskFault}
 use Rattle.cms_disk.specs.declared.fault.DiskFault.TheVariants as failed
 use Rattle.cms_line.specs.Messages.{message_text}
 use Rattle.cms_line.specs.declared.message.Message.TheVariants.{M105}
 use Rattle.cms_line.specs.declared.token.Token.{Token}
-use Rattle.cms_search.specs.Calls.{Acts, Does, IsLater, Spot, after_world, course_of, itself, machine_of, refusal_tree, said}
+use Rattle.cms_search.specs.Calls.{Acts, Does, Spot, after_world, course_of, itself, machine_of, refusal_tree, said}
 use Rattle.cms_search.specs.Machine.{Course, Machine, Went, letter_at, typing}
 use Rattle.cms_operands.specs.Refusals.{code_of, message_of}
 use Rattle.cms_operands.specs.declared.refusal.Refusal.TheVariants.{BadOperand}
-use Rattle.cms_search.specs.Refusing.{device_fault}
+use Rattle.cms_search.specs.Refusing.{device_fault, unread_code, unread_message}
 use Rattle.cms_search.specs.Releasing.{vdev_of}
-use Rattle.cms_search.specs.Searches.{look_up, shelves_in}
 use Rattle.cms_search.specs.Shows.{Shows}
-use Rattle.cms_search.specs.Stepping.{handed}
+use Rattle.cms_search.specs.Stepping.{HasRead, handed}
 use Rattle.cms_search.specs.Telling.{device_text}
 use Rattle.cms_search.specs.declared.fault.SearchFault.{SearchFault}
-use Rattle.cms_search.specs.declared.fault.SearchFault.TheVariants as why
-use Rattle.cms_search.specs.declared.search.Found.{Found}
 use Rattle.cms_search.specs.declared.state.Course as declared
 use Rattle.cms_search.specs.declared.state.Course.TheVariants as course
 use Rattle.cms_search.specs.declared.state.End.{End}
-use Rattle.cms_search.specs.declared.state.End.TheVariants.{Edge}
 use Rattle.cms_search.specs.declared.state.State.{State}
-use Rattle.cms_search.proofs.Acts.{acts_done, acts_same, later_then, rose_from, usable_later}
-use Rattle.cms_search.proofs.Handing.{AreAmong, Handed, Hands, IsEach, IsOpen, IsRead, Reads, acts_never, handed_more, handed_none, never_altered, passes_does, passes_read, passes_then, read_all, read_failed, read_stops, read_wanted}
+use Rattle.cms_search.proofs.Acts.{acts_done}
+use Rattle.cms_search.proofs.Handing.{AreAmong, Handed, Hands, IsEach, IsOpen, Reads, handed_more, handed_none, only_read, passes_does, passes_read, passes_then, read_all, read_stops, read_wanted, reads_none, unread_ends}
 use Rattle.cms_search.proofs.Meeting.{holds_shows, letter_is}
 use Rattle.cms_search.proofs.Staying.{acts_refused}
-use Rattle.cms_world.specs.Seen.{Seen}
-use Rattle.cms_fields.specs.Steps.{◌>>=◌}
-use Rattle.cms_files.specs.Files.{UnitFile, file_on, file_read, on_found, search_code, search_message, word_refused}
+use Rattle.cms_world.specs.Seen.{OnlyReads, Seen}
+use Rattle.cms_files.specs.Files.{UnitFile, file_on, on_found, word_refused}
 use Rattle.cms_files.specs.Opening.{HasRecords, IsOpened}
-use Rattle.cms_files.specs.declared.identifier.FileInput.{FileInput}
 use Rattle.cms_files.specs.declared.opening.OpenFile.{OpenFile}
-use Rattle.cms_files.proofs.Found.{found_held}
 use Rattle.cms_files.proofs.OpenedFiles.{opened_device, opened_reads}
-use Rattle.cms_fileops.specs.Typing.{ends_at, record_text, type_file, type_found, type_on, typed_nth, typing_from, wanted_of}
+use Rattle.cms_fileops.specs.Typing.{ends_at, record_text, type_found, type_on, typed_nth, typing_from, wanted_of}
 use Rattle.cms_fileops.specs.declared.typing.TypeLine.{TypeLine}
 use Rattle.cms_fileops.specs.declared.typing.TypeRange.{TypeRange}
 
@@ -131,7 +125,7 @@ nth_is : (line : TypeLine) (n k : ℕ) (text text' : List ℕ) → n ≡ k → t
 nth_is line n k text text' count is = rw (count, is, add-one) refl
 
 pub typed_more : (line : TypeLine) (before mid read' now' : Seen) (first c d : Reading) (n : ℕ) (text : List ℕ) (x : Unit {0}) (so : TypedSoFar line before mid first c n)
-    → ends_at line.range n ≡ false → Hands mid.told c d (Ok true) → SameFile c d → c.left ≡ d.left + 1 → IsRead mid read' → text ≡ text_of d
+    → ends_at line.range n ≡ false → Hands mid.told c d (Ok true) → SameFile c d → c.left ≡ d.left + 1 → HasRead mid read' → text ≡ text_of d
     → Does read' now' (typed_nth line (n + 1) text) (Ok x) itself → TypedSoFar line before now' first d (n + 1)
 unfolding handed_more
 typed_more line before mid read' now' first c d n text x so more hands same left read is does =
@@ -173,7 +167,7 @@ module _ (old : Spot) (words : List Token) (n : ℕ) (line : TypeLine) (file : O
       rw (letter, slot, named, less) refl)
 
   pub typed_stops : (mid read' new : Spot) (c d : Reading) (k : ℕ) (text : List ℕ) (e : End) → TypedSoFar line old.world mid.world file.cursor c k → ends_at line.range k ≡ false
-      → Hands mid.world.told c d (Ok true) → IsRead mid.world read'.world → text ≡ text_of d → Does {T = Unit {0}} read'.world new.world (typed_nth line (k + 1) text) (Err e) itself
+      → Hands mid.world.told c d (Ok true) → HasRead mid.world read'.world → text ≡ text_of d → Does {T = Unit {0}} read'.world new.world (typed_nth line (k + 1) text) (Err e) itself
       → new.state ≡ old.state → Acts old new tree (Err e) (course_of old.state)
   typed_stops mid read' new c d k text e so more hands read is does same =
       let edges = read.edges in
@@ -190,7 +184,7 @@ module _ (old : Spot) (words : List Token) (n : ℕ) (line : TypeLine) (file : O
       (λ edge. subst (λ (j : ℕ). Rose j new.world.edges) edges (does.cause edge))
 
   -- all records were handed out
-  pub typed_all : (mid new : Spot) (c d : Reading) (k : ℕ) → TypedSoFar line old.world mid.world file.cursor c k → Hands mid.world.told c d (Ok false) → IsRead mid.world new.world
+  pub typed_all : (mid new : Spot) (c d : Reading) (k : ℕ) → TypedSoFar line old.world mid.world file.cursor c k → Hands mid.world.told c d (Ok false) → HasRead mid.world new.world
       → new.state ≡ old.state → Acts old new tree (Ok (course.Went (pos 0))) (course_of old.state)
   typed_all mid new c d k so hands read same =
       acts_done old new tree (course.Went (pos 0)) (course_of old.state)
@@ -213,7 +207,7 @@ module _ (old : Spot) (words : List Token) (n : ℕ) (line : TypeLine) (file : O
   typed_wanted mid c k so ends same =
       acts_done old mid tree (course.Went (pos 0)) (course_of old.state)
       (read_wanted (typing_on line) old mid mid file.cursor c tree o.seat.letter.unit (wanted_of line.range) (type_then old.state line o.seat.letter.unit) (typed_tree old.state)
-      reads so.handed (record { told = refl; faults = omega arith; edges = refl }) same
+      reads so.handed (reads_none mid.world) same
       (λ f more is.
       let count = so.count in
       let low = so.among f more is in
@@ -221,48 +215,23 @@ module _ (old : Spot) (words : List Token) (n : ℕ) (line : TypeLine) (file : O
       omega arith)
       (λ units f. refl))
 
-  -- the device failed, which is typed
-  pub typed_fault : (mid read' new : Spot) (c : Reading) (k : ℕ) (r : Result declared.Course End) → TypedSoFar line old.world mid.world file.cursor c k
-      → IsRead mid.world read'.world → Rose mid.world.faults read'.world.faults → read'.state ≡ old.state
-      → Does read'.world new.world (saying (typed_line (message_text (M105 (device_text file.vdev))))) r said → IfOk r (λ x. x ≡ course.Went (pos 100)) → new.state ≡ read'.state
-      → Acts old new tree r (course_of new.state)
-  typed_fault mid read' new c k r so read rose same does went kept =
-      read_failed (typing_on line) old mid read' new file.cursor c tree o.seat.letter.unit (wanted_of line.range) file.vdev (type_then old.state line o.seat.letter.unit) r
-      reads so.handed read rose same so.among
-      (λ units f j. ap (typing_from line (take j f.records)) (failed units)) does went kept
+  -- the file couldn't be read any further, which is typed
+  pub typed_unread : (mid read' new : Spot) (c d : Reading) (k : ℕ) (why : DiskFault) (r : Result declared.Course End) → TypedSoFar line old.world mid.world file.cursor c k
+      → (why ≡ failed.Device) ⊎ (why ≡ failed.Altered) → Hands mid.world.told c d (Err why) → OnlyReads {T = Bool} mid.world read'.world failed.Device (Err why) → read'.state ≡ old.state
+      → Does read'.world new.world (saying (typed_line (message_text (unread_message why file.vdev)))) r said → IfOk r (λ x. x ≡ course.Went (pos (unread_code why)))
+      → new.state ≡ read'.state → Acts old new tree r (course_of new.state)
+  typed_unread mid read' new c d k why r so fault hands looks same does went kept =
+      unread_ends (typing_on line) old mid read' new file.cursor c d tree o.seat.letter.unit (wanted_of line.range) file.vdev (type_then old.state line o.seat.letter.unit) r
+      reads so.handed (only_read {T = Bool} mid.world read'.world failed.Device (Err why) looks) same kept why fault hands looks.cause so.among
+      (λ units f j. ap (typing_from line (take j f.records)) (device units)) does went
     where
-      failed : (units : List Slot) → failed_tree old.state o.seat.letter.unit units ≡ refusal_tree read'.state (M105 (device_text file.vdev)) (pos 100) units
-      failed units = ap (λ (v : ℕ). device_fault (machine_of old.state units) v) (opened_device old.state units n line.range.input.name file o)
+      device : (units : List Slot) → failed_tree old.state o.seat.letter.unit units ≡ refusal_tree read'.state (M105 (device_text file.vdev)) (pos 100) units
+      device units = ap (λ (v : ℕ). device_fault (machine_of old.state units) v) (opened_device old.state units n line.range.input.name file o)
           ∙ ap (λ (s : State). refusal_tree s (M105 (device_text file.vdev)) (pos 100) units) (sym same)
-
-  -- the bytes turned out to be no records: never where the journal is told
-  pub typed_altered : (mid read' new : Spot) (c d : Reading) (k : ℕ) (r : Result declared.Course End) → TypedSoFar line old.world mid.world file.cursor c k
-      → Hands mid.world.told c d (Err failed.Altered) → IsRead mid.world read'.world → IsLater read'.world new.world → new.state ≡ old.state
-      → IfErr r (λ e. e ≡ Edge → Rose read'.world.edges new.world.edges) → Acts old new tree r (course_of old.state)
-  typed_altered mid read' new c d k r so hands read later same cause =
-      let to_read = later_then old.world mid.world read'.world so.handed.passes.later (passes_read mid.world read'.world read).later in
-      let all = later_then old.world read'.world new.world to_read later in
-      acts_never old new tree r (course_of old.state)
-      (never_altered (typing_on line) old mid file.cursor c d tree o.seat.letter.unit (wanted_of line.range) (type_then old.state line o.seat.letter.unit) reads so.handed hands) all
-      (usable_later old new all (ap (λ (s : State). s.table) same)) (caused r cause)
-    where
-      caused : (x : Result declared.Course End) → IfErr x (λ e. e ≡ Edge → Rose read'.world.edges new.world.edges) → IfErr x (λ e. e ≡ Edge → Rose old.world.edges new.world.edges)
-      caused (Ok y) h = tt
-      caused (Err e) h = λ edge. rose_from old.world.edges read'.world.edges new.world.edges
-          (later_then old.world mid.world read'.world so.handed.passes.later (passes_read mid.world read'.world read).later).edges (h edge)
 
 -- ---- the file that is typed
 
--- the machine that is held finds no file
-pub missing_on : (old new : Spot) (words : List Token) (n : ℕ) (line : TypeLine) (r : Result declared.Course End)
-    → ((s : Machine) → Shows old.state.table s → file_on s line.range.input.name (letter_at s n) ≡ Err why.NotFound)
-    → Does old.world new.world (saying (typed_line (message_text (search_message words 1 why.NotFound)))) r said → IfOk r (λ c. c ≡ course.Went (pos (search_code why.NotFound)))
-    → new.state ≡ old.state → Acts old new (λ units. type_on (machine_of old.state units) words line n) r (course_of new.state)
-missing_on old new words n line r missing does went same =
-    acts_refused old new (λ units. type_on (machine_of old.state units) words line n) (search_message words 1 why.NotFound) (pos (search_code why.NotFound)) r does went same
-    (λ units h. (let e = missing (machine_of old.state units) (holds_shows old units h) in rw e refl))
-
--- or one that is too short
+-- one that is too short
 short_so : (s : Machine) (words : List Token) (line : TypeLine) (count : ℕ) (found : Result UnitFile SearchFault) → HasRecords count found → count < line.range.first
     → on_found s words 1 (type_found s words line) found ≡ word_refused s words (BadOperand 4)
 short_so s words line count (Ok x) long less =
@@ -279,30 +248,3 @@ short_on old new words n line count r has less does went same =
     (λ units h.
     let s = machine_of old.state units in
     short_so s words line count (file_on s line.range.input.name (letter_at s n)) (has s (holds_shows old units h)) less)
-
--- what a search finds on the machine that is held
-read_so : (s : Machine) (input : FileInput) (r : Result Found SearchFault) → look_up (shelves_in s) input.mode input.name ≡ r
-    → file_read s input ≡ (r >>= (λ found. file_on s input.name (letter_at s found.letter)))
-read_so s input r is = ap (λ (x : Result Found SearchFault). x >>= (λ found. file_on s input.name (letter_at s found.letter))) is
-
-pub found_acts : (old new : Spot) (words : List Token) (line : TypeLine) (found : Result Found SearchFault) (x : Found) (r : Result declared.Course End)
-    → ((s : Machine) → Shows old.state.table s → found ≡ look_up (shelves_in s) line.range.input.mode line.range.input.name) → found ≡ Ok x
-    → Acts old new (λ units. type_on (machine_of old.state units) words line x.letter) r (course_of new.state)
-    → Acts old new (λ units. type_file (machine_of old.state units) words line) r (course_of new.state)
-found_acts old new words line found x r finds is acts =
-    acts_same old new (λ units. type_file (machine_of old.state units) words line) (λ units. type_on (machine_of old.state units) words line x.letter) r (course_of new.state)
-    (λ units h.
-    let s = machine_of old.state units in
-    let there = found_held old (λ m. look_up (shelves_in m) line.range.input.mode line.range.input.name) found finds units h ∙ is in
-    ap (on_found s words 1 (type_found s words line)) (read_so s line.range.input (Ok x) there)) acts
-
-pub unfound_acts : (old new : Spot) (words : List Token) (line : TypeLine) (found : Result Found SearchFault) (fault : SearchFault) (r : Result declared.Course End)
-    → ((s : Machine) → Shows old.state.table s → found ≡ look_up (shelves_in s) line.range.input.mode line.range.input.name) → found ≡ Err fault
-    → Does old.world new.world (saying (typed_line (message_text (search_message words 1 fault)))) r said → IfOk r (λ c. c ≡ course.Went (pos (search_code fault)))
-    → new.state ≡ old.state → Acts old new (λ units. type_file (machine_of old.state units) words line) r (course_of new.state)
-unfound_acts old new words line found fault r finds is does went same =
-    acts_refused old new (λ units. type_file (machine_of old.state units) words line) (search_message words 1 fault) (pos (search_code fault)) r does went same
-    (λ units h.
-    let s = machine_of old.state units in
-    let there = found_held old (λ m. look_up (shelves_in m) line.range.input.mode line.range.input.name) found finds units h ∙ is in
-    ap (on_found s words 1 (type_found s words line)) (read_so s line.range.input (Err fault) there))

@@ -5,10 +5,9 @@ use Rattle.cms_fields.specs.Steps.{◌>>=◌, ◌>>◌}
 use Rattle.cms_model.specs.Changes.{Drop}
 use Rattle.cms_machine.specs.Acts.{Act, bind}
 use Rattle.cms_line.specs.declared.token.Token.{Token}
-use Rattle.cms_operands.specs.Choices.{chosen_of, form}
+use Rattle.cms_operands.specs.Choices.{chosen_of, flag}
 use Rattle.cms_operands.specs.Operands.{ended, operands_of, writing_mode}
 use Rattle.cms_operands.specs.declared.choosing.OptionForm.{OptionForm}
-use Rattle.cms_operands.specs.declared.choosing.Parameter.TheVariants as takes
 use Rattle.cms_operands.specs.declared.refusal.Refusal.{Refusal}
 use Rattle.cms_search.specs.Machine.{Machine, Course}
 use Rattle.cms_search.specs.Refusing.{on_line}
@@ -30,7 +29,7 @@ erase_operands operands = do
   Ok (record { names = names; mode = mode })
 
 abbrev pub options : List OptionForm
-options = form (codes "TYPE    ") 2 takes.Nothing ∷ form (codes "NOTYPE  ") 3 takes.Nothing ∷ []
+options = flag (codes "TYPE    ") 2 ∷ flag (codes "NOTYPE  ") 3 ∷ []
 
 abbrev pub erase_line : List Token → Result EraseLine Refusal
 erase_line words = do

@@ -9,11 +9,10 @@ use Rattle.cms_model.specs.Changes as changes
 use Rattle.cms_model.specs.Minidisks.{same_name}
 use Rattle.cms_machine.specs.Acts.{Act, bind}
 use Rattle.cms_line.specs.declared.token.Token.{Token}
-use Rattle.cms_operands.specs.Choices.{chosen_of, form}
+use Rattle.cms_operands.specs.Choices.{chosen_of, flag}
 use Rattle.cms_operands.specs.Operands.{ended, needed, operands_of, output_mode, writing_mode}
 use Rattle.cms_operands.specs.Refusals.{text_at}
 use Rattle.cms_operands.specs.declared.choosing.OptionForm.{OptionForm}
-use Rattle.cms_operands.specs.declared.choosing.Parameter.TheVariants as takes
 use Rattle.cms_operands.specs.declared.operand.WriteMode.{WriteMode}
 use Rattle.cms_operands.specs.declared.refusal.Refusal.{Refusal}
 use Rattle.cms_operands.specs.declared.refusal.Refusal.TheVariants.{BadMode}
@@ -51,7 +50,7 @@ rename_operands operands = do
 
 -- UPDIRT has no effect
 abbrev pub options : List OptionForm
-options = form (codes "TYPE    ") 2 takes.Nothing ∷ form (codes "NOTYPE  ") 3 takes.Nothing ∷ form (codes "UPDIRT  ") 2 takes.Nothing ∷ []
+options = flag (codes "TYPE    ") 2 ∷ flag (codes "NOTYPE  ") 3 ∷ flag (codes "UPDIRT  ") 2 ∷ []
 
 abbrev pub rename_line : List Token → Result RenameLine Refusal
 rename_line words = do

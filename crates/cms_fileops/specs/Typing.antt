@@ -7,8 +7,8 @@ use Rattle.cms_text.specs.Texts.{coded}
 use Rattle.cms_model.specs.Minidisks.{File}
 use Rattle.cms_machine.specs.Acts.{Act, Done, saying, typed_line}
 use Rattle.cms_line.specs.declared.token.Token.{Token}
-use Rattle.cms_operands.specs.Choices.{chosen_of, form, last_among}
-use Rattle.cms_operands.specs.Operands.{ended, given_or, number, number_or_all, operands_of}
+use Rattle.cms_operands.specs.Choices.{chosen_of, flag, form, last_among}
+use Rattle.cms_operands.specs.Operands.{ended, given_or, largest, number, number_or_all, operands_of}
 use Rattle.cms_operands.specs.declared.choosing.ChosenOption.{ChosenOption}
 use Rattle.cms_operands.specs.declared.choosing.OptionForm.{OptionForm}
 use Rattle.cms_operands.specs.declared.choosing.Parameter.TheVariants as takes
@@ -30,10 +30,6 @@ use Rattle.cms_fileops.specs.declared.typing.TypeStyle.{TypeStyle}
 
 -- ---- the line
 
--- the largest number that a word writes
-abbrev pub largest : ℕ
-largest = 999999999
-
 -- the file, and its first and its last record that are typed; with * all to the end
 unfoldable pub type_operands : List Token → Result TypeRange Refusal
 type_operands operands = do
@@ -44,7 +40,7 @@ type_operands operands = do
   Ok (record { input = input; first = first; last = last })
 
 abbrev pub options : List OptionForm
-options = form (codes "HEX     ") 3 takes.Nothing ∷ form (codes "COL     ") 3 takes.Columns ∷ []
+options = flag (codes "HEX     ") 3 ∷ form (codes "COL     ") 3 takes.Columns ∷ []
 
 -- the columns that a parameter says
 abbrev pub columns_in : Setting → Option ColumnRange

@@ -14,8 +14,8 @@ use cms_files::{
 use cms_line::{Token, Tokens};
 use cms_names::Name;
 use cms_operands::{
-    CommandFault, OptionForm, Parameter, Refusal, WriteMode, chosen_options, coded, ended,
-    given_or, operands, writing_mode,
+    CommandFault, OptionForm, Refusal, WriteMode, chosen_options, coded, ended, given_or, operands,
+    writing_mode,
 };
 use cms_search::{Course, End, State, refuse_command};
 use cms_world::World;
@@ -50,8 +50,8 @@ fn options() -> [OptionForm; 2]
     ensures { result ≡ spec.options }
 {
     [
-        OptionForm::new(b"TYPE    ", 2, Parameter::Nothing),
-        OptionForm::new(b"NOTYPE  ", 3, Parameter::Nothing),
+        OptionForm::flag(b"TYPE    ", 2),
+        OptionForm::flag(b"NOTYPE  ", 3),
     ]
 }
 

@@ -15,8 +15,8 @@ use cms_files::{
 use cms_line::{Token, Tokens, Word};
 use cms_names::{Name, OutId, equal_signs};
 use cms_operands::{
-    CommandFault, OptionForm, Parameter, Refusal, WriteMode, chosen_options, ended, needed,
-    operands, output_mode, writing_mode,
+    CommandFault, OptionForm, Refusal, WriteMode, chosen_options, ended, needed, operands,
+    output_mode, writing_mode,
 };
 use cms_search::{Course, End, State, Table, letter_word, refuse_command};
 use cms_world::World;
@@ -85,9 +85,9 @@ fn options() -> [OptionForm; 3]
     ensures { result ≡ spec.options }
 {
     [
-        OptionForm::new(b"TYPE    ", 2, Parameter::Nothing),
-        OptionForm::new(b"NOTYPE  ", 3, Parameter::Nothing),
-        OptionForm::new(b"UPDIRT  ", 2, Parameter::Nothing),
+        OptionForm::flag(b"TYPE    ", 2),
+        OptionForm::flag(b"NOTYPE  ", 3),
+        OptionForm::flag(b"UPDIRT  ", 2),
     ]
 }
 

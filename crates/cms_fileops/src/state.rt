@@ -4,7 +4,7 @@ ghost use Rattle.cms_operands.specs.Choices.{AnswersLine};
 ghost use Rattle.cms_search.specs.Calls.{Acts, course_of, machine_of, spot};
 ghost use Rattle.cms_fileops.specs.State as spec;
 
-use cms_files::{FileInput, file_input, refuse_search};
+use cms_files::{FileInput, file_input, refuse_unfound};
 use cms_line::{Token, Tokens};
 use cms_operands::{CommandFault, Refusal, ended, operands, without_options};
 use cms_search::{Course, End, State, refuse_command};
@@ -40,7 +40,7 @@ fn look_for<W: World>(
 {
     match state.table.find_read(&input.name, &input.mode) {
         Ok(_) => Ok(Course::Went(0)),
-        Err(fault) => refuse_search(alloc, world, words.as_slice(), 1, fault),
+        Err(fault) => refuse_unfound(alloc, world, words, 1, fault),
     }
 }
 

@@ -7,22 +7,17 @@ ghost use Rattle.cms_world.specs.Seen.{seen};
 ghost use Rattle.cms_files.specs.Opening.{IsOpened};
 ghost use Rattle.cms_fileops.specs.Typing as spec;
 
-use cms_disk::DiskFault;
-use cms_files::{FileInput, OpenFile, file_input, open_file, refuse_search};
+use cms_files::{FileInput, OpenFile, file_input, open_file, refuse_unfound};
 use cms_line::{Token, Tokens};
 use cms_operands::{
-    ChosenOption, CommandFault, OptionForm, Parameter, Refusal, Setting, chosen_options, coded,
-    ended, given_or, last_among, number, number_or_all, operands,
+    ChosenOption, CommandFault, LARGEST, OptionForm, Parameter, Refusal, Setting, chosen_options,
+    coded, ended, given_or, last_among, number, number_or_all, operands,
 };
 use cms_search::{
-    Course, End, SearchFault, State, hexadecimal_digit, refuse_altered, refuse_command,
-    refuse_device, refuse_line, say,
+    Course, End, State, hexadecimal_digit, refuse_command, refuse_line, refuse_unread, say,
 };
 use cms_world::World;
 use std::alloc::{AllocError, Global};
-
-/// The largest number that a word writes.
-const LARGEST: u32 = 999_999_999;
 
 /// The bytes of a record that are typed: from the first column, at least 1, to the last, at least the first.
 #[derive(Clone, Copy, Debug, PartialEq, Eq)]
@@ -70,7 +65,7 @@ fn options() -> [OptionForm; 2]
     ensures { result ≡ spec.options }
 {
     [
-        OptionForm::new(b"HEX     ", 3, Parameter::Nothing),
+        OptionForm::flag(b"HEX     ", 3),
         OptionForm::new(b"COL     ", 3, Parameter::Columns),
     ]
 }
@@ -204,11 +199,7 @@ fn type_records<W: World>(
                 type_nth(alloc, world, line, count, cursor.text())?;
             }
             Ok(false) => return Ok(Course::Went(0)),
-            Err(fault) => match fault {
-                // never in a world that tells its journal
-                DiskFault::Altered => return refuse_altered(alloc, world, vdev),
-                _ => return refuse_device(alloc, world, vdev),
-            },
+            Err(fault) => return refuse_unread(alloc, world, vdev, fault),
         }
     }
     Ok(Course::Went(0))
@@ -232,10 +223,7 @@ fn type_on<W: World>(
             refuse_line(alloc, world, words.as_slice(), Refusal::BadOperand(4))
         }
         Ok(file) => type_records(alloc, world, state, letter, file, line),
-        Err(SearchFault::NotFound) => {
-            refuse_search(alloc, world, words.as_slice(), 1, SearchFault::NotFound)
-        }
-        Err(_) => Err(End::Memory),
+        Err(fault) => refuse_unfound(alloc, world, words, 1, fault),
     }
 }
 
@@ -254,7 +242,7 @@ fn type_file<W: World>(
     let input = &line.range.input;
     match state.table.find_read(&input.name, &input.mode) {
         Ok(found) => type_on(alloc, world, state, words, line, found.letter),
-        Err(fault) => refuse_search(alloc, world, words.as_slice(), 1, fault),
+        Err(fault) => refuse_unfound(alloc, world, words, 1, fault),
     }
 }
 

@@ -10,7 +10,7 @@ use Rattle.cms_model.specs.Changes.{file_named}
 use Rattle.cms_model.specs.Minidisks.{File, Minidisk}
 use Rattle.cms_model.specs.Trees.{Image}
 use Rattle.cms_model.proofs.Changing.{none_added, place_changed}
-use Rattle.cms_held.specs.LawsHeld.{IsFound, IsMinidiskOf}
+use Rattle.cms_held.specs.LawsHeld.{IsFileOf, IsFound, IsMinidiskOf}
 use Rattle.cms_held.specs.Opening.{HeldFile, HeldVolume}
 use Rattle.cms_edf.specs.Asking.{info_of, infos_in}
 use Rattle.cms_edf.specs.declared.held.FileInfo.{FileInfo}
@@ -23,7 +23,7 @@ use Rattle.cms_search.specs.Tables.{Accesses, Seated}
 use Rattle.cms_search.specs.declared.fault.SearchFault.{SearchFault}
 use Rattle.cms_search.proofs.Released.{get_map, letter_told}
 use Rattle.cms_files.specs.Files.{UnitFile, file_in, file_on, unit_file}
-use Rattle.cms_files.specs.Told.{info_named}
+use Rattle.cms_files.specs.Told.{IsInfo, info_named}
 
 any_file : Name → File
 any_file name = record { name = name; number = 0; format = F; length = 0; stamp = stamp_of first_moment; records = [] }
@@ -33,9 +33,19 @@ held_at [] k less = absurd (omega (arith, less))
 held_at (h ∷ hs) zero less = (h, refl)
 held_at (h ∷ hs) (suc k) less = held_at hs k (omega (arith, less))
 
+pub info_is : (bsize : ℕ) (image : Image) (h : HeldFile) (f : File) → IsFileOf bsize image h f → IsInfo (info_of h) f
+info_is bsize image h f is = record {
+  name = is.name_is;
+  number = is.number_is;
+  format = is.format_is;
+  size = is.length_is;
+  stamp = is.stamp_is;
+  count = is.count_is;
+}
+
 -- what is told of a file is the machine's
 abbrev pub IsTold : Result UnitFile SearchFault → Option FileInfo → Type 0
-IsTold (Ok x) (Some info) = (x.file.format ≡ info.format) × (x.file.length ≡ info.length)
+IsTold (Ok x) (Some info) = IsInfo info x.file
 IsTold (Ok x) None = ⊥
 IsTold (Err why) (Some info) = ⊥
 IsTold (Err why) None = Unit {0}
@@ -53,7 +63,7 @@ placed_told u image name v m (Some k) held place =
     let is = held.files_are k h.0 f h.1 there in
     let info : slice_get (infos_in v) k ≡ Some (info_of h.0) = get_map info_of v.files k ∙ ap (λ (x : Option HeldFile). option_map info_of x) h.1 in
     subst (λ (x : Option File). IsTold (unit_file u x) (slice_get (infos_in v) k)) (sym named)
-    (subst (λ (x : Option FileInfo). IsTold (unit_file u (Some f)) x) (sym info) (sym is.format_is, sym is.length_is))
+    (subst (λ (x : Option FileInfo). IsTold (unit_file u (Some f)) x) (sym info) (info_is m.bsize image h.0 f is))
 
 seat_told : (s : Machine) (name : Name) (n : ℕ) (seat : Seated) (image : Image) (m : Minidisk) → letter_at s n ≡ Some seat.letter
     → minidisk_in (slice_get s.units seat.letter.unit) ≡ Some m → StandsIn image seat.disk m

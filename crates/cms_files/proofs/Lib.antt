@@ -7,3 +7,5 @@ pub mod Forgetting
 pub mod OpenedFiles
 pub mod LastUpdates
 pub mod FileTold
+pub mod FilesRead
+pub mod Parts

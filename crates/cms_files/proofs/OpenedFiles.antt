@@ -1,6 +1,7 @@
 -- Files that are opened.
 use Rattle.std.proofs.Common.{◌≡◌, ◌≤◌, ◌∙◌, ℕ, zero, suc, List, [], ◌∷◌, Option, Some, None, Err, length, slice_get, map, refl, sym, ap, subst}
 use Rattle.std.specs.Option.{option_map}
+use Rattle.std.proofs.lemmas.Option.{same_Some}
 use Rattle.cms_names.specs.declared.name.Format.{Format}
 use Rattle.cms_names.specs.declared.name.Format.TheVariants.{F}
 use Rattle.cms_names.specs.declared.name.Name.{Name}
@@ -26,7 +27,6 @@ use Rattle.cms_search.specs.Tables.{Accesses, Seated}
 use Rattle.cms_search.specs.declared.fault.SearchFault.TheVariants as why
 use Rattle.cms_search.specs.declared.state.State.{State}
 use Rattle.cms_search.proofs.Handing.{IsOpen, Reads, left_long, open_seat, reads_seat}
-use Rattle.cms_search.proofs.Holding.{some_same}
 use Rattle.cms_search.proofs.Meeting.{letter_is}
 use Rattle.cms_search.proofs.Released.{letter_told, vdev_is}
 use Rattle.cms_files.specs.Files.{file_on}
@@ -37,14 +37,14 @@ use Rattle.cms_files.specs.declared.opening.OpenFile.{OpenFile}
 
 pub seat_with : (x : Option Seated) (d : Accessed) → Some d ≡ option_map (λ (s : Seated). s.disk) x → (s : Seated) × (x ≡ Some s) × (s.disk ≡ d)
 seat_with None d e = absurd (cc e)
-seat_with (Some s) d e = (s, refl, sym (some_same d s.disk e))
+seat_with (Some s) d e = (s, refl, sym (same_Some d s.disk e))
 
 pub none_with : (x : Option Seated) → None ≡ option_map (λ (s : Seated). s.disk) x → x ≡ None
 none_with None e = refl
 none_with (Some s) e = absurd (cc e)
 
 -- the machine has the letter
-letter_shown : (t : Accesses) (s : Machine) (n : ℕ) (seat : Seated) → Shows t s → item_at t.seats n ≡ Some seat → letter_at s n ≡ Some seat.letter
+pub letter_shown : (t : Accesses) (s : Machine) (n : ℕ) (seat : Seated) → Shows t s → item_at t.seats n ≡ Some seat → letter_at s n ≡ Some seat.letter
 letter_shown t s n seat shows there = ap (λ (ls : List (Option Letter)). item_at ls n) (sym shows.letters) ∙ letter_is t n seat there
 
 -- ---- no file
@@ -70,7 +70,7 @@ none_named t s n name d is none shows =
 
 info_at : (hs : List HeldFile) (k : ℕ) (info : FileInfo) (h : HeldFile) → slice_get (map info_of hs) k ≡ Some info → slice_get hs k ≡ Some h → info ≡ info_of h
 info_at [] k info h told is = absurd (cc is)
-info_at (x ∷ hs) zero info h told is = let e : info_of x ≡ info = some_same _ _ told in let f : x ≡ h = some_same x h is in sym e ∙ ap info_of f
+info_at (x ∷ hs) zero info h told is = let e : info_of x ≡ info = same_Some _ _ told in let f : x ≡ h = same_Some x h is in sym e ∙ ap info_of f
 info_at (x ∷ hs) (suc k) info h told is = info_at hs k info h told is
 
 -- nothing of it was read, and its records have one length
@@ -89,7 +89,7 @@ pub opened_at : (t : Accesses) (n : ℕ) (name : Name) (d : Accessed) (place : �
     → ((s : Seated) → item_at t.seats n ≡ Some s → option_map (λ (unit : UnitInfo). unit.vdev) (slice_get t.units s.letter.unit) ≡ Some file.vdev) → IsOpened t n name file
 opened_at t n name d place info file is at told opens starts count format device =
     let seat = seat_with (item_at t.seats n) d is in
-    let same : place ≡ starts.place = some_same place starts.place (at ∙ starts.place_is) in
+    let same : place ≡ starts.place = same_Some place starts.place (at ∙ starts.place_is) in
     let there : slice_get d.volume.files place ≡ Some starts.file = subst (λ (k : ℕ). slice_get d.volume.files k ≡ Some starts.file) (sym same) starts.file_is in
     let tells = info_at d.volume.files place info starts.file told there in
     record {

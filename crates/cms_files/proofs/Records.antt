@@ -1,6 +1,6 @@
 -- Records that are gathered, one after another.
-use Rattle.std.proofs.Common.{◌≡◌, ℕ, ◌+◌, ◌≤◌, List, [], ◌∷◌, ◌++◌, length, Result, Ok, Err, refl, sym, ◌∙◌, ap, arith, append-nil}
-use Rattle.std.specs.Prelude.{OnOk, max}
+use Rattle.std.proofs.Common.{◌≡◌, ℕ, ◌+◌, ◌≤◌, List, [], ◌∷◌, ◌++◌, length, refl, sym, ◌∙◌, ap, arith, append-nil}
+use Rattle.std.specs.Prelude.{max}
 use Rattle.std.proofs.lemmas.Grind.{common_steps}
 use Rattle.std.proofs.lemmas.List.{length_push}
 use Rattle.std.proofs.lemmas.List.Elements.{All-append, All-cons, All-nil}
@@ -10,15 +10,9 @@ use Rattle.cms_fields.specs.Limits.{longest_record}
 use Rattle.cms_model.specs.Records.{Fits, length_of, longest, stored, with_length}
 use Rattle.cms_model.proofs.Records.{stored_append}
 use Rattle.cms_records.specs.Views.{fitted}
+use Rattle.cms_disk.proofs.Gathering.{longest_append}
 use Rattle.cms_files.specs.Gathering.{IsGathered, record_in}
 use Rattle.cms_files.specs.declared.gathering.Gathered.{Gathered}
-
--- ---- lengths
-
-longest_more : (a : List (List ℕ)) (text : List ℕ) → longest (a ++ (text ∷ [])) ≡ max (longest a) (length text)
-unfolding longest
-longest_more [] text = omega arith
-longest_more (x ∷ xs) text = let rest = longest_more xs text in omega (arith, rest)
 
 -- ---- none so far
 
@@ -72,14 +66,8 @@ pub gathered_varying : (format : Format) (size : ℕ) (records : List (List ℕ)
     → IsGathered format size (records ++ record_in format size text ∷ []) g'
 gathered_varying F size records g g' text is varies same count long bytes some short = absurd (cc (sym is.format_is ∙ varies))
 gathered_varying V size records g g' text is varies same count long bytes some short =
-    gathered_more V size records g g' text is same count (long ∙ ap (λ (n : ℕ). max n (length text)) is.length_is ∙ sym (longest_more records text)) (some, short)
+    gathered_more V size records g g' text is same count (long ∙ ap (λ (n : ℕ). max n (length text)) is.length_is ∙ sym (longest_append records text)) (some, short)
     (bytes ∙ ap (λ (l : List ℕ). g.bytes.items ++ l) (sym (append-nil (with_length text))))
-
--- ---- answers
-
-pub on_ok : {A E : Type 0} (r : Result A E) (P Q : Type 0) → (P → Q) → OnOk r P → OnOk r Q
-on_ok (Ok x) P Q go h = go h
-on_ok (Err e) P Q go h = tt
 
 pub no_longest : longest [] ≡ 0
 unfolding longest

@@ -4,7 +4,7 @@ use Rattle.std.specs.Prelude.{⊤, Bool, true, false, cond, if◌then◌else◌,
 use Rattle.std.specs.List.{filter}
 use Rattle.std.specs.Option.{ForSome, option_map}
 use Rattle.std.proofs.lemmas.List.Elements.{filter_more}
-use Rattle.std.proofs.lemmas.Option.{get_or_from_slice_get, slice_get_within}
+use Rattle.std.proofs.lemmas.Option.{get_or_from_slice_get, same_Some, slice_get_within}
 use Rattle.cms_fields.specs.Steps.{◌>>=◌}
 use Rattle.cms_names.specs.declared.name.Name.{Name}
 use Rattle.cms_disk.specs.Disks.{Accessed, place_of}
@@ -14,13 +14,13 @@ use Rattle.cms_search.specs.Searches.{Listed, Shelf, Shelves, item_at}
 use Rattle.cms_search.specs.Tables.{Accesses, Seated, letters_in, letters_of, listed_held, shelf_of, shelves_of, writing}
 use Rattle.cms_search.specs.declared.fault.SearchFault.{SearchFault}
 use Rattle.cms_search.specs.declared.fault.SearchFault.TheVariants as why
-use Rattle.cms_search.proofs.Holding.{some_same}
 use Rattle.cms_search.proofs.Meeting.{letter_is}
 use Rattle.cms_search.proofs.Searching.{item_at_map}
 use Rattle.cms_search.proofs.Shown.{position_named, shelf_at, shelf_none}
 use Rattle.cms_search.proofs.Stepped.{written_at}
 use Rattle.cms_files.specs.Files.{files_written, found_shelf, has_name, is_taken, shelf_with, some_found, with_name, writable, writable_shelf}
 use Rattle.cms_files.specs.declared.identifier.NameChoice.{NameChoice}
+use Rattle.cms_files.proofs.OpenedFiles.{seat_with}
 
 -- ---- from the front
 
@@ -81,10 +81,6 @@ open_shelf t n s at is =
     let w : writing (Some s.letter) n ≡ Ok tt = ap (λ (x : Option Letter). writing x n) (sym (letter_is t n s at)) ∙ is in
     ap (λ (x : Option Shelf). writable_shelf n x) (shelf_at t n s at) ∙ opened s.letter.read_only n (shelf_of s) w
 
-pub seat_with_disk : (x : Option Seated) (d : Accessed) → Some d ≡ option_map (λ (s : Seated). s.disk) x → (s : Seated) × (x ≡ Some s) × (s.disk ≡ d)
-seat_with_disk None d e = absurd (cc e)
-seat_with_disk (Some s) d e = (s, refl, sym (some_same d s.disk e))
-
 pub may_be : (x : ⊤) (r : Result ⊤ SearchFault) → Ok x ≡ r → r ≡ Ok tt
 may_be tt r e = sym e
 
@@ -107,7 +103,7 @@ AreTaken names mode d files = files ≡ filter (is_taken names mode.number) (map
 taken_on : (t : Accesses) (names : NameChoice) (mode : WriteMode) (d : Accessed) (files : List Listed) → writing (item_at (letters_of t) mode.letter) mode.letter ≡ Ok tt
     → Some d ≡ option_map (λ (s : Seated). s.disk) (item_at t.seats mode.letter) → AreTaken names mode d files → files_written (shelves_of t) names mode ≡ some_found files
 taken_on t names mode d files may there taken =
-    let s = seat_with_disk (item_at t.seats mode.letter) d there in
+    let s = seat_with (item_at t.seats mode.letter) d there in
     let shelf = open_shelf t mode.letter s.0 s.1 may in
     let list : filter (is_taken names mode.number) (map listed_held s.0.disk.volume.files) ≡ files =
     ap (λ (x : Accessed). filter (is_taken names mode.number) (map listed_held x.volume.files)) s.2 ∙ sym taken in
@@ -133,24 +129,24 @@ shelf_where there shelf = if there then Ok shelf else Err why.NotFound
 pub file_there : (t : Accesses) (n : ℕ) (name : Name) (d : Accessed) → writing (item_at (letters_of t) n) n ≡ Ok tt → Some d ≡ option_map (λ (s : Seated). s.disk) (item_at t.seats n)
     → IsSome (place_of name d.volume) → IsSome (found_shelf (shelf_with (shelves_of t) n name))
 file_there t n name d may there some =
-    let s = seat_with_disk (item_at t.seats n) d there in
+    let s = seat_with (item_at t.seats n) d there in
     let shelf = open_shelf t n s.0 s.1 may in
     let place = position_named name s.0.disk.volume ∙ ap (λ (x : Accessed). place_of name x.volume) s.2 in
     rw (shelf, place) (found (place_of name d.volume) some)
   where
-    found : (x : Option ℕ) → IsSome x → IsSome (found_shelf (shelf_where (is_some x) (shelf_of (seat_with_disk (item_at t.seats n) d there).0)))
+    found : (x : Option ℕ) → IsSome x → IsSome (found_shelf (shelf_where (is_some x) (shelf_of (seat_with (item_at t.seats n) d there).0)))
     found None is = absurd (cc is)
     found (Some k) is = refl
 
 pub file_gone : (t : Accesses) (n : ℕ) (name : Name) (d : Accessed) → writing (item_at (letters_of t) n) n ≡ Ok tt → Some d ≡ option_map (λ (s : Seated). s.disk) (item_at t.seats n)
     → (IsSome (place_of name d.volume) → ⊥) → shelf_with (shelves_of t) n name ≡ Err why.NotFound
 file_gone t n name d may there none =
-    let s = seat_with_disk (item_at t.seats n) d there in
+    let s = seat_with (item_at t.seats n) d there in
     let shelf = open_shelf t n s.0 s.1 may in
     let place = position_named name s.0.disk.volume ∙ ap (λ (x : Accessed). place_of name x.volume) s.2 in
     rw (shelf, place) (missing (place_of name d.volume) none)
   where
-    missing : (x : Option ℕ) → (IsSome x → ⊥) → shelf_where (is_some x) (shelf_of (seat_with_disk (item_at t.seats n) d there).0) ≡ Err why.NotFound
+    missing : (x : Option ℕ) → (IsSome x → ⊥) → shelf_where (is_some x) (shelf_of (seat_with (item_at t.seats n) d there).0) ≡ Err why.NotFound
     missing None is = refl
     missing (Some k) is = absurd (is refl)
 
@@ -162,7 +158,7 @@ pub there_on : (t : Accesses) (n : ℕ) (name : Name) (d : Accessed) → Some d 
     → ForSome (item_at t.seats n) (λ s. IsSome (place_of name s.disk.volume))
 there_on t n name d there some s at =
     let e : Some d ≡ Some s.disk = there ∙ ap (λ (x : Option Seated). option_map (λ (y : Seated). y.disk) x) at in
-    let same = some_same d s.disk e in
+    let same = same_Some d s.disk e in
     subst (λ (x : Accessed). IsSome (place_of name x.volume)) same some
 
 -- the shelf that was found is the letter's

@@ -1,6 +1,6 @@
 -- Updates of files, as calls do them.
 use Rattle.std.proofs.Common.{◌≡◌, ◌∙◌, ◌<◌, ◌≤◌, ◌+◌, suc, ℕ, ℤ, List, [], ◌∷◌, Option, Some, Result, Ok, Err, add-one, drop, drop-cons, get_or, length, pos, refl, ap, subst, sym}
-use Rattle.std.specs.Prelude.{Bool, true, false, IsSome, slice_get}
+use Rattle.std.specs.Prelude.{Bool, true, false, IfOk, IsSome, slice_get}
 use Rattle.std.specs.Option.{option_map}
 use Rattle.std.proofs.lemmas.List.{drop_all}
 use Rattle.cms_fields.specs.Moments.{is_moment}
@@ -11,6 +11,7 @@ use Rattle.cms_line.specs.Messages.{message_text}
 use Rattle.cms_line.specs.declared.message.Message.{Message}
 use Rattle.cms_disk.specs.declared.unit.UnitInfo.{UnitInfo}
 use Rattle.cms_search.specs.Calls.{Acts, Comes, Does, Meaning, Spot, course_of, holds, itself, machine_of, refusal_tree, said}
+use Rattle.cms_search.specs.ChangeTold.{told_tree}
 use Rattle.cms_search.specs.Machine.{Course, Letter, Machine, letter_at}
 use Rattle.cms_line.specs.declared.token.Token.{Token}
 use Rattle.cms_search.specs.Searches.{Shelf, Shelves, item_at, shelves_in}
@@ -29,7 +30,7 @@ use Rattle.cms_search.proofs.Released.{vdev_is}
 use Rattle.cms_search.proofs.Shown.{shelves_shown}
 use Rattle.cms_search.proofs.Staying.{acts_stayed}
 use Rattle.cms_files.specs.Files.{found_shelf, search_refused}
-use Rattle.cms_files.specs.Updating.{names_of, on_step, places_without, stopping, telling, updated, updated_of, updating_each, updating_tree, vdev_at}
+use Rattle.cms_files.specs.Updating.{names_of, on_step, places_without, stopping, telling, updated, updated_of, updating_each, updating_tree, vdev_at, with_stopped}
 use Rattle.cms_files.specs.declared.updating.Updated as declared_updated
 use Rattle.cms_files.specs.declared.updating.Updated.TheVariants as came
 
@@ -38,27 +39,19 @@ use Rattle.cms_files.specs.declared.updating.Updated.TheVariants as came
 abbrev failed : Course → Act Stepped
 failed course = Done (Failed course)
 
--- the command was refused
-pub acts_stopped : (old new : Spot) (tree : List Slot → Act Course) (c : declared.Course) → Acts old new tree (Ok c) (course_of new.state)
-    → Acts old new (λ units. stopping (tree units)) (Ok (came.Stopped c)) (updated_of new.state)
-acts_stopped old new tree c a =
-    acts_done old new (λ units. stopping (tree units)) (came.Stopped c) (updated_of new.state) (comes_in old new tree failed c (course_of new.state) a)
+-- the command was refused as a tree says
+pub acts_stopping : (old new : Spot) (tree : List Slot → Act Course) (r : Result declared.Course End) (u : Result declared_updated.Updated End) → Acts old new tree r (course_of new.state)
+    → u ≡ with_stopped r → Acts old new (λ units. stopping (tree units)) u (updated_of new.state)
+acts_stopping old new tree (Ok c) u a is =
+    rw is (acts_done old new (λ units. stopping (tree units)) (came.Stopped c) (updated_of new.state) (comes_in old new tree failed c (course_of new.state) a))
+acts_stopping old new tree (Err e) u a is = rw is (acts_stop old new tree failed e (course_of new.state) (updated_of new.state) a)
 
-pub acts_unstopped : (old new : Spot) (tree : List Slot → Act Course) (e : End) → Acts {T = declared.Course} old new tree (Err e) (course_of new.state)
-    → Acts {T = declared_updated.Updated} old new (λ units. stopping (tree units)) (Err e) (updated_of new.state)
-acts_unstopped old new tree e a = acts_stop old new tree failed e (course_of new.state) (updated_of new.state) a
-
--- with a message, in all of it or in a part
-pub stop_said : (old new : Spot) (message : Message) (code : ℤ) (c : declared.Course) → Does {T = declared.Course} old.world new.world (saying (typed_line (message_text message))) (Ok c) said
-    → c ≡ course.Went code → new.state ≡ old.state
-    → Acts old new (λ units. stopping (refusal_tree old.state message code units)) (Ok (came.Stopped c)) (updated_of new.state)
-stop_said old new message code c does went same =
-    acts_stopped old new (refusal_tree old.state message code) c (refused old new message code (Ok c) does went same)
-
-pub stop_cut : (old new : Spot) (message : Message) (code : ℤ) (e : End) → Does {T = declared.Course} old.world new.world (saying (typed_line (message_text message))) (Err e) said
-    → new.state ≡ old.state → Acts {T = declared_updated.Updated} old new (λ units. stopping (refusal_tree old.state message code units)) (Err e) (updated_of new.state)
-stop_cut old new message code e does same =
-    acts_unstopped old new (refusal_tree old.state message code) e (refused old new message code (Err e) does tt same)
+-- with a message
+pub stop_so : (old new : Spot) (message : Message) (code : ℤ) (r : Result declared.Course End) (u : Result declared_updated.Updated End)
+    → Does old.world new.world (saying (typed_line (message_text message))) r said → IfOk r (λ c. c ≡ course.Went code) → new.state ≡ old.state → u ≡ with_stopped r
+    → Acts old new (λ units. stopping (refusal_tree old.state message code units)) u (updated_of new.state)
+stop_so old new message code r u does went same is =
+    acts_stopping old new (refusal_tree old.state message code) r u (refused old new message code r does went same) is
 
 -- ---- a change
 
@@ -106,23 +99,20 @@ update_done old mid n vdev change x a is device =
     (acts_stayed mid new (λ units. then_updated old.state n change (changing_of mid.state units x)) came.Done (updated_of new.state) refl refl
     (λ units h. (h, rw (is, device) refl)) (λ usable. usable))
 
--- it was refused
-pub update_stopped : (old mid new : Spot) (n : ℕ) (change : Change) (x : declared_changed.Changed) (tree : List Slot → Act Stepped) (r : Result declared_updated.Updated End)
-    → Acts old mid (changing_tree old.state n change) (Ok x) (changing_of mid.state)
-    → ((units : List Slot) → then_updated old.state n change (changing_of mid.state units x) ≡ tree units) → Acts mid new tree r (updated_of new.state)
-    → Acts old new (updating_tree old.state n change) r (updated_of new.state)
-update_stopped old mid new n change x tree r a is rest =
-    acts_after old mid new (updating_tree old.state n change) (λ units. then_updated old.state n change (changing_of mid.state units x)) r (updated_of new.state)
-    (update_comes old mid n change x a) (acts_same mid new (λ units. then_updated old.state n change (changing_of mid.state units x)) tree r (updated_of new.state) (λ units h. is units) rest)
+-- what a change comes to that isn't done
+not_updated : (s : State) (n vdev : ℕ) (change : Change) (x : declared_changed.Changed) (units : List Slot) → (x ≡ was.Done → ⊥)
+    → updated n vdev change (changing_of s units x) ≡ stopping (told_tree s n x units)
+not_updated s n vdev change was.Done units other = absurd (other refl)
+not_updated s n vdev change (was.Limited which) units other = refl
+not_updated s n vdev change (was.Full need free) units other = refl
+not_updated s n vdev change (was.Failed course) units other = refl
 
--- it failed, and the command ended
-pub update_failed : (old mid : Spot) (n : ℕ) (change : Change) (x : declared_changed.Changed) (c : declared.Course) → Acts old mid (changing_tree old.state n change) (Ok x) (changing_of mid.state)
-    → x ≡ was.Failed c → Acts old mid (updating_tree old.state n change) (Ok (came.Stopped c)) (updated_of mid.state)
-update_failed old mid n change x c a is =
-    acts_after old mid mid (updating_tree old.state n change) (λ units. then_updated old.state n change (changing_of mid.state units x)) (Ok (came.Stopped c)) (updated_of mid.state)
-    (update_comes old mid n change x a)
-    (acts_stayed mid mid (λ units. then_updated old.state n change (changing_of mid.state units x)) (came.Stopped c) (updated_of mid.state) refl refl
-    (λ units h. (h, rw is refl)) (λ usable. usable))
+pub ends_told : (old new : Spot) (n vdev : ℕ) (change : Change) (x : declared_changed.Changed) (r : Result declared.Course End) (u : Result declared_updated.Updated End) → (x ≡ was.Done → ⊥)
+    → Acts old new (told_tree old.state n x) r (course_of new.state) → u ≡ with_stopped r
+    → Acts old new (λ units. updated n vdev change (changing_of old.state units x)) u (updated_of new.state)
+ends_told old new n vdev change x r u other a is =
+    acts_same old new (λ units. updated n vdev change (changing_of old.state units x)) (λ units. stopping (told_tree old.state n x units)) u (updated_of new.state)
+    (λ units h. not_updated old.state n vdev change x units other) (acts_stopping old new (told_tree old.state n x) r u a is)
 
 -- ---- files, one after another
 

@@ -14,6 +14,10 @@ use Rattle.cms_operands.specs.declared.refusal.Refusal.{Refusal}
 use Rattle.cms_files.specs.declared.identifier.FileInput.{FileInput}
 use Rattle.cms_files.specs.declared.identifier.NameChoice.{NameChoice}
 
+-- the type of a procedure's file
+abbrev pub exec_kind : List ℕ
+exec_kind = coded (codes "EXEC")
+
 -- ---- the words
 
 -- a mode that isn't given is A

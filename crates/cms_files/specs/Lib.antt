@@ -6,3 +6,4 @@ pub mod Stacking
 pub mod Pushing
 pub mod Gathering
 pub mod Told
+pub mod Unfound

@@ -18,6 +18,8 @@ use Rattle.cms_search.specs.declared.fault.SearchFault.{SearchFault}
 use Rattle.cms_line.specs.declared.token.Token.{Token}
 use Rattle.cms_machine.specs.Slots.{Slot}
 use Rattle.cms_search.specs.Calls.{Meaning, course_of, machine_of}
+use Rattle.cms_search.specs.declared.state.Course as declared_course
+use Rattle.cms_search.specs.declared.state.End.{End}
 use Rattle.cms_search.specs.declared.state.State.{State}
 use Rattle.cms_files.specs.declared.updating.Updated as declared
 use Rattle.cms_files.specs.declared.updating.Updated.TheVariants as came
@@ -99,3 +101,8 @@ updating_tree s n change units = updating (machine_of s units) n change
 abbrev pub updated_of : State → Meaning declared.Updated Stepped
 updated_of s units came.Done = Did (machine_of s units)
 updated_of s units (came.Stopped course) = Failed (course_of s units course)
+
+-- the refusal's course is what an update comes to
+abbrev pub with_stopped : Result declared_course.Course End → Result declared.Updated End
+with_stopped (Ok course) = Ok (came.Stopped course)
+with_stopped (Err e) = Err e

@@ -9,12 +9,12 @@ ghost use Rattle.cms_machine.specs.Acts.{Act};
 ghost use Rattle.cms_files.specs.Updating.{updated_of, updating_each, updating_taken};
 
 use crate::identifier::NameChoice;
-use crate::searching::refuse_search;
+use crate::searching::refuse_unfound;
 use crate::taken::{TakenFile, files_written};
 use crate::updating::Updated;
 use cms_line::Tokens;
 use cms_operands::WriteMode;
-use cms_search::{Course, End, SearchFault, State};
+use cms_search::{Course, End, State};
 use cms_world::World;
 use std::alloc::Global;
 
@@ -88,9 +88,6 @@ pub fn update_taken<W: World, U: FileUpdate<TakenFile>>(
 {
     match files_written(alloc, &state.table, names, mode) {
         Ok(files) => update_each(alloc, world, state, update, files.as_slice()),
-        Err(fault) => match fault {
-            SearchFault::Memory => Err(End::Memory),
-            _ => refuse_search(alloc, world, words.as_slice(), 1, fault),
-        },
+        Err(fault) => refuse_unfound(alloc, world, words, 1, fault),
     }
 }

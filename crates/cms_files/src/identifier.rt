@@ -23,6 +23,13 @@ pub struct NameChoice {
     pub kind: Option<Part>,
 }
 
+/// The type of a procedure's file.
+pub fn exec_kind() -> Part
+    ensures { result ≡ spec.exec_kind }
+{
+    Part::read(&coded(b"EXEC")).unwrap()
+}
+
 /// A file name and a file type, in a place among the operands and the next.
 #[tactic(auto, unfolding(crate::specs::Identifiers::full_name))]
 pub fn full_name(operands: &[Token], place: u8) -> Result<Name, Refusal>

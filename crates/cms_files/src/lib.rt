@@ -11,19 +11,22 @@ mod searching;
 mod stacking;
 mod taken;
 mod telling;
+mod told;
 mod updating;
 mod writing;
 
 pub use each::{FileUpdate, update_each, update_taken};
 pub use gathering::Gathered;
 pub use identifier::{
-    FileInput, NameChoice, file_input, full_name, is_last, name_choice, output_name, takes_number,
+    FileInput, NameChoice, exec_kind, file_input, full_name, is_last, name_choice, output_name,
+    takes_number,
 };
 pub use opening::{OpenFile, open_file};
-pub use pushing::stack_lines;
-pub use searching::{NO_FILE, refuse_exists, refuse_search};
+pub use pushing::{has_room, stack_lines};
+pub use searching::{NO_FILE, refuse_exists, refuse_unfound};
 pub use stacking::StackEnd;
 pub use taken::{TakenFile, TakenFiles, files_written, find_written};
 pub use telling::{file_text, tell_updated};
-pub use updating::{Updated, stop_exists, stop_full, stop_limited, stop_search, update_disk};
-pub use writing::{end_writing, info_named, write_file, write_last};
+pub use told::{info_found, info_named};
+pub use updating::{Updated, stop_exists, stop_search, stopped, update_disk};
+pub use writing::{end_writing, write_file, write_last};

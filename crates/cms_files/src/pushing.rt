@@ -14,8 +14,8 @@ use std::alloc::{AllocError, Global};
 // The limit of stacked lines.
 const STACK_LIMIT: u32 = 4;
 
-// Whether there is room for so many lines.
-fn has_room(stack: &ProgStack, lines: &Lines) -> bool
+/// Whether there is room on the program stack for all of these lines.
+pub fn has_room(stack: &ProgStack, lines: &Lines) -> bool
     ensures { result ≡ nat_le (length stack.now + length lines.now) most_lines }
 {
     match stack.len().checked_add(lines.len()) {

@@ -8,8 +8,9 @@ ghost use Rattle.cms_search.specs.Calls.{Does, said};
 ghost use Rattle.cms_search.specs.declared.state.Course.TheVariants.{Went};
 ghost use Rattle.cms_world.specs.Seen.{seen};
 ghost use Rattle.cms_files.specs.Files as spec;
+ghost use Rattle.cms_files.specs.Unfound.{RefusesSearch};
 
-use cms_line::{Message, Token, Word};
+use cms_line::{Message, Token, Tokens, Word};
 use cms_names::Name;
 use cms_operands::{coded, operands};
 use cms_search::{Course, End, NO_DISK, SearchFault, device_word, letter_word, refuse};
@@ -75,9 +76,8 @@ fn search_code(fault: SearchFault) -> i32
     }
 }
 
-/// Types why a search isn't answered, and gives the code: a disk that isn't accessed or may only be read, or that no file is found. That
-/// file is shown as the line has it, from a place among its operands on.
-pub fn refuse_search<W: World>(
+// Types why a search isn't answered, as there was memory, and gives the code.
+pub(crate) fn refuse_search<W: World>(
     alloc: Global,
     world: &mut W,
     words: &[Token],
@@ -90,6 +90,23 @@ pub fn refuse_search<W: World>(
 {
     let message = search_message(alloc, words, place, fault)?;
     refuse(alloc, world, message, search_code(fault))
+}
+
+/// Types why a search isn't answered, and gives the code: a disk that isn't accessed or may only be read, or that no file is found. That
+/// file is shown as the line has it, from a place among its operands on. There is no memory where there was none to search.
+pub fn refuse_unfound<W: World>(
+    alloc: Global,
+    world: &mut W,
+    words: &Tokens,
+    place: u8,
+    fault: SearchFault,
+) -> Result<Course, End>
+    ensures { RefusesSearch (seen W.World world.old) (seen W.World world.new) words.now place fault result }
+{
+    match fault {
+        SearchFault::Memory => Err(End::Memory),
+        _ => refuse_search(alloc, world, words.as_slice(), place, fault),
+    }
 }
 
 /// Types that a file of this name is there already, whose mode is shown so, and gives the code.

@@ -3,15 +3,9 @@ ghost use Rattle.std.specs.Prelude.{◌≡◌, true, Ok};
 ghost use Rattle.std.specs.Option.{ForSome};
 ghost use Rattle.cms_edf.specs.Planning.{CanChange, change_of};
 ghost use Rattle.cms_fields.specs.Moments.{is_moment};
-ghost use Rattle.cms_text.specs.Numbers.{decimal_of};
-ghost use Rattle.cms_line.specs.declared.message.Message.TheVariants.{M107, M120};
 ghost use Rattle.cms_search.specs.Calls.{Acts, IsUsable, machine_of, spot};
-ghost use Rattle.cms_search.specs.ChangeTold.{limited};
-ghost use Rattle.cms_search.specs.Machine.{refusal};
-ghost use Rattle.cms_search.specs.Refusing.{fault};
 ghost use Rattle.cms_search.specs.Searches.{item_at};
 ghost use Rattle.cms_search.specs.Tables.{letters_of, writing};
-ghost use Rattle.cms_search.specs.Telling.{letter_text};
 ghost use Rattle.cms_files.specs.Files.{file_exists, search_refused};
 ghost use Rattle.cms_files.specs.Updating as spec;
 
@@ -19,9 +13,7 @@ use crate::searching::{refuse_exists, refuse_search};
 use cms_edf::Change;
 use cms_line::{Tokens, Word};
 use cms_names::Name;
-use cms_search::{
-    Changed, Course, End, Places, SearchFault, State, change_disk, refuse_full, refuse_limit,
-};
+use cms_search::{Changed, Course, End, Places, SearchFault, State, change_disk, tell_change};
 use cms_world::World;
 use std::alloc::Global;
 
@@ -34,7 +26,17 @@ pub enum Updated {
     Stopped(Course),
 }
 
-/// An update isn't begun, since a search isn't answered, as `refuse_search` types it.
+/// An update that was refused, by how typing its message ended.
+pub fn stopped(course: Result<Course, End>) -> Result<Updated, End>
+    ensures { result ≡ spec.with_stopped course }
+{
+    match course {
+        Ok(course) => Ok(Updated::Stopped(course)),
+        Err(end) => Err(end),
+    }
+}
+
+/// An update isn't begun, since a search isn't answered, as `refuse_unfound` types it.
 pub fn stop_search<W: World>(
     alloc: Global,
     world: &mut W,
@@ -47,8 +49,7 @@ pub fn stop_search<W: World>(
         (λ units. spec.stopping (search_refused (machine_of state.now units) words.now place fault)) result
         (spec.updated_of state.now) }
 {
-    let course = refuse_search(alloc, world, words.as_slice(), place, fault)?;
-    Ok(Updated::Stopped(course))
+    stopped(refuse_search(alloc, world, words.as_slice(), place, fault))
 }
 
 /// An update isn't begun, since a file of a name is there already, as `refuse_exists` types it.
@@ -62,40 +63,7 @@ pub fn stop_exists<W: World>(
     ensures { Acts (spot W.World world.old state.now) (spot W.World world.new state.now)
         (λ units. spec.stopping (file_exists (machine_of state.now units) name.now mode)) result (spec.updated_of state.now) }
 {
-    let course = refuse_exists(alloc, world, name, mode)?;
-    Ok(Updated::Stopped(course))
-}
-
-/// An update isn't done, since it would pass a limit: 1, the files of a minidisk; 2, the records of a file; 3, its stored bytes.
-pub fn stop_limited<W: World>(
-    alloc: Global,
-    world: &mut W,
-    state: &State,
-    which: u32,
-) -> Result<Updated, End>
-    ensures { Acts (spot W.World world.old state.now) (spot W.World world.new state.now)
-        (λ units. spec.stopping (refusal (machine_of state.now units) (M120 (decimal_of which)) limited)) result
-        (spec.updated_of state.now) }
-{
-    let course = refuse_limit(alloc, world, which)?;
-    Ok(Updated::Stopped(course))
-}
-
-/// An update isn't done, since it needs more blocks of the disk of a letter, A is 0, than are free.
-pub fn stop_full<W: World>(
-    alloc: Global,
-    world: &mut W,
-    state: &State,
-    letter: u8,
-    need: u32,
-    free: u32,
-) -> Result<Updated, End>
-    ensures { Acts (spot W.World world.old state.now) (spot W.World world.new state.now)
-        (λ units. spec.stopping (refusal (machine_of state.now units)
-        (M107 (letter_text letter) (decimal_of need) (decimal_of free)) fault)) result (spec.updated_of state.now) }
-{
-    let course = refuse_full(alloc, world, letter, need, free)?;
-    Ok(Updated::Stopped(course))
+    stopped(refuse_exists(alloc, world, name, mode))
 }
 
 // No reading place is kept in the files of a device that a change is of.
@@ -136,8 +104,6 @@ pub fn update_disk<W: World>(
             forget_places(&mut state.places, vdev, change);
             Ok(Updated::Done)
         }
-        Changed::Limited(which) => stop_limited(alloc, world, state, which),
-        Changed::Full { need, free } => stop_full(alloc, world, state, letter, need, free),
-        Changed::Failed(course) => Ok(Updated::Stopped(course)),
+        _ => stopped(tell_change(alloc, world, state, letter, changed)),
     }
 }

@@ -9,13 +9,11 @@ ghost use Rattle.cms_search.specs.Putting.{FitsUpdate, change_with, data_of};
 ghost use Rattle.cms_search.specs.Searches.{item_at};
 ghost use Rattle.cms_search.specs.Stepping.{changing_of};
 ghost use Rattle.cms_search.specs.Tables.{letters_of, writing};
-ghost use Rattle.cms_files.specs.Told as told;
 ghost use Rattle.cms_files.specs.Updating as spec;
 
-use crate::updating::{Updated, stop_full, stop_limited};
-use cms_disk::FileInfo;
+use crate::updating::{Updated, stopped};
 use cms_names::Name;
-use cms_search::{Changed, Course, End, FileWrite, State, Table, update_file};
+use cms_search::{Changed, Course, End, FileWrite, State, tell_change, update_file};
 use cms_world::World;
 use std::alloc::Global;
 
@@ -40,9 +38,7 @@ pub fn end_writing<W: World>(
             state.places.forget(vdev, name);
             Ok(Updated::Done)
         }
-        Changed::Limited(which) => stop_limited(alloc, world, state, which),
-        Changed::Full { need, free } => stop_full(alloc, world, state, letter, need, free),
-        Changed::Failed(course) => Ok(Updated::Stopped(course)),
+        _ => stopped(tell_change(alloc, world, state, letter, changed)),
     }
 }
 
@@ -95,13 +91,4 @@ pub fn write_last<W: World>(
         Updated::Done => Ok(Course::Went(0)),
         Updated::Stopped(course) => Ok(course),
     }
-}
-
-/// What is told of the file of a name on the disk of a letter; none where it isn't there.
-pub fn info_named(table: &Table, letter: u8, name: &Name) -> Option<FileInfo>
-    ensures { result ≡ told.info_named table.now letter name.now }
-{
-    let disk = table.disk(letter)?;
-    let place = disk.find(name)?;
-    Some(disk.info(place))
 }

@@ -9,6 +9,7 @@ use Rattle.cms_journal.specs.Told.{Told, plus}
 use Rattle.cms_journal.proofs.Pieces.{plus_plus}
 use Rattle.cms_model.specs.Settled.{Write, writes}
 use Rattle.cms_model.specs.LawsUpdates.{AddsFront}
+use Rattle.cms_tree.proofs.Own.{writes_append}
 
 pub front_none : (old new : Told) (events : List Event) → new ≡ old → AddsFront old new events
 front_none old new events same = record { front = []; told = same; is = record { rest = events; is = refl } }
@@ -29,11 +30,6 @@ front_more old new events more f = record {
   told = f.told;
   is = record { rest = f.is.rest ++ more; is = sym (append_assoc f.front f.is.rest more) ∙ ap (λ (l : List Event). l ++ more) f.is.is };
 }
-
-pub writes_append : (u : ℕ) (ws more : List Write) → writes u (ws ++ more) ≡ writes u ws ++ writes u more
-unfolding writes
-writes_append u [] more = refl
-writes_append u (w ∷ ws) more = ap (λ (l : List Event). Wrote u w.block w.bytes ∷ l) (writes_append u ws more)
 
 -- more writes behind those that were made
 pub wrote_behind : (old mid new : Told) (u : ℕ) (ws more : List Write) → mid ≡ plus old (writes u ws) → new ≡ plus mid (writes u more) → new ≡ plus old (writes u (ws ++ more))

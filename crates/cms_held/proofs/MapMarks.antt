@@ -3,12 +3,13 @@ use Rattle.std.proofs.Common.{◌≡◌, ⊎_elim, ℕ, zero, suc, ◌+◌, ◌-
 use Rattle.std.specs.Prelude.{nat_le, ◌==◌, ◌&&◌, ◌||◌}
 use Rattle.std.proofs.lemmas.Bool.{cases_Bool, false_from_ne_true, cases_lt, or_parts, le-leb, lt-leb, leb-true, eqb-true, eq-eqb}
 use Rattle.std.proofs.lemmas.List.{length-set, get_or-set_same, get_or-set_other}
-use Rattle.std.proofs.lemmas.List.FromFn.{length-map-range_with_len, get_or-map-range_with_len}
+use Rattle.std.proofs.lemmas.List.FromFn.{get_or-map-range_with_len}
 use Rattle.cms_model.specs.Lists.{holds, times}
 use Rattle.cms_model.specs.Maps.{is_marked, is_used}
 use Rattle.cms_model.proofs.Repeats.{bit, hit, miss, held_from, not_held, in_from, times_first, times_later}
 use Rattle.cms_map.specs.Bits.{bits_in, free_from, free_blocks, with_marked, HasFixed}
-use Rattle.cms_map.proofs.Free.{free_are_unused}
+use Rattle.cms_map.proofs.Free.{free_are_unused, length-with_marked}
+use Rattle.cms_map.proofs.Held.{bits_count}
 use Rattle.cms_held.specs.Renewing.{with_freed}
 
 -- ---- one bit
@@ -30,10 +31,6 @@ set_bit bits k n b low some within = ⊎_elim
 pub bit_read : (total : ℕ) (bytes : List ℕ) (n : ℕ) (d : Bool) → 1 ≤ n → n ≤ total → get_or (bits_in total bytes) (n - 1) d ≡ is_used bytes n
 unfolding bits_in
 bit_read total bytes n d low high = get_or-map-range_with_len (is_used bytes) 1 total (n - 1) n d (omega arith) (omega arith)
-
-pub length_read : (total : ℕ) (bytes : List ℕ) → length (bits_in total bytes) ≡ total
-unfolding bits_in
-length_read total bytes = length-map-range_with_len (is_used bytes) 1 total
 
 pub not_used : (bytes : List ℕ) (n : ℕ) → is_used bytes n ≡ false → (6 ≤ n) × (is_marked bytes n ≡ false)
 unfolding is_used
@@ -57,11 +54,6 @@ AreIn count ns = (n : ℕ) → 1 ≤ times n ns → (1 ≤ n) × (n ≤ count)
 
 rest_in : (count x : ℕ) (ns : List ℕ) → AreIn count (x ∷ ns) → AreIn count ns
 rest_in count x ns within n some = within n (omega (arith, times_later n x ns))
-
-pub length_marked : (ns : List ℕ) (bits : List Bool) → length (with_marked ns bits) ≡ length bits
-unfolding with_marked
-length_marked [] bits = refl
-length_marked (n ∷ ns) bits = length_marked ns (set bits (n - 1) true) ∙ length-set bits (n - 1) true
 
 -- the bits with one block freed, if it is one that can be
 abbrev one_freed : ℕ → List Bool → List Bool
@@ -167,7 +159,7 @@ lowest_free total bytes ns is = record {
       let more = fewer n in
       let free = (free_are_unused (bits_in total bytes) n).0 (in_from n (free_blocks (bits_in total bytes)) (held_from n (free_blocks (bits_in total bytes)) (omega arith))) in
       let low = free.0 in
-      let high : n ≤ total = omega (arith, free.1, length_read total bytes) in
+      let high : n ≤ total = omega (arith, free.1, bits_count total bytes) in
       let none = not_used bytes n (sym (bit_read total bytes n true low high) ∙ free.2) in
       (none.0, high, none.1);
   once = λ n. omega (arith, fewer n, free_once 1 (bits_in total bytes) n);
@@ -184,10 +176,10 @@ pub new_marks : (total : ℕ) (old new freed marked : List ℕ) → bits_in tota
     → (n : ℕ) → 6 ≤ n → n ≤ total → (1 ≤ times n marked → times n freed ≡ 0) → is_marked new n ≡ ((is_marked old n && not (holds freed n)) || holds marked n)
 new_marks total old new freed marked is freed_in marked_in n low high apart =
     let bits = bits_in total old in
-    let long = length_read total old in
+    let long = bits_count total old in
     let some : 1 ≤ n = omega arith in
     let marked_in' : AreIn (length bits) marked = λ k more. (let w = marked_in k more in (w.0, omega (arith, w.1))) in
-    let freed_in' : AreIn (length (with_marked marked bits)) freed = λ k more. (let w = freed_in k more in (w.0, omega (arith, w.1, length_marked marked bits))) in
+    let freed_in' : AreIn (length (with_marked marked bits)) freed = λ k more. (let w = freed_in k more in (w.0, omega (arith, w.1, length-with_marked marked bits))) in
     sym (used_marked new n low) ∙ (sym (bit_read total new n false some high)
     ∙ (ap (λ (l : List Bool). get_or l (n - 1) false) is
     ∙ (bit_freed freed (with_marked marked bits) n freed_in' low
@@ -211,8 +203,8 @@ new_marks total old new freed marked is freed_in marked_in n low high apart =
 pub new_fixed : (total : ℕ) (old freed marked : List ℕ) → AreIn total marked → HasFixed (with_freed freed (with_marked marked (bits_in total old)))
 new_fixed total old freed marked marked_in n low high within =
     let bits = bits_in total old in
-    let long = length_read total old in
-    let long' = length_marked marked bits in
+    let long = bits_count total old in
+    let long' = length-with_marked marked bits in
     let top : n ≤ total = omega (arith, length_freed freed (with_marked marked bits)) in
     let marked_in' : AreIn (length bits) marked = λ k more. (let w = marked_in k more in (w.0, omega (arith, w.1))) in
     bit_kept freed (with_marked marked bits) n low high

@@ -1,6 +1,6 @@
 -- Blocks that were written in pieces, and trees that were written.
 use Rattle.std.proofs.Common.{◌≡◌, ⊎_elim, ℕ, zero, suc, ◌+◌, ◌-◌, ◌*◌, ◌/◌, ◌^◌, ◌<◌, ◌≤◌, Bool, List, [], ◌∷◌, ◌++◌, length, take, drop, get_or, map, refl, sym, ◌∙◌, ap, subst, arith, length-append, mul-le-mul_right}
-use Rattle.std.proofs.lemmas.List.{get_or-map, length-drop}
+use Rattle.std.proofs.lemmas.List.{get_or-map, length-drop, length-map}
 use Rattle.std.proofs.lemmas.List.FromFn.{length-map-range_with_len}
 use Rattle.std.proofs.lemmas.Bool.{cases_lt}
 use Rattle.std.proofs.Math.Nat.{one-le-pow, pow-le-pow_left}
@@ -94,17 +94,13 @@ length_nodes fan leaves fresh some numbers =
 
 -- ---- the pointer blocks of a tree
 
-length_map : {A B : Type 0} (f : A → B) (xs : List A) → length (map f xs) ≡ length xs
-length_map f [] = refl
-length_map f (x ∷ xs) = ap suc (length_map f xs)
-
 pub nodes_written : (image : Image) (bsize : ℕ) (t : HeldTree) → 1 ≤ bsize / 4 → length t.pointers ≡ pointer_count (bsize / 4) (length t.leaves)
     → HasWritten image (node_writes bsize t) → HasNodes image bsize 4 t.leaves [] t.pointers
 nodes_written image bsize t some numbers has nth within =
     let groups = nodes_over (bsize / 4) t.leaves [] t.pointers in
     let long : length groups ≡ length t.pointers = length_nodes (bsize / 4) t.leaves t.pointers some numbers in
     let mapped : get_or (map (node_bytes bsize 4) groups) nth [] ≡ node_bytes bsize 4 (get_or groups nth []) = get_or-map (node_bytes bsize 4) groups nth [] [] (omega arith) in
-    has_block image t.pointers (map (node_bytes bsize 4) groups) nth has within (subst (λ (n : ℕ). nth < n) (sym (length_map (node_bytes bsize 4) groups ∙ long)) within) ∙ mapped
+    has_block image t.pointers (map (node_bytes bsize 4) groups) nth has within (subst (λ (n : ℕ). nth < n) (sym (length-map groups (node_bytes bsize 4) ∙ long)) within) ∙ mapped
 
 -- ---- the write at a place
 
@@ -143,14 +139,14 @@ pub node_written_at : (bsize : ℕ) (leaves pointers : List ℕ) (k : ℕ) → 1
 node_written_at bsize leaves pointers k some numbers less =
     let groups = nodes_over (bsize / 4) leaves [] pointers in
     let long : length groups ≡ length pointers = length_nodes (bsize / 4) leaves pointers some numbers in
-    write_at pointers (map (node_bytes bsize 4) groups) k (node_at bsize 4 leaves [] pointers k) (length_map (node_bytes bsize 4) groups ∙ long) less
+    write_at pointers (map (node_bytes bsize 4) groups) k (node_at bsize 4 leaves [] pointers k) (length-map groups (node_bytes bsize 4) ∙ long) less
     (get_or-map (node_bytes bsize 4) groups k [] [] (omega arith))
 
 pub length_node_writes : (bsize : ℕ) (leaves pointers : List ℕ) → 1 ≤ bsize / 4 → length pointers ≡ pointer_count (bsize / 4) (length leaves)
     → length (node_writes bsize (record { leaves = leaves; pointers = pointers })) ≡ length pointers
 length_node_writes bsize leaves pointers some numbers =
     let groups = nodes_over (bsize / 4) leaves [] pointers in
-    length_writes pointers (map (node_bytes bsize 4) groups) (length_map (node_bytes bsize 4) groups ∙ length_nodes (bsize / 4) leaves pointers some numbers)
+    length_writes pointers (map (node_bytes bsize 4) groups) (length-map groups (node_bytes bsize 4) ∙ length_nodes (bsize / 4) leaves pointers some numbers)
 
 -- fewer than 2^32 data blocks have fewer than 2^32 pointer blocks
 pub pointers_few : (fan n : ℕ) → 2 ≤ fan → n < 2 ^ 32 → pointer_count fan n < 2 ^ 32

@@ -23,12 +23,14 @@ use Rattle.cms_model.proofs.Repeats.{bit, hit, miss, held, held_from, in_held, t
 use Rattle.cms_model.proofs.Standing.{stands_opens}
 use Rattle.cms_model.proofs.Updating.{update_is_whole}
 use Rattle.cms_map.specs.Bits.{bits_in, free_blocks, with_marked, HasFixed}
+use Rattle.cms_map.proofs.Free.{length-with_marked}
+use Rattle.cms_map.proofs.Held.{bits_count}
 use Rattle.cms_held.specs.Opening.{HeldFile, HeldVolume}
 use Rattle.cms_held.specs.Systems.{Systems, HasWritten, IsLaidOut, IsTree, ReadsSystems, directory_bytes_of, directory_file, map_file}
 use Rattle.cms_held.specs.HeldAs.{AreHeld}
 use Rattle.cms_held.specs.Renewing.{Edit, IsPlanned, entries_held, fresh, label_for, released, with_freed}
 use Rattle.cms_held.specs.LawsRenewing.{AreBlocks, ComesFrom, IsHeldAt, IsRenewal, UpdateRenews, later_of, writes_of}
-use Rattle.cms_held.proofs.MapMarks.{AreUnmarked, length_freed, length_marked, length_read, new_fixed}
+use Rattle.cms_held.proofs.MapMarks.{AreUnmarked, length_freed, new_fixed}
 use Rattle.cms_held.proofs.NewLabel.{label_length, new_label, other_origin, volid_long}
 use Rattle.cms_held.proofs.SystemsRead.{map_is_read, written_is_read}
 use Rattle.cms_held.proofs.OldBlocks.{HasBlocksOf, frame_blocks, old_blocks, past_label}
@@ -159,8 +161,8 @@ new_map_long : (j : Journal) (v : HeldVolume) (edit : Edit) (stamp : Stamp) (s :
 new_map_long j v edit stamp s old files x =
     let h = old_blocks j v old x.at in
     ap (λ (l : List Bool). length l) x.planned.blocks.marks
-    ∙ (length_freed (released v edit.given) (with_marked (fresh edit.taken s.directory s.map) v.bits) ∙ (length_marked (fresh edit.taken s.directory s.map) v.bits
-    ∙ (ap (λ (l : List Bool). length l) h.bits ∙ length_read old.label.blocks (map_of j v old))))
+    ∙ (length_freed (released v edit.given) (with_marked (fresh edit.taken s.directory s.map) v.bits) ∙ (length-with_marked (fresh edit.taken s.directory s.map) v.bits
+    ∙ (ap (λ (l : List Bool). length l) h.bits ∙ bits_count old.label.blocks (map_of j v old))))
 
 new_map_fixed : (j : Journal) (v : HeldVolume) (edit : Edit) (stamp : Stamp) (s : Systems) (old : Layout) (files : List Kept) → IsTaking j v edit stamp s old files → HasFixed s.bits
 new_map_fixed j v edit stamp s old files x =

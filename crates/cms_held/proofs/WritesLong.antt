@@ -41,7 +41,7 @@ are_blocks size [] ps long = tt
 are_blocks size (n ∷ ns) [] long = tt
 are_blocks size (n ∷ ns) (p ∷ ps) long = (long.0, are_blocks size ns ps long.1)
 
-both_blocks : (size : ℕ) (xs ys : List Write) → AreBlocks size xs → AreBlocks size ys → AreBlocks size (xs ++ ys)
+pub both_blocks : (size : ℕ) (xs ys : List Write) → AreBlocks size xs → AreBlocks size ys → AreBlocks size (xs ++ ys)
 both_blocks size [] ys a b = b
 both_blocks size (w ∷ xs) ys a b = (a.0, both_blocks size xs ys a.1 b)
 

@@ -8,4 +8,4 @@ mod tree;
 pub use laws::{
     carrying_laws, draft_laws, held_laws, making_laws, put_laws, renewal_laws, systems_laws,
 };
-pub use tree::{TreeBlocks, pointer_size};
+pub use tree::TreeBlocks;

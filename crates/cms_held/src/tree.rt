@@ -1,8 +1,6 @@
 // The blocks of a tree as they are held.
 ghost use Rattle.std.specs.Prelude.{◌≡◌};
-ghost use Rattle.cms_fields.specs.Entries.{pointer_size};
 
-use cms_names::Format;
 use std::marker::Model;
 
 /// The blocks of a tree: its data blocks in order, and its pointer blocks.
@@ -33,15 +31,5 @@ impl TreeBlocks {
         ensures { result.now ≡ self.now.pointers }
     {
         &self.pointers
-    }
-}
-
-/// The bytes of a pointer to a block of a file of this format.
-pub fn pointer_size(format: Format) -> u8
-    ensures { result ≡ pointer_size format }
-{
-    match format {
-        Format::F => 4,
-        Format::V => 12,
     }
 }

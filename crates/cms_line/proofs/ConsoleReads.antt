@@ -1,5 +1,6 @@
 -- What a console reads until a line is told.
-use Rattle.std.proofs.Common.{◌≡◌, ℕ, Bool, true, false, ◌||◌, List, [], ◌∷◌, ◌++◌, Some, refl, ap, sym, ◌∙◌, subst, append_assoc, append-nil, ⊎_elim, length, nat_eq, ◌==◌, suc, arith}
+use Rattle.std.proofs.Common.{◌≡◌, ℕ, Bool, true, false, ◌||◌, List, [], ◌∷◌, ◌++◌, Some, refl, ap, sym, ◌∙◌, subst, append-nil, ⊎_elim, length, nat_eq, ◌==◌, suc, arith}
+use Rattle.std.proofs.Math.Bool.{or-false, or_assoc}
 use Rattle.cms_journal.specs.declared.event.Event.{Event}
 use Rattle.cms_journal.specs.declared.event.Event.TheVariants.{Read}
 use Rattle.cms_journal.specs.Told.{Told, plus, script, is_over}
@@ -10,30 +11,17 @@ use Rattle.cms_line.specs.ConsoleSteps.{Gives, GivesLine, Filled}
 use Rattle.cms_line.specs.declared.console.ConsoleLine.{ConsoleLine}
 use Rattle.cms_line.specs.declared.console.ConsoleLine.TheVariants.{End}
 use Rattle.cms_journal.proofs.Pieces.{plus_plus, script-append, is_over-append}
+use Rattle.cms_machine.proofs.Feed.{extended-append, extended-nil}
 use Rattle.cms_machine.proofs.Lists.{split_at}
 use Rattle.cms_journal.proofs.Events.{all_join}
 use Rattle.cms_machine.specs.Beats.{IsRead}
-
-more_none : (u : Unread) → extended u [] ≡ u
-more_none u = ap (λ (z : List ℕ). record { within = u.within; bytes = z }) (append-nil u.bytes)
-
-more_more : (u : Unread) (a b : List ℕ) → extended (extended u a) b ≡ extended u (a ++ b)
-more_more u a b = ap (λ (z : List ℕ). record { within = u.within; bytes = z }) (append_assoc u.bytes a b)
-
-or_false : (a : Bool) → a ≡ (a || false)
-or_false true = refl
-or_false false = refl
-
-or_assoc : (a b c : Bool) → ((a || b) || c) ≡ (a || (b || c))
-or_assoc true b c = refl
-or_assoc false b c = refl
 
 no_lazy : (u : Unread) (ended : Bool) → Lazy u ended []
 no_lazy u ended [] q c e = cc
 no_lazy u ended (x ∷ p) q c e = cc
 
 one_lazy : (u : Unread) (ended : Bool) (b : List ℕ) → ended ≡ false → items u false ≡ [] → Lazy u ended (Read b ∷ [])
-one_lazy u ended b yet none [] q c e = (ap (λ (z : Bool). z || false) yet, ap (λ (z : Unread). items z false) (more_none u) ∙ none)
+one_lazy u ended b yet none [] q c e = (ap (λ (z : Bool). z || false) yet, ap (λ (z : Unread). items z false) (extended-nil u) ∙ none)
 one_lazy u ended b yet none (x ∷ []) q c e = cc
 one_lazy u ended b yet none (x ∷ y ∷ p) q c e = cc
 
@@ -58,8 +46,8 @@ stayed_none j was = record {
   told = refl;
   only = tt;
   keeps = record {
-    told = λ more e goes. ap (λ (z : Unread). items (extended z more) e) (more_none was.unread);
-    over = or_false was.ended;
+    told = λ more e goes. ap (λ (z : Unread). items (extended z more) e) (extended-nil was.unread);
+    over = sym (or-false was.ended);
     lazy = no_lazy was.unread was.ended;
   };
 }
@@ -87,8 +75,8 @@ stayed_filled j k l was now later s yet none f =
     let after : List Event = es ++ Read f.bytes ∷ [] in
     let unended : (was.ended || is_over es) ≡ false = sym s.keeps.over ∙ yet in
     let untold : items (extended was.unread (script es)) false ≡ [] =
-    ap (λ (z : Unread). items z false) (sym (more_none (extended was.unread (script es)))) ∙ s.keeps.told [] false (λ over. let h = yet in cc)
-    ∙ ap (λ (z : Unread). items z false) (more_none now.unread) ∙ none in
+    ap (λ (z : Unread). items z false) (sym (extended-nil (extended was.unread (script es)))) ∙ s.keeps.told [] false (λ over. let h = yet in cc)
+    ∙ ap (λ (z : Unread). items z false) (extended-nil now.unread) ∙ none in
     record {
       events = after;
       told = f.told ∙ ap (λ (z : Told). plus z (Read f.bytes ∷ [])) s.told ∙ plus_plus j es (Read f.bytes ∷ []);
@@ -97,10 +85,10 @@ stayed_filled j k l was now later s yet none f =
         told = λ more e goes.
             let read : script after ≡ script es ++ f.bytes = script-append es (Read f.bytes ∷ []) ∙ ap (λ (z : List ℕ). script es ++ z) (append-nil f.bytes) in
             ap (λ (z : List ℕ). items (extended (extended was.unread z) more) e) read
-            ∙ ap (λ (z : Unread). items (extended z more) e) (sym (more_more was.unread (script es) f.bytes))
-            ∙ ap (λ (z : Unread). items z e) (more_more (extended was.unread (script es)) f.bytes more)
+            ∙ ap (λ (z : Unread). items (extended z more) e) (sym (extended-append was.unread (script es) f.bytes))
+            ∙ ap (λ (z : Unread). items z e) (extended-append (extended was.unread (script es)) f.bytes more)
             ∙ s.keeps.told (f.bytes ++ more) e (λ over. let h = yet in cc)
-            ∙ ap (λ (z : Unread). items z e) (sym (more_more now.unread f.bytes more))
+            ∙ ap (λ (z : Unread). items z e) (sym (extended-append now.unread f.bytes more))
             ∙ ap (λ (z : Unread). items (extended z more) e) (sym f.unread);
         over = f.ended ∙ ap (λ (z : Bool). z || is_over (Read f.bytes ∷ [])) (sym unended) ∙ or_assoc was.ended (is_over es) (is_over (Read f.bytes ∷ []))
             ∙ ap (λ (z : Bool). was.ended || z) (sym (is_over-append es (Read f.bytes ∷ [])));

@@ -15,6 +15,10 @@ use Rattle.cms_line.specs.Tokens.{left_parenthesis, right_parenthesis}
 abbrev pub is_left : List ℕ → Bool
 is_left word = bytes_eq word (left_parenthesis ∷ [])
 
+-- the place of the first left parenthesis
+abbrev pub first_left : List Token → Option ℕ
+first_left words = position (λ word. is_left word.text) words
+
 -- the word is a right parenthesis
 abbrev pub is_right : List ℕ → Bool
 is_right word = bytes_eq word (right_parenthesis ∷ [])
@@ -76,7 +80,7 @@ options_behind rules words (Some left) = options_from rules 0 (left + 1) (drop (
 
 -- the options among a line's words: those behind the first left parenthesis
 unfoldable pub options_of : List OptionRule → List Token → Reading
-options_of rules words = options_behind rules words (position (λ word. is_left word.text) words)
+options_of rules words = options_behind rules words (first_left words)
 
 -- the answer is the options, or the fault of the first word that is refused; memory may be wanted in either's place
 abbrev pub AnswersOptions : Reading → Result (List Choice) OptionFault → Type 0

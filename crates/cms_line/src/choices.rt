@@ -1,6 +1,6 @@
 // The options of a command.
-ghost use Rattle.std.specs.Prelude.{◌≡◌, ◌+◌, ◌<◌, [], length, drop, IfOk, position};
-ghost use Rattle.cms_line.specs.Options.{options_of, options_from, missing, is_right, is_left, is_named, AnswersOptions};
+ghost use Rattle.std.specs.Prelude.{◌≡◌, ◌+◌, ◌<◌, [], length, drop, IfOk, IfSome, position};
+ghost use Rattle.cms_line.specs.Options.{options_of, options_from, missing, first_left, is_right, is_left, is_named, AnswersOptions};
 
 use crate::words::{LEFT, RIGHT};
 use crate::{Token, Tokens};
@@ -48,8 +48,8 @@ pub struct Accepted {
     pub refused: Option<OptionFault>,
 }
 
-// The word is a beginning of the rule's name, and long enough.
-fn is_named(word: &[u8], rule: &OptionRule) -> bool
+/// Whether a word is a beginning of the rule's name, and long enough.
+pub fn is_named(word: &[u8], rule: &OptionRule) -> bool
     ensures { result ≡ is_named word.now rule.now }
 {
     usize::from(rule.least) <= word.len() && rule.name.starts_with(word)
@@ -74,9 +74,10 @@ fn is_right(token: &Token) -> bool
     token.text.bytes() == [RIGHT].as_slice()
 }
 
-// The first left parenthesis.
-fn first_left(words: &[Token]) -> Option<usize>
-    ensures { result ≡ position (λ word. is_left word.text) words.now }
+/// The place of the first left parenthesis, which begins the options.
+pub fn first_left(words: &[Token]) -> Option<usize>
+    ensures place { result ≡ first_left words.now }
+    ensures within { IfSome result (λ left. left < length words.now) }
 {
     words.iter().position(is_left)
 }

@@ -9,7 +9,10 @@ mod token;
 mod typing;
 mod words;
 
-pub use choices::{Accepted, Choice, Chosen, OptionFault, OptionRule, accepted_options, options};
+pub use choices::{
+    Accepted, Choice, Chosen, OptionFault, OptionRule, accepted_options, first_left, is_named,
+    options,
+};
 pub use cms_text::{Line, Lines, Word, WordList};
 pub use console::{Console, ConsoleLine, LineFault};
 pub use message::{Message, write_message};

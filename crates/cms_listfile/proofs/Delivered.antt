@@ -14,7 +14,7 @@ use Rattle.cms_search.specs.declared.state.Course.TheVariants as course
 use Rattle.cms_search.specs.declared.state.End.{End}
 use Rattle.cms_world.specs.Seen.{Seen}
 use Rattle.cms_search.proofs.Acts.{acts_same}
-use Rattle.cms_search.proofs.Lined.{Reached, acts_typed, nothing, reached_none, reached_off, reached_on, reached_to, typing_more, typing_none, typing_one, typing_then}
+use Rattle.cms_search.proofs.Lined.{Reached, acts_typed, nothing, reached_none, reached_off, reached_on, reached_to, said_one, typing_more, typing_none, typing_then}
 use Rattle.cms_search.proofs.Meeting.{holds_shows}
 use Rattle.cms_search.proofs.Talking.{silent}
 use Rattle.cms_files.specs.Updating.{went}
@@ -98,16 +98,6 @@ pub told_line : (last : Columns) (t : Accesses) (found : Found) (file : ListedFi
     → line_told last t found ≡ line ∷ []
 told_line last t found file line at is =
     ap (λ (o : Option ListedFile). option_map_or (λ (f : ListedFile). line_to last (told_columns f) ∷ []) o []) at ∙ ap (λ (l : List ℕ). l ∷ []) (sym is)
-
-pub said_one : (before now : Seen) (line : List ℕ) (lines : List (List ℕ)) (r : Result (Unit {0}) End) → lines ≡ line ∷ [] → Does before now (saying (typed_line line)) r itself
-    → Does before now (typing lines nothing) r said
-said_one before now line lines (Ok x) is d =
-    subst (λ (l : List (List ℕ)). Does before now (typing l nothing) (Ok x) said) (sym is)
-    (subst (λ (a : Act (Unit {0})). Does before now a (Ok x) said) (sym (typing_one line)) (record { each = d.each; idle = d.idle; faults = d.faults; edges = d.edges; cause = tt }))
-said_one before now line lines (Err e) is d =
-    subst (λ (l : List (List ℕ)). Does {T = Unit {0}} before now (typing l nothing) (Err e) said) (sym is)
-    (subst (λ (a : Act (Unit {0})). Does {T = Unit {0}} before now a (Err e) said) (sym (typing_one line))
-    (record { each = d.each; idle = d.idle; faults = d.faults; edges = d.edges; cause = d.cause }))
 
 -- the header's
 pub header_said : (before now : Seen) (style : ListStyle) (line : List ℕ) (r : Result (Unit {0}) End) → style.header ≡ true → line ≡ header style.columns

@@ -14,7 +14,7 @@ use Rattle.cms_model.specs.Minidisks.{File, Volume, same_name}
 use Rattle.cms_model.specs.Records.{longest}
 use Rattle.cms_model.specs.Sizes.{directory_more, file_size, free_count, map_size, stored_size, tree_size, used_count, levels, levels_from, pointer_count, pointers_to}
 use Rattle.cms_machine.specs.Acts.{typed_line}
-use Rattle.cms_machine.specs.Feeds.{Close, Over, WaitsForScript, WaitsForMoment, feed}
+use Rattle.cms_machine.specs.Feeds.{feed}
 use Rattle.cms_machine.specs.Slots.{Before, Settled, Slot}
 use Rattle.cms_machine.specs.Steps.{EitherFault, ReadFault}
 use Rattle.cms_line.specs.Messages.{message_text}
@@ -23,9 +23,10 @@ use Rattle.cms_line.specs.Tokens.{tokens_from, tokens_of}
 use Rattle.cms_operands.specs.Choices.{all_valued, chosen_of, last_among, setting_in, valued}
 use Rattle.cms_operands.specs.Operands.{ended, given, given_or, operands_of, pattern, reading_mode}
 use Rattle.cms_operands.specs.Refusals.{message_of}
-use Rattle.cms_search.specs.Machine.{Course, Machine, OutOfTurns, Went, typing}
+use Rattle.cms_search.specs.Machine.{Machine, typing}
 use Rattle.cms_search.specs.Searches.{places_from}
-use Rattle.cms_files.proofs.Machines.{Answer, answer, disk, file, moment, one_disk, two_disks, types, units_in, words}
+use Rattle.cms_search.proofs.Machines.{Answer, answer, moment, types, words}
+use Rattle.cms_files.proofs.Machines.{disk, file, one_disk, stack_in, two_disks, units_in}
 use Rattle.cms_listfile.specs.Listfile.{list_operands, listfile}
 
 -- ---- machines
@@ -99,12 +100,6 @@ unfolding list_operands operands_of given given_or pattern text_of is_pattern_ch
 columns = (refl, refl, refl, refl, refl, refl, refl, refl)
 
 -- ---- lines that are stacked
-
-abbrev stack_in : Close Course → List (List ℕ)
-stack_in (Over (Went s code)) = s.stack
-stack_in (Over OutOfTurns) = []
-stack_in WaitsForScript = []
-stack_in WaitsForMoment = []
 
 abbrev waiting : Machine
 waiting = record both { stack = ebcdic (codes "OLD") ∷ [] }

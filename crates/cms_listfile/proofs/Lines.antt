@@ -22,6 +22,7 @@ use Rattle.cms_search.specs.declared.state.End.{End}
 use Rattle.cms_world.specs.Seen.{Seen}
 use Rattle.cms_search.proofs.Lined.{Reached, nothing, reached_none, reached_off, reached_on, reached_to, typing_more, typing_none}
 use Rattle.cms_search.proofs.Released.{get_map, letter_told}
+use Rattle.cms_files.specs.Told.{info_found}
 use Rattle.cms_listfile.specs.Listing.{count_of, file_line, header, header_columns, info_of, line_to, lines_in, lines_of, lines_on, stamp_text, told_columns}
 use Rattle.cms_listfile.specs.Told.{full_header, line_told, lines_told, listed_at, listed_on, width}
 use Rattle.cms_listfile.specs.declared.columns.Columns.{Columns}
@@ -58,25 +59,17 @@ date_added f l l' is more =
 
 -- ---- a file that was found
 
-pub unseated : (t : Accesses) (found : Found) → None ≡ option_map (λ (s : Seated). s.disk) (item_at t.seats found.letter) → listed_at t found ≡ None
-unseated t found is = cases (item_at t.seats found.letter) is
+pub listed_so : (t : Accesses) (found : Found) (d : Accessed) (x : Option FileInfo) → Some d ≡ option_map (λ (s : Seated). s.disk) (item_at t.seats found.letter) → x ≡ info_found t found
+    → option_map (listed_on found.letter d.volume) x ≡ listed_at t found
+listed_so t found d x is told = cases (item_at t.seats found.letter) is told
   where
-    cases : (x : Option Seated) → None ≡ option_map (λ (s : Seated). s.disk) x
-        → option_and_then (λ s. option_map (listed_on found.letter s.disk.volume) (slice_get (infos_in s.disk.volume) found.place)) x ≡ None
-    cases None is = refl
-    cases (Some s) is = absurd (cc is)
-
-pub on_disk : (t : Accesses) (found : Found) (d : Accessed) (x : Option FileInfo) → Some d ≡ option_map (λ (s : Seated). s.disk) (item_at t.seats found.letter)
-    → slice_get (infos_in d.volume) found.place ≡ x → listed_at t found ≡ option_map (listed_on found.letter d.volume) x
-on_disk t found d x is at = cases (item_at t.seats found.letter) is
-  where
-    cases : (y : Option Seated) → Some d ≡ option_map (λ (s : Seated). s.disk) y
-        → option_and_then (λ s. option_map (listed_on found.letter s.disk.volume) (slice_get (infos_in s.disk.volume) found.place)) y ≡ option_map (listed_on found.letter d.volume) x
-    cases None is = absurd (cc is)
-    cases (Some s) is =
+    cases : (y : Option Seated) → Some d ≡ option_map (λ (s : Seated). s.disk) y → x ≡ option_and_then (λ (s : Seated). slice_get (infos_in s.disk.volume) found.place) y
+        → option_map (listed_on found.letter d.volume) x
+        ≡ option_and_then (λ (s : Seated). option_map (listed_on found.letter s.disk.volume) (slice_get (infos_in s.disk.volume) found.place)) y
+    cases None is told = absurd (cc is)
+    cases (Some s) is told =
         let same : d ≡ s.disk = cc is in
-        subst (λ (e : Accessed). option_map (listed_on found.letter e.volume) (slice_get (infos_in e.volume) found.place) ≡ option_map (listed_on found.letter d.volume) x) same
-        (ap (λ (y : Option FileInfo). option_map (listed_on found.letter d.volume) y) at)
+        rw (same, told) refl
 
 -- ---- the machine's lines
 

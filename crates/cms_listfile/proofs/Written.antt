@@ -38,7 +38,7 @@ change_told s lines None = Put (new_procedure s lines)
 change_told s lines (Some info) = added_lines s info.format info.length lines
 
 change_is : (s : Machine) (lines : List (List ℕ)) (x : Result UnitFile SearchFault) (i : Option FileInfo) → IsTold x i → written_change s true lines x ≡ change_told s lines i
-change_is s lines (Ok x) (Some info) is = let format = is.0 in let size = is.1 in rw (format, size) refl
+change_is s lines (Ok x) (Some info) is = let format = is.format in let size = is.size in rw (format, size) refl
 change_is s lines (Ok x) None is = absurd is
 change_is s lines (Err why) (Some info) is = absurd is
 change_is s lines (Err why) None is = refl

@@ -11,11 +11,10 @@ use Rattle.cms_model.specs.Changes.{Change, Put, Add}
 use Rattle.cms_model.specs.Minidisks.{File}
 use Rattle.cms_machine.specs.Acts.{Act}
 use Rattle.cms_line.specs.declared.token.Token.{Token}
-use Rattle.cms_operands.specs.Choices.{chosen_of, form, last_among}
+use Rattle.cms_operands.specs.Choices.{chosen_of, flag, last_among}
 use Rattle.cms_operands.specs.Operands.{ended, operands_of, pattern, reading_mode}
 use Rattle.cms_operands.specs.declared.choosing.ChosenOption.{ChosenOption}
 use Rattle.cms_operands.specs.declared.choosing.OptionForm.{OptionForm}
-use Rattle.cms_operands.specs.declared.choosing.Parameter.TheVariants as takes
 use Rattle.cms_operands.specs.declared.refusal.Refusal.{Refusal}
 use Rattle.cms_search.specs.Machine.{Machine, Course, letter_at, typing}
 use Rattle.cms_search.specs.Refusing.{on_line}
@@ -24,7 +23,7 @@ use Rattle.cms_search.specs.declared.fault.SearchFault.{SearchFault}
 use Rattle.cms_search.specs.declared.search.Found.{Found}
 use Rattle.cms_files.specs.Files.{UnitFile, file_on, on_found, some_found, writable}
 use Rattle.cms_files.specs.Gathering.{record_in}
-use Rattle.cms_files.specs.Identifiers.{is_last, mode_or_a, part_or_all}
+use Rattle.cms_files.specs.Identifiers.{exec_kind, is_last, mode_or_a, part_or_all}
 use Rattle.cms_files.specs.Stacking.{stacking}
 use Rattle.cms_files.specs.Updating.{last_update, went}
 use Rattle.cms_files.specs.declared.stacking.StackEnd.{StackEnd}
@@ -48,9 +47,6 @@ list_operands operands = do
   mode ← reading_mode 3 (mode_or_a operands 3)
   ended operands 4
   Ok (record { file = file; kind = kind; mode = mode })
-
-abbrev pub flag : List ℕ → ℕ → OptionForm
-flag word least = form word least takes.Nothing
 
 abbrev pub options : List OptionForm
 options =
@@ -110,7 +106,7 @@ list_line words = do
 
 -- CMS EXEC on disk A
 abbrev pub written_name : Name
-written_name = record { file = coded (codes "CMS"); kind = coded (codes "EXEC") }
+written_name = record { file = coded (codes "CMS"); kind = exec_kind }
 
 abbrev pub disk_a : ℕ
 disk_a = 0

@@ -8,8 +8,8 @@ use cms_files::{StackEnd, is_last};
 use cms_line::{Token, Tokens};
 use cms_names::Pattern;
 use cms_operands::{
-    ChosenOption, CommandFault, OptionForm, Parameter, ReadMode, Refusal, chosen_options, coded,
-    ended, given_or, last_among, operands, pattern, reading_mode,
+    ChosenOption, CommandFault, OptionForm, ReadMode, Refusal, chosen_options, coded, ended,
+    given_or, last_among, operands, pattern, reading_mode,
 };
 use std::alloc::Global;
 
@@ -57,31 +57,24 @@ fn list_operands(operands: &[Token]) -> Result<ListFiles, Refusal>
     Ok(ListFiles { file, kind, mode })
 }
 
-// An option without a parameter.
-fn flag(name: &[u8; 8], least: u8) -> OptionForm
-    ensures { result ≡ spec.flag name.now least }
-{
-    OptionForm::new(name, least, Parameter::Nothing)
-}
-
 fn options() -> [OptionForm; 14]
     ensures { result ≡ spec.options }
 {
     [
-        flag(b"HEADER  ", 1),
-        flag(b"NOHEADER", 3),
-        flag(b"FNAME   ", 2),
-        flag(b"FTYPE   ", 2),
-        flag(b"FMODE   ", 2),
-        flag(b"FORMAT  ", 2),
-        flag(b"ALLOC   ", 2),
-        flag(b"DATE    ", 1),
-        flag(b"LABEL   ", 1),
-        flag(b"STACK   ", 2),
-        flag(b"FIFO    ", 2),
-        flag(b"LIFO    ", 2),
-        flag(b"EXEC    ", 2),
-        flag(b"APPEND  ", 2),
+        OptionForm::flag(b"HEADER  ", 1),
+        OptionForm::flag(b"NOHEADER", 3),
+        OptionForm::flag(b"FNAME   ", 2),
+        OptionForm::flag(b"FTYPE   ", 2),
+        OptionForm::flag(b"FMODE   ", 2),
+        OptionForm::flag(b"FORMAT  ", 2),
+        OptionForm::flag(b"ALLOC   ", 2),
+        OptionForm::flag(b"DATE    ", 1),
+        OptionForm::flag(b"LABEL   ", 1),
+        OptionForm::flag(b"STACK   ", 2),
+        OptionForm::flag(b"FIFO    ", 2),
+        OptionForm::flag(b"LIFO    ", 2),
+        OptionForm::flag(b"EXEC    ", 2),
+        OptionForm::flag(b"APPEND  ", 2),
     ]
 }
 

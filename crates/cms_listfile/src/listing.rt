@@ -8,6 +8,7 @@ ghost use Rattle.cms_listfile.specs.Told as spec;
 
 use crate::columns::Columns;
 use crate::line::ListedFile;
+use cms_files::info_found;
 use cms_line::{Line, Lines};
 use cms_search::{End, Found, Table, say};
 use cms_text::LONGEST_TEXT;
@@ -18,17 +19,13 @@ use std::alloc::{AllocError, Global};
 pub fn listed_at(table: &Table, found: Found) -> Option<ListedFile>
     ensures { result ≡ spec.listed_at table.now found }
 {
-    let Some(disk) = table.disk(found.letter) else {
-        return None;
-    };
-    if found.place >= disk.count() {
-        return None;
-    }
+    let disk = table.disk(found.letter)?;
+    let info = info_found(table, found)?;
     let volid = disk.space().volid;
     Some(ListedFile {
         letter: found.letter,
         volid,
-        info: disk.info(found.place),
+        info,
     })
 }
 

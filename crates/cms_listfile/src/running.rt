@@ -17,7 +17,7 @@ use crate::line::header;
 use crate::listfile::{Delivery, ListLine, ListStyle, list_line};
 use crate::listing::{add_files, short_line, type_files};
 use crate::writing::{DISK_A, write_listing};
-use cms_files::{StackEnd, refuse_search, stack_lines};
+use cms_files::{StackEnd, refuse_unfound, stack_lines};
 use cms_line::{Lines, Tokens};
 use cms_search::{Course, End, Found, FoundList, SearchFault, State, Table, refuse_command, say};
 use cms_world::World;
@@ -152,10 +152,7 @@ fn list_files<W: World>(
 {
     match files_listed(alloc, &state.table, line) {
         Ok(found) => deliver(alloc, world, state, &line.style, found.as_slice()),
-        Err(fault) => match fault {
-            SearchFault::Memory => Err(End::Memory),
-            _ => refuse_search(alloc, world, words.as_slice(), 1, fault),
-        },
+        Err(fault) => refuse_unfound(alloc, world, words, 1, fault),
     }
 }
 

@@ -20,7 +20,7 @@ use crate::columns::Columns;
 use crate::listing::{listed_at, short_line};
 use cms_disk::{FileData, FileInfo};
 use cms_fields::Stamp;
-use cms_files::{Gathered, info_named, write_last};
+use cms_files::{Gathered, exec_kind, info_named, write_last};
 use cms_names::{Format, Name, Part};
 use cms_operands::coded;
 use cms_search::{Course, End, FileWrite, Found, State, Table};
@@ -41,7 +41,7 @@ fn written_name() -> Name
 {
     Name {
         file: Part::read(&coded(b"CMS")).unwrap(),
-        kind: Part::read(&coded(b"EXEC")).unwrap(),
+        kind: exec_kind(),
     }
 }
 

@@ -15,7 +15,7 @@ use Rattle.cms_machine.specs.Acts.{Act, Out, Take, Turn, Does}
 use Rattle.cms_machine.specs.Points.{Leaves, HasNow, Point, with_events, Sound}
 use Rattle.cms_machine.specs.Beats.{Said, Turned, Took, Did, OnlyTyped, OnlyRead, FitsStep, KeepsConsole, Covers, Beats}
 use Rattle.cms_machine.specs.Runs.{Ran, Begun, Broke}
-use Rattle.cms_machine.proofs.Units.{get_other}
+use Rattle.cms_machine.proofs.Units.{other_slot}
 use Rattle.cms_journal.proofs.Events.{all_front, of_aside}
 use Rattle.cms_machine.proofs.Aside.{typed_aside, read_aside, of_disk, leaves_aside, now_aside, covers_aside}
 use Rattle.cms_machine.proofs.Join.{ran_one, broke_now, part_none}
@@ -102,12 +102,7 @@ broke_before p q t journal later units = broke_now [] (part_none p t) journal la
 
 -- ---- device steps
 
--- another unit keeps its slot
-other_slot : (units : List Slot) (v u : ℕ) (new : Option Slot) → v ≢ u → slice_get (put_slot units v new) u ≡ slice_get units u
-other_slot units v u None other = refl
-other_slot units v u (Some new) other = get_other units v u new (λ e. other (sym e))
-
--- and its set
+-- another unit keeps its set
 pub other_set : (units : List Slot) (v u : ℕ) (new : Option Slot) → v ≢ u → unit_set (put_slot units v new) u ≡ unit_set units u
 other_set units v u new other = let g = other_slot units v u new other in rw g refl
 

@@ -13,11 +13,11 @@ use Rattle.cms_machine.specs.Beats.{Deed, Said, Turned, Took, Did, Beat, Beats, 
 use Rattle.cms_machine.specs.Points.{Point}
 
 -- an element of a list in which another, or the same, was put
-pub get_same : (units : List Slot) (v u : ℕ) (new : Slot) → v < length units → u ≡ v → slice_get (slice_set units v new) u ≡ Some new
+pub get_same : {A : Type 0} (units : List A) (v u : ℕ) (new : A) → v < length units → u ≡ v → slice_get (slice_set units v new) u ≡ Some new
 get_same units v u new within same = let long = length-set units v new in let at = get_or-set_at units v u new new same within in let there =
     slice_get-get_or (slice_set units v new) u new (omega (arith, long, within, same)) in there ∙ ap Some at
 
-pub get_other : (units : List Slot) (v u : ℕ) (new : Slot) → u ≢ v → slice_get (slice_set units v new) u ≡ slice_get units u
+pub get_other : {A : Type 0} (units : List A) (v u : ℕ) (new : A) → u ≢ v → slice_get (slice_set units v new) u ≡ slice_get units u
 get_other units v u new other = elim (cases_lt u (length units)) [
   | inl below ↦
       let long = length-set units v new in
@@ -26,6 +26,16 @@ get_other units v u new other = elim (cases_lt u (length units)) [
       let long = length-set units v new in
       slice_get_past (slice_set units v new) u (omega (arith, long, past)) ∙ sym (slice_get_past units u past)
 ]
+
+-- another unit keeps its slot
+pub other_slot : (units : List Slot) (v u : ℕ) (new : Option Slot) → v ≢ u → slice_get (put_slot units v new) u ≡ slice_get units u
+other_slot units v u None other = refl
+other_slot units v u (Some new) other = get_other units v u new (λ e. other (sym e))
+
+-- there are as many units
+pub units_put : (units : List Slot) (u : ℕ) (new : Option Slot) → length (put_slot units u new) ≡ length units
+units_put units u None = refl
+units_put units u (Some new) = length-set units u new
 
 pub set_put : (units : List Slot) (v u : ℕ) (old new : Slot) → slice_get units v ≡ Some old → unit_set (slice_set units v new) u ≡ (if v == u then set_of new else unit_set units u)
 set_put units v u old new there = elim (eqb_tells v u) [

@@ -1,6 +1,6 @@
 -- A run from a point, cut off or not: what it adds up to, and the machine on all that was told.
 use Rattle.std.proofs.Common.{◌≡◌, ◌⊎◌, inl, inr, ℕ, ℤ, ◌^◌, ◌+◌, ◌-◌, ◌≤◌, Bool, true, false, ◌||◌, List, [], ◌∷◌, ◌++◌, length, if◌then◌else◌, ◌==◌, Option, Some, None, refl, ap, sym, ◌∙◌, subst, arith, append_assoc, append-nil, length-append, ⊎_elim}
-use Rattle.std.proofs.lemmas.List.{length-set}
+use Rattle.std.proofs.Math.Bool.{or-false, or_assoc}
 use Rattle.cms_journal.specs.declared.event.Event.{Event}
 use Rattle.cms_journal.specs.declared.event.Event.TheVariants.{Read, Now, Typed, Wrote, Synced, Missed}
 use Rattle.cms_journal.specs.Journal.{IsUntouched}
@@ -8,7 +8,7 @@ use Rattle.cms_journal.specs.Causes.{Counted}
 use Rattle.cms_journal.specs.Told.{Told, plus, typed, script, is_over, moments}
 use Rattle.cms_model.specs.Minidisks.{State}
 use Rattle.cms_machine.specs.Slots.{Slot, unit_set, unit_state, IsAmong}
-use Rattle.cms_machine.specs.Steps.{Outcome, Good, ReadFault, SyncFault, OldFault, EitherFault, unit_of, new_slot, put_slot, faults_in}
+use Rattle.cms_machine.specs.Steps.{Outcome, Good, ReadFault, SyncFault, OldFault, EitherFault, unit_of, new_slot, faults_in}
 use Rattle.cms_machine.specs.Items.{Item, extended, items, Goes}
 use Rattle.cms_machine.specs.Acts.{Act, Done, Out, Take, Turn, Does}
 use Rattle.cms_machine.specs.Traces.{TraceItem, Shown, Spent, States, bytes_of, turns_of, states_in, last_set, Within}
@@ -20,7 +20,7 @@ use Rattle.cms_machine.specs.Laws.{AddsUp, FollowsTree, ComesTo}
 use Rattle.cms_machine.proofs.Lists.{lt_or_le, split, split_at, empty_front, no_element, typed-append, script-append, moments-append, over-append}
 use Rattle.cms_journal.proofs.Events.{all_front}
 use Rattle.cms_machine.proofs.Pieces.{plus_plus, plus-nil, syncs_front, typed_silent, read_silent, disk_silent, read_not_typed, read_not_disk}
-use Rattle.cms_machine.proofs.Units.{beat_sets}
+use Rattle.cms_machine.proofs.Units.{beat_sets, units_put}
 use Rattle.cms_machine.proofs.Aside.{leaves_aside, sound_aside, typed_aside, read_aside}
 use Rattle.cms_machine.proofs.Law.{here, here_states, past_beat, chain_sound, law}
 use Rattle.cms_machine.proofs.Feed.{feed_beats}
@@ -71,22 +71,14 @@ chain_last p q [] chain u = ap (λ (z : Point). unit_set z.units u) (sym chain)
 chain_last p q (b ∷ bs) chain u =
     chain_last chain.0 q bs chain.2 u ∙ ap (λ (s : List State). last_set u s (trace bs)) (beat_sets p chain.0 b chain.1 u) ∙ sym (last-append u (unit_set p.units u) (shown_by b.deed) (trace bs))
 
-or_false : (a : Bool) → (a || false) ≡ a
-or_false true = refl
-or_false false = refl
-
-or_assoc : (a b c : Bool) → ((a || b) || c) ≡ (a || (b || c))
-or_assoc true b c = refl
-or_assoc false b c = refl
-
 ended_is : (d : Deed) (es : List Event) (p m : Point) → Fits d es → OnConsole d es p m → m.ended ≡ (p.ended || is_over es)
-ended_is (Said c) es p m fits console = console.ended ∙ sym (ap (λ (z : Bool). p.ended || z) (typed_silent es fits.0).over_not ∙ or_false p.ended)
-ended_is (Turned t) es p m fits console = console.ended ∙ sym (ap (λ (z : List Event). p.ended || is_over z) fits ∙ or_false p.ended)
+ended_is (Said c) es p m fits console = console.ended ∙ sym (ap (λ (z : Bool). p.ended || z) (typed_silent es fits.0).over_not ∙ or-false p.ended)
+ended_is (Turned t) es p m fits console = console.ended ∙ sym (ap (λ (z : List Event). p.ended || is_over z) fits ∙ or-false p.ended)
 ended_is (Took i) es p m fits console = console.over
-ended_is (Did s o) es p m fits console = console.ended ∙ sym (ap (λ (z : Bool). p.ended || z) (disk_silent (unit_of s) es fits.disk).over_not ∙ or_false p.ended)
+ended_is (Did s o) es p m fits console = console.ended ∙ sym (ap (λ (z : Bool). p.ended || z) (disk_silent (unit_of s) es fits.disk).over_not ∙ or-false p.ended)
 
 pub chain_ended : (p q : Point) (bs : List Beat) → Chain p bs q → q.ended ≡ (p.ended || is_over (pieces bs))
-chain_ended p q [] chain = ap (λ (z : Point). z.ended) (sym chain) ∙ sym (or_false p.ended)
+chain_ended p q [] chain = ap (λ (z : Point). z.ended) (sym chain) ∙ sym (or-false p.ended)
 chain_ended p q (b ∷ bs) chain =
     chain_ended chain.0 q bs chain.2 ∙ ap (λ (z : Bool). z || is_over (pieces bs)) (ended_is b.deed b.piece p chain.0 chain.1.fits chain.1.console)
     ∙ or_assoc p.ended (is_over b.piece) (is_over (pieces bs))
@@ -140,10 +132,6 @@ turns_chain p q (b ∷ bs) chain =
     ∙ sym (ap length (moments-append b.piece (pieces bs)) ∙ length-append (moments b.piece) (moments (pieces bs)))
 
 -- ---- as many units
-
-units_put : (units : List Slot) (u : ℕ) (new : Option Slot) → length (put_slot units u new) ≡ length units
-units_put units u None = refl
-units_put units u (Some new) = length-set units u new
 
 units_beat : (units : List Slot) (d : Deed) → length (units_by units d) ≡ length units
 units_beat units (Said b) = refl

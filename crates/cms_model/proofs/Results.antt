@@ -1,14 +1,7 @@
 -- Tests in order that went well, step by step.
-use Rattle.std.proofs.Common.{◌≡◌, Result, Ok, Err, Bool, true, false, refl}
-use Rattle.cms_fields.specs.Steps.{◌>>=◌, ◌>>◌, want}
-
-pub ok_same : {B E : Type 0} (x y : B) → ◌≡◌ {A = Result B E} (Ok x) (Ok y) → x ≡ y
-ok_same x y e = cc
-
--- a test that passed, and what follows it
-pub want_ok : {B E : Type 0} (b : Bool) (d : E) (r : Result B E) (y : B) → (want b d >> r) ≡ Ok y → (b ≡ true) × (r ≡ Ok y)
-want_ok true d r y e = (refl, e)
-want_ok false d r y e = absurd (cc)
+use Rattle.std.proofs.Common.{◌≡◌, Result, Ok, Err, refl}
+use Rattle.cms_fields.specs.Steps.{◌>>=◌}
+pub use Rattle.cms_fields.proofs.ReadEntry.{ok_same, want_ok}
 
 -- a value, and what follows it: goes on with the value as a variable
 pub bind_then : {A B E C : Type 0} (r : Result A E) (f : A → Result B E) (y : B) → (r >>= f) ≡ Ok y → ((x : A) → r ≡ Ok x → f x ≡ Ok y → C) → C

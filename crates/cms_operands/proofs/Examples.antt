@@ -10,7 +10,7 @@ use Rattle.cms_text.specs.Texts.{ebcdic}
 use Rattle.cms_line.specs.Options.{options_from, options_of}
 use Rattle.cms_line.specs.declared.token.Token.{Token}
 use Rattle.cms_line.specs.Tokens.{tokens_from, tokens_of}
-use Rattle.cms_operands.specs.Choices.{all_valued, chosen_of, columns_in, fill_in, form, format_in, valued, setting_in}
+use Rattle.cms_operands.specs.Choices.{all_valued, chosen_of, columns_in, fill_in, flag, form, format_in, valued, setting_in}
 use Rattle.cms_operands.specs.Operands.{access_mode, access_mode_in, device, device_of, device_or_letter, ended, given, given_or, hexadecimal_of, name, needed, number, number_within, operands_of, reading_mode}
 use Rattle.cms_operands.specs.Spellings.{command_named, spellings}
 use Rattle.cms_operands.specs.declared.choosing.ChosenOption.{ChosenOption}
@@ -53,7 +53,7 @@ modes = (refl, refl, refl, refl)
 -- ---- options
 
 abbrev forms : List OptionForm
-forms = form (codes "TYPE    ") 2 takes.Nothing ∷ form (codes "LRECL   ") 1 (takes.Number 1 65535) ∷ form (codes "RECFM   ") 3 takes.Format
+forms = flag (codes "TYPE    ") 2 ∷ form (codes "LRECL   ") 1 (takes.Number 1 65535) ∷ form (codes "RECFM   ") 3 takes.Format
     ∷ form (codes "FILL    ") 2 takes.Fill ∷ form (codes "COL     ") 3 takes.Columns ∷ []
 
 abbrev read : List ℕ → Result (List ChosenOption) Refusal

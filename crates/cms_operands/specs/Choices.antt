@@ -39,6 +39,10 @@ words_of takes.Columns = 1
 abbrev pub form : List ℕ → ℕ → Parameter → OptionForm
 form word least parameter = record { name = coded word; least = least; parameter = parameter }
 
+-- one without a parameter
+abbrev pub flag : List ℕ → ℕ → OptionForm
+flag word least = form word least takes.Nothing
+
 abbrev pub rule_of : OptionForm → OptionRule
 rule_of form = record { name = form.name; least = form.least; takes = words_of form.parameter }
 

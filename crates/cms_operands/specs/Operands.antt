@@ -1,7 +1,6 @@
 -- The operands of a line, and what each kind of operand says. A command reads its operands from left to right, one after another, so the
 -- first that is refused decides; a missing one is met behind all that are there.
-use Rattle.std.specs.Prelude.{ℕ, ◌+◌, ◌-◌, ◌*◌, ◌==◌, nat_le, ◌&&◌, if◌then◌else◌, List, [], ◌∷◌, length, take, position, slice_get, Option, Some, None, Result, Ok, Err, ⊤}
-use Rattle.std.specs.List.{list_all}
+use Rattle.std.specs.Prelude.{ℕ, ◌+◌, ◌-◌, ◌*◌, ◌==◌, if◌then◌else◌, List, [], ◌∷◌, length, take, slice_get, Option, Some, None, Result, Ok, Err, ⊤}
 use Rattle.std.specs.Option.{option_map, option_map_or, option_and_then, unwrap_or}
 use Rattle.std.specs.Str.{bytes_eq}
 use Rattle.cms_names.specs.Modes.{given_part, mode_word_of}
@@ -10,7 +9,7 @@ use Rattle.cms_names.specs.declared.fault.NameFault.{NameFault}
 use Rattle.cms_names.specs.declared.mode.ModeWord.{ModeWord}
 use Rattle.cms_names.specs.declared.mode.ModeWord.TheVariants as mode
 use Rattle.cms_text.specs.Numbers.{magnitude_of}
-use Rattle.cms_line.specs.Options.{is_left}
+use Rattle.cms_line.specs.Options.{first_left}
 use Rattle.cms_line.specs.declared.token.Token.{Token}
 use Rattle.cms_operands.specs.declared.operand.AccessMode.{AccessMode}
 use Rattle.cms_operands.specs.declared.operand.Target.{Target}
@@ -25,7 +24,7 @@ use Rattle.cms_operands.specs.declared.mode.ReadMode.TheVariants as reading
 
 -- the words in front of the options, the command's own first: the operands have the places 1, 2 and so on
 unfoldable pub operands_of : List Token → List Token
-operands_of words = take (unwrap_or (position (λ word. is_left word.text) words) (length words)) words
+operands_of words = take (unwrap_or (first_left words) (length words)) words
 
 -- the text of an operand, where it is there
 unfoldable pub given : List Token → ℕ → Option (List ℕ)
@@ -192,6 +191,10 @@ device_or_letter place text = target_of place text (length text)
 -- the number that 1 to 9 decimal digits write
 abbrev pub number_in : List ℕ → Option ℕ
 number_in text = magnitude_of 9 text
+
+-- the largest of them
+abbrev pub largest : ℕ
+largest = 999999999
 
 -- such a number, from one to another, both included
 unfoldable pub number_within : ℕ → ℕ → List ℕ → Option ℕ

@@ -97,6 +97,13 @@ impl OptionForm {
             parameter,
         }
     }
+
+    /// An option without a parameter.
+    pub fn flag(name: &[u8; 8], least: u8) -> OptionForm
+        ensures { result ≡ spec.flag name.now least }
+    {
+        OptionForm::new(name, least, Parameter::Nothing)
+    }
 }
 
 impl Parameter {

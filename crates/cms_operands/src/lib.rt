@@ -17,9 +17,9 @@ pub use choosing::{
 pub use cms_text::coded;
 pub use mode::ReadMode;
 pub use operand::{
-    AccessMode, Target, WriteMode, access_mode, device, device_or_letter, ended, given, given_or,
-    letter, letter_or_all, name, name_or_all, name_or_same, needed, number, number_or_all,
-    number_within, operands, output_mode, pattern, reading_mode, writing_mode,
+    AccessMode, LARGEST, Target, WriteMode, access_mode, device, device_or_letter, ended, given,
+    given_or, letter, letter_or_all, name, name_or_all, name_or_same, needed, number,
+    number_or_all, number_within, operands, output_mode, pattern, reading_mode, writing_mode,
 };
 pub use refusal::Refusal;
 pub use spelling::{CommandName, command_named};

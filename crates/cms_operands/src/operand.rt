@@ -1,17 +1,14 @@
 // The operands of a line. Each kind is read from an operand's place and text.
-ghost use Rattle.std.specs.Prelude.{◌≡◌, ◌<◌, IfOk, IfErr, IfSome, Ok, Err, length, position};
+ghost use Rattle.std.specs.Prelude.{◌≡◌, ◌<◌, IfOk, IfErr, IfSome, Ok, Err};
 ghost use Rattle.std.specs.Option.{option_copied};
 ghost use Rattle.cms_names.specs.Names.{is_between};
-ghost use Rattle.cms_line.specs.Options.{is_left};
 ghost use Rattle.cms_operands.specs.Operands as spec;
 
 use crate::mode::ReadMode;
 use crate::refusal::Refusal;
-use cms_line::Token;
+use cms_line::{Token, first_left};
 use cms_names::{ModeWord, Part, Pattern};
 use cms_text::{STROKE, magnitude};
-
-const LEFT: u8 = 0x4D;
 
 const ASTERISK: u8 = 0x5C;
 
@@ -19,6 +16,9 @@ const EQUAL_SIGN: u8 = 0x7E;
 
 /// The most digits of a number.
 const MOST_DIGITS: usize = 9;
+
+/// The largest number that a word writes.
+pub const LARGEST: u32 = 999_999_999;
 
 /// The disk that a command writes to, and the mode number that it gives. Letters are numbers, A is 0.
 #[derive(Clone, Copy, Debug, PartialEq, Eq)]
@@ -42,20 +42,6 @@ pub enum Target {
     Device(u16),
     /// the disk of a letter, A is 0
     Letter(u8),
-}
-
-fn is_left(word: &Token) -> bool
-    ensures { result ≡ is_left word.now.text }
-{
-    word.text.bytes() == [LEFT].as_slice()
-}
-
-// The first left parenthesis.
-fn first_left(words: &[Token]) -> Option<usize>
-    ensures place { result ≡ position (λ word. is_left word.text) words.now }
-    ensures within { IfSome result (λ left. left < length words.now) }
-{
-    words.iter().position(is_left)
 }
 
 /// The words in front of the options, the command's own first: the operands have the places 1, 2 and so on.

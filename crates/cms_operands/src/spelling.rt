@@ -1,9 +1,8 @@
 // The words of the commands.
 ghost use Rattle.std.specs.Prelude.{◌≡◌};
-ghost use Rattle.cms_line.specs.Options.{is_named};
 ghost use Rattle.cms_operands.specs.Spellings as spec;
 
-use cms_line::OptionRule;
+use cms_line::{OptionRule, is_named};
 use cms_text::coded;
 
 /// A command.
@@ -61,13 +60,6 @@ fn spellings() -> [Spelling; 12]
         spelled(b"EXECIO  ", 6, CommandName::Execio),
         spelled(b"EXEC    ", 2, CommandName::Exec),
     ]
-}
-
-// The word is a beginning of the rule's name, and long enough.
-fn is_named(word: &[u8], rule: &OptionRule) -> bool
-    ensures { result ≡ is_named word.now rule.now }
-{
-    usize::from(rule.least) <= word.len() && rule.name.starts_with(word)
 }
 
 // The command of the first spelling that a word is.

@@ -33,7 +33,7 @@ fn words_of(alloc: Global, text: &str) -> Result<Tokens, Fail> {
 
 fn forms() -> [OptionForm; 5] {
     [
-        OptionForm::new(b"TYPE    ", 2, Parameter::Nothing),
+        OptionForm::flag(b"TYPE    ", 2),
         OptionForm::new(b"LRECL   ", 1, Parameter::Number(1, 65535)),
         OptionForm::new(b"RECFM   ", 3, Parameter::Format),
         OptionForm::new(b"FILL    ", 2, Parameter::Fill),

@@ -1,7 +1,7 @@
 -- Records of bytes that come in pieces.
 use Rattle.std.proofs.Common.{◌≡◌, ◌⊎◌, ⊎_elim, ℕ, zero, suc, ◌+◌, ◌-◌, ◌≤◌, ◌<◌, Bool, true, false, if◌then◌else◌, List, [], ◌∷◌, ◌++◌, length, take, drop, Option, None, Some, Result, Ok, refl, sym, ◌∙◌, ap, subst, arith, append_assoc, length-append}
 use Rattle.std.specs.Prelude.{max, nat_le, nat_lt, ◌==◌, IfSome}
-use Rattle.std.proofs.lemmas.List.{drop-drop, length-take-le}
+use Rattle.std.proofs.lemmas.List.{drop-drop, length-take-le, take_all, take-append-drop}
 use Rattle.std.proofs.lemmas.Bool.{le-leb, lt-leb, leb-true, le-ltb, cases_Bool, eqb-true, eq-eqb}
 use Rattle.cms_fields.specs.Steps.{◌>>◌, want}
 use Rattle.cms_text.specs.Bytes.{half}
@@ -11,17 +11,6 @@ use Rattle.cms_records.specs.Pieces.{Begun, head_of, next_place, bytes_so_far, r
 use Rattle.cms_records.proofs.Scanning.{half_front}
 
 -- ---- the front of bytes
-
-front_whole : (k : ℕ) (all : List ℕ) → length all ≤ k → take k all ≡ all
-front_whole zero [] le = refl
-front_whole zero (x ∷ xs) le = absurd (omega arith)
-front_whole (suc k) [] le = refl
-front_whole (suc k) (x ∷ xs) le = ap (λ (l : List ℕ). x ∷ l) (front_whole k xs (omega arith))
-
-front_joined : (k : ℕ) (all : List ℕ) → take k all ++ drop k all ≡ all
-front_joined zero all = refl
-front_joined (suc k) [] = refl
-front_joined (suc k) (x ∷ xs) = ap (λ (l : List ℕ). x ∷ l) (front_joined k xs)
 
 -- the front of two lists that holds the first of them
 front_past : (before more : List ℕ) (k : ℕ) → length before ≤ k → take k (before ++ more) ≡ before ++ take (k - length before) more
@@ -47,7 +36,7 @@ rejoined before piece k from next le later taken =
     let rest : drop next piece ≡ drop j more =
     ap (λ (n : ℕ). drop n piece) (sym at) ∙ (sym (drop-drop (next - from) from piece) ∙ (ap (λ (n : ℕ). drop n more) count ∙ drop_taken j more)) in
     ap (λ (l : List ℕ). l ++ drop next piece) past
-    ∙ (ap (λ (l : List ℕ). (before ++ take j more) ++ l) rest ∙ (append_assoc before (take j more) (drop j more) ∙ ap (λ (l : List ℕ). before ++ l) (front_joined j more)))
+    ∙ (ap (λ (l : List ℕ). (before ++ take j more) ++ l) rest ∙ (append_assoc before (take j more) (drop j more) ∙ ap (λ (l : List ℕ). before ++ l) (take-append-drop j more)))
 
 -- ---- the size of a record
 
@@ -60,11 +49,11 @@ sizes_same longest place a b long long' same =
 pub size_front : (fixed : Option ℕ) (longest place : ℕ) (all : List ℕ) (k : ℕ) → (fixed ≡ None → 2 ≤ k) → record_size fixed longest place (take k all) ≡ record_size fixed longest place all
 size_front (Some n) longest place all k wide = refl
 size_front None longest place all k wide = ⊎_elim
-    (λ (short : length all ≤ k). ap (record_size None longest place) (front_whole k all short))
+    (λ (short : length all ≤ k). ap (record_size None longest place) (take_all k all short))
     (λ (long : k < length all).
     let two = wide refl in
     let count : length (take k all) ≡ k = length-take-le k all (omega arith) in
-    let same : half (take k all) 0 ≡ half all 0 = sym (half_front (take k all) (drop k all) 0 (omega arith)) ∙ ap (λ (l : List ℕ). half l 0) (front_joined k all) in
+    let same : half (take k all) 0 ≡ half all 0 = sym (half_front (take k all) (drop k all) 0 (omega arith)) ∙ ap (λ (l : List ℕ). half l 0) (take-append-drop k all) in
     sizes_same longest place (take k all) all (omega arith) (omega arith) same)
     (less_or k (length all))
   where
@@ -152,7 +141,7 @@ is_taken fixed longest place head n before piece from next first second whole be
 pub whole_told : (n : ℕ) (all second : List ℕ) → second ≡ take n all → (length second == n) ≡ nat_le n (length all)
 whole_told n all second is = ⊎_elim
     (λ (many : n ≤ length all). let l = ap length is ∙ length-take-le n all many in eq-eqb (length second) n l ∙ sym (le-leb n (length all) many))
-    (λ (few : length all < n). let l = ap length is ∙ ap length (front_whole n all (omega arith)) in not_equal (length second) n (omega arith) ∙ sym (lt-leb n (length all) few))
+    (λ (few : length all < n). let l = ap length is ∙ ap length (take_all n all (omega arith)) in not_equal (length second) n (omega arith) ∙ sym (lt-leb n (length all) few))
     (less_or n (length all))
   where
     less_or : (a b : ℕ) → (a ≤ b) ⊎ (b < a)

@@ -5,7 +5,7 @@ ghost use Rattle.cms_fields.specs.Limits.{longest_record, most_bytes};
 ghost use Rattle.cms_records.specs.Pieces.{Begun, Takes, head_of, record_size, bytes_so_far, next_place, text_in};
 
 use crate::VarFault;
-use cms_text::bytes::half_at;
+use cms_text::bytes::{after, half_at};
 use std::alloc::{AllocError, Global};
 use std::marker::Model;
 
@@ -161,12 +161,4 @@ fn take(bytes: &mut Vec<u8>, piece: &[u8], from: usize, until: usize) -> usize
     let end = piece.len().min(from + until.saturating_sub(bytes.len()));
     bytes.extend_from_slice(&piece[from..end]).unwrap();
     end
-}
-
-// The bytes from a place on.
-fn after(bytes: &[u8], at: usize) -> &[u8]
-    requires { at ≤ length bytes.now }
-    ensures { result.now ≡ drop at bytes.now }
-{
-    &bytes[at..]
 }

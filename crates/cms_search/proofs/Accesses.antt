@@ -4,7 +4,8 @@ use Rattle.std.specs.Prelude.{⊤, ◌==◌, ◌||◌, ◌↔◌, if◌then◌el
 use Rattle.std.specs.Option.{ForSome, option_and_then, option_map_or}
 use Rattle.std.proofs.lemmas.Bool.{eqb-true}
 use Rattle.std.proofs.lemmas.List.Quantifiers.{position-Some}
-use Rattle.std.proofs.lemmas.Option.{get_or_from_slice_get, slice_get_within}
+use Rattle.std.proofs.lemmas.Option.{get_or_from_slice_get, same_Some, slice_get_within}
+use Rattle.std.proofs.lemmas.List.{length-set}
 use Rattle.cms_journal.specs.Causes.{Counted}
 use Rattle.cms_journal.specs.Journal.{HasBlocks, Journal}
 use Rattle.cms_journal.specs.Told.{Told, plus}
@@ -22,14 +23,16 @@ use Rattle.cms_machine.specs.Steps.{Access, Outcome, Good, MayAccess, ReadFault,
 use Rattle.cms_machine.specs.Acts.{Act, Done, Does}
 use Rattle.cms_machine.specs.Runs.{Ran}
 use Rattle.cms_machine.proofs.Single.{ran_still}
+use Rattle.cms_machine.proofs.Units.{get_other, get_same, other_slot, units_put}
 use Rattle.cms_world.specs.Seen.{ChangesUnits, Seen}
 use Rattle.cms_disk.specs.Disks.{Accessed, IsLeft, IsMinidisk, IsOn, IsQuiet, disk_on, synced}
 use Rattle.cms_disk.specs.declared.fault.AccessFault.{AccessFault}
 use Rattle.cms_disk.specs.declared.fault.AccessFault.TheVariants.{Sync, Open}
 use Rattle.cms_disk.specs.declared.unit.UnitInfo.{UnitInfo}
 use Rattle.cms_disk.proofs.Standing.{state_stands}
+use Rattle.cms_disk.proofs.Quieting.{firm_now}
 use Rattle.cms_search.specs.Accessing.{IsOfAccess, accessing_tree, disk_for, forgetting, opened, refused_as}
-use Rattle.cms_search.specs.Calls.{Acts, Holds, IsLater, IsSeatOf, IsUsable, IsUsableTable, Spot, Usable, at, beside, holds, itself, machine_of}
+use Rattle.cms_search.specs.Calls.{Acts, Holds, IsSeatOf, IsUsable, IsUsableTable, Spot, Usable, at, beside, holds, itself, machine_of}
 use Rattle.cms_search.specs.Held.{HoldsTable, HoldsUnit, StandsAs, disk_of as disk_of_unit}
 use Rattle.cms_search.specs.Machine.{Letter, Machine, Places, after_step}
 use Rattle.cms_search.specs.Releasing as releasing
@@ -45,15 +48,15 @@ use Rattle.cms_search.specs.declared.state.End.{End}
 use Rattle.cms_search.specs.declared.state.End.TheVariants.{Memory}
 use Rattle.cms_search.specs.declared.state.State.{State}
 use Rattle.cms_search.specs.declared.table.Seat.{Seat}
-use Rattle.cms_search.proofs.Changing.{as_many, slot_elsewhere}
 use Rattle.cms_search.proofs.Frames.{holds_touched}
-use Rattle.cms_search.proofs.Holding.{holds_some, some_same, usable_grown}
+use Rattle.cms_search.proofs.Holding.{holds_some, usable_grown}
 use Rattle.cms_search.proofs.Released.{disk_none, get_map, holds_left, letter_told, quiet_seated, unit_told, vdev_is}
 use Rattle.cms_search.proofs.Seats.{item_here}
 use Rattle.cms_search.proofs.Seating.{disk_beside, disk_seated, letters_seated}
 use Rattle.cms_search.proofs.Staying.{acts_stayed}
-use Rattle.cms_search.proofs.Sure.{IsMarked, IsSure, IsSureOutcome, firm_now, marked_as, refused_firm, state_now, sure, sure_broke, sure_line, sure_ran, sync_of, sync_own, synced_is, there_then, units_then}
-use Rattle.cms_search.proofs.Tabling.{get_set, get_set_other, item_put, item_without, length_set, table_accessed, table_marked}
+use Rattle.cms_search.proofs.Stepped.{later_changes}
+use Rattle.cms_search.proofs.Sure.{IsMarked, IsSure, IsSureOutcome, marked_as, refused_firm, state_now, sure, sure_broke, sure_line, sure_ran, sync_of, sync_own, synced_is, there_then, units_then}
+use Rattle.cms_search.proofs.Tabling.{item_put, item_without, table_accessed, table_marked}
 
 -- ---- devices and letters
 
@@ -122,7 +125,7 @@ line_of : (old : Spot) (units : List Slot) (u : ℕ) (unit : UnitInfo) (doubt : 
 line_of old units u unit doubt has mark h =
     let held = holds_some old.world.told old.state.table units h in
     let line = held.2.each u unit has in
-    let same : line.doubt ≡ doubt = some_same line.doubt doubt (sym line.marked ∙ mark) in
+    let same : line.doubt ≡ doubt = same_Some line.doubt doubt (sym line.marked ∙ mark) in
     let stands : StandsAs held.0 u unit line.slot doubt (disk_of_unit u old.state.table.seats) =
     subst (λ (b : Bool). StandsAs held.0 u unit line.slot b (disk_of_unit u old.state.table.seats)) same line.stands in
     let is = marked_as held.0 u unit line.slot doubt (disk_of_unit u old.state.table.seats) stands in
@@ -141,9 +144,6 @@ tree_is old w vdev n ext u found l units d =
     rw (placed, free, letter, there) refl
 
 -- ---- a unit whose device failed in the sync, or that wasn't in doubt
-
-later_changes : {T E : Type 0} {P : E → Type 0} {r : Result T E} (before now : Seen) → ChangesUnits before now P r → IsLater before now
-later_changes before now c = let edges = c.edges in record { grown = c.grown; faults = c.faults; edges = omega (arith, edges) }
 
 -- how a step ends that does nothing
 record Still (slot : Slot) (o : Outcome) : Type 0 where
@@ -263,13 +263,13 @@ holds_refused : (j : Journal) (units : List Slot) (t : Accesses) (u : ℕ) (unit
 holds_refused j units t u unit doubt o line h has s is stands =
     let units' = units_then units u line.slot o in
     let t' = marked u false t in
-    holds_touched j (sync_of doubt u) units units' t t' u unit (sync_own doubt u) (table_marked t u h.table) refl (as_many units u (after_access line.slot o)) has
+    holds_touched j (sync_of doubt u) units units' t t' u unit (sync_own doubt u) (table_marked t u h.table) refl (units_put units u (after_access line.slot o)) has
     (λ v apart. record {
-      slot = slot_elsewhere units u v (after_access line.slot o) apart;
-      doubt = get_set_other t.doubts u false v (λ same. apart (sym same));
+      slot = other_slot units u v (after_access line.slot o) apart;
+      doubt = get_other t.doubts u v false (λ same. apart (sym same));
       disk = refl;
     })
-    (sure_line j (sync_of doubt u) units units' t t' u unit line s (there_then units u line.slot o line.there is) (get_set t.doubts u false (doubt_within t u unit h.table has)) stands)
+    (sure_line j (sync_of doubt u) units units' t t' u unit line s (there_then units u line.slot o line.there is) (get_same t.doubts u u false (doubt_within t u unit h.table has) refl) stands)
     h
 
 abbrev state_refused : State → ℕ → State
@@ -370,13 +370,13 @@ holds_seated j units t n u unit doubt letter disk m o line h has below own s is 
     let disk_is : disk_of_unit u t'.seats ≡ Some seat = subst (λ (v : ℕ). disk_of_unit v t'.seats ≡ Some seat) own (disk_seated (marked u false t) n seat less table) in
     let stands : StandsAs (after j (sync_of doubt u)) u unit (Settled (state_in line.slot)) false (disk_of_unit u t'.seats) =
     subst (λ (x : Option Seated). StandsAs (after j (sync_of doubt u)) u unit (Settled (state_in line.slot)) false x) (sym disk_is) (m, ap Settled state, on, there) in
-    holds_touched j (sync_of doubt u) units units' (released n t) t' u unit (sync_own doubt u) table refl (as_many units u (after_access line.slot o)) has
+    holds_touched j (sync_of doubt u) units units' (released n t) t' u unit (sync_own doubt u) table refl (units_put units u (after_access line.slot o)) has
     (λ v apart. record {
-      slot = slot_elsewhere units u v (after_access line.slot o) apart;
-      doubt = get_set_other t.doubts u false v (λ same. apart (sym same));
+      slot = other_slot units u v (after_access line.slot o) apart;
+      doubt = get_other t.doubts u v false (λ same. apart (sym same));
       disk = disk_beside v n seat t.seats (λ same. apart (sym own ∙ same));
     })
-    (sure_line j (sync_of doubt u) units units' t t' u unit line s (there_then units u line.slot o line.there is) (get_set t.doubts u false (doubt_within t u unit h.table has)) stands)
+    (sure_line j (sync_of doubt u) units units' t t' u unit line s (there_then units u line.slot o line.there is) (get_same t.doubts u u false (doubt_within t u unit h.table has) refl) stands)
     (holds_left j units t n h)
 
 -- it may be used
@@ -386,9 +386,9 @@ usable_seated j t n u unit ext disk has on usable = record {
   units = usable.units;
   seats = λ a x other at' there. ⊎_elim
       (λ (h : (a ≡ n) × (Some (seat_of u unit n ext disk) ≡ Some x)).
-      let same = some_same (seat_of u unit n ext disk) x h.1 in
+      let same = same_Some (seat_of u unit n ext disk) x h.1 in
       let place : slice_get t.units u ≡ Some other = subst (λ (y : Seated). slice_get t.units y.letter.unit ≡ Some other) (sym same) there in
-      let unit_is : unit ≡ other = some_same unit other (sym has ∙ place) in
+      let unit_is : unit ≡ other = same_Some unit other (sym has ∙ place) in
       subst (λ (y : Seated). IsSeatOf other y) same (subst (λ (i : UnitInfo). IsSeatOf i (seat_of u unit n ext disk)) unit_is (record { on = on; marked = read_only ext })))
       (λ (h : (a ≢ n) × (item_at (without (λ e. e.letter.unit == u) t.seats) a ≡ Some x)). usable.seats a x other (item_without _ t.seats a x h.1).0 there)
       (item_put (without (λ e. e.letter.unit == u) t.seats) n (Some (seat_of u unit n ext disk)) a x at');
@@ -634,7 +634,7 @@ places_seated st n u vdev letter left own device none some = cases (item_at st.t
 letter_there : (t : Accesses) (n : ℕ) (s : Seated) → n < length (seated n s t).seats → has (λ x. x.letter.read_only) (item_at (seated n s t).seats n) ≡ s.letter.read_only
 letter_there t n s less =
     let xs = without (λ e. e.letter.unit == s.letter.unit) t.seats in
-    let there : item_at (seated n s t).seats n ≡ Some s = item_here xs n (Some s) (subst (λ (k : ℕ). n < k) (length_set xs n (Some s)) less) in
+    let there : item_at (seated n s t).seats n ≡ Some s = item_here xs n (Some s) (subst (λ (k : ℕ). n < k) (length-set xs n (Some s)) less) in
     rw there refl
 
 pub access_done : (old : Spot) (w : Seen) (t' : Accesses) (places : Places) (vdev n : ℕ) (ext : Option ℕ) (x : ⊤) (left : Option Seat) (read_only : Bool) → n < 26

@@ -1,8 +1,7 @@
 -- What is held after the minidisk of a disk was changed, or after the device failed in that. No command is known here.
-use Rattle.std.proofs.Common.{◌≡◌, ◌≢◌, ◌∙◌, ℕ, List, [], ◌∷◌, Bool, true, false, Option, Some, None, refl, sym, ap, subst, slice_get, length}
+use Rattle.std.proofs.Common.{◌≡◌, ◌≢◌, ◌∙◌, ℕ, List, [], ◌∷◌, Bool, true, false, Option, Some, None, refl, sym, ap, subst, slice_get}
 use Rattle.std.specs.Prelude.{option_map, unwrap_or}
-use Rattle.std.proofs.lemmas.Option.{slice_get_within}
-use Rattle.std.proofs.lemmas.List.{length-set}
+use Rattle.std.proofs.lemmas.Option.{same_Some, slice_get_within}
 use Rattle.cms_journal.specs.declared.event.Event.{Event}
 use Rattle.cms_journal.specs.declared.event.Attached.{Attached}
 use Rattle.cms_journal.specs.Causes.{Counted}
@@ -22,7 +21,7 @@ use Rattle.cms_machine.specs.Points.{Leaves, HasNowIn, HasNow}
 use Rattle.cms_machine.specs.Acts.{Act, Does}
 use Rattle.cms_machine.specs.Beats.{Covers}
 use Rattle.cms_machine.specs.Runs.{Ran}
-use Rattle.cms_machine.proofs.Units.{get_same, get_other}
+use Rattle.cms_machine.proofs.Units.{get_other, get_same, other_slot, units_put}
 use Rattle.cms_machine.proofs.Single.{ran_step}
 use Rattle.cms_line.specs.ConsoleState.{ConsoleState}
 use Rattle.cms_disk.specs.Disks.{Accessed, IsLookedAt, IsMinidisk, IsOn, disk_on}
@@ -34,24 +33,15 @@ use Rattle.cms_search.specs.Held.{HoldsTable, IsDoubtSlot, StandsAs, disk_of}
 use Rattle.cms_search.specs.Searches.{item_at}
 use Rattle.cms_search.specs.Tables.{Accesses, IsTable, Seated, doubted, seat_with}
 use Rattle.cms_search.proofs.Frames.{holds_touched}
-use Rattle.cms_search.proofs.Holding.{some_same}
 use Rattle.cms_search.proofs.Meeting.{Met}
 use Rattle.cms_search.proofs.Seats.{disk_elsewhere, disk_there, is_table_with, item_here, item_within, table_with}
-use Rattle.cms_search.proofs.Tabling.{get_set, get_set_other, table_doubted, unit_within}
+use Rattle.cms_search.proofs.Tabling.{table_doubted, unit_within}
 
 -- ---- slots
 
 pub slot_there : (units : List Slot) (u : ℕ) (old : Slot) (new : Option Slot) → slice_get units u ≡ Some old → slice_get (put_slot units u new) u ≡ Some (unwrap_or new old)
 slot_there units u old None there = there
 slot_there units u old (Some new) there = get_same units u u new (slice_get_within units u old there) refl
-
-pub slot_elsewhere : (units : List Slot) (u v : ℕ) (new : Option Slot) → u ≢ v → slice_get (put_slot units u new) v ≡ slice_get units v
-slot_elsewhere units u v None other = refl
-slot_elsewhere units u v (Some new) other = get_other units u v new (λ e. other (sym e))
-
-pub as_many : (units : List Slot) (u : ℕ) (new : Option Slot) → length (put_slot units u new) ≡ length units
-as_many units u None = refl
-as_many units u (Some new) = length-set units u new
 
 -- the slot of the unit after its minidisk was changed
 abbrev pub changed_slot : ℕ → Minidisk → Change → Stamp → Outcome → Slot
@@ -74,14 +64,15 @@ IsNow told u m change stamp o = (x : State) → HasNow told u x → state_in (ch
 state_seen : (j : Journal) (d : Accessed) (x y : State) → IsLookedAt j d → state_of d.volume.disk (now j d.volume.unit) ≡ y → HasNowIn j d.volume.unit x → y ≡ x
 state_seen j d x y looked state has = sym state ∙ ap (λ (k : volumes.Disk). state_of k (now j d.volume.unit)) (sym (looked has.unit has.attached)) ∙ has.state
 
-told_after : (old new : Told) (j : Journal) (es : List Event) → old ≡ Some j → new ≡ plus old es → new ≡ Some (after j es)
+-- a journal that is told has grown by a piece
+pub told_after : (old new : Told) (j : Journal) (es : List Event) → old ≡ Some j → new ≡ plus old es → new ≡ Some (after j es)
 told_after old new j es is grown = grown ∙ ap (λ (t : Told). plus t es) is ∙ plus-some j es
 
 -- its unit is looked at as before
 pub looked_changed : (old new : Told) (j later : Journal) (d e : Accessed) (es : List Event) → old ≡ Some j → new ≡ Some later → new ≡ plus old es
     → e.volume.unit ≡ d.volume.unit → e.volume.disk ≡ d.volume.disk → IsLookedAt j d → IsLookedAt later e
 looked_changed old new j later d e es is told' told same disk looked unit has =
-    let journal : later ≡ after j es = some_same later (after j es) (sym told' ∙ told_after old new j es is told) in
+    let journal : later ≡ after j es = same_Some later (after j es) (sym told' ∙ told_after old new j es is told) in
     let units : later.units ≡ j.units = ap (λ (i : Journal). i.units) journal in
     let there : slice_get j.units e.volume.unit ≡ Some unit = ap (λ (us : List Attached). slice_get us e.volume.unit) (sym units) ∙ has in
     looked unit (subst (λ (v : ℕ). slice_get j.units v ≡ Some unit) same there) ∙ sym disk
@@ -112,8 +103,8 @@ holds_changed old new j units t t' s met change stamp o is h c now' table same o
     let l = leaves (after j es) told in
     let line = met.line in
     rw told
-    (holds_touched j es units (changed_units units u m change stamp o) t t' u met.unit c.of_unit table same (as_many units u (new_slot (Put u m change stamp) o)) met.has
-    (λ v apart. record { slot = slot_elsewhere units u v (new_slot (Put u m change stamp) o) apart; doubt = (others v apart).0; disk = (others v apart).1 })
+    (holds_touched j es units (changed_units units u m change stamp o) t t' u met.unit c.of_unit table same (units_put units u (new_slot (Put u m change stamp) o)) met.has
+    (λ v apart. record { slot = other_slot units u v (new_slot (Put u m change stamp) o) apart; doubt = (others v apart).0; disk = (others v apart).1 })
     (record {
       number = line.number;
       blocks = line.blocks;
@@ -144,7 +135,7 @@ others_with : (t : Accesses) (n : ℕ) (s : Seated) (e : Accessed) → IsTable t
 others_with t n s e is at v apart = (
   refl,
   disk_elsewhere t.seats n s (Some (seat_with s e)) v is.once (is_table_with t n s e is at).once at
-      (λ x same. ap (λ (y : Seated). y.letter.unit) (sym (some_same (seat_with s e) x same))) apart,
+      (λ x same. ap (λ (y : Seated). y.letter.unit) (sym (same_Some (seat_with s e) x same))) apart,
 )
 
 there_with : (t : Accesses) (n : ℕ) (s : Seated) (e : Accessed) → IsTable t → item_at t.seats n ≡ Some s → disk_of s.letter.unit (table_with t n s e).seats ≡ Some (seat_with s e)
@@ -172,7 +163,7 @@ holds_with j units t n s e met at same there h =
     let t' = table_with t n s e in
     let l = then_minidisk j j units t n s e met (Settled (Volume met.minidisk)) met.minidisk h.table at same refl there in
     let line = met.line in
-    let slot : line.slot ≡ Settled (Volume met.minidisk) = some_same line.slot (Settled (Volume met.minidisk)) (sym line.there ∙ met.slot) in
+    let slot : line.slot ≡ Settled (Volume met.minidisk) = same_Some line.slot (Settled (Volume met.minidisk)) (sym line.there ∙ met.slot) in
     holds_touched j [] units units t t' u met.unit tt (is_table_with t n s e h.table at) refl refl met.has
     (λ v apart. record { slot = refl; doubt = refl; disk = (others_with t n s e h.table at v apart).1 })
     (record {
@@ -195,7 +186,7 @@ holds_with j units t n s e met at same there h =
 
 others_doubted : (t : Accesses) (n : ℕ) (s : Seated) → IsTable t → item_at t.seats n ≡ Some s → KeepsOthers t (doubted n s.letter.unit t) s.letter.unit
 others_doubted t n s is at v apart = (
-  get_set_other t.doubts s.letter.unit true v (λ same. apart (sym same)),
+  get_other t.doubts s.letter.unit v true (λ same. apart (sym same)),
   disk_elsewhere t.seats n s None v is.once (table_doubted t n s is at).once at (λ x same. absurd (cc)) apart,
 )
 
@@ -203,7 +194,7 @@ then_doubt : (j later : Journal) (units : List Slot) (t : Accesses) (n : ℕ) (s
     → IsWhole (disk_on met.unit) (now later s.letter.unit) → IsDoubtSlot slot → IsThen j later units t (doubted n s.letter.unit t) s met slot
 then_doubt j later units t n s met slot is at whole doubt = record {
   doubt = true;
-  marked = get_set t.doubts s.letter.unit true (unit_within t n s is at);
+  marked = get_same t.doubts s.letter.unit s.letter.unit true (unit_within t n s is at) refl;
   whole = whole;
   stands = doubt;
 }
@@ -236,7 +227,7 @@ steps_with old new j later units t n s e met change stamp o m is told h at same 
       now' = now';
       holds = holds_changed old new j units t (table_with t n s e) s met change stamp o is h changes now' (is_table_with t n s e h.table at) refl (others_with t n s e h.table at)
           (λ k told'. then_minidisk j k units t n s e met (changed_slot u met.minidisk change stamp o) m h.table at same slot
-          (subst (λ (i : Journal). IsMinidisk i e m) (some_same later k (sym told ∙ told')) there));
+          (subst (λ (i : Journal). IsMinidisk i e m) (same_Some later k (sym told ∙ told')) there));
     }
 
 -- it is done

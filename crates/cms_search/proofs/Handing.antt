@@ -1,11 +1,12 @@
 -- A file that is read record by record, as a device step: what is done with each record is done while they are handed out, and how the step
 -- ends is known at the end. No command is known here.
-use Rattle.std.proofs.Common.{◌≡◌, ◌+◌, ◌-◌, ◌≤◌, ℕ, zero, suc, List, [], ◌∷◌, ◌++◌, take, drop, length, slice_get, Bool, None, Option, Some, Result, Ok, Err, true, false, inl, inr, pos, append-nil, refl, ap, sym, ◌∙◌, subst, arith}
+use Rattle.std.proofs.Common.{◌≡◌, ◌+◌, ◌-◌, ◌≤◌, ◌⊎◌, ℕ, zero, suc, List, [], ◌∷◌, ◌++◌, take, drop, length, slice_get, Bool, None, Option, Some, Result, Ok, Err, true, false, inl, inr, pos, append-nil, refl, ap, sym, ◌∙◌, subst, arith}
 use Rattle.std.proofs.Math.Seq.{take-append_seam, take-append-add}
 use Rattle.std.proofs.lemmas.Bool.{cases_Bool}
 use Rattle.std.proofs.lemmas.List.{append_assoc, length-replicate, length-take-le, take-append-drop}
 use Rattle.std.specs.Prelude.{IfOk, IfErr, nat_le, nat_lt, replicate}
 use Rattle.std.specs.Option.{ForSome}
+use Rattle.std.proofs.lemmas.Option.{same_Some}
 use Rattle.cms_journal.specs.Causes.{Rose, Counted}
 use Rattle.cms_journal.specs.Journal.{Journal, HasBlocks, contents_of}
 use Rattle.cms_journal.specs.Told.{Told, Idle, plus}
@@ -40,7 +41,7 @@ use Rattle.cms_line.specs.declared.message.Message.TheVariants.{M105}
 use Rattle.cms_disk.specs.Disks.{OpensIn, StartsAt}
 use Rattle.cms_disk.specs.declared.unit.UnitInfo.{UnitInfo}
 use Rattle.cms_disk.specs.declared.fault.DiskFault.{DiskFault}
-use Rattle.cms_disk.specs.declared.fault.DiskFault.TheVariants.{Altered}
+use Rattle.cms_disk.specs.declared.fault.DiskFault.TheVariants.{Altered, Device}
 use Rattle.cms_search.specs.declared.state.End.{End}
 use Rattle.cms_search.specs.declared.state.End.TheVariants.{Edge}
 use Rattle.cms_search.specs.declared.state.State.{State}
@@ -48,11 +49,13 @@ use Rattle.cms_search.specs.declared.state.Course as declared
 use Rattle.cms_search.specs.declared.state.Course.TheVariants as course
 use Rattle.cms_search.specs.Calls.{Spot, Meaning, IsLater, IsUsable, Usable, Does, Acts, Comes, after_world, at, holds, course_of, refusal_tree, said}
 use Rattle.cms_search.specs.Machine.{Course}
+use Rattle.cms_search.specs.Refusing.{unread_code, unread_message}
 use Rattle.cms_search.specs.Searches.{item_at}
+use Rattle.cms_search.specs.Stepping.{HasRead}
 use Rattle.cms_search.specs.Tables.{Accesses, Seated}
 use Rattle.cms_search.specs.Telling.{device_text}
-use Rattle.cms_world.specs.Seen.{Seen}
-use Rattle.cms_search.proofs.Holding.{some_same, holds_idle}
+use Rattle.cms_world.specs.Seen.{OnlyReads, Seen}
+use Rattle.cms_search.proofs.Holding.{holds_idle}
 use Rattle.cms_search.proofs.Acts.{acts_after, rose_from, later_none, later_then, later_does, refused, usable_later}
 use Rattle.cms_search.proofs.Meeting.{meets_at, readable_seat}
 
@@ -79,19 +82,22 @@ passes_then before mid now a b = record {
 pub passes_does : {R T : Type 0} (before now : Seen) (t : Act R) (r : Result T End) (d : T → R) → Does before now t r d → Passes before now
 passes_does before now t r d does = record { idle = does.idle; later = later_does before now t r d does }
 
--- units were read alone: the journal is as before
-pub record IsRead (before now : Seen) : Type 0 where
-  pub told : now.told ≡ before.told
-  pub faults : before.faults ≤ now.faults
-  pub edges : now.edges ≡ before.edges
+-- units were read alone
+pub later_read : (before now : Seen) → HasRead before now → IsLater before now
+later_read before now r = let edges = r.edges in record { grown = grown_same before.told now.told r.told; faults = r.faults; edges = omega arith }
 
-pub passes_read : (before now : Seen) → IsRead before now → Passes before now
-passes_read before now r =
-    let same = r.edges in
-    record {
-      idle = idle_same before.told now.told r.told;
-      later = record { grown = grown_same before.told now.told r.told; faults = r.faults; edges = omega arith };
-    }
+pub passes_read : (before now : Seen) → HasRead before now → Passes before now
+passes_read before now r = record { idle = idle_same before.told now.told r.told; later = later_read before now r }
+
+-- a call that only reads does so
+pub only_read : {T E : Type 0} (before now : Seen) (device : E) (r : Result T E) → OnlyReads before now device r → HasRead before now
+only_read before now device r reads = record { told = reads.told; faults = reads.faults; edges = reads.edges }
+
+pub reads_none : (s : Seen) → HasRead s s
+reads_none s = record { told = refl; faults = omega arith; edges = refl }
+
+pub reads_then : (a b c : Seen) → HasRead a b → HasRead b c → HasRead a c
+reads_then a b c x y = record { told = y.told ∙ x.told; faults = (let f = x.faults in let g = y.faults in omega arith); edges = y.edges ∙ x.edges }
 
 -- ---- what is done with records
 
@@ -133,7 +139,7 @@ pub open_idle : (old new : Told) (c : Reading) → Idle old new → IsOpen old c
 open_idle None new c idle has = let e : new ≡ None = idle.told ∙ plus-none idle.events in rw e (λ j f. absurd (cc))
 open_idle (Some i) new c idle has =
     let e : new ≡ Some (after i idle.events) = idle.told ∙ plus-some i idle.events in
-    rw e (λ j f. let same : after i idle.events ≡ j = some_same _ _ f in rw (← same) (has i refl))
+    rw e (λ j f. let same : after i idle.events ≡ j = same_Some _ _ f in rw (← same) (has i refl))
 
 pub open_same : (told : Told) (c d : Reading) → SameFile c d → IsOpen told c → IsOpen told d
 open_same told c d same has j is =
@@ -249,7 +255,7 @@ at_same old new units same = rw same refl
 holds_same : (old new : Spot) (units : List Slot) → new.state ≡ old.state → Passes old.world new.world → holds old units → holds new units
 holds_same old new units same passes h = rw same (holds_idle old.world.told new.world.told old.state.table units passes.idle h)
 
-read_on : {R : Type 0} (before mid now : Seen) (t u : Act R) → Goes before mid t u → IsRead mid now → Goes before now t u
+read_on : {R : Type 0} (before mid now : Seen) (t u : Act R) → Goes before mid t u → HasRead mid now → Goes before now t u
 read_on before mid now t u goes read p journal = let told = read.told in rw told (goes p journal)
 
 -- those that are wanted, where these are handed out and no more are wanted
@@ -259,7 +265,7 @@ wanted_are n all front more is long = ap (λ (k : ℕ). take k all) long ∙ (ap
 -- so many as are wanted were handed out
 module _ {R : Type 0} (run : ℕ → List (List ℕ) → Act R → Act R) (old mid new : Spot) (first c : Reading) (t : List Slot → Act R) (u : ℕ) (wanted : File → ℕ)
     (then' : List Slot → File → Outcome → Act R) (rest : List Slot → Act R) (reads : Reads old first t u wanted then') (h : Handed run old.world mid.world first c) where
-  read_so : IsRead mid.world new.world → new.state ≡ old.state → ((units : List Slot) (held : holds old units) → wanted (reads.each units held).file ≡ length h.front)
+  read_so : HasRead mid.world new.world → new.state ≡ old.state → ((units : List Slot) (held : holds old units) → wanted (reads.each units held).file ≡ length h.front)
       → ((units : List Slot) (f : File) → then' units f Good ≡ run 0 (take (wanted f) f.records) (rest units)) → Comes old new t rest
   read_so read same long is =
       let passes = passes_then old.world mid.world new.world h.passes (passes_read mid.world new.world read) in
@@ -279,7 +285,7 @@ module _ {R : Type 0} (run : ℕ → List (List ℕ) → Act R → Act R) (old m
       }
 
   -- no more are wanted
-  pub read_wanted : IsRead mid.world new.world → new.state ≡ old.state → AreAll wanted h.front
+  pub read_wanted : HasRead mid.world new.world → new.state ≡ old.state → AreAll wanted h.front
       → ((units : List Slot) (f : File) → then' units f Good ≡ run 0 (take (wanted f) f.records) (rest units)) → Comes old new t rest
   read_wanted read same all is = read_so read same
       (λ units held.
@@ -288,7 +294,7 @@ module _ {R : Type 0} (run : ℕ → List (List ℕ) → Act R → Act R) (old m
       all r.file s.more s.is) is
 
   -- no more are there
-  pub read_all : (d : Reading) → Hands mid.world.told c d (Ok false) → IsRead mid.world new.world → new.state ≡ old.state
+  pub read_all : (d : Reading) → Hands mid.world.told c d (Ok false) → HasRead mid.world new.world → new.state ≡ old.state
       → ((f : File) → f.records ≡ h.front → wanted f ≡ length h.front)
       → ((units : List Slot) (f : File) → then' units f Good ≡ run 0 (take (wanted f) f.records) (rest units)) → Comes old new t rest
   read_all d hands read same all is = read_so read same
@@ -299,7 +305,7 @@ module _ {R : Type 0} (run : ℕ → List (List ℕ) → Act R → Act R) (old m
       all r.file (s.is ∙ (ap (λ (more : List (List ℕ)). h.front ++ more) none.0 ∙ append-nil h.front))) is
 
   -- the device failed after some of them
-  pub read_fault : IsRead mid.world new.world → Rose mid.world.faults new.world.faults → new.state ≡ old.state → AreAmong wanted h.front
+  pub read_fault : HasRead mid.world new.world → Rose mid.world.faults new.world.faults → new.state ≡ old.state → AreAmong wanted h.front
       → ((units : List Slot) (f : File) (k : ℕ) → then' units f (ReadFault k) ≡ run 0 (take k f.records) (rest units)) → Comes old new t rest
   read_fault read rose same among is =
       let passes = passes_then old.world mid.world new.world h.passes (passes_read mid.world new.world read) in
@@ -366,8 +372,27 @@ read_stops run one old mid new first c d t u wanted then' rest e done each reads
       cause = λ edge. rose_from old.world.edges mid.world.edges new.world.edges h.passes.later.edges (cause edge);
     }
 
+-- ---- calls that no journal that is told allows
+
+pub acts_never : {R T : Type 0} (old new : Spot) (t : List Slot → Act R) (r : Result T End) (d : Meaning T R) → ((units : List Slot) → holds old units → ⊥)
+    → IsLater old.world new.world → (IsUsable old → IsUsable new) → IfErr r (λ e. e ≡ Edge → Rose old.world.edges new.world.edges) → Acts old new t r d
+acts_never old new t (Ok x) d never later usable cause = record {
+  each = λ units held. absurd (never units held);
+  later = later;
+  usable = usable;
+  cause = tt;
+}
+acts_never old new t (Err e) d never later usable cause = record {
+  each = λ units held. absurd (never units held);
+  later = later;
+  usable = λ u. tt;
+  cause = cause;
+}
+
+-- ---- a file that can't be read any further
+
 -- the records are never found altered
-pub never_altered : {R : Type 0} (run : ℕ → List (List ℕ) → Act R → Act R) (old mid : Spot) (first c d : Reading) (t : List Slot → Act R) (u : ℕ) (wanted : File → ℕ)
+never_altered : {R : Type 0} (run : ℕ → List (List ℕ) → Act R → Act R) (old mid : Spot) (first c d : Reading) (t : List Slot → Act R) (u : ℕ) (wanted : File → ℕ)
     (then' : List Slot → File → Outcome → Act R) → Reads old first t u wanted then' → Handed run old.world mid.world first c → Hands mid.world.told c d (Err Altered)
     → (units : List Slot) → holds old units → ⊥
 never_altered run old mid first c d t u wanted then' reads h hands units held =
@@ -375,17 +400,41 @@ never_altered run old mid first c d t u wanted then' reads h hands units held =
     let s = h.left r.journal r.told r.file.records r.left in
     hands_first run old.world mid.world first c d (Err Altered) h hands r.journal r.told s.more s.left
 
--- the device failed so, its message was typed, and the command ended
-pub read_failed : (run : ℕ → List (List ℕ) → Act Course → Act Course) (old mid read' new : Spot) (first c : Reading) (t : List Slot → Act Course) (u : ℕ) (wanted : File → ℕ)
-    (vdev : ℕ) (then' : List Slot → File → Outcome → Act Course) (r : Result declared.Course End) → Reads old first t u wanted then'
-    → (h : Handed run old.world mid.world first c) → IsRead mid.world read'.world → Rose mid.world.faults read'.world.faults → read'.state ≡ old.state → AreAmong wanted h.front
-    → ((units : List Slot) (f : File) (k : ℕ) → then' units f (ReadFault k) ≡ run 0 (take k f.records) (refusal_tree read'.state (M105 (device_text vdev)) (pos 100) units))
-    → Does read'.world new.world (saying (typed_line (message_text (M105 (device_text vdev))))) r said → IfOk r (λ x. x ≡ course.Went (pos 100)) → new.state ≡ read'.state
-    → Acts old new t r (course_of new.state)
-read_failed run old mid read' new first c t u wanted vdev then' r reads h read rose same among is does went still =
-    acts_after old read' new t (refusal_tree read'.state (M105 (device_text vdev)) (pos 100)) r (course_of new.state)
-    (read_fault run old mid read' first c t u wanted then' (refusal_tree read'.state (M105 (device_text vdev)) (pos 100)) reads h read rose same among is)
-    (refused read' new (M105 (device_text vdev)) (pos 100) r does went still)
+-- a count that has risen since has risen
+caused : {T : Type 0} (before mid now : ℕ) (r : Result T End) → before ≤ mid → IfErr r (λ e. e ≡ Edge → Rose mid now) → IfErr r (λ e. e ≡ Edge → Rose before now)
+caused before mid now (Ok x) low h = tt
+caused before mid now (Err e) low h = λ edge. rose_from before mid now low (h edge)
+
+module _ (run : ℕ → List (List ℕ) → Act Course → Act Course) (old mid read' new : Spot) (first c d : Reading) (t : List Slot → Act Course) (u : ℕ) (wanted : File → ℕ) (vdev : ℕ)
+    (then' : List Slot → File → Outcome → Act Course) (r : Result declared.Course End) (reads : Reads old first t u wanted then') (h : Handed run old.world mid.world first c)
+    (read : HasRead mid.world read'.world) (same : read'.state ≡ old.state) (still : new.state ≡ read'.state) where
+  -- the device failed
+  read_failed : Rose mid.world.faults read'.world.faults → AreAmong wanted h.front
+      → ((units : List Slot) (f : File) (k : ℕ) → then' units f (ReadFault k) ≡ run 0 (take k f.records) (refusal_tree read'.state (M105 (device_text vdev)) (pos 100) units))
+      → Does read'.world new.world (saying (typed_line (message_text (M105 (device_text vdev))))) r said → IfOk r (λ x. x ≡ course.Went (pos 100)) → Acts old new t r (course_of new.state)
+  read_failed rose among is does went =
+      acts_after old read' new t (refusal_tree read'.state (M105 (device_text vdev)) (pos 100)) r (course_of new.state)
+      (read_fault run old mid read' first c t u wanted then' (refusal_tree read'.state (M105 (device_text vdev)) (pos 100)) reads h read rose same among is)
+      (refused read' new (M105 (device_text vdev)) (pos 100) r does went still)
+
+  -- the bytes turned out to be no records: never where the journal is told
+  read_altered : Hands mid.world.told c d (Err Altered) → IsLater read'.world new.world → IfErr r (λ e. e ≡ Edge → Rose read'.world.edges new.world.edges)
+      → Acts old new t r (course_of new.state)
+  read_altered hands later cause =
+      let to_read = later_then old.world mid.world read'.world h.passes.later (later_read mid.world read'.world read) in
+      let all = later_then old.world read'.world new.world to_read later in
+      acts_never old new t r (course_of new.state) (never_altered run old mid first c d t u wanted then' reads h hands) all
+      (usable_later old new all (ap (λ (s : State). s.table) (still ∙ same))) (caused old.world.edges read'.world.edges new.world.edges r to_read.edges cause)
+
+  -- either of them: its message was typed, and the command ended
+  pub unread_ends : (why : DiskFault) → (why ≡ Device) ⊎ (why ≡ Altered) → Hands mid.world.told c d (Err why) → (why ≡ Device → Rose mid.world.faults read'.world.faults)
+      → AreAmong wanted h.front
+      → ((units : List Slot) (f : File) (k : ℕ) → then' units f (ReadFault k) ≡ run 0 (take k f.records) (refusal_tree read'.state (M105 (device_text vdev)) (pos 100) units))
+      → Does read'.world new.world (saying (typed_line (message_text (unread_message why vdev)))) r said → IfOk r (λ x. x ≡ course.Went (pos (unread_code why)))
+      → Acts old new t r (course_of new.state)
+  unread_ends why (inl device) hands rose among is does went = read_failed (rose device) among is (rw device at does) (rw device at went)
+  unread_ends why (inr altered) hands rose among is does went =
+      read_altered (rw altered at hands) (later_does read'.world new.world (saying (typed_line (message_text (unread_message why vdev)))) r said does) does.cause
 
 -- ---- nothing is done with a record alone
 
@@ -439,7 +488,7 @@ narrowed old mid first c t u wanted then' rest reads h same = record {
 hold_fixed : (bsize : ℕ) (fixed : Option ℕ) (size most left place : ℕ) (bytes : List ℕ) (rs : List (List ℕ)) → fixed ≡ Some size → HoldLeft bsize fixed most left place bytes rs
     → rs ≡ cut left size bytes
 hold_fixed bsize None size most left place bytes rs is h = absurd (cc is)
-hold_fixed bsize (Some n) size most left place bytes rs is h = h.0 ∙ ap (λ (k : ℕ). cut left k bytes) (some_same n size is)
+hold_fixed bsize (Some n) size most left place bytes rs is h = h.0 ∙ ap (λ (k : ℕ). cut left k bytes) (same_Some n size is)
 
 fixed_left : (image : Image) (c : Reading) (size : ℕ) (records : List (List ℕ)) → c.begun.fixed ≡ Some size → HasLeft image c records → records ≡ cut c.left size (unread image c)
 fixed_left image c size records fixed h = hold_fixed c.bsize c.begun.fixed size c.begun.longest c.left _ (unread image c) records fixed h.held
@@ -508,7 +557,7 @@ pub named_so : (name : Name) (fs : List File) (f : File) → file_named name fs 
 unfolding file_named
 named_so name [] f is = absurd (cc)
 named_so name (g ∷ fs) f is = elim (cases_Bool (same_name name g.name)) [
-  | inl same ↦ let e : Some g ≡ Some f = rw same at is in let there : g ≡ f = some_same g f e in sym (ap (λ (x : File). x.name) there) ∙ sym (name_from name g.name same)
+  | inl same ↦ let e : Some g ≡ Some f = rw same at is in let there : g ≡ f = same_Some g f e in sym (ap (λ (x : File). x.name) there) ∙ sym (name_from name g.name same)
   | inr other ↦ named_so name fs f (rw other at is)
 ]
 
@@ -546,20 +595,3 @@ open_seat told t n s unit name first there has starts usable j is =
     let total = starts.first.total in
     let bsize = starts.first.bsize in
     rw (at, total, bsize) (readable_seat told t n s unit there has usable j is)
-
--- ---- calls that no journal that is told allows
-
-pub acts_never : {R T : Type 0} (old new : Spot) (t : List Slot → Act R) (r : Result T End) (d : Meaning T R) → ((units : List Slot) → holds old units → ⊥)
-    → IsLater old.world new.world → (IsUsable old → IsUsable new) → IfErr r (λ e. e ≡ Edge → Rose old.world.edges new.world.edges) → Acts old new t r d
-acts_never old new t (Ok x) d never later usable cause = record {
-  each = λ units held. absurd (never units held);
-  later = later;
-  usable = usable;
-  cause = tt;
-}
-acts_never old new t (Err e) d never later usable cause = record {
-  each = λ units held. absurd (never units held);
-  later = later;
-  usable = λ u. tt;
-  cause = cause;
-}

@@ -1,5 +1,6 @@
 -- What a journal holds, after events that leave every unit alone.
 use Rattle.std.proofs.Common.{◌≡◌, List, Some, None, refl, ◌∙◌}
+use Rattle.std.proofs.lemmas.Option.{same_Some}
 use Rattle.cms_journal.specs.declared.event.Event.{Event}
 use Rattle.cms_journal.specs.Journal.{Journal}
 use Rattle.cms_journal.specs.Told.{Told, NoDisk, Idle, Grown}
@@ -32,9 +33,6 @@ pub holds_some : (told : Told) (t : Accesses) (units : List Slot) → Holds told
 holds_some None t units h = absurd h
 holds_some (Some j) t units h = (j, refl, h)
 
-pub some_same : {A : Type 0} (x y : A) → Some x ≡ Some y → x ≡ y
-some_same x y e = cc
-
 -- ---- what may be called
 
 usable_after : (j : Journal) (piece : List Event) (t : Accesses) → IsUsableTable j t → IsUsableTable (after j piece) t
@@ -48,4 +46,4 @@ pub usable_grown : (old new : Told) (t : Accesses) → Grown old new → Usable 
 usable_grown None new t grown usable = let e : new ≡ None = grown.told ∙ plus-none grown.events in rw e (λ j f. absurd (cc))
 usable_grown (Some i) new t grown usable =
     let e : new ≡ Some (after i grown.events) = grown.told ∙ plus-some i grown.events in
-    rw e (λ j f. let same : after i grown.events ≡ j = some_same _ _ f in rw (← same) (usable_after i grown.events t (usable i refl)))
+    rw e (λ j f. let same : after i grown.events ≡ j = same_Some _ _ f in rw (← same) (usable_after i grown.events t (usable i refl)))

@@ -1,3 +1,4 @@
+pub mod Machines
 pub mod Holding
 pub mod Acts
 pub mod Says

@@ -9,7 +9,7 @@ use Rattle.cms_machine.specs.Runs.{Ran}
 use Rattle.cms_machine.specs.Slots.{Slot}
 use Rattle.cms_machine.proofs.Join.{broke_bind, broke_then, ran_bind, ran_none, ran_then}
 use Rattle.cms_world.specs.Seen.{Seen}
-use Rattle.cms_search.specs.Calls.{Acts, Does, Spot, after_world, course_of, machine_of, said}
+use Rattle.cms_search.specs.Calls.{Acts, Does, Spot, after_world, course_of, itself, machine_of, said}
 use Rattle.cms_search.specs.Machine.{Course, Went, typing}
 use Rattle.cms_search.specs.declared.state.Course as declared
 use Rattle.cms_search.specs.declared.state.Course.TheVariants as course
@@ -95,6 +95,17 @@ does_said before now t x y d = record { each = d.each; idle = d.idle; faults = d
 
 pub does_unsaid : {T U : Type 0} (before now : Seen) (t : Act (Unit {0})) (e : End) → Does {T = T} before now t (Err e) said → Does {T = U} before now t (Err e) said
 does_unsaid before now t e d = record { each = d.each; idle = d.idle; faults = d.faults; edges = d.edges; cause = d.cause }
+
+-- one line is typed, by a call that types it
+pub said_one : (before now : Seen) (line : List ℕ) (lines : List (List ℕ)) (r : Result (Unit {0}) End) → lines ≡ line ∷ [] → Does before now (saying (typed_line line)) r itself
+    → Does before now (typing lines nothing) r said
+said_one before now line lines (Ok x) is d =
+    subst (λ (l : List (List ℕ)). Does before now (typing l nothing) (Ok x) said) (sym is)
+    (subst (λ (a : Act (Unit {0})). Does before now a (Ok x) said) (sym (typing_one line)) (record { each = d.each; idle = d.idle; faults = d.faults; edges = d.edges; cause = tt }))
+said_one before now line lines (Err e) is d =
+    subst (λ (l : List (List ℕ)). Does {T = Unit {0}} before now (typing l nothing) (Err e) said) (sym is)
+    (subst (λ (a : Act (Unit {0})). Does {T = Unit {0}} before now a (Err e) said) (sym (typing_one line))
+    (record { each = d.each; idle = d.idle; faults = d.faults; edges = d.edges; cause = d.cause }))
 
 -- ---- a command that only types
 

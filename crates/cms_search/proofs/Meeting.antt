@@ -2,6 +2,7 @@
 use Rattle.std.proofs.Common.{◌≡◌, ◌∙◌, ℕ, List, Option, Some, Bool, false, slice_get, refl, sym, ap, subst, arith}
 use Rattle.std.specs.Prelude.{option_map}
 use Rattle.std.specs.Option.{ForSome}
+use Rattle.std.proofs.lemmas.Option.{same_Some}
 use Rattle.cms_journal.specs.Journal.{Journal}
 use Rattle.cms_journal.specs.Told.{Told}
 use Rattle.cms_model.specs.LawsUpdates.{now}
@@ -14,7 +15,7 @@ use Rattle.cms_search.specs.Held.{HoldsTable, HoldsUnit, StandsAs, disk_of}
 use Rattle.cms_search.specs.Searches.{item_at}
 use Rattle.cms_search.specs.Shows.{Shows}
 use Rattle.cms_search.specs.Tables.{Accesses, Seated, letters_in}
-use Rattle.cms_search.proofs.Holding.{holds_some, some_same}
+use Rattle.cms_search.proofs.Holding.{holds_some}
 use Rattle.cms_search.proofs.Searching.{item_at_map}
 use Rattle.cms_search.proofs.Seats.{disk_there}
 use Rattle.cms_search.proofs.Tabling.{get_some, unit_within}
@@ -37,7 +38,7 @@ meets j units t n s h at =
     let long = h.table.doubts in
     let unit = get_some t.units s.letter.unit (omega (arith, within, long)) in
     let line = h.each s.letter.unit unit.0 unit.1 in
-    let sure : line.doubt ≡ false = some_same line.doubt false (sym line.marked ∙ h.table.sure n s at) in
+    let sure : line.doubt ≡ false = same_Some line.doubt false (sym line.marked ∙ h.table.sure n s at) in
     let seat = disk_there t.seats n s h.table.once at in
     let stands : StandsAs j s.letter.unit unit.0 line.slot false (Some s) =
     subst (λ (x : Option Seated). StandsAs j s.letter.unit unit.0 line.slot false x) seat

@@ -4,6 +4,8 @@ use Rattle.std.specs.Prelude.{Bool, true, false, cond, not, ◌==◌, position, 
 use Rattle.std.specs.List.{prefix_len}
 use Rattle.std.specs.Option.{option_map, option_map_or}
 use Rattle.std.proofs.lemmas.Bool.Decides.{eqb_tells}
+use Rattle.std.proofs.lemmas.List.{length-map}
+use Rattle.std.proofs.lemmas.Option.{same_Some}
 use Rattle.cms_journal.specs.Journal.{Journal}
 use Rattle.cms_machine.specs.Slots.{Slot}
 use Rattle.cms_model.specs.Volumes.{Disk}
@@ -23,10 +25,7 @@ use Rattle.cms_search.specs.declared.state.State.{State}
 use Rattle.cms_search.specs.declared.state.Device.{Device}
 use Rattle.cms_search.proofs.Searching.{item_at_map}
 use Rattle.cms_search.proofs.Seats.{disk_there, letters_cleared}
-use Rattle.cms_search.proofs.Tabling.{length_mapped, stays, table_released}
-
-some_same : {A : Type 0} (a b : A) → Some a ≡ Some b → a ≡ b
-some_same a b e = cc e
+use Rattle.cms_search.proofs.Tabling.{stays, table_released}
 
 -- ---- lists
 
@@ -45,7 +44,7 @@ prefix_map f p (x ∷ xs) = cases (p (f x)) (prefix_map f p xs)
     cases false h = ap (λ (k : ℕ). 1 + k) h
 
 pub position_map : {A B : Type 0} (f : A → B) (p : B → Bool) (xs : List A) → position p (map f xs) ≡ position (λ x. p (f x)) xs
-position_map f p xs = rw (prefix_map f p xs, length_mapped f xs) refl
+position_map f p xs = rw (prefix_map f p xs, length-map xs f) refl
 
 prefix_letters : (u : ℕ) (seats : List (Option Seated))
     → prefix_len (λ x. not (has (λ (d : Letter). d.unit == u) x)) (letters_in seats) ≡ prefix_len (λ x. not (has (λ (s : Seated). s.letter.unit == u) x)) seats
@@ -62,7 +61,7 @@ prefix_letters u (Some s ∷ seats) = cases (s.letter.unit == u) (prefix_letters
 
 -- the letter of a unit is that of its seat
 pub letter_seated : (u : ℕ) (seats : List (Option Seated)) → letter_with u (letters_in seats) ≡ position (has (λ s. s.letter.unit == u)) seats
-letter_seated u seats = rw (prefix_letters u seats, length_mapped (λ (x : Option Seated). option_map (λ s. s.letter) x) seats) refl
+letter_seated u seats = rw (prefix_letters u seats, length-map seats (λ (x : Option Seated). option_map (λ s. s.letter) x)) refl
 
 -- the unit of a device is the table's
 pub unit_told : (vdev : ℕ) (units : List UnitInfo) → unit_with vdev (map device_of units) ≡ place_of_device vdev units
@@ -183,7 +182,7 @@ stands_left j u unit slot false t n number is mark stands = cases (item_at t.sea
           subst (λ (d : Option Seated). StandsAs j u unit slot false d) (sym gone)
           (quiet_seated j u unit slot s number (subst (λ (d : Option Seated). StandsAs j u unit slot false d) own stands))
       | inr other ↦
-          let e = disk_stays u n t.seats (λ x there same. other.1 (ap (λ (y : Seated). y.letter.unit) (some_same s x (sym at ∙ there)) ∙ same)) in
+          let e = disk_stays u n t.seats (λ x there same. other.1 (ap (λ (y : Seated). y.letter.unit) (same_Some s x (sym at ∙ there)) ∙ same)) in
           subst (λ (d : Option Seated). StandsAs j u unit slot false d) (sym e) stands
     ]
 

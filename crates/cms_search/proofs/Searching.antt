@@ -4,6 +4,7 @@ use Rattle.std.specs.Prelude.{Bool, true, false, cond, Option, Some, None, Ok, E
 use Rattle.std.specs.List.{flat_map}
 use Rattle.std.specs.Option.{option_map}
 use Rattle.std.proofs.lemmas.List.{map-append}
+use Rattle.std.proofs.lemmas.Option.{same_Some}
 use Rattle.cms_operands.specs.ReadModes.{base_of}
 use Rattle.cms_search.specs.Searches.{Listed, Shelf, Shelves, item_at, has, places_from, places_where, found_at, searched, with_extensions, letters_of_mode, first_placed}
 use Rattle.cms_search.specs.declared.fault.SearchFault.TheVariants.{NotAccessed, NotFound}
@@ -35,13 +36,10 @@ pub places_more : {A : Type 0} (p : A → Bool) (n k : ℕ) (xs : List A) (x : A
     → places_from p n (take (suc k) xs) ≡ places_from p n (take k xs) ++ cond (p x) ((n + k) ∷ []) []
 unfolding places_from
 places_more p n k [] x is = absurd (cc is)
-places_more {A = A} p n zero (y ∷ xs) x is = let e = some_same y x is in rw (e, at) refl
+places_more p n zero (y ∷ xs) x is = let e = same_Some y x is in rw (e, at) refl
   where
     at : n + 0 ≡ n
     at = omega arith
-
-    some_same : (a b : A) → Some a ≡ Some b → a ≡ b
-    some_same a b e = cc e
 places_more p n (suc k) (y ∷ xs) x is = cases (p y) (places_more p (suc n) k xs x is)
   where
     at : suc n + k ≡ n + suc k

@@ -4,6 +4,7 @@ use Rattle.std.specs.Prelude.{Bool, true, false, cond, ◌==◌, Option, Some, N
 use Rattle.std.specs.Option.{option_and_then, option_map}
 use Rattle.std.proofs.lemmas.Bool.{ne_eqb}
 use Rattle.std.proofs.lemmas.Bool.Decides.{eqb_tells}
+use Rattle.std.proofs.lemmas.List.{length-map}
 use Rattle.cms_journal.specs.Journal.{Journal}
 use Rattle.cms_machine.specs.Slots.{Slot}
 use Rattle.cms_disk.specs.declared.unit.UnitInfo.{UnitInfo}
@@ -12,7 +13,6 @@ use Rattle.cms_search.specs.Machine.{Letter}
 use Rattle.cms_search.specs.Tables.{Accesses, IsTable, Seated, cleared, letters_in, put_on, seated, without}
 use Rattle.cms_search.proofs.Released.{stands_left}
 use Rattle.cms_search.proofs.Seats.{disk_there, item_here}
-use Rattle.cms_search.proofs.Tabling.{length_mapped}
 
 -- ---- the disk of a unit
 
@@ -57,7 +57,7 @@ stands_beside j v unit slot doubt t n s number is mark apart stands =
 pub disk_seated : (t : Accesses) (n : ℕ) (s : Seated) → n < length t.seats → IsTable (seated n s t) → disk_of s.letter.unit (seated n s t).seats ≡ Some s
 disk_seated t n s less is =
     let xs = without (λ e. e.letter.unit == s.letter.unit) t.seats in
-    let long : length xs ≡ length t.seats = length_mapped _ t.seats in
+    let long : length xs ≡ length t.seats = length-map t.seats _ in
     disk_there (seated n s t).seats n s is.once (item_here xs n (Some s) (subst (λ (k : ℕ). n < k) (sym long) less))
 
 -- ---- the machine

@@ -3,21 +3,21 @@ use Rattle.std.proofs.Common.{◌≡◌, ◌≢◌, ⊎_elim, ℕ, zero, suc, �
 use Rattle.std.specs.Prelude.{Bool, true, false, cond, ◌==◌, Option, Some, None, IfSome, option_map, slice_get, slice_set}
 use Rattle.std.specs.Option.{IsSome, option_and_then}
 use Rattle.std.proofs.lemmas.Bool.{eq-eqb, eqb-true, ne_eqb}
+use Rattle.std.proofs.lemmas.List.{length-set}
+use Rattle.std.proofs.lemmas.Option.{same_Some}
+use Rattle.cms_machine.proofs.Units.{get_other}
 use Rattle.cms_disk.specs.Disks.{Accessed}
 use Rattle.cms_search.specs.Held.{disk_of}
 use Rattle.cms_search.specs.Machine.{Letter}
 use Rattle.cms_search.specs.Searches.{item_at}
 use Rattle.cms_search.specs.Seats.{HasDisk}
 use Rattle.cms_search.specs.Tables.{Accesses, IsTable, Seated, StandOnce, cleared, letters_in, seat_with, with_disk}
-use Rattle.cms_search.proofs.Tabling.{get_set_other, item_put, length_set}
-
-same_of : {A : Type 0} (a b : A) → Some a ≡ Some b → a ≡ b
-same_of a b e = cc e
+use Rattle.cms_search.proofs.Tabling.{item_put}
 
 -- ---- places in lists
 
 pub item_kept : {A : Type 0} (xs : List (Option A)) (n : ℕ) (v : Option A) (a : ℕ) (e : A) → a ≢ n → item_at xs a ≡ Some e → item_at (slice_set xs n v) a ≡ Some e
-item_kept {A = A} xs n v a e apart is = ap (λ (x : Option (Option A)). option_and_then (λ y. y) x) (get_set_other xs n v a apart) ∙ is
+item_kept {A = A} xs n v a e apart is = ap (λ (x : Option (Option A)). option_and_then (λ y. y) x) (get_other xs n a v apart) ∙ is
 
 pub item_here : {A : Type 0} (xs : List (Option A)) (n : ℕ) (v : Option A) → n < length xs → item_at (slice_set xs n v) n ≡ v
 item_here [] n v less = absurd (omega (arith, less))
@@ -52,7 +52,7 @@ disk_found (Some x ∷ seats) u s is = cases (x.letter.unit == u) refl (λ rest.
   where
     cases : (b : Bool) → (x.letter.unit == u) ≡ b → (disk_of u seats ≡ Some s → Stands seats u s) → cond b (Some x) (disk_of u seats) ≡ Some s → Stands (Some x ∷ seats) u s
     cases true tells behind is =
-        record { place = 0; at = is; of_unit = subst (λ (y : Seated). y.letter.unit ≡ u) (same_of x s is) (eqb-true x.letter.unit u tells) }
+        record { place = 0; at = is; of_unit = subst (λ (y : Seated). y.letter.unit ≡ u) (same_Some x s is) (eqb-true x.letter.unit u tells) }
     cases false tells behind is = stands_on (Some x) seats u s (behind is)
 
 once_behind : (x : Option Seated) (seats : List (Option Seated)) → StandOnce (x ∷ seats) → StandOnce seats
@@ -64,7 +64,7 @@ disk_there (None ∷ seats) zero s once is = absurd (cc is)
 disk_there (None ∷ seats) (suc n) s once is = disk_there seats n s (once_behind None seats once) is
 disk_there (Some x ∷ seats) zero s once is =
     let tells = eq-eqb s.letter.unit s.letter.unit refl in
-    subst (λ (y : Seated). disk_of s.letter.unit (Some y ∷ seats) ≡ Some s) (sym (same_of x s is)) (rw tells refl)
+    subst (λ (y : Seated). disk_of s.letter.unit (Some y ∷ seats) ≡ Some s) (sym (same_Some x s is)) (rw tells refl)
 disk_there (Some x ∷ seats) (suc n) s once is =
     let tells = ne_eqb x.letter.unit s.letter.unit (λ same. let e = once 0 (suc n) x s refl is same in omega (arith, e)) in
     rw tells (disk_there seats n s (once_behind (Some x) seats once) is)
@@ -95,7 +95,7 @@ disk_elsewhere seats n s x u once once' at own apart = disk_same seats (slice_se
     there a e is of_unit =
         let other : a ≢ n = λ same.
         let here : item_at seats a ≡ Some s = subst (λ (k : ℕ). item_at seats k ≡ Some s) (sym same) at in
-        apart (ap (λ (y : Seated). y.letter.unit) (same_of s e (sym here ∙ is)) ∙ of_unit) in
+        apart (ap (λ (y : Seated). y.letter.unit) (same_Some s e (sym here ∙ is)) ∙ of_unit) in
         (a, item_kept seats n x a e other is)
 
     back : (a : ℕ) (e : Seated) → item_at (slice_set seats n x) a ≡ Some e → e.letter.unit ≡ u → (m : ℕ) × (item_at seats m ≡ Some e)
@@ -111,7 +111,7 @@ was : (t : Accesses) (n : ℕ) (s : Seated) (d : Accessed) → item_at t.seats n
     → (y : Seated) × (item_at t.seats a ≡ Some y) × (x.letter ≡ y.letter)
 was t n s d at a x is = ⊎_elim
     (λ (h : (a ≡ n) × (Some (seat_with s d) ≡ Some x)).
-    (s, subst (λ (k : ℕ). item_at t.seats k ≡ Some s) (sym h.0) at, ap (λ (y : Seated). y.letter) (sym (same_of (seat_with s d) x h.1))))
+    (s, subst (λ (k : ℕ). item_at t.seats k ≡ Some s) (sym h.0) at, ap (λ (y : Seated). y.letter) (sym (same_Some (seat_with s d) x h.1))))
     (λ (h : (a ≢ n) × (item_at t.seats a ≡ Some x)). (x, h.1, refl))
     (item_put t.seats n (Some (seat_with s d)) a x is)
 
@@ -125,7 +125,7 @@ pub is_table_with : (t : Accesses) (n : ℕ) (s : Seated) (d : Accessed) → IsT
 is_table_with t n s d is at = record {
   distinct = is.distinct;
   doubts = is.doubts;
-  letters = length_set t.seats n (Some (seat_with s d)) ∙ is.letters;
+  letters = length-set t.seats n (Some (seat_with s d)) ∙ is.letters;
   once = λ a b x y is_x is_y same.
       let p = was t n s d at a x is_x in
       let q = was t n s d at b y is_y in

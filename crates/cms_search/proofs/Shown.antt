@@ -3,6 +3,7 @@ use Rattle.std.proofs.Common.{◌≡◌, ◌≢◌, ℕ, zero, suc, ◌+◌, ◌
 use Rattle.std.specs.Prelude.{Bool, true, false, cond, not, Option, Some, None, Result, Ok, Err, slice_get, slice_index_or, position}
 use Rattle.std.specs.List.{flat_map, prefix_len}
 use Rattle.std.specs.Option.{option_map, option_map_or, option_and_then}
+use Rattle.std.proofs.lemmas.Option.{same_Some}
 use Rattle.cms_names.specs.declared.name.Name.{Name}
 use Rattle.cms_model.specs.Minidisks.{File, Minidisk, same_name}
 use Rattle.cms_model.specs.Trees.{Image}
@@ -23,9 +24,6 @@ use Rattle.cms_search.specs.Shows.{Shows}
 use Rattle.cms_search.specs.declared.fault.SearchFault.{SearchFault}
 use Rattle.cms_operands.specs.declared.mode.ReadMode.{ReadMode}
 use Rattle.cms_search.proofs.Searching.{item_at_map}
-
-some_same : {A : Type 0} (a b : A) → Some a ≡ Some b → a ≡ b
-some_same a b e = cc e
 
 -- ---- the disk of a letter
 
@@ -217,7 +215,7 @@ module _ (shelves : Shelves) (mode : ReadMode) (name : Name) (each : (n : ℕ) (
 seat_shelf : (t : Accesses) (n : ℕ) (x : Option Seated) (shelf : Shelf) → item_at t.seats n ≡ x → option_map shelf_of x ≡ Some shelf
     → (s : Seated) × (item_at t.seats n ≡ Some s) × (shelf_of s ≡ shelf)
 seat_shelf t n None shelf at is = absurd (cc is)
-seat_shelf t n (Some s) shelf at is = (s, at, some_same (shelf_of s) shelf is)
+seat_shelf t n (Some s) shelf at is = (s, at, same_Some (shelf_of s) shelf is)
 
 pub finds_shown : (t : Accesses) (s : Machine) (mode : ReadMode) (name : Name) → Shows t s → find_first (shelves_of t) mode name ≡ look_up (shelves_in s) mode name
 finds_shown t s mode name shows =

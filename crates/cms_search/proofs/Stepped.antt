@@ -6,6 +6,7 @@ use Rattle.cms_journal.specs.Journal.{Journal, IsWritable}
 use Rattle.cms_journal.specs.Told.{Told}
 use Rattle.cms_journal.proofs.Counts.{counted_none, counted_one}
 use Rattle.cms_fields.specs.Moments.{stamp_of}
+use Rattle.cms_fields.specs.declared.time.Stamp.{Stamp}
 use Rattle.cms_model.specs.Changes.{Answer, Change, answer_of}
 use Rattle.cms_model.specs.Minidisks.{Minidisk, Volume}
 use Rattle.cms_machine.specs.Slots.{Slot, Settled}
@@ -43,10 +44,10 @@ use Rattle.cms_search.specs.declared.state.End.TheVariants.{Memory}
 use Rattle.cms_search.specs.declared.state.State.{State}
 use Rattle.cms_search.specs.declared.stepping.Changed as changes
 use Rattle.cms_search.specs.declared.stepping.Changed.TheVariants as came
-use Rattle.std.proofs.lemmas.Option.{slice_get-map}
+use Rattle.std.proofs.lemmas.Option.{same_Some, slice_get-map}
 use Rattle.cms_search.proofs.Acts.{acts_after, acts_done, comes_does, does_stop}
 use Rattle.cms_search.proofs.Changing.{Steps, change_ran, changed_units, holds_with, on_same, steps_doubted, steps_good}
-use Rattle.cms_search.proofs.Holding.{some_same, usable_grown}
+use Rattle.cms_search.proofs.Holding.{usable_grown}
 use Rattle.cms_search.proofs.Meeting.{MetAt, letter_is, meets_at, readable_seat}
 use Rattle.cms_search.proofs.Seats.{cleared_with, letters_cleared, letters_with, seat_there, table_with, with_disk_is}
 use Rattle.cms_search.proofs.Searching.{item_at_map}
@@ -86,7 +87,7 @@ usable_with j t n s e at same u = record {
   units = u.units;
   seats = λ a x unit is has. ⊎_elim
       (λ (h : (a ≡ n) × (Some (seat_with s e) ≡ Some x)).
-      let one = some_same (seat_with s e) x h.1 in
+      let one = same_Some (seat_with s e) x h.1 in
       let before = u.seats n s unit at (subst (λ (y : Seated). slice_get t.units y.letter.unit ≡ Some unit) (sym one) has) in
       subst (IsSeatOf unit) one (record { on = on_same unit s.disk e same before.on; marked = before.marked }))
       (λ (h : (a ≢ n) × (item_at t.seats a ≡ Some x)). u.seats a x unit h.1 has)
@@ -158,7 +159,7 @@ device_is st s units vdev is = go (slice_get st.table.units s.letter.unit) (slic
     go : (x : Option UnitInfo) → slice_get (machine_of st units).devices s.letter.unit ≡ option_map device_of x → option_map (λ (unit : UnitInfo). unit.vdev) x ≡ Some vdev
         → vdev_of (machine_of st units) s.letter.unit ≡ vdev
     go None there is = absurd (cc is)
-    go (Some unit) there is = rw there (some_same unit.vdev vdev is)
+    go (Some unit) there is = rw there (same_Some unit.vdev vdev is)
 
 -- its step was done
 pub ran_to : (old mid : Spot) (n : ℕ) (s : Seated) (change : Change) (units : List Slot) (t' : Accesses) (o : Outcome) → item_at old.state.table.seats n ≡ Some s → (k : MetAt old units s)
@@ -279,14 +280,28 @@ change_full old mid n s change need free a = record {
   cause = tt;
 }
 
+-- nothing is told of what came to none of these
+untold : (old new : Told) (d e : Accessed) (m : Minidisk) (change : Change) (stamp : Stamp) (why : DiskFault) → ((k : ℕ) → why ≡ failed.Limit k → ⊥)
+    → ((need free : ℕ) → why ≡ failed.Full need free → ⊥) → (why ≡ failed.Device → ⊥) → (why ≡ failed.InDoubt → ⊥) → Appends old new d e m change stamp (Err why) → new ≡ old
+untold old new d e m change stamp failed.NotFound limit full device doubt is = is.0
+untold old new d e m change stamp failed.Exists limit full device doubt is = is.0
+untold old new d e m change stamp failed.ReadOnly limit full device doubt is = is.0
+untold old new d e m change stamp failed.Device limit full device doubt is = absurd (device refl)
+untold old new d e m change stamp failed.InDoubt limit full device doubt is = absurd (doubt refl)
+untold old new d e m change stamp failed.Altered limit full device doubt is = absurd is
+untold old new d e m change stamp (failed.Limit k) limit full device doubt is = absurd (limit k refl)
+untold old new d e m change stamp (failed.Full need free) limit full device doubt is = absurd (full need free refl)
+untold old new d e m change stamp failed.Memory limit full device doubt is = is
+
 -- nothing was done, and there was no memory
-pub change_cut : (old mid : Spot) (n : ℕ) (s : Seated) (change : List Slot → Change) (why : DiskFault) → (a : Updated old mid n s change (Err why))
-    → ((m : Minidisk) (one : Change) → Appends old.world.told mid.world.told s.disk a.seat.disk m one (stamp_of old.state.moment) (Err why) → mid.world.told ≡ old.world.told)
+pub change_cut : (old mid : Spot) (n : ℕ) (s : Seated) (change : List Slot → Change) (why : DiskFault) → Updated old mid n s change (Err why) → ((k : ℕ) → why ≡ failed.Limit k → ⊥)
+    → ((need free : ℕ) → why ≡ failed.Full need free → ⊥) → (why ≡ failed.Device → ⊥) → (why ≡ failed.InDoubt → ⊥)
     → Acts {T = changes.Changed} old mid (changing_by old.state n change) (Err Memory) (changing_of mid.state)
-change_cut old mid n s change why a same = record {
+change_cut old mid n s change why a limit full device doubt = record {
   each = λ units h.
       let k = meets_at old units n s a.there h in
-      let told = same k.met.minidisk (change units) (a.seat.does.appends units h k.journal k.met.minidisk k.told k.met.is k.met.looked) in
+      let told = untold old.world.told mid.world.told s.disk a.seat.disk k.met.minidisk (change units) (stamp_of old.state.moment) why limit full device doubt
+      (a.seat.does.appends units h k.journal k.met.minidisk k.told k.met.is k.met.looked) in
       (units, broke_before (at old units) (at mid units) (changing_tree old.state n (change units) units) told a.seat.does.changes.units.faults refl);
   later = later_changes old.world mid.world a.seat.does.changes.units;
   usable = λ u. tt;

@@ -17,7 +17,6 @@ use Rattle.cms_model.specs.LawsSizes.{IsWhole}
 use Rattle.cms_model.specs.LawsUpdates.{after, now}
 use Rattle.cms_model.specs.declared.fault.OpenFault.{OpenFault}
 use Rattle.cms_model.specs.declared.fault.OpenFault.TheVariants as failed
-use Rattle.cms_model.proofs.Images.{crash_now}
 use Rattle.cms_model.proofs.Settling.{synced_leaves, synced_now}
 use Rattle.cms_machine.specs.Slots.{Slot, Settled, Doubt, Before, After, IsAmong, named, set_of, state_in, unit_set, unit_state}
 use Rattle.cms_machine.specs.Steps.{Access, MayAccess, Outcome, Good, ReadFault, SyncFault, OldFault, EitherFault, access_syncs, faults_in, units_after}
@@ -154,9 +153,6 @@ refused_firm disk j u (failed.MapMissing n) device memory is = is
 refused_firm disk j u (failed.Var n k) device memory is = is
 refused_firm disk j u (failed.Twice n) device memory is = is
 refused_firm disk j u (failed.System n) device memory is = is
-
-pub firm_now : (disk : Disk) (j : Journal) (u : ℕ) (state : State) → IsFirm disk j u state → state_of disk (now j u) ≡ state
-firm_now disk j u state firm = firm (contents_of j u) (crash_now j.events u (start_of j.units u))
 
 -- ---- the step
 

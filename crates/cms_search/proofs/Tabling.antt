@@ -1,10 +1,12 @@
 -- What calls make of a table is a table.
-use Rattle.std.proofs.Common.{◌≡◌, ◌≢◌, ◌⊎◌, ⊎_elim, inl, inr, ℕ, zero, suc, ◌+◌, ◌<◌, List, [], ◌∷◌, ◌++◌, length, map, take, drop, replicate, get_or, refl, sym, ap, subst, ◌∙◌, arith, true≢false}
+use Rattle.std.proofs.Common.{◌≡◌, ◌≢◌, ◌⊎◌, ⊎_elim, inl, inr, ℕ, zero, suc, ◌+◌, ◌<◌, List, [], ◌∷◌, ◌++◌, length, take, drop, replicate, get_or, refl, sym, ap, subst, ◌∙◌, arith, true≢false}
 use Rattle.std.specs.Prelude.{Bool, true, false, cond, ◌==◌, if◌then◌else◌, Option, Some, None, slice_get, slice_set, is_some, not, ◌||◌, Result, Ok, Err, OnOk, IfErr}
 use Rattle.std.specs.Option.{option_and_then}
-use Rattle.std.proofs.lemmas.Option.{slice_get_read, get_or_from_slice_get}
+use Rattle.std.proofs.lemmas.Option.{get_or_from_slice_get, same_Some, slice_get_read, slice_get_within}
 use Rattle.std.proofs.lemmas.Bool.{eq-eqb}
+use Rattle.std.proofs.lemmas.List.{length-set, length-replicate, length-map}
 use Rattle.cms_journal.specs.Told.{Told}
+use Rattle.cms_machine.proofs.Units.{get_same, get_other}
 use Rattle.cms_disk.specs.Disks.{Accessed, synced, told_with}
 use Rattle.cms_disk.specs.declared.fault.AccessFault.{AccessFault}
 use Rattle.cms_disk.specs.declared.unit.UnitInfo.{UnitInfo}
@@ -35,9 +37,6 @@ without_more {A = A} p (suc k) (x ∷ xs) less = cases (has p (item_at (without 
     cases true h = ap (λ (l : List (Option A)). option_and_then (λ d. if p d then None else Some d) x ∷ l) h
     cases false h = ap (λ (l : List (Option A)). option_and_then (λ d. if p d then None else Some d) x ∷ l) h
 
-some_same : {A : Type 0} (a b : A) → Some a ≡ Some b → a ≡ b
-some_same a b e = cc e
-
 -- what stands in a place was there and doesn't pass
 pub item_without : {A : Type 0} (p : A → Bool) (xs : List (Option A)) (a : ℕ) (e : A) → item_at (without p xs) a ≡ Some e → (item_at xs a ≡ Some e) × (p e ≡ false)
 item_without p [] a e is = absurd (cc is)
@@ -46,7 +45,7 @@ item_without {A = A} p (Some x ∷ xs) zero e is = cases (p x) refl is
   where
     cases : (b : Bool) → p x ≡ b → cond b None (Some x) ≡ Some e → (Some x ≡ Some e) × (p e ≡ false)
     cases true at is = absurd (cc is)
-    cases false at is = let same = some_same x e is in (is, subst (λ (y : A). p y ≡ false) same at)
+    cases false at is = let same = same_Some x e is in (is, subst (λ (y : A). p y ≡ false) same at)
 item_without p (x ∷ xs) (suc a) e is = item_without p xs a e is
 
 -- what stands in a place was put there, or was there before
@@ -58,28 +57,11 @@ item_put (x ∷ xs) zero v (suc a) e is = inr ((λ same. omega (arith, same)), i
 item_put (x ∷ xs) (suc n) v zero e is = inr ((λ same. omega (arith, same)), is)
 item_put (x ∷ xs) (suc n) v (suc a) e is = ⊎_elim (λ h. inl (ap suc h.0, h.1)) (λ h. inr ((λ same. h.0 (omega (arith, same))), h.1)) (item_put xs n v a e is)
 
-none_replicated : {A : Type 0} (k a : ℕ) (e : A) → item_at (replicate k None) a ≡ Some e → ⊥
+-- nothing stands in places that are empty
+pub none_replicated : {A : Type 0} (k a : ℕ) (e : A) → item_at (replicate k None) a ≡ Some e → ⊥
 none_replicated zero a e is = absurd (cc is)
 none_replicated (suc k) zero e is = absurd (cc is)
 none_replicated (suc k) (suc a) e is = none_replicated k a e is
-
-pub length_set : {A : Type 0} (xs : List A) (n : ℕ) (v : A) → length (slice_set xs n v) ≡ length xs
-length_set [] n v = refl
-length_set (x ∷ xs) zero v = refl
-length_set (x ∷ xs) (suc n) v = ap suc (length_set xs n v)
-
-length_replicated : {A : Type 0} (k : ℕ) (v : A) → length (replicate k v) ≡ k
-length_replicated zero v = refl
-length_replicated (suc k) v = ap suc (length_replicated k v)
-
-pub length_mapped : {A B : Type 0} (f : A → B) (xs : List A) → length (map f xs) ≡ length xs
-length_mapped f [] = refl
-length_mapped f (x ∷ xs) = ap suc (length_mapped f xs)
-
-pub get_set : {A : Type 0} (xs : List A) (n : ℕ) (v : A) → n < length xs → slice_get (slice_set xs n v) n ≡ Some v
-get_set [] n v less = absurd (omega (arith, less))
-get_set (x ∷ xs) zero v less = refl
-get_set (x ∷ xs) (suc n) v less = get_set xs n v (omega (arith, less))
 
 -- a place that has the value has it still
 get_set_same : {A : Type 0} (xs : List A) (n : ℕ) (v : A) (k : ℕ) → slice_get xs k ≡ Some v → slice_get (slice_set xs n v) k ≡ Some v
@@ -89,20 +71,13 @@ get_set_same (x ∷ xs) zero v (suc k) is = is
 get_set_same (x ∷ xs) (suc n) v zero is = is
 get_set_same (x ∷ xs) (suc n) v (suc k) is = get_set_same xs n v k is
 
-pub get_set_other : {A : Type 0} (xs : List A) (n : ℕ) (v : A) (k : ℕ) → k ≢ n → slice_get (slice_set xs n v) k ≡ slice_get xs k
-get_set_other [] n v k apart = refl
-get_set_other (x ∷ xs) zero v zero apart = absurd (apart refl)
-get_set_other (x ∷ xs) zero v (suc k) apart = refl
-get_set_other (x ∷ xs) (suc n) v zero apart = refl
-get_set_other (x ∷ xs) (suc n) v (suc k) apart = get_set_other xs n v k (λ same. apart (ap suc same))
-
 -- ---- tables
 
 pub table_new : (units : List UnitInfo) → HaveDistinctDevices units → IsTable (new_table units)
 table_new units distinct = record {
   distinct = distinct;
-  doubts = length_replicated (length units) false;
-  letters = length_replicated {A = Option Seated} 26 None;
+  doubts = length-replicate (length units) false;
+  letters = length-replicate {A = Option Seated} 26 None;
   once = λ a b s t is_s is_t same. absurd (none_replicated 26 a s is_s);
   sure = λ n s is. absurd (none_replicated 26 n s is);
 }
@@ -110,7 +85,7 @@ table_new units distinct = record {
 pub table_marked : (t : Accesses) (u : ℕ) → IsTable t → IsTable (marked u false t)
 table_marked t u is = record {
   distinct = is.distinct;
-  doubts = length_set t.doubts u false ∙ is.doubts;
+  doubts = length-set t.doubts u false ∙ is.doubts;
   letters = is.letters;
   once = is.once;
   sure = λ n s at. get_set_same t.doubts u false s.letter.unit (is.sure n s at);
@@ -120,10 +95,10 @@ pub table_seated : (t : Accesses) (n : ℕ) (s : Seated) → IsTable t → IsSur
 table_seated t n s is sure = record {
   distinct = is.distinct;
   doubts = is.doubts;
-  letters = length_set (without p t.seats) n (Some s) ∙ length_mapped _ t.seats ∙ is.letters;
+  letters = length-set (without p t.seats) n (Some s) ∙ length-map t.seats _ ∙ is.letters;
   once = λ a b x y is_x is_y same. once a b x y same (item_put (without p t.seats) n (Some s) a x is_x) (item_put (without p t.seats) n (Some s) b y is_y);
   sure = λ a x is_x. ⊎_elim
-      (λ h. subst (λ (e : Seated). IsSure t.doubts e) (some_same s x h.1) sure)
+      (λ h. subst (λ (e : Seated). IsSure t.doubts e) (same_Some s x h.1) sure)
       (λ h. is.sure a x (item_without p t.seats a x h.1).0)
       (item_put (without p t.seats) n (Some s) a x is_x);
 }
@@ -143,8 +118,8 @@ table_seated t n s is sure = record {
         → ((b ≡ n) × (Some s ≡ Some y)) ⊎ ((b ≢ n) × (item_at (without (λ e. e.letter.unit == s.letter.unit) t.seats) b ≡ Some y))
         → a ≡ b
     once a b x y same (inl h) (inl k) = h.0 ∙ sym k.0
-    once a b x y same (inl h) (inr k) = absurd (other b x y (some_same s x h.1) same k.1)
-    once a b x y same (inr h) (inl k) = absurd (other a y x (some_same s y k.1) (sym same) h.1)
+    once a b x y same (inl h) (inr k) = absurd (other b x y (same_Some s x h.1) same k.1)
+    once a b x y same (inr h) (inl k) = absurd (other a y x (same_Some s y k.1) (sym same) h.1)
     once a b x y same (inr h) (inr k) = is.once a b x y (item_without _ t.seats a x h.1).0 (item_without _ t.seats b y k.1).0 same
 
 -- another letter has its disk still
@@ -155,7 +130,7 @@ pub table_released : (t : Accesses) (n : ℕ) → IsTable t → IsTable (release
 table_released t n is = record {
   distinct = is.distinct;
   doubts = is.doubts;
-  letters = length_set t.seats n None ∙ is.letters;
+  letters = length-set t.seats n None ∙ is.letters;
   once = λ a b x y is_x is_y same. is.once a b x y (stays t n a x is_x).1 (stays t n b y is_y).1 same;
   sure = λ a x is_x. is.sure a x (stays t n a x is_x).1;
 }
@@ -163,22 +138,17 @@ table_released t n is = record {
 pub table_doubted : (t : Accesses) (n : ℕ) (s : Seated) → IsTable t → item_at t.seats n ≡ Some s → IsTable (released n (marked s.letter.unit true t))
 table_doubted t n s is at = record {
   distinct = is.distinct;
-  doubts = length_set t.doubts s.letter.unit true ∙ is.doubts;
-  letters = length_set t.seats n None ∙ is.letters;
+  doubts = length-set t.doubts s.letter.unit true ∙ is.doubts;
+  letters = length-set t.seats n None ∙ is.letters;
   once = λ a b x y is_x is_y same. is.once a b x y (stays t n a x is_x).1 (stays t n b y is_y).1 same;
   sure = λ a x is_x.
       let h = stays t n a x is_x in
-      get_set_other t.doubts s.letter.unit true x.letter.unit (λ same. h.0 (is.once a n x s h.1 at same)) ∙ is.sure a x h.1;
+      get_other t.doubts s.letter.unit x.letter.unit true (λ same. h.0 (is.once a n x s h.1 at same)) ∙ is.sure a x h.1;
 }
 
 -- the unit of a seat is one of the table's
-within_some : {A : Type 0} (xs : List A) (k : ℕ) (v : A) → slice_get xs k ≡ Some v → k < length xs
-within_some [] k v is = absurd (cc is)
-within_some (x ∷ xs) zero v is = omega arith
-within_some (x ∷ xs) (suc k) v is = let h = within_some xs k v is in omega (arith, h)
-
 pub unit_within : (t : Accesses) (n : ℕ) (s : Seated) → IsTable t → item_at t.seats n ≡ Some s → s.letter.unit < length t.doubts
-unit_within t n s is at = within_some t.doubts s.letter.unit false (is.sure n s at)
+unit_within t n s is at = slice_get_within t.doubts s.letter.unit false (is.sure n s at)
 
 get_within : {A : Type 0} (xs : List A) (k : ℕ) → k < length xs → slice_get xs k ≡ None → ⊥
 get_within [] k less none = absurd (omega (arith, less))
@@ -221,11 +191,11 @@ wanted_place vdev (Some v) None u is = ap Some (sym (cc is))
 pub table_accessed : (t : Accesses) (u n : ℕ) (s : Seated) → IsTable t → u < length t.units → s.letter.unit ≡ u → IsTable (seated n s (marked u false t))
 table_accessed t u n s is less of_unit =
     let same = is.doubts in
-    table_seated (marked u false t) n s (table_marked t u is) (rw of_unit (get_set t.doubts u false (omega (arith, less, same))))
+    table_seated (marked u false t) n s (table_marked t u is) (rw of_unit (get_same t.doubts u u false (omega (arith, less, same)) refl))
 
 -- there are as many shelves as letters
 pub shelves_long : (t : Accesses) → IsTable t → length (shelves_of t) ≡ 26
-shelves_long t is = length_mapped _ t.seats ∙ is.letters
+shelves_long t is = length-map t.seats _ ∙ is.letters
 
 -- ---- what was read of a unit
 
@@ -264,11 +234,11 @@ seated_so t u n s letter d seats is put = rw (put, is) refl
 pub table_vacated : (t : Accesses) (u n : ℕ) (doubt : Bool) → IsTable t → IsTable (vacated u n (marked u doubt t))
 table_vacated t u n doubt is = record {
   distinct = is.distinct;
-  doubts = length_set t.doubts u doubt ∙ is.doubts;
-  letters = length_mapped _ (cleared n t.seats) ∙ length_set t.seats n None ∙ is.letters;
+  doubts = length-set t.doubts u doubt ∙ is.doubts;
+  letters = length-map (cleared n t.seats) _ ∙ length-set t.seats n None ∙ is.letters;
   once = λ a b x y is_x is_y same.
       is.once a b x y (stays t n a x (item_without _ (cleared n t.seats) a x is_x).0).1 (stays t n b y (item_without _ (cleared n t.seats) b y is_y).0).1 same;
   sure = λ a x is_x.
       let h = item_without (λ (e : Seated). e.letter.unit == u) (cleared n t.seats) a x is_x in
-      get_set_other t.doubts u doubt x.letter.unit (λ same. true≢false (sym (eq-eqb x.letter.unit u same) ∙ h.1)) ∙ is.sure a x (stays t n a x h.0).1;
+      get_other t.doubts u x.letter.unit doubt (λ same. true≢false (sym (eq-eqb x.letter.unit u same) ∙ h.1)) ∙ is.sure a x (stays t n a x h.0).1;
 }

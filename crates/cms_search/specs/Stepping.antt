@@ -1,11 +1,12 @@
 -- Device steps as commands do them: one that fails at the device types its message, and the command ends.
-use Rattle.std.specs.Prelude.{ℕ, List, take, Option, Some, None, slice_get}
+use Rattle.std.specs.Prelude.{◌≡◌, ◌≤◌, ℕ, List, take, Option, Some, None, slice_get}
 use Rattle.cms_fields.specs.Moments.{stamp_of}
 use Rattle.cms_model.specs.Minidisks.{File, Minidisk}
 use Rattle.cms_model.specs.Changes.{Change, Answer, Limited, Full, Changed, answer_of}
 use Rattle.cms_machine.specs.Slots.{Slot}
 use Rattle.cms_machine.specs.Acts.{Act, Done, Does, bind}
 use Rattle.cms_machine.specs.Steps.{Step, Get, Put, Outcome, Good, ReadFault, SyncFault, OldFault, EitherFault}
+use Rattle.cms_world.specs.Seen.{Seen}
 use Rattle.cms_search.specs.Calls.{Meaning, course_of, machine_of}
 use Rattle.cms_search.specs.Machine.{Letter, Machine, Course, after_step, letter_at, minidisk_in}
 use Rattle.cms_search.specs.Refusing.{device_fault, not_accessed}
@@ -87,6 +88,16 @@ handed run f wanted next failed (EitherFault side) = failed
 -- so many records of a file of unit u are read, from the first on
 abbrev pub reading : {R : Type 0} → (List (List ℕ) → Act R → Act R) → ℕ → File → ℕ → Act R → Act R → Act R
 reading run u f wanted next failed = Does (Get u f wanted) (handed run f wanted next failed)
+
+-- nothing is done with a record before all that are wanted are there
+abbrev pub silently : {R : Type 0} → List (List ℕ) → Act R → Act R
+silently records next = next
+
+-- nothing was done but reads
+pub record HasRead (before now : Seen) : Type 0 where
+  pub told : now.told ≡ before.told
+  pub faults : before.faults ≤ now.faults
+  pub edges : now.edges ≡ before.edges
 
 -- ---- the call
 

@@ -12,7 +12,8 @@ impl State {
     /// accessed.
     pub fn release(&mut self, letter: u8) -> Result<(), SearchFault>
         ensures released { OnOk result (IsSome (item_at self.old.table.seats letter) × (self.new ≡ without_letter letter self.old)) }
-        ensures refused { IfErr result (λ e. (e ≡ NotAccessed letter) × (item_at self.old.table.seats letter ≡ None) × (self.new ≡ self.old)) }
+        ensures refused { IfErr result (λ e. (e ≡ NotAccessed letter) × (item_at self.old.table.seats letter ≡ None)
+            × (self.new ≡ self.old)) }
     {
         let seat = self.table.seat(letter);
         self.table.release(letter)?;

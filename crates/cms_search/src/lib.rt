@@ -34,7 +34,9 @@ pub use refusing::{
 pub use saying::{refuse, say, say_message, say_ready};
 pub use search::{Found, FoundList};
 pub use state::{Course, Device, End, State};
-pub use stepping::{Changed, change_disk, end_update, refuse_altered, refuse_device};
+pub use stepping::{
+    Changed, change_disk, end_update, refuse_altered, refuse_device, refuse_unread,
+};
 pub use table::{LETTERS, Seat, Table, UnitList};
 pub use telling::{
     add_left, add_right, device_text, device_word, first_column, hexadecimal_digit, letter_text,

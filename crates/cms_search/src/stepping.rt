@@ -11,6 +11,7 @@ ghost use Rattle.cms_line.specs.declared.message.Message.TheVariants.{M105, M106
 ghost use Rattle.cms_edf.specs.Planning.{CanChange, change_of};
 ghost use Rattle.cms_search.specs.Calls.{Acts, Does, IsUsable, Spot, said, spot};
 ghost use Rattle.cms_search.specs.Putting.{Updated};
+ghost use Rattle.cms_search.specs.Refusing.{unread_code, unread_message};
 ghost use Rattle.cms_search.specs.Searches.{item_at};
 ghost use Rattle.cms_search.specs.Seats.{HasDevice};
 ghost use Rattle.cms_search.specs.Stepping.{changing_by, changing_of, changing_tree};
@@ -67,6 +68,23 @@ pub fn refuse_altered<W: World>(alloc: Global, world: &mut W, vdev: u16) -> Resu
     refuse(alloc, world, Message::M106(device), ALTERED)
 }
 
+/// Types why a file on a device isn't read to its end, and gives the code: its bytes aren't its records any more, or the device failed.
+pub fn refuse_unread<W: World>(
+    alloc: Global,
+    world: &mut W,
+    vdev: u16,
+    fault: DiskFault,
+) -> Result<Course, End>
+    ensures does { Does (seen W.World world.old) (seen W.World world.new)
+        (saying (typed_line (message_text (unread_message fault vdev)))) result said }
+    ensures went { IfOk result (λ course. course ≡ Went (pos (unread_code fault))) }
+{
+    match fault {
+        DiskFault::Altered => refuse_altered(alloc, world, vdev),
+        _ => refuse_device(alloc, world, vdev),
+    }
+}
+
 /// Ends an update of the disk of an accessed letter, which is that of this device; the update came to this.
 ///
 /// Where the device failed that is typed, and the command ends: the disk is as before, or its unit is in doubt and the letter released.
@@ -96,12 +114,8 @@ pub fn end_update<W: World>(
                 state.places.forget_disk(vdev);
                 Ok(Changed::Failed(refuse_device(alloc, world, vdev)?))
             }
-            // the file is there and the disk may be written, so this is want of memory
-            DiskFault::NotFound => Err(End::Memory),
-            DiskFault::Exists => Err(End::Memory),
-            DiskFault::ReadOnly => Err(End::Memory),
-            DiskFault::Altered => Err(End::Memory),
-            DiskFault::Memory => Err(End::Memory),
+            // the file is there, its new name is no other's, and the disk may be written, so this is want of memory
+            _ => Err(End::Memory),
         },
     }
 }

@@ -2,6 +2,7 @@
 use Rattle.std.proofs.Common.{◌≡◌, inl, ℕ, ◌≤◌, List, [], ◌++◌, Option, Some, None, Result, Ok, Err, refl, ap, sym, subst, ◌∙◌, arith, append-nil, slice_get, length}
 use Rattle.std.specs.Prelude.{option_map, is_some, true}
 use Rattle.std.proofs.lemmas.List.{length-map}
+use Rattle.std.proofs.lemmas.Option.{same_Some}
 use Rattle.cms_journal.specs.declared.event.Event.{Event}
 use Rattle.cms_journal.specs.declared.event.Attached.{Attached}
 use Rattle.cms_journal.specs.Causes.{Counted}
@@ -27,7 +28,6 @@ use Rattle.cms_search.specs.declared.state.Device.{Device}
 use Rattle.cms_search.specs.declared.state.End.{End}
 use Rattle.cms_search.specs.declared.state.End.TheVariants as cut
 use Rattle.cms_search.specs.declared.state.State as declared
-use Rattle.cms_search.proofs.Holding.{some_same}
 use Rattle.cms_words.specs.declared.reading.Words.{Words}
 use Rattle.cms_world.specs.Seen.{Seen}
 use Rattle.cms_session.specs.Machine.{machine, started}
@@ -143,7 +143,7 @@ as_its_slot q told u slot same sound there = record {
   now = λ x has.
       let is : unit_state q.units u ≡ Some x = sound.now u x (subst (λ (t : Told). HasNow t u x) (sym same) has) in
       let at : unit_state q.units u ≡ Some (state_in slot) = ap (λ (z : Option Slot). option_map state_in z) there in
-      some_same (state_in slot) x (sym at ∙ is);
+      same_Some (state_in slot) x (sym at ∙ is);
 }
 
 not_given : (given : Option (List ℕ)) → (is_some given ≡ true → ⊥) → given ≡ None

@@ -2,6 +2,7 @@
 use Rattle.std.proofs.Common.{◌≡◌, inl, inr, ℕ, zero, suc, ◌+◌, ◌-◌, ◌<◌, false, List, [], ◌∷◌, ◌++◌, length, map, replicate, slice_get, Option, Some, None, Result, Ok, Err, refl, ap, sym, subst, ◌∙◌, arith, All}
 use Rattle.std.specs.Prelude.{option_map}
 use Rattle.std.proofs.lemmas.List.{length-map}
+use Rattle.std.proofs.lemmas.Option.{same_Some, slice_get_within}
 use Rattle.cms_journal.specs.declared.event.Attached.{Attached}
 use Rattle.cms_journal.specs.Journal.{IsAttached, IsBlockSize, IsCrashImage, contents_of, start_of, may_write}
 use Rattle.cms_journal.specs.Told.{Told}
@@ -23,7 +24,6 @@ use Rattle.cms_search.specs.Held.{HoldsTable, HoldsUnit, StandsAs, disk_of as di
 use Rattle.cms_search.specs.Shows.{devices_of}
 use Rattle.cms_search.specs.Tables.{HaveDistinctDevices, Seated, new_table}
 use Rattle.cms_search.specs.declared.state.Device.{Device}
-use Rattle.cms_search.proofs.Holding.{some_same}
 use Rattle.cms_search.proofs.Tabling.{table_new}
 use Rattle.cms_words.specs.declared.unit.UnitWord.{UnitWord}
 use Rattle.cms_session.specs.Headline.{fresh, settled}
@@ -97,7 +97,7 @@ is_of : (before : List Attached) (word : UnitWord) (unit : Attached) (number blo
     → IsAttached (fresh before) (Some (fresh (before ++ unit ∷ []))) word.name word.bsize word.access number blocks → IsOf word unit
 is_of before word unit number blocks a =
     let made : Attached = record { name = word.name; bsize = word.bsize; writable = may_write word.access; start = a.start } in
-    let journals = some_same (fresh (before ++ unit ∷ [])) (fresh (before ++ made ∷ [])) a.told in
+    let journals = same_Some (fresh (before ++ unit ∷ [])) (fresh (before ++ made ∷ [])) a.told in
     let same : unit ≡ made = last_same before unit made (ap (λ (j : _). j.units) journals) in
     subst (IsOf word) (sym same) (record { bsize = refl; writable = refl; sizes = a.sizes })
 
@@ -119,7 +119,7 @@ line_at before (w ∷ words) (a ∷ units) n zero info are at =
       word = w;
       unit = a;
       there = refl;
-      info_is = sym (some_same (info_of w n (disk_of a).count) info at) ∙ ap (λ (k : ℕ). info_of w k (disk_of a).count) (sym e);
+      info_is = sym (same_Some (info_of w n (disk_of a).count) info at) ∙ ap (λ (k : ℕ). info_of w k (disk_of a).count) (sym e);
       is = is_of before w a (length before) (length a.start) are.0;
     }
 line_at before (w ∷ words) (a ∷ units) n (suc u) info are at =
@@ -139,11 +139,6 @@ get_false : (k u : ℕ) → u < k → slice_get (replicate k false) u ≡ Some f
 get_false zero u less = absurd (omega (arith, less))
 get_false (suc k) zero less = refl
 get_false (suc k) (suc u) less = get_false k u (omega (arith, less))
-
-get_below : {A : Type 0} (xs : List A) (u : ℕ) (x : A) → slice_get xs u ≡ Some x → u < length xs
-get_below [] u x at = absurd (cc at)
-get_below (y ∷ xs) zero x at = omega arith
-get_below (y ∷ xs) (suc u) x at = let less = get_below xs u x at in omega (arith, less)
 
 pub none_seated : (k u : ℕ) → disk_of_unit u (replicate k None) ≡ None
 none_seated zero u = refl
@@ -172,15 +167,15 @@ holds_line units infos u word unit there is size within =
       number = refl;
       blocks = rw there (bsize, omega arith);
       writable = λ w. rw there (let may = is.writable ∙ w in rw may refl);
-      seen = λ found at. ap disk_of (some_same found unit (sym at ∙ there)) ∙ looked;
+      seen = λ found at. ap disk_of (same_Some found unit (sym at ∙ there)) ∙ looked;
       whole = subst (λ (k : LookedAt). IsWhole k (now (fresh units) u)) looked (subst (IsWhole (disk_of unit)) (sym contents) (whole_first unit sized is.sizes));
       slot = Settled (first_state_of unit);
       there = settled_at units u unit there;
       doubt = false;
       marked = get_false (length infos) u within;
       stands = subst (λ (x : Option Seated). StandsAs (fresh units) u info (Settled (first_state_of unit)) false x) (sym (none_seated 26 u)) (tt, quiet_first (disk_on info) units u);
-      crash = λ x l. inl (left_first units u x l ∙ ap first_state_of (some_same l.unit unit (sym l.attached ∙ there)));
-      has = λ x h. sym (ap first_state_of (some_same h.unit unit (sym h.attached ∙ there))) ∙ now_first units u x h;
+      crash = λ x l. inl (left_first units u x l ∙ ap first_state_of (same_Some l.unit unit (sym l.attached ∙ there)));
+      has = λ x h. sym (ap first_state_of (same_Some h.unit unit (sym h.attached ∙ there))) ∙ now_first units u x h;
     }
 
 holds_first : (words : List UnitWord) (units : List Attached) (infos : List UnitInfo) → AreAttached [] words units → infos ≡ infos_on 0 words units → HaveDistinctDevices infos → HaveSizes infos
@@ -194,7 +189,7 @@ holds_first words units infos are is distinct sizes = record {
       let e : 0 + u ≡ u = omega arith in
       let same : info ≡ info_of l.word u (disk_of l.unit).count = l.info_is ∙ ap (λ (k : ℕ). info_of l.word k (disk_of l.unit).count) e in
       let size : IsBlockSize l.word.bsize = subst (λ (i : UnitInfo). IsBlockSize i.bsize) same (sizes u info at) in
-      subst (HoldsUnit (fresh units) (settled units) (new_table infos) u) (sym same) (holds_line units infos u l.word l.unit l.there l.is size (get_below infos u info at));
+      subst (HoldsUnit (fresh units) (settled units) (new_table infos) u) (sym same) (holds_line units infos u l.word l.unit l.there l.is size (slice_get_within infos u info at));
 }
   where
     many : length infos ≡ length units

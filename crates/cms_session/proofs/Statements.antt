@@ -1,6 +1,7 @@
 -- What procedures do in a session: how they end and go on, and how what they want is met.
-use Rattle.std.proofs.Common.{◌≡◌, ℕ, ℤ, zero, suc, ◌+◌, ◌≤◌, Bool, true, false, List, [], ◌∷◌, length, drop, slice_get, Option, Some, None, Result, Ok, Err, refl, ap, sym, ◌∙◌, subst, arith}
+use Rattle.std.proofs.Common.{◌≡◌, ℕ, ℤ, suc, ◌+◌, ◌≤◌, Bool, true, false, List, [], ◌∷◌, length, drop, slice_get, Option, Some, None, Result, Ok, Err, refl, ap, sym, ◌∙◌, subst}
 use Rattle.std.specs.Prelude.{nat_le}
+use Rattle.std.proofs.lemmas.List.{drop_all}
 use Rattle.cms_fields.specs.declared.time.Moment.{Moment}
 use Rattle.cms_machine.specs.Slots.{Slot}
 use Rattle.cms_machine.specs.Acts.{Act, Done, Out, bind, saying, typed_line}
@@ -27,6 +28,7 @@ use Rattle.exec2_run.specs.Steps as exec
 use Rattle.exec2_run.specs.declared.exec.Exec.{Exec}
 use Rattle.exec2_run.specs.declared.want.Side.{Side}
 use Rattle.exec2_run.specs.declared.want.Want.{Want}
+use Rattle.exec2_run.proofs.Places.{from_place}
 use Rattle.cms_session.specs.Commands.{is_comment}
 use Rattle.cms_session.specs.Lines.{Issued, issued}
 use Rattle.cms_session.specs.Machine.{run_line}
@@ -81,17 +83,6 @@ does_here before now t x d d' a = record {
 
 -- ---- lines that are typed
 
-drop_next : (xs : List (List ℕ)) (k : ℕ) (x : List ℕ) → slice_get xs k ≡ Some x → drop k xs ≡ x ∷ drop (k + 1) xs
-drop_next [] k x at = absurd (cc at)
-drop_next (y ∷ xs) zero x at = let same : y ≡ x = cc at in rw same refl
-drop_next (y ∷ xs) (suc k) x at = let next : suc k + 1 ≡ suc (k + 1) = omega arith in rw next (drop_next xs k x at)
-
-drop_over : (xs : List (List ℕ)) (k : ℕ) → length xs ≤ k → drop k xs ≡ []
-drop_over [] zero over = refl
-drop_over [] (suc k) over = refl
-drop_over (x ∷ xs) zero over = absurd (omega (arith, over))
-drop_over (x ∷ xs) (suc k) over = drop_over xs k (omega (arith, over))
-
 module _ (lines : List (List ℕ)) where
   abbrev pub AreSaid : Seen → Seen → ℕ → Type 0
   AreSaid before now k = Reached before now (typing lines nothing) (typing (drop k lines) nothing)
@@ -103,7 +94,7 @@ module _ (lines : List (List ℕ)) where
       → Reached before mid (typing lines nothing) (bind (saying (typed_line line)) (λ (x : Unit {0}). typing (drop (k + 1) lines) nothing))
   line_due before mid k line is a =
       subst (λ (t : Act (Unit {0})). Reached before mid (typing lines nothing) t)
-      (ap (λ (l : List (List ℕ)). typing l nothing) (drop_next lines k line is) ∙ typing_first line (drop (k + 1) lines)) a
+      (ap (λ (l : List (List ℕ)). typing l nothing) (from_place lines k line (sym is)) ∙ typing_first line (drop (k + 1) lines)) a
 
   pub one_said : (before mid now : Seen) (k : ℕ) (line : List ℕ) (x : Unit {0}) → slice_get lines k ≡ Some line → AreSaid before mid k
       → Does mid now (saying (typed_line line)) (Ok x) itself → AreSaid before now (k + 1)
@@ -120,7 +111,7 @@ module _ (lines : List (List ℕ)) where
   pub all_said : (before now : Seen) (k : ℕ) (x : Unit {0}) → length lines ≤ k → AreSaid before now k → Does before now (typing lines nothing) (Ok x) said
   all_said before now k x is a =
       reached_to before now (typing lines nothing) x said
-      (subst (λ (t : Act (Unit {0})). Reached before now (typing lines nothing) t) (ap (λ (l : List (List ℕ)). typing l nothing) (drop_over lines k is) ∙ typing_none) a)
+      (subst (λ (t : Act (Unit {0})). Reached before now (typing lines nothing) t) (ap (λ (l : List (List ℕ)). typing l nothing) (drop_all k lines is) ∙ typing_none) a)
 
 -- ---- between two statements
 

@@ -1,5 +1,5 @@
 -- Units are attached one after another.
-use Rattle.std.proofs.Common.{◌≡◌, ◌⊎◌, inl, inr, ⊎_elim, ℕ, zero, suc, ◌+◌, ◌≤◌, ◌<◌, Bool, true, false, List, [], ◌∷◌, ◌++◌, length, map, min, take, drop, get_or, slice_get, replicate, Option, Some, None, Result, Ok, Err, refl, ap, sym, subst, ◌∙◌, arith, append-nil}
+use Rattle.std.proofs.Common.{◌≡◌, ◌⊎◌, inl, inr, ⊎_elim, ℕ, zero, suc, ◌+◌, ◌≤◌, ◌<◌, Bool, true, false, List, [], ◌∷◌, ◌++◌, length, map, min, take, drop, get_or, slice_get, Option, Some, None, Result, Ok, Err, refl, ap, sym, subst, ◌∙◌, arith, append-nil}
 use Rattle.std.specs.Prelude.{⊤, IsSomeAnd, ◌==◌, ◌||◌, if◌then◌else◌}
 use Rattle.std.specs.Option.{ForSome, option_map_or}
 use Rattle.std.proofs.Math.Seq.{take-suc}
@@ -13,8 +13,8 @@ use Rattle.cms_journal.specs.Told.{Told}
 use Rattle.cms_model.specs.Volumes.{disk_of}
 use Rattle.cms_disk.specs.declared.unit.UnitInfo.{UnitInfo}
 use Rattle.cms_search.specs.Calls.{IsUsableUnit, Usable}
-use Rattle.cms_search.specs.Searches.{item_at}
 use Rattle.cms_search.specs.Tables.{HaveDistinctDevices, new_table}
+use Rattle.cms_search.proofs.Tabling.{none_replicated}
 use Rattle.cms_world.specs.Seen.{Seen}
 use Rattle.cms_words.specs.Words.{devices_of, has_device, repeated_device, without_repeat}
 use Rattle.cms_words.specs.declared.fault.WordFault.{WordFault}
@@ -41,15 +41,10 @@ one_of [] x (suc u) y e = absurd (cc e)
 one_of (z ∷ xs) x zero y e = inl e
 one_of (z ∷ xs) x (suc u) y e = one_of xs x u y e
 
-pub none_at : {A : Type 0} (k n : ℕ) (s : A) → item_at (replicate k None) n ≡ Some s → ⊥
-none_at zero n s e = absurd (cc e)
-none_at (suc k) zero s e = absurd (cc e)
-none_at (suc k) (suc n) s e = none_at k n s e
-
 -- ---- what may be used
 
 pub usable_none : (told : Told) → Usable told (new_table [])
-usable_none told = λ j is. record { units = λ u unit e. absurd (cc e); seats = λ n s unit at has. absurd (none_at 26 n s at) }
+usable_none told = λ j is. record { units = λ u unit e. absurd (cc e); seats = λ n s unit at has. absurd (none_replicated 26 n s at) }
 
 usable_kept : (j k : Journal) (more : List Attached) (unit : UnitInfo) → k.units ≡ j.units ++ more → IsUsableUnit j unit → IsUsableUnit k unit
 usable_kept j k more unit is u = record {
@@ -71,7 +66,7 @@ usable_more (Some j) new word infos info usable attached silent one = λ k is.
       units = λ u unit e. ⊎_elim
           (λ (h : slice_get infos u ≡ Some unit). usable_kept j k _ unit units_are (before.units u unit h))
           (λ (h : info ≡ unit). subst (λ (i : UnitInfo). IsUsableUnit k i) h (one k is)) (one_of infos info u unit e);
-      seats = λ n s unit at has. absurd (none_at 26 n s at);
+      seats = λ n s unit at has. absurd (none_replicated 26 n s at);
     }
 
 -- a journal has one unit more

@@ -34,7 +34,7 @@ use Rattle.cms_session.specs.declared.state.Finish.{Finish}
 
 -- the procedures that run, the newest first
 abbrev pub procedures_of : declared_session.Session → List Exec
-procedures_of s = s.procedures.running.items
+procedures_of s = s.procedures
 
 abbrev pub session_of : declared_session.Session → List Slot → Session
 session_of s units = record { machine = machine_of s.state units; procedures = procedures_of s }

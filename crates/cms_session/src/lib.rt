@@ -6,7 +6,6 @@ mod command;
 mod issuing;
 mod laws;
 mod round;
-mod running;
 mod session;
 mod state;
 mod statement;

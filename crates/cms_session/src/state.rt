@@ -1,13 +1,14 @@
 // The parts of a session, and how they end.
-use crate::running::Procedures;
 use cms_search::State;
+use exec2_run::{Exec, Stack};
 
 /// All that a session holds apart from its world.
 #[derive(Drop)]
 pub struct Session {
     pub state: State,
-    /// each between two statements, but those that issued the line or the command that runs
-    pub procedures: Procedures,
+    /// those that run, the newest first, each but the last begun by the one behind it; each stands between two statements, but those that
+    /// issued the line or the command that runs
+    pub procedures: Stack<Exec>,
 }
 
 /// How a session ends that isn't cut off.

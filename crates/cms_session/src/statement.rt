@@ -1,9 +1,8 @@
 // A statement of the newest procedure: it is run, what it wants is met, and procedures end.
-ghost use Rattle.std.specs.Prelude.{◌≡◌, ◌+◌, ◌≤◌, ◌<◌, nat_le, length, pos, true, IfOk};
+ghost use Rattle.std.specs.Prelude.{◌≡◌, ◌+◌, ◌≤◌, ◌<◌, pos, true, IfOk};
 ghost use Rattle.cms_fields.specs.Moments.{is_moment};
 ghost use Rattle.cms_fields.specs.Offsets.{IsOffset};
 ghost use Rattle.cms_line.specs.Messages.{message_text};
-ghost use Rattle.cms_line.specs.Stack.{most_lines};
 ghost use Rattle.cms_line.specs.declared.message.Message.TheVariants.{M085};
 ghost use Rattle.cms_machine.specs.Acts.{Done, saying, typed_line};
 ghost use Rattle.cms_search.specs.Calls.{spot, Acts, Does, IsUsable, itself, said};
@@ -19,8 +18,8 @@ ghost use Rattle.cms_session.specs.declared.state.Round.TheVariants.{Ready};
 use crate::issuing::{Issued, issue};
 use crate::state::{Finish, Round, Session};
 use crate::turning::turn;
-use cms_files::{StackEnd, stack_lines};
-use cms_line::{Line, Lines, Message, ProgStack, STACK_LINES, Word};
+use cms_files::{StackEnd, has_room, stack_lines};
+use cms_line::{Line, Lines, Message, Word};
 use cms_search::{Asked, Course, End, State, say, say_message, say_ready};
 use cms_text::decimal;
 use cms_world::World;
@@ -116,7 +115,9 @@ fn settle<W: World>(
     match over(alloc, world, &procedure, &want)? {
         Some(code) => Ok(Some(code)),
         None => {
-            session.procedures.push(procedure)?;
+            let Ok(()) = session.procedures.push(procedure) else {
+                return Err(End::Memory);
+            };
             Ok(None)
         }
     }
@@ -233,16 +234,6 @@ fn type_lines<W: World>(
     go_on(alloc, world, session, procedure)
 }
 
-// Whether there is room for so many lines.
-fn has_room(stack: &ProgStack, lines: &Lines) -> bool
-    ensures { result ≡ nat_le (length stack.now + length lines.now) most_lines }
-{
-    match stack.len().checked_add(lines.len()) {
-        Some(count) => count <= STACK_LINES,
-        None => false,
-    }
-}
-
 fn end_of(side: Side) -> StackEnd
     ensures { result ≡ spec.end_of side }
 {
@@ -314,7 +305,9 @@ fn command<W: World>(
     ensures offset { session.new.state.offset ≡ session.old.state.offset }
     ensures left { session.new.state.left ≤ session.old.state.left }
 {
-    session.procedures.push(procedure)?;
+    let Ok(()) = session.procedures.push(procedure) else {
+        return Err(End::Memory);
+    };
     let running = session.procedures.len();
     let issued = issue(alloc, world, &mut session.state, running, line)?;
     answer(alloc, world, session, issued)

@@ -11,7 +11,6 @@ ghost use Rattle.cms_words.specs.declared.fault.WordFault.TheVariants.{Memory};
 ghost use Rattle.cms_session.specs.Words.{AreUnits, Asked, Runs, asked_of, given_by, read_words};
 
 use crate::attaching::attach_all;
-use crate::running::Procedures;
 use crate::session::play;
 use crate::state::{Finish, Session};
 use crate::status::Status;
@@ -20,6 +19,7 @@ use cms_line::Console;
 use cms_search::{End, State, UnitList};
 use cms_words::{WordFault, Words, read_words};
 use cms_world::{Argv, World};
+use exec2_run::Stack;
 use std::alloc::{AllocError, Global};
 
 // How a session ended that wasn't cut off.
@@ -83,7 +83,7 @@ fn run_on<W: World>(alloc: Global, world: &mut W, words: &Words, units: UnitList
     };
     let mut session = Session {
         state,
-        procedures: Procedures::new(alloc),
+        procedures: Stack::new(alloc),
     };
     match play(alloc, world, &mut session) {
         Ok(finish) => status_of(finish),

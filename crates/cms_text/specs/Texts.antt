@@ -1,5 +1,5 @@
 -- Texts in EBCDIC: blanks and words.
-use Rattle.std.specs.Prelude.{ℕ, ◌==◌, ◌-◌, Bool, List, map, take, drop, length, unwrap_or}
+use Rattle.std.specs.Prelude.{ℕ, ◌==◌, ◌-◌, Bool, if◌then◌else◌, List, [], ◌∷◌, map, take, drop, length, unwrap_or}
 use Rattle.std.specs.List.{before_first, filter_map, prefix_len, suffix_len}
 use Rattle.std.specs.Str.{bytes_eq}
 use Rattle.cms_ebcdic.specs.CodePage.{code_of, upper_of}
@@ -11,13 +11,22 @@ Text = List ℕ
 abbrev pub is_blank : ℕ → Bool
 is_blank byte = byte == 0x40
 
+-- the text without the bytes at its end that are this one
+abbrev pub without_trailing : ℕ → Text → Text
+without_trailing last text = take (length text - suffix_len (λ byte. byte == last) text) text
+
 -- the text without the blanks at its end
 abbrev pub without_trailing_blanks : Text → Text
-without_trailing_blanks text = take (length text - suffix_len is_blank text) text
+without_trailing_blanks text = without_trailing 0x40 text
 
 -- the text without the blanks that it begins with
 abbrev pub without_leading_blanks : Text → Text
 without_leading_blanks text = drop (prefix_len is_blank text) text
+
+-- the text without the one blank that it may begin with
+abbrev pub without_one_blank : Text → Text
+without_one_blank [] = []
+without_one_blank (byte ∷ bytes) = if is_blank byte then bytes else byte ∷ bytes
 
 -- what stands before the first blank, or all where there is none
 abbrev pub before_blank : Text → Text

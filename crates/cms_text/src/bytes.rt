@@ -1,5 +1,5 @@
-//! Numbers in bytes, the highest byte first, and bytes that are written over others.
-ghost use Rattle.std.specs.Prelude.{◌≡◌, ◌+◌, ◌≤◌, length};
+//! Bytes from a place on, numbers in bytes, the highest byte first, and bytes that are written over others.
+ghost use Rattle.std.specs.Prelude.{◌≡◌, ◌+◌, ◌≤◌, drop, length};
 ghost use Rattle.byteorder.specs.Endian.{big_bytes};
 ghost use Rattle.cms_text.specs.Bytes.{word, half, overwritten};
 
@@ -21,6 +21,15 @@ pub fn half_at(bytes: &[u8], at: usize) -> u16
     ensures { result ≡ half bytes.now at }
 {
     BigEndian::read_u16(&bytes[at..])
+}
+
+/// The bytes from a place on.
+pub fn after(bytes: &[u8], at: usize) -> &[u8]
+    requires { at ≤ length bytes.now }
+    ensures bytes { result.now ≡ drop at bytes.now }
+    ensures size { length result.now + at ≡ length bytes.now }
+{
+    &bytes[at..]
 }
 
 /// Writes a field over the bytes at a place.

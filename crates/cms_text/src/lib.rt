@@ -12,7 +12,7 @@ pub use numbers::{decimal, magnitude, number, written};
 pub use text::{LONGEST_TEXT, Line, ShortText, Word};
 pub use words::{
     BLANK, COLON, STROKE, ZERO, coded, ebcdic, first_word, is_keyword, without_leading_blanks,
-    without_trailing_blanks,
+    without_one_blank, without_trailing, without_trailing_blanks,
 };
 
 /// A list of lines.

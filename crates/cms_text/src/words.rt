@@ -38,18 +38,25 @@ pub fn coded<const N: usize>(text: &[u8; N]) -> [u8; N]
     codes
 }
 
-/// The text without the blanks at its end.
-pub fn without_trailing_blanks(text: &[u8]) -> &[u8]
-    ensures { result.now ≡ texts.without_trailing_blanks text.now }
+/// The text without the bytes at its end that are this one.
+pub fn without_trailing(last: u8, text: &[u8]) -> &[u8]
+    ensures { result.now ≡ texts.without_trailing last text.now }
 {
     let mut kept = text;
-    while let [front @ .., last] = kept {
-        if *last != BLANK {
+    while let [front @ .., byte] = kept {
+        if *byte != last {
             break;
         }
         kept = front;
     }
     kept
+}
+
+/// The text without the blanks at its end.
+pub fn without_trailing_blanks(text: &[u8]) -> &[u8]
+    ensures { result.now ≡ texts.without_trailing_blanks text.now }
+{
+    without_trailing(BLANK, text)
 }
 
 /// Whether a word is this keyword, which is given in ASCII capitals, in capital or small letters.
@@ -93,6 +100,17 @@ pub fn without_leading_blanks(text: &[u8]) -> &[u8]
     ensures { result.now ≡ texts.without_leading_blanks text.now }
 {
     &text[leading_blanks(text)..]
+}
+
+/// The text without the one blank that it may begin with.
+pub fn without_one_blank(text: &[u8]) -> &[u8]
+    ensures text { result.now ≡ texts.without_one_blank text.now }
+    ensures short { length result.now ≤ length text.now }
+{
+    match text {
+        [BLANK, rest @ ..] => rest,
+        _ => text,
+    }
 }
 
 fn before_blank(text: &[u8]) -> &[u8]

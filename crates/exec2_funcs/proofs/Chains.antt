@@ -1,15 +1,15 @@
 -- Numbers taken into a result, one after another.
-use Rattle.std.proofs.Common.{◌≡◌, ◌∙◌, ◌∷◌, ◌+◌, ◌<◌, ◌≤◌, ℕ, suc, List, length, drop, get_or, refl, sym, ap, arith}
+use Rattle.std.proofs.Common.{◌≡◌, ◌∷◌, ◌+◌, ◌<◌, ◌≤◌, ℕ, List, length, drop, get_or, refl}
 use Rattle.std.specs.Prelude.{ℤ, Result, Ok, Err}
 use Rattle.std.proofs.Math.ListN.{drop_of_length-le}
-use Rattle.std.proofs.Math.Seq.{drop-cons}
 use Rattle.cms_text.specs.Texts.{Text}
 use Rattle.exec2_funcs.specs.Calls.{chained, number_in}
 use Rattle.exec2_funcs.specs.declared.fault.FuncFault.{FuncFault}
+use Rattle.exec2_funcs.proofs.Joins.{from_here}
 
 module _ (step : ℤ → ℤ → Result ℤ FuncFault) (z : ℤ) (words : List Text) (i : ℕ) (word : Text) (here : i < length words) (is : word ≡ get_or words i word) where
   front : drop i words ≡ word ∷ drop (i + 1) words
-  front = drop-cons words i word here ∙ ap (λ (w : Text). w ∷ drop (suc i) words) (sym is) ∙ (let e : suc i ≡ i + 1 = omega arith in ap (λ k. word ∷ drop k words) e)
+  front = from_here words i word here is
 
   pub no_number : (fault : FuncFault) → number_in word ≡ Err fault → chained step z (drop i words) ≡ Err fault
   unfolding chained

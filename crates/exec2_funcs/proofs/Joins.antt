@@ -4,8 +4,7 @@ use Rattle.std.specs.Prelude.{not, ◌==◌, nat_lt, filter, Result, Ok, Err}
 use Rattle.std.specs.List.{concat}
 use Rattle.std.proofs.lemmas.Bool.Decides.{nat_tests}
 use Rattle.std.proofs.Math.ListN.{drop_of_length-le}
-use Rattle.std.proofs.Math.Seq.{drop-cons}
-use Rattle.std.proofs.lemmas.List.{append-nil, append_assoc, length-append, take_all}
+use Rattle.std.proofs.lemmas.List.{append-nil, append_assoc, drop_more, length-append, take_all}
 use Rattle.exec2_funcs.specs.Calls.{concat_call, fitting, literal_call, string_call}
 use Rattle.exec2_funcs.specs.declared.fault.FuncFault.{FuncFault}
 use Rattle.exec2_funcs.specs.declared.fault.FuncFault.TheVariants.{Memory, TooLong}
@@ -30,8 +29,8 @@ joined-cons word [] = sym (append-nil word)
 joined-cons word (next ∷ more) = ap (λ rest. word ++ (0x40 ∷ rest)) (joined-cons next more)
 
 -- the words from a place on
-from_here : {A : Type 0} (words : List A) (i : ℕ) (word : A) → i < length words → word ≡ get_or words i word → drop i words ≡ word ∷ drop (i + 1) words
-from_here {A} words i word here is = drop-cons words i word here ∙ ap (λ (w : A). w ∷ drop (suc i) words) (sym is) ∙ (let e : suc i ≡ i + 1 = omega arith in ap (λ k. word ∷ drop k words) e)
+pub from_here : {A : Type 0} (words : List A) (i : ℕ) (word : A) → i < length words → word ≡ get_or words i word → drop i words ≡ word ∷ drop (i + 1) words
+from_here {A} words i word here is = drop_more words i word here ∙ ap (λ (w : A). w ∷ drop (i + 1) words) (sym is)
 
 -- a value that fits, and one that doesn't
 fits_all : (text : Text) → length text ≤ 255 → fitting text ≡ Ok text

@@ -4,7 +4,7 @@ mod ByLabels
 mod ByRelation
 mod Cuts
 mod Encoded
-mod Places
+pub mod Places
 mod Searches
 mod Settled
 mod Tails

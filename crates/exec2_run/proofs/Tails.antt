@@ -1,7 +1,7 @@
 -- The fault of a statement's last part is that of the statement.
 use Rattle.std.proofs.Common.{◌≡◌, ◌∙◌, ◌∷◌, [], ◌⊎◌, inl, inr, ◌-◌, ◌≤◌, ℕ, suc, List, length, take, drop, get_or, sym, ap, subst, arith}
 use Rattle.std.specs.Prelude.{Ok, Err}
-use Rattle.std.proofs.Math.Seq.{take-length}
+use Rattle.std.proofs.lemmas.List.{take_all}
 use Rattle.cms_text.specs.Texts.{Text}
 use Rattle.exec2_parse.specs.Expansion.{Binding}
 use Rattle.exec2_run.specs.Calls.{called, called_at, called_by}
@@ -28,9 +28,6 @@ loop_fails s names words value text behind f is e same (inr h) =
     let first : first_of (seen s) words ≡ Ok (value, behind) = subst (λ (n : Binding). first_of n words ≡ Ok (value, behind)) is e in
     inr (rw first (subst (λ (t : Text). range_looped s t behind ≡ Err f) same h))
 
-all_taken : (xs : List Text) → take (suc (length xs) - 1) xs ≡ xs
-all_taken xs = let n : suc (length xs) - 1 ≡ length xs = omega arith in rw n (take-length xs)
-
 pub call_fails : (s : Exec) (names : Binding) (words slice : List Text) (label : Text) (f : Fault) (o : Operands) → names ≡ seen s → o ≡ operands names words → slice ≡ o.words → 1 ≤ length slice
     → label ≡ get_or slice 0 label
     → (f ≡ Memory) ⊎ (called_at s label (take (length slice - 1) (drop 1 slice)) o.is_cut ≡ Err f) → (f ≡ Memory) ⊎ (called s words ≡ Err f)
@@ -39,4 +36,4 @@ call_fails s names words [] label f o seen_is is same h at e = absurd (omega (ar
 call_fails s names words (w ∷ ws) label f o seen_is is same h at (inl m) = inl m
 call_fails s names words (w ∷ ws) label f o seen_is is same h at (inr g) =
     inr (ap (λ (p : Operands). called_by s p.words p.is_cut) (sym (is ∙ ap (λ (n : Binding). operands n words) seen_is)) ∙ ap (λ (xs : List Text). called_by s xs o.is_cut) (sym same)
-    ∙ subst (λ (l : Text). called_at s l ws o.is_cut ≡ Err f) at (subst (λ (vs : List Text). called_at s label vs o.is_cut ≡ Err f) (all_taken ws) g))
+    ∙ subst (λ (l : Text). called_at s l ws o.is_cut ≡ Err f) at (subst (λ (vs : List Text). called_at s label vs o.is_cut ≡ Err f) (take_all (suc (length ws) - 1) ws (omega arith)) g))

@@ -1,7 +1,7 @@
 -- A variable that was set and taken back.
 use Rattle.std.proofs.Common.{◌≡◌, ◌∙◌, ◌∷◌, [], ◌⊎◌, inl, inr, ◌-◌, ◌≤◌, suc, List, length, take, drop, get_or, arith, refl, sym, ap, subst, Bool, true, false, cond}
 use Rattle.std.specs.Prelude.{Option, Some, None, Ok, Err, IsSome}
-use Rattle.std.proofs.Math.Seq.{take-length}
+use Rattle.std.proofs.lemmas.List.{take_all}
 use Rattle.std.specs.Ordering.{is_eq}
 use Rattle.std.specs.Cmp.{eq_by_cmp_equiv}
 use Rattle.std.specs.Cmp.Lexicographic.{nat_list_cmp_total}
@@ -70,9 +70,6 @@ still_there v w u name again value e same left =
     subst (λ (x : Variables). IsSome (get (table_of x again) again)) (sym left)
     (subst (λ (n : Text). IsSome (get (table_of w n) n)) (sym same) (is_there v w name value e))
 
-all_taken : (xs : List Text) → take (suc (length xs) - 1) xs ≡ xs
-all_taken xs = let n : suc (length xs) - 1 ≡ length xs = omega arith in rw n (take-length xs)
-
 -- a fault behind the first variable: that is taken back
 pub each_fails : (names words behind : List Text) (v w u t : Variables) (item name again value : Text) (before : Option Text) (f : Fault)
     → 1 ≤ length names → item ≡ get_or names 0 item → name ≡ item → value ≡ first_or_empty words → behind ≡ drop 1 words
@@ -93,4 +90,4 @@ each_fails (n ∷ ns) words behind v w u t item name again value before f some t
         → (f ≡ Memory) ⊎ ((with_value v n (first_or_empty words) >>= (λ x. each_set ns (drop 1 words) x)) ≡ Err f)
     failing (inl m) = inl m
     failing (inr g) = inr (rw first (subst (λ (xs : List Text). each_set ns xs w ≡ Err f) rest
-        (subst (λ (xs : List Text). each_set xs behind w ≡ Err f) (all_taken ns) g)))
+        (subst (λ (xs : List Text). each_set xs behind w ≡ Err f) (take_all (suc (length ns) - 1) ns (omega arith)) g)))

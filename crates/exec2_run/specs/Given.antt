@@ -2,7 +2,7 @@
 use Rattle.std.specs.Prelude.{ℕ, ◌+◌, ◌-◌, ◌/◌, ◌%◌, ◌==◌, nat_le, nat_lt, Bool, false, ◌&&◌, ◌||◌, if◌then◌else◌, List, [], ◌∷◌, codes, length, find, Option, Some, None, is_some, pos}
 use Rattle.std.specs.List.{list_all}
 use Rattle.cms_fields.specs.declared.time.Moment.{Moment}
-use Rattle.cms_text.specs.Texts.{Text, is_blank, is_keyword}
+use Rattle.cms_text.specs.Texts.{Text, is_blank, is_keyword, without_one_blank}
 use Rattle.exec2_parse.specs.Expansion.{Binding}
 use Rattle.exec2_parse.specs.Variables.{Values, value_of}
 use Rattle.cms_text.specs.Numbers.{written}
@@ -87,10 +87,6 @@ ends_name byte = is_blank byte || ((byte == 0x4D) || (byte == 0x5D))
 unfoldable pub behind_name : Text → Text
 behind_name [] = []
 behind_name (byte ∷ bytes) = if ends_name byte then byte ∷ bytes else behind_name bytes
-
-abbrev pub without_one_blank : Text → Text
-without_one_blank [] = []
-without_one_blank (byte ∷ bytes) = if is_blank byte then bytes else byte ∷ bytes
 
 -- what is fixed where a procedure begins, called by a line and found in a file
 abbrev pub at_start : Text → FileName → AtStart

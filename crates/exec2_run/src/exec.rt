@@ -1,5 +1,5 @@
 // A procedure that runs.
-ghost use Rattle.std.specs.Prelude.{◌≡◌, ◌≢◌, IfOk, IfErr, OnOk, OnErr, Ok, Err, ◌⊎◌, MatchResult, drop, length, unwrap_or, slice_get};
+ghost use Rattle.std.specs.Prelude.{◌≡◌, ◌≢◌, IfOk, IfErr, OnOk, OnErr, Ok, Err, ◌⊎◌, MatchResult, length, unwrap_or, slice_get};
 ghost use Rattle.exec2_run.specs.Faults.{Answers, Does, Leads, number_of_fault};
 ghost use Rattle.exec2_run.specs.Given.{bound, seen, seen_at};
 ghost use Rattle.exec2_run.specs.Steps as spec;
@@ -14,7 +14,7 @@ use crate::loops::Loops;
 use crate::reading::Reading;
 use crate::values::{ended, expanded_words, value, whole};
 use crate::variables::Variables;
-use crate::words::{copied, is_comment, statement_of, words_of};
+use crate::words::{behind_first, copied, is_comment, statement_of, words_of};
 use crate::{Fault, Want};
 use cms_fields::{FIRST_MOMENT, Moment};
 use cms_names::Name;
@@ -396,7 +396,7 @@ impl Exec {
         match kind_of(words) {
             Kind::Nothing => Ok(Want::Next),
             Kind::Assignment => self.assign(words),
-            Kind::Control(control) => self.run_control(control, behind(words)),
+            Kind::Control(control) => self.run_control(control, behind_first(words)),
             Kind::Command => self.command(words),
         }
     }
@@ -478,15 +478,6 @@ fn is_if(words: &[Word]) -> bool
     match kind_of(words) {
         Kind::Control(Control::If) => true,
         _ => false,
-    }
-}
-
-fn behind(words: &[Word]) -> &[Word]
-    ensures { result.now ≡ drop 1 words.now }
-{
-    match words {
-        [_, others @ ..] => others,
-        [] => words,
     }
 }
 

@@ -8,7 +8,9 @@ use crate::FileName;
 use crate::variables::Variables;
 use cms_fields::Moment;
 use cms_names::Part;
-use cms_text::{BLANK, COLON, Line, STROKE, Word, ZERO, ebcdic, is_keyword, written};
+use cms_text::{
+    BLANK, COLON, Line, STROKE, Word, ZERO, ebcdic, is_keyword, without_one_blank, written,
+};
 use exec2_parse::Scope;
 use std::alloc::{AllocError, Global};
 
@@ -245,16 +247,6 @@ fn ends_name(byte: u8) -> bool
 }
 
 const RIGHT_PARENTHESIS: u8 = 0x5D;
-
-fn without_one_blank(text: &[u8]) -> &[u8]
-    ensures rest { result.now ≡ spec.without_one_blank text.now }
-    ensures short { length result.now ≤ length text.now }
-{
-    match text {
-        [BLANK, rest @ ..] => rest,
-        _ => text,
-    }
-}
 
 /// The letter and the number of a file's mode.
 fn mode(alloc: Global, found: &FileName) -> Result<Word, AllocError>

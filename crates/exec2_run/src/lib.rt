@@ -24,4 +24,5 @@ mod words;
 pub use exec::{Exec, FileName};
 pub use fault::Fault;
 pub use laws::{call_laws, label_laws, statement_laws};
+pub use stack::Stack;
 pub use want::{Side, Want};

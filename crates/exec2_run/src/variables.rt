@@ -1,5 +1,5 @@
 // Variables that are set, the arguments among them.
-ghost use Rattle.std.specs.Prelude.{◌≡◌, ◌+◌, IfOk, IsSome, is_some, drop};
+ghost use Rattle.std.specs.Prelude.{◌≡◌, ◌+◌, IfOk, IsSome, is_some};
 ghost use Rattle.std.specs.FinMap.{empty, get, insert, len, remove};
 ghost use Rattle.std.specs.List.{list_all};
 ghost use Rattle.exec2_parse.specs.Variables.{value_of};
@@ -8,6 +8,7 @@ ghost use Rattle.exec2_run.specs.Given as given;
 ghost use Rattle.exec2_run.specs.Variables as spec;
 
 use crate::given::{Seen, is_given, numeral};
+use crate::words::behind_first;
 use crate::{Exec, Fault, Want};
 use cms_text::Word;
 use exec2_parse::{Scope, Vars, expand_in, folded};
@@ -226,15 +227,6 @@ fn first_or_empty(alloc: Global, words: &[Word]) -> Result<Word, AllocError>
     match words {
         [word, ..] => Word::of(alloc, word.bytes()),
         [] => Ok(Word::take(Vec::new(alloc))),
-    }
-}
-
-fn behind_first(words: &[Word]) -> &[Word]
-    ensures { result.now ≡ drop 1 words.now }
-{
-    match words {
-        [_, rest @ ..] => rest,
-        [] => words,
     }
 }
 

@@ -69,6 +69,16 @@ pub fn statement_of(words: &[Word]) -> &[Word]
     }
 }
 
+/// The words behind the first.
+pub fn behind_first(words: &[Word]) -> &[Word]
+    ensures { result.now ≡ drop 1 words.now }
+{
+    match words {
+        [_, others @ ..] => others,
+        [] => words,
+    }
+}
+
 /// Whether a word has the form of a label.
 pub fn is_label(word: &[u8]) -> bool
     ensures { result ≡ spec.is_label word.now }

@@ -10,7 +10,8 @@ use Rattle.cms_search.specs.declared.state.Course.TheVariants.{OutOfTurns, Went}
 use Rattle.cms_search.proofs.Acts.{acts_same, acts_stop}
 use Rattle.cms_access.specs.Format.{erasing, goes_on, on_reply, reply}
 use Rattle.cms_access.specs.Questions.{question_tree}
-use Rattle.cms_access.proofs.Questioned.{acts_bind, acts_over, acts_starving, goes, stays_so}
+use Rattle.cms_search.proofs.Staying.{acts_starved}
+use Rattle.cms_access.proofs.Questioned.{acts_bind, acts_over, goes, stays_so}
 use Rattle.cms_access.proofs.formatting.ask_first.Goals as goal
 
 pub returns-in_err-given-clause-acts : goal.returns-in_err-given-clause-acts
@@ -44,7 +45,7 @@ returns-in_err-text-clause-acts g c =
     rw (p.1, p.2)
     (acts_bind _ given given (question_tree c.args.state.now (M603 (letter_text line.letter) (device_text line.vdev))) (on_reply (erasing line)) (Given c.in-Given.given) (asked_of st') _
     (course_of st') acts
-    (acts_starving given (λ units. on_reply (erasing line) (asked_of st' units (Given c.in-Given.given))) (course_of st')))
+    (acts_starved given (λ units. on_reply (erasing line) (asked_of st' units (Given c.in-Given.given))) (course_of st')))
 
 pub returns-then-not-goes_on-clause-acts : goal.returns-then-not-goes_on-clause-acts
 returns-then-not-goes_on-clause-acts g c =

@@ -9,7 +9,8 @@ use Rattle.cms_search.proofs.Acts.{acts_stop}
 use Rattle.cms_access.specs.Format.{on_label}
 use Rattle.cms_access.specs.Questions.{labelling_of, question_tree}
 use Rattle.cms_access.specs.declared.questions.Label.TheVariants.{Ended}
-use Rattle.cms_access.proofs.Questioned.{acts_bind, acts_over, acts_starving}
+use Rattle.cms_search.proofs.Staying.{acts_starved}
+use Rattle.cms_access.proofs.Questioned.{acts_bind, acts_over}
 use Rattle.cms_access.proofs.questions.ask_label.Goals as goal
 
 pub returns-in_err-line-clause-acts : goal.returns-in_err-line-clause-acts
@@ -27,7 +28,7 @@ returns-in_err-text-in-Given-clause-acts g c =
     let acts = rw is at c.in_ok-line.ensures.acts in
     rw (p.1, p.2)
     (acts_bind _ given given (question_tree c.args.state.now M605) on_label (Given c.in-Given.line) (asked_of st') _ (labelling_of st') acts
-    (acts_starving given (λ units. on_label (asked_of st' units (Given c.in-Given.line))) (labelling_of st')))
+    (acts_starved given (λ units. on_label (asked_of st' units (Given c.in-Given.line))) (labelling_of st')))
 
 pub returns-in_ok-text-in-Given-clause-acts : goal.returns-in_ok-text-in-Given-clause-acts
 returns-in_ok-text-in-Given-clause-acts g c =

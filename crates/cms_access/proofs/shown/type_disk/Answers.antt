@@ -1,7 +1,8 @@
 use Rattle.std.proofs.Common.{◌∙◌}
 use Rattle.std.proofs.lemmas.Result.{err_from_is_err_and}
 use Rattle.cms_search.proofs.Says.{not_done}
-use Rattle.cms_access.proofs.Queries.{none_told, one_told, said_one}
+use Rattle.cms_search.proofs.Lined.{said_one}
+use Rattle.cms_access.proofs.Queries.{none_told, one_told}
 use Rattle.cms_access.proofs.shown.type_disk.Goals as goal
 
 pub returns-in_default : goal.returns-in_default

@@ -1,12 +1,14 @@
-use Rattle.std.proofs.Common.{◌∙◌, refl, arith, subst, sym}
+use Rattle.std.proofs.Common.{refl, subst, sym}
 use Rattle.cms_journal.specs.Told.{Told}
 use Rattle.cms_search.specs.Calls.{Holds, machine_of, spot}
+use Rattle.cms_search.specs.Stepping.{HasRead}
 use Rattle.cms_search.proofs.Acts.{acts_after}
+use Rattle.cms_search.proofs.Handing.{only_read, reads_then}
 use Rattle.cms_search.proofs.Stepped.{written_at}
 use Rattle.cms_files.specs.Updating.{updated_of, updating}
 use Rattle.cms_copyfile.specs.Appending.{IsOwnFault, IsOwnMeasured}
 use Rattle.cms_copyfile.specs.FileCopies.{form_in}
-use Rattle.cms_copyfile.specs.OneCopy.{AreMeasured, HasRead}
+use Rattle.cms_copyfile.specs.OneCopy.{AreMeasured}
 use Rattle.cms_copyfile.proofs.Appended.{add_in, adds_in, both_measured_as, own_failed, own_never}
 use Rattle.cms_copyfile.proofs.FirstPass.{read_never}
 use Rattle.cms_copyfile.proofs.JoinShaped.{joined_so}
@@ -27,7 +29,7 @@ returns-in-Some-clause-acts g c = λ before words input read opened more.
     let mid = spot g.W.World c.measure_own.new.world st in
     let reads = c.in-Ok.ensures.reads in
     let told = reads.told in
-    let read' : HasRead before mid.world = record { told = told ∙ read.told; faults = omega (arith, reads.faults, read.faults); edges = reads.edges ∙ read.edges } in
+    let read' : HasRead before mid.world = reads_then _ _ _ read (only_read _ _ _ _ reads) in
     let copies : AreMeasured mid line f (form_in own) c.args.more.now = λ units h x. more units (subst (λ (t : Told). Holds t st.table units) told h) x in
     let mine : IsOwnMeasured mid.world.told st.table f.letter f.name plan.format c.in-Ok.front =
     subst (λ (t : Told). IsOwnMeasured t st.table f.letter f.name plan.format c.in-Ok.front) (sym told) c.in-Ok.ensures.measured in
@@ -43,7 +45,7 @@ pub returns-in-None-clause-acts : goal.returns-in-None-clause-acts
 returns-in-None-clause-acts g c = λ before words input read opened more.
     let mid = spot g.W.World c.measure_own.new.world c.args.state.now in
     let reads = c.in-Ok.ensures.reads in
-    let read' : HasRead before mid.world = record { told = reads.told ∙ read.told; faults = omega (arith, reads.faults, read.faults); edges = reads.edges ∙ read.edges } in
+    let read' : HasRead before mid.world = reads_then _ _ _ read (only_read _ _ _ _ reads) in
     cut_read before mid (whole mid words c.args.line.now c.args.file.now) (updated_of c.args.state.now) read'
 
 -- never in a world that tells its journal
@@ -54,13 +56,13 @@ returns-in-Altered-clause-acts g c = λ before words input read opened more.
     let line = c.args.line.now in
     let old = spot g.W.World c.args.world.now st in
     let mid = spot g.W.World c.measure_own.new.world st in
-    let new = spot g.W.World c.stop_altered.new.world st in
+    let new = spot g.W.World c.stop_unread.new.world st in
     let reads = c.in-Err.ensures.reads in
     let told = reads.told in
-    let read' : HasRead before mid.world = record { told = told ∙ read.told; faults = omega (arith, reads.faults, read.faults); edges = reads.edges ∙ read.edges } in
+    let read' : HasRead before mid.world = reads_then _ _ _ read (only_read _ _ _ _ reads) in
     let none = subst (IsOwnFault old.world.told st.table f.letter f.name) c.in-Altered.is c.in-Err.ensures.fault in
-    read_never before mid new words line f _ c.stop_altered.result read'
-    (λ units h. own_never old line f c.args.own.now c.requires.file c.requires.own none units (subst (λ (t : Told). Holds t st.table units) told h)) c.stop_altered.ensures
+    read_never before mid new words line f _ c.stop_unread.result read'
+    (λ units h. own_never old line f c.args.own.now c.requires.file c.requires.own none units (subst (λ (t : Told). Holds t st.table units) told h)) c.stop_unread.ensures
 
 -- the device failed, or there is no memory
 pub returns-in_default-clause-acts : goal.returns-in_default-clause-acts

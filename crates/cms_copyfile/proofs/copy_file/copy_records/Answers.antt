@@ -1,19 +1,18 @@
-use Rattle.std.proofs.Common.{◌∙◌, ⊎_elim, ap}
+use Rattle.std.proofs.Common.{◌∙◌, ap}
 use Rattle.std.proofs.lemmas.Result.{err_from_is_err_and}
 use Rattle.cms_world.specs.Seen.{seen}
-use Rattle.cms_search.specs.Calls.{machine_of, spot}
-use Rattle.cms_search.specs.Stepping.{failing}
-use Rattle.cms_search.proofs.Acts.{acts_after}
+use Rattle.cms_search.specs.Calls.{spot}
+use Rattle.cms_search.specs.Stepping.{HasRead}
+use Rattle.cms_search.proofs.Handing.{only_read}
 use Rattle.cms_search.proofs.Staying.{acts_starved}
 use Rattle.cms_files.specs.Updating.{updated_of}
 use Rattle.cms_copyfile.specs.FileCopies.{form_into}
-use Rattle.cms_copyfile.specs.OneCopy.{HasRead}
 use Rattle.cms_copyfile.specs.Outputs.{plan_of}
 use Rattle.cms_copyfile.specs.declared.output.FileForm.{FileForm}
 use Rattle.cms_copyfile.proofs.CopiesMeasured.{measured_as}
 use Rattle.cms_copyfile.proofs.CopyInput.{opened_blocks}
-use Rattle.cms_copyfile.proofs.FirstPass.{read_altered, read_lost}
-use Rattle.cms_copyfile.proofs.OneRead.{first, whole}
+use Rattle.cms_copyfile.proofs.FirstPass.{read_unread}
+use Rattle.cms_copyfile.proofs.OneRead.{whole}
 use Rattle.cms_copyfile.proofs.copy_file.copy_records.Goals as goal
 
 pub measure_copies-requires-clause-blocks : goal.measure_copies-requires-clause-blocks
@@ -35,7 +34,7 @@ returns-in-Ok-clause-acts g c = λ words.
     let mid = spot g.W.World c.measure_copies.new.world c.args.state.now in
     let e = c.in-Ok.ensures in
     let told = e.reads.told in
-    let read : HasRead (seen g.W.World c.args.world.now) mid.world = record { told = told; faults = e.reads.faults; edges = e.reads.edges } in
+    let read : HasRead (seen g.W.World c.args.world.now) mid.world = only_read _ _ _ _ e.reads in
     let planned = c.plan_of-plan.ensures ∙ ap (λ (z : FileForm). plan_of line.style z f.input.count) c.form-form.ensures in
     c.put_measured.ensures.acts (seen g.W.World c.args.world.now) words input read opened
     (measured_as mid line f (form_into line f) input c.in-Ok.measure c.plan_of-plan.result planned opened c.requires.style (rw told e.measured) (rw told e.records))
@@ -58,29 +57,10 @@ returns-in_err-input-clause-acts g c = λ words.
     let mid = spot g.W.World c.args.world.now c.args.state.now in
     rw (p.1, p.2, memory) (acts_starved mid (whole mid words c.args.line.now c.args.file.now) (updated_of c.args.state.now))
 
--- never in a world that tells its journal
-pub returns-in-Altered-clause-acts : goal.returns-in-Altered-clause-acts
-returns-in-Altered-clause-acts g c = λ words.
-    let before = seen g.W.World c.args.world.now in
-    let mid = spot g.W.World c.measure_copies.new.world c.args.state.now in
-    let new = spot g.W.World c.stop_altered.new.world c.args.state.now in
-    let e = c.in-Err.ensures in
-    let told = e.reads.told in
-    let read : HasRead before mid.world = record { told = told; faults = e.reads.faults; edges = e.reads.edges } in
-    read_altered before mid words c.args.line.now c.args.file.now c.in_ok-input.input read c.requires.file c.in_ok-input.ensures.opened new _ c.stop_altered.result
-    (rw told (e.never c.in-Altered.is)) c.stop_altered.ensures
-
--- the device failed
 pub returns-clause-acts : goal.returns-clause-acts
 returns-clause-acts g c = λ words.
-    let before = seen g.W.World c.args.world.now in
     let mid = spot g.W.World c.measure_copies.new.world c.args.state.now in
     let new = spot g.W.World c.stop_unread.new.world c.args.state.now in
     let e = c.in-Err.ensures in
-    let device = ⊎_elim (λ d. d) (λ a. absurd (c.in_default.not-Altered a)) e.fault in
-    let vdev = c.in_ok-input.input.vdev in
-    let read : HasRead before mid.world = record { told = e.reads.told; faults = e.reads.faults; edges = e.reads.edges } in
-    acts_after (first before mid) mid new (whole mid words c.args.line.now c.args.file.now) (λ units. failing (machine_of c.args.state.now units) vdev) c.stop_unread.result
-    (updated_of c.args.state.now)
-    (read_lost before mid words c.args.line.now c.args.file.now c.in_ok-input.input read c.requires.file c.in_ok-input.ensures.opened (e.reads.cause device))
-    c.stop_unread.ensures
+    read_unread (seen g.W.World c.args.world.now) mid words c.args.line.now c.args.file.now c.in_ok-input.input (only_read _ _ _ _ e.reads) c.requires.file c.in_ok-input.ensures.opened new
+    c.in-Err.fault c.stop_unread.result e.fault e.reads.cause (λ altered. (let told = e.reads.told in rw told (e.never altered))) c.stop_unread.ensures

@@ -1,18 +1,16 @@
-use Rattle.std.proofs.Common.{◌∙◌, List, Err, inl, inr, refl, ap}
+use Rattle.std.proofs.Common.{◌∙◌, List, Err, ap}
 use Rattle.cms_journal.specs.declared.event.Attached.{Attached}
 use Rattle.cms_journal.specs.Journal.{HasBlocks}
 use Rattle.cms_world.specs.Seen.{seen}
 use Rattle.cms_disk.specs.Disks.{Accessed}
-use Rattle.cms_disk.specs.declared.fault.DiskFault.TheVariants.{Device}
 use Rattle.cms_search.specs.Tables.{Seated}
 use Rattle.cms_copyfile.specs.Joining.{FillsBoth}
 use Rattle.cms_copyfile.specs.Writing.{FillsTo}
 use Rattle.cms_copyfile.specs.declared.copying.CopyFault.{CopyFault}
 use Rattle.cms_copyfile.specs.declared.copying.CopyFault.TheVariants as why
-use Rattle.cms_copyfile.specs.declared.writing.Written.TheVariants.{Altered, Came}
 use Rattle.cms_copyfile.proofs.CopyPasses.{units_grown}
-use Rattle.cms_copyfile.proofs.TwoFiles.{altered_both, filled_both, unread_both}
-use Rattle.cms_copyfile.proofs.Writes.{disk_kept, disk_so, may_commit, ready_so, some_seat}
+use Rattle.cms_copyfile.proofs.TwoFiles.{filled_both, seat_failed}
+use Rattle.cms_copyfile.proofs.Writes.{disk_so, may_commit, ready_so, some_seat}
 use Rattle.cms_copyfile.proofs.joining.fill_both.Goals as goal
 
 pub put_copies-requires-clause-ready : goal.put_copies-requires-clause-ready
@@ -46,35 +44,23 @@ returns-in-Ok g c =
 pub returns-in-Err-Read : goal.returns-in-Err-Read
 returns-in-Err-Read g c =
     let s = some_seat _ c.requires.accessed in
-    let before = seen g.W.World c.args.world.now in
-    let now = seen g.W.World c.put_copies.new.world in
     let put = c.put_copies.ensures in
-    let whole = c.whole_plan-whole.ensures in
-    let puts = rw whole at put.puts in
-    disk_kept (λ (x : Seated) (e : Accessed). FillsBoth before now x.disk e c.args.draft c.args.own.now c.args.cursor.now c.args.plan.now (Came (Err Device))) _ c.args.letter s.0 s.1
-    (unread_both before now s.0.disk c.args.draft c.put_copies.new.draft c.args.own.now c.args.cursor.now c.args.plan.now c.put_copies.result puts why.Read
-    (c.in-Err-Read.is ∙ ap (λ (e : CopyFault). Err e) c.in-Err-Read.field-0-is) (inl refl) put.changes)
+    let puts = rw c.whole_plan-whole.ensures at put.puts in
+    seat_failed _ _ _ c.args.letter s.0 c.args.draft c.put_copies.new.draft c.args.own.now c.args.cursor.now c.args.plan.now c.put_copies.result why.Read s.1 puts
+    (c.in-Err-Read.is ∙ ap (λ (e : CopyFault). Err e) c.in-Err-Read.field-0-is) put.changes
 
 pub returns-in-Err-Write : goal.returns-in-Err-Write
 returns-in-Err-Write g c =
     let s = some_seat _ c.requires.accessed in
-    let before = seen g.W.World c.args.world.now in
-    let now = seen g.W.World c.put_copies.new.world in
     let put = c.put_copies.ensures in
-    let whole = c.whole_plan-whole.ensures in
-    let puts = rw whole at put.puts in
-    disk_kept (λ (x : Seated) (e : Accessed). FillsBoth before now x.disk e c.args.draft c.args.own.now c.args.cursor.now c.args.plan.now (Came (Err Device))) _ c.args.letter s.0 s.1
-    (unread_both before now s.0.disk c.args.draft c.put_copies.new.draft c.args.own.now c.args.cursor.now c.args.plan.now c.put_copies.result puts why.Write
-    (c.in-Err-Write.is ∙ ap (λ (e : CopyFault). Err e) c.in-Err-Write.field-0-is) (inr refl) put.changes)
+    let puts = rw c.whole_plan-whole.ensures at put.puts in
+    seat_failed _ _ _ c.args.letter s.0 c.args.draft c.put_copies.new.draft c.args.own.now c.args.cursor.now c.args.plan.now c.put_copies.result why.Write s.1 puts
+    (c.in-Err-Write.is ∙ ap (λ (e : CopyFault). Err e) c.in-Err-Write.field-0-is) put.changes
 
 pub returns : goal.returns
 returns g c =
     let s = some_seat _ c.requires.accessed in
-    let before = seen g.W.World c.args.world.now in
-    let now = seen g.W.World c.put_copies.new.world in
     let put = c.put_copies.ensures in
-    let whole = c.whole_plan-whole.ensures in
-    let puts = rw whole at put.puts in
-    disk_kept (λ (x : Seated) (e : Accessed). FillsBoth before now x.disk e c.args.draft c.args.own.now c.args.cursor.now c.args.plan.now Altered) _ c.args.letter s.0 s.1
-    (altered_both before now s.0.disk c.args.draft c.put_copies.new.draft c.args.own.now c.args.cursor.now c.args.plan.now c.put_copies.result puts
-    (c.in-Err-Altered.is ∙ ap (λ (e : CopyFault). Err e) c.in-Err-Altered.field-0-is) put.changes)
+    let puts = rw c.whole_plan-whole.ensures at put.puts in
+    seat_failed _ _ _ c.args.letter s.0 c.args.draft c.put_copies.new.draft c.args.own.now c.args.cursor.now c.args.plan.now c.put_copies.result why.Altered s.1 puts
+    (c.in-Err-Altered.is ∙ ap (λ (e : CopyFault). Err e) c.in-Err-Altered.field-0-is) put.changes

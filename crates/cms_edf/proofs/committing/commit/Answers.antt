@@ -10,7 +10,7 @@ use Rattle.cms_held.specs.Systems.{system_writes}
 use Rattle.cms_model.specs.Settled.{writes}
 use Rattle.cms_held.proofs.Fronts.{on_ok}
 use Rattle.cms_draft.specs.declared.shape.DraftShape.{DraftShape}
-use Rattle.cms_edf.specs.FileDrafts.{FileDraft, IsCommitted, IsSomeDraft, LeadsToFile, file_for, files_with, tree_of}
+use Rattle.cms_edf.specs.FileDrafts.{FileDraft, IsCommitted, IsSomeDraft, LeadsToFile, file_for, list_with, tree_of}
 use Rattle.cms_edf.specs.declared.doubt.Doubt.TheVariants.{Old}
 use Rattle.cms_edf.proofs.Committed.{both_cause, can_write, commit_keeps, committed_at, events_behind, events_failed, grown_behind, same_files, system_there}
 use Rattle.cms_edf.proofs.committing.commit.Given as given
@@ -26,9 +26,9 @@ some_of g c = subst (IsSomeDraft c.args.held.now.volume) (sym c.draft.view_is) c
 
 -- the files with the one that is put are those that were planned
 files_put : (g : given.Over) (c : In-Ok g) (some : IsSomeDraft c.args.held.now.volume (record { entry = c.draft.inside.entry; writer = c.draft.inside.writer; systems = c.draft.inside.systems }))
-    → files_with c.args.held.now.volume.files (position (same_name c.draft.inside.entry.name) (names_in c.args.held.now.volume.files))
+    → list_with c.args.held.now.volume.files (position (same_name c.draft.inside.entry.name) (names_in c.args.held.now.volume.files))
     (record { entry = c.draft.inside.entry; tree = c.in-Ok.tree; length = c.shape.result.now.length; size = c.shape-2.result.now.bytes })
-    ≡ files_with c.args.held.now.volume.files (position (same_name some.name) (names_in c.args.held.now.volume.files))
+    ≡ list_with c.args.held.now.volume.files (position (same_name some.name) (names_in c.args.held.now.volume.files))
     (file_for c.args.held.now.volume.disk.bsize some.name some.shape (tree_of (record { entry = c.draft.inside.entry; writer = c.draft.inside.writer; systems = c.draft.inside.systems })))
 files_put g c some =
     same_files c.args.held.now.volume (record { entry = c.draft.inside.entry; writer = c.draft.inside.writer; systems = c.draft.inside.systems }) some c.in-Ok.tree c.shape.result.now.length

@@ -1,7 +1,7 @@
 use Rattle.std.proofs.Common.{rules, ◌≡◌, ◌++◌, ◌∷◌, [], ◌+◌, ◌<◌, ℕ, true, List, None, length, map, take, get_or, refl, sym, ◌∙◌, ap, subst, arith, append_assoc, append-nil}
 use Rattle.std.specs.Map.{keys_of}
 use Rattle.std.specs.Vec.Iter.{into_iter_items}
-use Rattle.std.proofs.lemmas.List.{length_push, map_push}
+use Rattle.std.proofs.lemmas.List.{length_push, map_push, nil_from_length}
 use Rattle.std.proofs.lemmas.List.Elements.{All-nil, All-push}
 use Rattle.std.proofs.lemmas.Result.{err_from_is_err_and}
 use Rattle.indexmap.specs.IndexMap.{values}
@@ -21,10 +21,6 @@ use Rattle.cms_edf.proofs.NamesMet.{name_is_new}
 use Rattle.cms_edf.proofs.RecordsRead.{ContentsTo, contents_first, contents_next, contents_bad, contents_last, count_at, taken_is}
 use Rattle.cms_edf.proofs.TreesRead.{plain_block}
 use Rattle.cms_edf.proofs.contents.read_contents.Goals as goal
-
-nothing_left : {X : Type 0} (l : List X) → length l ≡ 0 → l ≡ []
-nothing_left [] h = refl
-nothing_left (x ∷ xs) h = absurd (omega arith)
 
 index_at : (entries : List Entry) (nth k : ℕ) (e : Entry) → nth ≡ k → e ≡ get_or entries nth e → e ≡ get_or entries k e
 index_at entries nth k e same is = subst (λ (n : ℕ). e ≡ get_or entries n e) same is
@@ -168,7 +164,7 @@ returns-clause-read g c = λ j told.
     let image = image_of (contents_of j a.place.now.unit) in
     let gives = c.into_iter-tree-iterator.ensures.into_iter_gives.0 in
     let none = c.in-None.ensures.steps in
-    let empty : into_iter_items l.tree-iterator ≡ [] = nothing_left _ (sym l.invariant.len ∙ none.0) in
+    let empty : into_iter_items l.tree-iterator ≡ [] = nil_from_length _ (sym l.invariant.len ∙ none.0) in
     let all : l.yielded ≡ a.trees.items = sym (append-nil l.yielded) ∙ (ap (λ (r : List Walked). l.yielded ++ r) (sym empty) ∙ (l.invariant.trees ∙ gives)) in
     let long = ap length all in
     let count = c.requires.count in

@@ -4,7 +4,7 @@ use Rattle.cms_held.specs.Kept.{Keeps}
 use Rattle.cms_held.specs.Renewing.{entries_held}
 use Rattle.cms_held.specs.Written.{CanWrite}
 use Rattle.cms_edf.specs.FileDrafts.{IsAllottedSo}
-use Rattle.cms_edf.proofs.DraftPlanned.{count_held, each_with}
+use Rattle.cms_edf.proofs.DraftPlanned.{all_with, count_held}
 use Rattle.cms_edf.proofs.Planned.{can_write_all}
 use Rattle.cms_edf.proofs.draft.plan_entry.Goals as goal
 
@@ -13,7 +13,7 @@ fill_systems-requires-clause-each c =
     let v = c.args.held.now.volume in
     let kept : Keeps v = c.with-entries.ensures.kept in
     subst (All CanWrite) (sym c.with-entries.ensures.entries)
-    (each_with (entries_held v.files) c.args.place c.args.entry.now (can_write_all v.disk.bsize v.label.blocks v.files kept.each) c.requires.entry)
+    (all_with CanWrite (entries_held v.files) c.args.place c.args.entry.now (can_write_all v.disk.bsize v.label.blocks v.files kept.each) c.requires.entry)
 
 pub fill_systems-requires-clause-allotted : goal.fill_systems-requires-clause-allotted
 fill_systems-requires-clause-allotted c =

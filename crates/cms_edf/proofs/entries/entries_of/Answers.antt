@@ -13,7 +13,7 @@ returns-in_err-entry-clause-fault c =
 pub loop-place-preserved : goal.loop-place-preserved
 loop-place-preserved c =
     let l = c.loop-place in
-    let grown : c.push.new.entries.items ≡ l.entries.items ++ (c.in_ok-entry.entry ∷ []) = search rules in
+    let grown : c.push.new.into.items ≡ l.entries.items ++ (c.in_ok-entry.entry ∷ []) = search rules in
     record {
       comes = rw grown (comes_next c.args.bsize c.args.count c.args.bytes.now l.place l.entries.items c.in_ok-entry.entry (search rules) (search rules) l.invariant.comes);
       many =

@@ -1,6 +1,5 @@
 -- The map takes the lowest free blocks of one in which only the first five are in use.
-use Rattle.std.proofs.Common.{◌≡◌, ◌+◌, ◌≤◌, ◌/◌, ◌++◌, ℕ, Bool, List, length, take, sym, ◌∙◌, ap, subst, rules, arith}
-use Rattle.std.proofs.lemmas.List.{take-append-drop}
+use Rattle.std.proofs.Common.{◌≡◌, ◌+◌, ◌≤◌, ◌/◌, ℕ, Bool, List, length, take, sym, ◌∙◌, ap, subst, rules, arith}
 use Rattle.cms_fields.specs.Numbers.{up}
 use Rattle.cms_model.specs.Sizes.{pointer_count}
 use Rattle.cms_map.specs.Bits.{free_blocks, with_marked}
@@ -50,10 +49,7 @@ returns-clause-from c =
     let t = first_blocks (goal.at.returns-clause-from c).After-shape in
     let blank = c.in_ok-blank_map.ensures in
     let all = c.deref.ensures.value ∙ (c.in_ok-taken.ensures.blocks ∙ (ap (λ (m : List Bool). take (c.div_ceil-data.result + c.shape.result.pointers) (free_blocks m)) blank ∙ t.row)) in
-    let front = c.in_ok-copied.ensures ∙ c.split_at.ensures.front in
-    let back = c.in_ok-copied-2.ensures ∙ c.split_at.ensures.back in
-    ap (λ (l : List ℕ). l ++ c.in_ok-copied-2.field-0.items) front ∙ (ap (λ (l : List ℕ). take c.div_ceil-data.result c.deref.result.now ++ l) back
-    ∙ (take-append-drop c.div_ceil-data.result c.deref.result.now ∙ all))
+    c.in_ok-tree_in.ensures.blocks ∙ all
 
 pub returns-clause-bits : goal.returns-clause-bits
 returns-clause-bits c =

@@ -10,11 +10,11 @@ use Rattle.cms_tree.specs.Walks.{tree_at, nodes_at, IsWithin}
 use Rattle.cms_tree.specs.declared.types.TreeAt.{TreeAt}
 use Rattle.cms_held.specs.Opening.{IsFaultOf}
 use Rattle.cms_edf.specs.OpeningSteps.{met_in, system_at}
-use Rattle.cms_edf.proofs.Listings.{HasEntries, directory_fault, tree_fault, map_fault, entries_fault, names_fault, listed_so, tree_has, leaf_block, few_files}
+use Rattle.cms_edf.proofs.Listings.{HasEntries, HasTree, directory_fault, tree_fault, map_fault, entries_fault, names_fault, listed_so, tree_has, leaf_block, few_files}
 use Rattle.cms_edf.proofs.EntryTests.{entries_shaped, entries_small, entries_pass, entries_stand}
 use Rattle.cms_edf.proofs.open.read_listing.Given as given
 use Rattle.cms_edf.proofs.open.read_listing.Goals as goal
-use Rattle.cms_edf.proofs.open.read_listing.Goals.{After-names_once}
+use Rattle.cms_edf.proofs.open.read_listing.Goals.{After-map_in, After-names_once}
 
 pub returns-in_err-directory-clause-read : goal.returns-in_err-directory-clause-read
 returns-in_err-directory-clause-read g c = λ j told.
@@ -49,19 +49,26 @@ returns-in_err-walked-clause-read g c = λ j told.
     rw (p.1, p.2) (tree_fault place image c.in_ok-directory.directory why (rw first at is) (c.in_ok-directory.ensures.shape.1)
     (subst (λ (x : TreeAt). IsFaultOf (tree_at (image_of (contents_of j x.unit)) x) why) at bad))
 
+-- the directory's tree was walked so
+has_tree : (g : given.Over) (c : After-map_in g) (j : Journal) → g.W.World.told c.args.world.now ≡ Some j
+    → HasTree c.args.place.now (image_of (contents_of j c.args.place.now.unit)) c.in_ok-directory.directory (met_in c.in_ok-walked.walked)
+has_tree g c j told =
+    let place = c.args.place.now in
+    let first : c.in_ok-first.first.items ≡ image_of (contents_of j place.unit) place.origin = c.in_ok-first.ensures.bytes j told in
+    let is : directory_of place.bsize place.origin c.in_ok-first.first.items ≡ Ok c.in_ok-directory.directory = search rules in
+    let at : c.system_at-at.result ≡ system_at place c.in_ok-directory.directory (Some place.origin) = search rules in
+    let read = c.in_ok-walked.ensures.read j (c.in_ok-first.ensures.reads.told ∙ told) in
+    tree_has place j c.in_ok-directory.directory c.in_ok-walked.walked c.system_at-at.result (rw first at is) (c.in_ok-directory.ensures.shape.1) at read.0
+
 pub returns-in_err-map-clause-read : goal.returns-in_err-map-clause-read
 returns-in_err-map-clause-read g c = λ j told.
     let place = c.args.place.now in
     let image = image_of (contents_of j place.unit) in
     let p = err_from_is_err_and c.from_residual-in_err-map.result c.from_residual-in_err-map.ensures.1 in
     let first : c.in_ok-first.first.items ≡ image place.origin = c.in_ok-first.ensures.bytes j told in
-    let is : directory_of place.bsize place.origin c.in_ok-first.first.items ≡ Ok c.in_ok-directory.directory = search rules in
-    let at : c.system_at-at.result ≡ system_at place c.in_ok-directory.directory (Some place.origin) = search rules in
-    let read = c.in_ok-walked.ensures.read j (c.in_ok-first.ensures.reads.told ∙ told) in
     let bad : map_of place.bsize place.total (drop 64 c.in_ok-first.first.items) ≡ Err c.in_err-map.field-0.0 = search rules in
     rw (p.1, p.2) (map_fault place image c.in_ok-directory.directory (met_in c.in_ok-walked.walked) c.in_err-map.field-0.0
-    (tree_has place j c.in_ok-directory.directory c.in_ok-walked.walked c.system_at-at.result (rw first at is) (c.in_ok-directory.ensures.shape.1) at read.0)
-    (rw first at bad))
+    (has_tree g (goal.at.returns-in_err-map-clause-read g c).After-map_in j told) (rw first at bad))
 
 pub directory_bytes-requires-clause-blocks : goal.directory_bytes-requires-clause-blocks
 directory_bytes-requires-clause-blocks g c = λ j told k less.
@@ -75,15 +82,12 @@ returns-in_err-entries-clause-read g c = λ j told.
     let image = image_of (contents_of j place.unit) in
     let p = err_from_is_err_and c.from_residual-in_err-entries.result c.from_residual-in_err-entries.ensures.1 in
     let first : c.in_ok-first.first.items ≡ image place.origin = c.in_ok-first.ensures.bytes j told in
-    let is : directory_of place.bsize place.origin c.in_ok-first.first.items ≡ Ok c.in_ok-directory.directory = search rules in
-    let at : c.system_at-at.result ≡ system_at place c.in_ok-directory.directory (Some place.origin) = search rules in
-    let read = c.in_ok-walked.ensures.read j (c.in_ok-first.ensures.reads.told ∙ told) in
     let map_is : map_of place.bsize place.total (drop 64 c.in_ok-first.first.items) ≡ Ok c.in_ok-map.map = search rules in
     let bytes : c.in_ok-bytes.bytes.items ≡ bytes_at image c.in_ok-walked.walked.leaves.items =
     c.in_ok-bytes.ensures.bytes j (c.in_ok-walked.ensures.reads.told ∙ (c.in_ok-first.ensures.reads.told ∙ told)) ∙ ap (bytes_at image) c.deref-3.ensures.value in
     let bad : IsFaultOf (entries_of place.bsize 2 (cut (c.in_ok-directory.directory.count - 2) 64 (drop 128 c.in_ok-bytes.bytes.items))) c.in_err-entries.field-0.0 = search rules in
     rw (p.1, p.2) (entries_fault place image c.in_ok-directory.directory c.in_ok-map.map (met_in c.in_ok-walked.walked) c.in_err-entries.field-0.0
-    (tree_has place j c.in_ok-directory.directory c.in_ok-walked.walked c.system_at-at.result (rw first at is) (c.in_ok-directory.ensures.shape.1) at read.0)
+    (has_tree g (goal.at.returns-in_err-entries-clause-read g c).After-map_in j told)
     (rw first at map_is)
     (subst (λ (bs : List ℕ). IsFaultOf (entries_of place.bsize 2 (cut (c.in_ok-directory.directory.count - 2) 64 (drop 128 bs))) c.in_err-entries.field-0.0) bytes bad))
 
@@ -92,19 +96,17 @@ names_once-requires g c = few_files c.in_ok-directory.directory.count _ (search 
 
 -- the entries were read so
 has_entries : (g : given.Over) (c : After-names_once g) (j : Journal) → g.W.World.told c.args.world.now ≡ Some j
+    → HasTree c.args.place.now (image_of (contents_of j c.args.place.now.unit)) c.in_ok-directory.directory (met_in c.in_ok-walked.walked)
     → HasEntries c.args.place.now (image_of (contents_of j c.args.place.now.unit)) c.in_ok-directory.directory c.in_ok-map.map (met_in c.in_ok-walked.walked) c.in_ok-entries.entries.items
-has_entries g c j told =
+has_entries g c j told tree =
     let place = c.args.place.now in
     let image = image_of (contents_of j place.unit) in
     let first : c.in_ok-first.first.items ≡ image place.origin = c.in_ok-first.ensures.bytes j told in
-    let is : directory_of place.bsize place.origin c.in_ok-first.first.items ≡ Ok c.in_ok-directory.directory = search rules in
-    let at : c.system_at-at.result ≡ system_at place c.in_ok-directory.directory (Some place.origin) = search rules in
-    let read = c.in_ok-walked.ensures.read j (c.in_ok-first.ensures.reads.told ∙ told) in
     let map_is : map_of place.bsize place.total (drop 64 c.in_ok-first.first.items) ≡ Ok c.in_ok-map.map = search rules in
     let bytes : c.in_ok-bytes.bytes.items ≡ bytes_at image c.in_ok-walked.walked.leaves.items =
     c.in_ok-bytes.ensures.bytes j (c.in_ok-walked.ensures.reads.told ∙ (c.in_ok-first.ensures.reads.told ∙ told)) ∙ ap (bytes_at image) c.deref-3.ensures.value in
     let entries : entries_of place.bsize 2 (cut (c.in_ok-directory.directory.count - 2) 64 (drop 128 c.in_ok-bytes.bytes.items)) ≡ Ok c.in_ok-entries.entries.items = search rules in (
-      tree_has place j c.in_ok-directory.directory c.in_ok-walked.walked c.system_at-at.result (rw first at is) (c.in_ok-directory.ensures.shape.1) at read.0,
+      tree,
       rw first at map_is,
       subst (λ (bs : List ℕ). entries_of place.bsize 2 (cut (c.in_ok-directory.directory.count - 2) 64 (drop 128 bs)) ≡ Ok c.in_ok-entries.entries.items) bytes entries,
     )
@@ -114,7 +116,7 @@ returns-in_err-names_once-clause-read g c = λ j told.
     let p = err_from_is_err_and c.from_residual-in_err-names_once.result c.from_residual-in_err-names_once.ensures.1 in
     let bad : IsFaultOf (absent (first_twice 2 [] c.in_ok-entries.entries.items) failed.Twice) c.in_err-names_once.field-0.0 = search rules in
     rw (p.1, p.2) (names_fault c.args.place.now _ c.in_ok-directory.directory c.in_ok-map.map (met_in c.in_ok-walked.walked) c.in_ok-entries.entries.items c.in_err-names_once.field-0.0
-    (has_entries g (goal.at.returns-in_err-names_once-clause-read g c).After-names_once j told) bad)
+    (let at = goal.at.returns-in_err-names_once-clause-read g c in has_entries g at.After-names_once j told (has_tree g at.After-map_in j told)) bad)
 
 pub returns-clause-read : goal.returns-clause-read
 returns-clause-read g c = λ j told.
@@ -123,7 +125,7 @@ returns-clause-read g c = λ j told.
     let read = c.in_ok-walked.ensures.read j (c.in_ok-first.ensures.reads.told ∙ told) in
     let once : first_twice 2 [] c.in_ok-entries.entries.items ≡ None = search rules in (
       listed_so place _ c.in_ok-directory.directory c.in_ok-map.map (met_in c.in_ok-walked.walked) c.in_ok-entries.entries.items
-          (has_entries g (goal.at.returns-clause-read g c).After-names_once j told) once,
+          (let at' = goal.at.returns-clause-read g c in has_entries g at'.After-names_once j told (has_tree g at'.After-map_in j told)) once,
       subst (λ (x : TreeAt). c.in_ok-walked.walked.pointers.items ≡ nodes_at (image_of (contents_of j x.unit)) x) at read.1,
     )
 

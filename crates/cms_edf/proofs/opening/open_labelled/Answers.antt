@@ -102,7 +102,7 @@ returns-clause-read g c = λ j told.
           (subst (λ (q : Place). lost_in (bytes_at (image_of (contents_of j q.unit)) t.map.leaves.items) q.total (tree_blocks (met_in l.walked) (met_in t.map) (map met_in t.files.items)) ≡ Ok m.lost)
           at lost)
           (subst (λ (q : Place). contents_in q.bsize (image_of (contents_of j q.unit)) 2 l.entries.items (map met_in t.files.items) ≡ Ok has.contents) at has.are);
-      held_is = rw (c.held.ensures, c.held-2.ensures) (held_so there (record { bsize = a.bsize; count = a.unit.now.blocks }) image a.label a.label_bytes.items l t m.map
+      held_is = rw (c.tree_held.ensures, c.tree_held-2.ensures) (held_so there (record { bsize = a.bsize; count = a.unit.now.blocks }) image a.label a.label_bytes.items l t m.map
           (values c.in_ok-files.files) m.lost has.contents refl (c.requires.bytes j told)
           (subst (λ (q : Place). l.walked.pointers.items ≡ nodes_at (image_of (contents_of j q.unit)) (system_at q l.directory (Some q.origin))) at listing.1)
           (subst (λ (q : Place). l.directory.levels ≡ levels (q.bsize / 4) l.directory.blocks) at c.in_ok-listing.ensures.directory)

@@ -2,11 +2,12 @@ use Rattle.std.proofs.Common.{refl, pos, arith, sym, codes}
 use Rattle.cms_text.specs.Texts.{coded}
 use Rattle.cms_line.specs.declared.message.Message.TheVariants.{M002}
 use Rattle.cms_files.specs.Files.{no_file_code}
+use Rattle.cms_files.specs.Identifiers.{exec_kind}
 use Rattle.cms_search.specs.Calls.{machine_of, spot}
 use Rattle.cms_search.proofs.Acts.{cut_off, later_does}
+use Rattle.cms_search.proofs.Handing.{only_read}
 use Rattle.cms_world.specs.Seen.{seen}
 use Rattle.cms_exec.specs.Exec.{read_there}
-use Rattle.cms_exec.specs.Finding.{exec_kind}
 use Rattle.cms_exec.proofs.Starts.{may_read, no_disk, no_file, read_altered, read_data, read_fault, refused_so, some_place}
 use Rattle.cms_exec.proofs.reading.read_found.Goals as goal
 
@@ -41,7 +42,7 @@ returns-in-Ok g c =
     let old = spot g.W.World c.args.world.now s in
     let read = c.get.ensures.reads in
     read_data old c.args.alloc c.args.called.now c.args.found.now c.in-Some.disk.now c.in-Some.ensures (seen g.W.World c.get.new.world) (spot g.W.World c.begin.new.world s) c.in-Ok.file
-    c.begin.result (record { told = read.told; faults = read.faults; edges = read.edges }) c.in-Ok.ensures.file c.begin.ensures
+    c.begin.result (only_read _ _ _ _ read) c.in-Ok.ensures.file c.begin.ensures
 
 pub returns-in-Err-Device : goal.returns-in-Err-Device
 returns-in-Err-Device g c =
@@ -49,7 +50,7 @@ returns-in-Err-Device g c =
     let old = spot g.W.World c.args.world.now s in
     let read = c.in-Err-Device.ensures.reads in
     read_fault old c.args.alloc c.args.called.now c.args.found.now c.in-Some.disk.now c.in-Some.ensures (seen g.W.World c.get.new.world) (spot g.W.World c.refuse_device.new.world s)
-    c.vdev-vdev.result c.refuse_device.result c.refused-in-Err-Device.result (record { told = read.told; faults = read.faults; edges = read.edges }) (read.cause c.in-Err-Device.field-0-is)
+    c.vdev-vdev.result c.refuse_device.result c.refused-in-Err-Device.result (only_read _ _ _ _ read) (read.cause c.in-Err-Device.field-0-is)
     (some_place _ _ c.in-Some-find.ensures) c.vdev-vdev.ensures.accessed c.refuse_device.ensures.does c.refuse_device.ensures.went refl c.refused-in-Err-Device.ensures
 
 -- never in a world that tells its journal
@@ -60,7 +61,7 @@ returns-in-Err-Altered g c =
     let read = c.in-Err-Altered.ensures.reads in
     let altered = c.in-Err-Altered.field-0-is in
     read_altered old c.args.alloc c.args.called.now c.args.found.now c.in-Some.disk.now c.in-Some.ensures (seen g.W.World c.get.new.world) (spot g.W.World c.refuse_altered.new.world s)
-    c.refuse_altered.result c.refused-in-Err-Altered.result (record { told = read.told; faults = read.faults; edges = read.edges }) (rw altered at c.in-Err-Altered.ensures.file)
+    c.refuse_altered.result c.refused-in-Err-Altered.result (only_read _ _ _ _ read) (rw altered at c.in-Err-Altered.ensures.file)
     (later_does _ _ _ _ _ c.refuse_altered.ensures.does) c.refuse_altered.ensures.does.cause refl c.refused-in-Err-Altered.ensures
 
 -- there is no memory

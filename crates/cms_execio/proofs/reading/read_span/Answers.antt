@@ -1,10 +1,11 @@
-use Rattle.std.proofs.Common.{◌≡◌, ◌-◌, [], true, ⊎_elim, refl, arith}
+use Rattle.std.proofs.Common.{◌≡◌, ◌-◌, [], true, refl, arith}
 use Rattle.std.proofs.lemmas.Result.{err_from_is_err_and}
 use Rattle.cms_search.specs.Calls.{course_of, spot}
-use Rattle.cms_search.proofs.Acts.{acts_after, later_does}
+use Rattle.cms_search.proofs.Acts.{acts_after}
+use Rattle.cms_search.proofs.Handing.{only_read}
 use Rattle.cms_world.specs.Seen.{seen}
 use Rattle.cms_files.proofs.OpenedFiles.{opened_open}
-use Rattle.cms_execio.proofs.Takings.{front_left, rest, taken_all, taken_altered, taken_fault, taken_left, taken_more, taken_past, taken_starved, tree}
+use Rattle.cms_execio.proofs.Takings.{front_left, rest, taken_all, taken_left, taken_more, taken_past, taken_starved, taken_unread, tree}
 use Rattle.cms_execio.proofs.reading.read_span.Goals as goal
 
 -- the records in front may be passed over
@@ -53,7 +54,7 @@ loop-nth-preserved g c = λ first past has.
     c.requires.front c.requires.taken c.requires.some (spot g.W.World c.loop-nth.world s) c.loop-nth.cursor c.loop-nth.nth c.loop-nth.lines so (omega arith)) in
     taken_more c.args.line.now c.args.span.front (seen g.W.World c.args.world.now) (seen g.W.World c.loop-nth.world) (seen g.W.World c.next.new.world)
     first c.loop-nth.cursor c.next.new.self c.loop-nth.nth c.loop-nth.lines c.keep_nth.new.lines c.text.result.now (c.loop-nth.invariant first past has)
-    (rw handed at next.records) next.file (next.left handed) (record { told = next.reads.told; faults = next.reads.faults; edges = next.reads.edges })
+    (rw handed at next.records) next.file (next.left handed) (only_read _ _ _ _ next.reads)
     c.text.ensures c.in_ok-keep_nth-in-Ok.ensures
 
 -- there was no memory to keep its line
@@ -68,37 +69,20 @@ returns-in_err-keep_nth-in-Ok-clause-acts g c = λ words.
     rw (p.1, p.2)
     (taken_starved (spot g.W.World c.args.world.now s) words c.args.letter c.args.line.now c.args.file c.requires.opened c.args.span.front c.args.span.taken c.requires.front c.requires.taken
     (spot g.W.World c.loop-nth.world s) (spot g.W.World c.next.new.world s) c.loop-nth.cursor c.loop-nth.nth c.loop-nth.lines so
-    (record { told = next.reads.told; faults = next.reads.faults; edges = next.reads.edges }))
+    (only_read _ _ _ _ next.reads))
 
--- never in a world that tells its journal
-pub returns-in-Altered-clause-acts : goal.returns-in-Altered-clause-acts
-returns-in-Altered-clause-acts g c = λ words.
+-- the file couldn't be read any further
+pub returns-in-Err-clause-acts : goal.returns-in-Err-clause-acts
+returns-in-Err-clause-acts g c = λ words.
     let s = c.args.state.now in
     let so =
     c.loop-nth.invariant c.args.file.cursor c.pass_front-passed.ensures.past
     (opened_open (spot g.W.World c.args.world.now s) c.args.letter c.args.line.now.range.input.name c.args.file c.requires.opened c.requires.usable) in
     let next = c.in-Err.ensures in
-    let altered = c.in-Altered.is in
-    let refuse = c.refuse_altered.ensures in
-    taken_altered (spot g.W.World c.args.world.now s) words c.args.letter c.args.line.now c.args.file c.requires.opened c.args.span.front c.args.span.taken c.requires.front c.requires.taken
-    (c.args.span.taken - 1) (omega arith) (spot g.W.World c.loop-nth.world s) (spot g.W.World c.next.new.world s) (spot g.W.World c.refuse_altered.new.world s) c.loop-nth.cursor c.next.new.self
-    c.loop-nth.nth c.loop-nth.lines c.refuse_altered.result so (rw altered at next.records)
-    (record { told = next.reads.told; faults = next.reads.faults; edges = next.reads.edges }) (later_does _ _ _ _ _ refuse.does) refl refuse.does.cause
-
--- the device failed
-pub returns-in_default-clause-acts : goal.returns-in_default-clause-acts
-returns-in_default-clause-acts g c = λ words.
-    let s = c.args.state.now in
-    let so =
-    c.loop-nth.invariant c.args.file.cursor c.pass_front-passed.ensures.past
-    (opened_open (spot g.W.World c.args.world.now s) c.args.letter c.args.line.now.range.input.name c.args.file c.requires.opened c.requires.usable) in
-    let next = c.in-Err.ensures in
-    let device = ⊎_elim (λ d. d) (λ a. absurd (c.in_default.not-Altered a)) next.fault in
-    let refuse = c.refuse_device.ensures in
-    taken_fault (spot g.W.World c.args.world.now s) words c.args.letter c.args.line.now c.args.file c.requires.opened c.args.span.front c.args.span.taken c.requires.front c.requires.taken
-    (c.args.span.taken - 1) (omega arith) (spot g.W.World c.loop-nth.world s) (spot g.W.World c.next.new.world s) (spot g.W.World c.refuse_device.new.world s) c.loop-nth.cursor
-    c.loop-nth.nth c.loop-nth.lines c.refuse_device.result so (omega arith)
-    (record { told = next.reads.told; faults = next.reads.faults; edges = next.reads.edges }) (next.reads.cause device) refl refuse.does refuse.went refl
+    let refuse = c.refuse_unread.ensures in
+    taken_unread (spot g.W.World c.args.world.now s) words c.args.letter c.args.line.now c.args.file c.requires.opened c.args.span.front c.args.span.taken c.requires.front c.requires.taken
+    (c.args.span.taken - 1) (omega arith) (spot g.W.World c.loop-nth.world s) (spot g.W.World c.next.new.world s) (spot g.W.World c.refuse_unread.new.world s) c.loop-nth.cursor c.next.new.self
+    c.loop-nth.nth c.loop-nth.lines c.in-Err.fault c.refuse_unread.result so (omega arith) next.fault next.records next.reads refl refuse.does refuse.went refl
 
 -- all that are wanted were handed out
 pub returns-clause-acts : goal.returns-clause-acts

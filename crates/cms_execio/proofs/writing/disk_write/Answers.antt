@@ -4,7 +4,7 @@ use Rattle.cms_search.specs.Searches.{item_at, shelves_in}
 use Rattle.cms_search.specs.Tables.{letters_of, shelf_of, writing}
 use Rattle.cms_search.proofs.Stepped.{written_at}
 use Rattle.cms_files.specs.Files.{writable}
-use Rattle.cms_files.proofs.Found.{acts_found, acts_unfound}
+use Rattle.cms_files.proofs.Found.{acts_found, acts_search_fault}
 use Rattle.cms_files.proofs.TakenFiles.{no_shelf, open_shelf}
 use Rattle.cms_files.proofs.Updates.{found_on_disks}
 use Rattle.cms_execio.specs.Writing.{write_lines}
@@ -29,8 +29,7 @@ returns-in-Err-clause-acts g c =
     let target = c.args.target.now in
     let n = target.mode.letter in
     let old = spot g.W.World c.args.world.now st in
-    let new = spot g.W.World c.refuse_search.new.world st in
-    let same = c.as_slice.ensures in
-    acts_unfound old new c.args.words.now 3 (λ m shelf. write_lines m target c.args.text shelf) (λ m. writable (shelves_in m) n) c.in-Err.fault c.refuse_search.result
-    (found_on_disks old (λ shelves. writable shelves n) (Err c.in-Err.fault) (no_shelf st.table n c.in-Err.fault (sym c.find_write.ensures ∙ c.in-Err.is)))
-    (rw same at c.refuse_search.ensures.does) c.refuse_search.ensures.went refl
+    let new = spot g.W.World c.refuse_unfound.new.world st in
+    acts_search_fault old new c.args.words.now 3 (λ m shelf. write_lines m target c.args.text shelf) (λ m. writable (shelves_in m) n) c.in-Err.fault c.refuse_unfound.result
+    (λ other. found_on_disks old (λ shelves. writable shelves n) (Err c.in-Err.fault) (no_shelf st.table n c.in-Err.fault (sym c.find_write.ensures ∙ c.in-Err.is)))
+    c.refuse_unfound.ensures refl

@@ -1,7 +1,8 @@
 use Rattle.std.proofs.Common.{refl}
 use Rattle.cms_search.specs.Calls.{spot}
-use Rattle.cms_search.proofs.Staying.{acts_starved}
-use Rattle.cms_fileops.proofs.Typed.{missing_on, short_on}
+use Rattle.cms_files.proofs.FilesRead.{acts_unopened}
+use Rattle.cms_fileops.specs.Typing.{type_found}
+use Rattle.cms_fileops.proofs.Typed.{short_on}
 use Rattle.cms_fileops.proofs.typing.type_on.Goals as goal
 
 -- the first record that is typed isn't there
@@ -15,13 +16,10 @@ returns-in-Ok g c =
 pub returns-in-Ok-2 : goal.returns-in-Ok-2
 returns-in-Ok-2 g c = c.type_records.ensures c.args.words.now
 
--- there is no such file
-pub returns-in-Err-NotFound : goal.returns-in-Err-NotFound
-returns-in-Err-NotFound g c =
-    let s = c.args.state.now in
-    let same = c.as_slice-in-Err-NotFound.ensures in
-    missing_on (spot g.W.World c.args.world.now s) (spot g.W.World c.refuse_search.new.world s) c.args.words.now c.args.letter c.args.line.now c.refuse_search.result
-    (c.in-Err-NotFound.ensures.missing c.in-Err-NotFound.field-0-is) (rw same at c.refuse_search.ensures.does) c.refuse_search.ensures.went refl
-
 pub returns-in-Err : goal.returns-in-Err
-returns-in-Err g c = acts_starved _ _ _
+returns-in-Err g c =
+    let s = c.args.state.now in
+    let words = c.args.words.now in
+    let line = c.args.line.now in
+    acts_unopened (spot g.W.World c.args.world.now s) (spot g.W.World c.refuse_unfound.new.world s) words 1 (λ m. type_found m words line) c.args.letter line.range.input.name c.in-Err.fault
+    c.refuse_unfound.result c.in-Err.ensures.missing c.in-Err.ensures.fault c.refuse_unfound.ensures refl

@@ -1,10 +1,10 @@
-use Rattle.std.proofs.Common.{◌∙◌, ⊎_elim, refl, sym}
+use Rattle.std.proofs.Common.{◌∙◌, refl, sym}
 use Rattle.std.proofs.lemmas.Result.{err_from_is_err_and}
 use Rattle.cms_search.specs.Calls.{spot}
-use Rattle.cms_search.proofs.Acts.{later_does}
+use Rattle.cms_search.proofs.Handing.{only_read}
 use Rattle.cms_world.specs.Seen.{seen}
 use Rattle.cms_files.proofs.OpenedFiles.{opened_open}
-use Rattle.cms_fileops.proofs.Typed.{typed_all, typed_altered, typed_fault, typed_more, typed_none, typed_stops, typed_wanted}
+use Rattle.cms_fileops.proofs.Typed.{typed_all, typed_more, typed_none, typed_stops, typed_unread, typed_wanted}
 use Rattle.cms_fileops.proofs.typing.type_records.Goals as goal
 
 pub loop-alloc-init : goal.loop-alloc-init
@@ -21,7 +21,7 @@ loop-alloc-preserved g c =
     let next = c.in-Ok-true.ensures in
     typed_more c.args.line.now (seen g.W.World c.args.world.now) (seen g.W.World c.loop-alloc.world) (seen g.W.World c.next.new.world) (seen g.W.World c.type_nth.new.world)
     c.args.file.cursor c.loop-alloc.cursor c.next.new.self c.loop-alloc.count c.text.result.now _ c.loop-alloc.invariant (sym c.ends_at.ensures ∙ c.loop-alloc-test.true)
-    (rw handed at next.records) next.file ((rw handed at next.left) refl) (record { told = next.reads.told; faults = next.reads.faults; edges = next.reads.edges })
+    (rw handed at next.records) next.file ((rw handed at next.left) refl) (only_read _ _ _ _ next.reads)
     c.text.ensures c.in_ok-type_nth-in-Ok-true.ensures
 
 pub returns-in_err-type_nth-in-Ok-true : goal.returns-in_err-type_nth-in-Ok-true
@@ -34,7 +34,7 @@ returns-in_err-type_nth-in-Ok-true g c = λ words.
     (typed_stops (spot g.W.World c.args.world.now s) words c.args.letter c.args.line.now c.args.file c.requires.opened c.requires.first
     (spot g.W.World c.loop-alloc.world s) (spot g.W.World c.next.new.world s) (spot g.W.World c.type_nth.new.world s) c.loop-alloc.cursor c.next.new.self c.loop-alloc.count c.text.result.now _
     c.loop-alloc.invariant (sym c.ends_at.ensures ∙ c.loop-alloc-test.true) (rw handed at next.records)
-    (record { told = next.reads.told; faults = next.reads.faults; edges = next.reads.edges }) c.text.ensures c.in_err-type_nth-in-Ok-true.ensures refl)
+    (only_read _ _ _ _ next.reads) c.text.ensures c.in_err-type_nth-in-Ok-true.ensures refl)
 
 -- no more are there
 pub returns-in-Ok-false : goal.returns-in-Ok-false
@@ -44,30 +44,17 @@ returns-in-Ok-false g c = λ words.
     let next = c.in-Ok-false.ensures in
     typed_all (spot g.W.World c.args.world.now s) words c.args.letter c.args.line.now c.args.file c.requires.opened c.requires.first
     (spot g.W.World c.loop-alloc.world s) (spot g.W.World c.next.new.world s) c.loop-alloc.cursor c.next.new.self c.loop-alloc.count c.loop-alloc.invariant (rw handed at next.records)
-    (record { told = next.reads.told; faults = next.reads.faults; edges = next.reads.edges }) refl
+    (only_read _ _ _ _ next.reads) refl
 
--- never in a world that tells its journal
-pub returns-in-Altered : goal.returns-in-Altered
-returns-in-Altered g c = λ words.
+-- the file couldn't be read any further
+pub returns-in-Err : goal.returns-in-Err
+returns-in-Err g c = λ words.
     let s = c.args.state.now in
     let next = c.in-Err.ensures in
-    let altered = c.in-Altered.is in
-    let refuse = c.refuse_altered.ensures in
-    typed_altered (spot g.W.World c.args.world.now s) words c.args.letter c.args.line.now c.args.file c.requires.opened c.requires.first
-    (spot g.W.World c.loop-alloc.world s) (spot g.W.World c.next.new.world s) (spot g.W.World c.refuse_altered.new.world s) c.loop-alloc.cursor c.next.new.self c.loop-alloc.count
-    c.refuse_altered.result c.loop-alloc.invariant (rw altered at next.records) (record { told = next.reads.told; faults = next.reads.faults; edges = next.reads.edges })
-    (later_does _ _ _ _ _ refuse.does) refl refuse.does.cause
-
--- the device failed
-pub returns-in_default : goal.returns-in_default
-returns-in_default g c = λ words.
-    let s = c.args.state.now in
-    let next = c.in-Err.ensures in
-    let device = ⊎_elim (λ d. d) (λ a. absurd (c.in_default.not-Altered a)) next.fault in
-    let refuse = c.refuse_device.ensures in
-    typed_fault (spot g.W.World c.args.world.now s) words c.args.letter c.args.line.now c.args.file c.requires.opened c.requires.first
-    (spot g.W.World c.loop-alloc.world s) (spot g.W.World c.next.new.world s) (spot g.W.World c.refuse_device.new.world s) c.loop-alloc.cursor c.loop-alloc.count c.refuse_device.result
-    c.loop-alloc.invariant (record { told = next.reads.told; faults = next.reads.faults; edges = next.reads.edges }) (next.reads.cause device) refl refuse.does refuse.went refl
+    let refuse = c.refuse_unread.ensures in
+    typed_unread (spot g.W.World c.args.world.now s) words c.args.letter c.args.line.now c.args.file c.requires.opened c.requires.first
+    (spot g.W.World c.loop-alloc.world s) (spot g.W.World c.next.new.world s) (spot g.W.World c.refuse_unread.new.world s) c.loop-alloc.cursor c.next.new.self c.loop-alloc.count
+    c.in-Err.fault c.refuse_unread.result c.loop-alloc.invariant next.fault next.records next.reads refl refuse.does refuse.went refl
 
 -- no more are wanted
 pub returns : goal.returns

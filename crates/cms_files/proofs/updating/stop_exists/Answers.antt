@@ -1,17 +1,11 @@
 use Rattle.std.proofs.Common.{pos, refl}
-use Rattle.std.proofs.lemmas.Result.{err_from_is_err_and}
 use Rattle.cms_line.specs.declared.message.Message.TheVariants.{M024}
 use Rattle.cms_files.specs.Files.{no_file_code}
-use Rattle.cms_files.proofs.Updates.{stop_cut, stop_said}
+use Rattle.cms_files.proofs.Updates.{stop_so}
 use Rattle.cms_files.proofs.updating.stop_exists.Goals as goal
-
-pub returns-in_err-course : goal.returns-in_err-course
-returns-in_err-course g c =
-    let p = err_from_is_err_and c.from_residual.result c.from_residual.ensures.1 in
-    let name = c.args.name.now in
-    rw (p.1, p.2) (stop_cut _ _ (M024 name.file name.kind c.args.mode) (pos no_file_code) c.in_err-course.field-0.0 c.in_err-course.ensures.does refl)
 
 pub returns : goal.returns
 returns g c =
     let name = c.args.name.now in
-    stop_said _ _ (M024 name.file name.kind c.args.mode) (pos no_file_code) c.in_ok-course.course c.in_ok-course.ensures.does c.in_ok-course.ensures.went refl
+    stop_so _ _ (M024 name.file name.kind c.args.mode) (pos no_file_code) c.refuse_exists.result c.stopped.result c.refuse_exists.ensures.does c.refuse_exists.ensures.went refl
+    c.stopped.ensures

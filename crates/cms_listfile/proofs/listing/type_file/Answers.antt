@@ -1,7 +1,8 @@
 use Rattle.std.proofs.Common.{◌∙◌, sym}
 use Rattle.std.proofs.lemmas.Result.{err_from_is_err_and}
 use Rattle.cms_search.proofs.Says.{not_done}
-use Rattle.cms_listfile.proofs.Delivered.{said_one, told_line, untold}
+use Rattle.cms_search.proofs.Lined.{said_one}
+use Rattle.cms_listfile.proofs.Delivered.{told_line, untold}
 use Rattle.cms_listfile.proofs.listing.type_file.Goals as goal
 
 pub returns-in_default : goal.returns-in_default

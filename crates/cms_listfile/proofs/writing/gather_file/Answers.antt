@@ -1,6 +1,6 @@
 use Rattle.std.proofs.Common.{◌∙◌, ◌++◌, List, ℕ, codes, ap, sym}
 use Rattle.cms_text.specs.Texts.{coded}
-use Rattle.cms_files.proofs.Records.{on_ok}
+use Rattle.cms_held.proofs.Fronts.{on_ok}
 use Rattle.cms_listfile.proofs.Delivered.{told_line}
 use Rattle.cms_listfile.proofs.Procedures.{none_gathered, one_gathered}
 use Rattle.cms_listfile.proofs.writing.gather_file.Goals as goal

@@ -1,7 +1,8 @@
 use Rattle.std.proofs.Common.{◌<◌, ◌∙◌, length, sym, arith}
 use Rattle.std.specs.Prelude.{◌==◌}
 use Rattle.std.proofs.lemmas.Grind.{common_steps}
-use Rattle.cms_search.proofs.Tabling.{keeps, length_set, vacates}
+use Rattle.std.proofs.lemmas.List.{length-set}
+use Rattle.cms_search.proofs.Tabling.{keeps, vacates}
 use Rattle.cms_search.proofs.seated.vacate.Goals.{then-is_of_unit, else-is_of_unit}
 use Rattle.cms_search.proofs.seated.vacate.Goals as goal
 
@@ -22,7 +23,7 @@ loop-letter-preserved c =
       | then-is_of_unit w ↦
           let e = w.seats-is in
           let r = sym tells ∙ w.if-is_of_unit.true in
-          rw (e, w.clear.ensures) (record { long = length_set now k _ ∙ long; done = vacates (λ s. s.letter.unit == c.args.unit) xs now k done less r })
+          rw (e, w.clear.ensures) (record { long = length-set now k _ ∙ long; done = vacates (λ s. s.letter.unit == c.args.unit) xs now k done less r })
       | else-is_of_unit w ↦
           let e = w.seats-is in
           let r = sym tells ∙ w.if-is_of_unit.false in

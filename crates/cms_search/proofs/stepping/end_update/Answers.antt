@@ -85,37 +85,9 @@ returns-in_ok-refuse_device-in-InDoubt-clause-acts g c = λ old s change u.
     (change_doubted old mid mid' n s change vdev v device refl (doubted_so st n s.letter.unit vdev c.doubt.new.self c.forget_disk.new.self table c.forget_disk.ensures))
     c.in_ok-refuse_device-in-InDoubt.ensures.does c.in_ok-refuse_device-in-InDoubt.ensures.went refl
 
-pub returns-in-NotFound-clause-acts : goal.returns-in-NotFound-clause-acts
-returns-in-NotFound-clause-acts g c = λ old s change u.
+pub returns-in_default-clause-acts : goal.returns-in_default-clause-acts
+returns-in_default-clause-acts g c = λ old s change u.
     let mid = spot g.W.World c.args.world.now c.args.state.now in
     let n = c.args.letter in
-    let v = came_why old mid n s change c.args.done c.in-Err.fault failed.NotFound c.in-Err.is c.in-NotFound.is u in
-    change_cut old mid n s change failed.NotFound v (λ m one alters. alters.0)
-
-pub returns-in-Exists-clause-acts : goal.returns-in-Exists-clause-acts
-returns-in-Exists-clause-acts g c = λ old s change u.
-    let mid = spot g.W.World c.args.world.now c.args.state.now in
-    let n = c.args.letter in
-    let v = came_why old mid n s change c.args.done c.in-Err.fault failed.Exists c.in-Err.is c.in-Exists.is u in
-    change_cut old mid n s change failed.Exists v (λ m one alters. alters.0)
-
-pub returns-in-ReadOnly-clause-acts : goal.returns-in-ReadOnly-clause-acts
-returns-in-ReadOnly-clause-acts g c = λ old s change u.
-    let mid = spot g.W.World c.args.world.now c.args.state.now in
-    let n = c.args.letter in
-    let v = came_why old mid n s change c.args.done c.in-Err.fault failed.ReadOnly c.in-Err.is c.in-ReadOnly.is u in
-    change_cut old mid n s change failed.ReadOnly v (λ m one alters. alters.0)
-
-pub returns-in-Altered-clause-acts : goal.returns-in-Altered-clause-acts
-returns-in-Altered-clause-acts g c = λ old s change u.
-    let mid = spot g.W.World c.args.world.now c.args.state.now in
-    let n = c.args.letter in
-    let v = came_why old mid n s change c.args.done c.in-Err.fault failed.Altered c.in-Err.is c.in-Altered.is u in
-    change_cut old mid n s change failed.Altered v (λ m one alters. absurd alters)
-
-pub returns-in-Memory-clause-acts : goal.returns-in-Memory-clause-acts
-returns-in-Memory-clause-acts g c = λ old s change u.
-    let mid = spot g.W.World c.args.world.now c.args.state.now in
-    let n = c.args.letter in
-    let v = came_why old mid n s change c.args.done c.in-Err.fault failed.Memory c.in-Err.is c.in-Memory.is u in
-    change_cut old mid n s change failed.Memory v (λ m one alters. alters)
+    let v = came_to old mid n s change c.args.done (Err c.in-Err.fault) c.in-Err.is u in
+    change_cut old mid n s change c.in-Err.fault v c.in_default.not-Limit c.in_default.not-Full c.in_default.not-Device c.in_default.not-InDoubt

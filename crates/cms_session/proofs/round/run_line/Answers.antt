@@ -8,7 +8,7 @@ pub returns-then-is_comment-clause-acts : goal.returns-then-is_comment-clause-ac
 returns-then-is_comment-clause-acts g c =
     let value = c.bytes.ensures.bytes in
     let told = rw value at c.is_comment.ensures in
-    comment_so (spot g.W.World c.args.world.now c.args.session.now.state) c.args.session.now.procedures.running.items c.args.line.now (sym told ∙ c.if-is_comment.true)
+    comment_so (spot g.W.World c.args.world.now c.args.session.now.state) c.args.session.now.procedures c.args.line.now (sym told ∙ c.if-is_comment.true)
 
 pub returns-in_err-issued-clause-acts : goal.returns-in_err-issued-clause-acts
 returns-in_err-issued-clause-acts g c =
@@ -18,7 +18,7 @@ returns-in_err-issued-clause-acts g c =
     let s = c.args.session.now in
     let running = c.len-running.ensures in
     let acts = rw running at c.in_err-issued.ensures.acts in
-    rw (p.1, p.2) (line_off (spot g.W.World c.args.world.now s.state) s.procedures.running.items c.args.line.now (sym told ∙ c.if-is_comment.false) _ _ s.procedures.running.items acts)
+    rw (p.1, p.2) (line_off (spot g.W.World c.args.world.now s.state) s.procedures c.args.line.now (sym told ∙ c.if-is_comment.false) _ _ s.procedures acts)
 
 pub returns-clause-acts : goal.returns-clause-acts
 returns-clause-acts g c =
@@ -27,4 +27,4 @@ returns-clause-acts g c =
     let s = c.args.session.now in
     let running = c.len-running.ensures in
     let acts = rw running at c.in_ok-issued.ensures.acts in
-    line_so (spot g.W.World c.args.world.now s.state) s.procedures.running.items c.args.line.now (sym told ∙ c.if-is_comment.false) _ _ c.in_ok-issued.issued _ _ acts c.answer.ensures.acts
+    line_so (spot g.W.World c.args.world.now s.state) s.procedures c.args.line.now (sym told ∙ c.if-is_comment.false) _ _ c.in_ok-issued.issued _ _ acts c.answer.ensures.acts

@@ -10,7 +10,7 @@ returns-in_err-say_ready-clause-acts g c =
     let fits : FitsSigned w32 c.args.code = search rules in
     let same = to_z-of_z w32 c.args.code fits in
     let does = rw same at c.in_err-say_ready.ensures in
-    let ps = c.args.session.now.procedures.running.items in
+    let ps = c.args.session.now.procedures in
     rw (p.1, p.2) (ready_stops _ _ ps ps c.args.code _ does refl)
 
 pub returns-clause-acts : goal.returns-clause-acts
@@ -19,4 +19,4 @@ returns-clause-acts g c =
     let fits : FitsSigned w32 c.args.code = search rules in
     let same = to_z-of_z w32 c.args.code fits in
     let does = rw same at c.in_ok-say_ready.ensures in
-    readied_so _ _ s.procedures.running.items c.args.code _ does (ap (λ p. record s.state { places = p }) c.clear.ensures)
+    readied_so _ _ s.procedures c.args.code _ does (ap (λ p. record s.state { places = p }) c.clear.ensures)

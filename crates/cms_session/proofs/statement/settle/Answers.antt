@@ -25,20 +25,19 @@ returns-in-Some-clause-does g c =
     let same = to_z-of_z w32 c.in-Some.code fits in
     rw (is, same) does
 
-pub returns-in_err-push-in-None-clause-does : goal.returns-in_err-push-in-None-clause-does
-returns-in_err-push-in-None-clause-does g c =
-    let p = err_from_is_err_and c.from_residual-in_err-push-in-None.result c.from_residual-in_err-push-in-None.ensures.1 in
+pub returns-in_default-clause-does : goal.returns-in_default-clause-does
+returns-in_default-clause-does g c =
     let is = settled_so c.args.procedure c.settle.new.self c.moment-moment.result c.in_ok-want.want c.moment-moment.ensures c.in_ok-want.ensures.step in
-    rw (p.1, p.2, is) (does_here _ _ _ _ _ _ c.in_ok-code.ensures)
+    rw is (does_here _ _ _ _ _ _ c.in_ok-code.ensures)
 
-pub returns-in_ok-push-in-None-clause-does : goal.returns-in_ok-push-in-None-clause-does
-returns-in_ok-push-in-None-clause-does g c =
+pub returns-in-Ok-clause-does : goal.returns-in-Ok-clause-does
+returns-in-Ok-clause-does g c =
     let is = settled_so c.args.procedure c.settle.new.self c.moment-moment.result c.in_ok-want.want c.moment-moment.ensures c.in_ok-want.ensures.step in
     let none = c.in-None.is in
     let does = rw none at c.in_ok-code.ensures in
     rw is does
 
-pub returns-in_ok-push-in-None-clause-procedures : goal.returns-in_ok-push-in-None-clause-procedures
-returns-in_ok-push-in-None-clause-procedures g c =
+pub returns-in-Ok-clause-procedures : goal.returns-in-Ok-clause-procedures
+returns-in-Ok-clause-procedures g c =
     let is = settled_so c.args.procedure c.settle.new.self c.moment-moment.result c.in_ok-want.want c.moment-moment.ensures c.in_ok-want.ensures.step in
-    rw is c.in_ok-push-in-None.ensures
+    rw is c.in-Ok.ensures.ok

@@ -1,19 +1,17 @@
 use Rattle.std.proofs.Common.{◌∙◌, List, ap, position}
-use Rattle.std.specs.Map.{keys_of}
-use Rattle.indexmap.specs.IndexMap.{keys, values}
+use Rattle.indexmap.specs.IndexMap.{keys}
 use Rattle.cms_names.specs.declared.name.Name.{Name}
 use Rattle.cms_model.specs.Minidisks.{same_name}
-use Rattle.cms_held.specs.Opening.{Holding, names_in}
-use Rattle.cms_edf.proofs.FilesNamed.{keys_named}
+use Rattle.cms_edf.proofs.FilesNamed.{keys_held}
 use Rattle.cms_edf.proofs.NamesMet.{place_there}
 use Rattle.cms_edf.proofs.held.Held.find.Goals as goal
 
 pub returns-in-Some-clause-place : goal.returns-in-Some-clause-place
 returns-in-Some-clause-place c =
-    let keys_are = ap keys_of c.self.invariant.named ∙ (keys_named (values c.self.inside.files) ∙ ap (λ (h : Holding). names_in h.volume.files) c.self.view_is) in
+    let keys_are = keys_held c.self.inside.files.entries _ c.args.self.now c.self.invariant.named c.self.view_is in
     c.in-Some.ensures.index ∙ (place_there c.args.name.now (keys c.self.inside.files) ∙ ap (λ (names : List Name). position (same_name c.args.name.now) names) keys_are)
 
 pub returns-in-None-clause-place : goal.returns-in-None-clause-place
 returns-in-None-clause-place c =
-    let keys_are = ap keys_of c.self.invariant.named ∙ (keys_named (values c.self.inside.files) ∙ ap (λ (h : Holding). names_in h.volume.files) c.self.view_is) in
+    let keys_are = keys_held c.self.inside.files.entries _ c.args.self.now c.self.invariant.named c.self.view_is in
     c.in-None.ensures.index ∙ (place_there c.args.name.now (keys c.self.inside.files) ∙ ap (λ (names : List Name). position (same_name c.args.name.now) names) keys_are)

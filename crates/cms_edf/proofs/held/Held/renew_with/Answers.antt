@@ -5,7 +5,7 @@ use Rattle.cms_held.specs.Kept.{IsKept, Keeps}
 use Rattle.cms_held.specs.Opening.{HeldFile, Holding, names_in}
 use Rattle.cms_held.specs.Renewing.{Edit, renewed}
 use Rattle.cms_held.specs.Systems.{Systems}
-use Rattle.cms_edf.specs.FileDrafts.{files_with}
+use Rattle.cms_edf.specs.FileDrafts.{list_with}
 use Rattle.cms_edf.proofs.held.Held.renew_with.Goals as goal
 
 -- the volume that is renewed is kept
@@ -13,9 +13,9 @@ pub invariant_of-self : goal.invariant_of-self
 invariant_of-self c =
     let i = c.self.inside in
     let file = c.args.file in
-    let fs = files_with (values i.files) (position (same_name file.entry.name) (names_in (values i.files))) file in
+    let fs = list_with (values i.files) (position (same_name file.entry.name) (names_in (values i.files))) file in
     let edit : Edit = record { files = fs; given = []; taken = [] } in
-    let kept = subst (λ (h : Holding). (edit : Edit) → edit.files ≡ files_with h.volume.files (position (same_name file.entry.name) (names_in h.volume.files)) file
+    let kept = subst (λ (h : Holding). (edit : Edit) → edit.files ≡ list_with h.volume.files (position (same_name file.entry.name) (names_in h.volume.files)) file
     → Keeps (renewed h.volume edit c.args.systems))
     (sym c.self.view_is) c.requires.kept in
     let new = subst (λ (s : Systems). IsKept i.bsize i.blocks s.label (length s.label_bytes) s.bits fs) (sym c.systems.view_is) (kept edit refl) in

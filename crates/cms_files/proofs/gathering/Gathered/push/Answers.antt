@@ -1,5 +1,6 @@
 use Rattle.std.proofs.Common.{◌≡◌, ◌+◌, refl, rules}
-use Rattle.cms_files.proofs.Records.{gathered_fixed, gathered_varying, on_ok}
+use Rattle.cms_held.proofs.Fronts.{on_ok}
+use Rattle.cms_files.proofs.Records.{gathered_fixed, gathered_varying}
 use Rattle.cms_files.proofs.gathering.Gathered.push.Goals as goal
 
 pub returns-in-F : goal.returns-in-F

@@ -5,5 +5,5 @@ use Rattle.cms_search.proofs.places.Places.forget.Goals as goal
 
 pub returns : goal.returns
 returns c =
-    unsets c.args.self.now c.self.inside.places.entries c.remove.new.self.entries c.of.result c.self.view_is c.remove.ensures.entries c.remove.ensures.updates.1
+    unsets c.args.self.now c.self.inside.places.entries c.remove.new.self.entries c.of.result c.self.view_is c.remove.ensures.updates.0
     ∙ ap (finite.remove c.args.self.now) c.of.ensures

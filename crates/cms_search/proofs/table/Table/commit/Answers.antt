@@ -1,9 +1,7 @@
-use Rattle.std.proofs.Common.{◌≡◌, ◌∙◌, Some, sym, ap, subst}
-use Rattle.std.specs.Prelude.{IfSome}
-use Rattle.std.specs.Option.{IsSome}
+use Rattle.std.proofs.Common.{◌∙◌, sym, ap}
 use Rattle.cms_world.specs.Seen.{seen}
 use Rattle.cms_disk.specs.Disks.{Accessed}
-use Rattle.cms_search.specs.Drafting.{CommitsSeat, CommitsTo}
+use Rattle.cms_search.specs.Drafting.{CommitsTo}
 use Rattle.cms_search.specs.Searches.{item_at}
 use Rattle.cms_search.specs.Tables.{Accesses, Seated}
 use Rattle.cms_search.specs.contracts.seated.Seated as seats

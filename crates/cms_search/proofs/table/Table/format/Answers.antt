@@ -1,8 +1,8 @@
 use Rattle.std.proofs.Common.{◌≡◌, ◌∙◌, ℕ, slice_get, sym, ap, subst}
+use Rattle.std.proofs.lemmas.Option.{same_Some}
 use Rattle.cms_world.specs.Seen.{seen}
 use Rattle.cms_disk.specs.declared.unit.UnitInfo.{UnitInfo}
 use Rattle.cms_search.specs.Formatting.{FormatsUnit}
-use Rattle.cms_search.proofs.Holding.{some_same}
 use Rattle.cms_search.proofs.table.Table.format.Goals as goal
 
 pub returns : goal.returns
@@ -13,8 +13,8 @@ returns g c = record {
       let info = c.unit_in-unit.result in
       let before = seen g.W.World c.args.world.now in
       let now = seen g.W.World c.make-made.new.world in
-      let at : found ≡ place = some_same found place (c.in-Some.ensures.place ∙ is_place) in
-      let is : info ≡ unit = some_same info unit (sym c.unit_in-unit.ensures ∙ ap (λ (n : ℕ). slice_get t.units n) at ∙ is_unit) in
+      let at : found ≡ place = same_Some found place (c.in-Some.ensures.place ∙ is_place) in
+      let is : info ≡ unit = same_Some info unit (sym c.unit_in-unit.ensures ∙ ap (λ (n : ℕ). slice_get t.units n) at ∙ is_unit) in
       let does : FormatsUnit before now t c.take_made.new.self found c.args.letter info c.args.volid c.args.stamp.now c.take_made.result = record {
         made = c.make-made.result;
         answer = c.take_made.ensures.answer;

@@ -1,7 +1,7 @@
 use Rattle.std.proofs.Common.{◌≡◌, ◌∙◌, Bool, sym, ap, subst}
 use Rattle.cms_search.specs.Tables.{Accesses, LooksAt}
 use Rattle.cms_disk.specs.declared.unit.UnitInfo.{UnitInfo}
-use Rattle.std.specs.Prelude.{Some}
+use Rattle.std.proofs.lemmas.Option.{same_Some}
 use Rattle.cms_search.proofs.Tabling.{told_is, unit_read, unit_same}
 use Rattle.cms_search.proofs.table.Table.open.Goals as goal
 
@@ -19,7 +19,7 @@ returns-clause-opens g c = λ unit doubt is_unit is_doubt.
     let new = g.W.World.told c.access.new.world in
     let u = c.index-as_slice-place.result in
     let d = c.is_marked-doubt.result in
-    let e : d ≡ doubt = some_same d doubt (sym c.is_marked-doubt.ensures ∙ is_doubt) in
+    let e : d ≡ doubt = same_Some d doubt (sym c.is_marked-doubt.ensures ∙ is_doubt) in
     let looks : LooksAt told new u d c.access.result = record {
       on = c.access.ensures.unit;
       answers = c.access.ensures.answers;
@@ -27,6 +27,3 @@ returns-clause-opens g c = λ unit doubt is_unit is_doubt.
       tells = told_is told new d u.unit.number c.access.result c.access.ensures.synced c.access.ensures.refused;
     } in
     subst (λ (x : UnitInfo). LooksAt told new x doubt c.access.result) same (subst (λ (b : Bool). LooksAt told new u b c.access.result) e looks)
-  where
-    some_same : (a b : Bool) → Some a ≡ Some b → a ≡ b
-    some_same a b e = cc e

@@ -1,11 +1,8 @@
-use Rattle.std.proofs.Common.{◌≡◌, ◌∙◌, Some, sym, ap, subst}
-use Rattle.std.specs.Prelude.{IfSome}
-use Rattle.std.specs.Option.{IsSome}
+use Rattle.std.proofs.Common.{ap}
 use Rattle.cms_world.specs.Seen.{seen}
 use Rattle.cms_disk.specs.Disks.{Accessed}
-use Rattle.cms_search.specs.Searches.{item_at}
-use Rattle.cms_search.specs.Putting.{UpdatesSeat, UpdatesTo, change_with}
-use Rattle.cms_search.specs.Tables.{Accesses, Seated}
+use Rattle.cms_search.specs.Putting.{UpdatesTo, change_with}
+use Rattle.cms_search.specs.Tables.{Seated}
 use Rattle.cms_search.specs.contracts.seated.Seated as seats
 use Rattle.cms_search.specs.contracts.table.Table.{the_view}
 use Rattle.cms_search.proofs.Seats.{seat_changed, seat_lost, table_kept}

@@ -1,6 +1,5 @@
 use Rattle.std.proofs.Common.{◌≡◌, ◌∙◌, sym, ap}
 use Rattle.std.specs.Prelude.{None}
-use Rattle.exec2_parse.specs.Variables.{texts_of}
 use Rattle.std.specs.FinMap as finite
 use Rattle.std.proofs.lemmas.Result.{err_from_is_err_and}
 use Rattle.exec2_parse.proofs.Finite.{answers, sets}
@@ -8,8 +7,8 @@ use Rattle.exec2_parse.proofs.vars.Vars.replace.Goals as goal
 
 pub returns-clause-ok : goal.returns-clause-ok
 returns-clause-ok c =
-    ap (λ es. finite.from_entries (texts_of es)) c.in_ok-insert.ensures.entries
-    ∙ sets c.args.self.now c.self.inside.values.entries c.into_bytes.result c.args.value c.self.view_is
+    sets c.args.self.now c.self.inside.values.entries c.insert.new.self.entries c.into_bytes.result.items c.args.value c.self.view_is c.in_ok-insert.ensures.updates.1
+    c.in_ok-insert.ensures.updates.3
     ∙ ap (λ name. finite.insert c.args.self.now name c.args.value) c.into_bytes.ensures.bytes
 
 pub returns-clause-before : goal.returns-clause-before

@@ -1,7 +1,8 @@
 use Rattle.std.proofs.Common.{◌≡◌, ◌∙◌, sym, ap, arith, true, false}
 use Rattle.std.specs.Prelude.{Ok}
 use Rattle.exec2_run.specs.Loops.{begins}
-use Rattle.exec2_run.proofs.Places.{beyond, past_end}
+use Rattle.std.proofs.lemmas.List.{drop_all}
+use Rattle.exec2_run.proofs.Places.{past_end}
 use Rattle.exec2_run.proofs.Settled.{all_over, left_behind, more_passes, or_else, pass_over, stays_open, test_fails}
 use Rattle.exec2_run.proofs.exec.Exec.loops_left.Goals.{then-self-innermost+in-Ok-false, else-self-innermost+else-has, else-loop-over-test, then-loop-over-test+in_default}
 use Rattle.exec2_run.proofs.exec.Exec.loops_left.Goals as goal
@@ -39,7 +40,7 @@ returns c =
     let s = c.args.self.now in
     elim c.loop-over-test.branch [
       | else-loop-over-test w ↦ all_over c.args.moment.now s s.loops c.loop-over.over c.len.result c.loop-over.invariant
-          (beyond s.loops c.loop-over.over (omega arith)) (beyond s.loops c.len.result (omega arith))
+          (drop_all c.loop-over.over s.loops (omega arith)) (drop_all c.len.result s.loops (omega arith))
       | then-loop-over-test+in_default w ↦ all_over c.args.moment.now s s.loops c.loop-over.over c.len.result c.loop-over.invariant
-          (past_end s.loops c.loop-over.over w.in_default.ensures) (beyond s.loops c.len.result (omega arith))
+          (past_end s.loops c.loop-over.over w.in_default.ensures) (drop_all c.len.result s.loops (omega arith))
     ]

@@ -1,0 +1,27 @@
+// What is told of files.
+ghost use Rattle.std.specs.Prelude.{◌≡◌};
+ghost use Rattle.cms_files.specs.Told as spec;
+
+use cms_disk::FileInfo;
+use cms_names::Name;
+use cms_search::{Found, Table};
+
+/// What is told of the file of a name on the disk of a letter; none where it isn't there.
+pub fn info_named(table: &Table, letter: u8, name: &Name) -> Option<FileInfo>
+    ensures { result ≡ spec.info_named table.now letter name.now }
+{
+    let disk = table.disk(letter)?;
+    let place = disk.find(name)?;
+    Some(disk.info(place))
+}
+
+/// What is told of a file that a search found; none where it isn't there.
+pub fn info_found(table: &Table, found: Found) -> Option<FileInfo>
+    ensures { result ≡ spec.info_found table.now found }
+{
+    let disk = table.disk(found.letter)?;
+    if found.place >= disk.count() {
+        return None;
+    }
+    Some(disk.info(found.place))
+}
