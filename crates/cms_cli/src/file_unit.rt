@@ -11,7 +11,7 @@ use std::os::unix::fs::FileExt;
 use std::{fs, io};
 
 #[cfg(test)]
-mod tests;
+pub(crate) mod tests;
 
 /// An image file that stands as a unit.
 #[derive(Drop)]

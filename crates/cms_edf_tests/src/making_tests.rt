@@ -4,7 +4,7 @@ ghost use Rattle.std.specs.Prelude.{◌≡◌, IfSome};
 use cms_edf::{Doubt, Held, OpenFault, Space, make, open_volume, plan_make, wipe};
 use cms_fields::LabelFault;
 use cms_images::hello::HELLO;
-use cms_images::{Made, NOON, edited, formatted};
+use cms_images::{Made, NOON, edited, formatted, image_left};
 use cms_journal::BlockSize;
 use cms_world::{Access, MemWorld, World};
 use std::alloc::{AllocError, Global};
@@ -92,15 +92,6 @@ fn opened(alloc: Global, image: &[u8], bsize: u32) -> Result<Answer, AllocError>
     }
 }
 
-// What a crash after so many events leaves, by these choices.
-fn crashed(world: &MemWorld, alloc: Global, at: usize, choice: u64) -> Result<Vec<u8>, AllocError> {
-    if world.has_unit(0) && at <= world.events() {
-        world.crash(alloc, 0, at, choice)
-    } else {
-        Ok(Vec::new(alloc))
-    }
-}
-
 // The answer of a volume that was made: no files, and all blocks free but the first five and the map's.
 fn made(shape: &Made) -> Answer {
     let used = shape.map.saturating_add(shape.pointers).saturating_add(5);
@@ -124,7 +115,7 @@ fn try_shape(rt: &impl Abort, alloc: Global, shape: &Made) -> Result<(), Fail> {
         made(shape),
         "{shape:?}"
     );
-    let image = crashed(&world, alloc, world.events(), 0)?;
+    let image = image_left(alloc, &world, world.events(), 0)?;
     assert!(rt; image == formatted(alloc, shape)?, "{shape:?}");
     assert_eq!(rt;
         opened(alloc, &image, shape.bsize)?,
@@ -187,7 +178,7 @@ fn an_empty_volume_is_written_in_order(rt: HostRuntime) -> Result<(), Fail> {
         &[6, 4, 3],
     ];
     for (at, written) in orders.iter().enumerate() {
-        let image = crashed(&world, alloc, at, u64::MAX)?;
+        let image = image_left(alloc, &world, at, u64::MAX)?;
         for number in 1..10 {
             let wanted = if written.contains(&number) {
                 block(&after, number)
@@ -230,7 +221,7 @@ fn a_crash_leaves_the_old_volume_none_or_the_empty_one(rt: HostRuntime) -> Resul
                 7 => made(&small(9)),
                 _ => NO_LABEL,
             };
-            let image = crashed(&world, alloc, at, choice)?;
+            let image = image_left(alloc, &world, at, choice)?;
             assert_eq!(rt;
                 opened(alloc, &image, 512)?,
                 wanted,
@@ -275,7 +266,7 @@ fn a_failing_device_leaves_one_of_them(rt: HostRuntime) -> Result<(), Fail> {
             "call {call}, {lands}"
         );
         assert_eq!(rt; world.events(), events, "call {call}, {lands}");
-        let now = crashed(&world, alloc, events, u64::MAX)?;
+        let now = image_left(alloc, &world, events, u64::MAX)?;
         assert_eq!(rt; opened(alloc, &now, 512)?, wanted, "call {call}, {lands}");
     }
     Ok(())

@@ -78,6 +78,23 @@ pub const MARKED: &[Edit] = &[(6, 0, &[0xFF, 0x80])];
 /// The label doesn't begin with CMS1.
 pub const NO_LABEL: &[Edit] = &[(3, 0, &[0x00])];
 
+/// L FILE in the place of HELLO TEXT, on twenty blocks: three records of 512 bytes in blocks 7 to 9 below the pointer block 10.
+pub const LONG: &[Edit] = &[
+    (3, 28, &[0, 0, 0, 20]),
+    (4, 128, &[0xD3, 0x40, 0x40, 0x40, 0x40, 0x40, 0x40, 0x40]),
+    (4, 136, &[0xC6, 0xC9, 0xD3, 0xC5, 0x40, 0x40, 0x40, 0x40]),
+    (4, 160, &[0, 0, 2, 0]),
+    (4, 168, &[0, 0, 0, 10]),
+    (4, 172, &[0, 0, 0, 3]),
+    (4, 176, &[0, 0, 0, 3]),
+    (4, 180, &[1, 4]),
+    (6, 0, &[0xFF, 0xC0]),
+    (7, 0, &[0xC1; 512]),
+    (8, 0, &[0xC2; 512]),
+    (9, 0, &[0xC3; 512]),
+    (10, 0, &[0, 0, 0, 7, 0, 0, 0, 8, 0, 0, 0, 9]),
+];
+
 /// TYPE EXEC in the place of HELLO TEXT.
 pub const TYPE_EXEC: &[Edit] = &[
     (4, 128, &[0xE3, 0xE8, 0xD7, 0xC5, 0x40, 0x40, 0x40, 0x40]),

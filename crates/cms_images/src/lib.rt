@@ -1,6 +1,8 @@
-//! Images for tests, made byte by byte from the layout of a volume, not by the program. No part of the product.
+//! Images for tests, made byte by byte from the layout of a volume, not by the program, and what a crash leaves of them. No part of the
+//! product.
 #![tactic(auto)]
 
+mod crash;
 mod disk;
 mod edits;
 pub mod hello;
@@ -11,6 +13,7 @@ mod small;
 mod stamps;
 mod wide;
 
+pub use crash::{crashed, image_left};
 pub use disk::{Disk, Event, world_of};
 pub use edits::{Edit, edited, put_edits};
 pub use many::many_files;

@@ -1,6 +1,5 @@
 // Sessions of COPYFILE, as transcripts, and the order of its calls.
-use cms_session::Status;
-use cms_transcripts::{ended, unlike, words_named, world_named};
+use cms_transcripts::check_sessions;
 use std::test::Fail;
 
 const COPIED: &str = "# texts
@@ -66,7 +65,7 @@ R;
 ALPHA TEXT A1 TO ALPHA DUP A1
 ALPHA TEXT B1 TO ALPHA DUP B1
 R;
-# three disks
+# letters: 191,512,rw,A 192,512,rw,B 193,512,rw,C
 > ACCESS 192 B
 R;
 > ACCESS 193 C
@@ -243,7 +242,7 @@ R;
 > COPYFILE L FILE A O FILE A (FROM 4
 CMS121E File has only 3 records
 R(00024);
-# four files
+# four files + empty
 > ACCESS 192 B
 R;
 > COPYFILE * * A = = B
@@ -346,7 +345,7 @@ R(00024);
 > STATE NEW FILE A
 CMS002E File NEW FILE A not found
 R(00028);
-# texts, read only
+# texts: 191,512,ro,A 192,512,rw,B
 > COPYFILE ALPHA TEXT A NEW FILE A
 CMS037E Disk A is read-only
 R(00036);
@@ -371,44 +370,32 @@ R;
 
 #[test]
 fn files_are_copied(rt: HostRuntime) -> Result<(), Fail> {
-    for transcripts in [COPIED, STEPS, REFUSED] {
-        assert_eq!(rt; unlike(rt.alloc(), transcripts)?.as_str(), "");
-    }
-    Ok(())
+    check_sessions(rt.alloc(), COPIED)?;
+    check_sessions(rt.alloc(), STEPS)?;
+    check_sessions(rt.alloc(), REFUSED)
 }
 
-// The calls of the world in sessions on images of a name, behind those of the attaching. A file is read twice, the second time block by
-// block as it is written; what is refused reads no more than it must, and writes nothing.
-const CALLS: [(&str, &str, &[u8]); 3] = [
-    (
-        "long records",
-        "COPYFILE L FILE A M FILE A\n",
-        b"rrrrinrrrrwrwrwwwwswsoi",
-    ),
-    (
-        "four files",
-        "ACCESS 192 B\nCOPYFILE * * A = = B\n",
-        b"rrrrrrrinrrronrrwwwswsrrwwwswsrooi",
-    ),
-    (
-        "letters",
-        "COPYFILE L FILE A O FILE A (FROM 4\n",
-        b"rrrrinooi",
-    ),
-];
+// The calls of the world in sessions. A file is read twice, the second time block by block as it is written; what is refused reads no more
+// than it must, and writes nothing.
+const CALLS: &str = "# long records
+> COPYFILE L FILE A M FILE A
+R;
+! Done aarrrrinrrrrwrwrwwwwswsoi
+# four files + empty
+> ACCESS 192 B
+R;
+> COPYFILE * * A = = B
+CMS107E Disk B is full, 2 blocks needed, 1 free
+R(00100);
+! Done aarrrrrrrinrrronrrwwwswsrrwwwswsrooi
+# letters
+> COPYFILE L FILE A O FILE A (FROM 4
+CMS121E File has only 3 records
+R(00024);
+! Done aarrrrinooi
+";
 
 #[test]
 fn blocks_are_written_as_they_are_read(rt: HostRuntime) -> Result<(), Fail> {
-    let alloc = rt.alloc();
-    for (name, script, calls) in CALLS {
-        let mut world = world_named(alloc, name, script)?;
-        let status = ended(alloc, words_named(name), &mut world)?;
-        assert_eq!(rt; status, Status::Done, "{script}");
-        assert_eq!(rt;
-            world.calls().strip_prefix(b"aa".as_slice()),
-            Some(calls),
-            "{script}"
-        );
-    }
-    Ok(())
+    check_sessions(rt.alloc(), CALLS)
 }

@@ -1,5 +1,5 @@
 // Sessions of procedures, as transcripts: each writes its procedures first.
-use cms_transcripts::unlike;
+use cms_transcripts::check_sessions;
 use std::test::Fail;
 
 const STATEMENTS: &str = "# a loop by a label
@@ -386,7 +386,7 @@ const COPIED: &str = "# a copy and a listing
 G        EXEC
 G        COPY
 R;
-# new disks
+# new: 191,1024,n400,A 192,1024,n400,B
 > FORMAT 191 A
 CMS603R FORMAT will erase all files on disk A (191). Go on? Enter YES or NO
 > YES
@@ -418,7 +418,7 @@ R;
 LABEL  VDV M STA BLKSZ  FILES     USED     FREE    TOTAL
 BACKUP 192 B R/W  1024     30      158      242      400
 R;
-# new, by a seed
+# new: -g 2 191,1024,n3000,A
 CMS603R FORMAT will erase all files on disk A (191). Go on? Enter YES or NO
 CMS605R Enter disk label
 CMS733I 3000 blocks formatted on A (191)
@@ -437,8 +437,7 @@ R;
 
 #[test]
 fn procedures_run(rt: HostRuntime) -> Result<(), Fail> {
-    for sessions in [STATEMENTS, COMMANDS, COPIED] {
-        assert_eq!(rt; unlike(rt.alloc(), sessions)?.as_str(), "");
-    }
-    Ok(())
+    check_sessions(rt.alloc(), STATEMENTS)?;
+    check_sessions(rt.alloc(), COMMANDS)?;
+    check_sessions(rt.alloc(), COPIED)
 }

@@ -1,6 +1,6 @@
 // Sessions of procedures that end by a fault, that are refused, or whose turns run out.
 use cms_session::Status;
-use cms_transcripts::{Transcript, crashed, ended, unlike, words_named, world_named};
+use cms_transcripts::{Transcript, WORDS, check_sessions, ended, image_left, world_named};
 use cms_world::MemWorld;
 use std::alloc::{AllocError, Global};
 use std::test::Fail;
@@ -229,8 +229,7 @@ R;
 
 #[test]
 fn procedures_are_refused(rt: HostRuntime) -> Result<(), Fail> {
-    assert_eq!(rt; unlike(rt.alloc(), REFUSED)?.as_str(), "");
-    Ok(())
+    check_sessions(rt.alloc(), REFUSED)
 }
 
 // The procedures of sessions with few turns.
@@ -259,11 +258,8 @@ const TURNS: &[(&str, &str, &str, usize)] = &[
 fn image_of(alloc: Global, procedures: &str) -> Result<Vec<u8>, AllocError> {
     let transcript = Transcript::of(alloc, procedures)?;
     let mut world = world_named(alloc, "", transcript.script.as_str())?;
-    ended(alloc, words_named(""), &mut world)?;
-    match crashed(alloc, &world, 0, world.events(), u64::MAX)? {
-        Some(image) => Ok(image),
-        None => Ok(Vec::new(alloc)),
-    }
+    ended(alloc, WORDS, &mut world)?;
+    image_left(alloc, &world, world.events(), u64::MAX)
 }
 
 #[test]

@@ -1,455 +1,385 @@
-// Sessions that erase files of disk A, on images in memory.
-use crate::session_tests::{WORD as READ_ONLY, world};
-use cms_images::hello::{
-    ERASE_EXEC, MARKED, NEW_DIRECTORY, NEW_LABEL, NEW_MAP, NO_LABEL, TYPE_EXEC, hello, three,
-};
-use cms_images::known::long_directory;
-use cms_images::{Edit, put_edits, wide_volume};
-use cms_session::Status;
-use cms_transcripts::{crashed, ended};
-use cms_world::MemWorld;
+// Sessions that erase files of disk A, as transcripts, and what they leave at each moment.
+use cms_images::hello::{NEW_DIRECTORY, NEW_LABEL, NEW_MAP, hello};
+use cms_images::{Edit, put_edits};
+use cms_transcripts::{Trial, check_sessions, ended, image_left, passed, world_at};
 use std::alloc::{AllocError, Global};
-use std::process::Abort;
 use std::test::Fail;
 
-const WORD: &str = "191,512,rw,disk.img";
+// Files that are erased.
+const ERASED: &str = "# hello: 191,512,rw,A
+> ERASE HELLO TEXT A
+R;
+! Done arrrinwwswsoi
+# hello, hidden: 191,512,rw,A
+> ERASE HELLO TEXT A
+R;
+! Done arrrinwwswsoi
+# hello, TYPE EXEC: 191,512,rw,A
+> ERASE TYPE EXEC A
+R;
+! Done arrrinwwswsoi
+# hello: 191,512,rw,A
+> ERASE HELLO TEXT A
+R;
+> TYPE HELLO TEXT A
+CMS002E File HELLO TEXT A not found
+R(00028);
+! Done arrrinwwswsonooi
+# hello: 191,512,rw,A
+> ERASE HELLO TEXT A
+R;
+> ERASE HELLO TEXT A
+CMS002E File HELLO TEXT A not found
+R(00028);
+! Done arrrinwwswsonooi
+";
+
+// Files that are kept.
+const KEPT: &str = "# hello, all marked: 191,512,rw,A
+> ERASE HELLO TEXT A
+CMS107E Disk A is full, 1 blocks needed, 0 free
+R(00100);
+! Done arrrinooi
+# hello: 191,512,ro,A
+> ERASE HELLO TEXT A
+CMS037E Disk A is read-only
+R(00036);
+! Done arrrinooi
+# hello: 191,512,ro,A
+> ERASE NO TEXT A
+CMS037E Disk A is read-only
+R(00036);
+! Done arrrinooi
+# hello: 191,512,rw,A
+> ERASE NO TEXT A
+CMS002E File NO TEXT A not found
+R(00028);
+! Done arrrinooi
+# hello, no label: 191,512,ro,A
+> ERASE HELLO TEXT A
+CMS069E Disk A is not accessed
+R(00036);
+! Done arinooi
+# hello: 192,512,rw,A
+> ERASE HELLO TEXT A
+CMS069E Disk A is not accessed
+R(00036);
+! Done ainooi
+# hello, ERASE EXEC: 191,512,rw,A
+> ERASE ERASE EXEC A
+CMS086E Procedure ERASE is not run, reason 1
+R(10101);
+! Done arrrinrooi
+";
+
+// One block of the directory and one of the map are left.
+const SHORTER: &str = "# long directory: 191,512,rw,A
+> ERASE A FILE A
+R;
+> TYPE A FILE A
+CMS002E File A FILE A not found
+R(00028);
+> TYPE G FILE A
+HELLO
+R;
+! Done arrrrrrrrrrrrinwwswsonoonrooi
+";
+
+// An update has just the blocks that it needs.
+const FULL: &str = "# wide, five free: 191,512,rw,A
+> ERASE FILE0020 TEXT A
+CMS107E Disk A is full, 6 blocks needed, 5 free
+R(00100);
+# wide, six free: 191,512,rw,A
+> ERASE FILE0020 TEXT A
+R;
+";
+
+#[test]
+fn files_are_erased_and_kept(rt: HostRuntime) -> Result<(), Fail> {
+    check_sessions(rt.alloc(), ERASED)?;
+    check_sessions(rt.alloc(), KEPT)?;
+    check_sessions(rt.alloc(), SHORTER)?;
+    check_sessions(rt.alloc(), FULL)
+}
 
 // 1 July 26 at noon, in seconds after 1970.
 const NOON: i64 = 1_782_907_200;
 
-// HELLO TEXT has mode number 0.
-const HIDDEN: &[Edit] = &[(4, 152, &[0xC1, 0xF0])];
+// What a crash after so many events of a session leaves, or its end, where all that was written is.
+fn left(
+    alloc: Global,
+    words: &str,
+    images: &str,
+    script: &str,
+    start: i64,
+    at: usize,
+) -> Result<Vec<u8>, AllocError> {
+    let mut world = world_at(alloc, images, script, start)?;
+    ended(alloc, words, &mut world)?;
+    image_left(alloc, &world, at.min(world.events()), u64::MAX)
+}
 
-// The unit word, the edits of the image, the script, what is typed, the status, and the world's calls.
-type Row = (
-    &'static str,
-    &'static [Edit],
-    &'static str,
-    &'static str,
-    Status,
-    &'static [u8],
-);
-
-// Files that are erased.
-const ERASED: &[Row] = &[
-    (
-        WORD,
-        &[],
-        "ERASE HELLO TEXT A\n",
-        "R;\n",
-        Status::Done,
-        b"arrrinwwswsoi",
-    ),
-    (
-        WORD,
-        HIDDEN,
-        "ERASE HELLO TEXT A\n",
-        "R;\n",
-        Status::Done,
-        b"arrrinwwswsoi",
-    ),
-    (
-        WORD,
-        TYPE_EXEC,
-        "ERASE TYPE EXEC A\n",
-        "R;\n",
-        Status::Done,
-        b"arrrinwwswsoi",
-    ),
-    (
-        WORD,
-        &[],
-        "ERASE HELLO TEXT A\nTYPE HELLO TEXT A\n",
-        "R;\nCMS002E File HELLO TEXT A not found\nR(00028);\n",
-        Status::Done,
-        b"arrrinwwswsonooi",
-    ),
-    (
-        WORD,
-        &[],
-        "ERASE HELLO TEXT A\nERASE HELLO TEXT A\n",
-        "R;\nCMS002E File HELLO TEXT A not found\nR(00028);\n",
-        Status::Done,
-        b"arrrinwwswsonooi",
-    ),
+// What is written up to moments of an erasure. The events are the line, the turn, two writes, a sync, the label, a sync, the ready line and
+// the script's end.
+const MOMENTS: [(usize, &[Edit]); 6] = [
+    (2, &[]),
+    (3, NEW_MAP),
+    (4, NEW_DIRECTORY),
+    (5, &[]),
+    (6, NEW_LABEL),
+    (9, &[]),
 ];
 
-// Files that are kept.
-const KEPT: &[Row] = &[
-    (
-        WORD,
-        MARKED,
-        "ERASE HELLO TEXT A\n",
-        "CMS107E Disk A is full, 1 blocks needed, 0 free\nR(00100);\n",
-        Status::Done,
-        b"arrrinooi",
-    ),
-    (
-        READ_ONLY,
-        &[],
-        "ERASE HELLO TEXT A\n",
-        "CMS037E Disk A is read-only\nR(00036);\n",
-        Status::Done,
-        b"arrrinooi",
-    ),
-    (
-        READ_ONLY,
-        &[],
-        "ERASE NO TEXT A\n",
-        "CMS037E Disk A is read-only\nR(00036);\n",
-        Status::Done,
-        b"arrrinooi",
-    ),
-    (
-        WORD,
-        &[],
-        "ERASE NO TEXT A\n",
-        "CMS002E File NO TEXT A not found\nR(00028);\n",
-        Status::Done,
-        b"arrrinooi",
-    ),
-    (
-        READ_ONLY,
-        NO_LABEL,
-        "ERASE HELLO TEXT A\n",
-        "CMS069E Disk A is not accessed\nR(00036);\n",
-        Status::Done,
-        b"arinooi",
-    ),
-    (
-        "192,512,rw,disk.img",
-        &[],
-        "ERASE HELLO TEXT A\n",
-        "CMS069E Disk A is not accessed\nR(00036);\n",
-        Status::Done,
-        b"ainooi",
-    ),
-    (
-        WORD,
-        ERASE_EXEC,
-        "ERASE ERASE EXEC A\n",
-        "CMS086E Procedure ERASE is not run, reason 1\nR(10101);\n",
-        Status::Done,
-        b"arrrinrooi",
-    ),
-];
-
-// Each row is as it says.
-fn are_so(rt: &impl Abort, alloc: Global, rows: &[Row]) -> Result<(), Fail> {
-    for (words, edits, script, typed, wanted, calls) in rows {
-        let mut world = world(alloc, script, &hello(alloc, edits)?)?;
-        let status = ended(alloc, words, &mut world)?;
-        assert_eq!(rt; status, *wanted, "{words}: {script}");
-        assert_eq!(rt; world.typed(), typed.as_bytes(), "{words}: {script}");
-        assert_eq!(rt; world.calls(), *calls, "{words}: {script}");
+// The first moment that leaves another image; nothing where there is none.
+fn other_image(alloc: Global) -> Result<String, AllocError> {
+    let mut wanted = hello(alloc, &[])?;
+    for (at, edits) in MOMENTS {
+        put_edits(wanted.as_mut_slice(), edits);
+        if left(
+            alloc,
+            "191,512,rw,A",
+            "hello",
+            "ERASE HELLO TEXT A\n",
+            NOON,
+            at,
+        )? != wanted
+        {
+            return format!(in alloc; "event {at}");
+        }
     }
-    Ok(())
-}
-
-#[test]
-fn files_are_erased(rt: HostRuntime) -> Result<(), Fail> {
-    are_so(&rt, rt.alloc(), ERASED)
-}
-
-#[test]
-fn files_are_kept(rt: HostRuntime) -> Result<(), Fail> {
-    are_so(&rt, rt.alloc(), KEPT)
+    Ok(String::new(alloc))
 }
 
 #[test]
 fn the_update_is_stamped_and_written_in_order(rt: HostRuntime) -> Result<(), Fail> {
-    let alloc = rt.alloc();
-    let mut world = MemWorld::new(alloc, b"ERASE HELLO TEXT A\n", NOON)?;
-    world.add_image("disk.img", &hello(alloc, &[])?)?;
-    assert_eq!(rt; ended(alloc, WORD, &mut world)?, Status::Done);
-    // the line, the turn, two writes, a sync, the label, a sync, the ready line and the script's end
-    assert_eq!(rt; world.events(), 9);
-    let mut wanted = hello(alloc, &[])?;
-    for (at, edits) in [
-        (2, &[] as &[Edit]),
-        (3, NEW_MAP),
-        (4, NEW_DIRECTORY),
-        (5, &[]),
-        (6, NEW_LABEL),
-        (9, &[]),
-    ] {
-        put_edits(wanted.as_mut_slice(), edits);
-        assert_eq!(rt;
-            crashed(alloc, &world, 0, at, u64::MAX)?,
-            Some(wanted.to_vec(alloc)?),
-            "event {at}"
-        );
-    }
-    Ok(())
-}
-
-const SCRIPT: &str = "ERASE HELLO TEXT A\nTYPE HELL TEXT A\nERASE HELLO LIST A\n";
-
-const TYPED: &str = "R;\nC\nR;\nR;\n";
-
-const CALLS: &[u8] = b"arrrinwwswsonroonwwswsoi";
-
-const LOOK: &str = "TYPE HELLO TEXT A\nTYPE HELLO LIST A\nTYPE HELL TEXT A\n";
-
-// What looking shows before the first erasure, between the two, and after the second.
-const SHOWN: [&str; 3] = [
-    "HELLO\nWORLD\nR;\nB\nR;\nC\nR;\n",
-    "CMS002E File HELLO TEXT A not found\nR(00028);\nB\nR;\nC\nR;\n",
-    "CMS002E File HELLO TEXT A not found\nR(00028);\nCMS002E File HELLO LIST A not found\nR(00028);\nC\nR;\n",
-];
-
-// A script that looks at an image shows this after so many erasures.
-fn shows(
-    rt: &impl Abort,
-    alloc: Global,
-    image: &[u8],
-    (look, shown): (&str, &[&str]),
-    erasures: usize,
-    moment: usize,
-) -> Result<(), Fail> {
-    let mut looked = world(alloc, look, image)?;
-    assert_eq!(rt; ended(alloc, READ_ONLY, &mut looked)?, Status::Done);
-    let wanted = shown.get(erasures).copied().unwrap_or("");
-    assert_eq!(rt; looked.typed(), wanted.as_bytes(), "at {moment}");
-    Ok(())
-}
-
-// The erasures that a crash after so many events leaves: a label that isn't synced may be written or not.
-//
-// The events are the script, a turn, the map, the directory, a sync, the label (6), a sync, the ready line; a turn, a record and
-// the ready line; a turn, the map, the directory, a sync, the label (16), a sync, the ready line and the script's end.
-fn erasures_at(events: usize, is_written: bool) -> usize {
-    match events {
-        0..=5 => 0,
-        6 => usize::from(is_written),
-        7..=15 => 1,
-        16 => 1 + usize::from(is_written),
-        _ => 2,
-    }
-}
-
-#[test]
-fn a_crash_leaves_the_old_or_the_new(rt: HostRuntime) -> Result<(), Fail> {
-    let alloc = rt.alloc();
-    let mut world = world(alloc, SCRIPT, &three(alloc)?)?;
-    assert_eq!(rt; ended(alloc, WORD, &mut world)?, Status::Done);
-    assert_eq!(rt; world.typed(), TYPED.as_bytes());
-    assert_eq!(rt; world.calls(), CALLS);
-    assert_eq!(rt; world.events(), 19);
-    for at in 0..20usize {
-        for choice in 0..4u64 {
-            let Some(left) = crashed(alloc, &world, 0, at, choice)? else {
-                panic!(rt; "a unit");
-            };
-            shows(
-                &rt,
-                alloc,
-                &left,
-                (LOOK, &SHOWN),
-                erasures_at(at, choice % 2 == 1),
-                at,
-            )?;
-        }
-    }
-    Ok(())
+    passed(other_image(rt.alloc())?)
 }
 
 // The first erasure writes the directory to block 5, the second to block 4; each has the second of its turn in the entries of
 // the directory and of the map, in the hour of the zone.
-const STAMPS: [(usize, [u8; 6]); 4] = [
-    (4 * 512 + 54, [0x26, 0x07, 0x01, 0x12, 0x34, 0x56]),
-    (4 * 512 + 118, [0x26, 0x07, 0x01, 0x12, 0x34, 0x56]),
-    (3 * 512 + 54, [0x26, 0x07, 0x01, 0x12, 0x34, 0x58]),
-    (3 * 512 + 118, [0x26, 0x07, 0x01, 0x12, 0x34, 0x58]),
+const STAMPS: &[(&str, &[Edit])] = &[
+    (
+        "191,512,rw,A",
+        &[
+            (5, 54, &[0x26, 0x07, 0x01, 0x12, 0x34, 0x56]),
+            (5, 118, &[0x26, 0x07, 0x01, 0x12, 0x34, 0x56]),
+            (4, 54, &[0x26, 0x07, 0x01, 0x12, 0x34, 0x58]),
+            (4, 118, &[0x26, 0x07, 0x01, 0x12, 0x34, 0x58]),
+        ],
+    ),
+    (
+        "-z W0100 191,512,rw,A",
+        &[
+            (5, 54, &[0x26, 0x07, 0x01, 0x11, 0x34, 0x56]),
+            (5, 118, &[0x26, 0x07, 0x01, 0x11, 0x34, 0x56]),
+            (4, 54, &[0x26, 0x07, 0x01, 0x11, 0x34, 0x58]),
+            (4, 118, &[0x26, 0x07, 0x01, 0x11, 0x34, 0x58]),
+        ],
+    ),
 ];
+
+const STAMPED: &str = "ERASE HELLO TEXT A\nTYPE HELL TEXT A\nERASE HELLO LIST A\n";
+
+// The words of the first session that leaves other stamps; nothing where there is none.
+fn other_stamps(alloc: Global) -> Result<String, AllocError> {
+    for (words, stamps) in STAMPS {
+        let start = NOON + 34 * 60 + 56;
+        let found = left(alloc, words, "three hellos", STAMPED, start, usize::MAX)?;
+        let mut wanted = found.to_vec(alloc)?;
+        put_edits(wanted.as_mut_slice(), stamps);
+        if found != wanted {
+            return String::from_str(alloc, words);
+        }
+    }
+    Ok(String::new(alloc))
+}
 
 #[test]
 fn each_erasure_has_the_stamp_of_its_turn(rt: HostRuntime) -> Result<(), Fail> {
-    let alloc = rt.alloc();
-    for (words, hour) in [(WORD, 0x12), ("-z W0100 191,512,rw,disk.img", 0x11)] {
-        let mut world = MemWorld::new(alloc, SCRIPT.as_bytes(), NOON + 34 * 60 + 56)?;
-        world.add_image("disk.img", &three(alloc)?)?;
-        assert_eq!(rt; ended(alloc, words, &mut world)?, Status::Done);
-        let left = crashed(alloc, &world, 0, world.events(), u64::MAX)?;
-        let bytes = left.as_deref().unwrap_or(&[]);
-        for (at, mut stamp) in STAMPS {
-            stamp[3] = hour;
-            assert_eq!(rt;
-                bytes.get(at..at + 6),
-                Some(stamp.as_slice()),
-                "{words}: byte {at}"
-            );
-        }
-    }
-    Ok(())
+    passed(other_stamps(rt.alloc())?)
 }
 
-// The calls of the console, the clock and the attaching, with the erasures that were made before.
-const EDGES: [(u32, usize); 10] = [
-    (1, 0),
-    (5, 0),
-    (6, 0),
-    (12, 1),
-    (13, 1),
-    (15, 1),
-    (16, 1),
-    (17, 1),
-    (23, 2),
-    (24, 2),
-];
+// Two of three files are erased.
+const TWICE: Trial = Trial {
+    images: "three hellos",
+    words: "191,512,rw,A",
+    transcript: "> ERASE HELLO TEXT A
+R;
+> TYPE HELL TEXT A
+C
+R;
+> ERASE HELLO LIST A
+R;
+",
+    // the attaching, the opening, the script and the turn; the map, the directory and the label; the file's block; the second update
+    calls: b"arrrinwwswsonroonwwswsoi",
+    look: [
+        "191,512,ro,A",
+        "TYPE HELLO TEXT A\nTYPE HELLO LIST A\nTYPE HELL TEXT A\n",
+    ],
+    states: "# three
+HELLO
+WORLD
+R;
+B
+R;
+C
+R;
+# without-text
+CMS002E File HELLO TEXT A not found
+R(00028);
+B
+R;
+C
+R;
+# without-list
+HELLO
+WORLD
+R;
+CMS002E File HELLO LIST A not found
+R(00028);
+C
+R;
+# one
+CMS002E File HELLO TEXT A not found
+R(00028);
+CMS002E File HELLO LIST A not found
+R(00028);
+C
+R;
+",
+    // the labels are written in events 6 and 16
+    moments: "# 0 5 three three three three
+# 6 6 three without-text three without-text
+# 7 15 without-text without-text without-text without-text
+# 16 16 without-text one without-text one
+# 17 19 one one one one
+",
+    // a failing update leaves the file before its label is written (10 and 21), and its unit in doubt from there on
+    faults: "# 1 1 three three
+# 2 4 three three
+CMS069E Disk A is not accessed
+R(00036);
+CMS069E Disk A is not accessed
+R(00036);
+CMS069E Disk A is not accessed
+R(00036);
+# 5 6 three three
+# 7 9 without-list without-list
+CMS105E Device fault on 191
+R(00100);
+C
+R;
+R;
+# 10 10 three three dropped
+CMS105E Device fault on 191
+R(00100);
+CMS069E Disk A is not accessed
+R(00036);
+CMS069E Disk A is not accessed
+R(00036);
+# 10 11 three without-text
+CMS105E Device fault on 191
+R(00100);
+CMS069E Disk A is not accessed
+R(00036);
+CMS069E Disk A is not accessed
+R(00036);
+# 12 13 without-text without-text
+# 14 14 one one
+R;
+CMS105E Device fault on 191
+R(00100);
+R;
+# 15 17 without-text without-text
+# 18 20 without-text without-text
+R;
+C
+R;
+CMS105E Device fault on 191
+R(00100);
+# 21 21 without-text without-text dropped
+R;
+C
+R;
+CMS105E Device fault on 191
+R(00100);
+# 21 22 without-text one
+R;
+C
+R;
+CMS105E Device fault on 191
+R(00100);
+# 23 24 one one
+",
+};
 
 #[test]
-fn a_session_ends_where_an_edge_fails(rt: HostRuntime) -> Result<(), Fail> {
-    let alloc = rt.alloc();
-    for (call, erasures) in EDGES {
-        let bytes = three(alloc)?;
-        let mut failing = world(alloc, SCRIPT, &bytes)?;
-        failing.fail_at(call, false)?;
-        assert_eq!(rt;
-            ended(alloc, WORD, &mut failing)?,
-            Status::World,
-            "call {call}"
-        );
-        assert!(rt;
-            TYPED.as_bytes().starts_with(failing.typed()),
-            "call {call}"
-        );
-        assert_eq!(rt; failing.calls().len(), call as usize);
-        let left = crashed(alloc, &failing, 0, failing.events(), u64::MAX)?.unwrap_or(bytes);
-        shows(&rt, alloc, &left, (LOOK, &SHOWN), erasures, call as usize)?;
-    }
-    Ok(())
+fn a_crash_leaves_the_old_or_the_new(rt: HostRuntime) -> Result<(), Fail> {
+    TWICE.check(rt.alloc())
 }
 
-// The calls of the unit, and what is typed where one of them fails: at the opening no disk is accessed; a failing update leaves the file
-// before its label is written (10 and 21), and its unit in doubt from there on; a record isn't read (14).
-const DEVICE: [(&[u32], &str); 6] = [
-    (
-        &[2, 3, 4],
-        "CMS069E Disk A is not accessed\nR(00036);\nCMS069E Disk A is not accessed\nR(00036);\nCMS069E Disk A is not accessed\nR(00036);\n",
-    ),
-    (
-        &[7, 8, 9],
-        "CMS105E Device fault on 191\nR(00100);\nC\nR;\nR;\n",
-    ),
-    (
-        &[10, 11],
-        "CMS105E Device fault on 191\nR(00100);\nCMS069E Disk A is not accessed\nR(00036);\nCMS069E Disk A is not accessed\nR(00036);\n",
-    ),
-    (&[14], "R;\nCMS105E Device fault on 191\nR(00100);\nR;\n"),
-    (
-        &[18, 19, 20],
-        "R;\nC\nR;\nCMS105E Device fault on 191\nR(00100);\n",
-    ),
-    (
-        &[21, 22],
-        "R;\nC\nR;\nCMS105E Device fault on 191\nR(00100);\n",
-    ),
-];
-
-#[test]
-fn a_device_fault_is_typed(rt: HostRuntime) -> Result<(), Fail> {
-    let alloc = rt.alloc();
-    for (calls, typed) in DEVICE {
-        for call in calls {
-            for lands in [false, true] {
-                let mut failing = world(alloc, SCRIPT, &three(alloc)?)?;
-                failing.fail_at(*call, lands)?;
-                assert_eq!(rt;
-                    ended(alloc, WORD, &mut failing)?,
-                    Status::Done,
-                    "call {call}"
-                );
-                assert_eq!(rt; failing.typed(), typed.as_bytes(), "call {call}");
-            }
-        }
-    }
-    Ok(())
-}
-
-// Erases two of the twenty files, and types what is left beside them.
-const WIDE: &str =
-    "ERASE FILE0001 TEXT A\nTYPE FILE0001 TEXT A\nTYPE FILE0020 TEXT A\nERASE FILE0009 TEXT A\nTYPE FILE0019 TEXT A\n";
-
-const WIDE_TYPED: &str =
-    "R;\nCMS002E File FILE0001 TEXT A not found\nR(00028);\n0020\nR;\nR;\n0019\nR;\n";
-
-// The opening reads the label, three blocks of the directory, two of the map, and a pointer block of each. An update writes as many.
-const WIDE_CALLS: &[u8] = b"arrrrrrrrinwwwwwwwswsonoonroonwwwwwwwswsonrooi";
-
-const WIDE_LOOK: &str = "TYPE FILE0001 TEXT A\nTYPE FILE0009 TEXT A\nTYPE FILE0018 TEXT A\n";
-
-// What looking shows before the first erasure, between the two, and after the second.
-const WIDE_SHOWN: [&str; 3] = [
-    "0001\nR;\n0009\nR;\n0018\nR;\n",
-    "CMS002E File FILE0001 TEXT A not found\nR(00028);\n0009\nR;\n0018\nR;\n",
-    "CMS002E File FILE0001 TEXT A not found\nR(00028);\nCMS002E File FILE0009 TEXT A not found\nR(00028);\n0018\nR;\n",
-];
-
-// Moments, and the erasures that a crash leaves then without and with the blocks that aren't synced.
-//
-// The events are the script, a turn, seven blocks (9), a sync, the label, a sync, the ready line; a turn and two lines; a turn, a record
-// and the ready line; a turn, seven blocks (27), a sync, the label, a sync, the ready line; a turn, a record, the ready line and the
-// script's end (35).
-const WIDE_MOMENTS: [(usize, [usize; 2]); 4] = [
-    (9, [0, 0]),
-    (11, [0, 1]),
-    (27, [1, 1]),
-    (29, [1, 2]),
-];
+// Two of the twenty files of a volume whose directory and map have several blocks are erased.
+const WIDE: Trial = Trial {
+    images: "wide",
+    words: "191,512,rw,A",
+    transcript: "> ERASE FILE0001 TEXT A
+R;
+> TYPE FILE0001 TEXT A
+CMS002E File FILE0001 TEXT A not found
+R(00028);
+> TYPE FILE0020 TEXT A
+0020
+R;
+> ERASE FILE0009 TEXT A
+R;
+> TYPE FILE0019 TEXT A
+0019
+R;
+",
+    // the opening reads the label, three blocks of the directory, two of the map, and a pointer block of each; an update writes as many
+    calls: b"arrrrrrrrinwwwwwwwswsonoonroonwwwwwwwswsonrooi",
+    look: [
+        "191,512,ro,A",
+        "TYPE FILE0001 TEXT A\nTYPE FILE0009 TEXT A\nTYPE FILE0018 TEXT A\n",
+    ],
+    states: "# all
+0001
+R;
+0009
+R;
+0018
+R;
+# without-first
+CMS002E File FILE0001 TEXT A not found
+R(00028);
+0009
+R;
+0018
+R;
+# without-both
+CMS002E File FILE0001 TEXT A not found
+R(00028);
+CMS002E File FILE0009 TEXT A not found
+R(00028);
+0018
+R;
+",
+    // the events are the script, a turn, seven blocks (9), a sync, the label, a sync, the ready line; a turn and two lines; a turn, a record
+    // and the ready line; a turn, seven blocks (27), a sync, the label, a sync, the ready line; a turn, a record, the ready line and the
+    // script's end (35)
+    moments: "# 9 9 all all all all
+# 11 11 all without-first all without-first
+# 27 27 without-first without-first without-first without-first
+# 29 29 without-first without-both without-first without-both
+# 0 35 - - - -
+",
+    faults: "# 1 46 - -
+",
+};
 
 #[test]
 fn any_volume_is_erased_from(rt: HostRuntime) -> Result<(), Fail> {
-    let alloc = rt.alloc();
-    let mut erasing = world(alloc, WIDE, &wide_volume(alloc)?)?;
-    assert_eq!(rt; ended(alloc, WORD, &mut erasing)?, Status::Done);
-    assert_eq!(rt; erasing.typed(), WIDE_TYPED.as_bytes());
-    assert_eq!(rt; erasing.calls(), WIDE_CALLS);
-    assert_eq!(rt; erasing.events(), 35);
-    for (at, erasures) in WIDE_MOMENTS {
-        for (choice, erasures) in [(0, erasures[0]), (u64::MAX, erasures[1])] {
-            let Some(left) = crashed(alloc, &erasing, 0, at, choice)? else {
-                panic!(rt; "a unit");
-            };
-            shows(&rt, alloc, &left, (WIDE_LOOK, &WIDE_SHOWN), erasures, at)?;
-        }
-    }
-    Ok(())
-}
-
-#[test]
-fn a_directory_gets_shorter(rt: HostRuntime) -> Result<(), Fail> {
-    let alloc = rt.alloc();
-    let script = "ERASE A FILE A\nTYPE A FILE A\nTYPE G FILE A\n";
-    let mut erasing = world(alloc, script, &long_directory(alloc)?)?;
-    assert_eq!(rt; ended(alloc, WORD, &mut erasing)?, Status::Done);
-    assert_eq!(rt;
-        erasing.typed(),
-        b"R;\nCMS002E File A FILE A not found\nR(00028);\nHELLO\nR;\n".as_slice()
-    );
-    // one block of the directory and one of the map are left
-    assert_eq!(rt;
-        erasing.calls(),
-        b"arrrrrrrrrrrrinwwswsonoonrooi".as_slice()
-    );
-    Ok(())
-}
-
-// All blocks but the last five, or the last six, are marked.
-const FIVE_FREE: &[Edit] = &[(6, 0, &[0xFF; 512]), (7, 0, &[0xE0])];
-
-const SIX_FREE: &[Edit] = &[(6, 0, &[0xFF; 512]), (7, 0, &[0xC0])];
-
-#[test]
-fn an_update_has_just_the_blocks_that_it_needs(rt: HostRuntime) -> Result<(), Fail> {
-    let alloc = rt.alloc();
-    let full = "CMS107E Disk A is full, 6 blocks needed, 5 free\nR(00100);\n";
-    for (edits, typed) in [(FIVE_FREE, full), (SIX_FREE, "R;\n")] {
-        let mut image = wide_volume(alloc)?;
-        put_edits(image.as_mut_slice(), edits);
-        let mut erasing = world(alloc, "ERASE FILE0020 TEXT A\n", &image)?;
-        assert_eq!(rt; ended(alloc, WORD, &mut erasing)?, Status::Done);
-        assert_eq!(rt; erasing.typed(), typed.as_bytes());
-    }
-    Ok(())
+    WIDE.check(rt.alloc())
 }

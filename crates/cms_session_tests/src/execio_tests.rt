@@ -1,8 +1,5 @@
 // Sessions of EXECIO, as transcripts, and what it does at a limit and at a fault.
-use crate::access_tests::failed_at;
-use cms_session::Status;
-use cms_transcripts::{ended, unlike};
-use cms_world::MemWorld;
+use cms_transcripts::check_sessions;
 use std::test::Fail;
 
 const READ: &str = "# texts
@@ -341,7 +338,7 @@ R(00036);
 > EXECIO 0 DISKW ALPHA TEXT C
 CMS069E Disk C is not accessed
 R(00036);
-# texts, read only
+# texts: 191,512,ro,A 192,512,rw,B
 > EXECIO 1 DISKW NEW FILE A
 CMS037E Disk A is read-only
 R(00036);
@@ -357,65 +354,57 @@ CMS002E File ALSO TEXT A not found
 R(00028);
 ";
 
+// A file has one record more than the program stack holds lines: a stack that is too small for its records stays empty. Where all but that
+// one are stacked, the first of them is the command that stacks them again.
+const FILLED: &str = "# new: 191,512,n200,BIG
+> FORMAT 191 A
+CMS603R FORMAT will erase all files on disk A (191). Go on? Enter YES or NO
+> YES
+CMS605R Enter disk label
+> BIG
+CMS733I 200 blocks formatted on A (191)
+R;
+> EXECIO 10000 DISKW BIG FILE A (STRING *
+R;
+> EXECIO * DISKR BIG FILE A (LIFO
+R;
+> EXECIO 1 DISKW BIG FILE A (STRING *
+R;
+> EXECIO * DISKR BIG FILE A
+CMS120E Limit 4 reached
+R(00040);
+> EXECIO 10000 DISKR BIG FILE A 2
+R;
+> QUERY DISK A
+LABEL  VDV M STA BLKSZ  FILES     USED     FREE    TOTAL
+BIG    191 A R/W   512      1       68      132      200
+R;
+";
+
+// The record of A FILE can't be read: nothing is stacked, and the next line is the script's.
+const UNREAD: &str = "# one file: 191,512,rw,A
+^ 8
+> EXECIO * DISKR A FILE
+CMS105E Device fault on 191
+R(00100);
+> STATE A FILE
+R;
+";
+
 #[test]
 fn records_are_stacked(rt: HostRuntime) -> Result<(), Fail> {
-    assert_eq!(rt; unlike(rt.alloc(), READ)?.as_str(), "");
-    Ok(())
+    check_sessions(rt.alloc(), READ)?;
+    check_sessions(rt.alloc(), FILLED)?;
+    check_sessions(rt.alloc(), UNREAD)
 }
 
 #[test]
 fn lines_are_written(rt: HostRuntime) -> Result<(), Fail> {
-    for transcripts in [GIVEN, ASKED] {
-        assert_eq!(rt; unlike(rt.alloc(), transcripts)?.as_str(), "");
-    }
-    Ok(())
+    check_sessions(rt.alloc(), GIVEN)?;
+    check_sessions(rt.alloc(), ASKED)
 }
 
 #[test]
 fn refused_lines_read_and_write_nothing(rt: HostRuntime) -> Result<(), Fail> {
-    assert_eq!(rt; unlike(rt.alloc(), REFUSED)?.as_str(), "");
-    Ok(())
-}
-
-// A file with one record more than the program stack holds lines; where all but that one are stacked, the first of them is the command
-// that stacks them again.
-const FILLED: &str = "FORMAT 191 A
-YES
-BIG
-EXECIO 10000 DISKW BIG FILE A (STRING *
-EXECIO * DISKR BIG FILE A (LIFO
-EXECIO 1 DISKW BIG FILE A (STRING *
-EXECIO * DISKR BIG FILE A
-EXECIO 10000 DISKR BIG FILE A 2
-QUERY DISK A
-";
-
-#[test]
-fn a_stack_that_is_too_small_stays_empty(rt: HostRuntime) -> Result<(), Fail> {
-    let alloc = rt.alloc();
-    let mut world = MemWorld::new(alloc, FILLED.as_bytes(), 946_684_800)?;
-    let status = ended(alloc, "191,512,n200,BIG", &mut world)?;
-    assert_eq!(rt; status, Status::Done);
-    assert!(rt;
-        world.typed().ends_with(
-            b"R;\nR;\nR;\nCMS120E Limit 4 reached\nR(00040);\nR;\n\
-LABEL  VDV M STA BLKSZ  FILES     USED     FREE    TOTAL\n\
-BIG    191 A R/W   512      1       68      132      200\nR;\n"
-        )
-    );
-    Ok(())
-}
-
-// The record of A FILE can't be read: nothing is stacked, and the next line is the script's.
-const READING: &str = "EXECIO * DISKR A FILE\nSTATE A FILE\n";
-
-#[test]
-fn a_read_fault_stacks_nothing(rt: HostRuntime) -> Result<(), Fail> {
-    let (failing, status) = failed_at(rt.alloc(), READING, 8, false)?;
-    assert_eq!(rt; status, Status::Done);
-    assert_eq!(rt;
-        failing.typed(),
-        b"CMS105E Device fault on 191\nR(00100);\nR;\n".as_slice()
-    );
-    Ok(())
+    check_sessions(rt.alloc(), REFUSED)
 }

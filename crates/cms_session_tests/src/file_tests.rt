@@ -1,7 +1,5 @@
 // Sessions of STATE, TYPE, ERASE and RENAME, as transcripts, and the order of their calls.
-use crate::access_tests::failed_at;
-use cms_session::Status;
-use cms_transcripts::{ended, unlike, words_named, world_named};
+use cms_transcripts::check_sessions;
 use std::test::Fail;
 
 const STATED: &str = "# texts
@@ -56,7 +54,7 @@ R(00024);
 > STAT ALPHA TEXT
 CMS001E Unknown command STAT
 R(-0003);
-# texts, read only
+# texts: 191,512,ro,A 192,512,rw,B
 > STATE ALPHA TEXT
 R;
 > STATE ALSO TEXT
@@ -187,7 +185,7 @@ R(00024);
 > TYPE BETA DATA B (COL 1-2 HEX) Y
 CMS070E Operand Y is not valid
 R(00024);
-# texts, read only
+# texts: 191,512,ro,A 192,512,rw,B
 > TYPE ALPHA TEXT
 HELLO
 WORLD
@@ -309,7 +307,7 @@ R;
 > ERASE A FILE A
 CMS107E Disk A is full, 1 blocks needed, 0 free
 R(00100);
-# texts, read only
+# texts: 191,512,ro,A 192,512,rw,B
 > ERASE NONE TEXT
 CMS037E Disk A is read-only
 R(00036);
@@ -435,7 +433,7 @@ R(00024);
 > RENAME
 CMS054E Operand is missing
 R(00024);
-# texts, read only
+# texts: 191,512,ro,A 192,512,rw,B
 > R NONE TEXT A X = =
 CMS037E Disk A is read-only
 R(00036);
@@ -513,7 +511,7 @@ R(00036);
 > ERASE A FILE B
 CMS069E Disk B is not accessed
 R(00036);
-# hidden
+# empty + hidden
 > ACCESS 192 B
 R;
 > LISTFILE * * B (FTYPE
@@ -528,61 +526,109 @@ Q        OPEN
 R;
 ";
 
+// The calls of the world in sessions of one line on the texts: each file of a change is written and synced before it is typed, and that
+// before the next; the script is read again where no line is left.
+const CALLS: &str = "# texts
+> STATE ALPHA TEXT
+R;
+! Done aarrrrrinoi
+# texts
+> EXECIO 0 DISKW Z FILE A
+R;
+! Done aarrrrrinoi
+# texts
+> LISTFILE
+ALPHA    TEXT     A1
+BETA     DATA     A2
+ALSO     TEXT     A0
+R;
+! Done aarrrrrinooooi
+# texts
+> LISTFILE (STACK
+R;
+CMS001E Unknown command ALPHA
+R(-0003);
+CMS001E Unknown command BETA
+R(-0003);
+CMS001E Unknown command ALSO
+R(-0003);
+! Done aarrrrrinonoonoonooi
+# texts
+> LISTFILE (EXEC
+R;
+! Done aarrrrrinwwwswsoi
+# texts
+> ERASE * * A
+R;
+! Done aarrrrrinwwswswwswswwswsoi
+# texts
+> ERASE * * A (TYPE
+ALPHA TEXT A1
+BETA DATA A2
+ALSO TEXT A0
+R;
+! Done aarrrrrinwwswsowwswsowwswsooi
+# texts
+> RENAME * TEXT A = NEW = (TYPE
+ALPHA NEW A1
+ALSO NEW A0
+R;
+! Done aarrrrrinwwswsowwswsooi
+# texts
+> RENAME ALPHA TEXT A BETA DATA A
+CMS024E File BETA DATA A already exists
+R(00028);
+! Done aarrrrrinooi
+# texts
+> TYPE BETA DATA
+A
+BC
+DEF
+GHIJ
+R;
+! Done aarrrrrinroooooi
+";
+
+// A doubt, here of the second sync of an erasure, ends with an access.
+const DOUBTED: &str = "# one file: 191,512,rw,A
+^ 12 dropped
+> ERASE A FILE A
+CMS105E Device fault on 191
+R(00100);
+> STATE A FILE A
+CMS069E Disk A is not accessed
+R(00036);
+> ACCESS 191 A
+R;
+> LISTFILE
+CMS002E File * * A not found
+R(00028);
+# one file: 191,512,rw,A
+^ 12 landed
+> ERASE A FILE A
+CMS105E Device fault on 191
+R(00100);
+> STATE A FILE A
+CMS069E Disk A is not accessed
+R(00036);
+> ACCESS 191 A
+R;
+> LISTFILE
+CMS002E File * * A not found
+R(00028);
+";
+
 #[test]
 fn files_are_told_typed_and_changed(rt: HostRuntime) -> Result<(), Fail> {
-    for transcripts in [STATED, TYPED, ERASED, RENAMED, SESSIONS] {
-        assert_eq!(rt; unlike(rt.alloc(), transcripts)?.as_str(), "");
-    }
-    Ok(())
+    check_sessions(rt.alloc(), STATED)?;
+    check_sessions(rt.alloc(), TYPED)?;
+    check_sessions(rt.alloc(), ERASED)?;
+    check_sessions(rt.alloc(), RENAMED)?;
+    check_sessions(rt.alloc(), SESSIONS)
 }
-
-// The calls of the world in sessions of one line on the texts, behind those of the opening, the script and the turn: each file of a
-// change is written and synced before it is typed, and that before the next; the script is read again where no line is left.
-const CALLS: [(&str, &[u8]); 10] = [
-    ("STATE ALPHA TEXT\n", b"oi"),
-    ("EXECIO 0 DISKW Z FILE A\n", b"oi"),
-    ("LISTFILE\n", b"ooooi"),
-    ("LISTFILE (STACK\n", b"onoonoonooi"),
-    ("LISTFILE (EXEC\n", b"wwwswsoi"),
-    ("ERASE * * A\n", b"wwswswwswswwswsoi"),
-    ("ERASE * * A (TYPE\n", b"wwswsowwswsowwswsooi"),
-    ("RENAME * TEXT A = NEW = (TYPE\n", b"wwswsowwswsooi"),
-    ("RENAME ALPHA TEXT A BETA DATA A\n", b"ooi"),
-    ("TYPE BETA DATA\n", b"roooooi"),
-];
-
-const OPENING: &[u8] = b"aarrrrrin";
 
 #[test]
 fn each_call_has_its_place(rt: HostRuntime) -> Result<(), Fail> {
-    let alloc = rt.alloc();
-    for (script, calls) in CALLS {
-        let mut world = world_named(alloc, "texts", script)?;
-        let status = ended(alloc, words_named("texts"), &mut world)?;
-        assert_eq!(rt; status, Status::Done, "{script}");
-        assert_eq!(rt;
-            world.calls().strip_prefix(OPENING),
-            Some(calls),
-            "{script}"
-        );
-    }
-    Ok(())
-}
-
-const DOUBTED: &str = "ERASE A FILE A\nSTATE A FILE A\nACCESS 191 A\nLISTFILE\n";
-
-#[test]
-fn a_doubt_ends_with_an_access(rt: HostRuntime) -> Result<(), Fail> {
-    for lands in [false, true] {
-        // the second sync of the erasure
-        let (failing, status) = failed_at(rt.alloc(), DOUBTED, 12, lands)?;
-        assert_eq!(rt; status, Status::Done);
-        assert_eq!(rt;
-            failing.typed(),
-            b"CMS105E Device fault on 191\nR(00100);\nCMS069E Disk A is not accessed\nR(00036);\nR;\n\
-CMS002E File * * A not found\nR(00028);\n"
-                .as_slice()
-        );
-    }
-    Ok(())
+    check_sessions(rt.alloc(), CALLS)?;
+    check_sessions(rt.alloc(), DOUBTED)
 }

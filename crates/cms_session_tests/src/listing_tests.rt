@@ -1,5 +1,5 @@
 // Sessions of LISTFILE, as transcripts.
-use cms_transcripts::unlike;
+use cms_transcripts::check_sessions;
 use std::test::Fail;
 
 const LISTED: &str = "# texts
@@ -137,7 +137,7 @@ R(00028);
 > L NONE * B (EXEC
 CMS069E Disk B is not accessed
 R(00036);
-# texts, read only
+# texts: 191,512,ro,A 192,512,rw,B
 > L
 ALPHA    TEXT     A1
 BETA     DATA     A2
@@ -250,8 +250,8 @@ R;
 
 #[test]
 fn files_are_listed(rt: HostRuntime) -> Result<(), Fail> {
-    for transcripts in [LISTED, NOT_LISTED, STACKED, WRITTEN] {
-        assert_eq!(rt; unlike(rt.alloc(), transcripts)?.as_str(), "");
-    }
-    Ok(())
+    check_sessions(rt.alloc(), LISTED)?;
+    check_sessions(rt.alloc(), NOT_LISTED)?;
+    check_sessions(rt.alloc(), STACKED)?;
+    check_sessions(rt.alloc(), WRITTEN)
 }

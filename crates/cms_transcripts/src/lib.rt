@@ -6,7 +6,17 @@ mod transcript;
 mod trial;
 mod volumes;
 
-pub use session::{crashed, ended};
-pub use transcript::{Transcript, unlike};
+pub use cms_images::{crashed, image_left};
+pub use session::ended;
+use std::test::Fail;
+pub use transcript::{Transcript, check_sessions};
 pub use trial::Trial;
-pub use volumes::{words_named, world_named};
+pub use volumes::{WORDS, world_at, world_named};
+
+/// A test has passed where nothing differs; else it fails by what does.
+pub fn passed(differing: String) -> Result<(), Fail> {
+    if differing.is_empty() {
+        return Ok(());
+    }
+    Err(Fail::new(differing.as_str()))
+}

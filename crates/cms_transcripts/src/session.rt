@@ -1,4 +1,4 @@
-// A session in a world in memory, and what a crash leaves of it.
+// A session in a world in memory.
 use cms_session::{Status, run};
 use cms_world::{Argv, MemWorld};
 use std::alloc::{AllocError, Global};
@@ -20,19 +20,4 @@ pub fn ended(alloc: Global, words: &str, world: &mut MemWorld) -> Result<Status,
         return Ok(Status::Memory);
     }
     Ok(run(alloc, &argv, world))
-}
-
-/// What a crash after so many events leaves of a unit, by these choices; none where the unit isn't attached.
-pub fn crashed(
-    alloc: Global,
-    world: &MemWorld,
-    unit: u8,
-    at: usize,
-    choice: u64,
-) -> Result<Option<Vec<u8>>, AllocError> {
-    if world.has_unit(unit) && at <= world.events() {
-        Ok(Some(world.crash(alloc, unit, at, choice)?))
-    } else {
-        Ok(None)
-    }
 }

@@ -1,16 +1,22 @@
 // A session whose calls of the world fail one by one, and what a crash leaves of it.
-use crate::session::{crashed, ended};
+use crate::passed;
+use crate::session::ended;
 use crate::transcript::{Transcript, differs, text_of};
 use crate::volumes::world_named;
+use cms_images::crashed;
 use cms_session::Status;
 use cms_world::MemWorld;
 use std::alloc::{AllocError, Global};
+use std::test::Fail;
 
-// Of every two blocks that were written and not synced, the second is as written.
-const SECOND: u64 = 0xAAAA_AAAA_AAAA_AAAA;
+// Which of the blocks that were written and not synced are as written: none, all, and of every two the second or the first.
+const CHOICES: [u64; 4] = [0, u64::MAX, 0xAAAA_AAAA_AAAA_AAAA, 0x5555_5555_5555_5555];
 
 // The images of the units, in their order.
 const UNITS: [(u8, &str); 2] = [(0, "A"), (1, "B")];
+
+// In place of a state that isn't looked at.
+const UNTRIED: &str = "-";
 
 /// A session on the images of a name, and a second one that looks at what is left of them.
 #[derive(Clone, Copy)]
@@ -26,20 +32,22 @@ pub struct Trial {
     /// what that types, each behind a line with the name of a state
     pub states: &'static str,
     /// what a crash leaves, each in a line: the first and the last event behind which it may come, and the states that it leaves where
-    /// nothing of what isn't synced is written, all of it, and every second block of it
+    /// nothing of what isn't synced is written, all of it, and of every two blocks of it the second and the first, a hyphen where that
+    /// isn't tried
     pub moments: &'static str,
     /// what a failing call leaves, each behind a line: the first and the last of the calls, the states that it leaves where nothing of
     /// what isn't synced is written, and all of it, and `landed` or `dropped` where it matters whether a write lands. Below that line
-    /// stands what the session types where the call is one of a device; where another fails, the session ends there
+    /// stands what the session types where the call is one of a device; where another fails, the session ends there. A hyphen in place of a
+    /// state says that the call isn't tried
     pub faults: &'static str,
 }
 
-// Numbers from the first to the last, and three words behind them.
+// Numbers from the first to the last, and up to four words behind them.
 #[derive(Clone, Copy)]
 struct Row<'a> {
     first: usize,
     last: usize,
-    words: [&'a str; 3],
+    words: [&'a str; 4],
     text: &'a str,
 }
 
@@ -49,7 +57,12 @@ fn row_of(part: &str) -> Option<Row<'_>> {
     let mut words = head.split(' ');
     let first: usize = words.next()?.parse().ok()?;
     let last: usize = words.next()?.parse().ok()?;
-    let words = [words.next()?, words.next()?, words.next().unwrap_or("")];
+    let words = [
+        words.next()?,
+        words.next()?,
+        words.next().unwrap_or(""),
+        words.next().unwrap_or(""),
+    ];
     Some(Row {
         first,
         last,
@@ -120,9 +133,9 @@ impl Trial {
         at: usize,
         row: &Row<'a>,
     ) -> Result<&'a str, AllocError> {
-        for (choice, state) in [0, u64::MAX, SECOND].iter().zip(row.words.iter()) {
+        for (choice, state) in CHOICES.iter().zip(row.words.iter()) {
             let (choice, state) = (*choice, *state);
-            if !self.leaves(alloc, world, at, choice, state)? {
+            if state != UNTRIED && !self.leaves(alloc, world, at, choice, state)? {
                 return Ok(state);
             }
         }
@@ -169,11 +182,14 @@ impl Trial {
         let Some(row) = row_for(self.faults, call as usize, lands) else {
             return format!(in alloc; "no row of call {call}");
         };
-        let mut world = world_named(alloc, self.images, whole.script.as_str())?;
+        let [none, all, _, _] = row.words;
+        if none == UNTRIED {
+            return Ok(String::new(alloc));
+        }
+        let mut world = world_named(alloc, self.images, &whole.script)?;
         world.fail_at(call, lands)?;
         let status = ended(alloc, self.words, &mut world)?;
         let at = world.events();
-        let [none, all, _] = row.words;
         if self.ends(
             call as usize,
             status,
@@ -202,12 +218,11 @@ impl Trial {
         Ok(String::new(alloc))
     }
 
-    /// What isn't as the trial says; nothing where all is so. The session runs without a failure, with a crash at every moment, and with
-    /// each of its calls failing.
-    pub fn difference(&self, alloc: Global) -> Result<String, AllocError> {
+    // What isn't as the trial says; nothing where all is so.
+    fn difference(&self, alloc: Global) -> Result<String, AllocError> {
         let transcript = Transcript::of(alloc, self.transcript)?;
-        let mut world = world_named(alloc, self.images, transcript.script.as_str())?;
-        let differing = differs(alloc, "whole", self.words, &mut world, &transcript)?;
+        let mut world = world_named(alloc, self.images, &transcript.script)?;
+        let differing = differs(alloc, "whole", self.words, &mut world, &transcript, "")?;
         if !differing.is_empty() {
             return Ok(differing);
         }
@@ -220,5 +235,10 @@ impl Trial {
             return Ok(differing);
         }
         self.failures(alloc, &transcript)
+    }
+
+    /// All is as the trial says: the session runs without a failure, with a crash at every moment, and with each of its calls failing.
+    pub fn check(&self, alloc: Global) -> Result<(), Fail> {
+        passed(self.difference(alloc)?)
     }
 }

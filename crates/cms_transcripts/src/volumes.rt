@@ -1,7 +1,7 @@
 // The images of transcripts, by their names.
-use cms_images::hello::HELLO;
-use cms_images::known::{empty, full, one_file, spanning, two_files};
-use cms_images::{Edit, SmallFile, edited, small_volume};
+use cms_images::hello::{ERASE_EXEC, HELLO, LONG, MARKED, NO_LABEL, TYPE_EXEC, hello, three};
+use cms_images::known::{empty, full, long_directory, one_file, spanning, two_files};
+use cms_images::{Edit, SmallFile, edited, many_files, put_edits, small_volume, wide_volume};
 use cms_world::MemWorld;
 use std::alloc::{AllocError, Global};
 
@@ -165,69 +165,138 @@ const FOUR: &[SmallFile] = &[
     },
 ];
 
-// L FILE in the place of HELLO TEXT, on twenty blocks: three records of 512 bytes in blocks 7 to 9 below the pointer block 10.
-const LONG: &[Edit] = &[
-    (3, 28, &[0, 0, 0, 20]),
-    (4, 128, &[0xD3, 0x40, 0x40, 0x40, 0x40, 0x40, 0x40, 0x40]),
-    (4, 136, &[0xC6, 0xC9, 0xD3, 0xC5, 0x40, 0x40, 0x40, 0x40]),
-    (4, 160, &[0, 0, 2, 0]),
-    (4, 168, &[0, 0, 0, 10]),
-    (4, 172, &[0, 0, 0, 3]),
-    (4, 176, &[0, 0, 0, 3]),
-    (4, 180, &[1, 4]),
-    (6, 0, &[0xFF, 0xC0]),
-    (7, 0, &[0xC1; 512]),
-    (8, 0, &[0xC2; 512]),
-    (9, 0, &[0xC3; 512]),
-    (10, 0, &[0, 0, 0, 7, 0, 0, 0, 8, 0, 0, 0, 9]),
+// HELLO TEXT has mode number 0.
+const HIDDEN_HELLO: &[Edit] = &[(4, 152, &[0xC1, 0xF0])];
+
+// Its records are told by their lengths, which they haven't: it is no volume.
+const VARYING: &[Edit] = &[(4, 158, &[0xE5])];
+
+// X Y in its place, with the record ON2.
+const ON_SECOND: &[Edit] = &[
+    (4, 128, &[0xE7, 0x40, 0x40, 0x40, 0x40, 0x40, 0x40, 0x40]),
+    (4, 136, &[0xE8, 0x40, 0x40, 0x40, 0x40, 0x40, 0x40, 0x40]),
+    (4, 160, &[0, 0, 0, 3]),
+    (4, 176, &[0, 0, 0, 1]),
+    (7, 0, &[0xD6, 0xD5, 0xF2]),
 ];
 
-// The image of disk A in the transcripts of this name.
-fn image(alloc: Global, name: &str) -> Result<Vec<u8>, AllocError> {
+// And with the record ON3.
+const ON_THIRD: &[Edit] = &[
+    (4, 128, &[0xE7, 0x40, 0x40, 0x40, 0x40, 0x40, 0x40, 0x40]),
+    (4, 136, &[0xE8, 0x40, 0x40, 0x40, 0x40, 0x40, 0x40, 0x40]),
+    (4, 160, &[0, 0, 0, 3]),
+    (4, 176, &[0, 0, 0, 1]),
+    (7, 0, &[0xD6, 0xD5, 0xF3]),
+];
+
+// The root block of B FILE is that of A FILE.
+const ONE_ROOT: &[Edit] = &[(4, 232, &[0, 0, 0, 7])];
+
+// Block 9 is marked, and no file has it.
+const LAST_MARKED: &[Edit] = &[(6, 1, &[0x80])];
+
+// The first record of V FILE is of stars up to its last byte.
+const STARS: &[Edit] = &[(7, 2, &[0x5C; 508])];
+
+// All blocks but the last five, or the last six, are marked.
+const FIVE_FREE: &[Edit] = &[(6, 0, &[0xFF; 512]), (7, 0, &[0xE0])];
+
+const SIX_FREE: &[Edit] = &[(6, 0, &[0xFF; 512]), (7, 0, &[0xC0])];
+
+// What is changed in an image, by its name.
+fn changes(name: &str) -> &'static [Edit] {
     match name {
+        "no label" => NO_LABEL,
+        "all marked" => MARKED,
+        "last marked" => LAST_MARKED,
+        "hidden" => HIDDEN_HELLO,
+        "varying" => VARYING,
+        "TYPE EXEC" => TYPE_EXEC,
+        "ERASE EXEC" => ERASE_EXEC,
+        "on second" => ON_SECOND,
+        "on third" => ON_THIRD,
+        "one root" => ONE_ROOT,
+        "stars" => STARS,
+        "five free" => FIVE_FREE,
+        "six free" => SIX_FREE,
+        _ => &[],
+    }
+}
+
+// The files of a small volume, by its name.
+fn files(name: &str) -> &'static [SmallFile] {
+    match name {
+        "rows" => FIRST,
+        "second" => SECOND,
+        "hidden" => HIDDEN,
+        "cards" => CARDS,
+        "letters" => LETTERS,
+        "four files" => FOUR,
+        "texts" => TEXTS,
+        _ => &[],
+    }
+}
+
+// An image before it is changed.
+fn original(alloc: Global, name: &str) -> Result<Vec<u8>, AllocError> {
+    match name {
+        "empty" => empty(alloc),
         "one file" => one_file(alloc),
         "two files" => two_files(alloc),
-        "spanning" => spanning(alloc),
-        "empty" | "hidden" => empty(alloc),
         "full" => full(alloc),
+        "spanning" => spanning(alloc),
+        "long directory" => long_directory(alloc),
+        "hello" => hello(alloc, &[]),
+        "three hellos" => three(alloc),
         "long records" => edited(alloc, 20, &[HELLO, LONG]),
-        "rows" => small_volume(alloc, "TEST01", FIRST),
-        "cards" => small_volume(alloc, "TEST01", CARDS),
-        "letters" | "letters and room" | "three disks" => small_volume(alloc, "TEST01", LETTERS),
-        "four files" => small_volume(alloc, "TEST01", FOUR),
-        "texts" | "texts, read only" => small_volume(alloc, "TEST01", TEXTS),
-        _ => small_volume(alloc, "TEST01", &[]),
+        "wide" => wide_volume(alloc),
+        "many of 512" => many_files(alloc, 512, 4096, 6),
+        "many of 1024" => many_files(alloc, 1024, 8192, 14),
+        "many of 2048" => many_files(alloc, 2048, 38, 30),
+        "many of 4096" => many_files(alloc, 4096, 70, 62),
+        _ => small_volume(alloc, "TEST01", files(name)),
     }
 }
 
-// And that of device 192.
-fn second_image(alloc: Global, name: &str) -> Result<Vec<u8>, AllocError> {
-    match name {
-        "hidden" => small_volume(alloc, "TEST02", HIDDEN),
-        "four files" | "letters and room" => empty(alloc),
-        _ => small_volume(alloc, "TEST02", SECOND),
+/// An image by its name, behind which stands behind a comma what is changed in it, or that it is cut off behind its eighth block.
+pub fn image(alloc: Global, name: &str) -> Result<Vec<u8>, AllocError> {
+    let (name, changed) = name.split_once(", ").unwrap_or((name, ""));
+    let mut image = original(alloc, name)?;
+    put_edits(image.as_mut_slice(), changes(changed));
+    if changed == "cut" {
+        image.truncate(8 * 512);
     }
+    Ok(image)
 }
 
-/// A world with the images of a name: those of disk A, which has no files where the name is none that is known here, of device 192 and of
-/// device 193; and with none where the name begins with `new`. The clock says the first second of the year 2000.
-pub fn world_named(alloc: Global, name: &str, script: &str) -> Result<MemWorld, AllocError> {
-    let mut world = MemWorld::new(alloc, script.as_bytes(), 946_684_800)?;
-    if !name.starts_with("new") {
-        world.add_image("A", &image(alloc, name)?)?;
-        world.add_image("B", &second_image(alloc, name)?)?;
-        world.add_image("C", &one_file(alloc)?)?;
+// Adds the images A, B and C.
+fn add_images(alloc: Global, world: &mut MemWorld, names: &str) -> Result<(), AllocError> {
+    let (first, others) = names.split_once(" + ").unwrap_or((names, "second"));
+    let (second, third) = others.split_once(" + ").unwrap_or((others, "one file"));
+    world.add_image("A", &image(alloc, first)?)?;
+    world.add_image("B", &image(alloc, second)?)?;
+    world.add_image("C", &image(alloc, third)?)
+}
+
+/// A world with the images A, B and C, whose names stand between plus signs; they are a volume without files where a name is none that is
+/// known here, and where names are left out a second volume and one with A FILE. It has none where the name begins with `new`.
+pub fn world_at(
+    alloc: Global,
+    names: &str,
+    script: &str,
+    start: i64,
+) -> Result<MemWorld, AllocError> {
+    let mut world = MemWorld::new(alloc, script.as_bytes(), start)?;
+    if !names.starts_with("new") {
+        add_images(alloc, &mut world, names)?;
     }
     Ok(world)
 }
 
-/// The program's words for the images of a name.
-pub fn words_named(name: &str) -> &'static str {
-    match name {
-        "texts, read only" => "191,512,ro,A 192,512,rw,B",
-        "three disks" => "191,512,rw,A 192,512,rw,B 193,512,rw,C",
-        "new disks" => "191,1024,n400,A 192,1024,n400,B",
-        "new, by a seed" => "-g 2 191,1024,n3000,A",
-        _ => "191,512,rw,A 192,512,rw,B",
-    }
+/// The same; the clock says the first second of the year 2000.
+pub fn world_named(alloc: Global, names: &str, script: &str) -> Result<MemWorld, AllocError> {
+    world_at(alloc, names, script, 946_684_800)
 }
+
+/// The words of the program by which the first two of these images are units that may be written.
+pub const WORDS: &str = "191,512,rw,A 192,512,rw,B";

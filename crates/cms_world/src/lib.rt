@@ -25,8 +25,3 @@ pub use image_name::ImageName;
 pub use mem::MemWorld;
 pub use quiet::{Image, ImageList, QuietWorld, quiet_laws};
 pub use world::World;
-
-#[cfg(test)]
-mod quiet_tests;
-#[cfg(test)]
-mod tests;

@@ -1,31 +1,59 @@
-// Calls of the functions, by the rules of VM/SP EXEC 2.
-use crate::shared::{host, word};
-use cms_text::{Word, WordList, ebcdic, number, written};
-use exec2_funcs::{FuncFault, Function, call};
+// Calls of the functions, and what is read and written for them, by the rules of VM/SP EXEC 2.
+use crate::shared::{coded, told, word};
+use cms_text::{WordList, number, written};
+use exec2_funcs::{Function, call};
 use std::alloc::{AllocError, Global};
-use std::process::Abort;
 use std::test::Fail;
 
-/// The answer to a line of a function word and its words, with a stroke between each two: the value between apostrophes, or the fault.
-fn answer(rt: &impl Abort, alloc: Global, line: &str) -> Result<String, Fail> {
+/// The function of a name, if there is one.
+fn named(alloc: Global, name: &str) -> Result<Option<Function>, AllocError> {
+    let bytes = coded(alloc, name)?;
+    Ok(Function::read(bytes.as_slice()))
+}
+
+fn words_of(alloc: Global, text: &str) -> Result<WordList, Fail> {
     let mut words = WordList::new(alloc);
-    let mut function = None;
-    for part in line.split('/') {
-        match function {
-            None => function = Function::read(ebcdic(alloc, part)?.as_slice()),
-            Some(_) => words.push(word(rt, alloc, part)?)?,
-        }
+    for part in text.split('/') {
+        words.push(word(alloc, part)?)?;
     }
-    match call(alloc, function.ok_or("no function")?, &words) {
-        Ok(word) => {
-            let text = host(alloc, word.bytes())?;
-            Ok(format!(in alloc; "'{text}'")?)
-        }
+    Ok(words)
+}
+
+/// What a function answers to its words, with a stroke between each two: the value, or the fault.
+fn called(alloc: Global, name: &str, words: &WordList) -> Result<String, Fail> {
+    let function = named(alloc, name)?.ok_or("no function")?;
+    match call(alloc, function, words) {
+        Ok(word) => Ok(told(alloc, &word)?),
         Err(fault) => Ok(format!(in alloc; "{fault:?}")?),
     }
 }
 
-/// Lines and their answers, a value between apostrophes or a fault.
+/// A number as it is written, if it is read so too.
+fn number_again(alloc: Global, text: &str) -> Result<String, Fail> {
+    let value: i64 = text.parse().ok().ok_or("no number")?;
+    let word = written(alloc, value)?;
+    if number(word.bytes()) != Some(value) {
+        Err("another number")?;
+    }
+    Ok(told(alloc, &word)?)
+}
+
+/// The answer to a line of a function and its words, or behind `name` or `number` to what is read there.
+fn answer(alloc: Global, line: &str) -> Result<String, Fail> {
+    if let Some(name) = line.strip_prefix("name ") {
+        let function = named(alloc, name)?;
+        return Ok(format!(in alloc; "{function:?}")?);
+    }
+    if let Some(text) = line.strip_prefix("number ") {
+        return number_again(alloc, text);
+    }
+    match line.split_once('/') {
+        Some((name, text)) => called(alloc, name, &words_of(alloc, text)?),
+        None => called(alloc, line, &WordList::new(alloc)),
+    }
+}
+
+/// Lines and their answers, a value or a fault.
 const ROWS: &str = "&CONCAT = ''
 &CONCAT/AB//C = 'ABC'
 &LITERAL = ''
@@ -135,91 +163,48 @@ const ROWS: &str = "&CONCAT = ''
 &WORD/0/A = NotNumber
 &WORD/256/A = NotNumber
 &WORD/X/A = NotNumber
-&WORD = Arity";
+&WORD = Arity
+&CONCAT/%200/%55/%0 = 255 bytes
+&CONCAT/%200/%55/%1 = TooLong
+&LITERAL/%100/%100/%53 = 255 bytes
+&LITERAL/%100/%100/%54 = TooLong
+&LITERAL/%127/%0/%127 = TooLong
+&STRING/%127/%0/%127 = 255 bytes
+&STRING/%127/%1/%126 = TooLong
+&CONCAT/%255/%255/%255 = TooLong
+number 0 = '0'
+number 7 = '7'
+number -7 = '-7'
+number 100 = '100'
+number 9223372036854775807 = '9223372036854775807'
+number -9223372036854775808 = '-9223372036854775808'
+name &CONCAT = Some(Concat)
+name &datatype = Some(Datatype)
+name &Div = Some(Div)
+name &MULT = Some(Mult)
+name &LEFT = Some(Left)
+name &RIGHT = Some(Right)
+name &LENGTH = Some(Length)
+name &LITERAL = Some(Literal)
+name &LOCATION = Some(Location)
+name &PIECE = Some(Piece)
+name &SUBSTR = Some(Substr)
+name &POSITION = Some(Position)
+name &STRING = Some(String)
+name &TRANS = Some(Trans)
+name &TRIM = Some(Trim)
+name &WORD = Some(Word)
+name LEFT = None
+name &LEF = None
+name &LEFTS = None
+name & = None
+name  = None";
 
 #[test]
-fn functions_of_words(rt: HostRuntime) -> Result<(), Fail> {
+fn functions_are_answered(rt: HostRuntime) -> Result<(), Fail> {
     for row in ROWS.lines() {
         let (line, wanted) = row.split_once(" = ").ok_or("no answer")?;
-        assert_eq!(rt; answer(&rt, rt.alloc(), line)?.as_str(), wanted, "{line}");
-    }
-    Ok(())
-}
-
-/// A word of so many letters X.
-fn letters(rt: &impl Abort, alloc: Global, count: usize) -> Result<Word, AllocError> {
-    let mut bytes = Vec::new(alloc);
-    bytes.resize(count, 0xE7)?;
-    assert!(rt; bytes.len() <= 255);
-    Ok(Word::take(bytes))
-}
-
-#[test]
-fn values_end_at_255_bytes(rt: HostRuntime) -> Result<(), Fail> {
-    for (function, sizes, wanted) in [
-        (Function::Concat, [200, 55, 0], Ok(255)),
-        (Function::Concat, [200, 55, 1], Err(FuncFault::TooLong)),
-        (Function::Literal, [100, 100, 53], Ok(255)),
-        (Function::Literal, [100, 100, 54], Err(FuncFault::TooLong)),
-        (Function::Literal, [127, 0, 127], Err(FuncFault::TooLong)),
-        (Function::String, [127, 0, 127], Ok(255)),
-        (Function::String, [127, 1, 126], Err(FuncFault::TooLong)),
-        (Function::Concat, [255, 255, 255], Err(FuncFault::TooLong)),
-    ] {
-        let mut words = WordList::new(rt.alloc());
-        for size in sizes {
-            words.push(letters(&rt, rt.alloc(), size)?)?;
-        }
-        let size = call(rt.alloc(), function, &words).map(|word| word.bytes().len());
-        assert_eq!(rt; size, wanted, "{function:?} of {sizes:?}");
-    }
-    Ok(())
-}
-
-#[test]
-fn numbers_are_read_as_written(rt: HostRuntime) -> Result<(), Fail> {
-    for (value, wanted) in [
-        (0, "0"),
-        (7, "7"),
-        (-7, "-7"),
-        (100, "100"),
-        (i64::MAX, "9223372036854775807"),
-        (i64::MIN, "-9223372036854775808"),
-    ] {
-        let word = written(rt.alloc(), value)?;
-        assert_eq!(rt; host(rt.alloc(), word.bytes())?.as_str(), wanted);
-        assert_eq!(rt; number(word.bytes()), Some(value), "{wanted}");
-    }
-    Ok(())
-}
-
-#[test]
-fn function_words_are_folded(rt: HostRuntime) -> Result<(), Fail> {
-    for (word, wanted) in [
-        ("&CONCAT", Some(Function::Concat)),
-        ("&datatype", Some(Function::Datatype)),
-        ("&Div", Some(Function::Div)),
-        ("&MULT", Some(Function::Mult)),
-        ("&LEFT", Some(Function::Left)),
-        ("&RIGHT", Some(Function::Right)),
-        ("&LENGTH", Some(Function::Length)),
-        ("&LITERAL", Some(Function::Literal)),
-        ("&LOCATION", Some(Function::Location)),
-        ("&PIECE", Some(Function::Piece)),
-        ("&SUBSTR", Some(Function::Substr)),
-        ("&POSITION", Some(Function::Position)),
-        ("&STRING", Some(Function::String)),
-        ("&TRANS", Some(Function::Trans)),
-        ("&TRIM", Some(Function::Trim)),
-        ("&WORD", Some(Function::Word)),
-        ("LEFT", None),
-        ("&LEF", None),
-        ("&LEFTS", None),
-        ("&", None),
-        ("", None),
-    ] {
-        let bytes = ebcdic(rt.alloc(), word)?;
-        assert_eq!(rt; Function::read(bytes.as_slice()), wanted, "{word}");
+        assert_eq!(rt; answer(rt.alloc(), line)?.as_str(), wanted, "{line}");
     }
     Ok(())
 }

@@ -1,12 +1,10 @@
 // Procedures and what they want, by the rules of VM/SP EXEC 2.
-use crate::shared::{cards, host, word};
+use crate::shared::{coded, host, procedure_of, word};
 use cms_fields::Moment;
 use cms_names::{Name, Part};
-use cms_text::{Lines, ebcdic};
-use exec2_parse::{Procedure, read_procedure};
+use cms_text::Lines;
 use exec2_run::{Exec, FileName, Side, Want};
 use std::alloc::{AllocError, Global};
-use std::process::Abort;
 use std::test::Fail;
 
 /// A procedure and what it wants. The lines stand between semicolons, behind a first line `&TRACE OFF`, where `@N text` is N lines of
@@ -36,52 +34,36 @@ fn field(text: &str) -> &str {
     text.strip_suffix(' ').unwrap_or(text)
 }
 
-/// The lines of a procedure.
-fn lines_of<'a>(alloc: Global, lines: &'a str) -> Result<Vec<&'a str>, AllocError> {
-    let mut all = vec![in alloc; "&TRACE OFF"]?;
-    for line in lines.split(';') {
-        let (count, text) = copies(line);
-        for _ in 0..count {
-            all.push(text)?;
-        }
+// A name or a type.
+fn part(alloc: Global, text: &str) -> Result<Part, Fail> {
+    let bytes = coded(alloc, text)?;
+    match Part::read(bytes.as_slice()) {
+        Ok(part) => Ok(part),
+        Err(_) => Err(Fail::from("no name")),
     }
-    Ok(all)
 }
 
-fn copies(line: &str) -> (u32, &str) {
-    if let Some(rest) = line.strip_prefix('@') {
-        if let Some((count, text)) = rest.split_once(' ') {
-            return (count.parse().unwrap_or(0), text);
-        }
-    }
-    (1, line)
-}
-
-fn started(rt: &impl Abort, alloc: Global, row: &Row<'_>) -> Result<Exec, Fail> {
-    let file = cards(rt, alloc, 255, lines_of(alloc, row.lines)?.as_slice())?;
-    let procedure = read_procedure(alloc, &file)?;
-    let found = FileName {
-        name: Name {
-            file: part(alloc, "T")?,
-            kind: part(alloc, "EXEC")?,
-        },
+// The file of the procedures, T EXEC A1.
+fn found(alloc: Global) -> Result<FileName, Fail> {
+    let file = part(alloc, "T")?;
+    let kind = part(alloc, "EXEC")?;
+    Ok(FileName {
+        name: Name { file, kind },
         letter: 0,
         number: 1,
-    };
+    })
+}
+
+fn started(alloc: Global, row: &Row<'_>) -> Result<Exec, Fail> {
+    let lines = format!(in alloc; "&TRACE OFF;{}", row.lines)?;
+    let procedure = procedure_of(alloc, 255, lines.as_str())??;
     let called = if row.called.is_empty() {
         "T"
     } else {
         row.called
     };
-    Ok(Exec::start(alloc, procedure, &word(rt, alloc, called)?, &found)?)
-}
-
-fn part(alloc: Global, text: &str) -> Result<Part, Fail> {
-    let bytes = ebcdic(alloc, text)?;
-    match Part::read(bytes.as_slice()) {
-        Ok(part) => Ok(part),
-        Err(_) => Err(Fail::from("no name")),
-    }
+    let called = word(alloc, called)?;
+    Ok(Exec::start(alloc, procedure, &called, &found(alloc)?)?)
 }
 
 /// The moment of a turn, from 0: 2000-01-01 00:00:00, and a second more for each.
@@ -89,101 +71,111 @@ fn moment(turn: u32) -> Moment {
     Moment::of_epoch(946_684_800 + i64::from(turn), 0)
 }
 
-/// Shows lines, each between brackets.
-fn show_lines(alloc: Global, shown: &mut String, lines: &Lines) -> Result<(), AllocError> {
-    for place in 0..lines.len() {
-        if let Some(line) = lines.get(place) {
-            if place == 0 {
-                shown.push(' ')?;
-            }
-            let text = host(alloc, line.bytes())?;
-            write!(shown, "[{text}]")?;
-        }
+/// What the procedure wants now, which may take a turn.
+fn next_want(exec: &mut Exec, turn: &mut u32) -> Result<Want, AllocError> {
+    let want = exec.settle(&moment(turn.saturating_sub(1)))?;
+    if !matches!(&want, Want::Next) {
+        return Ok(want);
     }
-    shown.push(';')
+    let want = exec.turn(&moment(*turn))?;
+    *turn = turn.saturating_add(1);
+    Ok(want)
+}
+
+/// A word, and behind it the lines, each between brackets.
+fn with_lines(alloc: Global, first: &str, lines: &Lines) -> Result<String, AllocError> {
+    let mut shown = String::from_str(alloc, first)?;
+    for line in lines.as_slice() {
+        let before = if shown.len() == first.len() {
+            " ["
+        } else {
+            "["
+        };
+        shown.push_str(before)?;
+        shown.push_str(host(alloc, line.bytes())?.as_str())?;
+        shown.push(']')?;
+    }
+    shown.push(';')?;
+    Ok(shown)
+}
+
+/// What is wanted, as it is shown.
+fn shown(alloc: Global, want: &Want) -> Result<String, AllocError> {
+    match want {
+        Want::Next => Ok(String::new(alloc)),
+        Want::Say(lines) => with_lines(alloc, "say", lines),
+        Want::Stack(lines, Side::Front) => with_lines(alloc, "stack front", lines),
+        Want::Stack(lines, Side::Back) => with_lines(alloc, "stack back", lines),
+        Want::Read => String::from_str(alloc, "read;"),
+        Want::Command(command) => {
+            let text = host(alloc, command.bytes())?;
+            format!(in alloc; "cmd [{text}];")
+        }
+        Want::Ended(code) => format!(in alloc; "end {code}"),
+        Want::Faulted { number, line } => format!(in alloc; "fail {number} {line}"),
+    }
 }
 
 /// The next answer, behind the letters that it begins with.
-fn answer<'a>(answers: &mut Vec<&'a str>, letters: &str) -> Option<&'a str> {
-    answers.pop()?.strip_prefix(letters)
+fn answer<'a>(answers: &mut &'a str, letters: &str) -> Option<&'a str> {
+    let (first, rest) = answers.split_once(';').unwrap_or((*answers, ""));
+    *answers = rest;
+    first.strip_prefix(letters)
 }
 
-/// Shows a want, and gives what the procedure goes on with; nothing where it has ended.
+/// What the procedure goes on with where this was wanted; nothing where it has ended.
 fn answered(
-    rt: &impl Abort,
     alloc: Global,
     exec: &mut Exec,
-    want: Want,
-    answers: &mut Vec<&str>,
-    shown: &mut String,
+    want: &Want,
+    answers: &mut &str,
 ) -> Result<Option<Want>, Fail> {
     match want {
-        Want::Next => Ok(Some(Want::Next)),
-        Want::Say(lines) => {
-            shown.push_str("say")?;
-            show_lines(alloc, shown, &lines)?;
-            Ok(Some(Want::Next))
-        }
-        Want::Stack(lines, side) => {
-            shown.push_str(match side {
-                Side::Front => "stack front",
-                Side::Back => "stack back",
-            })?;
-            show_lines(alloc, shown, &lines)?;
-            match answer(answers, "f") {
-                Some(_) => Ok(Some(exec.refuse_stack())),
-                None => Ok(Some(Want::Next)),
-            }
-        }
+        Want::Next | Want::Say(_) => Ok(Some(Want::Next)),
+        Want::Stack(_, _) => match answer(answers, "f") {
+            Some(_) => Ok(Some(exec.refuse_stack())),
+            None => Ok(Some(Want::Next)),
+        },
         Want::Read => {
-            shown.push_str("read;")?;
-            let text = answer(answers, "r ").unwrap_or("");
-            Ok(Some(exec.take_line(&word(rt, alloc, text)?)?))
+            let line = word(alloc, answer(answers, "r ").unwrap_or(""))?;
+            Ok(Some(exec.take_line(&line)?))
         }
-        Want::Command(command) => {
-            let text = host(alloc, command.bytes())?;
-            write!(shown, "cmd [{text}];")?;
+        Want::Command(_) => {
             let code = answer(answers, "c ").unwrap_or("0");
             exec.take_code(code.parse().unwrap_or(0));
             Ok(Some(Want::Next))
         }
-        Want::Ended(code) => {
-            write!(shown, "end {code}")?;
-            Ok(None)
-        }
-        Want::Faulted { number, line } => {
-            write!(shown, "fail {number} {line}")?;
-            Ok(None)
-        }
+        Want::Ended(_) | Want::Faulted { .. } => Ok(None),
     }
 }
 
-/// What a procedure wants, and how many turns it takes, of which there are at most so many.
-fn run(rt: &impl Abort, alloc: Global, row: &Row<'_>, turns: u32) -> Result<String, Fail> {
-    let mut exec = started(rt, alloc, row)?;
-    let mut answers = Vec::new(alloc);
-    for answer in row.answers.split(';') {
-        answers.push(answer)?;
-    }
-    answers.reverse();
-    let mut shown = String::new(alloc);
+/// All that a procedure wants, and how many turns it takes, of which there are at most so many.
+fn wants(alloc: Global, exec: &mut Exec, answers: &str, turns: u32) -> Result<(String, u32), Fail> {
+    let mut answers = answers;
+    let mut all = String::new(alloc);
     let mut turn: u32 = 0;
     let mut want = Want::Next;
     for _ in 0..turns {
         if matches!(&want, Want::Next) {
-            want = exec.settle(&moment(turn.saturating_sub(1)))?;
-            if matches!(&want, Want::Next) {
-                want = exec.turn(&moment(turn))?;
-                turn = turn.saturating_add(1);
-            }
+            want = next_want(exec, &mut turn)?;
         }
-        match answered(rt, alloc, &mut exec, want, &mut answers, &mut shown)? {
+        all.push_str(shown(alloc, &want)?.as_str())?;
+        match answered(alloc, exec, &want, &mut answers)? {
             Some(next) => want = next,
             None => break,
         }
     }
-    write!(shown, ";turns {turn}")?;
-    Ok(shown)
+    Ok((all, turn))
+}
+
+/// What a row's procedure wants in so many turns at the most, with the turns that it takes where the row has these.
+fn run(alloc: Global, row: &Row<'_>, turns: u32) -> Result<String, Fail> {
+    let mut exec = started(alloc, row)?;
+    let (all, turn) = wants(alloc, &mut exec, row.answers, turns)?;
+    if row.wanted.contains("turns") {
+        return Ok(format!(in alloc; "{all};turns {turn}")?);
+    }
+    Ok(all)
 }
 
 /// Procedures with what they want. Where no turns are written, any number will do.
@@ -413,18 +405,12 @@ T  a  b # &TYPE &ARGSTRING # # say [ a  b];end 0
 T X # &LOOP 2 997;&I = &I + 1;&V&I = X;&CALL -S;&EXIT;-S &Y = 1;&Z = 2;&RETURN # # fail 14 9";
 
 #[test]
-fn procedures(rt: HostRuntime) -> Result<(), Fail> {
+fn procedures_want_what_they_say(rt: HostRuntime) -> Result<(), Fail> {
     for text in ROWS.lines() {
-        if text.starts_with('#') {
-            continue;
-        }
-        let row = row_of(text).ok_or("no row")?;
-        let shown = run(&rt, rt.alloc(), &row, 10_000)?;
-        if row.wanted.contains("turns") {
-            assert_eq!(rt; shown.as_str(), row.wanted, "{text}");
-        } else {
+        if !text.starts_with('#') {
+            let row = row_of(text).ok_or("no row")?;
             assert_eq!(rt;
-                shown.split_once(";turns").map_or("", |parts| parts.0),
+                run(rt.alloc(), &row, 10_000)?.as_str(),
                 row.wanted,
                 "{text}"
             );
@@ -435,9 +421,8 @@ fn procedures(rt: HostRuntime) -> Result<(), Fail> {
 
 /// A procedure that jumps to its own line takes each turn that it is given, and wants nothing.
 #[test]
-fn jumps_without_end(rt: HostRuntime) -> Result<(), Fail> {
-    let row = row_of(" # -L &GOTO -L # # ").ok_or("no row")?;
-    let shown = run(&rt, rt.alloc(), &row, 99)?;
-    assert_eq!(rt; shown.as_str(), ";turns 99");
+fn jumps_go_on_without_end(rt: HostRuntime) -> Result<(), Fail> {
+    let row = row_of(" # -L &GOTO -L # # ;turns 99").ok_or("no row")?;
+    assert_eq!(rt; run(rt.alloc(), &row, 99)?.as_str(), row.wanted);
     Ok(())
 }

@@ -1,4 +1,4 @@
-// Words and files for the tests.
+// Words and procedures for the tests.
 ghost use Rattle.std.specs.Prelude.{◌≤◌, length, IfOk};
 ghost use Rattle.cms_fields.specs.Limits.{most_bytes};
 ghost use Rattle.cms_model.specs.Records.{IsValid};
@@ -8,13 +8,24 @@ use cms_fields::Stamp;
 use cms_model::{FileData, Stored};
 use cms_names::Format;
 use cms_text::{LONGEST_TEXT, Word, ebcdic};
+use exec2_parse::{ProcFault, Procedure, read_procedure};
 use std::alloc::{AllocError, Global};
-use std::process::Abort;
+use std::test::Fail;
 
-/// A word or a line of an ASCII text.
-pub fn word(rt: &impl Abort, alloc: Global, text: &str) -> Result<Word, AllocError> {
-    let bytes = ebcdic(alloc, text)?;
-    assert!(rt; bytes.len() <= LONGEST_TEXT);
+/// A text in EBCDIC; behind a percent sign stands how many letters X it is.
+pub fn coded(alloc: Global, text: &str) -> Result<Vec<u8>, AllocError> {
+    match text.strip_prefix('%') {
+        Some(count) => vec![in alloc; 0xE7; count.parse().unwrap_or(0)],
+        None => ebcdic(alloc, text),
+    }
+}
+
+/// A word or a line of such a text.
+pub fn word(alloc: Global, text: &str) -> Result<Word, Fail> {
+    let bytes = coded(alloc, text)?;
+    if bytes.len() > LONGEST_TEXT {
+        Err("a long word")?;
+    }
     Ok(Word::take(bytes))
 }
 
@@ -24,6 +35,16 @@ pub fn host(alloc: Global, bytes: &[u8]) -> Result<String, AllocError> {
         .iter()
         .map(|byte| char::from(to_host(*byte)))
         .collect(alloc)
+}
+
+/// A word between apostrophes, or how many bytes it has, if these are many.
+pub fn told(alloc: Global, word: &Word) -> Result<String, AllocError> {
+    let bytes = word.bytes();
+    if bytes.len() > 99 {
+        return format!(in alloc; "{} bytes", bytes.len());
+    }
+    let text = host(alloc, bytes)?;
+    format!(in alloc; "'{text}'")
 }
 
 /// The first of January 1900.
@@ -36,26 +57,43 @@ pub const STAMP: Stamp = Stamp {
     second: 0,
 };
 
-/// A file of records of one length, filled with blanks.
-pub fn cards(
-    rt: &impl Abort,
-    alloc: Global,
-    size: u16,
-    lines: &[&str],
-) -> Result<FileData, AllocError>
+// How often a line stands there, and the line.
+fn copies(line: &str) -> (u32, &str) {
+    if let Some(rest) = line.strip_prefix('@') {
+        if let Some((count, text)) = rest.split_once(' ') {
+            return (count.parse().unwrap_or(0), text);
+        }
+    }
+    (1, line)
+}
+
+// The lines between semicolons, each with blanks behind it up to a size.
+fn filled(alloc: Global, size: u16, lines: &str) -> Result<Vec<u8>, AllocError> {
+    let mut bytes = Vec::new(alloc);
+    for line in lines.split(';') {
+        let (count, text) = copies(line);
+        let mut card = coded(alloc, text)?;
+        card.resize(usize::from(size), 0x40)?;
+        for _ in 0..count {
+            bytes.extend_from_slice(&card)?;
+        }
+    }
+    Ok(bytes)
+}
+
+// A file of records of one length.
+fn cards(alloc: Global, size: u16, lines: &str) -> Result<FileData, Fail>
     ensures valid { IfOk result (λ file. IsValid file) }
     ensures stored { IfOk result (λ file. length file.bytes ≤ most_bytes) }
 {
-    let mut bytes = Vec::new(alloc);
-    for line in lines {
-        let mut card = ebcdic(alloc, line)?;
-        card.resize(usize::from(size), 0x40)?;
-        bytes.extend_from_slice(&card)?;
+    let bytes = filled(alloc, size, lines)?;
+    if size < 1 || size > 300 {
+        Err("no such records")?;
     }
-    let count = lines.len();
-    assert!(rt; 1 <= size && size <= 300);
-    assert!(rt; 1 <= count && count <= 5000);
-    assert!(rt; bytes.len() == count * usize::from(size));
+    let count = bytes.len() / usize::from(size);
+    if count < 1 || count > 5000 || bytes.len() != count * usize::from(size) {
+        Err("no such file")?;
+    }
     Ok(FileData {
         format: Format::F,
         length: u32::from(size),
@@ -64,4 +102,15 @@ pub fn cards(
         count: count as u32,
         bytes: Stored::take(bytes),
     })
+}
+
+/// What is read of a file of the lines between semicolons, in records of one length, filled with blanks. `@N text` is N lines of that
+/// text, and `%N` a line of N letters X.
+pub fn procedure_of(
+    alloc: Global,
+    size: u16,
+    lines: &str,
+) -> Result<Result<Procedure, ProcFault>, Fail> {
+    let file = cards(alloc, size, lines)?;
+    Ok(read_procedure(alloc, &file))
 }

@@ -1,22 +1,60 @@
 // Units that are real files.
 use super::{FileWorld, read_some, seconds};
-use cms_world::{Access, Failed, Unit, World};
+use crate::file_unit::tests::path;
+use cms_world::{Access, World};
 use std::io::{ErrorKind, Read};
 use std::test::Fail;
 use std::time::{Clock, Duration};
-use std::{env, fs, io};
+use std::{fs, io};
 
 type Files<'a> = FileWorld<&'a HostRuntime>;
 
-// The path of a file of this test.
-fn path(rt: &HostRuntime, name: &str) -> Result<String, Fail> {
-    let folder = env::temp_dir(rt)?;
-    let id = std::process::id(rt.process());
-    Ok(format!(in rt.alloc(); "{}/cms-{id}-{name}", folder.as_str())?)
+// What comes of attaching images, each with a semicolon behind it: the unit's number and its blocks, or a hyphen.
+fn attached(
+    rt: &HostRuntime,
+    world: &mut Files<'_>,
+    rows: &[(&str, Access)],
+) -> io::Result<String> {
+    let mut told = String::new(rt.alloc());
+    for (name, access) in rows {
+        match world.attach(name, 512, *access) {
+            Ok(unit) => {
+                told.push_str(&format!(in rt.alloc(); "{} {};", unit.number, unit.blocks)?)?;
+            }
+            Err(_) => told.push_str("-;")?,
+        }
+    }
+    Ok(told)
 }
 
-fn attach(world: &mut Files<'_>, name: &str, access: Access) -> Result<Unit, Failed> {
-    world.attach(name, 512, access)
+// The same of a torn image, of a new one, and of a folder, and how many calls failed.
+fn attachings<'a>(rt: &'a HostRuntime, torn: &'a str, new: &'a str) -> io::Result<String> {
+    fs::write(rt, torn, &[7; 2000])?;
+    let mut world = FileWorld::new(rt.alloc(), rt, false)?;
+    let rows = [
+        (torn, Access::ReadWrite),
+        (new, Access::ReadOnly),
+        ("/", Access::ReadOnly),
+        (new, Access::New(8)),
+        (new, Access::New(8)),
+        (torn, Access::New(8)),
+        (new, Access::ReadOnly),
+    ];
+    let told = attached(rt, &mut world, &rows)?;
+    fs::remove_file(rt, torn)?;
+    fs::remove_file(rt, new)?;
+    Ok(format!(in rt.alloc(); "{told}{},{}", world.faults, world.edges)?)
+}
+
+#[test]
+fn images_are_attached(rt: HostRuntime) -> Result<(), Fail> {
+    let torn = path(&rt, "torn")?;
+    let new = path(&rt, "new")?;
+    assert_eq!(rt;
+        attachings(&rt, &torn, &new)?.as_str(),
+        "0 3;-;-;1 8;-;-;2 8;0,4"
+    );
+    Ok(())
 }
 
 // The letter that fills a block.
@@ -31,69 +69,58 @@ fn fill(world: &mut Files<'_>, unit: u8, block: u32, letter: u8) -> bool {
     world.write_block(unit, block, &[letter; 512]).is_ok()
 }
 
-#[test]
-fn images_are_attached(rt: HostRuntime) -> Result<(), Fail> {
-    let torn = path(&rt, "torn")?;
-    let new = path(&rt, "new")?;
-    let folder = String::from_str(rt.alloc(), "/")?;
-    fs::write(&rt, &torn, &[7; 2000])?;
-    let mut world = FileWorld::new(rt.alloc(), &rt, false)?;
-    let rows = [
-        (&torn, Access::ReadWrite, Ok((0, 3))),
-        (&new, Access::ReadOnly, Err(Failed)),
-        (&folder, Access::ReadOnly, Err(Failed)),
-        (&new, Access::New(8), Ok((1, 8))),
-        (&new, Access::New(8), Err(Failed)),
-        (&torn, Access::New(8), Err(Failed)),
-        (&new, Access::ReadOnly, Ok((2, 8))),
-    ];
-    for (name, access, want) in rows {
-        let got = attach(&mut world, name, access).map(|unit| (unit.number, unit.blocks));
-        assert_eq!(rt; got, want, "at {name} {access:?}");
+// Units and blocks that are filled with a letter.
+const WRITES: [(u8, u32, u8); 6] = [
+    (0, 2, 9),
+    (0, 8, 5),
+    (0, 0, 1),
+    (0, 9, 1),
+    (1, 2, 1),
+    (2, 2, 1),
+];
+
+// And those that are read.
+const READS: [(u8, u32); 8] = [
+    (0, 1),
+    (0, 2),
+    (1, 2),
+    (1, 3),
+    (1, 8),
+    (0, 0),
+    (0, 9),
+    (2, 1),
+];
+
+// What comes of these calls on a new image that is attached once more, to be read alone; and how many failed.
+fn written_and_read(rt: &HostRuntime, name: &str) -> io::Result<String> {
+    let mut world = FileWorld::new(rt.alloc(), rt, false)?;
+    let rows = [(name, Access::New(8)), (name, Access::ReadOnly)];
+    let mut told = attached(rt, &mut world, &rows)?;
+    for (unit, block, letter) in WRITES {
+        told.push(if fill(&mut world, unit, block, letter) {
+            'w'
+        } else {
+            '-'
+        })?;
     }
-    assert_eq!(rt; (world.faults, world.edges), (0, 4));
-    fs::remove_file(&rt, &torn)?;
-    fs::remove_file(&rt, &new)?;
-    Ok(())
+    told.push(if world.sync(0).is_ok() { ';' } else { '-' })?;
+    for (unit, block) in READS {
+        told.push(match letter(&mut world, unit, block) {
+            Some(letter) => char::from(b'0'.saturating_add(letter)),
+            None => '-',
+        })?;
+    }
+    fs::remove_file(rt, name)?;
+    Ok(format!(in rt.alloc(); "{told};{},{}", world.faults, world.edges)?)
 }
 
 #[test]
 fn blocks_are_written_and_read(rt: HostRuntime) -> Result<(), Fail> {
     let name = path(&rt, "blocks")?;
-    let mut world = FileWorld::new(rt.alloc(), &rt, false)?;
-    assert!(rt; attach(&mut world, &name, Access::New(8)).is_ok());
-    assert!(rt; attach(&mut world, &name, Access::ReadOnly).is_ok());
-    let writes = [
-        (0, 2, 9, true),
-        (0, 8, 5, true),
-        (0, 0, 1, false),
-        (0, 9, 1, false),
-        (1, 2, 1, false),
-        (2, 2, 1, false),
-    ];
-    for (unit, block, letter, want) in writes {
-        assert_eq!(rt;
-            fill(&mut world, unit, block, letter),
-            want,
-            "at {unit} {block}"
-        );
-    }
-    assert!(rt; world.sync(0).is_ok());
-    let reads = [
-        (0, 1, Some(0)),
-        (0, 2, Some(9)),
-        (1, 2, Some(9)),
-        (1, 3, Some(0)),
-        (1, 8, Some(5)),
-        (0, 0, None),
-        (0, 9, None),
-        (2, 1, None),
-    ];
-    for (unit, block, want) in reads {
-        assert_eq!(rt; letter(&mut world, unit, block), want, "at {unit} {block}");
-    }
-    assert_eq!(rt; (world.faults, world.edges), (7, 0));
-    fs::remove_file(&rt, &name)?;
+    assert_eq!(rt;
+        written_and_read(&rt, &name)?.as_str(),
+        "0 8;1 8;ww----;09905---;7,0"
+    );
     Ok(())
 }
 
@@ -133,15 +160,29 @@ impl Read for Breaks {
     }
 }
 
+fn clocks_and_reads(rt: &HostRuntime) -> io::Result<String> {
+    let clocks = [seconds(&Still(Some(946_684_800))), seconds(&Still(None))];
+    let mut reader = Breaks(0);
+    let mut bytes = [b'-'; 5];
+    let reads = [
+        read_some(&mut reader, &mut bytes),
+        read_some(&mut reader, &mut bytes),
+    ];
+    let text = str::from_utf8(&bytes).unwrap_or("");
+    Ok(format!(in rt.alloc(); "{clocks:?} {reads:?} {text}")?)
+}
+
 #[test]
 fn clocks_and_readers_that_fail(rt: HostRuntime) -> Result<(), Fail> {
-    assert_eq!(rt; seconds(&Still(Some(946_684_800))), Some(946_684_800));
-    assert_eq!(rt; seconds(&Still(None)), None);
-    let mut reader = Breaks(0);
-    let mut bytes = [0; 5];
-    assert_eq!(rt; read_some(&mut reader, &mut bytes), Some(3));
-    assert_eq!(rt; &bytes, b"XXX\0\0");
-    assert_eq!(rt; read_some(&mut reader, &mut bytes), None);
+    assert_eq!(rt;
+        clocks_and_reads(&rt)?.as_str(),
+        "[Some(946684800), None] [Some(3), None] XXX--"
+    );
+    Ok(())
+}
+
+#[test]
+fn the_clock_is_the_systems(rt: HostRuntime) -> Result<(), Fail> {
     let mut world = FileWorld::new(rt.alloc(), &rt, false)?;
     assert!(rt; world.now().is_ok_and(|seconds| seconds > 1_700_000_000));
     Ok(())
