@@ -26,7 +26,7 @@ use cms_world::World;
 use std::alloc::Global;
 
 /// What ACCESS's line says: a device, and the letter as which its volume is accessed.
-#[derive(Clone, Copy, Debug, PartialEq, Eq)]
+#[derive(Clone, Copy, PartialEq, Eq)]
 pub struct AccessLine {
     pub vdev: u16,
     pub mode: AccessMode,

@@ -24,7 +24,7 @@ const LABEL: usize = 6;
 const BAD_NAME: i32 = 20;
 
 /// What the question for a volume id comes to.
-#[derive(Clone, Copy, Debug, PartialEq, Eq)]
+#[derive(Clone, Copy, PartialEq, Eq)]
 pub enum Label {
     /// a volume id, in EBCDIC
     Given([u8; 6]),

@@ -21,7 +21,7 @@ use cms_world::World;
 use std::alloc::{AllocError, Global};
 
 /// What is told of a disk.
-#[derive(Clone, Copy, Debug, PartialEq, Eq)]
+#[derive(Clone, Copy, PartialEq, Eq)]
 pub enum Shown {
     /// its room
     Disk,

@@ -1,5 +1,5 @@
 -- A procedure that is called: it is refused, or its file is read and it begins.
-use Rattle.std.proofs.Common.{◌≡◌, ◌+◌, ◌<◌, ◌≤◌, ◌∙◌, ⊎_elim, ℕ, ℤ, List, [], ◌∷◌, Option, Some, None, Result, Ok, Err, true, false, arith, codes, pos, length, slice_get, slice_index_or, refl, sym, ap, subst}
+use Rattle.std.proofs.Common.{◌≡◌, ◌+◌, ◌<◌, ◌≤◌, ◌∙◌, inl, inr, ⊎_elim, ℕ, ℤ, List, [], ◌∷◌, Option, Some, None, Result, Ok, Err, true, false, arith, codes, pos, length, slice_get, slice_index_or, refl, sym, ap, subst}
 use Rattle.std.specs.Prelude.{◌⊎◌, IfErr, IfOk, IfSome, nat_le}
 use Rattle.std.specs.Global.{Global}
 use Rattle.std.specs.Option.{option_map}
@@ -36,6 +36,7 @@ use Rattle.cms_records.proofs.Reading.{records_are}
 use Rattle.cms_edf.specs.OpeningSteps.{OfImage}
 use Rattle.cms_disk.specs.Disks.{Accessed, IsReadable, StandsIn, place_of}
 use Rattle.cms_disk.specs.Getting.{GetsIn}
+use Rattle.cms_disk.specs.declared.fault.DiskFault.{DiskFault}
 use Rattle.cms_disk.specs.declared.fault.DiskFault.TheVariants as failed
 use Rattle.cms_disk.specs.declared.unit.UnitInfo.{UnitInfo}
 use Rattle.cms_disk.proofs.Finding.{stands_tells}
@@ -44,7 +45,7 @@ use Rattle.cms_world.specs.Seen.{Seen}
 use Rattle.cms_search.specs.Calls.{Acts, Comes, Does, Holds, IsLater, IsUsable, Spot, at, course_of, holds, machine_of, refusal_tree, said}
 use Rattle.cms_search.specs.ChangeTold.{limited}
 use Rattle.cms_search.specs.Machine.{Course, Machine}
-use Rattle.cms_search.specs.Refusing.{device_fault}
+use Rattle.cms_search.specs.Refusing.{device_fault, unread_code, unread_message}
 use Rattle.cms_search.specs.Releasing.{vdev_of}
 use Rattle.cms_search.specs.Searches.{item_at}
 use Rattle.cms_search.specs.Shows.{Shows}
@@ -57,7 +58,7 @@ use Rattle.cms_search.specs.declared.state.End.{End}
 use Rattle.cms_search.specs.declared.state.End.TheVariants.{Edge}
 use Rattle.cms_search.specs.declared.state.State.{State}
 use Rattle.cms_search.proofs.Acts as joins
-use Rattle.cms_search.proofs.Acts.{acts_after, acts_done, acts_same, acts_stop, comes_in, later_then, usable_later}
+use Rattle.cms_search.proofs.Acts.{acts_after, acts_done, acts_same, acts_stop, comes_in, later_does, later_then, usable_later}
 use Rattle.cms_search.proofs.Handing.{acts_never, later_read, named_so, passes_read}
 use Rattle.cms_search.proofs.Meeting.{holds_shows, letter_is, meets_at, readable_seat}
 use Rattle.cms_search.proofs.Released.{vdev_is}
@@ -262,7 +263,7 @@ module _ (old : Spot) (alloc : Global) (called : Text) (f : FileName) where
     read_data now new stored r read got a = acts_after old (seen_now old now) new tree (begins_in (records_in stored)) r (started_of new.state) (comes_data now stored read got) a
 
     -- the fault of the device is typed
-    pub read_fault : (now : Seen) (new : Spot) (vdev : ℕ) (r : Result declared.Course End) (x : Result came.Started End) → HasRead old.world now → Rose old.world.faults now.faults
+    read_fault : (now : Seen) (new : Spot) (vdev : ℕ) (r : Result declared.Course End) (x : Result came.Started End) → HasRead old.world now → Rose old.world.faults now.faults
         → (place_of f.name d.volume ≡ None → ⊥)
         → IfSome (item_at old.state.table.seats f.letter) (λ s. option_map (λ (unit : UnitInfo). unit.vdev) (slice_get old.state.table.units s.letter.unit) ≡ Some vdev)
         → Does now new.world (saying (typed_line (message_text (M105 (device_text vdev))))) r said → IfOk r (λ c. c ≡ course.Went (pos 100)) → new.state ≡ old.state
@@ -273,7 +274,7 @@ module _ (old : Spot) (alloc : Global) (called : Text) (f : FileName) where
         (rw is (starts_refused (seen_now old now) new failed r new.state (joins.refused (seen_now old now) new (M105 (device_text vdev)) (pos 100) r does went same)))
 
     -- that the records are altered, which never comes
-    pub read_altered : (now : Seen) (new : Spot) (r : Result declared.Course End) (x : Result came.Started End) → HasRead old.world now
+    read_altered : (now : Seen) (new : Spot) (r : Result declared.Course End) (x : Result came.Started End) → HasRead old.world now
         → OfImage old.world.told d.volume.unit (λ image. GetsIn image d f.name (Err failed.Altered)) → IsLater now new.world
         → IfErr r (λ e. e ≡ Edge → Rose now.edges new.world.edges) → new.state ≡ old.state → x ≡ with_refused r → Acts old new tree x (started_of new.state)
     read_altered now new r x read got more cause same is =
@@ -284,6 +285,18 @@ module _ (old : Spot) (alloc : Global) (called : Text) (f : FileName) where
         caused : (r : Result declared.Course End) → IfErr r (λ e. e ≡ Edge → Rose now.edges new.world.edges) → IfErr (with_refused r) (λ e. e ≡ Edge → Rose old.world.edges new.world.edges)
         caused (Ok c) h = tt
         caused (Err e) h = λ edge. (let edges = read.edges in subst (λ (n : ℕ). Rose n new.world.edges) edges (h edge))
+
+    -- either of them: its message was typed
+    pub read_unread : (now : Seen) (new : Spot) (vdev : ℕ) (why : DiskFault) (r : Result declared.Course End) (x : Result came.Started End) → (why ≡ failed.Device) ⊎ (why ≡ failed.Altered)
+        → HasRead old.world now → (why ≡ failed.Device → Rose old.world.faults now.faults) → OfImage old.world.told d.volume.unit (λ image. GetsIn image d f.name (Err why))
+        → (place_of f.name d.volume ≡ None → ⊥)
+        → IfSome (item_at old.state.table.seats f.letter) (λ s. option_map (λ (unit : UnitInfo). unit.vdev) (slice_get old.state.table.units s.letter.unit) ≡ Some vdev)
+        → Does now new.world (saying (typed_line (message_text (unread_message why vdev)))) r said → IfOk r (λ c. c ≡ course.Went (pos (unread_code why))) → new.state ≡ old.state
+        → x ≡ with_refused r → Acts old new tree x (started_of new.state)
+    read_unread now new vdev why r x (inl device) read rose got some at does went same is =
+        read_fault now new vdev r x read (rose device) some at (rw device at does) (rw device at went) same is
+    read_unread now new vdev why r x (inr altered) read rose got some at does went same is =
+        read_altered now new r x read (rw altered at got) (later_does now new.world (saying (typed_line (message_text (unread_message why vdev)))) r said does) does.cause same is
 
 -- ---- the procedure in the data of a file
 

@@ -11,7 +11,7 @@ use crate::refusing::{reason_of, refuse_no_procedure, refuse_not_run};
 use crate::started::{Started, refused};
 use cms_disk::{DiskFault, FileData};
 use cms_line::Line;
-use cms_search::{End, State, refuse_altered, refuse_device, refuse_limit};
+use cms_search::{End, State, refuse_limit, refuse_unread};
 use cms_world::World;
 use exec2_parse::{ProcFault, read_procedure};
 use exec2_run::{Exec, FileName};
@@ -67,11 +67,13 @@ fn read_found<W: World>(
     };
     match disk.get(alloc, world, &found.name) {
         Ok(file) => begin(alloc, world, state, called, found, &file),
-        Err(DiskFault::Device) => refused(refuse_device(alloc, world, vdev)),
-        // never in a world that tells its journal
-        Err(DiskFault::Altered) => refused(refuse_altered(alloc, world, vdev)),
-        // the file is there, so this is want of memory
-        Err(_) => Err(End::Memory),
+        Err(fault) => match fault {
+            DiskFault::Device | DiskFault::Altered => {
+                refused(refuse_unread(alloc, world, vdev, fault))
+            }
+            // the file is there, so this is want of memory
+            _ => Err(End::Memory),
+        },
     }
 }
 

@@ -1,5 +1,5 @@
 -- Lines that are asked for one after another.
-use Rattle.std.proofs.Common.{◌≡◌, ◌∙◌, ℕ, suc, List, [], ◌∷◌, ◌++◌, Ok, Err, refl, ap}
+use Rattle.std.proofs.Common.{◌≡◌, ◌∙◌, ◌<◌, ◌+◌, ◌-◌, ℕ, suc, List, [], ◌∷◌, ◌++◌, Ok, Err, refl, ap, arith}
 use Rattle.cms_machine.specs.Acts.{Act, Done, bind}
 use Rattle.cms_machine.specs.Slots.{Slot}
 use Rattle.cms_search.specs.Calls.{Acts, Comes, Spot, machine_of}
@@ -33,38 +33,46 @@ none_more : (st : State) (lines : List (List ℕ)) (units : List Slot) → tree_
 unfolding asking_lines
 none_more st lines units = refl
 
-module _ (old mid new : Spot) (all n left : ℕ) (lines : List (List ℕ)) (due : left ≡ suc n) (far : Comes old mid (asking_tree old.state all) (tree_of mid.state left lines)) where
-  so_far : Comes old mid (asking_tree old.state all) (λ units. bind (ask_tree mid.state units) (with_line (next_of n lines)))
+module _ (old mid new : Spot) (all given : ℕ) (lines : List (List ℕ)) (less : given < all)
+    (far : Comes old mid (asking_tree old.state all) (tree_of mid.state (all - given) lines)) where
+  -- how many are asked for behind the next one
+  abbrev left : ℕ
+  left = all - (given + 1)
+
+  due : all - given ≡ suc left
+  due = omega (arith, less)
+
+  so_far : Comes old mid (asking_tree old.state all) (λ units. bind (ask_tree mid.state units) (with_line (next_of left lines)))
   so_far =
-      comes_then old mid mid (asking_tree old.state all) (tree_of mid.state left lines) (λ units. bind (ask_tree mid.state units) (with_line (next_of n lines))) far
-      (comes_same mid (tree_of mid.state left lines) (λ units. bind (ask_tree mid.state units) (with_line (next_of n lines)))
-      (λ units h. ap (λ (k : ℕ). tree_of mid.state k lines units) due ∙ one_more mid.state n lines units))
+      comes_then old mid mid (asking_tree old.state all) (tree_of mid.state (all - given) lines) (λ units. bind (ask_tree mid.state units) (with_line (next_of left lines))) far
+      (comes_same mid (tree_of mid.state (all - given) lines) (λ units. bind (ask_tree mid.state units) (with_line (next_of left lines)))
+      (λ units h. ap (λ (k : ℕ). tree_of mid.state k lines units) due ∙ one_more mid.state left lines units))
 
   -- a line was given
   pub asks_more : (line : List ℕ) → Acts mid new (ask_tree mid.state) (Ok (asked.Given line)) (asked_of new.state)
-      → Comes old new (asking_tree old.state all) (tree_of new.state n (lines ++ line ∷ []))
+      → Comes old new (asking_tree old.state all) (tree_of new.state left (lines ++ line ∷ []))
   asks_more line a =
-      comes_then old mid new (asking_tree old.state all) (λ units. bind (ask_tree mid.state units) (with_line (next_of n lines))) (tree_of new.state n (lines ++ line ∷ []))
-      so_far (comes_in {T = declared.Asked} mid new (ask_tree mid.state) (with_line (next_of n lines)) (asked.Given line) (asked_of new.state) a)
+      comes_then old mid new (asking_tree old.state all) (λ units. bind (ask_tree mid.state units) (with_line (next_of left lines))) (tree_of new.state left (lines ++ line ∷ []))
+      so_far (comes_in {T = declared.Asked} mid new (ask_tree mid.state) (with_line (next_of left lines)) (asked.Given line) (asked_of new.state) a)
 
   -- there is no memory to keep it
   pub asks_none : (line : List ℕ) → Acts mid new (ask_tree mid.state) (Ok (asked.Given line)) (asked_of new.state)
       → Acts {T = asked_lines.AskedLines} old new (asking_tree old.state all) (Err Memory) (asked_lines_of new.state)
-  asks_none line a = no_memory old new (asking_tree old.state all) (tree_of new.state n (lines ++ line ∷ [])) (asked_lines_of new.state) (asks_more line a)
+  asks_none line a = no_memory old new (asking_tree old.state all) (tree_of new.state left (lines ++ line ∷ [])) (asked_lines_of new.state) (asks_more line a)
 
   -- the turns are spent
   pub asks_spent : Acts mid new (ask_tree mid.state) (Ok asked.Spent) (asked_of new.state) → Acts old new (asking_tree old.state all) (Ok Spent) (asked_lines_of new.state)
   asks_spent a =
       acts_done old new (asking_tree old.state all) Spent (asked_lines_of new.state)
-      (comes_then old mid new (asking_tree old.state all) (λ units. bind (ask_tree mid.state units) (with_line (next_of n lines))) (λ units. Done (asked_lines_of new.state units Spent))
-      so_far (comes_in {T = declared.Asked} mid new (ask_tree mid.state) (with_line (next_of n lines)) asked.Spent (asked_of new.state) a))
+      (comes_then old mid new (asking_tree old.state all) (λ units. bind (ask_tree mid.state units) (with_line (next_of left lines))) (λ units. Done (asked_lines_of new.state units Spent))
+      so_far (comes_in {T = declared.Asked} mid new (ask_tree mid.state) (with_line (next_of left lines)) asked.Spent (asked_of new.state) a))
 
   -- an ask was cut off
   pub asks_stop : (e : End) → Acts {T = declared.Asked} mid new (ask_tree mid.state) (Err e) (asked_of new.state)
       → Acts {T = asked_lines.AskedLines} old new (asking_tree old.state all) (Err e) (asked_lines_of new.state)
   asks_stop e a =
-      acts_after {T = asked_lines.AskedLines} old mid new (asking_tree old.state all) (λ units. bind (ask_tree mid.state units) (with_line (next_of n lines))) (Err e) (asked_lines_of new.state)
-      so_far (acts_stop mid new (ask_tree mid.state) (with_line (next_of n lines)) e (asked_of new.state) (asked_lines_of new.state) a)
+      acts_after {T = asked_lines.AskedLines} old mid new (asking_tree old.state all) (λ units. bind (ask_tree mid.state units) (with_line (next_of left lines))) (Err e) (asked_lines_of new.state)
+      so_far (acts_stop mid new (ask_tree mid.state) (with_line (next_of left lines)) e (asked_of new.state) (asked_lines_of new.state) a)
 
 -- all were given
 pub asks_all : (old new : Spot) (all left : ℕ) (lines : List (List ℕ)) → left ≡ 0 → Comes old new (asking_tree old.state all) (tree_of new.state left lines)

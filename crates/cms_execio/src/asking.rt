@@ -9,7 +9,7 @@ use cms_world::World;
 use std::alloc::Global;
 
 /// What asking for lines comes to.
-#[derive(Debug, Drop)]
+#[derive(Drop)]
 pub enum AskedLines {
     All(Lines),
     /// the turns are spent, and a further one is due

@@ -21,7 +21,7 @@ use cms_world::World;
 use std::alloc::{AllocError, Global};
 
 // Which records are stacked.
-#[derive(Clone, Copy, Debug, PartialEq, Eq)]
+#[derive(Clone, Copy, PartialEq, Eq)]
 struct Span {
     /// how many stand in front of them
     front: u32,

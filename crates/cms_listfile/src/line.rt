@@ -15,7 +15,7 @@ use cms_text::{BLANK, COLON, STROKE, ZERO, decimal, without_trailing_blanks};
 use std::alloc::{AllocError, Global};
 
 /// A file as it is listed.
-#[derive(Clone, Copy, Debug)]
+#[derive(Clone, Copy)]
 pub struct ListedFile {
     /// the letter of its disk, A is 0
     pub letter: u8,

@@ -14,7 +14,7 @@ use cms_operands::{
 use std::alloc::Global;
 
 /// Where the lines go.
-#[derive(Clone, Copy, Debug, PartialEq, Eq)]
+#[derive(Clone, Copy, PartialEq, Eq)]
 pub enum Delivery {
     Typed,
     /// onto the program stack
@@ -24,7 +24,7 @@ pub enum Delivery {
 }
 
 /// The files that are listed.
-#[derive(Clone, Copy, Debug)]
+#[derive(Clone, Copy)]
 pub struct ListFiles {
     pub file: Pattern,
     pub kind: Pattern,
@@ -32,7 +32,7 @@ pub struct ListFiles {
 }
 
 /// How they are listed.
-#[derive(Clone, Copy, Debug, PartialEq, Eq)]
+#[derive(Clone, Copy, PartialEq, Eq)]
 pub struct ListStyle {
     pub columns: Columns,
     pub header: bool,
@@ -40,7 +40,7 @@ pub struct ListStyle {
 }
 
 /// What LISTFILE's line says.
-#[derive(Clone, Copy, Debug)]
+#[derive(Clone, Copy)]
 pub struct ListLine {
     pub files: ListFiles,
     pub style: ListStyle,

@@ -15,7 +15,7 @@ use cms_world::World;
 use std::alloc::Global;
 
 /// What an access of a volume comes to.
-#[derive(Clone, Copy, Debug, PartialEq, Eq)]
+#[derive(Clone, Copy, PartialEq, Eq)]
 pub enum AccessEnd {
     /// the disk has the letter
     Done {

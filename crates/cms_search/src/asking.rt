@@ -16,7 +16,7 @@ use cms_world::World;
 use std::alloc::Global;
 
 /// What an ask comes to.
-#[derive(Debug, Drop)]
+#[derive(Drop)]
 pub enum Asked {
     /// a line, empty at the script's end
     Given(Line),
@@ -25,7 +25,7 @@ pub enum Asked {
 }
 
 // What the console gives that is no line.
-#[derive(Clone, Copy, Debug)]
+#[derive(Clone, Copy)]
 enum NoLine {
     /// a line with a character that isn't printable
     Bad,

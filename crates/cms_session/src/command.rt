@@ -7,7 +7,7 @@ use cms_operands::{CommandName, command_named};
 use cms_text::BLANK;
 
 /// A command, but EXEC.
-#[derive(Clone, Copy, Debug)]
+#[derive(Clone, Copy)]
 pub enum Command {
     /// that a volume is accessed as a letter
     Access,
@@ -36,7 +36,7 @@ pub enum Command {
 }
 
 /// What a line asks for.
-#[derive(Clone, Copy, Debug)]
+#[derive(Clone, Copy)]
 pub enum Request {
     /// that a procedure is run
     Exec,

@@ -22,7 +22,7 @@ use std::alloc::Global;
 const BAD_LINE: i32 = 20;
 
 // What CMS takes.
-#[derive(Debug, Drop)]
+#[derive(Drop)]
 enum Taken {
     /// a line of the stack or the console
     Text(Line),

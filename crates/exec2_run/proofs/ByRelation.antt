@@ -2,6 +2,7 @@
 use Rattle.std.proofs.Common.{◌≡◌, ◌∙◌, ◌∷◌, [], ℕ, zero, suc, List, refl, sym, ap, subst, arith, length}
 use Rattle.std.specs.Prelude.{Bool, true, false, Result, Ok, Err, ◌==◌, ◌<◌, nat_lt, ◌+◌, cond, ℤ, pos, is_some, not, ◌&&◌}
 use Rattle.std.specs.Ordering.{int_eq}
+use Rattle.std.proofs.lemmas.Bool.{ne_eqb}
 use Rattle.cms_fields.specs.Steps.{◌>>=◌}
 use Rattle.cms_fields.specs.declared.time.Moment.{Moment}
 use Rattle.cms_text.specs.Texts.{Text}
@@ -24,7 +25,6 @@ use Rattle.exec2_run.specs.declared.loops.Test.{Test}
 use Rattle.exec2_run.specs.declared.reading.Reading.{Reading}
 use Rattle.exec2_run.specs.declared.reading.Reading.TheVariants as reading
 use Rattle.exec2_run.specs.declared.want.Want.TheVariants.{Next, Ended}
-use Rattle.exec2_run.proofs.Settled.{apart}
 use Rattle.exec2_run.proofs.ByCases.{runs_are_steps, steps_are_runs}
 
 -- ---- &IF
@@ -94,7 +94,7 @@ executes_of s words = executed s words (guarded (seen s) words) (guards_of (seen
 -- ---- loops
 
 positive : (n : ℕ) → (suc n == 0) ≡ false
-positive n = apart (suc n) 0 (λ e. absurd (omega (arith, e)))
+positive n = ne_eqb (suc n) 0 (λ e. absurd (omega (arith, e)))
 
 begins_are : {names : Binding} {passes : Passes} {m : Result Bool Fault} → Begins names passes m → m ≡ begins_by names passes
 begins_are (some_left {n} e) = e ∙ ap (λ b. Ok (not b)) (sym (positive n))

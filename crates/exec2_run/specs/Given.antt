@@ -1,11 +1,11 @@
 -- The variables that are given (VM/SP EXEC 2 Reference, predefined variables).
-use Rattle.std.specs.Prelude.{ℕ, ◌+◌, ◌-◌, ◌/◌, ◌%◌, ◌==◌, nat_le, nat_lt, Bool, false, ◌&&◌, ◌||◌, if◌then◌else◌, List, [], ◌∷◌, codes, length, find, Option, Some, None, is_some, pos}
+use Rattle.std.specs.Prelude.{ℕ, ◌+◌, ◌-◌, ◌/◌, ◌%◌, ◌==◌, nat_le, nat_lt, Bool, false, ◌&&◌, ◌||◌, if◌then◌else◌, List, [], ◌∷◌, codes, length, find, Option, Some, None, is_some}
 use Rattle.std.specs.List.{list_all}
 use Rattle.cms_fields.specs.declared.time.Moment.{Moment}
 use Rattle.cms_text.specs.Texts.{Text, is_blank, is_keyword, without_one_blank}
 use Rattle.exec2_parse.specs.Expansion.{Binding}
 use Rattle.exec2_parse.specs.Variables.{Values, value_of}
-use Rattle.cms_text.specs.Numbers.{written}
+use Rattle.cms_text.specs.Numbers.{decimal_of, is_digit, written}
 use Rattle.exec2_run.specs.declared.calls.Call.{Call}
 use Rattle.exec2_run.specs.declared.given.AtStart.{AtStart}
 use Rattle.exec2_run.specs.declared.given.Predefined.{Predefined}
@@ -53,9 +53,6 @@ given_of name = find (λ g. is_keyword (name_of g) name) all_given
 abbrev pub is_given : Text → Bool
 is_given name = is_some (given_of name)
 
-abbrev pub numeral : ℕ → Text
-numeral n = written (pos n)
-
 -- two decimal digits
 abbrev pub digit_of : ℕ → ℕ
 digit_of n = 0xF0 + n % 10
@@ -101,14 +98,14 @@ at_start called f = record {
 -- what is given for each: some is fixed, the other is what it is where the procedure stands
 abbrev pub value_given : AtStart → Standing → Predefined → Text
 value_given start at given.Procedure = start.name
-value_given start at given.Count = numeral at.count
-value_given start at given.Index = numeral at.count
+value_given start at given.Count = decimal_of at.count
+value_given start at given.Index = decimal_of at.count
 value_given start at given.Rc = written at.code
 value_given start at given.Retcode = written at.code
-value_given start at given.Line = numeral at.line
-value_given start at given.Linenum = numeral at.line
-value_given start at given.Depth = numeral at.depth
-value_given start at given.From = numeral at.from
+value_given start at given.Line = decimal_of at.line
+value_given start at given.Linenum = decimal_of at.line
+value_given start at given.Depth = decimal_of at.depth
+value_given start at given.From = decimal_of at.from
 value_given start at given.Filename = start.name
 value_given start at given.Filetype = start.kind
 value_given start at given.Filemode = start.mode
@@ -119,9 +116,6 @@ value_given start at given.Argstring = start.rest
 value_given start at given.Cmdstring = start.called
 
 -- ---- what the names in a statement stand for
-
-abbrev pub is_digit : ℕ → Bool
-is_digit byte = nat_le 0xF0 byte && nat_le byte 0xF9
 
 abbrev pub is_first_digit : ℕ → Bool
 is_first_digit byte = nat_le 0xF1 byte && nat_le byte 0xF9

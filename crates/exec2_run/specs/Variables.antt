@@ -3,11 +3,12 @@ use Rattle.std.specs.Prelude.{ℕ, ◌+◌, ◌==◌, nat_le, Bool, ◌||◌, if
 use Rattle.std.specs.FinMap.{empty, get, insert, len, remove}
 use Rattle.cms_fields.specs.Steps.{◌>>=◌, ◌>>◌}
 use Rattle.cms_ebcdic.specs.CodePage.{upper_of}
+use Rattle.cms_text.specs.Numbers.{decimal_of}
 use Rattle.cms_text.specs.Texts.{Text}
 use Rattle.exec2_parse.specs.Expansion.{Binding}
 use Rattle.exec2_parse.specs.Variables.{Values}
 use Rattle.exec2_run.specs.Values.{value}
-use Rattle.exec2_run.specs.Given.{is_argument, is_given, numeral, table_of}
+use Rattle.exec2_run.specs.Given.{is_argument, is_given, table_of}
 use Rattle.exec2_run.specs.State.{Step}
 use Rattle.exec2_run.specs.declared.want.Want.TheVariants.{Next}
 use Rattle.exec2_run.specs.declared.exec.Exec.{Exec}
@@ -61,7 +62,7 @@ each_set (name ∷ names) words v = do
 -- these as &1 and on, from this number on
 unfoldable pub numbered : ℕ → List Text → Values → Values
 numbered n [] table = table
-numbered n (value ∷ values) table = numbered (n + 1) values (insert table (numeral n) value)
+numbered n (value ∷ values) table = numbered (n + 1) values (insert table (decimal_of n) value)
 
 -- ---- in the state
 

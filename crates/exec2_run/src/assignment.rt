@@ -18,14 +18,14 @@ const PLUS: u8 = 0x4E;
 const MINUS: u8 = 0x60;
 
 /// A sign between the numbers of a sum.
-#[derive(Clone, Copy, Debug, PartialEq, Eq)]
+#[derive(Clone, Copy, PartialEq, Eq)]
 pub enum Sign {
     Plus,
     Minus,
 }
 
 /// A sum from left to right so far.
-#[derive(Clone, Copy, Debug)]
+#[derive(Clone, Copy)]
 pub struct Sum {
     pub total: i64,
     /// The sign that the next number follows; none where a sign is due.

@@ -23,7 +23,7 @@ use exec2_parse::Procedure;
 use std::alloc::{AllocError, Global};
 
 /// The file of a procedure as it was found.
-#[derive(Clone, Copy, Debug)]
+#[derive(Clone, Copy)]
 pub struct FileName {
     pub name: Name,
     /// 0 for A to 25 for Z
@@ -33,7 +33,7 @@ pub struct FileName {
 }
 
 /// Whether the error action runs.
-#[derive(Clone, Copy, Debug, PartialEq, Eq)]
+#[derive(Clone, Copy, PartialEq, Eq)]
 pub enum ErrorAction {
     Idle,
     /// It runs next.
@@ -43,7 +43,7 @@ pub enum ErrorAction {
 }
 
 /// Where a procedure stands: what a turn changes before its statement runs.
-#[derive(Clone, Copy, Debug)]
+#[derive(Clone, Copy)]
 struct Place {
     next: u32,
     line: u32,

@@ -1,5 +1,6 @@
 // The variables that are given.
 ghost use Rattle.std.specs.Prelude.{◌≡◌, ◌≤◌, length, IfOk};
+ghost use Rattle.cms_text.specs.Numbers.{decimal_of};
 ghost use Rattle.cms_text.specs.Texts as texts;
 ghost use Rattle.exec2_run.specs.Given as spec;
 ghost use Rattle.cms_text.specs.Limits.{longest_text};
@@ -9,13 +10,13 @@ use crate::variables::Variables;
 use cms_fields::Moment;
 use cms_names::Part;
 use cms_text::{
-    BLANK, COLON, Line, STROKE, Word, ZERO, ebcdic, is_keyword, without_one_blank, written,
+    BLANK, COLON, Line, STROKE, Word, ZERO, decimal, ebcdic, is_keyword, without_one_blank, written,
 };
 use exec2_parse::Scope;
 use std::alloc::{AllocError, Global};
 
 /// A variable that is given and can't be set (VM/SP EXEC 2 Reference, predefined variables).
-#[derive(Clone, Copy, Debug, PartialEq, Eq)]
+#[derive(Clone, Copy, PartialEq, Eq)]
 pub enum Predefined {
     Procedure,
     Count,
@@ -108,16 +109,16 @@ fn word_of(alloc: Global, text: &str) -> Result<Word, AllocError>
 }
 
 /// A count as a word.
-#[tactic(auto, unfolding(cms_text::specs::Numbers::written))]
+#[tactic(auto, unfolding(cms_text::specs::Numbers::decimal_of, cms_text::specs::Numbers::written))]
 pub fn numeral(alloc: Global, number: usize) -> Result<Word, AllocError>
-    ensures { IfOk result (λ word. word ≡ spec.numeral number) }
+    ensures { IfOk result (λ word. word ≡ decimal_of number) }
 {
     let text = number.to_string(alloc)?;
     word_of(alloc, text.as_str())
 }
 
 /// What is fixed where a procedure begins.
-#[derive(Debug, Drop)]
+#[derive(Drop)]
 pub struct AtStart {
     /// The procedure's name.
     name: Word,
@@ -152,7 +153,7 @@ impl AtStart {
 }
 
 /// Where a procedure stands.
-#[derive(Clone, Copy, Debug)]
+#[derive(Clone, Copy)]
 pub struct Standing {
     /// How many arguments there are.
     pub count: usize,
@@ -207,9 +208,9 @@ fn value_given(
         Predefined::Blank => Word::of(alloc, &[BLANK]),
         Predefined::Count | Predefined::Index => numeral(alloc, at.count),
         Predefined::Rc | Predefined::Retcode => written(alloc, i64::from(at.code)),
-        Predefined::Line | Predefined::Linenum => numeral(alloc, at.line as usize),
+        Predefined::Line | Predefined::Linenum => decimal(alloc, at.line),
         Predefined::Depth => numeral(alloc, at.depth),
-        Predefined::From => numeral(alloc, at.from as usize),
+        Predefined::From => decimal(alloc, at.from),
         Predefined::Date => date(alloc, &at.moment),
         Predefined::Time => time(alloc, &at.moment),
     }

@@ -186,7 +186,7 @@ impl Exec {
 }
 
 /// Which loops are left.
-#[derive(Clone, Copy, Debug)]
+#[derive(Clone, Copy)]
 struct LoopsLeft {
     /// So many are over, the innermost first.
     over: usize,

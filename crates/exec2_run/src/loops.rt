@@ -7,7 +7,7 @@ use crate::stack::Stack;
 use cms_text::Word;
 
 /// The comparison of a WHILE or UNTIL, expanded at each test.
-#[derive(Debug, Drop)]
+#[derive(Drop)]
 pub struct Test {
     pub left: Word,
     pub comparison: Comparison,
@@ -15,7 +15,7 @@ pub struct Test {
 }
 
 /// Which passes a loop still makes.
-#[derive(Debug, Drop)]
+#[derive(Drop)]
 pub enum Passes {
     /// So many more.
     Left(u64),
@@ -39,7 +39,7 @@ impl Passes {
 }
 
 /// An open loop.
-#[derive(Debug, Drop)]
+#[derive(Drop)]
 pub struct Loop {
     /// The line of its &LOOP, from 1.
     pub line: u32,

@@ -12,7 +12,7 @@ use cms_text::{Line, Word, WordList, is_keyword};
 use std::alloc::Global;
 
 /// What a line is asked for.
-#[derive(Debug, Drop)]
+#[derive(Drop)]
 pub enum Reading {
     Nothing,
     /// Its words become the arguments.

@@ -7,7 +7,7 @@ use std::collections::VecDeque;
 use std::marker::Model;
 
 /// A list that grows and shrinks at its front, seen as the list of its items, the newest first.
-#[derive(Debug, Drop)]
+#[derive(Drop)]
 pub struct Stack<T> {
     pub(crate) items: VecDeque<T>,
 }

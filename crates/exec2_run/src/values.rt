@@ -12,7 +12,7 @@ use exec2_parse::{ExpandFault, expand_in};
 use std::alloc::{AllocError, Global};
 
 /// What words become from left to right, up to the first that becomes too long.
-#[derive(Debug, Drop)]
+#[derive(Drop)]
 pub struct Operands {
     pub words: WordList,
     /// A word becomes too long behind these.

@@ -2,6 +2,7 @@
 ghost use Rattle.std.specs.Prelude.{◌≡◌, ◌+◌, IfOk, IsSome, is_some};
 ghost use Rattle.std.specs.FinMap.{empty, get, insert, len, remove};
 ghost use Rattle.std.specs.List.{list_all};
+ghost use Rattle.cms_text.specs.Numbers.{is_digit};
 ghost use Rattle.exec2_parse.specs.Variables.{value_of};
 ghost use Rattle.exec2_run.specs.Faults.{Answers, Does, Leads};
 ghost use Rattle.exec2_run.specs.Given as given;
@@ -58,13 +59,13 @@ fn is_first_digit(byte: u8) -> bool
 }
 
 fn is_digit(byte: u8) -> bool
-    ensures { result ≡ given.is_digit byte }
+    ensures { result ≡ is_digit byte }
 {
     (0xF0..=0xF9).contains(&byte)
 }
 
 fn are_digits(bytes: &[u8]) -> bool
-    ensures { result ≡ list_all given.is_digit bytes.now }
+    ensures { result ≡ list_all is_digit bytes.now }
 {
     for byte in bytes {
         if !is_digit(*byte) {

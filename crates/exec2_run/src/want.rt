@@ -2,7 +2,7 @@
 use cms_text::{Line, Lines};
 
 /// Where lines are stacked.
-#[derive(Clone, Copy, Debug, PartialEq, Eq)]
+#[derive(Clone, Copy, PartialEq, Eq)]
 pub enum Side {
     /// before all others: taken first
     Front,
@@ -11,7 +11,7 @@ pub enum Side {
 }
 
 /// What a procedure wants next.
-#[derive(Debug, Drop)]
+#[derive(Drop)]
 pub enum Want {
     /// After `settle` a statement is due; after any other call nothing is wanted.
     Next,

@@ -4,11 +4,11 @@ use Rattle.cms_line.specs.declared.message.Message.TheVariants.{M002}
 use Rattle.cms_files.specs.Files.{no_file_code}
 use Rattle.cms_files.specs.Identifiers.{exec_kind}
 use Rattle.cms_search.specs.Calls.{machine_of, spot}
-use Rattle.cms_search.proofs.Acts.{cut_off, later_does}
+use Rattle.cms_search.proofs.Acts.{cut_off}
 use Rattle.cms_search.proofs.Handing.{only_read}
 use Rattle.cms_world.specs.Seen.{seen}
 use Rattle.cms_exec.specs.Exec.{read_there}
-use Rattle.cms_exec.proofs.Starts.{may_read, no_disk, no_file, read_altered, read_data, read_fault, refused_so, some_place}
+use Rattle.cms_exec.proofs.Starts.{may_read, no_disk, no_file, read_data, read_unread, refused_so, some_place}
 use Rattle.cms_exec.proofs.reading.read_found.Goals as goal
 
 pub get-requires : goal.get-requires
@@ -44,29 +44,19 @@ returns-in-Ok g c =
     read_data old c.args.alloc c.args.called.now c.args.found.now c.in-Some.disk.now c.in-Some.ensures (seen g.W.World c.get.new.world) (spot g.W.World c.begin.new.world s) c.in-Ok.file
     c.begin.result (only_read _ _ _ _ read) c.in-Ok.ensures.file c.begin.ensures
 
-pub returns-in-Err-Device : goal.returns-in-Err-Device
-returns-in-Err-Device g c =
+-- it can't be read to its end
+pub returns-in-Device : goal.returns-in-Device
+returns-in-Device g c =
     let s = c.args.state.now in
     let old = spot g.W.World c.args.world.now s in
-    let read = c.in-Err-Device.ensures.reads in
-    read_fault old c.args.alloc c.args.called.now c.args.found.now c.in-Some.disk.now c.in-Some.ensures (seen g.W.World c.get.new.world) (spot g.W.World c.refuse_device.new.world s)
-    c.vdev-vdev.result c.refuse_device.result c.refused-in-Err-Device.result (only_read _ _ _ _ read) (read.cause c.in-Err-Device.field-0-is)
-    (some_place _ _ c.in-Some-find.ensures) c.vdev-vdev.ensures.accessed c.refuse_device.ensures.does c.refuse_device.ensures.went refl c.refused-in-Err-Device.ensures
-
--- never in a world that tells its journal
-pub returns-in-Err-Altered : goal.returns-in-Err-Altered
-returns-in-Err-Altered g c =
-    let s = c.args.state.now in
-    let old = spot g.W.World c.args.world.now s in
-    let read = c.in-Err-Altered.ensures.reads in
-    let altered = c.in-Err-Altered.field-0-is in
-    read_altered old c.args.alloc c.args.called.now c.args.found.now c.in-Some.disk.now c.in-Some.ensures (seen g.W.World c.get.new.world) (spot g.W.World c.refuse_altered.new.world s)
-    c.refuse_altered.result c.refused-in-Err-Altered.result (only_read _ _ _ _ read) (rw altered at c.in-Err-Altered.ensures.file)
-    (later_does _ _ _ _ _ c.refuse_altered.ensures.does) c.refuse_altered.ensures.does.cause refl c.refused-in-Err-Altered.ensures
+    let got = c.in-Err.ensures in
+    read_unread old c.args.alloc c.args.called.now c.args.found.now c.in-Some.disk.now c.in-Some.ensures (seen g.W.World c.get.new.world) (spot g.W.World c.refuse_unread.new.world s)
+    c.vdev-vdev.result c.in-Err.fault c.refuse_unread.result c.refused-in-Device.result c.in-Device.is (only_read _ _ _ _ got.reads) got.reads.cause got.file
+    (some_place _ _ c.in-Some-find.ensures) c.vdev-vdev.ensures.accessed c.refuse_unread.ensures.does c.refuse_unread.ensures.went refl c.refused-in-Device.ensures
 
 -- there is no memory
-pub returns-in-Err : goal.returns-in-Err
-returns-in-Err g c =
+pub returns-in_default-fault : goal.returns-in_default-fault
+returns-in_default-fault g c =
     let s = c.args.state.now in
     let read = c.in-Err.ensures.reads in
     let edges = read.edges in

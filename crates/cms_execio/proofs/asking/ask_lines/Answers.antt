@@ -1,4 +1,4 @@
-use Rattle.std.proofs.Common.{◌≡◌, ◌+◌, ◌-◌, suc, List, ℕ, Ok, subst, sym, arith}
+use Rattle.std.proofs.Common.{◌≡◌, ◌+◌, ◌-◌, List, ℕ, Ok, subst, sym, arith}
 use Rattle.std.proofs.lemmas.Result.{err_from_is_err_and}
 use Rattle.cms_search.specs.Calls.{Acts, Comes, spot}
 use Rattle.cms_search.specs.Talks.{ask_tree, asked_of}
@@ -14,10 +14,7 @@ returns-in_err-line-clause-acts g c =
     let old = spot g.W.World c.args.world.now c.args.state.now in
     let mid = spot g.W.World c.loop-asked.world c.loop-asked.state in
     let new = spot g.W.World c.ask.new.world c.ask.new.self in
-    let left = c.args.count - c.loop-asked._asked in
-    let less = c.args.count - (c.loop-asked._asked + 1) in
-    let due : left ≡ suc less = omega arith in
-    rw (p.1, p.2) (asks_stop old mid new c.args.count less left c.loop-asked.lines due c.loop-asked.invariant.comes c.in_err-line.field-0.0 c.in_err-line.ensures.acts)
+    rw (p.1, p.2) (asks_stop old mid new c.args.count c.loop-asked._asked c.loop-asked.lines (omega arith) c.loop-asked.invariant.comes c.in_err-line.field-0.0 c.in_err-line.ensures.acts)
 
 -- the turns are spent
 pub returns-in-Spent-clause-acts : goal.returns-in-Spent-clause-acts
@@ -25,10 +22,7 @@ returns-in-Spent-clause-acts g c =
     let old = spot g.W.World c.args.world.now c.args.state.now in
     let mid = spot g.W.World c.loop-asked.world c.loop-asked.state in
     let new = spot g.W.World c.ask.new.world c.ask.new.self in
-    let left = c.args.count - c.loop-asked._asked in
-    let less = c.args.count - (c.loop-asked._asked + 1) in
-    let due : left ≡ suc less = omega arith in
-    asks_spent old mid new c.args.count less left c.loop-asked.lines due c.loop-asked.invariant.comes
+    asks_spent old mid new c.args.count c.loop-asked._asked c.loop-asked.lines (omega arith) c.loop-asked.invariant.comes
     (subst (λ (x : declared.Asked). Acts mid new (ask_tree mid.state) (Ok x) (asked_of new.state)) c.in-Spent.is c.in_ok-line.ensures.acts)
 
 -- there is no memory to keep a line
@@ -38,11 +32,8 @@ returns-in_err-push-in-Given-clause-acts g c =
     let old = spot g.W.World c.args.world.now c.args.state.now in
     let mid = spot g.W.World c.loop-asked.world c.loop-asked.state in
     let new = spot g.W.World c.ask.new.world c.ask.new.self in
-    let left = c.args.count - c.loop-asked._asked in
-    let less = c.args.count - (c.loop-asked._asked + 1) in
-    let due : left ≡ suc less = omega arith in
     rw (p.1, p.2)
-    (asks_none old mid new c.args.count less left c.loop-asked.lines due c.loop-asked.invariant.comes c.in-Given.line
+    (asks_none old mid new c.args.count c.loop-asked._asked c.loop-asked.lines (omega arith) c.loop-asked.invariant.comes c.in-Given.line
     (subst (λ (x : declared.Asked). Acts mid new (ask_tree mid.state) (Ok x) (asked_of new.state)) c.in-Given.is c.in_ok-line.ensures.acts))
 
 -- a line was given
@@ -51,12 +42,9 @@ loop-asked-preserved g c =
     let old = spot g.W.World c.args.world.now c.args.state.now in
     let mid = spot g.W.World c.loop-asked.world c.loop-asked.state in
     let new = spot g.W.World c.ask.new.world c.ask.new.self in
-    let left = c.args.count - c.loop-asked._asked in
-    let less = c.args.count - (c.loop-asked._asked + 1) in
-    let due : left ≡ suc less = omega arith in
     record {
-      comes = subst (λ (lines : List (List ℕ)). Comes old new (asking_tree old.state c.args.count) (tree_of new.state less lines)) (sym c.in_ok-push-in-Given.ensures.ok)
-          (asks_more old mid new c.args.count less left c.loop-asked.lines due c.loop-asked.invariant.comes c.in-Given.line
+      comes = subst (λ (lines : List (List ℕ)). Comes old new (asking_tree old.state c.args.count) (tree_of new.state (c.args.count - (c.loop-asked._asked + 1)) lines)) (sym c.in_ok-push-in-Given.ensures.ok)
+          (asks_more old mid new c.args.count c.loop-asked._asked c.loop-asked.lines (omega arith) c.loop-asked.invariant.comes c.in-Given.line
           (subst (λ (x : declared.Asked). Acts mid new (ask_tree mid.state) (Ok x) (asked_of new.state)) c.in-Given.is c.in_ok-line.ensures.acts));
       kept = stays old.state mid.state new.state c.loop-asked.invariant.kept c.ask.ensures.kept;
       left = omega (arith, c.loop-asked.invariant.left, c.ask.ensures.left);

@@ -1,6 +1,6 @@
 use Rattle.std.proofs.Common.{◌≡◌, drop}
 use Rattle.std.specs.List.{list_all}
-use Rattle.exec2_run.specs.Given.{is_digit}
+use Rattle.cms_text.specs.Numbers.{is_digit}
 use Rattle.exec2_run.proofs.variables.are_digits.Given as goal
 
 abbrev pub invariant-loop-byte : goal.invariant-loop-byte
