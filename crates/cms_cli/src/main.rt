@@ -5,15 +5,12 @@ ghost use Rattle.std.specs.Prelude.{◌≡◌, if◌then◌else◌};
 ghost use Rattle.cms_session.specs.Statuses.{code_of};
 ghost use Rattle.cms_session.specs.declared.status.Status.TheVariants as statuses;
 
-mod file_unit;
-mod file_world;
 mod help;
-mod output;
 mod telling;
 
+use cms_host::FileWorld;
 use cms_session::{Status, WordFault, run};
 use cms_world::Argv;
-use file_world::FileWorld;
 use help::{HELP, VERSION};
 use std::fs::File;
 use std::io::{ErrorKind, IsTerminal};

@@ -1,5 +1,5 @@
 // What failed, on standard error, for a person.
-use crate::file_world::{FileWorld, Trouble};
+use cms_host::{FileWorld, Trouble};
 use cms_session::{Status, WordFault};
 use cms_words::read_words;
 use cms_world::Argv;

@@ -1,5 +1,5 @@
 use Rattle.std.proofs.Common.{◌≤◌, ◌-◌, length}
-use Rattle.cms_cli.proofs.output.write_front.Given as goal
+use Rattle.cms_host.proofs.output.write_front.Given as goal
 
 abbrev pub invariant-loop-written : goal.invariant-loop-written
 invariant-loop-written g l = l.written ≤ length l.from

@@ -1,7 +1,7 @@
 // The world of real files, the standard streams and the system's clock.
 ghost use Rattle.std.specs.Prelude.{◌≡◌, ◌≤◌, ◌<◌, ◌↔◌, ◌+◌, [], length, vec_len, None, IfSome, IfOk, OnErr, IsOk, IsTrue, is_some};
 ghost use Rattle.cms_journal.specs.Causes.{HasCause};
-ghost use Rattle.cms_cli.specs.Answers.{counted, answer_of, IsRest};
+ghost use Rattle.cms_host.specs.Answers.{counted, answer_of, IsRest};
 
 use crate::file_unit::{FileUnit, open_unit};
 use crate::output::Gathered;

@@ -1,6 +1,6 @@
 // Standard output, gathered.
 ghost use Rattle.std.specs.Prelude.{◌≡◌, ◌≤◌, ◌<◌, ◌++◌, [], length, take, IfSome, IfOk, IsTrue, IsNone, false};
-ghost use Rattle.cms_cli.specs.Answers.{IsRest};
+ghost use Rattle.cms_host.specs.Answers.{IsRest};
 
 use std::alloc::{AllocError, Global};
 use std::io::ErrorKind;

@@ -2,7 +2,7 @@
 use Rattle.std.proofs.Common.{◌≡◌, ◌∙◌, ◌≤◌, ◌+◌, ◌++◌, ℕ, List, [], length, take, drop, refl, sym, ap, arith}
 use Rattle.std.specs.Prelude.{Option, Some, None, IfSome}
 use Rattle.std.proofs.lemmas.List.{drop_all, drop_at, take_all, drop-append-le, drop-drop}
-use Rattle.cms_cli.specs.Answers.{IsRest}
+use Rattle.cms_host.specs.Answers.{IsRest}
 
 pub all_gone : (old new : List ℕ) → new ≡ [] → IsRest old new
 all_gone old new is = record { gone = length old; rest = is ∙ sym (drop_all (length old) old (omega arith)) }
