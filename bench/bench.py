@@ -9,7 +9,7 @@ files      10,000 files of a volume listed with all columns, beside `ls -l` of a
            syncs as many blocks
 copy       a file of F 80 records of 64 MiB, and one of 1 MiB, by COPYFILE, beside `cp` and `sync` of a file of that size
 execio     2,000 lines of one record each, `EXECIO 1 DISKW`, beside as many transactions of one row in SQLite with synchronous=FULL
-procedure  a procedure of 1,000,000 turns, beside the same loop in REXX, where Regina's `rexx` is installed
+procedure  procedures of 1,000,000 turns, two of them beside the same loop in REXX, where Regina's `rexx` is installed
 
 The program is built first by `./cms --version`, where it isn't built. All files are made in a folder of their own in the folder in which
 this is started, so its file system is the one that is measured. Memory is told by /usr/bin/time.
@@ -151,21 +151,38 @@ def execio():
     beside(seconds, rows)
 
 
+# What is measured of procedures: the lines behind `&TRACE OFF`, and the program in REXX that does the like, where there is one.
+LOOPS = {
+    "a sum and a jump": (
+        ["-L &I = &I + 1", "&GOTO -L"],
+        "i = 0\nl:\ni = i + 1\nif i < {half} then signal l\n",
+    ),
+    "a loop of a sum and a copy": (
+        ["&LOOP 2 *", "&I = &I + 1", "&X = &I"],
+        "j = 0\ndo i = 1 to {half}\nj = j + 1\nx = j\nend\n",
+    ),
+    "a loop of 4,096 lines, most of them comments": (["-L &I = &I + 1", *["*"] * 4_093, "&GOTO -L"], None),
+    "a loop of a sum beside 900 variables": (
+        [*[f"&V{n} = {n}" for n in range(1, 901)], "&LOOP 1 *", "&I = &I + &V450"],
+        None,
+    ),
+}
+
+
 def procedure():
     turns = 1_000_000
-    lines = ["FORMAT 191 A", "YES", "BENCH"]
-    for text in ("&TRACE OFF", "&LOOP 2 *", "&I = &I + 1", "&X = &I"):
-        lines.append(f"EXECIO 1 DISKW LOOP EXEC A (STRING {text}")
-    session("191,512,n60,loop.img", lines)
-    seconds, memory, _ = spent([PROGRAM, "-t", str(turns), "191,512,rw,loop.img"], "LOOP\n", status=5)
-    said(f"a procedure of {turns:,} turns, {turns / seconds:,.0f} statements a second", seconds, memory)
-    if not shutil.which("rexx"):
-        print("  no rexx to compare with")
-        return
-    pathlib.Path("loop.rexx").write_text(f"j = 0\ndo i = 1 to {turns // 2}\nj = j + 1\nx = j\nend\n")
-    plain, memory, _ = spent(["rexx", "./loop.rexx"])
-    said("the same loop in REXX", plain, memory)
-    beside(seconds, plain)
+    for what, (lines, rexx) in LOOPS.items():
+        texts = ["&TRACE OFF", *lines]
+        made = ["FORMAT 191 A", "YES", "BENCH", f"EXECIO {len(texts)} DISKW LOOP EXEC A", *texts]
+        session("191,512,n2000,loop.img", made)
+        seconds, memory, _ = spent([PROGRAM, "-t", str(turns), "191,512,ro,loop.img"], "LOOP\n", status=5)
+        said(f"{what}: {turns / seconds:,.0f} statements a second", seconds, memory)
+        os.unlink("loop.img")
+        if rexx and shutil.which("rexx"):
+            pathlib.Path("loop.rexx").write_text(rexx.format(half=turns // 2))
+            plain, memory, _ = spent(["rexx", "./loop.rexx"])
+            said("the same loop in REXX", plain, memory)
+            beside(seconds, plain)
 
 
 BENCHES = {"opening": opening, "files": files, "copy": copy, "execio": execio, "procedure": procedure}
