@@ -1,30 +1,13 @@
-// What the tests ask of a minidisk's unit.
+// Minidisks on the units of worlds in memory, and what is told of them.
 ghost use Rattle.std.specs.Prelude.{◌≡◌, IsTrue};
 ghost use Rattle.cms_journal.specs.declared.event.Access.TheVariants.{ReadWrite};
 
-use cms_disk::UnitInfo;
-pub use cms_images::{Disk, START, world_of};
+use cms_disk::{AccessFault, Minidisk, UnitInfo};
+use cms_ebcdic::to_host;
+use cms_images::{Disk, FILE};
 use cms_journal::BlockSize;
-use cms_names::{Name, Part};
-use cms_world::{Access, MemWorld, Unit};
+use cms_world::{Access, Unit};
 use std::alloc::{AllocError, Global};
-
-/// Device 191 with so many blocks.
-pub fn unit_of(blocks: u32) -> UnitInfo {
-    UnitInfo {
-        vdev: 0x191,
-        unit: Unit { number: 0, blocks },
-        bsize: BlockSize::new(512),
-        writable: false,
-    }
-}
-
-/// A name of one letter, and FILE.
-pub fn name_of(letter: u8) -> Option<Name> {
-    let file = Part::read(&[letter]).ok()?;
-    let kind = Part::read(&[0xC6, 0xC9, 0xD3, 0xC5]).ok()?;
-    Some(Name { file, kind })
-}
 
 /// Device 191 on an attached unit.
 pub fn info_of(unit: Unit, access: Access) -> UnitInfo
@@ -40,16 +23,40 @@ pub fn info_of(unit: Unit, access: Access) -> UnitInfo
     }
 }
 
-/// What a crash after so many events leaves, by these choices.
-pub fn crashed(
-    world: &MemWorld,
-    alloc: Global,
-    at: usize,
-    choice: u64,
-) -> Result<Vec<u8>, AllocError> {
-    if world.has_unit(0) && at <= world.events() {
-        world.crash(alloc, 0, at, choice)
-    } else {
-        Ok(Vec::new(alloc))
+/// The minidisk on the unit of a world, which may be written or not.
+pub fn minidisk(alloc: Global, world: &mut Disk, access: Access) -> Result<Minidisk, AccessFault> {
+    let blocks = (world.image.len() / 512).min(5000) as u32;
+    let info = info_of(Unit { number: 0, blocks }, access);
+    Minidisk::access(alloc, world, &info, false)
+}
+
+/// The access that a word asks for: `read` to read alone, or any other.
+pub fn access_of(word: &str) -> Access {
+    match word {
+        "read" => Access::ReadOnly,
+        _ => Access::ReadWrite,
     }
+}
+
+// The letter of the file at a place; a question mark where its name isn't one letter with the type FILE, or leads to another place.
+fn letter_at(disk: &Minidisk, place: u32) -> char {
+    if place >= disk.count() {
+        return '?';
+    }
+    let name = disk.info(place).name;
+    match name.file.as_bytes() {
+        [letter] if name.kind.as_bytes() == FILE && disk.find(&name) == Some(place) => {
+            char::from(to_host(*letter))
+        }
+        _ => '?',
+    }
+}
+
+/// The letters of a minidisk's files, in their order.
+pub fn letters(alloc: Global, disk: &Minidisk) -> Result<String, AllocError> {
+    let mut text = String::new(alloc);
+    for place in 0..disk.count() {
+        text.push(letter_at(disk, place))?;
+    }
+    Ok(text)
 }

@@ -2,14 +2,16 @@
 #![tactic(auto)]
 
 #[cfg(test)]
-mod changing_tests;
+mod cases;
+#[cfg(test)]
+mod changing;
 #[cfg(test)]
 mod disk;
 #[cfg(test)]
-mod making_tests;
+mod making;
 #[cfg(test)]
 mod many_tests;
 #[cfg(test)]
-mod putting_tests;
+mod putting;
 #[cfg(test)]
-mod reading_tests;
+mod reading;

@@ -2,14 +2,14 @@
 #![tactic(auto)]
 
 #[cfg(test)]
-mod disk;
+mod cases;
 #[cfg(test)]
-mod draft_tests;
+mod drafting;
 #[cfg(test)]
-mod held_tests;
+mod making;
 #[cfg(test)]
-mod making_tests;
+mod opening;
 #[cfg(test)]
-mod opening_tests;
+mod volumes;
 #[cfg(test)]
-mod write_tests;
+mod writing;

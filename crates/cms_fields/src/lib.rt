@@ -9,8 +9,6 @@ mod levels;
 mod limits;
 mod new_label;
 mod packed;
-#[cfg(test)]
-mod tests;
 mod time;
 
 pub use entry::{Entry, EntryFault, read_entry, write_entry};

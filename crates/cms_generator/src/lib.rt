@@ -11,9 +11,6 @@ ghost use Rattle.cms_generator.specs.Pieces.{before_passes, before_records, behi
 
 use std::alloc::{AllocError, Global};
 
-#[cfg(test)]
-mod tests;
-
 // The state behind this one: a linear congruence modulo 2^31.
 fn next(state: u32) -> u32
     ensures next { result ≡ next_of state }

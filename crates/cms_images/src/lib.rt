@@ -2,6 +2,7 @@
 //! product.
 #![tactic(auto)]
 
+mod cases;
 mod crash;
 mod disk;
 mod edits;
@@ -13,6 +14,9 @@ mod small;
 mod stamps;
 mod wide;
 
+pub use cases::{
+    FILE, calls_of, file_named, image_named, number, put_texts, told, word, world_with,
+};
 pub use crash::{crashed, image_left};
 pub use disk::{Disk, Event, world_of};
 pub use edits::{Edit, edited, put_edits};

@@ -3,8 +3,6 @@
 
 mod laws;
 mod map;
-#[cfg(test)]
-mod tests;
 
 pub use laws::map_laws;
 pub use map::{Map, is_marked};

@@ -49,20 +49,3 @@ pub struct FileData {
     /// at F the records one after another; at V before each its two-byte length
     pub bytes: Stored,
 }
-
-#[cfg(test)]
-mod tests {
-    use super::Stored;
-    use std::test::Fail;
-
-    #[test]
-    fn keeps_its_bytes(rt: HostRuntime) -> Result<(), Fail> {
-        let mut bytes = Vec::new(rt.alloc());
-        for byte in [0u8, 2, 0xC1, 0xC2] {
-            bytes.push(byte)?;
-        }
-        let stored = Stored::take(bytes);
-        assert_eq!(rt; stored.bytes(), [0u8, 2, 0xC1, 0xC2].as_slice());
-        Ok(())
-    }
-}

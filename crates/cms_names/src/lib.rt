@@ -7,8 +7,6 @@ mod mode;
 mod name;
 mod output;
 mod pattern;
-#[cfg(test)]
-mod tests;
 mod text;
 
 pub use character::is_name_character;

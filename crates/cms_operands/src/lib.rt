@@ -7,8 +7,6 @@ mod mode;
 mod operand;
 mod refusal;
 mod spelling;
-#[cfg(test)]
-mod tests;
 
 pub use choosing::{
     ChosenOption, ChosenOptions, CommandFault, OptionForm, Parameter, Setting, chosen_options,

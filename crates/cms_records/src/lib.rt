@@ -3,14 +3,10 @@
 
 mod fixed;
 mod laws;
-#[cfg(test)]
-mod pieces_tests;
 mod scan;
 mod sizes;
 mod state;
 mod stored;
-#[cfg(test)]
-mod tests;
 mod varying;
 
 pub use cms_model::VarFault;

@@ -1,5 +1,6 @@
 // Sessions that access disks, as transcripts, and one whose erasure comes to a doubt.
-use cms_transcripts::{Trial, check_sessions};
+use crate::transcript::check_sessions;
+use crate::trial::Trial;
 use std::test::Fail;
 
 const ACCESSED: &str = "# empty + two files, one root

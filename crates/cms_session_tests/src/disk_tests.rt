@@ -1,5 +1,5 @@
-// Sessions that ask for disks and release them, as transcripts.
-use cms_transcripts::check_sessions;
+// Sessions on several units, and such that ask for disks and release them, as transcripts.
+use crate::transcript::check_sessions;
 use std::test::Fail;
 
 // An empty script is one read.
@@ -53,8 +53,44 @@ CMS069E Disk A is not accessed
 R(00036);
 ";
 
+// Units are attached in their order.
+const UNITS: &str = "# hello + three hellos: 191,512,ro,A 192,512,rw,B
+> TYPE HELLO TEXT A
+HELLO
+WORLD
+R;
+! Done aarrrinroooi 2
+# hello + three hellos: 192,512,ro,A 193,512,n9,N 191,512,rw,B
+> TYPE HELLO LIST A
+B
+R;
+> ERASE HELLO LIST A
+R;
+! Done aaarrrinroonwwswsoi 3
+# hello + three hellos: 192,512,ro,A 193,512,rw,B
+> TYPE HELLO TEXT A
+CMS069E Disk A is not accessed
+R(00036);
+! Done aainooi 2
+# hello + three hellos: 191,512,n9,N 192,512,ro,A
+> TYPE HELLO TEXT A
+CMS069E Disk A is not accessed
+R(00036);
+! Done aarinooi 2
+# hello + three hellos: 191,512,ro,A 192,512,ro,N 193,512,ro,B
+> TYPE HELLO TEXT A
+! World aa 1
+# hello + three hellos: 191,512,ro,A 192,512,n9,B
+> TYPE HELLO TEXT A
+! World aa 1
+# hello + three hellos: 191,512,ro,N 192,512,ro,A
+> TYPE HELLO TEXT A
+! World a 0
+";
+
 #[test]
 fn disks_are_told_of_and_released(rt: HostRuntime) -> Result<(), Fail> {
     check_sessions(rt.alloc(), ASKED)?;
-    check_sessions(rt.alloc(), RELEASED)
+    check_sessions(rt.alloc(), RELEASED)?;
+    check_sessions(rt.alloc(), UNITS)
 }

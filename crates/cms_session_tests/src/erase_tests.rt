@@ -1,12 +1,16 @@
 // Sessions that erase files of disk A, as transcripts, and what they leave at each moment.
+use crate::session::ended;
+use crate::transcript::{check_sessions, passed};
+use crate::trial::Trial;
+use crate::volumes::world_at;
 use cms_images::hello::{NEW_DIRECTORY, NEW_LABEL, NEW_MAP, hello};
-use cms_images::{Edit, put_edits};
-use cms_transcripts::{Trial, check_sessions, ended, image_left, passed, world_at};
+use cms_images::{Edit, image_left, put_edits};
 use std::alloc::{AllocError, Global};
 use std::test::Fail;
 
-// Files that are erased.
-const ERASED: &str = "# hello: 191,512,rw,A
+// Files that are erased, and files that are kept. Of the long directory one block is left, and one of the map. An update of the wide volume
+// has just the blocks that it needs.
+const SESSIONS: &str = "# hello: 191,512,rw,A
 > ERASE HELLO TEXT A
 R;
 ! Done arrrinwwswsoi
@@ -32,10 +36,7 @@ R;
 CMS002E File HELLO TEXT A not found
 R(00028);
 ! Done arrrinwwswsonooi
-";
-
-// Files that are kept.
-const KEPT: &str = "# hello, all marked: 191,512,rw,A
+# hello, all marked: 191,512,rw,A
 > ERASE HELLO TEXT A
 CMS107E Disk A is full, 1 blocks needed, 0 free
 R(00100);
@@ -70,10 +71,7 @@ R(00036);
 CMS086E Procedure ERASE is not run, reason 1
 R(10101);
 ! Done arrrinrooi
-";
-
-// One block of the directory and one of the map are left.
-const SHORTER: &str = "# long directory: 191,512,rw,A
+# long directory: 191,512,rw,A
 > ERASE A FILE A
 R;
 > TYPE A FILE A
@@ -83,10 +81,7 @@ R(00028);
 HELLO
 R;
 ! Done arrrrrrrrrrrrinwwswsonoonrooi
-";
-
-// An update has just the blocks that it needs.
-const FULL: &str = "# wide, five free: 191,512,rw,A
+# wide, five free: 191,512,rw,A
 > ERASE FILE0020 TEXT A
 CMS107E Disk A is full, 6 blocks needed, 5 free
 R(00100);
@@ -97,10 +92,7 @@ R;
 
 #[test]
 fn files_are_erased_and_kept(rt: HostRuntime) -> Result<(), Fail> {
-    check_sessions(rt.alloc(), ERASED)?;
-    check_sessions(rt.alloc(), KEPT)?;
-    check_sessions(rt.alloc(), SHORTER)?;
-    check_sessions(rt.alloc(), FULL)
+    check_sessions(rt.alloc(), SESSIONS)
 }
 
 // 1 July 26 at noon, in seconds after 1970.
@@ -151,11 +143,6 @@ fn other_image(alloc: Global) -> Result<String, AllocError> {
     Ok(String::new(alloc))
 }
 
-#[test]
-fn the_update_is_stamped_and_written_in_order(rt: HostRuntime) -> Result<(), Fail> {
-    passed(other_image(rt.alloc())?)
-}
-
 // The first erasure writes the directory to block 5, the second to block 4; each has the second of its turn in the entries of
 // the directory and of the map, in the hour of the zone.
 const STAMPS: &[(&str, &[Edit])] = &[
@@ -196,7 +183,8 @@ fn other_stamps(alloc: Global) -> Result<String, AllocError> {
 }
 
 #[test]
-fn each_erasure_has_the_stamp_of_its_turn(rt: HostRuntime) -> Result<(), Fail> {
+fn updates_are_stamped_and_written_in_order(rt: HostRuntime) -> Result<(), Fail> {
+    passed(other_image(rt.alloc())?)?;
     passed(other_stamps(rt.alloc())?)
 }
 
@@ -366,9 +354,9 @@ R(00028);
 0018
 R;
 ",
-    // the events are the script, a turn, seven blocks (9), a sync, the label, a sync, the ready line; a turn and two lines; a turn, a record
-    // and the ready line; a turn, seven blocks (27), a sync, the label, a sync, the ready line; a turn, a record, the ready line and the
-    // script's end (35)
+    // the events are the script, a turn, seven blocks (9), a sync, the label, a sync, the ready line; a turn and two lines; a turn, a
+    // record and the ready line; a turn, seven blocks (27), a sync, the label, a sync, the ready line; a turn, a record, the ready line and
+    // the script's end (35)
     moments: "# 9 9 all all all all
 # 11 11 all without-first all without-first
 # 27 27 without-first without-first without-first without-first

@@ -1,5 +1,5 @@
 // Sessions of EXECIO, as transcripts, and what it does at a limit and at a fault.
-use cms_transcripts::check_sessions;
+use crate::transcript::check_sessions;
 use std::test::Fail;
 
 const READ: &str = "# texts

@@ -1,5 +1,5 @@
 // Sessions of STATE, TYPE, ERASE and RENAME, as transcripts, and the order of their calls.
-use cms_transcripts::check_sessions;
+use crate::transcript::check_sessions;
 use std::test::Fail;
 
 const STATED: &str = "# texts

@@ -1,5 +1,6 @@
 // Sessions that format disks, as transcripts.
-use cms_transcripts::{Trial, check_sessions};
+use crate::transcript::check_sessions;
+use crate::trial::Trial;
 use std::test::Fail;
 
 // The first two leave the known images.

@@ -1,8 +1,11 @@
-//! The tests of cms_line and cms_session, which so are proved without them, once. No part of the product.
+//! The tests of sessions, which so are proved without them, once: what is typed, line by line, behind the lines of a script, as
+//! transcripts; and sessions whose calls fail one by one, or that a crash stops. No part of the product.
 #![tactic(auto)]
 
 #[cfg(test)]
 mod access_tests;
+#[cfg(test)]
+mod copy_tests;
 #[cfg(test)]
 mod disk_tests;
 #[cfg(test)]
@@ -10,18 +13,28 @@ mod erase_tests;
 #[cfg(test)]
 mod execio_tests;
 #[cfg(test)]
+mod fault_tests;
+#[cfg(test)]
 mod file_tests;
 #[cfg(test)]
 mod format_tests;
 #[cfg(test)]
-mod line_tests;
-#[cfg(test)]
 mod listing_tests;
 #[cfg(test)]
-mod option_tests;
+mod procedure_tests;
+#[cfg(test)]
+mod refusal_tests;
+#[cfg(test)]
+mod session;
 #[cfg(test)]
 mod session_tests;
 #[cfg(test)]
+mod stack_tests;
+#[cfg(test)]
 mod status_tests;
 #[cfg(test)]
-mod unit_tests;
+mod transcript;
+#[cfg(test)]
+mod trial;
+#[cfg(test)]
+mod volumes;

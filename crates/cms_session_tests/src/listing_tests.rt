@@ -1,5 +1,5 @@
 // Sessions of LISTFILE, as transcripts.
-use cms_transcripts::check_sessions;
+use crate::transcript::check_sessions;
 use std::test::Fail;
 
 const LISTED: &str = "# texts

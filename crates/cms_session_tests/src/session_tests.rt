@@ -1,5 +1,6 @@
 // Whole sessions, as transcripts.
-use cms_transcripts::{Trial, check_sessions};
+use crate::transcript::check_sessions;
+use crate::trial::Trial;
 use std::test::Fail;
 
 const SCRIPTS: &str = "# hello: 191,512,ro,A

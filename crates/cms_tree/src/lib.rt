@@ -2,13 +2,9 @@
 #![tactic(auto)]
 
 mod climb;
-#[cfg(test)]
-mod climb_tests;
 mod node;
 mod read;
 mod sizes;
-#[cfg(test)]
-mod tests;
 mod types;
 
 pub use climb::{Climb, climb_laws};

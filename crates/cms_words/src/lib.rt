@@ -15,6 +15,3 @@ pub use fault::WordFault;
 pub use reading::{Words, read_words};
 pub use unit::UnitWord;
 pub use units::UnitWords;
-
-#[cfg(test)]
-mod tests;

@@ -1,0 +1,230 @@
+// Trees that are written while their leaves are, beside those that `build` makes.
+ghost use Rattle.std.specs.Prelude.{◌≡◌, ◌⊎◌, ◌/◌, ◌<◌, ◌≤◌, length, None, IfOk};
+
+use crate::telling::{number, told, word};
+use cms_journal::BlockSize;
+use cms_tree::{Climb, Mark, build, shape};
+use cms_world::{Access, Failed, Unit, World};
+use std::alloc::{AllocError, Global};
+
+/// `climb/LEAVES/SIZE`: whether a tree over so many leaves with pointers of this size is written, and as `build` makes it.
+/// `order`: whether one over the leaves 10 to 138 is written, how many blocks in all, and which are from the 127th on.
+/// `fails/COUNT`: the same where the write behind so many fails, of the first pointer block or of the root, which is the last: whether
+/// all were written, how many were, and how often a write failed.
+pub const ROWS: &str = "\
+climb/1/4 -> (true, true)
+climb/2/4 -> (true, true)
+climb/127/4 -> (true, true)
+climb/128/4 -> (true, true)
+climb/129/4 -> (true, true)
+climb/16385/4 -> (true, true)
+climb/42/12 -> (true, true)
+climb/43/12 -> (true, true)
+climb/1765/12 -> (true, true)
+order -> (true, 132, Some([136, 137, 1000000, 138, 1000001, 1000002]))
+fails/128 -> (false, 128, 1)
+fails/131 -> (false, 131, 1)";
+
+// A world that tells nothing, and keeps the numbers and bytes of the blocks that are written. One of the writes fails.
+#[derive(Drop)]
+struct Paper {
+    blocks: Vec<u32>,
+    bytes: Vec<u8>,
+    failing: usize,
+    failures: u64,
+}
+
+impl World for Paper {
+    ghost faults = { λ w. w.failures };
+
+    ghost edges = { λ w. 0 };
+
+    ghost told = { λ w. None };
+
+    fn attach(&mut self, _name: &str, _bsize: u32, _access: Access) -> Result<Unit, Failed> {
+        Ok(Unit {
+            number: 0,
+            blocks: 0,
+        })
+    }
+
+    fn read_block(&mut self, _unit: u8, _block: u32, _into: &mut [u8]) -> Result<(), Failed> {
+        Ok(())
+    }
+
+    fn write_block(&mut self, _unit: u8, block: u32, from: &[u8]) -> Result<(), Failed> {
+        let fails = self.blocks.len() == self.failing;
+        if fails
+            || self.blocks.push(block).is_err()
+            || self.bytes.extend_from_slice(from).is_err()
+        {
+            self.failures = self.failures.saturating_add(1);
+            return Err(Failed);
+        }
+        Ok(())
+    }
+
+    fn sync(&mut self, _unit: u8) -> Result<(), Failed> {
+        Ok(())
+    }
+
+    fn read(&mut self, _into: &mut [u8]) -> Result<usize, Failed> {
+        Ok(0)
+    }
+
+    fn type_out(&mut self, from: &[u8]) -> Result<usize, Failed> {
+        Ok(from.len())
+    }
+
+    fn now(&mut self) -> Result<i64, Failed> {
+        Ok(0)
+    }
+}
+
+fn blank_paper(alloc: Global, failing: usize) -> Paper {
+    Paper {
+        blocks: Vec::new(alloc),
+        bytes: Vec::new(alloc),
+        failing,
+        failures: 0,
+    }
+}
+
+// The number of the first pointer block; the leaves are numbered from 10.
+const FIRST: u32 = 1_000_000;
+
+// So many numbers, one after another.
+fn numbers(alloc: Global, first: u32, count: u32) -> Result<Vec<u32>, AllocError>
+    requires first { first ≤ 1000000 }
+    requires count { count ≤ 1000000 }
+    ensures { IfOk result (λ v. length v.items ≡ count) }
+{
+    let mut numbers = Vec::new(alloc);
+    for place in 0..count {
+        numbers.push(first + place)?;
+    }
+    Ok(numbers)
+}
+
+// A mark of its own for each leaf.
+fn mark_of(place: u32) -> Mark {
+    Mark {
+        last: place / 3,
+        place: place % 511,
+    }
+}
+
+fn marks(alloc: Global, count: u32) -> Result<Vec<Mark>, AllocError>
+    ensures { IfOk result (λ v. length v.items ≡ count) }
+{
+    let mut marks = Vec::new(alloc);
+    for place in 0..count {
+        marks.push(mark_of(place))?;
+    }
+    Ok(marks)
+}
+
+// Writes leaves by the world, and with them the pointer blocks over them; whether all were written.
+fn climbs(alloc: Global, world: &mut Paper, leaves: u32, psize: u8) -> Result<bool, AllocError>
+    requires some { 1 ≤ leaves }
+    requires few { leaves ≤ 100000 }
+    requires psize { (psize ≡ 4) ⊎ (psize ≡ 12) }
+{
+    let pointers = shape(leaves, 512 / u32::from(psize)).pointers;
+    if pointers > 100_000 {
+        return Ok(false);
+    }
+    let fresh = numbers(alloc, FIRST, pointers)?;
+    let mut climb = Climb::new(alloc, leaves, BlockSize::new(512), psize)?;
+    for place in 0..leaves {
+        if world.write_block(0, 10 + place, &[0; 512]).is_err() {
+            return Ok(false);
+        }
+        let mark = mark_of(place);
+        if climb.add(world, 0, 10 + place, &mark, &fresh).is_err() {
+            return Ok(false);
+        }
+    }
+    Ok(true)
+}
+
+// The bytes of a block, where it was written once.
+fn written_once(world: &Paper, number: u32) -> Option<&[u8]> {
+    let mut found = None;
+    for (block, bytes) in world.blocks.iter().zip(world.bytes.chunks(512)) {
+        if *block == number {
+            if found.is_some() {
+                return None;
+            }
+            found = Some(bytes);
+        }
+    }
+    found
+}
+
+// Whether the world holds, between the leaves, each pointer block once and as `build` makes it.
+fn holds_them(alloc: Global, world: &Paper, leaves: u32, psize: u8) -> Result<bool, AllocError>
+    requires some { 1 ≤ leaves }
+    requires few { leaves ≤ 100000 }
+    requires psize { (psize ≡ 4) ⊎ (psize ≡ 12) }
+{
+    let pointers = shape(leaves, 512 / u32::from(psize)).pointers;
+    if pointers > 100_000 {
+        return Ok(false);
+    }
+    let fresh = numbers(alloc, FIRST, pointers)?;
+    let blocks = numbers(alloc, 10, leaves)?;
+    let marks = marks(alloc, leaves)?;
+    for nth in 0..pointers {
+        let mut block = [0; 512];
+        build(
+            &blocks,
+            &marks,
+            &fresh,
+            BlockSize::new(512),
+            psize,
+            nth,
+            &mut block,
+        );
+        match written_once(world, FIRST.wrapping_add(nth)) {
+            Some(bytes) if bytes == block.as_slice() => {}
+            _ => return Ok(false),
+        }
+    }
+    Ok(world.blocks.len() == leaves as usize + pointers as usize)
+}
+
+// Whether a tree is written, and as it is built.
+fn climb(alloc: Global, leaves: u32, is_wide: bool) -> Result<String, AllocError> {
+    let psize = if is_wide { 12 } else { 4 };
+    if leaves < 1 || leaves > 100_000 {
+        return told(alloc, &"no tree");
+    }
+    let mut world = blank_paper(alloc, usize::MAX);
+    let climbs = climbs(alloc, &mut world, leaves, psize)?;
+    told(alloc, &(climbs, holds_them(alloc, &world, leaves, psize)?))
+}
+
+fn order(alloc: Global) -> Result<String, AllocError> {
+    let mut world = blank_paper(alloc, usize::MAX);
+    let climbs = climbs(alloc, &mut world, 129, 4)?;
+    told(
+        alloc,
+        &(climbs, world.blocks.len(), world.blocks.get(126..)),
+    )
+}
+
+fn fails(alloc: Global, failing: u32) -> Result<String, AllocError> {
+    let mut world = blank_paper(alloc, failing as usize);
+    let climbs = climbs(alloc, &mut world, 129, 4)?;
+    told(alloc, &(climbs, world.blocks.len(), world.failures))
+}
+
+/// What a case comes to.
+pub fn answer(alloc: Global, case: &str) -> Result<String, AllocError> {
+    match word(case, 0) {
+        "climb" => climb(alloc, number(case, 1), word(case, 2) == "12"),
+        "order" => order(alloc),
+        _ => fails(alloc, number(case, 1)),
+    }
+}

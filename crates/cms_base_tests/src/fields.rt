@@ -1,0 +1,252 @@
+// Labels, entries, dates and moments with their answers, worked out by hand from the format's tables and the calendar.
+use crate::telling::{bytes_of, number, told, word};
+use cms_fields::{
+    Entry, Label, Moment, Stamp, put_stamp, read_entry, read_label, write_entry, write_label,
+};
+use cms_journal::BlockSize;
+use cms_names::{Format, Name, NameFault, Part};
+use std::alloc::{AllocError, Global};
+
+/// `moment/SECONDS/OFFSET`: the moment. `stamp/YEAR`: the year in the stamp of 23:58:59 on November 30 of the year, and whether the bytes
+/// of the others are written. An edit PLACE=BYTES puts other bytes from a place on.
+/// `entry/EDIT/EDIT..`: whether HELLO with the edits is read as the entry that HELLO is, or the first test that it fails.
+/// `entry is written`: whether that entry's bytes are HELLO.
+/// `label/SIZE/BLOCKS/EDIT/EDIT..`: what TEST01 with the edits is on a unit with blocks of this size and so many.
+/// `label is written/EDIT/EDIT..`: whether a label that is written over TEST01 is TEST01 with the edits.
+pub const ROWS: &str = "\
+moment/0/0 -> (1970, 1, 1, 0, 0, 0)
+moment/68169600/0 -> (1972, 2, 29, 0, 0, 0)
+moment/951782399/0 -> (2000, 2, 28, 23, 59, 59)
+moment/951782400/0 -> (2000, 2, 29, 0, 0, 0)
+moment/951868800/0 -> (2000, 3, 1, 0, 0, 0)
+moment/946684800/-3600 -> (1999, 12, 31, 23, 0, 0)
+moment/946684799/3600 -> (2000, 1, 1, 0, 59, 59)
+moment/2147483647/0 -> (2038, 1, 19, 3, 14, 7)
+moment/3981357296/0 -> (2096, 2, 29, 12, 34, 56)
+moment/-1/54000 -> (1970, 1, 1, 14, 59, 59)
+moment/-1/0 -> (1970, 1, 1, 0, 0, 0)
+moment/53999/-54000 -> (1970, 1, 1, 0, 0, 0)
+moment/-9223372036854775808/-54000 -> (1970, 1, 1, 0, 0, 0)
+moment/4102444799/0 -> (2099, 12, 31, 23, 59, 59)
+moment/4102444800/0 -> (2099, 12, 31, 23, 59, 59)
+moment/4102448399/-3600 -> (2099, 12, 31, 23, 59, 59)
+moment/9223372036854775807/54000 -> (2099, 12, 31, 23, 59, 59)
+stamp/1970 -> (70, true)
+stamp/1999 -> (99, true)
+stamp/2000 -> (0, true)
+stamp/2026 -> (26, true)
+stamp/2099 -> (99, true)
+entry -> true
+entry/54=00 02 29 00 00 00 -> false
+entry/54=04 02 29 00 00 00 -> false
+entry/54=99 12 31 23 59 59 -> false
+entry/54=01 02 29 00 00 00 -> Date
+entry/54=98 02 29 00 00 00 -> Date
+entry/54=00 02 30 00 00 00 -> Date
+entry/54=00 04 30 00 00 00 -> false
+entry/54=00 04 31 00 00 00 -> Date
+entry/54=00 12 32 00 00 00 -> Date
+entry/54=00 13 01 00 00 00 -> Date
+entry/54=00 00 01 00 00 00 -> Date
+entry/54=00 01 00 00 00 00 -> Date
+entry/54=00 01 01 24 00 00 -> Date
+entry/54=00 01 01 23 60 00 -> Date
+entry/54=00 01 01 23 59 60 -> Date
+entry/54=A0 01 01 00 00 00 -> Date
+entry/54=0A 01 01 00 00 00 -> Date
+entry/54=00 0A 01 00 00 00 -> Date
+entry/54=00 01 01 00 00 0F -> Date
+entry/0=00 -> Name
+entry/0=40 -> Name
+entry/1=40 -> Name
+entry/15=5C -> Name
+entry/25=F7 -> Mode
+entry/25=C1 -> Mode
+entry/30=40 -> Format
+entry/35=00 -> Length
+entry/33=01 -> Length
+entry/51=00 -> Counts
+entry/47=02 -> Counts
+entry/30=E5/47=00 -> Counts
+entry/52=01 -> Levels
+entry/30=E5/47=02 -> Levels
+entry/30=E5/47=02/52=01 -> PointerSize
+entry/55=13 -> Date
+entry/55=13/52=01/51=00 -> Counts
+entry/16=01/24=00/31=08/39=FF/63=FF -> true
+entry/53=63 -> true
+entry/30=E5/35=00 -> false
+entry/30=E5/47=02/52=01/53=0C -> false
+entry/34=00/50=01/49=00/47=03/51=2C/52=01 -> false
+entry is written -> true
+label/512/9 -> Ok(Label { volid: [227, 197, 226, 227, 240, 241], bsize: 512, origin: 4, blocks: 9, in_use: 7 })
+label/512/1048576 -> Ok(Label { volid: [227, 197, 226, 227, 240, 241], bsize: 512, origin: 4, blocks: 9, in_use: 7 })
+label/512/8 -> Err(Count)
+label/1024/9 -> Err(BlockSize)
+label/512/9/0=00 -> Err(Id)
+label/512/9/14=04 -> Err(BlockSize)
+label/512/9/19=06 -> Err(Origin)
+label/512/9/19=03 -> Err(Origin)
+label/512/9/31=0A -> Err(Count)
+label/512/9/31=05 -> Err(Count)
+label/512/9/39=20 -> Err(EntrySize)
+label/512/9/39=20/31=0A/19=06 -> Err(Origin)
+label is written/4=D5 C5 E6 F0 F0 F2/19=05/32=01 02 03 04 -> true
+label/512/9/4=D5 C5 E6 F0 F0 F2/19=05/32=01 02 03 04 -> \
+Ok(Label { volid: [213, 197, 230, 240, 240, 242], bsize: 512, origin: 5, blocks: 9, in_use: 16909060 })";
+
+// The entry of HELLO TEXT A1: two F records of 5 bytes in block 7, written 2000-01-01 00:00:00.
+const HELLO: &str = "\
+C8 C5 D3 D3 D6 40 40 40 E3 C5 E7 E3 40 40 40 40 00 00 00 00 00 00 00 00 C1 F1 00 00 00 00 C6 00 \
+00 00 00 05 00 00 00 00 00 00 00 07 00 00 00 01 00 00 00 02 00 04 00 01 01 00 00 00 00 00 00 00";
+
+// The first bytes of the label of TEST01: 9 blocks of 512 bytes, 7 in use, directory in block 4.
+const TEST01: &str = "\
+C3 D4 E2 F1 E3 C5 E2 E3 F0 F1 00 00 00 00 02 00 00 00 00 04 00 00 00 09 00 00 00 09 00 00 00 09 \
+00 00 00 07 00 00 00 40 00 00 00 08 00 01 01 00 00 00 00 00 00 00 00 00 00 00 00 00 00 00 00 00 \
+00 00 00 00 00 00 00 00 00 00 00 00 00 00 00 00";
+
+// The entry that HELLO is.
+fn hello() -> Result<Entry, NameFault> {
+    let file = Part::read(&[0xC8, 0xC5, 0xD3, 0xD3, 0xD6])?;
+    let kind = Part::read(&[0xE3, 0xC5, 0xE7, 0xE3])?;
+    Ok(Entry {
+        name: Name { file, kind },
+        number: 1,
+        format: Format::F,
+        length: 5,
+        root: 7,
+        blocks: 1,
+        count: 2,
+        levels: 0,
+        stamp: Stamp {
+            year: 0,
+            month: 1,
+            day: 1,
+            hour: 0,
+            minute: 0,
+            second: 0,
+        },
+    })
+}
+
+// Puts other bytes from a place on.
+fn put(into: &mut [u8], at: usize, others: &[u8]) {
+    for (into, other) in into.iter_mut().skip(at).zip(others.iter()) {
+        *into = *other;
+    }
+}
+
+// Makes an edit: a place, and the bytes from there on.
+fn edit(alloc: Global, into: &mut [u8], edit: &str) -> Result<(), AllocError> {
+    let (place, others) = edit.split_once("=").unwrap_or(("", ""));
+    put(into, place.parse().unwrap_or(0), &bytes_of(alloc, others)?);
+    Ok(())
+}
+
+// The bytes that a text says, with the edits of a case.
+fn edited(alloc: Global, text: &str, case: &str) -> Result<Vec<u8>, AllocError> {
+    let mut bytes = bytes_of(alloc, text)?;
+    for word in case.split('/') {
+        edit(alloc, &mut bytes, word)?;
+    }
+    Ok(bytes)
+}
+
+fn moment(alloc: Global, case: &str) -> Result<String, AllocError> {
+    let seconds = word(case, 1).parse().unwrap_or(0);
+    let offset: i32 = word(case, 2).parse().unwrap_or(0);
+    let Moment {
+        year,
+        month,
+        day,
+        hour,
+        minute,
+        second,
+    } = Moment::of_epoch(seconds, offset.clamp(-54_000, 54_000));
+    told(alloc, &(year, month, day, hour, minute, second))
+}
+
+fn stamp(alloc: Global, year: u32) -> Result<String, AllocError> {
+    let stamp = Stamp::of(&Moment {
+        year: u16::try_from(year).unwrap_or(0),
+        month: 11,
+        day: 30,
+        hour: 23,
+        minute: 58,
+        second: 59,
+    });
+    let mut bytes = [0xFF; 8];
+    if stamp.is_valid() {
+        put_stamp(&stamp, &mut bytes);
+    }
+    told(
+        alloc,
+        &(
+            stamp.year,
+            bytes[1..] == [0x11, 0x30, 0x23, 0x58, 0x59, 0xFF, 0xFF],
+        ),
+    )
+}
+
+fn entry(alloc: Global, case: &str) -> Result<String, AllocError> {
+    let bytes = edited(alloc, HELLO, case)?;
+    if bytes.len() < 64 {
+        return told(alloc, &"short");
+    }
+    match read_entry(&bytes, BlockSize::new(512)) {
+        Ok(entry) => told(alloc, &(Ok(entry) == hello())),
+        Err(fault) => told(alloc, &fault),
+    }
+}
+
+fn entry_is_written(alloc: Global) -> Result<String, AllocError> {
+    let mut bytes = [0xFF; 64];
+    match hello() {
+        Ok(entry) if entry.number <= 6 && entry.stamp.is_valid() => {
+            write_entry(&entry, &mut bytes)
+        }
+        _ => {}
+    }
+    told(
+        alloc,
+        &(bytes_of(alloc, HELLO)?.as_slice() == bytes.as_slice()),
+    )
+}
+
+fn label(alloc: Global, case: &str) -> Result<String, AllocError> {
+    let bytes = edited(alloc, TEST01, case)?;
+    match BlockSize::of(number(case, 1)) {
+        Some(bsize) if bytes.len() >= 80 => {
+            told(alloc, &read_label(&bytes, bsize, number(case, 2)))
+        }
+        _ => told(alloc, &"short"),
+    }
+}
+
+fn label_is_written(alloc: Global, case: &str) -> Result<String, AllocError> {
+    let label = Label {
+        volid: [0xD5, 0xC5, 0xE6, 0xF0, 0xF0, 0xF2],
+        bsize: 512,
+        origin: 5,
+        blocks: 9,
+        in_use: 0x0102_0304,
+    };
+    let mut bytes = bytes_of(alloc, TEST01)?;
+    if bytes.len() >= 80 {
+        write_label(&label, &mut bytes);
+    }
+    told(alloc, &(bytes == edited(alloc, TEST01, case)?))
+}
+
+/// What a case comes to.
+pub fn answer(alloc: Global, case: &str) -> Result<String, AllocError> {
+    match word(case, 0) {
+        "moment" => moment(alloc, case),
+        "stamp" => stamp(alloc, number(case, 1)),
+        "entry" => entry(alloc, case),
+        "entry is written" => entry_is_written(alloc),
+        "label" => label(alloc, case),
+        _ => label_is_written(alloc, case),
+    }
+}

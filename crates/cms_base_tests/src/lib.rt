@@ -1,0 +1,31 @@
+//! The tests of the crates on which all others rest, which so are proved without them, once. No part of the product.
+#![tactic(auto)]
+
+#[cfg(test)]
+mod cases;
+#[cfg(test)]
+mod climbs;
+#[cfg(test)]
+mod code_page;
+#[cfg(test)]
+mod fields;
+#[cfg(test)]
+mod files;
+#[cfg(test)]
+mod generator;
+#[cfg(test)]
+mod maps;
+#[cfg(test)]
+mod names;
+#[cfg(test)]
+mod operands;
+#[cfg(test)]
+mod pieces;
+#[cfg(test)]
+mod records;
+#[cfg(test)]
+mod telling;
+#[cfg(test)]
+mod trees;
+#[cfg(test)]
+mod words;

@@ -1,0 +1,183 @@
+// Lines of a command with a name, a mode and a number, and what is typed where they are refused; written by hand from the manual's
+// order of refusals.
+use crate::telling::{host, told};
+use cms_line::{Line, Message, Tokens, tokens, write_message};
+use cms_operands::{
+    ChosenOptions, CommandFault, OptionForm, Parameter, Refusal, access_mode, chosen_options,
+    command_named, device_or_letter, ended, given_or, last_among, letter_or_all, name, name_or_all,
+    name_or_same, needed, number, number_or_all, operands, output_mode, pattern, reading_mode,
+    writing_mode,
+};
+use cms_text::{LONGEST_TEXT, ebcdic};
+use std::alloc::{AllocError, Global};
+
+/// `line/LINE`: the options that the line chooses, or what is typed and the code.
+/// `command/WORD`: the command that the word names. `KIND/WORD`: what the word is, read by its kind.
+/// `last/LINE`: the last of the line's options that are LRECL, and of those that are FILL or COL.
+pub const ROWS: &str = "\
+line/X Y A 100 -> []
+line/X Y A 007 ( -> []
+line/x y b2 1 (ty lr 080 rec v fi 40 col 2-14) -> [ChosenOption { nth: 0, setting: Nothing }, \
+ChosenOption { nth: 1, setting: Number(80) }, ChosenOption { nth: 2, setting: Format(V) }, \
+ChosenOption { nth: 3, setting: Byte(64) }, ChosenOption { nth: 4, setting: Columns(2, 14) }]
+line/X Y! B9 0 -> CMS062E Name Y! is not valid 20
+line/X Y B9 0 -> CMS048E Mode B9 is not valid 24
+line/X Y B 0 -> CMS070E Operand 0 is not valid 24
+line/X Y B 1000000000 -> CMS070E Operand 1000000000 is not valid 24
+line/X Y B 1 Z (BLUE -> CMS070E Operand Z is not valid 24
+line/X Y B9 (BLUE -> CMS048E Mode B9 is not valid 24
+line/X Y B (BLUE -> CMS054E Operand is missing 24
+line/X -> CMS054E Operand is missing 24
+line/X Y ) 1 -> CMS048E Mode ) is not valid 24
+line/X Y A 1 (BLUE LRECL 0 -> CMS003E Option BLUE is not valid 24
+line/X Y A 1 (LRECL 0 BLUE -> CMS029E Parameter 0 of option LRECL is not valid 24
+line/X Y A 1 (LR 0 LRECL 80 -> CMS029E Parameter 0 of option LR is not valid 24
+line/X Y A 1 (COL 3-2 REC X -> CMS029E Parameter 3-2 of option COL is not valid 24
+line/X Y A 1 (FI AB LRECL -> CMS054E Operand is missing 24
+line/X Y A 1 (LRECL ) -> CMS054E Operand is missing 24
+line/X Y A 1 (LRECL ( -> CMS029E Parameter ( of option LRECL is not valid 24
+line/X Y A 1 (TYPE ( -> CMS003E Option ( is not valid 24
+line/X Y A 1 (T -> CMS003E Option T is not valid 24
+line/X Y A 1 (TYPE) Z -> CMS070E Operand Z is not valid 24
+command/A -> None
+command/AC -> Some(Access)
+command/RE -> Some(Rename)
+command/REL -> Some(Release)
+command/FORMA -> None
+command/FORMAT -> Some(Format)
+command/Q -> Some(Query)
+command/L -> Some(Listfile)
+command/COP -> None
+command/COPY -> Some(Copyfile)
+command/ERA -> Some(Erase)
+command/T -> Some(TypeFile)
+command/STATE -> Some(State)
+command/EXECI -> None
+command/EXECIO -> Some(Execio)
+command/EX -> Some(Exec)
+command/EXECUTE -> None
+command/ -> None
+name or all/* -> Ok(None)
+name or all/= -> Err(BadName(1))
+name or same/= -> Ok(None)
+pattern/* -> true
+reading mode/* -> Ok(Any)
+reading mode/= -> Err(BadMode(3))
+writing mode/* -> Err(BadMode(3))
+output mode/A1 -> Ok(Some(WriteMode { letter: 0, number: Some(1) }))
+output mode/= -> Ok(None)
+letter or all/* -> Ok(None)
+letter or all/A1 -> Err(BadMode(2))
+number or all/* -> Ok(None)
+device or letter/A1 -> Err(BadOperand(1))
+device or letter/* -> Err(BadMode(1))
+device or letter/1AF -> Ok(Device(431))
+access mode/B/A -> Ok(AccessMode { letter: 1, ext: Some(0) })
+access mode/A1 -> Err(BadMode(2))
+last/X (LR 1 TYPE LR 2 REC F -> (Some(ChosenOption { nth: 1, setting: Number(2) }), None)";
+
+const A: u8 = 0xC1;
+
+fn words_of(alloc: Global, text: &str) -> Result<Tokens, AllocError> {
+    let mut bytes = ebcdic(alloc, text)?;
+    bytes.truncate(LONGEST_TEXT);
+    tokens(alloc, &Line::take(bytes))
+}
+
+fn forms() -> [OptionForm; 5] {
+    [
+        OptionForm::flag(b"TYPE    ", 2),
+        OptionForm::new(b"LRECL   ", 1, Parameter::Number(1, 65535)),
+        OptionForm::new(b"RECFM   ", 3, Parameter::Format),
+        OptionForm::new(b"FILL    ", 2, Parameter::Fill),
+        OptionForm::new(b"COL     ", 3, Parameter::Columns),
+    ]
+}
+
+// X name [mode] number, the mode A where it isn't given with the number.
+fn read(alloc: Global, words: &Tokens) -> Result<ChosenOptions, CommandFault> {
+    let operands = operands(words.as_slice());
+    name(1, needed(operands, 1)?)?;
+    reading_mode(2, given_or(operands, 2, &[A]))?;
+    number(1, 100, 3, needed(operands, 3)?)?;
+    ended(operands, 4)?;
+    chosen_options(alloc, &forms(), words)
+}
+
+// The text of a message.
+fn text_of(alloc: Global, message: &Message) -> Result<String, AllocError> {
+    let mut text = Vec::new(alloc);
+    write_message(&mut text, message)?;
+    host(alloc, &text)
+}
+
+// What is typed.
+fn typed(alloc: Global, words: &Tokens, why: Refusal) -> Result<String, AllocError> {
+    let message = why.message(alloc, words.as_slice())?;
+    text_of(alloc, &message)
+}
+
+// What is typed, and the code.
+fn refused(alloc: Global, words: &Tokens, why: Refusal) -> Result<String, AllocError> {
+    let typed = typed(alloc, words, why)?;
+    let code = why.code();
+    format!(in alloc; "{typed} {code}")
+}
+
+// The options that a line chooses, or what is typed.
+fn line(alloc: Global, text: &str) -> Result<String, AllocError> {
+    let words = words_of(alloc, text)?;
+    match read(alloc, &words) {
+        Ok(chosen) => told(alloc, &chosen.as_slice()),
+        Err(CommandFault::Refused(why)) => refused(alloc, &words, why),
+        Err(CommandFault::Memory) => Err(AllocError),
+    }
+}
+
+fn last(alloc: Global, text: &str) -> Result<String, AllocError> {
+    let words = words_of(alloc, text)?;
+    match chosen_options(alloc, &forms(), &words) {
+        Ok(chosen) => {
+            let chosen = chosen.as_slice();
+            told(
+                alloc,
+                &(last_among(&[1], chosen), last_among(&[3, 4], chosen)),
+            )
+        }
+        Err(_) => told(alloc, &"refused"),
+    }
+}
+
+// What a word is by its kind.
+fn word(alloc: Global, kind: &str, word: &[u8]) -> Result<String, AllocError> {
+    match kind {
+        "command" => told(alloc, &command_named(word)),
+        "name or all" => told(alloc, &name_or_all(1, word)),
+        "name or same" => told(alloc, &name_or_same(1, word)),
+        "pattern" => told(alloc, &pattern(1, word).is_ok()),
+        "reading mode" => told(alloc, &reading_mode(3, word)),
+        "writing mode" => told(alloc, &writing_mode(3, word)),
+        _ => other_word(alloc, kind, word),
+    }
+}
+
+fn other_word(alloc: Global, kind: &str, word: &[u8]) -> Result<String, AllocError> {
+    match kind {
+        "output mode" => told(alloc, &output_mode(6, word)),
+        "letter or all" => told(alloc, &letter_or_all(2, word)),
+        "number or all" => told(alloc, &number_or_all(0, 9, 1, word)),
+        "device or letter" => told(alloc, &device_or_letter(1, word)),
+        "access mode" => told(alloc, &access_mode(2, word)),
+        _ => told(alloc, &"no kind"),
+    }
+}
+
+/// What a case comes to.
+pub fn answer(alloc: Global, case: &str) -> Result<String, AllocError> {
+    let (kind, text) = case.split_once("/").unwrap_or((case, ""));
+    match kind {
+        "line" => line(alloc, text),
+        "last" => last(alloc, text),
+        _ => word(alloc, kind, &ebcdic(alloc, text)?),
+    }
+}

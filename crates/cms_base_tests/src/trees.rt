@@ -1,0 +1,170 @@
+// Shapes, and trees that are built and read again.
+ghost use Rattle.std.specs.Prelude.{◌≡◌, ◌≤◌, IfSome};
+ghost use Rattle.cms_journal.specs.Journal.{HasBlocks};
+ghost use Rattle.cms_world.specs.Mem.{journal_of};
+
+use crate::telling::{number, told, word};
+use cms_journal::BlockSize;
+use cms_tree::{Mark, TreeAt, build, leaves, shape};
+use cms_world::{Access, MemWorld, Unit, World};
+use std::alloc::{AllocError, Global};
+
+/// `shape/LEAVES/FAN`: the shape of a tree over so many leaves with so many pointers in a block.
+/// `marks`: the front of a pointer block with marks, and whether the rest is zeros.
+/// `tree/ROOT/LEAVES/FIRST/FAILING`: how a tree with this root and so many leaves, of which one may be the first, is read where the call
+/// of the world with this number fails: the answer; the pointer blocks, behind the number 1; of the leaves, behind the number 2, this
+/// number, how many numbers there are, and whether they are as they were built; and how many calls there were, of which the first
+/// attaches the unit and the others read blocks.
+pub const ROWS: &str = "\
+shape/1/128 -> Shape { levels: 0, pointers: 0 }
+shape/128/128 -> Shape { levels: 1, pointers: 1 }
+shape/129/128 -> Shape { levels: 2, pointers: 3 }
+shape/42/42 -> Shape { levels: 1, pointers: 1 }
+shape/43/42 -> Shape { levels: 2, pointers: 3 }
+shape/16385/128 -> Shape { levels: 3, pointers: 132 }
+shape/4294967295/2 -> Shape { levels: 32, pointers: 4294967295 }
+marks -> (Some([0, 0, 0, 7, 0, 0, 0, 2, 0, 0, 0, 0, 0, 0, 0, 8, 0, 0, 0, 2, 255, 255, 255, 255]), true)
+tree/51/43/4/0 -> (Ok(()), [1, 51, 49, 50], Some(2), 44, true, 4)
+tree/49/42/4/0 -> (Ok(()), [1, 49], Some(2), 43, true, 2)
+tree/4/1/4/0 -> (Ok(()), [1], Some(2), 2, true, 1)
+tree/51/43/-/0 -> (Err(Pointer { holder: 49, value: 4 }), [1], Some(2), 1, true, 3)
+tree/51/43/7/0 -> (Err(Pointer { holder: 49, value: 4 }), [1], Some(2), 1, true, 3)
+tree/52/43/4/0 -> (Err(Pointer { holder: 3, value: 52 }), [1], Some(2), 1, true, 1)
+tree/5/43/4/0 -> (Err(Pointer { holder: 3, value: 5 }), [1], Some(2), 1, true, 1)
+tree/51/44/4/0 -> (Err(Pointer { holder: 50, value: 0 }), [1], Some(2), 1, true, 4)
+tree/51/43/4/3 -> (Err(Device), [1], Some(2), 1, true, 3)";
+
+fn shape_told(alloc: Global, leaves: u32, fan: u32) -> Result<String, AllocError> {
+    if leaves < 1 || fan < 2 {
+        return told(alloc, &"no tree");
+    }
+    told(alloc, &shape(leaves, fan))
+}
+
+// A record of 509 bytes and one of 3, each behind its length, stand in two blocks: the second begins in the first block.
+fn marks(alloc: Global) -> Result<String, AllocError> {
+    let marks = [
+        Mark { last: 2, place: 0 },
+        Mark {
+            last: 2,
+            place: 0xFFFF_FFFF,
+        },
+    ];
+    let mut block = [7; 512];
+    if shape(2, 42).pointers == 1 {
+        build(
+            &[7, 8],
+            &marks,
+            &[9],
+            BlockSize::new(512),
+            12,
+            0,
+            &mut block,
+        );
+    }
+    told(
+        alloc,
+        &(block.get(..24), block[24..].iter().all(|byte| *byte == 0)),
+    )
+}
+
+// The data blocks of a tree: block 4, and blocks 7 to 48.
+fn data_blocks() -> [u32; 43] {
+    let mut numbers = [4; 43];
+    for place in 1..43 {
+        numbers[place] = 6 + place as u32;
+    }
+    numbers
+}
+
+// An image of zeros, with the pointer blocks over them, which are blocks 49 to 51.
+fn tree_image(alloc: Global) -> Result<Vec<u8>, AllocError> {
+    let marks = [Mark { last: 1, place: 0 }; 43];
+    let mut image = vec![in alloc; 0; 48 * 512]?;
+    if shape(43, 42).pointers == 3 {
+        for nth in 0..3 {
+            let mut block = [0; 512];
+            build(
+                &data_blocks(),
+                &marks,
+                &[49, 50, 51],
+                BlockSize::new(512),
+                12,
+                nth,
+                &mut block,
+            );
+            image.extend_from_slice(&block)?;
+        }
+    }
+    Ok(image)
+}
+
+// The image as a unit.
+fn attach(world: &mut MemWorld) -> Option<Unit>
+    ensures { IfSome result (λ unit. HasBlocks (journal_of world.new).units unit.number unit.blocks 512) }
+{
+    if world.units() >= 256 {
+        return None;
+    }
+    match world.attach("T", 512, Access::ReadOnly) {
+        Ok(unit) => Some(unit),
+        Err(_) => None,
+    }
+}
+
+// Reads a tree, behind a number in each list.
+fn read(alloc: Global, world: &mut MemWorld, at: &TreeAt) -> Result<String, AllocError>
+    requires some { 1 ≤ at.now.count }
+    requires psize { at.now.psize ≡ 12 }
+    requires blocks { HasBlocks (journal_of world.old).units at.now.unit at.now.volume at.now.bsize }
+{
+    let mut pointers = vec![in alloc; 1]?;
+    let mut found = vec![in alloc; 2]?;
+    let answer = leaves(alloc, world, at, &mut pointers, &mut found);
+    let count = found.len();
+    let are_built = found.get(1..) == data_blocks().get(..count.saturating_sub(1));
+    let calls = world.calls().len();
+    told(
+        alloc,
+        &(
+            answer,
+            pointers.as_slice(),
+            found.first(),
+            count,
+            are_built,
+            calls,
+        ),
+    )
+}
+
+fn tree(alloc: Global, case: &str) -> Result<String, AllocError> {
+    let mut world = MemWorld::new(alloc, b"", 0)?;
+    world.add_image("T", &tree_image(alloc)?)?;
+    world.fail_at(number(case, 4), false)?;
+    let count = number(case, 2);
+    match attach(&mut world) {
+        Some(unit) if count >= 1 => {
+            let at = TreeAt {
+                unit: unit.number,
+                bsize: BlockSize::new(512),
+                volume: unit.blocks,
+                holder: 3,
+                root: number(case, 1),
+                count,
+                psize: 12,
+                first: word(case, 3).parse().ok(),
+            };
+            read(alloc, &mut world, &at)
+        }
+        _ => told(alloc, &"no tree"),
+    }
+}
+
+/// What a case comes to.
+pub fn answer(alloc: Global, case: &str) -> Result<String, AllocError> {
+    match word(case, 0) {
+        "shape" => shape_told(alloc, number(case, 1), number(case, 2)),
+        "marks" => marks(alloc),
+        _ => tree(alloc, case),
+    }
+}

@@ -1,0 +1,188 @@
+// Changes of minidisks on a world in memory, and what a crash leaves of them.
+use crate::disk::{access_of, info_of, letters, minidisk};
+use cms_disk::{DiskFault, Minidisk};
+use cms_images::{
+    START, calls_of, file_named, image_left, image_named, number, told, word, world_of, world_with,
+};
+use cms_names::Name;
+use cms_world::{Access, MemWorld, World};
+use std::alloc::{AllocError, Global};
+
+// NEWVOL, in EBCDIC.
+const NEW: [u8; 6] = [0xD5, 0xC5, 0xE6, 0xE5, 0xD6, 0xD3];
+
+/// What a minidisk is accessed for, its image, and what is asked of it, with files by their letters:
+///
+/// - `written` and `read`: the answer, the files then, how many events were added, and the files of what is left. An update has two blocks
+///   more than it needs and two syncs; of what is only read each refusal stands before the one that follows.
+/// - `seen`: the free blocks, the letters of all calls of the world, and whether the bytes are as a system would leave them.
+/// - `crash`: the answer, and the files of what a crash leaves behind so many events, by a choice. The directory of seven files has two
+///   blocks, that of six one.
+/// - `failing`: as `written`, where the call fails that stands so many before the last, and its write is lost or has landed.
+pub const ROWS: &str = "\
+written/one file/erase A => Ok(()) [] 5 []
+written/one file/erase B => Err(NotFound) [A] 0 [A]
+written/two files/erase A => Ok(()) [B] 5 [B]
+written/two files/rename A C => Ok(()) [CB] 5 [CB]
+written/two files/rename B B => Ok(()) [AB] 5 [AB]
+written/two files/rename A B => Err(Exists) [AB] 0 [AB]
+written/two files/rename C B => Err(NotFound) [AB] 0 [AB]
+written/two files/relabel => Ok(()) [AB] 2 [AB]
+written/full/erase A => Err(Full { need: 1, free: 0 }) [A] 0 [A]
+written/full/relabel => Ok(()) [A] 2 [A]
+written/long directory/erase G => Ok(()) [ABCDEF] 5 [ABCDEF]
+written/long directory/erase A => Ok(()) [GBCDEF] 5 [GBCDEF]
+written/long directory on 17/rename A H => Err(Full { need: 3, free: 2 }) [ABCDEFG] 0 [ABCDEFG]
+written/long directory on 18/rename A H => Ok(()) [HBCDEFG] 7 [HBCDEFG]
+written/wide map/erase A => Ok(()) [] 7 []
+written/wide map/rename A B => Ok(()) [B] 7 [B]
+read/two files/erase C => Err(NotFound) [AB] 0 [AB]
+read/two files/erase A => Err(ReadOnly) [AB] 0 [AB]
+read/two files/rename C B => Err(NotFound) [AB] 0 [AB]
+read/two files/rename A B => Err(Exists) [AB] 0 [AB]
+read/two files/rename A C => Err(ReadOnly) [AB] 0 [AB]
+read/two files/relabel => Err(ReadOnly) [AB] 0 [AB]
+seen/one file/erase A => Ok(()) 3 arrrrwwsws true
+crash/long directory/erase G/0/0 => Ok(()) ABCDEFG
+crash/long directory/erase G/0/1 => Ok(()) ABCDEFG
+crash/long directory/erase G/0/2 => Ok(()) ABCDEFG
+crash/long directory/erase G/0/3 => Ok(()) ABCDEFG
+crash/long directory/erase G/1/0 => Ok(()) ABCDEFG
+crash/long directory/erase G/1/1 => Ok(()) ABCDEFG
+crash/long directory/erase G/1/2 => Ok(()) ABCDEFG
+crash/long directory/erase G/1/3 => Ok(()) ABCDEFG
+crash/long directory/erase G/2/0 => Ok(()) ABCDEFG
+crash/long directory/erase G/2/1 => Ok(()) ABCDEFG
+crash/long directory/erase G/2/2 => Ok(()) ABCDEFG
+crash/long directory/erase G/2/3 => Ok(()) ABCDEFG
+crash/long directory/erase G/3/0 => Ok(()) ABCDEFG
+crash/long directory/erase G/3/1 => Ok(()) ABCDEFG
+crash/long directory/erase G/3/2 => Ok(()) ABCDEFG
+crash/long directory/erase G/3/3 => Ok(()) ABCDEFG
+crash/long directory/erase G/4/0 => Ok(()) ABCDEFG
+crash/long directory/erase G/4/1 => Ok(()) ABCDEF
+crash/long directory/erase G/4/2 => Ok(()) ABCDEFG
+crash/long directory/erase G/4/3 => Ok(()) ABCDEF
+crash/long directory/erase G/5/0 => Ok(()) ABCDEF
+crash/long directory/erase G/5/1 => Ok(()) ABCDEF
+crash/long directory/erase G/5/2 => Ok(()) ABCDEF
+crash/long directory/erase G/5/3 => Ok(()) ABCDEF
+failing/long directory/erase G/4/lost => Err(Device) [ABCDEFG] 0 [ABCDEFG]
+failing/long directory/erase G/4/landed => Err(Device) [ABCDEFG] 1 [ABCDEFG]
+failing/long directory/erase G/3/landed => Err(Device) [ABCDEFG] 2 [ABCDEFG]
+failing/long directory/erase G/2/lost => Err(Device) [ABCDEFG] 2 [ABCDEFG]
+failing/long directory/erase G/1/lost => Err(InDoubt) [ABCDEFG] 3 [ABCDEFG]
+failing/long directory/erase G/1/landed => Err(InDoubt) [ABCDEFG] 4 [ABCDEF]
+failing/long directory/erase G/0/lost => Err(InDoubt) [ABCDEFG] 4 [ABCDEF]";
+
+type Answer = (Result<(), DiskFault>, Minidisk);
+
+// What is asked of a minidisk.
+#[derive(Clone, Copy)]
+enum Asked {
+    Erase(Name),
+    Rename(Name, Name),
+    Relabel,
+}
+
+// What a text asks for: `erase A`, `rename A B` or `relabel`.
+fn asked_by(text: &str) -> Option<Asked> {
+    let mut words = text.split(' ');
+    match words.next()? {
+        "erase" => Some(Asked::Erase(file_named(words.next()?)?)),
+        "rename" => {
+            let from = file_named(words.next()?)?;
+            let to = file_named(words.next()?)?;
+            Some(Asked::Rename(from, to))
+        }
+        _ => Some(Asked::Relabel),
+    }
+}
+
+// Attaches the disk, accesses it, and does what is asked: the answer, and the minidisk then; none where it isn't accessed.
+#[tactic(auto, unfolding(cms_fields::specs::Stamps::is_stamp, cms_fields::specs::Stamps::days_of_month))]
+fn changed(alloc: Global, world: &mut MemWorld, access: Access, asked: &Asked) -> Option<Answer> {
+    if world.units() > 0 {
+        return None;
+    }
+    let unit = world.attach("disk", 512, access).ok()?;
+    let info = info_of(unit, access);
+    let mut disk = Minidisk::access(alloc, world, &info, false).ok()?;
+    let answer = match asked {
+        Asked::Erase(name) => disk.erase(alloc, world, name, &START),
+        Asked::Rename(from, to) => disk.rename(alloc, world, from, to, 1, &START),
+        Asked::Relabel => disk.relabel(alloc, world, NEW, &START),
+    };
+    Some((answer, disk))
+}
+
+// The files of what a crash leaves, or why there is no minidisk.
+fn left(alloc: Global, world: &MemWorld, at: usize, choice: u64) -> Result<String, AllocError> {
+    let image = image_left(alloc, world, at, choice)?;
+    match minidisk(alloc, &mut world_of(image), Access::ReadOnly) {
+        Ok(disk) => letters(alloc, &disk),
+        Err(fault) => told(alloc, &fault),
+    }
+}
+
+// The free blocks, the calls, and whether the bytes are those of the volume whose file was erased.
+fn seen(alloc: Global, world: &MemWorld, disk: &Minidisk) -> Result<String, AllocError> {
+    let calls = calls_of(alloc, world)?;
+    let is_erased = image_left(alloc, world, world.events(), 0)? == image_named(alloc, "erased")?;
+    format!(in alloc; "{} {calls} {is_erased}", disk.space().free)
+}
+
+// The files, the events, and the files of what is left.
+fn files(alloc: Global, world: &MemWorld, disk: &Minidisk) -> Result<String, AllocError> {
+    let held = letters(alloc, disk)?;
+    let left = left(alloc, world, world.events(), u64::MAX)?;
+    format!(in alloc; "[{held}] {} [{left}]", world.events())
+}
+
+// What is told of a world and its minidisk.
+fn told_of(
+    alloc: Global,
+    world: &MemWorld,
+    case: &str,
+    disk: &Minidisk,
+) -> Result<String, AllocError> {
+    match word(case, 0) {
+        "seen" => seen(alloc, world, disk),
+        "crash" => {
+            let (at, choice) = (number(word(case, 3)), number(word(case, 4)));
+            left(alloc, world, at as usize, u64::from(choice))
+        }
+        _ => files(alloc, world, disk),
+    }
+}
+
+// The call that stands so many before the last one of an access and of what is asked then.
+fn call_back(alloc: Global, image: &[u8], asked: &Asked, back: u32) -> Result<u32, AllocError> {
+    let mut world = world_with(alloc, image, 0, false)?;
+    let _answer = changed(alloc, &mut world, Access::ReadWrite, asked);
+    let calls = world.calls().len().min(1000) as u32;
+    Ok(calls.saturating_sub(back))
+}
+
+// What is answered on an image.
+fn answer_on(alloc: Global, image: &[u8], case: &str, asked: &Asked) -> Result<String, AllocError> {
+    let failing = match word(case, 0) {
+        "failing" => call_back(alloc, image, asked, number(word(case, 3)))?,
+        _ => 0,
+    };
+    let access = access_of(word(case, 0));
+    let mut world = world_with(alloc, image, failing, word(case, 4) == "landed")?;
+    let Some((answer, disk)) = changed(alloc, &mut world, access, asked) else {
+        return String::from_str(alloc, "no minidisk");
+    };
+    let told = told_of(alloc, &world, case, &disk)?;
+    format!(in alloc; "{answer:?} {told}")
+}
+
+/// What a case comes to.
+pub fn answer(alloc: Global, case: &str) -> Result<String, AllocError> {
+    match asked_by(word(case, 2)) {
+        Some(asked) => answer_on(alloc, &image_named(alloc, word(case, 1))?, case, &asked),
+        None => String::from_str(alloc, "nothing is asked"),
+    }
+}

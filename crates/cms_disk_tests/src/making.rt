@@ -1,0 +1,91 @@
+// Empty minidisks that are made on the units of a world in memory.
+use crate::disk::{info_of, minidisk};
+use cms_disk::{DiskFault, Minidisk};
+use cms_images::{
+    Made, NOON, formatted, image_left, image_named, number, told, word, world_of, world_with,
+};
+use cms_world::{Access, MemWorld, World};
+use std::alloc::{AllocError, Global};
+
+// TEST01, in EBCDIC.
+const TEST01: [u8; 6] = [0xE3, 0xC5, 0xE2, 0xE3, 0xF0, 0xF1];
+
+/// What a minidisk is made on, the call of the world that fails, and whether its write is lost or has landed: what is answered, the files
+/// and the free blocks where there is a minidisk; whether the bytes then are those of an `empty` volume on zeros; and what is accessed.
+pub const ROWS: &str = "\
+zeros => (0, 3), empty, (0, 3)
+one file/2/lost => InDoubt, used, (1, 2)
+one file/2/landed => InDoubt, used, Open(Label(Id))
+one file/3/lost => InDoubt, used, Open(Label(Id))
+one file/4/lost => Device, used, Open(Label(Id))
+one file/4/landed => Device, used, Open(Label(Id))
+one file/5/lost => Device, used, Open(Label(Id))
+one file/5/landed => Device, used, Open(Label(Id))
+one file/6/lost => Device, used, Open(Label(Id))
+one file/7/lost => InDoubt, used, Open(Label(Id))
+one file/7/landed => InDoubt, used, (0, 3)
+one file/8/lost => InDoubt, used, (0, 3)
+one file/9/lost => (0, 3), used, (0, 3)";
+
+// Attaches the disk, and makes a minidisk on it; none where it isn't attached.
+#[tactic(auto, unfolding(cms_fields::specs::Stamps::is_stamp, cms_fields::specs::Stamps::days_of_month))]
+fn make_on(alloc: Global, world: &mut MemWorld) -> Option<Result<Minidisk, DiskFault>> {
+    if world.units() > 0 {
+        return None;
+    }
+    let unit = world.attach("disk", 512, Access::ReadWrite).ok()?;
+    if unit.blocks < 8 {
+        return None;
+    }
+    let info = info_of(unit, Access::ReadWrite);
+    Some(Minidisk::make(alloc, world, &info, TEST01, &NOON))
+}
+
+// The files and the free blocks.
+fn counts(alloc: Global, disk: &Minidisk) -> Result<String, AllocError> {
+    told(alloc, &(disk.count(), disk.space().free))
+}
+
+fn made(alloc: Global, world: &mut MemWorld) -> Result<String, AllocError> {
+    match make_on(alloc, world) {
+        Some(Ok(disk)) => counts(alloc, &disk),
+        Some(Err(fault)) => told(alloc, &fault),
+        None => String::from_str(alloc, "no unit"),
+    }
+}
+
+// What is accessed in an image.
+fn accessed(alloc: Global, image: Vec<u8>) -> Result<String, AllocError> {
+    match minidisk(alloc, &mut world_of(image), Access::ReadOnly) {
+        Ok(disk) => counts(alloc, &disk),
+        Err(fault) => told(alloc, &fault),
+    }
+}
+
+const SMALL: Made = Made {
+    bsize: 512,
+    total: 9,
+    map: 1,
+    pointers: 0,
+};
+
+// Whether an image is that of an empty volume on zeros.
+fn bytes_of(alloc: Global, image: &[u8]) -> Result<&'static str, AllocError> {
+    if formatted(alloc, &SMALL)?.as_slice() == image {
+        Ok("empty")
+    } else {
+        Ok("used")
+    }
+}
+
+/// What a case comes to.
+pub fn answer(alloc: Global, case: &str) -> Result<String, AllocError> {
+    let image = image_named(alloc, word(case, 0))?;
+    let failing = number(word(case, 1));
+    let mut world = world_with(alloc, &image, failing, word(case, 2) == "landed")?;
+    let made = made(alloc, &mut world)?;
+    let left = image_left(alloc, &world, world.events(), u64::MAX)?;
+    let bytes = bytes_of(alloc, &left)?;
+    let accessed = accessed(alloc, left)?;
+    format!(in alloc; "{made}, {bytes}, {accessed}")
+}

@@ -1,0 +1,164 @@
+// Files that are put into minidisks, and records that are added to them.
+ghost use Rattle.std.specs.Prelude.{IfOk, IfSome};
+ghost use Rattle.cms_model.specs.Records.{IsValid};
+
+use crate::disk::{access_of, letters, minidisk};
+use cms_disk::{DiskFault, FileData, Minidisk, Stored};
+use cms_fields::Stamp;
+use cms_images::known::one_file;
+use cms_images::{Disk, START, file_named, image_named, told, word, world_of};
+use cms_names::{Format, Name};
+use cms_world::Access;
+use std::alloc::{AllocError, Global};
+
+/// Whether a file is put or its records are added to themselves, what the minidisk is accessed for, its image, the file that is put, and
+/// the letters of the names that get it one after another: the answer to the last, the files, the free blocks, the blocks that were
+/// written, the bytes of the last name's file, and whether the image is that of A FILE as a system would put it. What the longer file
+/// needs may be all that is free, and an old file's block isn't free before the label is written.
+pub const ROWS: &str = "\
+put/written/empty/hello/A => Ok(()) [A] 2 4 [0, 5, 200, 197, 211, 211, 214] true
+put/written/empty/hello/A B => Ok(()) [AB] 1 8 [0, 5, 200, 197, 211, 211, 214] false
+put/written/empty/blanks/A => Err(Full { need: 6, free: 3 }) [] 3 0 NotFound false
+put/read/empty/blanks/A => Err(ReadOnly) [] 3 0 NotFound false
+put/written/two files/hello/B => Err(Full { need: 2, free: 1 }) [AB] 1 0 [0, 5, 200, 197, 211, 211, 214] false
+add/written/one file/hello/A => Ok(()) [A] 2 4 [0, 5, 200, 197, 211, 211, 214, 0, 5, 200, 197, 211, 211, 214] false
+add/read/one file/hello/A => Err(ReadOnly) [A] 2 0 [0, 5, 200, 197, 211, 211, 214] true
+add/written/two files/hello/A => Err(Full { need: 2, free: 1 }) [AB] 1 0 [0, 5, 200, 197, 211, 211, 214] false";
+
+// Two seconds after START.
+const WRITTEN: Stamp = Stamp {
+    year: 0,
+    month: 1,
+    day: 1,
+    hour: 0,
+    minute: 0,
+    second: 2,
+};
+
+// A FILE, one record HELLO.
+fn hello(alloc: Global) -> Option<FileData>
+    ensures valid { IfSome result IsValid }
+{
+    let mut world = world_of(one_file(alloc).ok()?);
+    let disk = minidisk(alloc, &mut world, Access::ReadOnly).ok()?;
+    match disk.get(alloc, &mut world, &file_named("A")?) {
+        Ok(file) => Some(file),
+        Err(_) => None,
+    }
+}
+
+// One record of 2,048 blanks.
+fn blanks(alloc: Global) -> Result<FileData, AllocError>
+    ensures valid { IfOk result IsValid }
+{
+    Ok(FileData {
+        format: Format::F,
+        length: 2048,
+        number: 1,
+        stamp: START,
+        count: 1,
+        bytes: Stored::take(vec![in alloc; 0x40; 2048]?),
+    })
+}
+
+// The file of a word.
+fn file_of(alloc: Global, word: &str) -> Option<FileData>
+    ensures valid { IfSome result IsValid }
+{
+    match word {
+        "hello" => hello(alloc),
+        _ => blanks(alloc).ok(),
+    }
+}
+
+// What putting a file comes to.
+#[tactic(auto, unfolding(cms_fields::specs::Stamps::is_stamp, cms_fields::specs::Stamps::days_of_month))]
+fn put_on(
+    alloc: Global,
+    world: &mut Disk,
+    disk: &mut Minidisk,
+    name: &Name,
+    file: &FileData,
+) -> Result<(), DiskFault>
+    requires { IsValid file.now }
+{
+    disk.put(alloc, world, name, file, &WRITTEN)
+}
+
+// What adding the records of a file to itself comes to.
+#[tactic(auto, unfolding(cms_fields::specs::Stamps::is_stamp, cms_fields::specs::Stamps::days_of_month))]
+fn doubled_on(
+    alloc: Global,
+    world: &mut Disk,
+    disk: &mut Minidisk,
+    name: &Name,
+) -> Result<(), DiskFault> {
+    let more = disk.get(alloc, world, name)?;
+    disk.append(alloc, world, name, &more, &WRITTEN)
+}
+
+// Puts a file under each name of a case, or adds the records to those of each file: the last answer.
+fn all_on(
+    alloc: Global,
+    world: &mut Disk,
+    disk: &mut Minidisk,
+    case: &str,
+    file: &FileData,
+) -> Result<(), DiskFault>
+    requires { IsValid file.now }
+{
+    for letter in word(case, 4).split(' ') {
+        let Some(name) = file_named(letter) else {
+            return Err(DiskFault::NotFound);
+        };
+        match word(case, 0) {
+            "put" => put_on(alloc, world, disk, &name, file)?,
+            _ => doubled_on(alloc, world, disk, &name)?,
+        }
+    }
+    Ok(())
+}
+
+// The bytes of the file of the last letter, or why there are none.
+fn bytes_of(
+    alloc: Global,
+    world: &mut Disk,
+    disk: &Minidisk,
+    letters: &str,
+) -> Result<String, AllocError> {
+    let Some(name) = file_named(letters.split(' ').last().unwrap_or("")) else {
+        return Ok(String::new(alloc));
+    };
+    match disk.get(alloc, world, &name) {
+        Ok(file) => told(alloc, &file.bytes.bytes()),
+        Err(fault) => told(alloc, &fault),
+    }
+}
+
+// What is told of a minidisk behind an answer.
+fn told_of(
+    alloc: Global,
+    world: &mut Disk,
+    disk: &Minidisk,
+    answer: Result<(), DiskFault>,
+    case: &str,
+) -> Result<String, AllocError> {
+    let (free, writes) = (disk.space().free, world.writes);
+    let is_one_file = world.image == one_file(alloc)?;
+    let files = letters(alloc, disk)?;
+    let bytes = bytes_of(alloc, world, disk, word(case, 4))?;
+    format!(in alloc; "{answer:?} [{files}] {free} {writes} {bytes} {is_one_file}")
+}
+
+/// What a case comes to.
+pub fn answer(alloc: Global, case: &str) -> Result<String, AllocError> {
+    let mut world = world_of(image_named(alloc, word(case, 2))?);
+    let Ok(mut disk) = minidisk(alloc, &mut world, access_of(word(case, 1))) else {
+        return String::from_str(alloc, "no minidisk");
+    };
+    let Some(file) = file_of(alloc, word(case, 3)) else {
+        return String::from_str(alloc, "no file");
+    };
+    let answer = all_on(alloc, &mut world, &mut disk, case, &file);
+    told_of(alloc, &mut world, &disk, answer, case)
+}

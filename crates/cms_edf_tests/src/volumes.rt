@@ -1,0 +1,50 @@
+// Volumes on the units of worlds in memory, and what is told of them.
+use cms_edf::{Held, OpenFault, open_volume};
+use cms_images::{Disk, told, world_with};
+use cms_journal::BlockSize;
+use cms_world::{Access, MemWorld, Unit, World};
+use std::alloc::{AllocError, Global};
+
+/// TEST01, in EBCDIC.
+pub const TEST01: [u8; 6] = [0xE3, 0xC5, 0xE2, 0xE3, 0xF0, 0xF1];
+
+/// Opens the volume on a world's first unit; where it isn't attached, there is no memory.
+pub fn open(alloc: Global, world: &mut MemWorld, size: BlockSize) -> Result<Held, OpenFault> {
+    if world.units() > 0 {
+        return Err(OpenFault::Memory);
+    }
+    match world.attach("disk", size.bytes(), Access::ReadOnly) {
+        Ok(unit) => open_volume(alloc, world, &unit, size),
+        Err(_) => Err(OpenFault::Memory),
+    }
+}
+
+/// The volume that is on the unit.
+pub fn volume_on(alloc: Global, world: &mut Disk) -> Option<Held> {
+    let unit = Unit {
+        number: 0,
+        blocks: u32::try_from(world.image.len() / 512).ok()?,
+    };
+    open_volume(alloc, world, &unit, BlockSize::new(512)).ok()
+}
+
+/// The volume id, the bytes of a block, the blocks, those that are free, and the files.
+pub fn state(alloc: Global, held: &Held) -> Result<String, AllocError> {
+    let space = held.space();
+    let volume = if space.volid == TEST01 {
+        "TEST01"
+    } else {
+        "another"
+    };
+    let numbers = told(alloc, &(space.bsize, space.total, space.free, held.count()))?;
+    format!(in alloc; "{volume} {numbers}")
+}
+
+/// The state of the volume that opens in an image, or why none does.
+pub fn opened(alloc: Global, image: &[u8], size: BlockSize) -> Result<String, AllocError> {
+    let mut world = world_with(alloc, image, 0, false)?;
+    match open(alloc, &mut world, size) {
+        Ok(held) => state(alloc, &held),
+        Err(fault) => told(alloc, &fault),
+    }
+}
