@@ -26,7 +26,7 @@ use cms_world::World;
 use std::alloc::Global;
 
 /// What ACCESS's line says: a device, and the letter as which its volume is accessed.
-#[derive(Clone, Copy, PartialEq, Eq)]
+#[derive(Clone, Copy)]
 pub struct AccessLine {
     pub vdev: u16,
     pub mode: AccessMode,
@@ -78,7 +78,7 @@ fn tell_read_only<W: World>(
 {
     let word = letter_word(alloc, letter)?;
     let device = device_word(alloc, vdev)?;
-    say_message(alloc, world, &Message::M723(word, device))?;
+    say_message(alloc, world, Message::M723(word, device))?;
     Ok(Course::Went(0))
 }
 

@@ -13,14 +13,14 @@ use cms_search::Table;
 use std::alloc::Global;
 
 /// What FORMAT's operands say: a device, and the letter as which its volume is accessed then, A is 0.
-#[derive(Clone, Copy, PartialEq, Eq)]
+#[derive(Clone, Copy)]
 pub struct FormatLine {
     pub vdev: u16,
     pub letter: u8,
 }
 
 /// What FORMAT's line says.
-#[derive(Clone, Copy, PartialEq, Eq)]
+#[derive(Clone, Copy)]
 pub struct Formatting {
     pub line: FormatLine,
     /// only the volume id is changed

@@ -163,7 +163,7 @@ fn ask_whether<W: World>(
 {
     let letter = letter_word(alloc, line.letter)?;
     let device = device_word(alloc, line.vdev)?;
-    question(alloc, world, state, &Message::M603(letter, device))
+    question(alloc, world, state, Message::M603(letter, device))
 }
 
 // Asks whether all files are to be erased, and erases them where they are.

@@ -22,7 +22,7 @@ use cms_world::World;
 use std::alloc::Global;
 
 /// What QUERY asks for.
-#[derive(Clone, Copy, PartialEq, Eq)]
+#[derive(Clone, Copy)]
 pub enum Question {
     /// the disk of a letter, A is 0; or all disks
     Disks(Option<u8>),

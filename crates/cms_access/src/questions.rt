@@ -24,7 +24,7 @@ const LABEL: usize = 6;
 const BAD_NAME: i32 = 20;
 
 /// What the question for a volume id comes to.
-#[derive(Clone, Copy, PartialEq, Eq)]
+#[derive(Clone, Copy)]
 pub enum Label {
     /// a volume id, in EBCDIC
     Given([u8; 6]),
@@ -104,10 +104,10 @@ pub fn question<W: World>(
     alloc: Global,
     world: &mut W,
     state: &mut State,
-    message: &Message,
+    message: Message,
 ) -> Result<Asked, End>
     ensures acts { Acts (spot W.World world.old state.old) (spot W.World world.new state.new)
-        (question_tree state.old message.now) result (asked_of state.new) }
+        (question_tree state.old message) result (asked_of state.new) }
     ensures kept { state.new ≡ record state.old { stack = state.new.stack; console = state.new.console; left = state.new.left } }
     ensures left { state.new.left ≤ state.old.left }
 {
@@ -122,7 +122,7 @@ pub fn ask_label<W: World>(alloc: Global, world: &mut W, state: &mut State) -> R
     ensures kept { state.new ≡ record state.old { stack = state.new.stack; console = state.new.console; left = state.new.left } }
     ensures left { state.new.left ≤ state.old.left }
 {
-    match question(alloc, world, state, &Message::M605)? {
+    match question(alloc, world, state, Message::M605)? {
         Asked::Given(line) => {
             let text = reply(alloc, &line)?;
             take_label(alloc, world, state, text)

@@ -60,7 +60,7 @@ fn tell_made<W: World>(
     let blocks = decimal(alloc, blocks)?;
     let letter = letter_word(alloc, line.letter)?;
     let device = device_word(alloc, line.vdev)?;
-    say_message(alloc, world, &Message::M733(blocks, letter, device))?;
+    say_message(alloc, world, Message::M733(blocks, letter, device))?;
     Ok(Course::Went(0))
 }
 

@@ -21,7 +21,7 @@ use cms_world::World;
 use std::alloc::{AllocError, Global};
 
 /// What is told of a disk.
-#[derive(Clone, Copy, PartialEq, Eq)]
+#[derive(Clone, Copy)]
 pub enum Shown {
     /// its room
     Disk,

@@ -1,14 +1,15 @@
-// The cases of each subject.
+// The cases of each module, and the test that tries them.
 use crate::{
     climbs, code_page, fields, files, generator, maps, names, operands, pieces, records, trees,
     words,
 };
+use cms_cases::{Subject, try_rows};
 use std::alloc::{AllocError, Global};
 use std::test::Fail;
 
-// What cases are of.
+// Whose cases they are.
 #[derive(Clone, Copy)]
-enum Subject {
+enum Cases {
     CodePage,
     Names,
     Fields,
@@ -23,47 +24,42 @@ enum Subject {
     Generator,
 }
 
-// The rows `CASE -> ANSWER` of each.
-const ROWS: &[(Subject, &str)] = &[
-    (Subject::CodePage, code_page::ROWS),
-    (Subject::Names, names::ROWS),
-    (Subject::Fields, fields::ROWS),
-    (Subject::Files, files::ROWS),
-    (Subject::Maps, maps::ROWS),
-    (Subject::Records, records::ROWS),
-    (Subject::Pieces, pieces::ROWS),
-    (Subject::Trees, trees::ROWS),
-    (Subject::Climbs, climbs::ROWS),
-    (Subject::Words, words::ROWS),
-    (Subject::Operands, operands::ROWS),
-    (Subject::Generator, generator::ROWS),
+// The rows of each.
+const ROWS: &[(Cases, &str)] = &[
+    (Cases::CodePage, code_page::ROWS),
+    (Cases::Names, names::ROWS),
+    (Cases::Fields, fields::ROWS),
+    (Cases::Files, files::ROWS),
+    (Cases::Maps, maps::ROWS),
+    (Cases::Records, records::ROWS),
+    (Cases::Pieces, pieces::ROWS),
+    (Cases::Trees, trees::ROWS),
+    (Cases::Climbs, climbs::ROWS),
+    (Cases::Words, words::ROWS),
+    (Cases::Operands, operands::ROWS),
+    (Cases::Generator, generator::ROWS),
 ];
 
-fn answer(alloc: Global, subject: Subject, case: &str) -> Result<String, AllocError> {
-    match subject {
-        Subject::CodePage => code_page::answer(alloc, case),
-        Subject::Names => names::answer(alloc, case),
-        Subject::Fields => fields::answer(alloc, case),
-        Subject::Files => files::answer(alloc, case),
-        Subject::Maps => maps::answer(alloc, case),
-        Subject::Records => records::answer(alloc, case),
-        Subject::Pieces => pieces::answer(alloc, case),
-        Subject::Trees => trees::answer(alloc, case),
-        Subject::Climbs => climbs::answer(alloc, case),
-        Subject::Words => words::answer(alloc, case),
-        Subject::Operands => operands::answer(alloc, case),
-        Subject::Generator => generator::answer(alloc, case),
+impl Subject for Cases {
+    fn answer(&self, alloc: Global, case: &str) -> Result<String, AllocError> {
+        match self {
+            Cases::CodePage => code_page::answer(alloc, case),
+            Cases::Names => names::answer(alloc, case),
+            Cases::Fields => fields::answer(alloc, case),
+            Cases::Files => files::answer(alloc, case),
+            Cases::Maps => maps::answer(alloc, case),
+            Cases::Records => records::answer(alloc, case),
+            Cases::Pieces => pieces::answer(alloc, case),
+            Cases::Trees => trees::answer(alloc, case),
+            Cases::Climbs => climbs::answer(alloc, case),
+            Cases::Words => words::answer(alloc, case),
+            Cases::Operands => operands::answer(alloc, case),
+            Cases::Generator => generator::answer(alloc, case),
+        }
     }
 }
 
 #[test]
 fn cases_have_their_answers(rt: HostRuntime) -> Result<(), Fail> {
-    for (subject, rows) in ROWS {
-        for row in rows.lines() {
-            let (case, wanted) = row.split_once(" -> ").ok_or("no answer")?;
-            let found = answer(rt.alloc(), *subject, case)?;
-            assert_eq!(rt; found.as_str(), wanted, "{case}");
-        }
-    }
-    Ok(())
+    try_rows(rt.alloc(), ROWS)
 }

@@ -1,7 +1,7 @@
 // Trees that are written while their leaves are, beside those that `build` makes.
 ghost use Rattle.std.specs.Prelude.{◌≡◌, ◌⊎◌, ◌/◌, ◌<◌, ◌≤◌, length, None, IfOk};
 
-use crate::telling::{number, told, word};
+use cms_cases::{number, told, word};
 use cms_journal::BlockSize;
 use cms_tree::{Climb, Mark, build, shape};
 use cms_world::{Access, Failed, Unit, World};
@@ -12,18 +12,18 @@ use std::alloc::{AllocError, Global};
 /// `fails/COUNT`: the same where the write behind so many fails, of the first pointer block or of the root, which is the last: whether
 /// all were written, how many were, and how often a write failed.
 pub const ROWS: &str = "\
-climb/1/4 -> (true, true)
-climb/2/4 -> (true, true)
-climb/127/4 -> (true, true)
-climb/128/4 -> (true, true)
-climb/129/4 -> (true, true)
-climb/16385/4 -> (true, true)
-climb/42/12 -> (true, true)
-climb/43/12 -> (true, true)
-climb/1765/12 -> (true, true)
-order -> (true, 132, Some([136, 137, 1000000, 138, 1000001, 1000002]))
-fails/128 -> (false, 128, 1)
-fails/131 -> (false, 131, 1)";
+climb/1/4 => (true, true)
+climb/2/4 => (true, true)
+climb/127/4 => (true, true)
+climb/128/4 => (true, true)
+climb/129/4 => (true, true)
+climb/16385/4 => (true, true)
+climb/42/12 => (true, true)
+climb/43/12 => (true, true)
+climb/1765/12 => (true, true)
+order => (true, 132, Some([136, 137, 1000000, 138, 1000001, 1000002]))
+fails/128 => (false, 128, 1)
+fails/131 => (false, 131, 1)";
 
 // A world that tells nothing, and keeps the numbers and bytes of the blocks that are written. One of the writes fails.
 #[derive(Drop)]
@@ -223,8 +223,8 @@ fn fails(alloc: Global, failing: u32) -> Result<String, AllocError> {
 /// What a case comes to.
 pub fn answer(alloc: Global, case: &str) -> Result<String, AllocError> {
     match word(case, 0) {
-        "climb" => climb(alloc, number(case, 1), word(case, 2) == "12"),
+        "climb" => climb(alloc, number(word(case, 1)), word(case, 2) == "12"),
         "order" => order(alloc),
-        _ => fails(alloc, number(case, 1)),
+        _ => fails(alloc, number(word(case, 1))),
     }
 }

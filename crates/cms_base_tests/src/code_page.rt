@@ -1,89 +1,89 @@
 // Code page 037, by the manual's table.
-use crate::telling::{byte, told};
+use cms_cases::{byte, told};
 use cms_ebcdic::{fold_lower, fold_upper, from_host, to_host};
 use std::alloc::{AllocError, Global};
 
 /// A character and its code. `outside BYTE`: a byte of ASCII that has no code. `unused CODE`: a code that has no character.
 /// `capital of CODE CODE`: a small letter and its capital. `no letter CODE`: a code that doesn't fold.
 pub const ROWS: &str = "\
-. 4B -> true
-< 4C -> true
-( 4D -> true
-+ 4E -> true
-| 4F -> true
-& 50 -> true
-! 5A -> true
-$ 5B -> true
-* 5C -> true
-) 5D -> true
-; 5E -> true
-- 60 -> true
-/ 61 -> true
-, 6B -> true
-% 6C -> true
-_ 6D -> true
-> 6E -> true
-? 6F -> true
-` 79 -> true
-: 7A -> true
-# 7B -> true
-@ 7C -> true
-' 7D -> true
-= 7E -> true
-\" 7F -> true
-~ A1 -> true
-^ B0 -> true
-[ BA -> true
-] BB -> true
-{ C0 -> true
-} D0 -> true
-\\ E0 -> true
-A C1 -> true
-I C9 -> true
-J D1 -> true
-R D9 -> true
-S E2 -> true
-Z E9 -> true
-a 81 -> true
-i 89 -> true
-j 91 -> true
-r 99 -> true
-s A2 -> true
-z A9 -> true
-0 F0 -> true
-9 F9 -> true
-  40 -> true
-outside 00 -> true
-outside 09 -> true
-outside 0A -> true
-outside 0D -> true
-outside 1F -> true
-outside 7F -> true
-outside 80 -> true
-outside FF -> true
-unused 00 -> true
-unused 41 -> true
-unused 4A -> true
-unused 80 -> true
-unused 8A -> true
-unused CA -> true
-unused E1 -> true
-unused FA -> true
-unused FF -> true
-capital of 81 C1 -> true
-capital of 89 C9 -> true
-capital of 91 D1 -> true
-capital of 99 D9 -> true
-capital of A2 E2 -> true
-capital of A9 E9 -> true
-no letter 40 -> true
-no letter 80 -> true
-no letter 8A -> true
-no letter A1 -> true
-no letter C0 -> true
-no letter D0 -> true
-no letter E0 -> true
-no letter F5 -> true";
+. 4B => true
+< 4C => true
+( 4D => true
++ 4E => true
+| 4F => true
+& 50 => true
+! 5A => true
+$ 5B => true
+* 5C => true
+) 5D => true
+; 5E => true
+- 60 => true
+/ 61 => true
+, 6B => true
+% 6C => true
+_ 6D => true
+> 6E => true
+? 6F => true
+` 79 => true
+: 7A => true
+# 7B => true
+@ 7C => true
+' 7D => true
+= 7E => true
+\" 7F => true
+~ A1 => true
+^ B0 => true
+[ BA => true
+] BB => true
+{ C0 => true
+} D0 => true
+\\ E0 => true
+A C1 => true
+I C9 => true
+J D1 => true
+R D9 => true
+S E2 => true
+Z E9 => true
+a 81 => true
+i 89 => true
+j 91 => true
+r 99 => true
+s A2 => true
+z A9 => true
+0 F0 => true
+9 F9 => true
+  40 => true
+outside 00 => true
+outside 09 => true
+outside 0A => true
+outside 0D => true
+outside 1F => true
+outside 7F => true
+outside 80 => true
+outside FF => true
+unused 00 => true
+unused 41 => true
+unused 4A => true
+unused 80 => true
+unused 8A => true
+unused CA => true
+unused E1 => true
+unused FA => true
+unused FF => true
+capital of 81 C1 => true
+capital of 89 C9 => true
+capital of 91 D1 => true
+capital of 99 D9 => true
+capital of A2 E2 => true
+capital of A9 E9 => true
+no letter 40 => true
+no letter 80 => true
+no letter 8A => true
+no letter A1 => true
+no letter C0 => true
+no letter D0 => true
+no letter E0 => true
+no letter F5 => true";
 
 // Whether small letters fold to capitals, and back.
 fn folds(small: u8, capital: u8) -> bool {

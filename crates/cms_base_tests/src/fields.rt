@@ -1,5 +1,5 @@
 // Labels, entries, dates and moments with their answers, worked out by hand from the format's tables and the calendar.
-use crate::telling::{bytes_of, number, told, word};
+use cms_cases::{bytes_of, number, told, word};
 use cms_fields::{
     Entry, Label, Moment, Stamp, put_stamp, read_entry, read_label, write_entry, write_label,
 };
@@ -14,85 +14,85 @@ use std::alloc::{AllocError, Global};
 /// `label/SIZE/BLOCKS/EDIT/EDIT..`: what TEST01 with the edits is on a unit with blocks of this size and so many.
 /// `label is written/EDIT/EDIT..`: whether a label that is written over TEST01 is TEST01 with the edits.
 pub const ROWS: &str = "\
-moment/0/0 -> (1970, 1, 1, 0, 0, 0)
-moment/68169600/0 -> (1972, 2, 29, 0, 0, 0)
-moment/951782399/0 -> (2000, 2, 28, 23, 59, 59)
-moment/951782400/0 -> (2000, 2, 29, 0, 0, 0)
-moment/951868800/0 -> (2000, 3, 1, 0, 0, 0)
-moment/946684800/-3600 -> (1999, 12, 31, 23, 0, 0)
-moment/946684799/3600 -> (2000, 1, 1, 0, 59, 59)
-moment/2147483647/0 -> (2038, 1, 19, 3, 14, 7)
-moment/3981357296/0 -> (2096, 2, 29, 12, 34, 56)
-moment/-1/54000 -> (1970, 1, 1, 14, 59, 59)
-moment/-1/0 -> (1970, 1, 1, 0, 0, 0)
-moment/53999/-54000 -> (1970, 1, 1, 0, 0, 0)
-moment/-9223372036854775808/-54000 -> (1970, 1, 1, 0, 0, 0)
-moment/4102444799/0 -> (2099, 12, 31, 23, 59, 59)
-moment/4102444800/0 -> (2099, 12, 31, 23, 59, 59)
-moment/4102448399/-3600 -> (2099, 12, 31, 23, 59, 59)
-moment/9223372036854775807/54000 -> (2099, 12, 31, 23, 59, 59)
-stamp/1970 -> (70, true)
-stamp/1999 -> (99, true)
-stamp/2000 -> (0, true)
-stamp/2026 -> (26, true)
-stamp/2099 -> (99, true)
-entry -> true
-entry/54=00 02 29 00 00 00 -> false
-entry/54=04 02 29 00 00 00 -> false
-entry/54=99 12 31 23 59 59 -> false
-entry/54=01 02 29 00 00 00 -> Date
-entry/54=98 02 29 00 00 00 -> Date
-entry/54=00 02 30 00 00 00 -> Date
-entry/54=00 04 30 00 00 00 -> false
-entry/54=00 04 31 00 00 00 -> Date
-entry/54=00 12 32 00 00 00 -> Date
-entry/54=00 13 01 00 00 00 -> Date
-entry/54=00 00 01 00 00 00 -> Date
-entry/54=00 01 00 00 00 00 -> Date
-entry/54=00 01 01 24 00 00 -> Date
-entry/54=00 01 01 23 60 00 -> Date
-entry/54=00 01 01 23 59 60 -> Date
-entry/54=A0 01 01 00 00 00 -> Date
-entry/54=0A 01 01 00 00 00 -> Date
-entry/54=00 0A 01 00 00 00 -> Date
-entry/54=00 01 01 00 00 0F -> Date
-entry/0=00 -> Name
-entry/0=40 -> Name
-entry/1=40 -> Name
-entry/15=5C -> Name
-entry/25=F7 -> Mode
-entry/25=C1 -> Mode
-entry/30=40 -> Format
-entry/35=00 -> Length
-entry/33=01 -> Length
-entry/51=00 -> Counts
-entry/47=02 -> Counts
-entry/30=E5/47=00 -> Counts
-entry/52=01 -> Levels
-entry/30=E5/47=02 -> Levels
-entry/30=E5/47=02/52=01 -> PointerSize
-entry/55=13 -> Date
-entry/55=13/52=01/51=00 -> Counts
-entry/16=01/24=00/31=08/39=FF/63=FF -> true
-entry/53=63 -> true
-entry/30=E5/35=00 -> false
-entry/30=E5/47=02/52=01/53=0C -> false
-entry/34=00/50=01/49=00/47=03/51=2C/52=01 -> false
-entry is written -> true
-label/512/9 -> Ok(Label { volid: [227, 197, 226, 227, 240, 241], bsize: 512, origin: 4, blocks: 9, in_use: 7 })
-label/512/1048576 -> Ok(Label { volid: [227, 197, 226, 227, 240, 241], bsize: 512, origin: 4, blocks: 9, in_use: 7 })
-label/512/8 -> Err(Count)
-label/1024/9 -> Err(BlockSize)
-label/512/9/0=00 -> Err(Id)
-label/512/9/14=04 -> Err(BlockSize)
-label/512/9/19=06 -> Err(Origin)
-label/512/9/19=03 -> Err(Origin)
-label/512/9/31=0A -> Err(Count)
-label/512/9/31=05 -> Err(Count)
-label/512/9/39=20 -> Err(EntrySize)
-label/512/9/39=20/31=0A/19=06 -> Err(Origin)
-label is written/4=D5 C5 E6 F0 F0 F2/19=05/32=01 02 03 04 -> true
-label/512/9/4=D5 C5 E6 F0 F0 F2/19=05/32=01 02 03 04 -> \
+moment/0/0 => (1970, 1, 1, 0, 0, 0)
+moment/68169600/0 => (1972, 2, 29, 0, 0, 0)
+moment/951782399/0 => (2000, 2, 28, 23, 59, 59)
+moment/951782400/0 => (2000, 2, 29, 0, 0, 0)
+moment/951868800/0 => (2000, 3, 1, 0, 0, 0)
+moment/946684800/-3600 => (1999, 12, 31, 23, 0, 0)
+moment/946684799/3600 => (2000, 1, 1, 0, 59, 59)
+moment/2147483647/0 => (2038, 1, 19, 3, 14, 7)
+moment/3981357296/0 => (2096, 2, 29, 12, 34, 56)
+moment/-1/54000 => (1970, 1, 1, 14, 59, 59)
+moment/-1/0 => (1970, 1, 1, 0, 0, 0)
+moment/53999/-54000 => (1970, 1, 1, 0, 0, 0)
+moment/-9223372036854775808/-54000 => (1970, 1, 1, 0, 0, 0)
+moment/4102444799/0 => (2099, 12, 31, 23, 59, 59)
+moment/4102444800/0 => (2099, 12, 31, 23, 59, 59)
+moment/4102448399/-3600 => (2099, 12, 31, 23, 59, 59)
+moment/9223372036854775807/54000 => (2099, 12, 31, 23, 59, 59)
+stamp/1970 => (70, true)
+stamp/1999 => (99, true)
+stamp/2000 => (0, true)
+stamp/2026 => (26, true)
+stamp/2099 => (99, true)
+entry => true
+entry/54=00 02 29 00 00 00 => false
+entry/54=04 02 29 00 00 00 => false
+entry/54=99 12 31 23 59 59 => false
+entry/54=01 02 29 00 00 00 => Date
+entry/54=98 02 29 00 00 00 => Date
+entry/54=00 02 30 00 00 00 => Date
+entry/54=00 04 30 00 00 00 => false
+entry/54=00 04 31 00 00 00 => Date
+entry/54=00 12 32 00 00 00 => Date
+entry/54=00 13 01 00 00 00 => Date
+entry/54=00 00 01 00 00 00 => Date
+entry/54=00 01 00 00 00 00 => Date
+entry/54=00 01 01 24 00 00 => Date
+entry/54=00 01 01 23 60 00 => Date
+entry/54=00 01 01 23 59 60 => Date
+entry/54=A0 01 01 00 00 00 => Date
+entry/54=0A 01 01 00 00 00 => Date
+entry/54=00 0A 01 00 00 00 => Date
+entry/54=00 01 01 00 00 0F => Date
+entry/0=00 => Name
+entry/0=40 => Name
+entry/1=40 => Name
+entry/15=5C => Name
+entry/25=F7 => Mode
+entry/25=C1 => Mode
+entry/30=40 => Format
+entry/35=00 => Length
+entry/33=01 => Length
+entry/51=00 => Counts
+entry/47=02 => Counts
+entry/30=E5/47=00 => Counts
+entry/52=01 => Levels
+entry/30=E5/47=02 => Levels
+entry/30=E5/47=02/52=01 => PointerSize
+entry/55=13 => Date
+entry/55=13/52=01/51=00 => Counts
+entry/16=01/24=00/31=08/39=FF/63=FF => true
+entry/53=63 => true
+entry/30=E5/35=00 => false
+entry/30=E5/47=02/52=01/53=0C => false
+entry/34=00/50=01/49=00/47=03/51=2C/52=01 => false
+entry is written => true
+label/512/9 => Ok(Label { volid: [227, 197, 226, 227, 240, 241], bsize: 512, origin: 4, blocks: 9, in_use: 7 })
+label/512/1048576 => Ok(Label { volid: [227, 197, 226, 227, 240, 241], bsize: 512, origin: 4, blocks: 9, in_use: 7 })
+label/512/8 => Err(Count)
+label/1024/9 => Err(BlockSize)
+label/512/9/0=00 => Err(Id)
+label/512/9/14=04 => Err(BlockSize)
+label/512/9/19=06 => Err(Origin)
+label/512/9/19=03 => Err(Origin)
+label/512/9/31=0A => Err(Count)
+label/512/9/31=05 => Err(Count)
+label/512/9/39=20 => Err(EntrySize)
+label/512/9/39=20/31=0A/19=06 => Err(Origin)
+label is written/4=D5 C5 E6 F0 F0 F2/19=05/32=01 02 03 04 => true
+label/512/9/4=D5 C5 E6 F0 F0 F2/19=05/32=01 02 03 04 => \
 Ok(Label { volid: [213, 197, 230, 240, 240, 242], bsize: 512, origin: 5, blocks: 9, in_use: 16909060 })";
 
 // The entry of HELLO TEXT A1: two F records of 5 bytes in block 7, written 2000-01-01 00:00:00.
@@ -216,9 +216,9 @@ fn entry_is_written(alloc: Global) -> Result<String, AllocError> {
 
 fn label(alloc: Global, case: &str) -> Result<String, AllocError> {
     let bytes = edited(alloc, TEST01, case)?;
-    match BlockSize::of(number(case, 1)) {
+    match BlockSize::of(number(word(case, 1))) {
         Some(bsize) if bytes.len() >= 80 => {
-            told(alloc, &read_label(&bytes, bsize, number(case, 2)))
+            told(alloc, &read_label(&bytes, bsize, number(word(case, 2))))
         }
         _ => told(alloc, &"short"),
     }
@@ -243,7 +243,7 @@ fn label_is_written(alloc: Global, case: &str) -> Result<String, AllocError> {
 pub fn answer(alloc: Global, case: &str) -> Result<String, AllocError> {
     match word(case, 0) {
         "moment" => moment(alloc, case),
-        "stamp" => stamp(alloc, number(case, 1)),
+        "stamp" => stamp(alloc, number(word(case, 1))),
         "entry" => entry(alloc, case),
         "entry is written" => entry_is_written(alloc),
         "label" => label(alloc, case),

@@ -1,17 +1,17 @@
 // Scripts of known seeds.
-use crate::telling::number;
+use cms_cases::{number, word};
 use cms_generator::script;
 use std::alloc::{AllocError, Global};
 
 /// Lines of scripts: the seed, and the place of the line, from 0.
 pub const ROWS: &str = "\
-1/4 -> EXECIO 1 DISKW GEN EXEC A (STRING &LOOP 4 127
-1/6 -> EXECIO 1 DISKW GEN EXEC A (STRING EXECIO 59 DISKW F&I DATA A (STRING RECORD &I OF THE RUN
-2/0 -> FORMAT 191 A
-2/4 -> EXECIO 1 DISKW GEN EXEC A (STRING &LOOP 4 52
-2/6 -> EXECIO 1 DISKW GEN EXEC A (STRING EXECIO 18 DISKW F&I DATA A (STRING RECORD &I OF THE RUN
-2/10 -> QUERY DISK A
-2/11 -> ";
+1/4 => EXECIO 1 DISKW GEN EXEC A (STRING &LOOP 4 127
+1/6 => EXECIO 1 DISKW GEN EXEC A (STRING EXECIO 59 DISKW F&I DATA A (STRING RECORD &I OF THE RUN
+2/0 => FORMAT 191 A
+2/4 => EXECIO 1 DISKW GEN EXEC A (STRING &LOOP 4 52
+2/6 => EXECIO 1 DISKW GEN EXEC A (STRING EXECIO 18 DISKW F&I DATA A (STRING RECORD &I OF THE RUN
+2/10 => QUERY DISK A
+2/11 => ";
 
 fn line(script: &[u8], place: u32) -> &str {
     match str::from_utf8(script) {
@@ -22,6 +22,6 @@ fn line(script: &[u8], place: u32) -> &str {
 
 /// The line.
 pub fn answer(alloc: Global, case: &str) -> Result<String, AllocError> {
-    let script = script(alloc, number(case, 0))?;
-    String::from_str(alloc, line(&script, number(case, 1)))
+    let script = script(alloc, number(word(case, 0)))?;
+    String::from_str(alloc, line(&script, number(word(case, 1))))
 }

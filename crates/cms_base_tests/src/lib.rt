@@ -24,8 +24,6 @@ mod pieces;
 #[cfg(test)]
 mod records;
 #[cfg(test)]
-mod telling;
-#[cfg(test)]
 mod trees;
 #[cfg(test)]
 mod words;

@@ -1,5 +1,5 @@
 // The map of a small volume, through all its calls.
-use crate::telling::{number, told, word};
+use cms_cases::{number, told, word};
 use cms_map::Map;
 use std::alloc::{AllocError, Global};
 
@@ -8,22 +8,22 @@ use std::alloc::{AllocError, Global};
 /// `released`: how many of ten are free where blocks 6 and 10 are released, and whether blocks 6 and 7 are used.
 /// `bytes/BYTES/BLOCKS/FROM/GIVEN`: whether a map of so many blocks that is made of three bytes gives these three from a place on.
 pub const ROWS: &str = "\
-used/1 -> true
-used/2 -> true
-used/3 -> true
-used/4 -> true
-used/5 -> true
-used/6 -> true
-used/7 -> false
-used/8 -> false
-used/9 -> true
-taken -> (2, true, 0, false, [7, 8])
-released -> (2, false, true)
-bytes/FC8000/9/0/FC8000 -> true
-bytes/00FFFF/12/0/F8F000 -> true
-bytes/00FFFF/24/1/FFFF00 -> true
-bytes/FFFFFF/3/0/E00000 -> true
-bytes/FFFFFF/24/4294967295/000000 -> true";
+used/1 => true
+used/2 => true
+used/3 => true
+used/4 => true
+used/5 => true
+used/6 => true
+used/7 => false
+used/8 => false
+used/9 => true
+taken => (2, true, 0, false, [7, 8])
+released => (2, false, true)
+bytes/FC8000/9/0/FC8000 => true
+bytes/00FFFF/12/0/F8F000 => true
+bytes/00FFFF/24/1/FFFF00 => true
+bytes/FFFFFF/3/0/E00000 => true
+bytes/FFFFFF/24/4294967295/000000 => true";
 
 fn used(alloc: Global, block: u32) -> Result<String, AllocError> {
     let map = Map::of_bytes(alloc, &[0xFC, 0x80], 9)?;
@@ -55,16 +55,16 @@ fn three(digits: &str) -> [u8; 3] {
 }
 
 fn given(alloc: Global, case: &str) -> Result<String, AllocError> {
-    let map = Map::of_bytes(alloc, &three(word(case, 1)), number(case, 2).min(24))?;
+    let map = Map::of_bytes(alloc, &three(word(case, 1)), number(word(case, 2)).min(24))?;
     let mut into = [7; 3];
-    map.clone()?.put_bytes(number(case, 3), &mut into);
+    map.clone()?.put_bytes(number(word(case, 3)), &mut into);
     told(alloc, &(into == three(word(case, 4))))
 }
 
 /// What a case comes to.
 pub fn answer(alloc: Global, case: &str) -> Result<String, AllocError> {
     match word(case, 0) {
-        "used" => used(alloc, number(case, 1)),
+        "used" => used(alloc, number(word(case, 1))),
         "taken" => taken(alloc),
         "released" => released(alloc),
         _ => given(alloc, case),

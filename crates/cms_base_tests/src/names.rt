@@ -1,5 +1,5 @@
 // Words and what they spell, as the manuals' examples and the product's own rules have them.
-use crate::telling::{byte, host, told, word};
+use cms_cases::{ascii, byte, told, word};
 use cms_names::{ModeWord, Name, NameFault, OutId, Part, Pattern, equal_signs, is_name_character};
 use cms_text::{ebcdic, without_trailing_blanks};
 use std::alloc::{AllocError, Global};
@@ -8,83 +8,83 @@ use std::alloc::{AllocError, Global};
 /// `character/CODE`: whether the code is that of a name character. `pattern/PATTERN/PART`: whether the pattern fits the part.
 /// `mode/WORD`: what the word is as a mode. `output/WORD/WORD`: the name that they make of the name A B.
 pub const ROWS: &str = "\
-part/A -> A
-part/$_0 -> $_0
-part/ABABABAB -> ABABABAB
-part/ -> Empty
-part/********* -> TooLong
-part/* -> BadChar(0)
-part/Aa  -> BadChar(1)
-part/ABABABA= -> BadChar(7)
-filled/AB -> [193, 194, 64, 64, 64, 64, 64, 64]
-same/AB/AB -> true
-character/5B -> true
-character/7B -> true
-character/7C -> true
-character/4E -> true
-character/60 -> true
-character/7A -> true
-character/6D -> true
-character/C1 -> true
-character/D9 -> true
-character/E2 -> true
-character/F9 -> true
-character/00 -> false
-character/40 -> false
-character/5C -> false
-character/6C -> false
-character/7E -> false
-character/81 -> false
-character/C0 -> false
-character/CA -> false
-character/E1 -> false
-character/FA -> false
-pattern/A%*/A -> Ok(false)
-pattern/A%*/AB -> Ok(true)
-pattern/A%*/ABXZ -> Ok(true)
-pattern/A%*/BB -> Ok(false)
-pattern/*A*B/AB -> Ok(true)
-pattern/*A*B/XAAXBB -> Ok(true)
-pattern/*A*B/BA -> Ok(false)
-pattern/*A*B/ABA -> Ok(false)
-pattern/%/Z -> Ok(true)
-pattern/%/ZZ -> Ok(false)
-pattern/*/ABABABAB -> Ok(true)
-pattern/****/A -> Ok(true)
-pattern/A*/A -> Ok(true)
-pattern/AB/AB -> Ok(true)
-pattern/AB/A -> Ok(false)
-pattern/A/AB -> Ok(false)
-pattern/%%*/A -> Ok(false)
-pattern//A -> Err(Empty)
-pattern/%%%%%%%%%/A -> Err(TooLong)
-pattern/*=/A -> Err(BadChar(1))
-pattern/a/A -> Err(BadChar(0))
-mode/* -> Some(Any)
-mode/= -> Some(Same)
-mode/A -> Some(Letter(0))
-mode/J -> Some(Letter(9))
-mode/S -> Some(Letter(18))
-mode/Z -> Some(Letter(25))
-mode/B0 -> Some(Numbered(1, 0))
-mode/Z6 -> Some(Numbered(25, 6))
-mode/A7 -> None
-mode/ -> None
-mode/*0 -> None
-mode/a -> None
-mode/A00 -> None
-output/=/= -> A       B
-output/=/A -> A       A
-output/B/= -> B       B
-output/B/A -> B       A
-output//* -> Empty
-output/A/A* -> BadChar(1)
-output/==/ -> BadChar(0)";
+part/A => A
+part/$_0 => $_0
+part/ABABABAB => ABABABAB
+part/ => Empty
+part/********* => TooLong
+part/* => BadChar(0)
+part/Aa  => BadChar(1)
+part/ABABABA= => BadChar(7)
+filled/AB => [193, 194, 64, 64, 64, 64, 64, 64]
+same/AB/AB => true
+character/5B => true
+character/7B => true
+character/7C => true
+character/4E => true
+character/60 => true
+character/7A => true
+character/6D => true
+character/C1 => true
+character/D9 => true
+character/E2 => true
+character/F9 => true
+character/00 => false
+character/40 => false
+character/5C => false
+character/6C => false
+character/7E => false
+character/81 => false
+character/C0 => false
+character/CA => false
+character/E1 => false
+character/FA => false
+pattern/A%*/A => Ok(false)
+pattern/A%*/AB => Ok(true)
+pattern/A%*/ABXZ => Ok(true)
+pattern/A%*/BB => Ok(false)
+pattern/*A*B/AB => Ok(true)
+pattern/*A*B/XAAXBB => Ok(true)
+pattern/*A*B/BA => Ok(false)
+pattern/*A*B/ABA => Ok(false)
+pattern/%/Z => Ok(true)
+pattern/%/ZZ => Ok(false)
+pattern/*/ABABABAB => Ok(true)
+pattern/****/A => Ok(true)
+pattern/A*/A => Ok(true)
+pattern/AB/AB => Ok(true)
+pattern/AB/A => Ok(false)
+pattern/A/AB => Ok(false)
+pattern/%%*/A => Ok(false)
+pattern//A => Err(Empty)
+pattern/%%%%%%%%%/A => Err(TooLong)
+pattern/*=/A => Err(BadChar(1))
+pattern/a/A => Err(BadChar(0))
+mode/* => Some(Any)
+mode/= => Some(Same)
+mode/A => Some(Letter(0))
+mode/J => Some(Letter(9))
+mode/S => Some(Letter(18))
+mode/Z => Some(Letter(25))
+mode/B0 => Some(Numbered(1, 0))
+mode/Z6 => Some(Numbered(25, 6))
+mode/A7 => None
+mode/ => None
+mode/*0 => None
+mode/a => None
+mode/A00 => None
+output/=/= => A       B
+output/=/A => A       A
+output/B/= => B       B
+output/B/A => B       A
+output//* => Empty
+output/A/A* => BadChar(1)
+output/==/ => BadChar(0)";
 
 // What a word is as a part.
 fn part(alloc: Global, text: &[u8]) -> Result<String, AllocError> {
     match Part::read(text) {
-        Ok(part) => host(alloc, part.as_bytes()),
+        Ok(part) => ascii(alloc, part.as_bytes()),
         Err(fault) => told(alloc, &fault),
     }
 }
@@ -122,7 +122,7 @@ fn parts(name: &Name) -> [u8; 16] {
 // The name that an output makes of the name A B, as it is written.
 fn made(alloc: Global, to: &OutId) -> Result<String, AllocError> {
     match name() {
-        Ok(from) => host(
+        Ok(from) => ascii(
             alloc,
             without_trailing_blanks(&parts(&equal_signs(&from, to))),
         ),

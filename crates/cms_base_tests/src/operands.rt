@@ -1,6 +1,6 @@
 // Lines of a command with a name, a mode and a number, and what is typed where they are refused; written by hand from the manual's
 // order of refusals.
-use crate::telling::{host, told};
+use cms_cases::{ascii, told};
 use cms_line::{Line, Message, Tokens, tokens, write_message};
 use cms_operands::{
     ChosenOptions, CommandFault, OptionForm, Parameter, Refusal, access_mode, chosen_options,
@@ -15,66 +15,66 @@ use std::alloc::{AllocError, Global};
 /// `command/WORD`: the command that the word names. `KIND/WORD`: what the word is, read by its kind.
 /// `last/LINE`: the last of the line's options that are LRECL, and of those that are FILL or COL.
 pub const ROWS: &str = "\
-line/X Y A 100 -> []
-line/X Y A 007 ( -> []
-line/x y b2 1 (ty lr 080 rec v fi 40 col 2-14) -> [ChosenOption { nth: 0, setting: Nothing }, \
+line/X Y A 100 => []
+line/X Y A 007 ( => []
+line/x y b2 1 (ty lr 080 rec v fi 40 col 2-14) => [ChosenOption { nth: 0, setting: Nothing }, \
 ChosenOption { nth: 1, setting: Number(80) }, ChosenOption { nth: 2, setting: Format(V) }, \
 ChosenOption { nth: 3, setting: Byte(64) }, ChosenOption { nth: 4, setting: Columns(2, 14) }]
-line/X Y! B9 0 -> CMS062E Name Y! is not valid 20
-line/X Y B9 0 -> CMS048E Mode B9 is not valid 24
-line/X Y B 0 -> CMS070E Operand 0 is not valid 24
-line/X Y B 1000000000 -> CMS070E Operand 1000000000 is not valid 24
-line/X Y B 1 Z (BLUE -> CMS070E Operand Z is not valid 24
-line/X Y B9 (BLUE -> CMS048E Mode B9 is not valid 24
-line/X Y B (BLUE -> CMS054E Operand is missing 24
-line/X -> CMS054E Operand is missing 24
-line/X Y ) 1 -> CMS048E Mode ) is not valid 24
-line/X Y A 1 (BLUE LRECL 0 -> CMS003E Option BLUE is not valid 24
-line/X Y A 1 (LRECL 0 BLUE -> CMS029E Parameter 0 of option LRECL is not valid 24
-line/X Y A 1 (LR 0 LRECL 80 -> CMS029E Parameter 0 of option LR is not valid 24
-line/X Y A 1 (COL 3-2 REC X -> CMS029E Parameter 3-2 of option COL is not valid 24
-line/X Y A 1 (FI AB LRECL -> CMS054E Operand is missing 24
-line/X Y A 1 (LRECL ) -> CMS054E Operand is missing 24
-line/X Y A 1 (LRECL ( -> CMS029E Parameter ( of option LRECL is not valid 24
-line/X Y A 1 (TYPE ( -> CMS003E Option ( is not valid 24
-line/X Y A 1 (T -> CMS003E Option T is not valid 24
-line/X Y A 1 (TYPE) Z -> CMS070E Operand Z is not valid 24
-command/A -> None
-command/AC -> Some(Access)
-command/RE -> Some(Rename)
-command/REL -> Some(Release)
-command/FORMA -> None
-command/FORMAT -> Some(Format)
-command/Q -> Some(Query)
-command/L -> Some(Listfile)
-command/COP -> None
-command/COPY -> Some(Copyfile)
-command/ERA -> Some(Erase)
-command/T -> Some(TypeFile)
-command/STATE -> Some(State)
-command/EXECI -> None
-command/EXECIO -> Some(Execio)
-command/EX -> Some(Exec)
-command/EXECUTE -> None
-command/ -> None
-name or all/* -> Ok(None)
-name or all/= -> Err(BadName(1))
-name or same/= -> Ok(None)
-pattern/* -> true
-reading mode/* -> Ok(Any)
-reading mode/= -> Err(BadMode(3))
-writing mode/* -> Err(BadMode(3))
-output mode/A1 -> Ok(Some(WriteMode { letter: 0, number: Some(1) }))
-output mode/= -> Ok(None)
-letter or all/* -> Ok(None)
-letter or all/A1 -> Err(BadMode(2))
-number or all/* -> Ok(None)
-device or letter/A1 -> Err(BadOperand(1))
-device or letter/* -> Err(BadMode(1))
-device or letter/1AF -> Ok(Device(431))
-access mode/B/A -> Ok(AccessMode { letter: 1, ext: Some(0) })
-access mode/A1 -> Err(BadMode(2))
-last/X (LR 1 TYPE LR 2 REC F -> (Some(ChosenOption { nth: 1, setting: Number(2) }), None)";
+line/X Y! B9 0 => CMS062E Name Y! is not valid 20
+line/X Y B9 0 => CMS048E Mode B9 is not valid 24
+line/X Y B 0 => CMS070E Operand 0 is not valid 24
+line/X Y B 1000000000 => CMS070E Operand 1000000000 is not valid 24
+line/X Y B 1 Z (BLUE => CMS070E Operand Z is not valid 24
+line/X Y B9 (BLUE => CMS048E Mode B9 is not valid 24
+line/X Y B (BLUE => CMS054E Operand is missing 24
+line/X => CMS054E Operand is missing 24
+line/X Y ) 1 => CMS048E Mode ) is not valid 24
+line/X Y A 1 (BLUE LRECL 0 => CMS003E Option BLUE is not valid 24
+line/X Y A 1 (LRECL 0 BLUE => CMS029E Parameter 0 of option LRECL is not valid 24
+line/X Y A 1 (LR 0 LRECL 80 => CMS029E Parameter 0 of option LR is not valid 24
+line/X Y A 1 (COL 3-2 REC X => CMS029E Parameter 3-2 of option COL is not valid 24
+line/X Y A 1 (FI AB LRECL => CMS054E Operand is missing 24
+line/X Y A 1 (LRECL ) => CMS054E Operand is missing 24
+line/X Y A 1 (LRECL ( => CMS029E Parameter ( of option LRECL is not valid 24
+line/X Y A 1 (TYPE ( => CMS003E Option ( is not valid 24
+line/X Y A 1 (T => CMS003E Option T is not valid 24
+line/X Y A 1 (TYPE) Z => CMS070E Operand Z is not valid 24
+command/A => None
+command/AC => Some(Access)
+command/RE => Some(Rename)
+command/REL => Some(Release)
+command/FORMA => None
+command/FORMAT => Some(Format)
+command/Q => Some(Query)
+command/L => Some(Listfile)
+command/COP => None
+command/COPY => Some(Copyfile)
+command/ERA => Some(Erase)
+command/T => Some(TypeFile)
+command/STATE => Some(State)
+command/EXECI => None
+command/EXECIO => Some(Execio)
+command/EX => Some(Exec)
+command/EXECUTE => None
+command/ => None
+name or all/* => Ok(None)
+name or all/= => Err(BadName(1))
+name or same/= => Ok(None)
+pattern/* => true
+reading mode/* => Ok(Any)
+reading mode/= => Err(BadMode(3))
+writing mode/* => Err(BadMode(3))
+output mode/A1 => Ok(Some(WriteMode { letter: 0, number: Some(1) }))
+output mode/= => Ok(None)
+letter or all/* => Ok(None)
+letter or all/A1 => Err(BadMode(2))
+number or all/* => Ok(None)
+device or letter/A1 => Err(BadOperand(1))
+device or letter/* => Err(BadMode(1))
+device or letter/1AF => Ok(Device(431))
+access mode/B/A => Ok(AccessMode { letter: 1, ext: Some(0) })
+access mode/A1 => Err(BadMode(2))
+last/X (LR 1 TYPE LR 2 REC F => (Some(ChosenOption { nth: 1, setting: Number(2) }), None)";
 
 const A: u8 = 0xC1;
 
@@ -108,7 +108,7 @@ fn read(alloc: Global, words: &Tokens) -> Result<ChosenOptions, CommandFault> {
 fn text_of(alloc: Global, message: &Message) -> Result<String, AllocError> {
     let mut text = Vec::new(alloc);
     write_message(&mut text, message)?;
-    host(alloc, &text)
+    ascii(alloc, &text)
 }
 
 // What is typed.

@@ -1,5 +1,5 @@
 // Records whose bytes come in pieces.
-use crate::telling::{bytes_of, number, told, word};
+use cms_cases::{bytes_of, number, told, word};
 use cms_journal::BlockSize;
 use cms_records::{Fed, RecordState, VarFault, VarScan, VarSizes};
 use std::alloc::{AllocError, Global};
@@ -7,16 +7,16 @@ use std::alloc::{AllocError, Global};
 /// `varying`, `long`, `fixed`: how far the last piece is fed, or the fault.
 /// `sizes/COUNT/PIECE/PIECE`: the sizes of so many records in two pieces, which stand in whole blocks of 512 bytes.
 pub const ROWS: &str = "\
-varying -> Err(Zero(8))
-long -> Err(PastEnd(0))
-fixed -> Ok(Fed { next: 3, whole: false })
-sizes/2/00 03 C1 C2 C3 00 01 C4 -> Ok(VarSizes { longest: 3, stored: 8 })
-sizes/2/00 03 C1 C2 C3 00/01 C4 -> Ok(VarSizes { longest: 3, stored: 8 })
-sizes/2/00/03 C1 C2 C3 00 01 C4 -> Ok(VarSizes { longest: 3, stored: 8 })
-sizes/3/00 03 C1 C2 C3 00 01 C4 -> Err(PastEnd(8))
-sizes/3/00 03 C1 C2 C3 00 01 C4/00 00 -> Err(Zero(8))
-sizes/3/00 03 C1 C2 C3 00 01 C4/00 09 C1 -> Err(PastEnd(8))
-sizes/2/00 03 C1 C2 C3 00 01 C4/512 zeros -> Err(Left(8))";
+varying => Err(Zero(8))
+long => Err(PastEnd(0))
+fixed => Ok(Fed { next: 3, whole: false })
+sizes/2/00 03 C1 C2 C3 00 01 C4 => Ok(VarSizes { longest: 3, stored: 8 })
+sizes/2/00 03 C1 C2 C3 00/01 C4 => Ok(VarSizes { longest: 3, stored: 8 })
+sizes/2/00/03 C1 C2 C3 00 01 C4 => Ok(VarSizes { longest: 3, stored: 8 })
+sizes/3/00 03 C1 C2 C3 00 01 C4 => Err(PastEnd(8))
+sizes/3/00 03 C1 C2 C3 00 01 C4/00 00 => Err(Zero(8))
+sizes/3/00 03 C1 C2 C3 00 01 C4/00 09 C1 => Err(PastEnd(8))
+sizes/2/00 03 C1 C2 C3 00 01 C4/512 zeros => Err(Left(8))";
 
 // Records of 3 bytes and of 1, of which the second length is cut, and one of no bytes.
 fn varying(alloc: Global) -> Result<String, AllocError> {
@@ -93,7 +93,7 @@ fn piece(alloc: Global, text: &str) -> Result<Vec<u8>, AllocError> {
 fn sizes_told(alloc: Global, case: &str) -> Result<String, AllocError> {
     let first = piece(alloc, word(case, 2))?;
     let second = piece(alloc, word(case, 3))?;
-    told(alloc, &sizes(number(case, 1), &first, &second))
+    told(alloc, &sizes(number(word(case, 1)), &first, &second))
 }
 
 /// What a case comes to.

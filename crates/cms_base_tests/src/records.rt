@@ -1,5 +1,5 @@
 // Records in bytes, through all the calls.
-use crate::telling::{bytes_of, number, told, word};
+use cms_cases::{bytes_of, number, told, word};
 use cms_journal::BlockSize;
 use cms_records::{FixedView, VarFault, VarView, fit, put_var, var_check};
 use std::alloc::{AllocError, Global};
@@ -8,20 +8,20 @@ use std::alloc::{AllocError, Global};
 /// zeros. `put`: how many bytes two records have that are put, and some of these; `read`: the longest of them, the first one's length, the
 /// second, and what comes behind it twice. `cut`: two records of one length. `fitted`: a text that is fitted to the sizes 0, 2, 3 and 5.
 pub const ROWS: &str = "\
-bytes/2/00 05 C8 C5 D3 D3 D6 00 01 C1 -> Ok(5)
-bytes/1/00 05 C8 C5 D3 D3 D6 00 01 C1 -> Ok(5)
-zeros/511 -> Ok(0)
-zeros/512 -> Err(Left(0))
-bytes/3/00 05 C8 C5 D3 D3 D6 00 01 C1 -> Err(PastEnd(10))
-bytes/1/C1 -> Err(PastEnd(0))
-bytes/1/05 C8 C5 D3 D3 D6 00 01 C1 -> Err(PastEnd(0))
-bytes/1/D3 D6 00 01 C1 -> Err(PastEnd(0))
-bytes/2/00 01 C1 00 00 00 -> Err(Zero(3))
-bytes/2/00 01 C1 00 -> Err(PastEnd(3))
-put -> (516, Some([1, 253]), Some([0, 3, 201, 209, 210]))
-read -> (Ok(509), 509, Some([201, 209, 210]), None, None)
-cut -> ([1, 2, 3], [4, 5, 6])
-fitted -> [7, 8, 7, 8, 9, 7, 8, 9, 64, 64]";
+bytes/2/00 05 C8 C5 D3 D3 D6 00 01 C1 => Ok(5)
+bytes/1/00 05 C8 C5 D3 D3 D6 00 01 C1 => Ok(5)
+zeros/511 => Ok(0)
+zeros/512 => Err(Left(0))
+bytes/3/00 05 C8 C5 D3 D3 D6 00 01 C1 => Err(PastEnd(10))
+bytes/1/C1 => Err(PastEnd(0))
+bytes/1/05 C8 C5 D3 D3 D6 00 01 C1 => Err(PastEnd(0))
+bytes/1/D3 D6 00 01 C1 => Err(PastEnd(0))
+bytes/2/00 01 C1 00 00 00 => Err(Zero(3))
+bytes/2/00 01 C1 00 => Err(PastEnd(3))
+put => (516, Some([1, 253]), Some([0, 3, 201, 209, 210]))
+read => (Ok(509), 509, Some([201, 209, 210]), None, None)
+cut => ([1, 2, 3], [4, 5, 6])
+fitted => [7, 8, 7, 8, 9, 7, 8, 9, 64, 64]";
 
 // Two records whose second length spans two blocks of 512 bytes.
 fn two_records(alloc: Global) -> Result<Vec<u8>, AllocError> {
@@ -74,7 +74,7 @@ fn longest(bytes: &[u8], count: u32) -> Result<u32, VarFault> {
 
 fn longest_told(alloc: Global, case: &str) -> Result<String, AllocError> {
     let bytes = bytes_of(alloc, word(case, 2))?;
-    told(alloc, &longest(&bytes, number(case, 1)))
+    told(alloc, &longest(&bytes, number(word(case, 1))))
 }
 
 fn none_in_zeros(alloc: Global, count: u32) -> Result<String, AllocError> {
@@ -90,7 +90,7 @@ pub fn answer(alloc: Global, case: &str) -> Result<String, AllocError> {
         "read" => read(alloc),
         "fitted" => fitted(alloc),
         "cut" => cut(alloc),
-        "zeros" => none_in_zeros(alloc, number(case, 1)),
+        "zeros" => none_in_zeros(alloc, number(word(case, 1))),
         _ => longest_told(alloc, case),
     }
 }

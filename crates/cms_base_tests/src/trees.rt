@@ -3,7 +3,7 @@ ghost use Rattle.std.specs.Prelude.{◌≡◌, ◌≤◌, IfSome};
 ghost use Rattle.cms_journal.specs.Journal.{HasBlocks};
 ghost use Rattle.cms_world.specs.Mem.{journal_of};
 
-use crate::telling::{number, told, word};
+use cms_cases::{number, told, word};
 use cms_journal::BlockSize;
 use cms_tree::{Mark, TreeAt, build, leaves, shape};
 use cms_world::{Access, MemWorld, Unit, World};
@@ -16,23 +16,23 @@ use std::alloc::{AllocError, Global};
 /// number, how many numbers there are, and whether they are as they were built; and how many calls there were, of which the first
 /// attaches the unit and the others read blocks.
 pub const ROWS: &str = "\
-shape/1/128 -> Shape { levels: 0, pointers: 0 }
-shape/128/128 -> Shape { levels: 1, pointers: 1 }
-shape/129/128 -> Shape { levels: 2, pointers: 3 }
-shape/42/42 -> Shape { levels: 1, pointers: 1 }
-shape/43/42 -> Shape { levels: 2, pointers: 3 }
-shape/16385/128 -> Shape { levels: 3, pointers: 132 }
-shape/4294967295/2 -> Shape { levels: 32, pointers: 4294967295 }
-marks -> (Some([0, 0, 0, 7, 0, 0, 0, 2, 0, 0, 0, 0, 0, 0, 0, 8, 0, 0, 0, 2, 255, 255, 255, 255]), true)
-tree/51/43/4/0 -> (Ok(()), [1, 51, 49, 50], Some(2), 44, true, 4)
-tree/49/42/4/0 -> (Ok(()), [1, 49], Some(2), 43, true, 2)
-tree/4/1/4/0 -> (Ok(()), [1], Some(2), 2, true, 1)
-tree/51/43/-/0 -> (Err(Pointer { holder: 49, value: 4 }), [1], Some(2), 1, true, 3)
-tree/51/43/7/0 -> (Err(Pointer { holder: 49, value: 4 }), [1], Some(2), 1, true, 3)
-tree/52/43/4/0 -> (Err(Pointer { holder: 3, value: 52 }), [1], Some(2), 1, true, 1)
-tree/5/43/4/0 -> (Err(Pointer { holder: 3, value: 5 }), [1], Some(2), 1, true, 1)
-tree/51/44/4/0 -> (Err(Pointer { holder: 50, value: 0 }), [1], Some(2), 1, true, 4)
-tree/51/43/4/3 -> (Err(Device), [1], Some(2), 1, true, 3)";
+shape/1/128 => Shape { levels: 0, pointers: 0 }
+shape/128/128 => Shape { levels: 1, pointers: 1 }
+shape/129/128 => Shape { levels: 2, pointers: 3 }
+shape/42/42 => Shape { levels: 1, pointers: 1 }
+shape/43/42 => Shape { levels: 2, pointers: 3 }
+shape/16385/128 => Shape { levels: 3, pointers: 132 }
+shape/4294967295/2 => Shape { levels: 32, pointers: 4294967295 }
+marks => (Some([0, 0, 0, 7, 0, 0, 0, 2, 0, 0, 0, 0, 0, 0, 0, 8, 0, 0, 0, 2, 255, 255, 255, 255]), true)
+tree/51/43/4/0 => (Ok(()), [1, 51, 49, 50], Some(2), 44, true, 4)
+tree/49/42/4/0 => (Ok(()), [1, 49], Some(2), 43, true, 2)
+tree/4/1/4/0 => (Ok(()), [1], Some(2), 2, true, 1)
+tree/51/43/-/0 => (Err(Pointer { holder: 49, value: 4 }), [1], Some(2), 1, true, 3)
+tree/51/43/7/0 => (Err(Pointer { holder: 49, value: 4 }), [1], Some(2), 1, true, 3)
+tree/52/43/4/0 => (Err(Pointer { holder: 3, value: 52 }), [1], Some(2), 1, true, 1)
+tree/5/43/4/0 => (Err(Pointer { holder: 3, value: 5 }), [1], Some(2), 1, true, 1)
+tree/51/44/4/0 => (Err(Pointer { holder: 50, value: 0 }), [1], Some(2), 1, true, 4)
+tree/51/43/4/3 => (Err(Device), [1], Some(2), 1, true, 3)";
 
 fn shape_told(alloc: Global, leaves: u32, fan: u32) -> Result<String, AllocError> {
     if leaves < 1 || fan < 2 {
@@ -140,8 +140,8 @@ fn read(alloc: Global, world: &mut MemWorld, at: &TreeAt) -> Result<String, Allo
 fn tree(alloc: Global, case: &str) -> Result<String, AllocError> {
     let mut world = MemWorld::new(alloc, b"", 0)?;
     world.add_image("T", &tree_image(alloc)?)?;
-    world.fail_at(number(case, 4), false)?;
-    let count = number(case, 2);
+    world.fail_at(number(word(case, 4)), false)?;
+    let count = number(word(case, 2));
     match attach(&mut world) {
         Some(unit) if count >= 1 => {
             let at = TreeAt {
@@ -149,7 +149,7 @@ fn tree(alloc: Global, case: &str) -> Result<String, AllocError> {
                 bsize: BlockSize::new(512),
                 volume: unit.blocks,
                 holder: 3,
-                root: number(case, 1),
+                root: number(word(case, 1)),
                 count,
                 psize: 12,
                 first: word(case, 3).parse().ok(),
@@ -163,7 +163,7 @@ fn tree(alloc: Global, case: &str) -> Result<String, AllocError> {
 /// What a case comes to.
 pub fn answer(alloc: Global, case: &str) -> Result<String, AllocError> {
     match word(case, 0) {
-        "shape" => shape_told(alloc, number(case, 1), number(case, 2)),
+        "shape" => shape_told(alloc, number(word(case, 1)), number(word(case, 2))),
         "marks" => marks(alloc),
         _ => tree(alloc, case),
     }

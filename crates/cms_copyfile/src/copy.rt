@@ -17,7 +17,7 @@ use cms_operands::WriteMode;
 use cms_search::{Found, Table};
 
 /// A file that is copied, and where its copy goes.
-#[derive(Clone, Copy, PartialEq, Eq)]
+#[derive(Clone, Copy)]
 pub struct FileCopy {
     /// the file, where a search found it
     pub found: Found,

@@ -23,7 +23,7 @@ use cms_edf::Draft;
 use cms_world::World;
 
 /// Why the copies of a file aren't put.
-#[derive(Clone, Copy, PartialEq, Eq)]
+#[derive(Clone, Copy)]
 pub enum CopyFault {
     /// the device of the file failed
     Read,

@@ -17,7 +17,7 @@ use cms_text::BLANK;
 use std::alloc::Global;
 
 /// What becomes of a file that has the output's name already.
-#[derive(Clone, Copy, PartialEq, Eq)]
+#[derive(Clone, Copy)]
 pub enum Existing {
     /// it stays, and the copy is refused
     Refused,
@@ -27,7 +27,7 @@ pub enum Existing {
 }
 
 /// What a file that is copied becomes.
-#[derive(Clone, Copy, PartialEq, Eq)]
+#[derive(Clone, Copy)]
 pub struct CopyOutput {
     pub name: OutId,
     /// the disk, and the mode number if the word has one; without a mode the input's
@@ -37,7 +37,7 @@ pub struct CopyOutput {
 }
 
 /// The files that are copied: those that a choice of names and a mode find.
-#[derive(Clone, Copy, PartialEq, Eq)]
+#[derive(Clone, Copy)]
 pub struct CopyFiles {
     pub names: NameChoice,
     pub mode: ReadMode,
@@ -45,7 +45,7 @@ pub struct CopyFiles {
 }
 
 /// How files are copied.
-#[derive(Clone, Copy, PartialEq, Eq)]
+#[derive(Clone, Copy)]
 pub struct CopyStyle {
     pub existing: Existing,
     /// the first record that is copied, from 1
@@ -66,7 +66,7 @@ pub struct CopyStyle {
 }
 
 /// What COPYFILE's line says.
-#[derive(Clone, Copy, PartialEq, Eq)]
+#[derive(Clone, Copy)]
 pub struct CopyLine {
     pub files: CopyFiles,
     pub style: CopyStyle,

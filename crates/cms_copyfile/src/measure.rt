@@ -9,7 +9,7 @@ use cms_names::Format;
 
 /// How many records there are, how many bytes they fill as they are stored, at V with the two of each record's length, and how long
 /// the longest is.
-#[derive(Clone, Copy, PartialEq, Eq)]
+#[derive(Clone, Copy)]
 pub struct Measure {
     pub count: u32,
     pub bytes: u64,

@@ -9,14 +9,14 @@ use cms_names::Format;
 use cms_operands::WriteMode;
 
 /// The format of a file, and the length of its records at F, of the longest at V.
-#[derive(Clone, Copy, PartialEq, Eq)]
+#[derive(Clone, Copy)]
 pub struct FileForm {
     pub format: Format,
     pub length: u32,
 }
 
 /// Which records of a file are copied, and what becomes of each.
-#[derive(Clone, Copy, PartialEq, Eq)]
+#[derive(Clone, Copy)]
 pub struct CopyPlan {
     /// how many are passed in front of the first
     pub skipped: u32,

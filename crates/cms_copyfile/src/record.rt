@@ -6,7 +6,7 @@ use cms_ebcdic::{fold_lower, fold_upper};
 use cms_text::without_trailing;
 
 /// Which letters of a record become others.
-#[derive(Clone, Copy, PartialEq, Eq)]
+#[derive(Clone, Copy)]
 pub enum Fold {
     /// small letters become capitals
     Upper,
@@ -15,7 +15,7 @@ pub enum Fold {
 }
 
 /// How long a record gets.
-#[derive(Clone, Copy, PartialEq, Eq)]
+#[derive(Clone, Copy)]
 pub enum Fit {
     /// it is cut, or filled with the fill byte
     Exactly(u32),
@@ -25,7 +25,7 @@ pub enum Fit {
 }
 
 /// What becomes of each record, in this order.
-#[derive(Clone, Copy, PartialEq, Eq)]
+#[derive(Clone, Copy)]
 pub struct RecordStyle {
     pub fold: Option<Fold>,
     /// fill bytes at the end are dropped, but for the first byte of the record

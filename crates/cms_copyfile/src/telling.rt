@@ -10,7 +10,7 @@ use cms_search::letter_word;
 use std::alloc::{AllocError, Global};
 
 /// A file of the disk of a letter, A is 0, as it is shown.
-#[derive(Clone, Copy, PartialEq, Eq)]
+#[derive(Clone, Copy)]
 pub struct FileShown {
     pub letter: u8,
     pub name: Name,

@@ -22,7 +22,7 @@ use cms_world::World;
 use std::alloc::Global;
 
 /// A file that is to be written, and where.
-#[derive(Clone, Copy, PartialEq, Eq)]
+#[derive(Clone, Copy)]
 pub struct CopyTarget {
     /// the letter of its disk, A is 0
     pub letter: u8,
@@ -33,7 +33,7 @@ pub struct CopyTarget {
 }
 
 /// What writing copies came to.
-#[derive(Clone, Copy, PartialEq, Eq)]
+#[derive(Clone, Copy)]
 pub enum Written {
     /// the update of the output's disk came to this
     Came(Result<(), DiskFault>),

@@ -4,7 +4,7 @@ use std::alloc::AllocError;
 use thiserror::Error;
 
 /// Why a file isn't read or changed.
-#[derive(Clone, Copy, Debug, PartialEq, Eq, Error)]
+#[derive(Clone, Copy, Debug, Error)]
 pub enum DiskFault {
     /// no file has the name
     #[error("NotFound")]
@@ -76,7 +76,7 @@ impl From<Doubt> for DiskFault {
 }
 
 /// Why a unit isn't accessed.
-#[derive(Clone, Copy, Debug, PartialEq, Eq)]
+#[derive(Clone, Copy, Debug)]
 pub enum AccessFault {
     /// the sync of a unit in doubt failed, and nothing was read
     Sync,

@@ -3,7 +3,7 @@ use cms_journal::BlockSize;
 use cms_world::Unit;
 
 /// An attached unit with its device.
-#[derive(Clone, Copy, Debug, PartialEq, Eq)]
+#[derive(Clone, Copy)]
 pub struct UnitInfo {
     /// the device's number, 1 to 4,095
     pub vdev: u16,

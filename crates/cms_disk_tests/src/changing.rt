@@ -1,9 +1,8 @@
 // Changes of minidisks on a world in memory, and what a crash leaves of them.
 use crate::disk::{access_of, info_of, letters, minidisk};
+use cms_cases::{number, told, word};
 use cms_disk::{DiskFault, Minidisk};
-use cms_images::{
-    START, calls_of, file_named, image_left, image_named, number, told, word, world_of, world_with,
-};
+use cms_images::{START, calls_of, file_named, image_left, image_named, world_of, world_with};
 use cms_names::Name;
 use cms_world::{Access, MemWorld, World};
 use std::alloc::{AllocError, Global};
@@ -42,7 +41,7 @@ read/two files/rename C B => Err(NotFound) [AB] 0 [AB]
 read/two files/rename A B => Err(Exists) [AB] 0 [AB]
 read/two files/rename A C => Err(ReadOnly) [AB] 0 [AB]
 read/two files/relabel => Err(ReadOnly) [AB] 0 [AB]
-seen/one file/erase A => Ok(()) 3 arrrrwwsws true
+seen/one file/erase A => Ok(()) 3 arrrrwwsws as erased
 crash/long directory/erase G/0/0 => Ok(()) ABCDEFG
 crash/long directory/erase G/0/1 => Ok(()) ABCDEFG
 crash/long directory/erase G/0/2 => Ok(()) ABCDEFG
@@ -125,11 +124,20 @@ fn left(alloc: Global, world: &MemWorld, at: usize, choice: u64) -> Result<Strin
     }
 }
 
-// The free blocks, the calls, and whether the bytes are those of the volume whose file was erased.
+// Whether the bytes are those that a system leaves where it erases the one file of a volume.
+fn bytes_of(alloc: Global, world: &MemWorld) -> Result<&'static str, AllocError> {
+    if image_left(alloc, world, world.events(), 0)? == image_named(alloc, "erased")? {
+        Ok("as erased")
+    } else {
+        Ok("otherwise")
+    }
+}
+
+// The free blocks, the calls, and how the bytes are.
 fn seen(alloc: Global, world: &MemWorld, disk: &Minidisk) -> Result<String, AllocError> {
     let calls = calls_of(alloc, world)?;
-    let is_erased = image_left(alloc, world, world.events(), 0)? == image_named(alloc, "erased")?;
-    format!(in alloc; "{} {calls} {is_erased}", disk.space().free)
+    let bytes = bytes_of(alloc, world)?;
+    format!(in alloc; "{} {calls} {bytes}", disk.space().free)
 }
 
 // The files, the events, and the files of what is left.
@@ -146,14 +154,24 @@ fn told_of(
     case: &str,
     disk: &Minidisk,
 ) -> Result<String, AllocError> {
+    let (at, choice) = (number(word(case, 3)), number(word(case, 4)));
     match word(case, 0) {
         "seen" => seen(alloc, world, disk),
-        "crash" => {
-            let (at, choice) = (number(word(case, 3)), number(word(case, 4)));
-            left(alloc, world, at as usize, u64::from(choice))
-        }
+        "crash" => left(alloc, world, at as usize, u64::from(choice)),
         _ => files(alloc, world, disk),
     }
+}
+
+// An answer, and what is told then.
+fn with_answer(
+    alloc: Global,
+    world: &MemWorld,
+    case: &str,
+    answer: &Result<(), DiskFault>,
+    disk: &Minidisk,
+) -> Result<String, AllocError> {
+    let told = told_of(alloc, world, case, disk)?;
+    format!(in alloc; "{answer:?} {told}")
 }
 
 // The call that stands so many before the last one of an access and of what is asked then.
@@ -172,11 +190,10 @@ fn answer_on(alloc: Global, image: &[u8], case: &str, asked: &Asked) -> Result<S
     };
     let access = access_of(word(case, 0));
     let mut world = world_with(alloc, image, failing, word(case, 4) == "landed")?;
-    let Some((answer, disk)) = changed(alloc, &mut world, access, asked) else {
-        return String::from_str(alloc, "no minidisk");
-    };
-    let told = told_of(alloc, &world, case, &disk)?;
-    format!(in alloc; "{answer:?} {told}")
+    match changed(alloc, &mut world, access, asked) {
+        Some((answer, disk)) => with_answer(alloc, &world, case, &answer, &disk),
+        None => String::from_str(alloc, "no minidisk"),
+    }
 }
 
 /// What a case comes to.

@@ -1,9 +1,8 @@
 // Empty minidisks that are made on the units of a world in memory.
 use crate::disk::{info_of, minidisk};
+use cms_cases::{number, told, word};
 use cms_disk::{DiskFault, Minidisk};
-use cms_images::{
-    Made, NOON, formatted, image_left, image_named, number, told, word, world_of, world_with,
-};
+use cms_images::{Made, NOON, formatted, image_left, image_named, world_of, world_with};
 use cms_world::{Access, MemWorld, World};
 use std::alloc::{AllocError, Global};
 
@@ -78,14 +77,25 @@ fn bytes_of(alloc: Global, image: &[u8]) -> Result<&'static str, AllocError> {
     }
 }
 
-/// What a case comes to.
-pub fn answer(alloc: Global, case: &str) -> Result<String, AllocError> {
+// Whether what is left of the first unit of a world is such an image, and what is accessed in it.
+fn left(alloc: Global, world: &MemWorld) -> Result<String, AllocError> {
+    let image = image_left(alloc, world, world.events(), u64::MAX)?;
+    let bytes = bytes_of(alloc, &image)?;
+    let accessed = accessed(alloc, image)?;
+    format!(in alloc; "{bytes}, {accessed}")
+}
+
+// The world of a case.
+fn world_of_case(alloc: Global, case: &str) -> Result<MemWorld, AllocError> {
     let image = image_named(alloc, word(case, 0))?;
     let failing = number(word(case, 1));
-    let mut world = world_with(alloc, &image, failing, word(case, 2) == "landed")?;
+    world_with(alloc, &image, failing, word(case, 2) == "landed")
+}
+
+/// What a case comes to.
+pub fn answer(alloc: Global, case: &str) -> Result<String, AllocError> {
+    let mut world = world_of_case(alloc, case)?;
     let made = made(alloc, &mut world)?;
-    let left = image_left(alloc, &world, world.events(), u64::MAX)?;
-    let bytes = bytes_of(alloc, &left)?;
-    let accessed = accessed(alloc, left)?;
-    format!(in alloc; "{made}, {bytes}, {accessed}")
+    let left = left(alloc, &world)?;
+    format!(in alloc; "{made}, {left}")
 }

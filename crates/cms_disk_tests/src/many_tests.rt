@@ -77,15 +77,24 @@ fn byte(alloc: Global) -> Result<FileData, AllocError>
     })
 }
 
+// Puts all of the files.
+#[tactic(auto, unfolding(cms_fields::specs::Stamps::is_stamp, cms_fields::specs::Stamps::days_of_month))]
+fn fill(alloc: Global, world: &mut QuietWorld, disk: &mut Minidisk, file: &FileData) -> Option<()>
+    requires { IsValid file.now }
+{
+    for number in 0..FILES {
+        let name = name_of(OLD, number)?;
+        disk.put(alloc, world, &name, file, &START).ok()?;
+    }
+    Some(())
+}
+
 // A new minidisk with all of the files.
 #[tactic(auto, unfolding(cms_fields::specs::Stamps::is_stamp, cms_fields::specs::Stamps::days_of_month))]
 fn filled(alloc: Global, world: &mut QuietWorld) -> Option<Minidisk> {
-    let mut disk = Minidisk::make(alloc, world, &device(), VOLID, &START).ok()?;
     let file = byte(alloc).ok()?;
-    for number in 0..FILES {
-        let name = name_of(OLD, number)?;
-        disk.put(alloc, world, &name, &file, &START).ok()?;
-    }
+    let mut disk = Minidisk::make(alloc, world, &device(), VOLID, &START).ok()?;
+    fill(alloc, world, &mut disk, &file)?;
     Some(disk)
 }
 
@@ -173,16 +182,26 @@ fn with_new_names(list: &mut Vec<Listed>) {
     }
 }
 
-// Whether the files are as in the list where all were put, then where every third was erased, and then where every fifth was renamed.
-fn keeps_order(alloc: Global, world: &mut QuietWorld, list: &mut Vec<Listed>) -> Option<bool> {
-    let mut disk = filled(alloc, world)?;
-    let filled = holds(&disk, list);
-    erase_thirds(alloc, world, &mut disk)?;
+// Whether a minidisk's files are as in the list at first, then where every third is erased, and then where every fifth is renamed.
+fn keeps_order(
+    alloc: Global,
+    world: &mut QuietWorld,
+    disk: &mut Minidisk,
+    list: &mut Vec<Listed>,
+) -> Option<bool> {
+    let filled = holds(disk, list);
+    erase_thirds(alloc, world, disk)?;
     without_thirds(list);
-    let erased = holds(&disk, list);
-    rename_fifths(alloc, world, &mut disk, list)?;
+    let erased = holds(disk, list);
+    rename_fifths(alloc, world, disk, list)?;
     with_new_names(list);
-    Some(filled && erased && holds(&disk, list))
+    Some(filled && erased && holds(disk, list))
+}
+
+// The same of a new minidisk with all of the files.
+fn is_as_list(alloc: Global, world: &mut QuietWorld, list: &mut Vec<Listed>) -> Option<bool> {
+    let mut disk = filled(alloc, world)?;
+    keeps_order(alloc, world, &mut disk, list)
 }
 
 #[test]
@@ -190,7 +209,7 @@ fn many_files_keep_the_order_of_a_plain_list(rt: HostRuntime) -> Result<(), Fail
     let alloc = rt.alloc();
     let mut world = QuietWorld::new(ImageList::new(alloc), Vec::new(alloc));
     let mut list = all(alloc)?;
-    let kept = keeps_order(alloc, &mut world, &mut list);
+    let kept = is_as_list(alloc, &mut world, &mut list);
     assert_eq!(rt; (kept, list.len()), (Some(true), 1_334));
     Ok(())
 }

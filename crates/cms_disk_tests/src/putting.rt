@@ -3,10 +3,11 @@ ghost use Rattle.std.specs.Prelude.{IfOk, IfSome};
 ghost use Rattle.cms_model.specs.Records.{IsValid};
 
 use crate::disk::{access_of, letters, minidisk};
+use cms_cases::{told, word};
 use cms_disk::{DiskFault, FileData, Minidisk, Stored};
 use cms_fields::Stamp;
 use cms_images::known::one_file;
-use cms_images::{Disk, START, file_named, image_named, told, word, world_of};
+use cms_images::{Disk, START, file_named, image_named, world_of};
 use cms_names::{Format, Name};
 use cms_world::Access;
 use std::alloc::{AllocError, Global};
@@ -39,9 +40,10 @@ const WRITTEN: Stamp = Stamp {
 fn hello(alloc: Global) -> Option<FileData>
     ensures valid { IfSome result IsValid }
 {
+    let name = file_named("A")?;
     let mut world = world_of(one_file(alloc).ok()?);
     let disk = minidisk(alloc, &mut world, Access::ReadOnly).ok()?;
-    match disk.get(alloc, &mut world, &file_named("A")?) {
+    match disk.get(alloc, &mut world, &name) {
         Ok(file) => Some(file),
         Err(_) => None,
     }
@@ -135,6 +137,23 @@ fn bytes_of(
     }
 }
 
+// The answer, the files, the free blocks, and the blocks that were written.
+fn counts(
+    alloc: Global,
+    world: &Disk,
+    disk: &Minidisk,
+    answer: Result<(), DiskFault>,
+) -> Result<String, AllocError> {
+    let files = letters(alloc, disk)?;
+    let (free, writes) = (disk.space().free, world.writes);
+    format!(in alloc; "{answer:?} [{files}] {free} {writes}")
+}
+
+// Whether the image is that of A FILE as a system would put it.
+fn is_one_file(alloc: Global, world: &Disk) -> Result<bool, AllocError> {
+    Ok(world.image == one_file(alloc)?)
+}
+
 // What is told of a minidisk behind an answer.
 fn told_of(
     alloc: Global,
@@ -143,22 +162,32 @@ fn told_of(
     answer: Result<(), DiskFault>,
     case: &str,
 ) -> Result<String, AllocError> {
-    let (free, writes) = (disk.space().free, world.writes);
-    let is_one_file = world.image == one_file(alloc)?;
-    let files = letters(alloc, disk)?;
+    let counts = counts(alloc, world, disk, answer)?;
     let bytes = bytes_of(alloc, world, disk, word(case, 4))?;
-    format!(in alloc; "{answer:?} [{files}] {free} {writes} {bytes} {is_one_file}")
+    format!(in alloc; "{counts} {bytes} {}", is_one_file(alloc, world)?)
+}
+
+// What is done with a minidisk and a file.
+fn done(
+    alloc: Global,
+    world: &mut Disk,
+    disk: &mut Minidisk,
+    case: &str,
+) -> Result<String, AllocError> {
+    match file_of(alloc, word(case, 3)) {
+        Some(file) => {
+            let answer = all_on(alloc, world, disk, case, &file);
+            told_of(alloc, world, disk, answer, case)
+        }
+        None => String::from_str(alloc, "no file"),
+    }
 }
 
 /// What a case comes to.
 pub fn answer(alloc: Global, case: &str) -> Result<String, AllocError> {
     let mut world = world_of(image_named(alloc, word(case, 2))?);
-    let Ok(mut disk) = minidisk(alloc, &mut world, access_of(word(case, 1))) else {
-        return String::from_str(alloc, "no minidisk");
-    };
-    let Some(file) = file_of(alloc, word(case, 3)) else {
-        return String::from_str(alloc, "no file");
-    };
-    let answer = all_on(alloc, &mut world, &mut disk, case, &file);
-    told_of(alloc, &mut world, &disk, answer, case)
+    match minidisk(alloc, &mut world, access_of(word(case, 1))) {
+        Ok(mut disk) => done(alloc, &mut world, &mut disk, case),
+        Err(fault) => told(alloc, &fault),
+    }
 }

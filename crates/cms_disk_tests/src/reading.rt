@@ -1,13 +1,13 @@
 // Minidisks that are accessed, and files that are read.
 use crate::disk::{info_of, letters, minidisk};
+use cms_cases::{number, told, word};
 use cms_disk::{AccessFault, Cursor, DiskFault, FileData, Minidisk};
 use cms_ebcdic::to_host;
 use cms_images::known::{one_file, put, spanning};
 use cms_images::{
-    Disk, Edit, calls_of, file_named, image_named, number, put_edits, put_texts, told, word,
-    world_of, world_with,
+    Disk, Edit, calls_of, file_named, image_named, put_edits, put_texts, world_of, world_with,
 };
-use cms_names::Format;
+use cms_names::{Format, Name};
 use cms_world::{Access, MemWorld, World};
 use std::alloc::{AllocError, Global};
 
@@ -66,8 +66,9 @@ doubt/0 => None asrrrr 1";
 
 // A cursor on V FILE.
 fn cursor_on(alloc: Global, world: &mut Disk) -> Option<Cursor> {
+    let name = file_named("V")?;
     let disk = minidisk(alloc, world, Access::ReadOnly).ok()?;
-    disk.cursor(alloc, &file_named("V")?).ok()
+    disk.cursor(alloc, &name).ok()
 }
 
 // The length of the next record, 0 behind the last.
@@ -94,6 +95,7 @@ fn lengths(
     Ok(text)
 }
 
+// What comes of V FILE.
 fn records(alloc: Global, case: &str) -> Result<String, AllocError> {
     let mut world = world_of(spanning(alloc)?);
     world.failing = number(word(case, 1)) as usize;
@@ -129,11 +131,9 @@ fn digits(alloc: Global) -> Result<Vec<u8>, AllocError> {
     Ok(image)
 }
 
-// A cursor on V FILE behind so many of its records.
-fn cursor_behind(alloc: Global, world: &mut Disk, count: u32) -> Option<Cursor> {
-    let disk = minidisk(alloc, world, Access::ReadOnly).ok()?;
-    let name = file_named("V")?;
-    let Some(place) = disk.find(&name) else {
+// A cursor on a file of records of one length, behind so many of these.
+fn behind(alloc: Global, disk: &Minidisk, name: &Name, count: u32) -> Option<Cursor> {
+    let Some(place) = disk.find(name) else {
         return None;
     };
     if place >= disk.count() {
@@ -143,7 +143,7 @@ fn cursor_behind(alloc: Global, world: &mut Disk, count: u32) -> Option<Cursor> 
     let Format::F = info.format else {
         return None;
     };
-    let Ok(mut cursor) = disk.cursor(alloc, &name) else {
+    let Ok(mut cursor) = disk.cursor(alloc, name) else {
         return None;
     };
     if info.count < count {
@@ -151,6 +151,13 @@ fn cursor_behind(alloc: Global, world: &mut Disk, count: u32) -> Option<Cursor> 
     }
     cursor.skip(count);
     Some(cursor)
+}
+
+// A cursor on V FILE behind so many of its records.
+fn cursor_behind(alloc: Global, world: &mut Disk, count: u32) -> Option<Cursor> {
+    let name = file_named("V")?;
+    let disk = minidisk(alloc, world, Access::ReadOnly).ok()?;
+    behind(alloc, &disk, &name, count)
 }
 
 // The digit of the next record; a blank behind the last, and a question mark where it isn't read.
@@ -177,6 +184,7 @@ fn digits_left(alloc: Global, world: &mut Disk, cursor: &mut Cursor) -> Result<S
     format!(in alloc; "{before} {first} [{text}] {}", world.calls)
 }
 
+// What comes where so many records are passed over.
 fn passed_over(alloc: Global, count: u32) -> Result<String, AllocError> {
     let mut world = world_of(digits(alloc)?);
     match cursor_behind(alloc, &mut world, count) {
@@ -187,20 +195,27 @@ fn passed_over(alloc: Global, count: u32) -> Result<String, AllocError> {
 
 // What is read of the file of a letter; nothing where there is no minidisk or the letter is none.
 fn file_of(alloc: Global, world: &mut Disk, letter: &str) -> Option<Result<FileData, DiskFault>> {
+    let name = file_named(letter)?;
     let disk = minidisk(alloc, world, Access::ReadOnly).ok()?;
-    Some(disk.get(alloc, world, &file_named(letter)?))
+    Some(disk.get(alloc, world, &name))
+}
+
+// The length, the count and the mode number of a file that was read, its stored bytes, whether they stand in the blocks from 7 on, and the
+// calls.
+fn told_whole(alloc: Global, file: &FileData, world: &Disk) -> Result<String, AllocError> {
+    let bytes = file.bytes.bytes();
+    let is_stored = world.image.get(3072..).unwrap_or(&[]).starts_with(bytes);
+    let numbers = (file.length, file.count, file.number, bytes.len(), is_stored);
+    format!(in alloc; "{numbers:?} {}", world.calls)
 }
 
 // What is told of a file that is read in an image.
 fn whole(alloc: Global, case: &str) -> Result<String, AllocError> {
     let mut world = world_of(image_named(alloc, word(case, 1))?);
-    let Some(Ok(file)) = file_of(alloc, &mut world, word(case, 2)) else {
-        return String::from_str(alloc, "no file");
-    };
-    let bytes = file.bytes.bytes();
-    let is_stored = world.image.get(3072..).unwrap_or(&[]).starts_with(bytes);
-    let numbers = (file.length, file.count, file.number, bytes.len(), is_stored);
-    format!(in alloc; "{numbers:?} {}", world.calls)
+    match file_of(alloc, &mut world, word(case, 2)) {
+        Some(Ok(file)) => told_whole(alloc, &file, &world),
+        _ => String::from_str(alloc, "no file"),
+    }
 }
 
 // The bytes of a file that is read in an image, or why it isn't.
@@ -225,6 +240,7 @@ fn told_of(alloc: Global, disk: &Minidisk) -> Result<String, AllocError> {
     format!(in alloc; "[{files}] {first:?} {room:?}")
 }
 
+// The place of the file of a letter.
 fn place_of(disk: &Minidisk, letter: &str) -> Option<u32> {
     disk.find(&file_named(letter)?)
 }
@@ -242,14 +258,19 @@ fn world_of_case(alloc: Global, case: &str) -> Result<Disk, AllocError> {
     Ok(world)
 }
 
-// What is asked of a minidisk, or why there is none.
+// What is asked of a minidisk.
+fn asked_of(alloc: Global, disk: &Minidisk, case: &str) -> Result<String, AllocError> {
+    match word(case, 0) {
+        "told" => told_of(alloc, disk),
+        _ => told(alloc, &place_of(disk, word(case, 2))),
+    }
+}
+
+// What is asked of the minidisk of a case, or why there is none.
 fn asked(alloc: Global, case: &str) -> Result<String, AllocError> {
     let mut world = world_of_case(alloc, case)?;
     match minidisk(alloc, &mut world, Access::ReadOnly) {
-        Ok(disk) => match word(case, 0) {
-            "told" => told_of(alloc, &disk),
-            _ => told(alloc, &place_of(&disk, word(case, 2))),
-        },
+        Ok(disk) => asked_of(alloc, &disk, case),
         Err(fault) => told(alloc, &fault),
     }
 }
@@ -268,6 +289,7 @@ fn access_in_doubt(alloc: Global, world: &mut MemWorld) -> Option<AccessFault> {
     }
 }
 
+// What comes of an access in doubt.
 fn doubt(alloc: Global, failing: u32) -> Result<String, AllocError> {
     let mut world = world_with(alloc, &one_file(alloc)?, failing, false)?;
     let fault = access_in_doubt(alloc, &mut world);

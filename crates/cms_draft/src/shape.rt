@@ -3,7 +3,7 @@ use cms_fields::Stamp;
 use cms_names::Format;
 
 /// What a file is to be that is drafted.
-#[derive(Clone, Copy, Debug, PartialEq, Eq)]
+#[derive(Clone, Copy)]
 pub struct DraftShape {
     pub format: Format,
     /// the length of each record at F, of the longest at V: 1 to 65,535

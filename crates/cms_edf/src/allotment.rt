@@ -15,7 +15,7 @@ use cms_tree::shape;
 use std::alloc::{AllocError, Global};
 
 /// Why no update is planned.
-#[derive(Clone, Copy, Debug, PartialEq, Eq)]
+#[derive(Clone, Copy, Debug)]
 pub enum PlanFault {
     /// a limit is passed, which never comes of a drop, a renaming or a relabelling: 1 the number of files, 2 that of records, 3 that of
     /// stored bytes

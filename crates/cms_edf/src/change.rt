@@ -10,7 +10,7 @@ use cms_names::Name;
 use indexmap::IndexMap;
 
 /// A change of a volume.
-#[derive(Clone, Copy, Debug)]
+#[derive(Clone, Copy)]
 pub enum Change<'c> {
     /// the file of a name goes
     Drop {

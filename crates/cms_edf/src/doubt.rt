@@ -14,7 +14,7 @@ use cms_journal::BlockSize;
 use cms_world::{Failed, World};
 
 /// What a crash may find where an update was cut off.
-#[derive(Clone, Copy, Debug, PartialEq, Eq)]
+#[derive(Clone, Copy, Debug)]
 pub enum Doubt {
     /// the old volume
     Old,

@@ -86,7 +86,7 @@ impl FileHeld {
 }
 
 /// What is told of a file.
-#[derive(Clone, Copy, Debug, PartialEq, Eq)]
+#[derive(Clone, Copy, PartialEq, Eq)]
 pub struct FileInfo {
     pub name: Name,
     /// the mode number, 0 to 6
@@ -102,7 +102,7 @@ pub struct FileInfo {
 }
 
 /// The room of a volume.
-#[derive(Clone, Copy, Debug, PartialEq, Eq)]
+#[derive(Clone, Copy)]
 pub struct Space {
     /// the volume id, in EBCDIC
     pub volid: [u8; 6],

@@ -3,10 +3,12 @@ ghost use Rattle.std.specs.Prelude.{IfSome};
 ghost use Rattle.cms_edf.specs.FileDrafts.{CanDraft};
 
 use crate::volumes::open;
+use cms_cases::{number, told, word};
 use cms_edf::{DraftShape, Held, plan_draft};
-use cms_images::{NOON, file_named, image_named, number, told, word, world_with};
+use cms_images::{NOON, file_named, image_named, world_with};
 use cms_journal::BlockSize;
 use cms_names::Format;
+use cms_world::MemWorld;
 use std::alloc::{AllocError, Global};
 
 /// An image, the letter of a file's name, and the length and the number of its records; and why it isn't planned. What is needed may be
@@ -58,10 +60,15 @@ fn plan_in(alloc: Global, held: &mut Held, case: &str) -> Result<String, AllocEr
     }
 }
 
+// A world with the image of a case.
+fn world_of(alloc: Global, case: &str) -> Result<MemWorld, AllocError> {
+    let image = image_named(alloc, word(case, 0))?;
+    world_with(alloc, &image, 0, false)
+}
+
 /// What a case comes to.
 pub fn answer(alloc: Global, case: &str) -> Result<String, AllocError> {
-    let image = image_named(alloc, word(case, 0))?;
-    let mut world = world_with(alloc, &image, 0, false)?;
+    let mut world = world_of(alloc, case)?;
     match open(alloc, &mut world, BlockSize::new(512)) {
         Ok(mut held) => plan_in(alloc, &mut held, case),
         Err(fault) => told(alloc, &fault),

@@ -1,16 +1,15 @@
 // Empty volumes that are made on the units of a world in memory.
 use crate::volumes::{TEST01, opened, state};
+use cms_cases::{number, told, word};
 use cms_edf::{Doubt, Held, make, plan_make, wipe};
-use cms_images::{
-    Made, NOON, calls_of, formatted, image_left, image_named, number, told, word, world_with,
-};
+use cms_images::{Made, NOON, calls_of, formatted, image_left, image_named, world_with};
 use cms_journal::BlockSize;
 use cms_world::{Access, MemWorld, World};
 use std::alloc::{AllocError, Global};
 
 /// Volumes that are made on zeros: the bytes of a block, the blocks, and how many data blocks the map has and pointer blocks over these;
-/// and what is made, whether its bytes are as they should be, and what opens then, each as the volume id, the bytes of a block, the blocks,
-/// those that are free, and the files.
+/// and what is made, whether its bytes are as they should be, and what opens then, each as the volume id, the bytes of a block, the
+/// blocks, those that are free, and the files.
 pub const SHAPES: &str = "\
 zeros/512/8/1/0 => TEST01 (512, 8, 2, 0), byte for byte, TEST01 (512, 8, 2, 0)
 zeros/512/9/1/0 => TEST01 (512, 9, 3, 0), byte for byte, TEST01 (512, 9, 3, 0)
@@ -151,19 +150,51 @@ fn shape_of(case: &str) -> Made {
     }
 }
 
+// A world with zeros for a volume of a shape.
+fn zeros(alloc: Global, shape: &Made) -> Result<MemWorld, AllocError> {
+    let count = (shape.bsize as usize).saturating_mul(shape.total as usize);
+    let image = vec![in alloc; 0; count]?;
+    world_with(alloc, &image, 0, false)
+}
+
+// Whether an image has the bytes of a volume of a shape.
+fn bytes_of(alloc: Global, shape: &Made, image: &[u8]) -> Result<&'static str, AllocError> {
+    if formatted(alloc, shape)?.as_slice() == image {
+        Ok("byte for byte")
+    } else {
+        Ok("with other bytes")
+    }
+}
+
+// Whether an image has the bytes of a volume of a shape, and what opens in it.
+fn held_in(
+    alloc: Global,
+    shape: &Made,
+    size: BlockSize,
+    image: &[u8],
+) -> Result<String, AllocError> {
+    let bytes = bytes_of(alloc, shape, image)?;
+    let opened = opened(alloc, image, size)?;
+    format!(in alloc; "{bytes}, {opened}")
+}
+
+// The same of what is left of the first unit of a world.
+fn held_on(
+    alloc: Global,
+    shape: &Made,
+    size: BlockSize,
+    world: &MemWorld,
+) -> Result<String, AllocError> {
+    let image = image_left(alloc, world, world.events(), 0)?;
+    held_in(alloc, shape, size, &image)
+}
+
 // Makes a volume on zeros.
 fn made_on_zeros(alloc: Global, shape: &Made, size: BlockSize) -> Result<String, AllocError> {
-    let count = (shape.bsize as usize).saturating_mul(shape.total as usize);
-    let mut world = world_with(alloc, &vec![in alloc; 0; count]?, 0, false)?;
+    let mut world = zeros(alloc, shape)?;
     let made = made(alloc, &mut world, size)?;
-    let image = image_left(alloc, &world, world.events(), 0)?;
-    let opened = opened(alloc, &image, size)?;
-    let bytes = if image == formatted(alloc, shape)? {
-        "byte for byte"
-    } else {
-        "with other bytes"
-    };
-    format!(in alloc; "{made}, {bytes}, {opened}")
+    let held = held_on(alloc, shape, size, &world)?;
+    format!(in alloc; "{made}, {held}")
 }
 
 // A block of an image.
@@ -218,31 +249,42 @@ fn blocks(alloc: Global, world: &MemWorld, at: usize) -> Result<String, AllocErr
     )
 }
 
+// What was made, and the letters of all calls.
+fn calls(alloc: Global, world: &MemWorld, made: &str) -> Result<String, AllocError> {
+    let calls = calls_of(alloc, world)?;
+    format!(in alloc; "{made}, {calls}")
+}
+
+// What was made, how many events there are, and what opens then.
+fn ended(alloc: Global, world: &MemWorld, made: &str) -> Result<String, AllocError> {
+    let left = opened_left(alloc, world, world.events(), u64::MAX)?;
+    format!(in alloc; "{made}, {} events, {left}", world.events())
+}
+
 // What is asked of a world in which a volume was made over another one, with what was made.
 fn asked(alloc: Global, world: &MemWorld, case: &str, made: &str) -> Result<String, AllocError> {
     let at = number(word(case, 1)) as usize;
     match word(case, 0) {
         "blocks" => blocks(alloc, world, at),
         "crash" => opened_left(alloc, world, at, u64::from(number(word(case, 2)))),
-        "calls" => {
-            let calls = calls_of(alloc, world)?;
-            format!(in alloc; "{made}, {calls}")
-        }
-        _ => {
-            let left = opened_left(alloc, world, world.events(), u64::MAX)?;
-            format!(in alloc; "{made}, {} events, {left}", world.events())
-        }
+        "calls" => calls(alloc, world, made),
+        _ => ended(alloc, world, made),
     }
 }
 
-// Makes a volume over another one.
-fn made_over(alloc: Global, case: &str) -> Result<String, AllocError> {
+// A world with a volume over which another one is made.
+fn used(alloc: Global, case: &str) -> Result<MemWorld, AllocError> {
     let failing = match word(case, 0) {
         "failing" => number(word(case, 1)),
         _ => 0,
     };
     let image = image_named(alloc, "hello")?;
-    let mut world = world_with(alloc, &image, failing, word(case, 2) == "landed")?;
+    world_with(alloc, &image, failing, word(case, 2) == "landed")
+}
+
+// Makes a volume over another one.
+fn made_over(alloc: Global, case: &str) -> Result<String, AllocError> {
+    let mut world = used(alloc, case)?;
     let made = made(alloc, &mut world, BlockSize::new(512))?;
     asked(alloc, &world, case, made.as_str())
 }

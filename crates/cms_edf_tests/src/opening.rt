@@ -1,9 +1,8 @@
 // What opens, and what is asked of it.
 use crate::volumes::{open, state};
+use cms_cases::{number, told, word};
 use cms_edf::{FileInfo, Held};
-use cms_images::{
-    START, calls_of, file_named, image_named, number, put_texts, told, word, world_with,
-};
+use cms_images::{START, calls_of, file_named, image_named, put_texts, world_with};
 use cms_journal::BlockSize;
 use cms_names::Format;
 use cms_world::MemWorld;
@@ -166,13 +165,19 @@ fn image_of(alloc: Global, case: &str) -> Result<Vec<u8>, AllocError> {
     Ok(image)
 }
 
-/// What a case comes to.
-pub fn answer(alloc: Global, case: &str) -> Result<String, AllocError> {
+// The world of a case.
+fn world_of(alloc: Global, case: &str) -> Result<MemWorld, AllocError> {
     let failing = match word(case, 0) {
         "failing" => number(word(case, 2)),
         _ => 0,
     };
-    let mut world = world_with(alloc, &image_of(alloc, case)?, failing, false)?;
+    let image = image_of(alloc, case)?;
+    world_with(alloc, &image, failing, false)
+}
+
+/// What a case comes to.
+pub fn answer(alloc: Global, case: &str) -> Result<String, AllocError> {
+    let mut world = world_of(alloc, case)?;
     match open(alloc, &mut world, BlockSize::new(512)) {
         Ok(held) => asked(alloc, case, &held, &world),
         Err(fault) => told(alloc, &fault),

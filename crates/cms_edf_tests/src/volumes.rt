@@ -1,6 +1,7 @@
 // Volumes on the units of worlds in memory, and what is told of them.
+use cms_cases::told;
 use cms_edf::{Held, OpenFault, open_volume};
-use cms_images::{Disk, told, world_with};
+use cms_images::{Disk, world_with};
 use cms_journal::BlockSize;
 use cms_world::{Access, MemWorld, Unit, World};
 use std::alloc::{AllocError, Global};

@@ -1,15 +1,16 @@
 // What is written for files whose records come one after another, and what a crash leaves.
 ghost use Rattle.std.specs.Prelude.{◌≡◌, ◌≤◌, ◌∷◌, [], length, IfSome, OnSome};
 ghost use Rattle.cms_model.specs.Records.{Fits, stored};
-ghost use Rattle.cms_edf.specs.FileDrafts.{IsSomeDraft};
+ghost use Rattle.cms_edf.specs.FileDrafts.{CanDraft, IsSomeDraft};
 ghost use Rattle.cms_held.specs.Opening.{HeldVolume};
 
 use crate::drafting::shaped;
 use crate::volumes::{opened, volume_on};
-use cms_edf::{Change, Draft, Held, carry_out, commit, plan, plan_draft};
-use cms_images::{Disk, Event, Made, NOON, file_named, formatted, image_named, told};
+use cms_cases::told;
+use cms_edf::{Change, Draft, DraftShape, Held, carry_out, commit, plan, plan_draft};
+use cms_images::{Disk, Event, Made, NOON, file_named, formatted, image_named};
 use cms_journal::BlockSize;
-use cms_names::Format;
+use cms_names::{Format, Name};
 use std::alloc::{AllocError, Global};
 
 /// What is done with a volume, and what is asked then.
@@ -81,8 +82,36 @@ fn write_file(world: &mut Disk, held: &mut Held, draft: Draft, texts: &[&[u8]]) 
     commit(world, held, draft).ok()
 }
 
-// Puts a file with these records, of which none is longer than so many bytes, into the volume of a disk.
+// The shape of a file with these records, of which none is longer than so many bytes, if it may have them.
+fn shape_of(format: Format, length: u32, texts: &[&[u8]]) -> Option<DraftShape>
+    ensures { IfSome result CanDraft }
+{
+    let mut bytes = 0_u64;
+    for text in texts {
+        bytes = bytes.saturating_add(u64::from(stored_size(format, length, text)?));
+    }
+    shaped(format, length, u32::try_from(texts.len()).ok()?, bytes)
+}
+
+// Puts a file of a shape with these records into a volume.
 #[tactic(auto, unfolding(cms_fields::specs::Stamps::is_stamp, cms_fields::specs::Stamps::days_of_month))]
+fn put_in(
+    alloc: Global,
+    world: &mut Disk,
+    held: &mut Held,
+    name: &Name,
+    asked: &DraftShape,
+    texts: &[&[u8]],
+) -> Option<()>
+    requires { CanDraft asked.now }
+{
+    let Ok(draft) = plan_draft(alloc, held, name, asked, &NOON) else {
+        return None;
+    };
+    write_file(world, held, draft, texts)
+}
+
+// Puts a file with these records into the volume of a disk.
 fn put_file(
     alloc: Global,
     world: &mut Disk,
@@ -91,30 +120,37 @@ fn put_file(
     length: u32,
     texts: &[&[u8]],
 ) -> Option<()> {
-    let mut held = volume_on(alloc, world)?;
-    let mut bytes = 0_u64;
-    for text in texts {
-        bytes = bytes.saturating_add(u64::from(stored_size(format, length, text)?));
-    }
-    let asked = shaped(format, length, u32::try_from(texts.len()).ok()?, bytes)?;
     let name = file_named(letter)?;
-    let Ok(draft) = plan_draft(alloc, &mut held, &name, &asked, &NOON) else {
-        return None;
-    };
-    write_file(world, &mut held, draft, texts)
+    let asked = shape_of(format, length, texts)?;
+    let mut held = volume_on(alloc, world)?;
+    put_in(alloc, world, &mut held, &name, &asked, texts)
 }
 
-// Erases the file of a name.
+// Erases the file of a name in a volume.
 #[tactic(auto, unfolding(cms_fields::specs::Stamps::is_stamp, cms_fields::specs::Stamps::days_of_month))]
-fn drop_file(alloc: Global, world: &mut Disk, letter: &str) -> Option<()> {
-    let mut held = volume_on(alloc, world)?;
-    let name = file_named(letter)?;
-    held.find(&name)?;
-    let change = Change::Drop { name: &name };
-    let Ok(made) = plan(alloc, &mut held, &change, &NOON) else {
+fn drop_in(alloc: Global, world: &mut Disk, held: &mut Held, name: &Name) -> Option<()> {
+    held.find(name)?;
+    let change = Change::Drop { name };
+    let Ok(made) = plan(alloc, held, &change, &NOON) else {
         return None;
     };
-    carry_out(world, &mut held, made).ok()
+    carry_out(world, held, made).ok()
+}
+
+// Erases the file of a name on a disk.
+fn drop_file(alloc: Global, world: &mut Disk, letter: &str) -> Option<()> {
+    let name = file_named(letter)?;
+    let mut held = volume_on(alloc, world)?;
+    drop_in(alloc, world, &mut held, &name)
+}
+
+// The end of a row of blocks, if there was one, and the start of the next.
+fn between(alloc: Global, last: u32, block: u32) -> Result<String, AllocError> {
+    if last == 0 {
+        format!(in alloc; "{block}-")
+    } else {
+        format!(in alloc; "{last} {block}-")
+    }
 }
 
 // The blocks that are written up to the first sync, in rows.
@@ -125,10 +161,8 @@ fn written(alloc: Global, events: &[Event]) -> Result<String, AllocError> {
         let Event::Wrote { block, .. } = event else {
             return format!(in alloc; "{text}{last}");
         };
-        if last == 0 {
-            text = format!(in alloc; "{block}-")?;
-        } else if *block != last.saturating_add(1) {
-            text = format!(in alloc; "{text}{last} {block}-")?;
+        if *block != last.saturating_add(1) {
+            text.push_str(between(alloc, last, *block)?.as_str())?;
         }
         last = *block;
     }
@@ -174,10 +208,15 @@ fn wrong_crash(
 fn crashes(alloc: Global, world: &Disk) -> Result<String, AllocError> {
     let old = left(alloc, world, 0, true)?;
     let new = opened(alloc, &world.image, BlockSize::new(512))?;
+    told_crashes(alloc, world, old.as_str(), new.as_str())
+}
+
+// The same, of volumes in these states.
+fn told_crashes(alloc: Global, world: &Disk, old: &str, new: &str) -> Result<String, AllocError> {
     if old == new || !old.starts_with("TEST01") || !new.starts_with("TEST01") {
         return format!(in alloc; "{old} became {new}");
     }
-    match wrong_crash(alloc, world, old.as_str(), new.as_str())? {
+    match wrong_crash(alloc, world, old, new)? {
         None => String::from_str(alloc, "the old volume or the new"),
         Some(moment) => told(alloc, &moment),
     }
@@ -219,15 +258,20 @@ fn changed(alloc: Global, world: &mut Disk, case: &str) -> Option<()> {
     }
 }
 
-/// What a case comes to.
-pub fn answer(alloc: Global, case: &str) -> Result<String, AllocError> {
-    let mut world = disk_of(alloc, case)?;
-    if changed(alloc, &mut world, case).is_none() {
-        return String::from_str(alloc, "not changed");
-    }
+// What is asked of a disk that was changed.
+fn asked(alloc: Global, world: &Disk, case: &str) -> Result<String, AllocError> {
     match case {
         "tree" => written(alloc, world.events()),
         "marks" => marks(alloc, &world.image, 9),
-        _ => crashes(alloc, &world),
+        _ => crashes(alloc, world),
+    }
+}
+
+/// What a case comes to.
+pub fn answer(alloc: Global, case: &str) -> Result<String, AllocError> {
+    let mut world = disk_of(alloc, case)?;
+    match changed(alloc, &mut world, case) {
+        Some(()) => asked(alloc, &world, case),
+        None => String::from_str(alloc, "not changed"),
     }
 }

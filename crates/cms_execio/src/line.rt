@@ -19,7 +19,7 @@ use std::alloc::Global;
 const MOST_WANTED: u32 = 10_000;
 
 /// Whether records are read or written.
-#[derive(Clone, Copy, PartialEq, Eq)]
+#[derive(Clone, Copy)]
 pub enum Direction {
     /// DISKR
     Read,
@@ -28,7 +28,7 @@ pub enum Direction {
 }
 
 /// The records that DISKR reads.
-#[derive(Clone, Copy, PartialEq, Eq)]
+#[derive(Clone, Copy)]
 pub struct ReadRange {
     pub input: FileInput,
     /// how many, at most 10,000, or all that are left
@@ -38,7 +38,7 @@ pub struct ReadRange {
 }
 
 /// How records are stacked.
-#[derive(Clone, Copy, PartialEq, Eq)]
+#[derive(Clone, Copy)]
 pub struct StackStyle {
     pub end: StackEnd,
     /// without the blanks at the end of each
@@ -48,14 +48,14 @@ pub struct StackStyle {
 }
 
 /// What DISKR's line says.
-#[derive(Clone, Copy, PartialEq, Eq)]
+#[derive(Clone, Copy)]
 pub struct ReadLine {
     pub range: ReadRange,
     pub style: StackStyle,
 }
 
 /// Where DISKW writes, and how many lines, at most 10,000.
-#[derive(Clone, Copy, PartialEq, Eq)]
+#[derive(Clone, Copy)]
 pub struct WriteTarget {
     pub name: Name,
     pub mode: WriteMode,
@@ -63,7 +63,7 @@ pub struct WriteTarget {
 }
 
 /// What EXECIO's operands say.
-#[derive(Clone, Copy, PartialEq, Eq)]
+#[derive(Clone, Copy)]
 pub enum Transfer {
     Read(ReadRange),
     Write(WriteTarget),

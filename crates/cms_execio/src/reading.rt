@@ -21,7 +21,7 @@ use cms_world::World;
 use std::alloc::{AllocError, Global};
 
 // Which records are stacked.
-#[derive(Clone, Copy, PartialEq, Eq)]
+#[derive(Clone, Copy)]
 struct Span {
     /// how many stand in front of them
     front: u32,

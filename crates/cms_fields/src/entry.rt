@@ -17,7 +17,7 @@ use cms_text::bytes::{put, put_word, word_at};
 
 /// What an entry says of its file, by VM/SP's published description of the file status table; its
 /// layout is this product's own.
-#[derive(Clone, Copy, Debug, PartialEq, Eq)]
+#[derive(Clone, Copy, PartialEq, Eq)]
 pub struct Entry {
     pub name: Name,
     /// the mode number, 0 to 6
@@ -37,7 +37,7 @@ pub struct Entry {
 }
 
 /// The first test that an entry fails, in this order.
-#[derive(Clone, Copy, Debug, PartialEq, Eq)]
+#[derive(Clone, Copy, Debug)]
 pub enum EntryFault {
     /// a part of its name isn't 1 to 8 name characters and then blanks
     Name,

@@ -8,7 +8,7 @@ use cms_text::bytes::{put, put_word, word_at};
 
 /// What a label says of its volume, by VM/SP's published description of the CMS disk label; its
 /// place and layout are this product's own.
-#[derive(Clone, Copy, Debug, PartialEq, Eq)]
+#[derive(Clone, Copy, Debug)]
 pub struct Label {
     /// the volume id, in EBCDIC
     pub volid: [u8; 6],
@@ -23,7 +23,7 @@ pub struct Label {
 }
 
 /// The first test that a label fails, in this order.
-#[derive(Clone, Copy, Debug, PartialEq, Eq)]
+#[derive(Clone, Copy, Debug)]
 pub enum LabelFault {
     /// it doesn't begin with CMS1
     Id,

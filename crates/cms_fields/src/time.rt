@@ -9,7 +9,7 @@ use jiff::civil::DateTime;
 use jiff::tz::Offset;
 
 /// A civil moment from 1970-01-01 00:00:00 to 2099-12-31 23:59:59.
-#[derive(Clone, Copy, Debug, PartialEq, Eq)]
+#[derive(Clone, Copy)]
 pub struct Moment {
     pub year: u16,
     /// 1 to 12
@@ -84,7 +84,7 @@ fn shown_at(seconds: u32) -> DateTime
 }
 
 /// A moment as a volume keeps it, with the last two digits of its year.
-#[derive(Clone, Copy, Debug, PartialEq, Eq)]
+#[derive(Clone, Copy, PartialEq, Eq)]
 pub struct Stamp {
     /// 0 to 99
     pub year: u16,

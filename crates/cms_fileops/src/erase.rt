@@ -22,14 +22,14 @@ use cms_world::World;
 use std::alloc::Global;
 
 /// The files that are erased: those of a disk that a choice of names and a number take.
-#[derive(Clone, Copy, PartialEq, Eq)]
+#[derive(Clone, Copy)]
 pub struct EraseFiles {
     pub names: NameChoice,
     pub mode: WriteMode,
 }
 
 /// What ERASE's line says.
-#[derive(Clone, Copy, PartialEq, Eq)]
+#[derive(Clone, Copy)]
 pub struct EraseLine {
     pub files: EraseFiles,
     /// each file is typed

@@ -28,7 +28,7 @@ const EQUAL_SIGN: u8 = 0x7E;
 const OUTPUT_MODE: usize = 6;
 
 /// The files that are renamed, and what they get.
-#[derive(Clone, Copy, PartialEq, Eq)]
+#[derive(Clone, Copy)]
 pub struct RenameFiles {
     pub names: NameChoice,
     pub mode: WriteMode,
@@ -38,7 +38,7 @@ pub struct RenameFiles {
 }
 
 /// A name and a mode number that a file gets.
-#[derive(Clone, Copy, PartialEq, Eq)]
+#[derive(Clone, Copy)]
 pub struct Renaming {
     pub name: Name,
     /// 0 to 6
@@ -46,7 +46,7 @@ pub struct Renaming {
 }
 
 /// What RENAME's line says.
-#[derive(Clone, Copy, PartialEq, Eq)]
+#[derive(Clone, Copy)]
 pub struct RenameLine {
     pub files: RenameFiles,
     /// each file is typed

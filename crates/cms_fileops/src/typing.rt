@@ -20,14 +20,14 @@ use cms_world::World;
 use std::alloc::{AllocError, Global};
 
 /// The bytes of a record that are typed: from the first column, at least 1, to the last, at least the first.
-#[derive(Clone, Copy, PartialEq, Eq)]
+#[derive(Clone, Copy)]
 pub struct ColumnRange {
     pub first: u32,
     pub last: u32,
 }
 
 /// What TYPE's operands say: a file, and its records that are typed, from 1; without a last one all to the end.
-#[derive(Clone, Copy, PartialEq, Eq)]
+#[derive(Clone, Copy)]
 pub struct TypeRange {
     pub input: FileInput,
     pub first: u32,
@@ -35,7 +35,7 @@ pub struct TypeRange {
 }
 
 /// How a record is typed.
-#[derive(Clone, Copy, PartialEq, Eq)]
+#[derive(Clone, Copy)]
 pub struct TypeStyle {
     /// two digits a byte
     pub hexadecimal: bool,
@@ -44,7 +44,7 @@ pub struct TypeStyle {
 }
 
 /// What TYPE's line says.
-#[derive(Clone, Copy, PartialEq, Eq)]
+#[derive(Clone, Copy)]
 pub struct TypeLine {
     pub range: TypeRange,
     pub style: TypeStyle,

@@ -10,14 +10,14 @@ use cms_operands::{
 };
 
 /// A file that is read: its name, and the disks on which it is looked for.
-#[derive(Clone, Copy, PartialEq, Eq)]
+#[derive(Clone, Copy)]
 pub struct FileInput {
     pub name: Name,
     pub mode: ReadMode,
 }
 
 /// The files that are meant by a file name and a file type; none stands for every one.
-#[derive(Clone, Copy, PartialEq, Eq)]
+#[derive(Clone, Copy)]
 pub struct NameChoice {
     pub file: Option<Part>,
     pub kind: Option<Part>,

@@ -1,7 +1,7 @@
 // Lines that are stacked.
 
 /// Where lines are stacked.
-#[derive(Clone, Copy, PartialEq, Eq)]
+#[derive(Clone, Copy)]
 pub enum StackEnd {
     /// in front of all others
     Front,

@@ -18,7 +18,7 @@ use cms_world::World;
 use std::alloc::Global;
 
 /// What an update of a file comes to.
-#[derive(Clone, Copy, PartialEq, Eq)]
+#[derive(Clone, Copy)]
 pub enum Updated {
     /// it is done
     Done,

@@ -65,7 +65,7 @@ fn seconds<C: Clock>(clock: &C) -> Option<i64> {
 }
 
 /// What failed, for a person who reads it.
-#[derive(Debug, Drop)]
+#[derive(Drop)]
 pub enum Trouble {
     /// an image couldn't be attached, for the system's reason
     Image(io::Error),

@@ -1,27 +1,17 @@
-// What the words of a case name, for tests whose cases are rows of text, and what is told of it.
+// What the words of a case name, for tests whose cases are rows of text.
 use crate::edits::edited;
 use crate::hello::HELLO;
 use crate::known::{
     empty, erased, full, long_directory, one_file, put, spanning, two_files, wide_map,
 };
+use cms_cases::{byte, number};
 use cms_ebcdic::from_host;
 use cms_names::{Name, Part};
 use cms_world::MemWorld;
 use std::alloc::{AllocError, Global};
-use std::fmt::Debug;
 
 /// FILE, in EBCDIC.
 pub const FILE: &[u8] = &[0xC6, 0xC9, 0xD3, 0xC5];
-
-/// The word of a case at a place, from 0; strokes stand between the words. Empty where there is none.
-pub fn word(case: &str, place: usize) -> &str {
-    case.split('/').nth(place).unwrap_or("")
-}
-
-/// The number of a text, or 0.
-pub fn number(text: &str) -> u32 {
-    text.parse().unwrap_or(0)
-}
 
 /// The name of type FILE whose one character is the first of a text in ASCII, if it is a name.
 pub fn file_named(text: &str) -> Option<Name> {
@@ -64,8 +54,7 @@ fn put_text(image: &mut [u8], change: &str) {
     let block = number(words.next().unwrap_or(""));
     let mut at = number(words.next().unwrap_or(""));
     for digits in words {
-        let byte = u8::from_str_radix(digits, 16).unwrap_or(0);
-        put(image, block as usize, at as usize, &[byte]);
+        put(image, block as usize, at as usize, &[byte(digits)]);
         at = at.saturating_add(1);
     }
 }
@@ -97,9 +86,4 @@ pub fn calls_of(alloc: Global, world: &MemWorld) -> Result<String, AllocError> {
         text.push(char::from(*letter))?;
     }
     Ok(text)
-}
-
-/// A value as tests tell it.
-pub fn told<T: Debug>(alloc: Global, value: &T) -> Result<String, AllocError> {
-    format!(in alloc; "{value:?}")
 }

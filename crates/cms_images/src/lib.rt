@@ -14,9 +14,7 @@ mod small;
 mod stamps;
 mod wide;
 
-pub use cases::{
-    FILE, calls_of, file_named, image_named, number, put_texts, told, word, world_with,
-};
+pub use cases::{FILE, calls_of, file_named, image_named, put_texts, world_with};
 pub use crash::{crashed, image_left};
 pub use disk::{Disk, Event, world_of};
 pub use edits::{Edit, edited, put_edits};

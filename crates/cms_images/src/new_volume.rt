@@ -4,7 +4,7 @@ use crate::many::{DIRECTORY, MAP, put_marks, put_number, start_of};
 use std::alloc::{AllocError, Global};
 
 /// The size of a volume that was made, and how many data blocks and pointer blocks its map has: one of these over more than one of those.
-#[derive(Clone, Copy, Debug, PartialEq, Eq)]
+#[derive(Clone, Copy)]
 pub struct Made {
     /// the bytes of a block
     pub bsize: u32,

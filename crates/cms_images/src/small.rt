@@ -14,7 +14,7 @@ const BLANK: u8 = 0x40;
 
 /// A file: its name and its type, its mode number, whether its records have one length, and its records. All is in capitals, digits and
 /// blanks.
-#[derive(Clone, Copy, Debug)]
+#[derive(Clone, Copy)]
 pub struct SmallFile {
     pub name: &'static str,
     pub kind: &'static str,

@@ -6,7 +6,7 @@ use std::marker::Model;
 
 /// The size of the blocks of a unit, in bytes: 512, 1024, 2048 or 4096 (VM/SP CMS Command and Macro Reference, FORMAT).
 /// Contracts see the number.
-#[derive(Clone, Copy, Debug, PartialEq, Eq)]
+#[derive(Clone, Copy)]
 pub struct BlockSize {
     bytes: u32,
 }

@@ -2,7 +2,7 @@
 use crate::{Blocks, Bytes};
 
 /// A call of the world failed, and raised the count that it belongs to.
-#[derive(Clone, Copy, Debug, PartialEq, Eq)]
+#[derive(Clone, Copy, PartialEq, Eq)]
 pub struct Failed;
 
 /// How a unit is attached.
@@ -17,7 +17,7 @@ pub enum Access {
 }
 
 /// A unit that was attached.
-#[derive(Clone, Copy, Debug, PartialEq, Eq)]
+#[derive(Clone, Copy)]
 pub struct Unit {
     /// Its number: the units are numbered from 0 in the order in which they were attached.
     pub number: u8,

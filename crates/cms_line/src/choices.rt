@@ -9,7 +9,7 @@ use std::alloc::{AllocError, Global};
 
 /// An option of a command: its name, filled with blanks, the length of its shortest spelling, and how many words it takes as
 /// parameters.
-#[derive(Clone, Copy, Debug, PartialEq, Eq)]
+#[derive(Clone, Copy)]
 pub struct OptionRule {
     pub name: [u8; 8],
     pub least: u8,
@@ -17,14 +17,14 @@ pub struct OptionRule {
 }
 
 /// An option that was chosen: the place of its rule, and the place of the word right behind its own, where its parameters begin.
-#[derive(Clone, Copy, Debug, PartialEq, Eq)]
+#[derive(Clone, Copy, Debug)]
 pub struct Choice {
     pub nth: u32,
     pub next: u32,
 }
 
 /// Why options are refused, with the place of the first word that is.
-#[derive(Clone, Copy, Debug, PartialEq, Eq)]
+#[derive(Clone, Copy, Debug)]
 pub enum OptionFault {
     /// no option has this name
     Unknown(u32),
@@ -42,7 +42,7 @@ pub type Chosen = Series<Choice>;
 /// The options left of the first word that is refused, each with all its parameters, and why that word is.
 ///
 /// A command that also looks at parameters looks at those of `chosen` first, and answers the refusals in the order of the words.
-#[derive(Debug, Drop)]
+#[derive(Drop)]
 pub struct Accepted {
     pub chosen: Chosen,
     pub refused: Option<OptionFault>,

@@ -19,7 +19,7 @@ use std::marker::Model;
 const READ: usize = 4096;
 
 /// What a console gives: a line of the script, or its end.
-#[derive(Debug, Drop)]
+#[derive(Drop)]
 pub enum ConsoleLine {
     /// a line in EBCDIC
     Text(Line),
@@ -34,7 +34,7 @@ pub enum ConsoleLine {
 }
 
 /// Why no line was taken.
-#[derive(Clone, Copy, Debug, PartialEq, Eq)]
+#[derive(Clone, Copy)]
 pub enum LineFault {
     /// the world failed to read
     World,

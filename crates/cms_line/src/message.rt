@@ -8,7 +8,7 @@ use std::alloc::AllocError;
 
 /// A message with its number; each word is what stands in its place, in EBCDIC: a mode word with `=` as the letter, a missing
 /// operand as its default, a device as three digits in upper case, an option's word folded.
-#[derive(Debug, Drop)]
+#[derive(Drop)]
 pub enum Message {
     /// an unknown command
     M001(Word),

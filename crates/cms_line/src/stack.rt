@@ -11,7 +11,7 @@ use std::marker::Model;
 pub const STACK_LINES: usize = 10_000;
 
 /// Why a line wasn't stacked.
-#[derive(Clone, Copy, Debug, PartialEq, Eq)]
+#[derive(Clone, Copy)]
 pub enum PushFault {
     /// the stack has 10,000 lines
     Full,

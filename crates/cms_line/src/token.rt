@@ -3,7 +3,7 @@ use crate::Word;
 use cms_text::Series;
 
 /// A word of a line: its text, folded to upper case, and the places of the line that it takes, from `start` up to below `end`.
-#[derive(Debug, Drop)]
+#[derive(Drop)]
 pub struct Token {
     pub text: Word,
     pub start: u8,

@@ -1,11 +1,12 @@
-// The cases of each subject.
+// The cases of each module, and the test that tries them.
 use crate::{consoles, messages, options, stacks, typing};
+use cms_cases::{Subject, try_rows};
 use std::alloc::{AllocError, Global};
 use std::test::Fail;
 
-// What cases are of.
+// Whose cases they are.
 #[derive(Clone, Copy)]
-enum Subject {
+enum Cases {
     // scripts that are read in pieces of this size
     Lines(usize),
     Reads,
@@ -18,50 +19,50 @@ enum Subject {
     Answered,
 }
 
-// The rows `CASE -> ANSWER` of each.
-const ROWS: &[(Subject, &str)] = &[
-    (Subject::Lines(1), consoles::LINES),
-    (Subject::Lines(2), consoles::LINES),
-    (Subject::Lines(7), consoles::LINES),
-    (Subject::Lines(4096), consoles::LINES),
-    (Subject::Reads, consoles::READS),
-    (Subject::Typed, typing::TYPED),
-    (Subject::Codes, typing::CODES),
-    (Subject::Messages, messages::ROWS),
-    (Subject::Stacks, stacks::ROWS),
-    (Subject::Words, options::WORDS),
-    (Subject::Accepted, options::ACCEPTED),
-    (Subject::Answered, options::ANSWERED),
+// The rows of each.
+const ROWS: &[(Cases, &str)] = &[
+    (Cases::Lines(1), consoles::LINES),
+    (Cases::Lines(2), consoles::LINES),
+    (Cases::Lines(7), consoles::LINES),
+    (Cases::Lines(4096), consoles::LINES),
+    (Cases::Reads, consoles::READS),
+    (Cases::Typed, typing::TYPED),
+    (Cases::Codes, typing::CODES),
+    (Cases::Messages, messages::ROWS),
+    (Cases::Stacks, stacks::ROWS),
+    (Cases::Words, options::WORDS),
+    (Cases::Accepted, options::ACCEPTED),
+    (Cases::Answered, options::ANSWERED),
 ];
 
 fn push_answer(
     into: &mut String,
     alloc: Global,
-    subject: Subject,
+    cases: Cases,
     case: &str,
 ) -> Result<(), AllocError> {
-    match subject {
-        Subject::Lines(size) => consoles::push_lines(into, alloc, size, case),
-        Subject::Reads => consoles::push_reads(into, alloc, case),
-        Subject::Typed => typing::push_typed(into, alloc, case),
-        Subject::Codes => typing::push_codes(into, alloc),
-        Subject::Messages => messages::push_text(into, alloc, case),
-        Subject::Stacks => stacks::push_steps(into, alloc, case),
-        Subject::Words => options::push_words(into, alloc, case),
-        Subject::Accepted => options::push_accepted(into, alloc, case),
-        Subject::Answered => options::push_answered(into, alloc, case),
+    match cases {
+        Cases::Lines(size) => consoles::push_lines(into, alloc, size, case),
+        Cases::Reads => consoles::push_reads(into, alloc, case),
+        Cases::Typed => typing::push_typed(into, alloc, case),
+        Cases::Codes => typing::push_codes(into, alloc),
+        Cases::Messages => messages::push_text(into, alloc, case),
+        Cases::Stacks => stacks::push_steps(into, alloc, case),
+        Cases::Words => options::push_words(into, alloc, case),
+        Cases::Accepted => options::push_accepted(into, alloc, case),
+        Cases::Answered => options::push_answered(into, alloc, case),
+    }
+}
+
+impl Subject for Cases {
+    fn answer(&self, alloc: Global, case: &str) -> Result<String, AllocError> {
+        let mut found = String::new(alloc);
+        push_answer(&mut found, alloc, *self, case)?;
+        Ok(found)
     }
 }
 
 #[test]
 fn cases_have_their_answers(rt: HostRuntime) -> Result<(), Fail> {
-    for (subject, rows) in ROWS {
-        for row in rows.lines() {
-            let (case, wanted) = row.split_once(" -> ").unwrap_or((row, ""));
-            let mut found = String::new(rt.alloc());
-            push_answer(&mut found, rt.alloc(), *subject, case)?;
-            assert_eq!(rt; found.as_str(), wanted, "{case}");
-        }
-    }
-    Ok(())
+    try_rows(rt.alloc(), ROWS)
 }

@@ -1,43 +1,44 @@
 // Scripts and their lines.
 use crate::pieces::{Pieces, in_pieces};
-use crate::telling::{number, push_ascii, word};
+use crate::telling::blank_word;
+use cms_cases::{number, push_ascii};
 use cms_line::{Console, ConsoleLine, LineFault};
 use std::alloc::{AllocError, Global};
 
 /// A script, in which `;` is a line feed, `<` a carriage return, `>` a tab, `^` a bell and `~` a deletion, and before which `N*` is so many
 /// times `A`, and its lines, of which those of more than 99 times `A` alone are told so too.
-pub const LINES: &str = " -> ,,,
-A<;B; -> A;B;,,,
-A< -> ?;,,,
-A<<; -> ?;,,,
-A<B; -> ?;,,,
-a<;<; -> a;;,,,
-~;B; -> ?;B;,,,
-A>B; -> A B;,,,
-A^;B; -> ?;B;,,,
-LISTFILE -> LISTFILE;,,,
-;;A; -> ;;A;,,,
-<; ; -> ; ;,,,
-254*; -> 254*;,,,
-255*; -> 255*;,,,
-255*<; -> 255*;,,,
-255* -> 255*;,,,
-255*< -> +;-;,,,
-256*; -> +;-;,,,
-256*<;B; -> +;-;B;,,,
-510*; -> +;-;,,,
-511*; -> +;-;-;,,,
-600*; -> +;-;-;,,,
-600*<;B -> +;-;-;B;,,,
-600*^;B; -> +;-;-;B;,,,";
+pub const LINES: &str = " => ,,,
+A<;B; => A;B;,,,
+A< => ?;,,,
+A<<; => ?;,,,
+A<B; => ?;,,,
+a<;<; => a;;,,,
+~;B; => ?;B;,,,
+A>B; => A B;,,,
+A^;B; => ?;B;,,,
+LISTFILE => LISTFILE;,,,
+;;A; => ;;A;,,,
+<; ; => ; ;,,,
+254*; => 254*;,,,
+255*; => 255*;,,,
+255*<; => 255*;,,,
+255* => 255*;,,,
+255*< => +;-;,,,
+256*; => +;-;,,,
+256*<;B; => +;-;B;,,,
+510*; => +;-;,,,
+511*; => +;-;-;,,,
+600*; => +;-;-;,,,
+600*<;B => +;-;-;B;,,,
+600*^;B; => +;-;-;B;,,,";
 
 /// Whether a script is given in place of the world's, and the call of the world that fails: the lines, the calls of the world, and those
 /// that read past the end.
-pub const READS: &str = "world 0 -> A;B;,,,2,1
-given 0 -> A;B;,,,0,0
-world 1 -> !;A;B;,,,3,1
-world 2 -> A;!;B;,,,3,1
-world 3 -> A;B;,,,2,1";
+pub const READS: &str = "world 0 => A;B;,,,2,1
+given 0 => A;B;,,,0,0
+world 1 => !;A;B;,,,3,1
+world 2 => A;!;B;,,,3,1
+world 3 => A;B;,,,2,1";
 
 // Whether a line is of `A` alone.
 fn is_letters(line: &[u8]) -> bool {
@@ -124,7 +125,7 @@ pub fn push_lines(
     case: &str,
 ) -> Result<(), AllocError> {
     let (count, ending) = case.split_once('*').unwrap_or(("", case));
-    let mut script = vec![in alloc; b'A'; number(count)]?;
+    let mut script = vec![in alloc; b'A'; number(count) as usize]?;
     push_characters(&mut script, ending)?;
     push_script(into, alloc, None, &mut in_pieces(alloc, &script, size, 0))
 }
@@ -150,8 +151,9 @@ fn push_read(
 
 /// Adds what is read of a script up to its end, and further.
 pub fn push_reads(into: &mut String, alloc: Global, case: &str) -> Result<(), AllocError> {
-    let is_given = word(case, 0) == "given";
+    let is_given = blank_word(case, 0) == "given";
     let script = if is_given { "C\n" } else { "A\nB" };
-    let mut world = in_pieces(alloc, script.as_bytes(), 7, number(word(case, 1)));
+    let failing = number(blank_word(case, 1)) as usize;
+    let mut world = in_pieces(alloc, script.as_bytes(), 7, failing);
     push_read(into, alloc, is_given, &mut world)
 }

@@ -1,40 +1,41 @@
 // Messages.
-use crate::telling::{number, push_ascii, short, word};
+use crate::telling::{blank_word, short};
+use cms_cases::{number, push_ascii};
 use cms_line::{Message, Word, write_message};
 use std::alloc::{AllocError, Global};
 
 /// Messages by their numbers and words, and their texts.
-pub const ROWS: &str = "001 XYZ -> CMS001E Unknown command XYZ
-002 PROFILE EXEC A -> CMS002E File PROFILE EXEC A not found
-003 FOO -> CMS003E Option FOO is not valid
-010 -> CMS010E Line has an invalid character
-011 -> CMS011E Line is longer than 255 bytes
-024 A FILE A1 -> CMS024E File A FILE A1 already exists
-029 X RECFM -> CMS029E Parameter X of option RECFM is not valid
-037 B -> CMS037E Disk B is read-only
-048 9 -> CMS048E Mode 9 is not valid
-054 -> CMS054E Operand is missing
-062 A*B -> CMS062E Name A*B is not valid
-069 Z -> CMS069E Disk Z is not accessed
-070 1X -> CMS070E Operand 1X is not valid
-085 RUN 12 3 -> CMS085E Procedure RUN stopped at line 12 with fault 3
-086 RUN 2 -> CMS086E Procedure RUN is not run, reason 2
-105 191 -> CMS105E Device fault on 191
-106 19F -> CMS106E File contents altered on 19F
-107 A 20 7 -> CMS107E Disk A is full, 20 blocks needed, 7 free
-112 192 4 -> CMS112E Device 192 holds no volume, reason 4
-113 1FF -> CMS113E Device 1FF does not exist
-114 195 -> CMS114E Device 195 is too small
-115 191 -> CMS115E Device 191 is in doubt
-120 2 -> CMS120E Limit 2 reached
-121 40 -> CMS121E File has only 40 records
-603 A 191 -> CMS603R FORMAT will erase all files on disk A (191). Go on? Enter YES or NO
-605 -> CMS605R Enter disk label
-723 C 19E -> CMS723I C (19E) R/O
-733 800 B 192 -> CMS733I 800 blocks formatted on B (192)";
+pub const ROWS: &str = "001 XYZ => CMS001E Unknown command XYZ
+002 PROFILE EXEC A => CMS002E File PROFILE EXEC A not found
+003 FOO => CMS003E Option FOO is not valid
+010 => CMS010E Line has an invalid character
+011 => CMS011E Line is longer than 255 bytes
+024 A FILE A1 => CMS024E File A FILE A1 already exists
+029 X RECFM => CMS029E Parameter X of option RECFM is not valid
+037 B => CMS037E Disk B is read-only
+048 9 => CMS048E Mode 9 is not valid
+054 => CMS054E Operand is missing
+062 A*B => CMS062E Name A*B is not valid
+069 Z => CMS069E Disk Z is not accessed
+070 1X => CMS070E Operand 1X is not valid
+085 RUN 12 3 => CMS085E Procedure RUN stopped at line 12 with fault 3
+086 RUN 2 => CMS086E Procedure RUN is not run, reason 2
+105 191 => CMS105E Device fault on 191
+106 19F => CMS106E File contents altered on 19F
+107 A 20 7 => CMS107E Disk A is full, 20 blocks needed, 7 free
+112 192 4 => CMS112E Device 192 holds no volume, reason 4
+113 1FF => CMS113E Device 1FF does not exist
+114 195 => CMS114E Device 195 is too small
+115 191 => CMS115E Device 191 is in doubt
+120 2 => CMS120E Limit 2 reached
+121 40 => CMS121E File has only 40 records
+603 A 191 => CMS603R FORMAT will erase all files on disk A (191). Go on? Enter YES or NO
+605 => CMS605R Enter disk label
+723 C 19E => CMS723I C (19E) R/O
+733 800 B 192 => CMS733I 800 blocks formatted on B (192)";
 
 // The message with this number and no word.
-fn wordless(number: usize) -> Message {
+fn wordless(number: u32) -> Message {
     match number {
         10 => Message::M010,
         11 => Message::M011,
@@ -44,7 +45,7 @@ fn wordless(number: usize) -> Message {
 }
 
 // And with one.
-fn of_one(number: usize, word: Word) -> Message {
+fn of_one(number: u32, word: Word) -> Message {
     match number {
         1 => Message::M001(word),
         3 => Message::M003(word),
@@ -64,7 +65,7 @@ fn of_one(number: usize, word: Word) -> Message {
 }
 
 // And with two.
-fn of_two(number: usize, first: Word, second: Word) -> Message {
+fn of_two(number: u32, first: Word, second: Word) -> Message {
     match number {
         29 => Message::M029(first, second),
         86 => Message::M086(first, second),
@@ -75,7 +76,7 @@ fn of_two(number: usize, first: Word, second: Word) -> Message {
 }
 
 // And with three.
-fn of_three(number: usize, first: Word, second: Word, third: Word) -> Message {
+fn of_three(number: u32, first: Word, second: Word, third: Word) -> Message {
     match number {
         2 => Message::M002(first, second, third),
         24 => Message::M024(first, second, third),
@@ -87,10 +88,10 @@ fn of_three(number: usize, first: Word, second: Word, third: Word) -> Message {
 
 // The message that is given by its number and its words.
 fn message(alloc: Global, case: &str) -> Result<Message, AllocError> {
-    let number = number(word(case, 0));
-    let first = word(case, 1);
-    let second = word(case, 2);
-    let third = word(case, 3);
+    let number = number(blank_word(case, 0));
+    let first = blank_word(case, 1);
+    let second = blank_word(case, 2);
+    let third = blank_word(case, 3);
     if first.is_empty() {
         return Ok(wordless(number));
     }

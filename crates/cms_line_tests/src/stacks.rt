@@ -1,14 +1,15 @@
 // The program stack.
-use crate::telling::{number, word};
+use crate::telling::blank_word;
+use cms_cases::number;
 use cms_line::{Line, ProgStack, PushFault};
 use std::alloc::{AllocError, Global};
 
 /// How many lines of `a` are stacked, and the steps behind that: a small letter is stacked behind, a capital in front, a hyphen takes a
 /// line, and a question mark asks whether there is none. What comes of the steps, and how many lines are left.
-pub const ROWS: &str = "0 cBAd?-?-?-?-?- -> ....fAfBfcfde- 0
-10000 ->  10000
-10000 bB -> !! 10000
-10000 bB-B- -> !!a.B 9999";
+pub const ROWS: &str = "0 cBAd?-?-?-?-?- => ....fAfBfcfde- 0
+10000 =>  10000
+10000 bB => !! 10000
+10000 bB-B- => !!a.B 9999";
 
 // Stacks a line of one byte, and says whether the stack isn't full.
 fn push(alloc: Global, stack: &mut ProgStack, byte: u8, is_front: bool) -> char {
@@ -61,8 +62,8 @@ fn take_steps(
 /// Adds what comes of steps behind lines.
 pub fn push_steps(into: &mut String, alloc: Global, case: &str) -> Result<(), AllocError> {
     let mut stack = ProgStack::new(alloc);
-    for _ in 0..number(word(case, 0)) {
+    for _ in 0..number(blank_word(case, 0)) {
         push(alloc, &mut stack, b'a', false);
     }
-    take_steps(into, alloc, &mut stack, word(case, 1))
+    take_steps(into, alloc, &mut stack, blank_word(case, 1))
 }

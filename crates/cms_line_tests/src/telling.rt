@@ -1,17 +1,11 @@
-// What cases say, and how bytes are told.
-use cms_ebcdic::to_host;
+// What cases say.
 use cms_line::Word;
 use cms_text::{LONGEST_TEXT, ebcdic};
 use std::alloc::{AllocError, Global};
 
-/// The word of a case with this place, from 0: blanks stand between them. Empty where there is none.
-pub fn word(case: &str, place: usize) -> &str {
+/// The word of a case at a place, from 0, where blanks stand between the words. Empty where there is none.
+pub fn blank_word(case: &str, place: usize) -> &str {
     case.split(' ').nth(place).unwrap_or("")
-}
-
-/// The number that a text is, or 0.
-pub fn number(text: &str) -> usize {
-    text.parse().unwrap_or(0)
 }
 
 /// A word or a line of a text.
@@ -21,12 +15,4 @@ pub fn short(alloc: Global, text: &str) -> Result<Word, AllocError> {
         return Err(AllocError);
     }
     Ok(Word::take(bytes))
-}
-
-/// Adds bytes of EBCDIC in ASCII.
-pub fn push_ascii(into: &mut String, bytes: &[u8]) -> Result<(), AllocError> {
-    for byte in bytes {
-        into.push(char::from(to_host(*byte)))?;
-    }
-    Ok(())
 }

@@ -3,7 +3,7 @@ ghost use Rattle.std.specs.Prelude.{◌≡◌};
 ghost use Rattle.cms_listfile.specs.Listing as spec;
 
 /// How far the columns of a line go; each has those in front of it too.
-#[derive(Clone, Copy, PartialEq, Eq)]
+#[derive(Clone, Copy)]
 pub enum Columns {
     /// the file name
     Name,

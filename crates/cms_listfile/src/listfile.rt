@@ -14,7 +14,7 @@ use cms_operands::{
 use std::alloc::Global;
 
 /// Where the lines go.
-#[derive(Clone, Copy, PartialEq, Eq)]
+#[derive(Clone, Copy)]
 pub enum Delivery {
     Typed,
     /// onto the program stack
@@ -32,7 +32,7 @@ pub struct ListFiles {
 }
 
 /// How they are listed.
-#[derive(Clone, Copy, PartialEq, Eq)]
+#[derive(Clone, Copy)]
 pub struct ListStyle {
     pub columns: Columns,
     pub header: bool,

@@ -15,7 +15,7 @@ pub enum VarFault {
 }
 
 /// Why a unit's image could not be opened as a volume.
-#[derive(Clone, Copy, Debug, PartialEq, Eq, Error)]
+#[derive(Clone, Copy, Debug, Error)]
 pub enum OpenFault {
     /// the device failed
     #[error("Device")]

@@ -6,7 +6,7 @@ use crate::character::{ASTERISK, EQUAL_SIGN, letter_number, mode_number};
 
 /// What a word says of the mode of files (VM/SP CMS Command and Macro Reference, "File
 /// identifiers"). A letter is its number, from 0 for A to 25 for Z.
-#[derive(Clone, Copy, Debug, PartialEq, Eq)]
+#[derive(Clone, Copy, Debug)]
 pub enum ModeWord {
     /// `*`: every letter
     Any,

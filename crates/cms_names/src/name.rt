@@ -86,7 +86,7 @@ impl Hash for Part {
 }
 
 /// A file's name and type.
-#[derive(Clone, Copy, Debug, PartialEq, Eq, Hash)]
+#[derive(Clone, Copy, PartialEq, Eq, Hash)]
 pub struct Name {
     pub file: Part,
     pub kind: Part,

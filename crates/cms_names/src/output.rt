@@ -8,7 +8,7 @@ use crate::name::{Name, Part};
 
 /// The name that a command's output is to have; a part that is none is the input's (VM/SP CMS
 /// Command and Macro Reference, COPYFILE and RENAME).
-#[derive(Clone, Copy, Debug, PartialEq, Eq)]
+#[derive(Clone, Copy)]
 pub struct OutId {
     pub file: Option<Part>,
     pub kind: Option<Part>,

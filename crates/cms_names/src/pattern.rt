@@ -11,7 +11,7 @@ use std::marker::Model;
 
 /// A pattern of file names or file types: 1 to 8 name characters, `*` and `%`, in EBCDIC
 /// (VM/SP CMS Command and Macro Reference, LISTFILE).
-#[derive(Clone, Copy, Debug)]
+#[derive(Clone, Copy)]
 pub struct Pattern {
     text: Text,
 }

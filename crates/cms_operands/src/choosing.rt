@@ -18,7 +18,7 @@ const F: u8 = 0xC6;
 const V: u8 = 0xE5;
 
 /// What an option takes: nothing, or one word.
-#[derive(Clone, Copy, Debug, PartialEq, Eq)]
+#[derive(Clone, Copy)]
 pub enum Parameter {
     Nothing,
     /// a number from the first to the second
@@ -32,7 +32,7 @@ pub enum Parameter {
 }
 
 /// An option of a command: its name in EBCDIC, filled with blanks, the length of its shortest spelling, and what it takes.
-#[derive(Clone, Copy, Debug, PartialEq, Eq)]
+#[derive(Clone, Copy)]
 pub struct OptionForm {
     pub name: [u8; 8],
     pub least: u8,
@@ -40,7 +40,7 @@ pub struct OptionForm {
 }
 
 /// What a parameter says.
-#[derive(Clone, Copy, Debug, PartialEq, Eq)]
+#[derive(Clone, Copy, Debug)]
 pub enum Setting {
     /// there is none
     Nothing,
@@ -53,7 +53,7 @@ pub enum Setting {
 }
 
 /// An option that was chosen: the place of its form, and what its parameter says.
-#[derive(Clone, Copy, Debug, PartialEq, Eq)]
+#[derive(Clone, Copy, Debug)]
 pub struct ChosenOption {
     pub nth: u32,
     pub setting: Setting,
@@ -63,7 +63,7 @@ pub struct ChosenOption {
 pub type ChosenOptions = Series<ChosenOption>;
 
 /// Why a command's line isn't read.
-#[derive(Clone, Copy, Debug, PartialEq, Eq)]
+#[derive(Clone, Copy)]
 pub enum CommandFault {
     Refused(Refusal),
     /// there is no memory

@@ -6,7 +6,7 @@ use cms_line::{Message, Token, Word};
 use std::alloc::{AllocError, Global};
 
 /// Why a line is refused, by the place of its word; the command's own word has place 0.
-#[derive(Clone, Copy, Debug, PartialEq, Eq)]
+#[derive(Clone, Copy, Debug)]
 pub enum Refusal {
     /// the word is no name, or no pattern
     BadName(usize),

@@ -6,7 +6,7 @@ use cms_line::{OptionRule, is_named};
 use cms_text::coded;
 
 /// A command.
-#[derive(Clone, Copy, Debug, PartialEq, Eq)]
+#[derive(Clone, Copy, Debug)]
 pub enum CommandName {
     Access,
     Release,
@@ -23,7 +23,7 @@ pub enum CommandName {
 }
 
 /// A command with its word and the length of the word's shortest spelling.
-#[derive(Clone, Copy, Debug)]
+#[derive(Clone, Copy)]
 pub struct Spelling {
     pub rule: OptionRule,
     pub command: CommandName,

@@ -1,7 +1,7 @@
 // What is told of records of varying lengths.
 
 /// What is told of records that each stand behind their length.
-#[derive(Clone, Copy, Debug, PartialEq, Eq)]
+#[derive(Clone, Copy, Debug)]
 pub struct VarSizes {
     /// the length of the longest, in bytes
     pub longest: u32,

@@ -15,7 +15,7 @@ use cms_world::World;
 use std::alloc::Global;
 
 /// What an access of a volume comes to.
-#[derive(Clone, Copy, PartialEq, Eq)]
+#[derive(Clone, Copy)]
 pub enum AccessEnd {
     /// the disk has the letter
     Done {

@@ -61,8 +61,8 @@ fn complain<W: World>(alloc: Global, world: &mut W, no_line: NoLine) -> Result<(
     ensures { Does (seen W.World world.old) (seen W.World world.new) (complaining (complaint (item_in no_line)) (Done tt)) result said }
 {
     match no_line {
-        NoLine::Bad => say_message(alloc, world, &Message::M010),
-        NoLine::Long => say_message(alloc, world, &Message::M011),
+        NoLine::Bad => say_message(alloc, world, Message::M010),
+        NoLine::Long => say_message(alloc, world, Message::M011),
         NoLine::Rest => Ok(()),
     }
 }

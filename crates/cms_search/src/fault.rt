@@ -6,7 +6,7 @@ use cms_disk::OpenFault;
 use std::alloc::AllocError;
 
 /// Why a call on the table is refused.
-#[derive(Clone, Copy, PartialEq, Eq)]
+#[derive(Clone, Copy)]
 pub enum SearchFault {
     /// no unit has this device
     NoUnit(u16),

@@ -11,7 +11,7 @@ use crate::state::{Course, End};
 use cms_line::{Message, type_line, write_message};
 use cms_text::ZERO;
 use cms_world::World;
-use std::alloc::Global;
+use std::alloc::{AllocError, Global};
 
 // The characters of ready lines in EBCDIC.
 const R: u8 = 0xD9;
@@ -34,12 +34,20 @@ pub fn say<W: World>(world: &mut W, line: &[u8]) -> Result<(), End>
     }
 }
 
-/// Types a message.
-pub fn say_message<W: World>(alloc: Global, world: &mut W, message: &Message) -> Result<(), End>
-    ensures { Does (seen W.World world.old) (seen W.World world.new) (saying (typed_line (message_text message.now))) result itself }
+// The text of a message, which goes.
+fn text_of(alloc: Global, message: Message) -> Result<Vec<u8>, AllocError>
+    ensures { IfOk result (λ text. text.items ≡ message_text message) }
 {
     let mut text = Vec::new(alloc);
-    write_message(&mut text, message)?;
+    write_message(&mut text, &message)?;
+    Ok(text)
+}
+
+/// Types a message.
+pub fn say_message<W: World>(alloc: Global, world: &mut W, message: Message) -> Result<(), End>
+    ensures { Does (seen W.World world.old) (seen W.World world.new) (saying (typed_line (message_text message))) result itself }
+{
+    let text = text_of(alloc, message)?;
     say(world, &text)
 }
 
@@ -53,7 +61,7 @@ pub fn refuse<W: World>(
     ensures does { Does (seen W.World world.old) (seen W.World world.new) (saying (typed_line (message_text message))) result said }
     ensures went { IfOk result (λ course. course ≡ Went code) }
 {
-    say_message(alloc, world, &message)?;
+    say_message(alloc, world, message)?;
     Ok(Course::Went(code))
 }
 

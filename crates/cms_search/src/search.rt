@@ -2,7 +2,7 @@
 use cms_text::Series;
 
 /// A file that a search found.
-#[derive(Clone, Copy, PartialEq, Eq)]
+#[derive(Clone, Copy)]
 pub struct Found {
     /// the letter of its disk, A is 0
     pub letter: u8,

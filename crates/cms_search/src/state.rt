@@ -16,7 +16,7 @@ use cms_world::World;
 use std::alloc::{AllocError, AllocFailed, Global};
 
 /// A unit's device.
-#[derive(Clone, Copy, PartialEq, Eq)]
+#[derive(Clone, Copy)]
 pub struct Device {
     /// its number, 1 to 0xFFF
     pub vdev: u16,
@@ -84,7 +84,7 @@ impl State {
 }
 
 /// Why a call is cut off.
-#[derive(Clone, Copy, PartialEq, Eq)]
+#[derive(Clone, Copy)]
 pub enum End {
     /// there is no memory
     Memory,
@@ -109,7 +109,7 @@ impl<T: Drop> From<AllocFailed<T>> for End {
 }
 
 /// How a command ends.
-#[derive(Clone, Copy, PartialEq, Eq)]
+#[derive(Clone, Copy)]
 pub enum Course {
     /// with this return code
     Went(i32),

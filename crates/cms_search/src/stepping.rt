@@ -35,7 +35,7 @@ const FAULT: i32 = 100;
 const ALTERED: i32 = 104;
 
 /// What a change of an accessed disk comes to.
-#[derive(Clone, Copy, PartialEq, Eq)]
+#[derive(Clone, Copy)]
 pub enum Changed {
     /// it is done
     Done,

@@ -32,7 +32,7 @@ pub const LETTERS: usize = 26;
 pub type UnitList = Series<UnitInfo>;
 
 /// What is told of a letter's disk.
-#[derive(Clone, Copy, PartialEq, Eq)]
+#[derive(Clone, Copy)]
 pub struct Seat {
     /// its device, 1 to 4,095
     pub vdev: u16,

@@ -12,7 +12,7 @@ pub struct Session {
 }
 
 /// How a session ends that isn't cut off.
-#[derive(Clone, Copy, PartialEq, Eq)]
+#[derive(Clone, Copy)]
 pub enum Finish {
     /// at the script's end
     AtEnd,
@@ -21,7 +21,7 @@ pub enum Finish {
 }
 
 /// How a round of the session ends.
-#[derive(Clone, Copy, PartialEq, Eq)]
+#[derive(Clone, Copy)]
 pub enum Round {
     /// so that the session ends
     Ended(Finish),

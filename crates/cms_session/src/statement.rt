@@ -54,7 +54,7 @@ fn tell_stop<W: World>(
         (saying (typed_line (message_text (M085 exec.now.start.name (decimal_of line) (decimal_of number))))) result itself }
 {
     let message = stopped(alloc, exec, number, line)?;
-    say_message(alloc, world, &message)
+    say_message(alloc, world, message)
 }
 
 // The code of a procedure that stopped by a fault.

@@ -9,7 +9,7 @@ use std::marker::Model;
 pub const LONGEST_TEXT: usize = 255;
 
 /// A text of 0 to 255 bytes.
-#[derive(Debug, Drop)]
+#[derive(Drop)]
 pub struct ShortText {
     bytes: Vec<u8>,
 }

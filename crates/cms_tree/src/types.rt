@@ -6,7 +6,7 @@ use cms_journal::BlockSize;
 use std::alloc::{AllocError, AllocFailed};
 
 /// How a tree stands over its data blocks.
-#[derive(Clone, Copy, Debug, PartialEq, Eq)]
+#[derive(Clone, Copy, Debug)]
 pub struct Shape {
     /// levels of pointer blocks: none over one data block, else as few as have room for all
     pub levels: u8,
@@ -15,7 +15,7 @@ pub struct Shape {
 }
 
 /// Where a tree stands, and what is known of it.
-#[derive(Clone, Copy, Debug, PartialEq, Eq)]
+#[derive(Clone, Copy)]
 pub struct TreeAt {
     /// the unit's number
     pub unit: u8,
@@ -36,7 +36,7 @@ pub struct TreeAt {
 }
 
 /// Why a tree was not read.
-#[derive(Clone, Copy, Debug, PartialEq, Eq)]
+#[derive(Clone, Copy, Debug)]
 pub enum TreeFault {
     /// the device failed
     Device,
@@ -74,7 +74,7 @@ pub struct Walked {
 }
 
 /// What a pointer of 12 bytes says of a data block, in files whose records have lengths of their own.
-#[derive(Clone, Copy, Debug, PartialEq, Eq)]
+#[derive(Clone, Copy)]
 pub struct Mark {
     /// the number of the last record that begins up to the block's end, counted from 1
     pub last: u32,

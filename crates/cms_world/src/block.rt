@@ -9,7 +9,7 @@ use crate::World;
 use std::alloc::Global;
 
 /// Why a block wasn't read.
-#[derive(Clone, Copy, Debug, PartialEq, Eq)]
+#[derive(Clone, Copy)]
 pub enum ReadFault {
     /// the device failed
     Device,

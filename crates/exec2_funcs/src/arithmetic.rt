@@ -8,7 +8,7 @@ use cms_text::{Word, number, written};
 use std::alloc::Global;
 
 /// An operation on signed numbers of 64 bits.
-#[derive(Clone, Copy, Debug, PartialEq, Eq)]
+#[derive(Clone, Copy)]
 pub enum Operation {
     /// toward zero
     Quotient,

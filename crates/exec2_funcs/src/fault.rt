@@ -4,7 +4,7 @@ use thiserror::Error;
 
 /// Why a call of a function has no value. The number of arguments is tested first, then the arguments from left to right, the
 /// length of the value last.
-#[derive(Clone, Copy, Debug, PartialEq, Eq, Error)]
+#[derive(Clone, Copy, Debug, Error)]
 pub enum FuncFault {
     /// The function doesn't take so many arguments.
     #[error("the number of arguments is wrong")]

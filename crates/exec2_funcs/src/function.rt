@@ -5,7 +5,7 @@ ghost use Rattle.exec2_funcs.specs.Functions as spec;
 use cms_text::is_keyword;
 
 /// A function of EXEC 2. Its word is its name with an ampersand before it.
-#[derive(Clone, Copy, Debug, PartialEq, Eq)]
+#[derive(Clone, Copy, Debug)]
 pub enum Function {
     Concat,
     Datatype,

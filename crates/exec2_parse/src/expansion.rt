@@ -14,7 +14,7 @@ use thiserror::Error;
 const AMPERSAND: u8 = 0x50;
 
 /// Why a word wasn't expanded.
-#[derive(Clone, Copy, Debug, PartialEq, Eq, Error)]
+#[derive(Clone, Copy, Debug, Error)]
 pub enum ExpandFault {
     /// A value, with what stands to its left in the word, has more than 255 bytes.
     #[error("an expanded word is longer than 255 bytes")]

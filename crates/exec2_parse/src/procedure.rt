@@ -19,7 +19,7 @@ const MOST_LINES: u32 = 4096;
 const ASTERISK: u8 = 0x5C;
 
 /// Why a file is no procedure that can be run.
-#[derive(Clone, Copy, Debug, PartialEq, Eq, Error)]
+#[derive(Clone, Copy, Debug, Error)]
 pub enum ProcFault {
     /// The first word of the first line that is neither blank nor a comment isn't &TRACE, or there is no such line.
     #[error("the file is no EXEC 2 procedure")]
@@ -46,7 +46,7 @@ impl From<AllocError> for ProcFault {
 }
 
 /// A procedure, seen as the list of its lines. They have no blanks at their ends, and there are at most 4,096.
-#[derive(Debug, Drop)]
+#[derive(Drop)]
 pub struct Procedure {
     lines: Lines,
 }

@@ -18,7 +18,7 @@ const PLUS: u8 = 0x4E;
 const MINUS: u8 = 0x60;
 
 /// A sign between the numbers of a sum.
-#[derive(Clone, Copy, PartialEq, Eq)]
+#[derive(Clone, Copy)]
 pub enum Sign {
     Plus,
     Minus,

@@ -13,7 +13,7 @@ use std::alloc::{AllocError, Global};
 use std::cmp::Ordering;
 
 /// How two words are compared (VM/SP EXEC 2 Reference, &IF and &LOOP).
-#[derive(Clone, Copy, PartialEq, Eq)]
+#[derive(Clone, Copy)]
 pub enum Comparison {
     /// `=` or EQ
     Equal,

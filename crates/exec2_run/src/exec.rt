@@ -33,7 +33,7 @@ pub struct FileName {
 }
 
 /// Whether the error action runs.
-#[derive(Clone, Copy, PartialEq, Eq)]
+#[derive(Clone, Copy)]
 pub enum ErrorAction {
     Idle,
     /// It runs next.

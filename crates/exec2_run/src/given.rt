@@ -16,7 +16,7 @@ use exec2_parse::Scope;
 use std::alloc::{AllocError, Global};
 
 /// A variable that is given and can't be set (VM/SP EXEC 2 Reference, predefined variables).
-#[derive(Clone, Copy, PartialEq, Eq)]
+#[derive(Clone, Copy)]
 pub enum Predefined {
     Procedure,
     Count,

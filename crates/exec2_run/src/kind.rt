@@ -5,7 +5,7 @@ ghost use Rattle.exec2_run.specs.Kinds as spec;
 use cms_text::{Word, is_keyword};
 
 /// A control word of EXEC 2.
-#[derive(Clone, Copy, PartialEq, Eq)]
+#[derive(Clone, Copy)]
 pub enum Control {
     Trace,
     Type,
@@ -84,7 +84,7 @@ impl Control {
 }
 
 /// What a statement is.
-#[derive(Clone, Copy, PartialEq, Eq)]
+#[derive(Clone, Copy)]
 pub enum Kind {
     /// It has no words.
     Nothing,

@@ -2,7 +2,7 @@
 use cms_text::{Line, Lines};
 
 /// Where lines are stacked.
-#[derive(Clone, Copy, PartialEq, Eq)]
+#[derive(Clone, Copy)]
 pub enum Side {
     /// before all others: taken first
     Front,

@@ -2,6 +2,8 @@
 #![tactic(auto)]
 
 #[cfg(test)]
+mod cases;
+#[cfg(test)]
 mod funcs_tests;
 #[cfg(test)]
 mod parse_tests;

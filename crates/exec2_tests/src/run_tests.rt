@@ -1,5 +1,6 @@
 // Procedures and what they want, by the rules of VM/SP EXEC 2.
-use crate::shared::{coded, host, procedure_of, word};
+use crate::shared::{coded, procedure_of, word};
+use cms_cases::ascii;
 use cms_fields::Moment;
 use cms_names::{Name, Part};
 use cms_text::Lines;
@@ -92,7 +93,7 @@ fn with_lines(alloc: Global, first: &str, lines: &Lines) -> Result<String, Alloc
             "["
         };
         shown.push_str(before)?;
-        shown.push_str(host(alloc, line.bytes())?.as_str())?;
+        shown.push_str(ascii(alloc, line.bytes())?.as_str())?;
         shown.push(']')?;
     }
     shown.push(';')?;
@@ -108,7 +109,7 @@ fn shown(alloc: Global, want: &Want) -> Result<String, AllocError> {
         Want::Stack(lines, Side::Back) => with_lines(alloc, "stack back", lines),
         Want::Read => String::from_str(alloc, "read;"),
         Want::Command(command) => {
-            let text = host(alloc, command.bytes())?;
+            let text = ascii(alloc, command.bytes())?;
             format!(in alloc; "cmd [{text}];")
         }
         Want::Ended(code) => format!(in alloc; "end {code}"),

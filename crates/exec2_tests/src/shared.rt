@@ -3,14 +3,13 @@ ghost use Rattle.std.specs.Prelude.{◌≤◌, length, IfOk};
 ghost use Rattle.cms_fields.specs.Limits.{most_bytes};
 ghost use Rattle.cms_model.specs.Records.{IsValid};
 
-use cms_ebcdic::to_host;
+use cms_cases::ascii;
 use cms_fields::Stamp;
 use cms_model::{FileData, Stored};
 use cms_names::Format;
 use cms_text::{LONGEST_TEXT, Word, ebcdic};
 use exec2_parse::{ProcFault, Procedure, read_procedure};
 use std::alloc::{AllocError, Global};
-use std::test::Fail;
 
 /// A text in EBCDIC; behind a percent sign stands how many letters X it is.
 pub fn coded(alloc: Global, text: &str) -> Result<Vec<u8>, AllocError> {
@@ -20,30 +19,22 @@ pub fn coded(alloc: Global, text: &str) -> Result<Vec<u8>, AllocError> {
     }
 }
 
-/// A word or a line of such a text.
-pub fn word(alloc: Global, text: &str) -> Result<Word, Fail> {
+/// A word or a line of such a text, if it isn't too long.
+pub fn word(alloc: Global, text: &str) -> Result<Word, AllocError> {
     let bytes = coded(alloc, text)?;
     if bytes.len() > LONGEST_TEXT {
-        Err("a long word")?;
+        return Err(AllocError);
     }
     Ok(Word::take(bytes))
 }
 
-/// A text in ASCII.
-pub fn host(alloc: Global, bytes: &[u8]) -> Result<String, AllocError> {
-    bytes
-        .iter()
-        .map(|byte| char::from(to_host(*byte)))
-        .collect(alloc)
-}
-
 /// A word between apostrophes, or how many bytes it has, if these are many.
-pub fn told(alloc: Global, word: &Word) -> Result<String, AllocError> {
+pub fn quoted(alloc: Global, word: &Word) -> Result<String, AllocError> {
     let bytes = word.bytes();
     if bytes.len() > 99 {
         return format!(in alloc; "{} bytes", bytes.len());
     }
-    let text = host(alloc, bytes)?;
+    let text = ascii(alloc, bytes)?;
     format!(in alloc; "'{text}'")
 }
 
@@ -81,18 +72,18 @@ fn filled(alloc: Global, size: u16, lines: &str) -> Result<Vec<u8>, AllocError> 
     Ok(bytes)
 }
 
-// A file of records of one length.
-fn cards(alloc: Global, size: u16, lines: &str) -> Result<FileData, Fail>
+// A file of records of one length, if there may be such a file.
+fn cards(alloc: Global, size: u16, lines: &str) -> Result<FileData, AllocError>
     ensures valid { IfOk result (λ file. IsValid file) }
     ensures stored { IfOk result (λ file. length file.bytes ≤ most_bytes) }
 {
     let bytes = filled(alloc, size, lines)?;
     if size < 1 || size > 300 {
-        Err("no such records")?;
+        return Err(AllocError);
     }
     let count = bytes.len() / usize::from(size);
     if count < 1 || count > 5000 || bytes.len() != count * usize::from(size) {
-        Err("no such file")?;
+        return Err(AllocError);
     }
     Ok(FileData {
         format: Format::F,
@@ -110,7 +101,7 @@ pub fn procedure_of(
     alloc: Global,
     size: u16,
     lines: &str,
-) -> Result<Result<Procedure, ProcFault>, Fail> {
+) -> Result<Result<Procedure, ProcFault>, AllocError> {
     let file = cards(alloc, size, lines)?;
     Ok(read_procedure(alloc, &file))
 }

@@ -5,7 +5,7 @@ use Rattle.cms_held.specs.Opening.{HeldVolume}
 use Rattle.cms_edf.specs.Finishing.{IsPlan}
 use Rattle.cms_edf.specs.Planning.{IsPlanFor}
 use Rattle.cms_edf.specs.declared.step.Step.{Step}
-use Rattle.cms_edf_tests.proofs.writing.drop_file.Goals as goal
+use Rattle.cms_edf_tests.proofs.writing.drop_in.Goals as goal
 
 still : (v w : HeldVolume) (change : Change) (stamp : Stamp) (s : Step) → w ≡ v → IsPlanFor v change stamp s → IsPlan w s
 still v w change stamp s same is = record { change = change; stamp = stamp; is = subst (λ (x : HeldVolume). IsPlanFor x change stamp s) (sym same) is }
