@@ -11,15 +11,11 @@ use std::alloc::{AllocError, Global};
 fn cms_command<'a>(alloc: Global) -> Result<Command<'a>, AllocError>
     ensures { IfOk result (λ c. app_of c ≡ cms) }
 {
-    let turns = Arg::new(alloc, "turns").short('t');
-    let zone = Arg::new(alloc, "zone").short('z');
-    let seed = Arg::new(alloc, "seed").short('g');
-    let unit = Arg::new(alloc, "unit").required(true).num_args(1..);
     let command = Command::new(alloc, "cms")
-        .arg(turns)?
-        .arg(zone)?
-        .arg(seed)?
-        .arg(unit)?;
+        .arg(Arg::new(alloc, "turns").short('t'))?
+        .arg(Arg::new(alloc, "zone").short('z'))?
+        .arg(Arg::new(alloc, "seed").short('g'))?
+        .arg(Arg::new(alloc, "unit").required(true).num_args(1..))?;
     Ok(command)
 }
 
