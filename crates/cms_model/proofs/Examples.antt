@@ -9,6 +9,7 @@ use Rattle.cms_model.specs.Trees.{Image, Form, pointers, is_allowed, tree}
 use Rattle.cms_model.specs.Records.{varying, records_of}
 use Rattle.cms_model.specs.Maps.{is_marked, is_used, lowest_unmarked, lost_count}
 use Rattle.cms_model.specs.Sizes.{levels_from, levels, pointers_to, pointer_count, tree_size, stored_size, file_size, directory_more, map_size, used_count, free_count}
+use Rattle.cms_model.specs.Sharing.{any_within, is_kept, fresh_on, fresh_to, fresh_count}
 use Rattle.cms_model.specs.Minidisks.{File, Minidisk, same_name}
 use Rattle.cms_model.specs.Changes.{Put, Drop, empty_minidisk, changed_files, written_file, put_file, drop_file, last_first, need, is_full}
 use Rattle.cms_model.specs.declared.fault.VarFault.TheVariants.{Zero, PastEnd, Left}
@@ -142,3 +143,25 @@ no_room_to_erase : (need full_disk (Drop (record { file = 0xC1 ∷ []; kind = 0x
 unfolding need changed_files drop_file last_first same_name same file_size stored_size used_count free_count directory_more map_size tree_size levels levels_from pointer_count pointers_to file_of
     full_disk
 no_room_to_erase = (refl, refl)
+
+-- ---- trees that share blocks with the tree before, in blocks of 512 bytes
+
+-- of 301 data blocks the last is written: it, the pointer block over it and the root are new
+longer_by_a_block : fresh_count 128 300 301 (300 ∷ []) ≡ 3
+unfolding fresh_count fresh_to fresh_on is_kept any_within levels levels_from
+longer_by_a_block = refl
+
+-- a full tree of one level gets a second: the pointer block that was the root is kept
+higher_by_a_level : fresh_count 42 42 43 (42 ∷ []) ≡ 3
+unfolding fresh_count fresh_to fresh_on is_kept any_within levels levels_from
+higher_by_a_level = refl
+
+-- two data blocks of three are written, and the root over them
+two_of_three : fresh_count 128 3 3 (0 ∷ 2 ∷ []) ≡ 3
+unfolding fresh_count fresh_to fresh_on is_kept any_within levels levels_from
+two_of_three = refl
+
+-- with four pointers in a block: a pointer block over the last data block isn't kept where one of those below it is gone
+shorter_by_a_block : fresh_count 4 6 5 (0 ∷ []) ≡ 4
+unfolding fresh_count fresh_to fresh_on is_kept any_within levels levels_from
+shorter_by_a_block = refl

@@ -28,5 +28,9 @@ pub mod Standing
 pub mod Renewing
 pub mod Putting
 pub mod Pointers
+pub mod Sharing
+pub mod ByLevels
+pub mod SharedTiers
+pub mod SharedTimes
 mod Examples
 mod SmallVolume

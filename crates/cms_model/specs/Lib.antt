@@ -18,3 +18,7 @@ pub mod LawsChanges
 pub mod LawsRoom
 pub mod LawsLookup
 pub mod Stands
+pub mod Sharing
+pub mod ByLevels
+pub mod SharedTiers
+pub mod SharedTimes

@@ -1,5 +1,6 @@
 // What follows from the definitions of volumes.
 ghost use Rattle.cms_model.specs.Built.{BuiltIsRead};
+ghost use Rattle.cms_model.specs.ByLevels.{ReadIsHeaped};
 ghost use Rattle.cms_model.specs.LawsChanges.{NamesAreTold, NamesStayDistinct, NoneIsAdded, OpenedAreDistinct, PlaceIsChanged, PlaceIsFound};
 ghost use Rattle.cms_model.specs.LawsLookup.{ChangedIsFound, OthersStay, RestIsLeft};
 ghost use Rattle.cms_model.specs.LawsRecords.{FixedAreCut, StandsForOne, StoredHasSize, VaryingAreRead};
@@ -8,6 +9,9 @@ ghost use Rattle.cms_model.specs.LawsSizes.{BlocksAreShared};
 ghost use Rattle.cms_model.specs.LawsTrees.{FirstIsFixed, LeavesAreBlocks, OnlyItsPointers, PointersAreRead, ShapeIsLeast, TreeHasSize, TreeIsWithin, TreeRestsOnItsBlocks};
 ghost use Rattle.cms_model.specs.LawsUpdates.{AfterIsTold, ApartIsKept, AsideIsAsBefore, FrontsOfUpdate, KeepsOld, KeepsWiped, MakeIsWhole, RelabelIsWhole, SettledIsFirm, SyncSettles, UntouchedStarts, UpdateIsAside, UpdateIsPut, UpdateIsWhole, WipeIsWhole, WipedIsNone};
 ghost use Rattle.cms_model.specs.LawsVolumes.{NoLabelIsNone, OpenedIsInOrder, OpensWhereHeld, RestsOnFrame, StateIsMinidisk};
+ghost use Rattle.cms_model.specs.SharedTiers.{SharedStands};
+ghost use Rattle.cms_model.specs.SharedTimes.{CameIsFresh, LeavesTimes, SharedTimes};
+ghost use Rattle.cms_model.specs.Sharing.{AllIsWhole, BehindIsWritten, TakesNoMore};
 ghost use Rattle.cms_model.specs.Stands.{OpenedIsMinidisk, OpenedStands, RenewedStands, StandsOpens};
 
 /// Records and the bytes that hold them: what is joined is cut again.
@@ -29,6 +33,22 @@ pub fn tree_laws()
     ensures built { BuiltIsRead }
     ensures pointers { OnlyItsPointers }
     ensures read { PointersAreRead }
+{}
+
+/// Trees that share blocks with the tree before.
+///
+/// - Where all data blocks are written nothing is kept, and a tree has no more blocks than it had and those that are written anew.
+/// - A tree that is read stands level by level, and one that keeps blocks of it stands with their bytes.
+/// - It has the blocks of the tree before, without those that it leaves out and with those that it takes.
+pub fn sharing_laws()
+    ensures whole { AllIsWhole }
+    ensures room { TakesNoMore }
+    ensures behind { BehindIsWritten }
+    ensures read { ReadIsHeaped }
+    ensures stands { SharedStands }
+    ensures times { SharedTimes }
+    ensures leaves { LeavesTimes }
+    ensures came { CameIsFresh }
 {}
 
 /// The volume in an image: the order of tests, what it rests on, its state and where its blocks lie.

@@ -8,6 +8,6 @@ mod laws;
 pub use fault::{OpenFault, VarFault};
 pub use file::{FileData, Stored};
 pub use laws::{
-    change_laws, crash_state_laws, record_laws, size_laws, standing_laws, tree_laws, update_laws,
-    volume_laws,
+    change_laws, crash_state_laws, lookup_laws, record_laws, room_laws, sharing_laws, size_laws,
+    standing_laws, tree_laws, update_laws, volume_laws,
 };
