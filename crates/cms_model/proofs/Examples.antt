@@ -13,6 +13,9 @@ use Rattle.cms_model.specs.Sharing.{any_within, is_kept, fresh_on, fresh_to, fre
 use Rattle.cms_model.specs.Minidisks.{File, Minidisk, same_name}
 use Rattle.cms_model.specs.Changes.{Put, Drop, empty_minidisk, changed_files, written_file, put_file, drop_file, last_first, need, is_full}
 use Rattle.cms_model.specs.declared.fault.VarFault.TheVariants.{Zero, PastEnd, Left}
+use Rattle.cms_fields.specs.declared.entry.EntryFault.TheVariants as entry_fault
+use Rattle.cms_fields.specs.declared.label.LabelFault.TheVariants as label_fault
+use Rattle.cms_model.specs.Volumes.{reason}
 use Rattle.cms_model.specs.declared.fault.OpenFault.TheVariants as failed
 
 -- ---- trees, with two pointers in a block
@@ -92,6 +95,15 @@ eight_is_missing = refl
 six_is_crossed : first_repeat [] (4 ∷ 6 ∷ 9 ∷ 6 ∷ 9 ∷ []) ≡ Some 6
 unfolding first_repeat holds
 six_is_crossed = refl
+
+-- ---- reasons
+
+-- the numbers by which reasons are told, in their order
+numbers_of_reasons : reason failed.Device ∷ reason (failed.Label label_fault.Id) ∷ reason (failed.Entry 2 entry_fault.Name) ∷ reason (failed.Pointer 9 5) ∷ reason (failed.Crossed 6)
+    ∷ reason (failed.MapMissing 8) ∷ reason (failed.Var 2 (Zero 4)) ∷ reason (failed.Twice 3) ∷ reason (failed.System 0) ∷ reason failed.Memory ∷ []
+    ≡ 1 ∷ 2 ∷ 3 ∷ 4 ∷ 5 ∷ 6 ∷ 7 ∷ 8 ∷ 9 ∷ 10 ∷ []
+unfolding reason
+numbers_of_reasons = refl
 
 -- ---- sizes, in blocks of 512 bytes
 

@@ -1,12 +1,12 @@
 -- What a change needs is what it takes; when a change is made.
 use Rattle.std.proofs.Common.{◌≡◌, ◌⊎◌, inl, inr, ⊎_elim, ℕ, ◌+◌, ◌<◌, ◌≤◌, Bool, true, false, if◌then◌else◌, nat_lt, List, [], ◌∷◌, length, sum_by, Option, Some, None, refl, sym, ◌∙◌, ap, subst, arith}
-use Rattle.std.proofs.lemmas.Bool.{cases_Bool, ltb-true, ltb-false}
+use Rattle.std.proofs.lemmas.Bool.{cases_Bool, ltb-true, ltb-false, lt-ltb, le-ltb}
 use Rattle.std.proofs.lemmas.List.Sums.{sum_by-cons}
 use Rattle.cms_names.specs.declared.name.Name.{Name}
 use Rattle.cms_model.specs.Minidisks.{File, Minidisk, same_name}
 use Rattle.cms_model.specs.Sizes.{stored_size, file_size, used_count, free_count}
 use Rattle.cms_model.specs.Changes.{Change, Put, Add, Drop, Rename, Relabel, file_named, put_file, added_to, change_file, behind_first, last_first, drop_file, changed_files, changed, written_file, file_need, need, is_full, file_limit, limit, Limited, Full, Changed, answer_of}
-use Rattle.cms_model.specs.LawsRoom.{NeedIsTaken, IsWithin, Makes, ChangedWhereMade, FullWhereLacking, RoomIsKept}
+use Rattle.cms_model.specs.LawsRoom.{NeedIsTaken, IsWithin, Makes, ChangedWhereMade, FullWhereLacking, PassesFirst, Files, Records, Bytes, LimitedWherePassing, RoomIsKept}
 
 -- the blocks of files
 abbrev sizes : ℕ → List File → ℕ
@@ -198,6 +198,68 @@ full_where_lacking m change needed free = (
       (λ a. rw (lacks.needed_is, lacks.free_is) a.2)
       (λ a. let short = lacks.short in let room = a.1 in let n = lacks.needed_is in let f = lacks.free_is in absurd (omega (arith, short, room, n, f))))
       (answer_case m change),
+)
+
+-- ---- which limit is told
+
+-- no limit is passed, or the first that is
+abbrev LimitCase : Minidisk → Change → Type 0
+LimitCase m change = (limit m change ≡ None) ⊎ ((k : ℕ) × (limit m change ≡ Some k) × PassesFirst m change k)
+
+written_case : (m : Minidisk) (change : Change) (w : Option File) → nat_lt 16384 (length (changed_files m.files change)) ≡ false → written_file m change ≡ w → LimitCase m change
+unfolding limit changed
+written_case m change None few is = inl (rw (few, is) refl)
+written_case m change (Some f) few is = ⊎_elim
+    (λ (many : nat_lt 1048576 (length f.records) ≡ true).
+    inr (2, rw (few, is, many) refl, Records f refl (ltb-false 16384 (length (changed_files m.files change)) few) is (ltb-true 1048576 (length f.records) many)))
+    (λ (some : nat_lt 1048576 (length f.records) ≡ false). ⊎_elim
+    (λ (much : nat_lt 67108864 (stored_size f.format f.records) ≡ true).
+    inr (
+      3,
+      rw (few, is, some, much) refl,
+      Bytes f refl (ltb-false 16384 (length (changed_files m.files change)) few) is (ltb-false 1048576 (length f.records) some)
+          (ltb-true 67108864 (stored_size f.format f.records) much),
+    ))
+    (λ (small : nat_lt 67108864 (stored_size f.format f.records) ≡ false). inl (rw (few, is, some, small) refl))
+    (cases_Bool (nat_lt 67108864 (stored_size f.format f.records))))
+    (cases_Bool (nat_lt 1048576 (length f.records)))
+
+limit_case : (m : Minidisk) (change : Change) → LimitCase m change
+unfolding limit changed
+limit_case m change = ⊎_elim
+    (λ (many : nat_lt 16384 (length (changed_files m.files change)) ≡ true).
+    inr (1, rw many refl, Files refl (ltb-true 16384 (length (changed_files m.files change)) many)))
+    (λ (few : nat_lt 16384 (length (changed_files m.files change)) ≡ false). written_case m change (written_file m change) few refl)
+    (cases_Bool (nat_lt 16384 (length (changed_files m.files change))))
+
+limit_is : (m : Minidisk) (change : Change) (k : ℕ) → PassesFirst m change k → limit m change ≡ Some k
+unfolding limit changed
+limit_is m change k (Files is many) = rw (is, lt-ltb 16384 (length (changed_files m.files change)) many) refl
+limit_is m change k (Records f is few written many) =
+    rw (is, le-ltb 16384 (length (changed_files m.files change)) few, written, lt-ltb 1048576 (length f.records) many) refl
+limit_is m change k (Bytes f is few written some much) =
+    rw (is, le-ltb 16384 (length (changed_files m.files change)) few, written, le-ltb 1048576 (length f.records) some, lt-ltb 67108864 (stored_size f.format f.records) much) refl
+
+unlimited : (m : Minidisk) (change : Change) (k : ℕ) → limit m change ≡ None → answer_of m change ≡ Limited k → ⊥
+unfolding answer_of is_full
+unlimited m change k none is = ⊎_elim
+    (λ (full : nat_lt (free_count m) (need m change) ≡ true). let clash : Full (need m change) (free_count m) ≡ Limited k = rw (none, full) at is in absurd (cc))
+    (λ (room : nat_lt (free_count m) (need m change) ≡ false). let clash : Changed (changed m change) ≡ Limited k = rw (none, room) at is in absurd (cc))
+    (cases_Bool (nat_lt (free_count m) (need m change)))
+
+told : (m : Minidisk) (change : Change) (k : ℕ) → limit m change ≡ Some k → answer_of m change ≡ Limited k
+unfolding answer_of
+told m change k is = rw is refl
+
+pub limited_where_passing : LimitedWherePassing
+limited_where_passing m change k = (
+  λ is. ⊎_elim
+      (λ none. absurd (unlimited m change k none is))
+      (λ c. let same : Limited c.0 ≡ Limited k = sym (told m change c.0 c.1) ∙ is in
+      let number : c.0 ≡ k = cc in
+      subst (λ (n : ℕ). PassesFirst m change n) number c.2)
+      (limit_case m change),
+  λ passes. told m change k (limit_is m change k passes),
 )
 
 -- ---- room

@@ -1,5 +1,5 @@
 -- The order of tests opens exactly the volumes.
-use Rattle.std.proofs.Common.{◌≡◌, ◌⊎◌, ◌↔◌, inl, inr, ⊎_elim, ℕ, ◌-◌, ◌≤◌, List, [], drop, Option, Some, None, Result, Ok, Err, Bool, true, false, refl, ◌∙◌, ap, subst}
+use Rattle.std.proofs.Common.{arith, ◌≡◌, ◌⊎◌, ◌↔◌, inl, inr, ⊎_elim, ℕ, ◌-◌, ◌≤◌, List, [], drop, Option, Some, None, Result, Ok, Err, Bool, true, false, refl, ◌∙◌, ap, subst}
 use Rattle.std.specs.Prelude.{nat_le, ◌==◌}
 use Rattle.std.proofs.lemmas.Bool.{eqb-true, or_cases}
 use Rattle.cms_names.specs.Names.{is_between}
@@ -14,7 +14,8 @@ use Rattle.cms_model.specs.Trees.{Image, form_of, tree, bytes_at}
 use Rattle.cms_model.specs.Maps.{lowest_unmarked}
 use Rattle.cms_model.specs.Minidisks.{Minidisk, Volume, Not}
 use Rattle.cms_model.specs.Systems.{directory_of, map_of}
-use Rattle.cms_model.specs.Volumes.{Disk, Opened, IsOpened, blamed, absent, open_of, minidisk_of, state_from, state_of, reason, entries_of, first_twice, file_trees, tree_blocks, contents_in}
+use Rattle.cms_model.specs.Volumes.{Disk, Opened, IsOpened, disk_of, blamed, absent, open_of, minidisk_of, state_from, state_of, reason, entries_of, first_twice, file_trees, tree_blocks, contents_in}
+use Rattle.cms_model.specs.LawsVolumes.{DiskIsLookedAt}
 use Rattle.cms_model.specs.Settled.{frame, Agree}
 use Rattle.cms_model.specs.declared.fault.OpenFault.{OpenFault}
 use Rattle.cms_model.specs.declared.fault.OpenFault.TheVariants as failed
@@ -126,3 +127,7 @@ label_reads bsize count bytes label e =
     let is : label_fields bytes ≡ label = ok_same (label_fields bytes) label f.1 in
     let range = between 6 count (word bytes 28) d.0 in
     subst (Reads bsize count bytes) is (record { identifier = a.0; origin = is_four_or_five (word bytes 16) c.0; low = range.0; high = range.1 })
+
+-- how much of a unit is looked at
+pub disk_is_looked_at : DiskIsLookedAt
+disk_is_looked_at unit = record { size = refl; all = λ few. omega arith; first = λ many. omega arith }

@@ -12,8 +12,8 @@ use Rattle.cms_names.specs.declared.name.Format.TheVariants.{F, V}
 use Rattle.cms_text.specs.Bytes.{half}
 use Rattle.cms_model.specs.Lists.{cut}
 use Rattle.cms_model.specs.Sizes.{stored_size}
-use Rattle.cms_model.specs.Records.{with_length, longest, stored, Fits, HoldRecords, varying, records_of, StandsFor}
-use Rattle.cms_model.specs.LawsRecords.{AreBytes}
+use Rattle.cms_model.specs.Records.{with_length, longest, stored, Fits, HoldRecords, varying, records_of, StandsFor, IsValid}
+use Rattle.cms_model.specs.LawsRecords.{AreBytes, ValidHasRecords}
 use Rattle.cms_model.specs.declared.fault.VarFault.TheVariants.{Zero, PastEnd, Left}
 use Rattle.cms_model.specs.declared.file.FileData.{FileData}
 use Rattle.cms_model.proofs.Results.{ok_same, want_ok, bind_then}
@@ -216,3 +216,24 @@ same_stored V size some others same all all' count =
 
 pub stands_for_one : (f : FileData) (some others : List (List ℕ)) → StandsFor f some → StandsFor f others → some ≡ others
 stands_for_one f some others s o = same_stored f.format f.length some others (sym s.bytes_are ∙ o.bytes_are) s.each o.each (sym s.count_is ∙ o.count_is)
+
+-- ---- at least one record
+
+some_stored : (format : Format) (size : ℕ) (records : List (List ℕ)) → 1 ≤ size → All (Fits format size) records → 1 ≤ length records → 1 ≤ length (stored format records)
+some_stored format size [] wide all some = absurd (omega arith)
+some_stored F size (r ∷ rs) wide all some =
+    let one : length r ≡ size = All-head (Fits F size) r rs all in
+    let long : length (r ++ concat rs) ≡ length r + length (concat rs) = length-append r (concat rs) in
+    omega arith
+some_stored V size (r ∷ rs) wide all some =
+    let one : length (with_length r) ≡ 2 + length r = length-with_length r in
+    let long : length (with_length r ++ stored V rs) ≡ length (with_length r) + length (stored V rs) = length-append (with_length r) (stored V rs) in
+    omega arith
+
+pub valid_has_records : ValidHasRecords
+valid_has_records f valid =
+    let s = valid.stands in
+    let some = s.some in
+    let count = s.count_is in
+    let bytes = some_stored f.format f.length valid.records s.length_fits.0 s.each some in
+    (omega arith, subst (λ (l : List ℕ). 1 ≤ length l) (sym s.bytes_are) bytes)

@@ -2,7 +2,7 @@
 use Rattle.std.specs.Prelude.{◌≡◌, ◌↔◌, ℕ, ◌+◌, ◌*◌, ◌<◌, ◌≤◌, List, length, slice_index, Ok}
 use Rattle.cms_names.specs.declared.name.Format.{Format}
 use Rattle.cms_names.specs.declared.name.Format.TheVariants.{F, V}
-use Rattle.cms_model.specs.Records.{HoldRecords, StandsFor, records_of, stored}
+use Rattle.cms_model.specs.Records.{HoldRecords, StandsFor, IsValid, records_of, stored}
 use Rattle.cms_model.specs.Sizes.{stored_size}
 use Rattle.cms_model.specs.declared.file.FileData.{FileData}
 
@@ -30,3 +30,7 @@ StoredHasSize = (format : Format) (records : List (List ℕ)) → length (stored
 -- stored bytes stand for one list of records
 abbrev pub StandsForOne : Type 0
 StandsForOne = (f : FileData) (some others : List (List ℕ)) → StandsFor f some → StandsFor f others → some ≡ others
+
+-- a valid file has a record, and a byte that is stored
+abbrev pub ValidHasRecords : Type 0
+ValidHasRecords = (f : FileData) → IsValid f → (1 ≤ f.count) × (1 ≤ length f.bytes)

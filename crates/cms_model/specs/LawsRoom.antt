@@ -3,7 +3,7 @@ use Rattle.std.specs.Prelude.{◌≡◌, ◌↔◌, ℕ, ◌+◌, ◌<◌, ◌�
 use Rattle.cms_fields.specs.Limits.{most_records, most_bytes, most_files}
 use Rattle.cms_model.specs.Minidisks.{File, Minidisk}
 use Rattle.cms_model.specs.Sizes.{stored_size, directory_more, map_size, used_count, free_count}
-use Rattle.cms_model.specs.Changes.{Change, Put, Add, Drop, Rename, Relabel, file_named, changed, written_file, file_need, need, Full, Changed, answer_of}
+use Rattle.cms_model.specs.Changes.{Change, Put, Add, Drop, Rename, Relabel, file_named, changed, written_file, file_need, need, Limited, Full, Changed, answer_of}
 
 -- the blocks of the directory, but for its first, and of the map
 abbrev pub system_size : Minidisk → ℕ
@@ -47,6 +47,19 @@ pub record Lacks (m : Minidisk) (change : Change) (needed free : ℕ) : Type 0 w
 
 abbrev pub FullWhereLacking : Type 0
 FullWhereLacking = (m : Minidisk) (change : Change) (needed free : ℕ) → (answer_of m change ≡ Full needed free) ↔ Lacks m change needed free
+
+-- a change passes this limit, and none before it: 1, more than 16,384 files; 2, more than 1,048,576 records of the file that it writes
+-- anew; 3, more than 67,108,864 stored bytes of it
+pub data PassesFirst (m : Minidisk) (change : Change) (k : ℕ) : Type 0 where
+  Files : k ≡ 1 → most_files < length (changed m change).files → PassesFirst m change k
+  Records : (f : File) → k ≡ 2 → length (changed m change).files ≤ most_files → written_file m change ≡ Some f
+      → most_records < length f.records → PassesFirst m change k
+  Bytes : (f : File) → k ≡ 3 → length (changed m change).files ≤ most_files → written_file m change ≡ Some f
+      → length f.records ≤ most_records → most_bytes < stored_size f.format f.records → PassesFirst m change k
+
+-- a limit is told exactly where it is the first that the change passes
+abbrev pub LimitedWherePassing : Type 0
+LimitedWherePassing = (m : Minidisk) (change : Change) (k : ℕ) → (answer_of m change ≡ Limited k) ↔ PassesFirst m change k
 
 -- a minidisk that has room for what it has in use and for its lost blocks has it after each change that isn't refused
 abbrev pub RoomIsKept : Type 0

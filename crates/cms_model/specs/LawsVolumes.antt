@@ -1,11 +1,12 @@
 -- What follows for the volume in an image.
-use Rattle.std.specs.Prelude.{◌≡◌, ◌↔◌, ◌⊎◌, ℕ, ◌≤◌, true, false, Ok}
+use Rattle.std.specs.Prelude.{◌≡◌, ◌↔◌, ◌⊎◌, ℕ, ◌≤◌, true, false, Ok, length}
+use Rattle.cms_journal.specs.declared.event.Attached.{Attached}
 use Rattle.cms_fields.specs.Labels.{has_identifier}
 use Rattle.cms_model.specs.Lists.{In, times}
 use Rattle.cms_model.specs.Trees.{Image, bytes_at}
 use Rattle.cms_model.specs.Maps.{is_marked}
 use Rattle.cms_model.specs.Minidisks.{Minidisk, Volume, Not}
-use Rattle.cms_model.specs.Volumes.{Disk, Opened, IsOpened, open_of, minidisk_of, state_of, all_blocks}
+use Rattle.cms_model.specs.Volumes.{Disk, Opened, IsOpened, disk_of, open_of, minidisk_of, state_of, all_blocks}
 use Rattle.cms_model.specs.Settled.{frame, Agree}
 
 -- an image opens as a volume exactly where it holds that volume, test by test
@@ -36,3 +37,12 @@ pub record IsInOrder (disk : Disk) (image : Image) (v : Opened) : Type 0 where
 
 abbrev pub OpenedIsInOrder : Type 0
 OpenedIsInOrder = (disk : Disk) (image : Image) (v : Opened) → open_of disk image ≡ Ok v → IsInOrder disk image v
+
+-- this is looked at of a unit: all its blocks, or the first 1,048,576 where it has more
+pub record LooksAt (unit : Attached) (disk : Disk) : Type 0 where
+  pub size : disk.bsize ≡ unit.bsize
+  pub all : length unit.start ≤ 1048576 → disk.count ≡ length unit.start
+  pub first : 1048576 ≤ length unit.start → disk.count ≡ 1048576
+
+abbrev pub DiskIsLookedAt : Type 0
+DiskIsLookedAt = (unit : Attached) → LooksAt unit (disk_of unit)

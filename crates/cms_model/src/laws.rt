@@ -3,23 +3,24 @@ ghost use Rattle.cms_model.specs.Built.{BuiltIsRead};
 ghost use Rattle.cms_model.specs.ByLevels.{ReadIsHeaped};
 ghost use Rattle.cms_model.specs.LawsChanges.{NamesAreTold, NamesStayDistinct, NoneIsAdded, OpenedAreDistinct, PlaceIsChanged, PlaceIsFound};
 ghost use Rattle.cms_model.specs.LawsLookup.{ChangedIsFound, OthersStay, RestIsLeft};
-ghost use Rattle.cms_model.specs.LawsRecords.{FixedAreCut, StandsForOne, StoredHasSize, VaryingAreRead};
-ghost use Rattle.cms_model.specs.LawsRoom.{ChangedWhereMade, FullWhereLacking, NeedIsTaken, RoomIsKept};
+ghost use Rattle.cms_model.specs.LawsRecords.{FixedAreCut, StandsForOne, StoredHasSize, ValidHasRecords, VaryingAreRead};
+ghost use Rattle.cms_model.specs.LawsRoom.{ChangedWhereMade, FullWhereLacking, LimitedWherePassing, NeedIsTaken, RoomIsKept};
 ghost use Rattle.cms_model.specs.LawsSizes.{BlocksAreShared};
 ghost use Rattle.cms_model.specs.LawsTrees.{FirstIsFixed, LeavesAreBlocks, OnlyItsPointers, PointersAreRead, ShapeIsLeast, TreeHasSize, TreeIsWithin, TreeRestsOnItsBlocks};
 ghost use Rattle.cms_model.specs.LawsUpdates.{AfterIsTold, ApartIsKept, AsideIsAsBefore, FrontsOfUpdate, KeepsOld, KeepsWiped, MakeIsWhole, RelabelIsWhole, SettledIsFirm, SyncSettles, UntouchedStarts, UpdateIsAside, UpdateIsPut, UpdateIsWhole, WipeIsWhole, WipedIsNone};
-ghost use Rattle.cms_model.specs.LawsVolumes.{NoLabelIsNone, OpenedIsInOrder, OpensWhereHeld, RestsOnFrame, StateIsMinidisk};
+ghost use Rattle.cms_model.specs.LawsVolumes.{DiskIsLookedAt, NoLabelIsNone, OpenedIsInOrder, OpensWhereHeld, RestsOnFrame, StateIsMinidisk};
 ghost use Rattle.cms_model.specs.SharedTiers.{SharedStands};
 ghost use Rattle.cms_model.specs.SharedTimes.{CameIsFresh, LeavesTimes, SharedTimes};
 ghost use Rattle.cms_model.specs.Sharing.{AllIsWhole, BehindIsWritten, TakesNoMore};
 ghost use Rattle.cms_model.specs.Stands.{OpenedIsMinidisk, OpenedStands, RenewedStands, StandsOpens};
 
-/// Records and the bytes that hold them: what is joined is cut again.
+/// Records and the bytes that hold them: what is joined is cut again, and a valid file has at least one.
 pub fn record_laws()
     ensures fixed { FixedAreCut }
     ensures varying { VaryingAreRead }
     ensures size { StoredHasSize }
     ensures one { StandsForOne }
+    ensures some { ValidHasRecords }
 {}
 
 /// Trees of blocks: their levels, their blocks and what they rest on.
@@ -51,13 +52,14 @@ pub fn sharing_laws()
     ensures came { CameIsFresh }
 {}
 
-/// The volume in an image: the order of tests, what it rests on, its state and where its blocks lie.
+/// The volume in an image: the order of tests, what it rests on, its state and where its blocks lie, and how much of a unit is looked at.
 pub fn volume_laws()
     ensures opens { OpensWhereHeld }
     ensures frame { RestsOnFrame }
     ensures state { StateIsMinidisk }
     ensures no_label { NoLabelIsNone }
     ensures order { OpenedIsInOrder }
+    ensures disk { DiskIsLookedAt }
 {}
 
 /// An open volume file by file: what stands opens, what opens stands, and what an update exchanges for it stands.
@@ -98,11 +100,13 @@ pub fn lookup_laws()
 ///
 /// - What it needs is what it takes: the blocks in use after it are those before, and these, without those that it gives back.
 /// - It is made exactly where it passes no limit and there is room, and full exactly where it passes none and there isn't.
+/// - A limit is told exactly where it is the first that the change passes.
 /// - A minidisk that has room for what it holds has it after each change that is made.
 pub fn room_laws()
     ensures need { NeedIsTaken }
     ensures made { ChangedWhereMade }
     ensures full { FullWhereLacking }
+    ensures limited { LimitedWherePassing }
     ensures room { RoomIsKept }
 {}
 

@@ -1,4 +1,4 @@
-use Rattle.cms_model.proofs.Needing.{need_taken, changed_where_made, full_where_lacking, room_kept}
+use Rattle.cms_model.proofs.Needing.{need_taken, changed_where_made, full_where_lacking, limited_where_passing, room_kept}
 use Rattle.cms_model.proofs.laws.room_laws.Goals as goal
 
 pub returns-clause-need : goal.returns-clause-need
@@ -9,6 +9,9 @@ returns-clause-made c = changed_where_made
 
 pub returns-clause-full : goal.returns-clause-full
 returns-clause-full c = full_where_lacking
+
+pub returns-clause-limited : goal.returns-clause-limited
+returns-clause-limited c = limited_where_passing
 
 pub returns-clause-room : goal.returns-clause-room
 returns-clause-room c = room_kept

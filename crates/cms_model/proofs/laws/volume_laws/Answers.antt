@@ -1,4 +1,4 @@
-use Rattle.cms_model.proofs.Opening.{opens_where_held, open_keeps, state_is_minidisk, no_label}
+use Rattle.cms_model.proofs.Opening.{opens_where_held, open_keeps, state_is_minidisk, no_label, disk_is_looked_at}
 use Rattle.cms_model.proofs.InOrder.{in_order}
 use Rattle.cms_model.proofs.laws.volume_laws.Goals as goal
 
@@ -16,3 +16,6 @@ returns-clause-no_label c = no_label
 
 pub returns-clause-order : goal.returns-clause-order
 returns-clause-order c = in_order
+
+pub returns-clause-disk : goal.returns-clause-disk
+returns-clause-disk c = disk_is_looked_at
