@@ -10,7 +10,9 @@ import pathlib
 import struct
 import sys
 
+# Noon of 1 July 2026: the date, and the flags that tell its century.
 DATE = bytes([0x26, 0x07, 0x01, 0x12, 0x00, 0x00])
+FLAGS = 0x08
 TEXT = "HELLO".encode("cp037")
 VARYING = 10
 
@@ -32,6 +34,7 @@ def entry(name, kind, form, length, root, count, records, psize, size):
     row[0:16] = name + kind
     row[24:26] = b"\xc1\xf1"
     row[30:31] = form.encode("cp037")
+    row[31] = FLAGS
     row[32:36] = struct.pack(">I", length)
     row[40:52] = struct.pack(">III", root, count, records)
     row[52:54] = bytes([levels(size // psize, count), psize])

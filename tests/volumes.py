@@ -158,7 +158,7 @@ def make(kind, seed=1):
 
 
 def own_rows(root, count, map_root, marks, date, size):
-    """The entries of a directory with so many entries, and of a map of so many blocks."""
+    """The entries of a directory with so many entries, and of a map of so many blocks, with a date of the years from 2000 on."""
     listed = entry(b"\0\0\0\1\0\0\0\0", "DIRECTOR".encode("cp037"), "F", 64, root, up(64 * count, size), count, 4, size)
     marked = entry(b"\0\0\0\2\0\0\0\0", "ALLOCMAP".encode("cp037"), "F", size, map_root, marks, marks, 4, size)
     return [row[:54] + date + row[60:] for row in (listed, marked)]

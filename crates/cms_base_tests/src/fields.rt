@@ -1,14 +1,15 @@
 // Labels, entries, dates and moments with their answers, worked out by hand from the format's tables and the calendar.
 use cms_cases::{bytes_of, number, told, word};
 use cms_fields::{
-    Entry, Label, Moment, Stamp, put_stamp, read_entry, read_label, write_entry, write_label,
+    Entry, Label, Moment, Stamp, read_entry, read_label, read_stamp, write_entry, write_label,
+    write_stamp,
 };
 use cms_journal::BlockSize;
 use cms_names::{Format, Name, NameFault, Part};
 use std::alloc::{AllocError, Global};
 
-/// `moment/SECONDS/OFFSET`: the moment. `stamp/YEAR`: the year in the stamp of 23:58:59 on November 30 of the year, and whether the bytes
-/// of the others are written. An edit PLACE=BYTES puts other bytes from a place on.
+/// `moment/SECONDS/OFFSET`: the moment. `stamp/YEAR`: of the stamp of 23:58:59 on November 30 of the year, the digits of the year and
+/// the flags that are written, and whether the date's other bytes are. `date/BYTES/FLAGS`: the year of the stamp that is read from them. An edit PLACE=BYTES puts other bytes from a place on.
 /// `entry/EDIT/EDIT..`: whether HELLO with the edits is read as the entry that HELLO is, or the first test that it fails.
 /// `entry is written`: whether that entry's bytes are HELLO.
 /// `label/SIZE/BLOCKS/EDIT/EDIT..`: what TEST01 with the edits is on a unit with blocks of this size and so many.
@@ -31,11 +32,17 @@ moment/4102444799/0 => (2099, 12, 31, 23, 59, 59)
 moment/4102444800/0 => (2099, 12, 31, 23, 59, 59)
 moment/4102448399/-3600 => (2099, 12, 31, 23, 59, 59)
 moment/9223372036854775807/54000 => (2099, 12, 31, 23, 59, 59)
-stamp/1970 => (70, true)
-stamp/1999 => (99, true)
-stamp/2000 => (0, true)
-stamp/2026 => (26, true)
-stamp/2099 => (99, true)
+stamp/1970 => (70, 0, true)
+stamp/1999 => (99, 0, true)
+stamp/2000 => (0, 8, true)
+stamp/2026 => (26, 8, true)
+stamp/2099 => (99, 8, true)
+date/00 02 29 00 00 00/0 => 1900
+date/00 02 29 00 00 00/8 => 2000
+date/99 12 31 23 59 59/247 => 1999
+date/99 12 31 23 59 59/255 => 2099
+date/01 02 29 00 00 00/8 => none
+date/00 0A 01 00 00 00/8 => none
 entry => true
 entry/54=00 02 29 00 00 00 => false
 entry/54=04 02 29 00 00 00 => false
@@ -73,7 +80,8 @@ entry/30=E5/47=02 => Levels
 entry/30=E5/47=02/52=01 => PointerSize
 entry/55=13 => Date
 entry/55=13/52=01/51=00 => Counts
-entry/16=01/24=00/31=08/39=FF/63=FF => true
+entry/16=01/24=00/31=FF/39=FF/63=FF => true
+entry/31=F7 => false
 entry/53=63 => true
 entry/30=E5/35=00 => false
 entry/30=E5/47=02/52=01/53=0C => false
@@ -97,7 +105,7 @@ Ok(Label { volid: [213, 197, 230, 240, 240, 242], bsize: 512, origin: 5, blocks:
 
 // The entry of HELLO TEXT A1: two F records of 5 bytes in block 7, written 2000-01-01 00:00:00.
 const HELLO: &str = "\
-C8 C5 D3 D3 D6 40 40 40 E3 C5 E7 E3 40 40 40 40 00 00 00 00 00 00 00 00 C1 F1 00 00 00 00 C6 00 \
+C8 C5 D3 D3 D6 40 40 40 E3 C5 E7 E3 40 40 40 40 00 00 00 00 00 00 00 00 C1 F1 00 00 00 00 C6 08 \
 00 00 00 05 00 00 00 00 00 00 00 07 00 00 00 01 00 00 00 02 00 04 00 01 01 00 00 00 00 00 00 00";
 
 // The first bytes of the label of TEST01: 9 blocks of 512 bytes, 7 in use, directory in block 4.
@@ -120,7 +128,7 @@ fn hello() -> Result<Entry, NameFault> {
         count: 2,
         levels: 0,
         stamp: Stamp {
-            year: 0,
+            year: 2000,
             month: 1,
             day: 1,
             hour: 0,
@@ -176,17 +184,32 @@ fn stamp(alloc: Global, year: u32) -> Result<String, AllocError> {
         minute: 58,
         second: 59,
     });
-    let mut bytes = [0xFF; 8];
+    let mut date = [0xFF; 6];
+    let mut flags = 0xFF;
     if stamp.is_valid() {
-        put_stamp(&stamp, &mut bytes);
+        flags = write_stamp(&stamp, &mut date);
     }
     told(
         alloc,
         &(
-            stamp.year,
-            bytes[1..] == [0x11, 0x30, 0x23, 0x58, 0x59, 0xFF, 0xFF],
+            date[0] / 16 * 10 + date[0] % 16,
+            flags,
+            date[1..] == [0x11, 0x30, 0x23, 0x58, 0x59],
         ),
     )
+}
+
+// The year of the stamp that a date and its flags spell.
+fn date(alloc: Global, case: &str) -> Result<String, AllocError> {
+    let bytes = bytes_of(alloc, word(case, 1))?;
+    let flags: u8 = word(case, 2).parse().unwrap_or(0);
+    if bytes.len() != 6 {
+        return told(alloc, &"other than six bytes");
+    }
+    match read_stamp(&bytes, flags) {
+        Some(stamp) => told(alloc, &stamp.year),
+        None => String::from_str(alloc, "none"),
+    }
 }
 
 fn entry(alloc: Global, case: &str) -> Result<String, AllocError> {
@@ -244,6 +267,7 @@ pub fn answer(alloc: Global, case: &str) -> Result<String, AllocError> {
     match word(case, 0) {
         "moment" => moment(alloc, case),
         "stamp" => stamp(alloc, number(word(case, 1))),
+        "date" => date(alloc, case),
         "entry" => entry(alloc, case),
         "entry is written" => entry_is_written(alloc),
         "label" => label(alloc, case),

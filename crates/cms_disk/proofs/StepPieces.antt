@@ -121,14 +121,19 @@ part_before a n m xs fits =
 
 has_stamp : (bsize : ℕ) (s : Systems) (entries : List Entry) (stamp : Stamp) → HasStamp (directory_bytes_of bsize s entries stamp) stamp
 unfolding directory_bytes_of system_entry stamp_bytes
-has_stamp bsize s entries stamp = record { directory = refl; map = refl }
+has_stamp bsize s entries stamp = record { directory = refl; directory_flags = refl; map = refl; map_flags = refl }
 
 -- the first block of a directory has its stamp
 pub front_has_stamp : (bsize : ℕ) (s : Systems) (entries : List Entry) (stamp : Stamp) → 512 ≤ bsize → HasStamp (take bsize (directory_bytes_of bsize s entries stamp)) stamp
 front_has_stamp bsize s entries stamp low =
     let bytes = directory_bytes_of bsize s entries stamp in
     let h = has_stamp bsize s entries stamp in
-    record { directory = part_before 54 6 bsize bytes (omega arith) ∙ h.directory; map = part_before 118 6 bsize bytes (omega arith) ∙ h.map }
+    record {
+      directory = part_before 54 6 bsize bytes (omega arith) ∙ h.directory;
+      directory_flags = part_before 31 1 bsize bytes (omega arith) ∙ h.directory_flags;
+      map = part_before 118 6 bsize bytes (omega arith) ∙ h.map;
+      map_flags = part_before 95 1 bsize bytes (omega arith) ∙ h.map_flags;
+    }
 
 pub first_stamped : (u : ℕ) (stamp : Stamp) (bsize n k : ℕ) (bytes : List ℕ) → HasStamp (take bsize bytes) stamp
     → AreStamped u (Some stamp) (writes u (block_writes (n ∷ []) (take 1 (cut k bsize bytes))))

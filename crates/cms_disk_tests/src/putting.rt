@@ -28,7 +28,7 @@ add/written/two files/hello/A => Err(Full { need: 2, free: 1 }) [AB] 1 0 [0, 5, 
 
 // Two seconds after START.
 const WRITTEN: Stamp = Stamp {
-    year: 0,
+    year: 2000,
     month: 1,
     day: 1,
     hour: 0,

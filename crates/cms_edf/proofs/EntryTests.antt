@@ -96,14 +96,14 @@ entries_small bsize pieces es size is = each (HasSize bsize) bsize es (λ e fits
 
 -- the fields of an entry that is spelled pass
 fields_pass : (bsize : ℕ) (bytes : List ℕ) → has_mode bytes ≡ true → length_fits (entry_fields bytes) ≡ true → counts_fit bsize (entry_fields bytes) ≡ true
-    → levels_fit bsize (entry_fields bytes) ≡ true → has_stamp bytes 54 ≡ true
+    → levels_fit bsize (entry_fields bytes) ≡ true → has_stamp bytes 54 (byte bytes 31) ≡ true
     → passes bsize (entry_fields bytes) ≡ true
 unfolding passes has_mode has_stamp entry_fields
 fields_pass bsize bytes mode size counts levels stamp =
     let range = between 0xF0 0xF6 (byte bytes 25) mode in
     let high = range.1 in
     let number : nat_le (byte bytes 25 - 0xF0) 6 ≡ true = le-leb (byte bytes 25 - 0xF0) 6 (omega arith) in
-    let date = (and_parts (are_packed bytes 54) (is_stamp (stamp_at bytes 54)) stamp).1 in
+    let date = (and_parts (are_packed bytes 54) (is_stamp (stamp_at bytes 54 (byte bytes 31))) stamp).1 in
     and_from _ _ (and_from _ _ (and_from _ _ (and_from _ _ number size) counts) levels) date
 
 entry_passes : (bsize : ℕ) (bytes : List ℕ) (e : Entry) → entry_of bsize bytes ≡ Ok e → passes bsize e ≡ true

@@ -9,7 +9,7 @@ ghost use Rattle.cms_held.specs.Written.{CanWrite, ReadsBack, directory_name, ma
 
 use crate::held::TreeBlocks;
 use crate::system::{ENTRY_SIZE, FIXED, POINTER_SIZE, System};
-use cms_fields::{Entry, Stamp, put_stamp, write_entry};
+use cms_fields::{Entry, Stamp, write_entry, write_stamp};
 use cms_journal::BlockSize;
 use cms_text::bytes::{put, put_word};
 use cms_text::coded;
@@ -35,11 +35,12 @@ fn system_entry(name: &[u8; 16], size: u32, file: &System, stamp: &Stamp) -> [u8
     ensures { result ≡ system_entry name.now size file.now stamp.now }
 {
     let mut date = [0; 6];
-    put_stamp(stamp, &mut date);
+    let flags = write_stamp(stamp, &mut date);
     let mut entry = [0; 64];
     put(&mut entry, 0, name);
     put(&mut entry, 24, &MODE);
     put(&mut entry, 30, &[FIXED]);
+    put(&mut entry, 31, &[flags]);
     put_word(&mut entry, 32, size);
     put_word(&mut entry, 40, file.root);
     put_word(&mut entry, 44, file.blocks);

@@ -281,7 +281,7 @@ is_wrote typed code files stack places = record { typed = lines typed; code = So
 
 -- the turn's stamp
 abbrev now : Stamp
-now = record { year = 0; month = 1; day = 1; hour = 0; minute = 0; second = 1 }
+now = record { year = 2000; month = 1; day = 1; hour = 0; minute = 0; second = 1 }
 
 abbrev a_file : ℕ → Format → ℕ → List (List ℕ) → File
 a_file number form length records = record {

@@ -1,4 +1,4 @@
--- Dates of years of two digits, and of the years from 1970 to 2099.
+-- Dates of the years from 1900 to 2099.
 use Rattle.std.proofs.Common.{◌≡◌, ℕ, ◌≤◌, ◌%◌, refl, sym, subst, arith, Bool, true, false, ⊎_elim}
 use Rattle.std.specs.Prelude.{◌==◌, nat_le, ◌&&◌}
 use Rattle.std.proofs.lemmas.Bool.{le-leb, leb-true, eqb-true, and_parts, and_from, cases_Bool}
@@ -58,9 +58,10 @@ days_few : (is_leap : Bool) (month : ℕ) → days_of_month is_leap month ≤ 31
 unfolding days_of_month
 days_few is_leap month = grind arith
 
--- a stamp's numbers have two digits
+-- a stamp's numbers but its year have two digits, and its year is of two centuries
 pub record IsSmall (s : Stamp) : Type 0 where
-  pub year : s.year ≤ 99
+  pub first_year : 1900 ≤ s.year
+  pub last_year : s.year ≤ 2099
   pub month : s.month ≤ 99
   pub day : s.day ≤ 99
   pub hour : s.hour ≤ 99
@@ -72,8 +73,10 @@ unfolding is_stamp
 stamp_small s is =
     let (year, d) = dated_parts _ _ s.month s.day s.hour s.minute s.second is in
     let few = days_few (s.year % 4 == 0) s.month in
+    let y = and_parts _ _ year in
     record {
-      year = leb-true s.year 99 year;
+      first_year = leb-true 1900 s.year y.0;
+      last_year = leb-true s.year 2099 y.1;
       month = omega (arith, d.last_month);
       day = omega (arith, d.last_day, few);
       hour = omega (arith, d.hours);
@@ -86,26 +89,23 @@ and_true true = refl
 and_true false = refl
 
 -- from 1970 to 2099 each fourth year is a leap year
-leap_years : (year : ℕ) → 1970 ≤ year → year ≤ 2099 → is_leap_year year ≡ (year % 100 % 4 == 0)
+leap_years : (year : ℕ) → 1970 ≤ year → year ≤ 2099 → is_leap_year year ≡ (year % 4 == 0)
 leap_years year low high = ⊎_elim
     (λ (century : (year % 100 == 0) ≡ true).
     let none : year % 100 ≡ 0 = eqb-true (year % 100) 0 century in
     let only : year ≡ 2000 = omega arith in
-    subst (λ (y : ℕ). is_leap_year y ≡ (y % 100 % 4 == 0)) (sym only) refl)
+    subst (λ (y : ℕ). is_leap_year y ≡ (y % 4 == 0)) (sym only) refl)
     (λ (other : (year % 100 == 0) ≡ false).
-    let same : year % 4 ≡ year % 100 % 4 = omega arith in
-    rw (other, same) (and_true (year % 100 % 4 == 0)))
+    rw other (and_true (year % 4 == 0)))
     (cases_Bool (year % 100 == 0))
-
-two_digits : (year : ℕ) → year % 100 ≤ 99
-two_digits year = omega arith
 
 pub stamp_there : (m : Moment) → is_moment m ≡ true → is_stamp (stamp_of m) ≡ true
 unfolding is_stamp is_moment stamp_of
 stamp_there m is =
     let (years, d) = dated_parts _ _ m.month m.day m.hour m.minute m.second is in
     let y = and_parts _ _ years in
-    let short : m.year % 100 ≤ 99 = two_digits m.year in
-    let leap = leap_years m.year (leb-true 1970 m.year y.0) (leb-true m.year 2099 y.1) in
-    dated_from _ _ m.month m.day m.hour m.minute m.second (le-leb (m.year % 100) 99 short)
+    let low = leb-true 1970 m.year y.0 in
+    let high = leb-true m.year 2099 y.1 in
+    let leap = leap_years m.year low high in
+    dated_from _ _ m.month m.day m.hour m.minute m.second (and_from _ _ (le-leb 1900 m.year (omega arith)) (le-leb m.year 2099 high))
     (subst (λ l. IsDated l m.month m.day m.hour m.minute m.second) leap d)

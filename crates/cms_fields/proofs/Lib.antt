@@ -3,6 +3,7 @@ pub mod Shapes
 pub mod WrittenLabel
 pub mod WrittenEntry
 pub mod Dates
+pub mod StampBytes
 pub mod Parts
 pub mod Calendar
 pub mod Shown

@@ -12,7 +12,7 @@ use Rattle.cms_fields.specs.declared.time.Stamp.{Stamp}
 use Rattle.cms_fields.proofs.WrittenLabel.{label_spelled}
 
 -- what holds of each list of six items written out holds of each list of six
-of_six : (P : List ℕ → Type 0) (xs : List ℕ) → length xs ≡ 6 → ((a b c d e f : ℕ) → P (a ∷ b ∷ c ∷ d ∷ e ∷ f ∷ [])) → P xs
+pub of_six : (P : List ℕ → Type 0) (xs : List ℕ) → length xs ≡ 6 → ((a b c d e f : ℕ) → P (a ∷ b ∷ c ∷ d ∷ e ∷ f ∷ [])) → P xs
 of_six P [] long each = absurd (omega arith)
 of_six P (a ∷ []) long each = absurd (omega arith)
 of_six P (a ∷ b ∷ []) long each = absurd (omega arith)

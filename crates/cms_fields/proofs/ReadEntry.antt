@@ -1,6 +1,7 @@
 -- What is known of bytes that spell an entry.
 use Rattle.std.proofs.Common.{◌≡◌, ℕ, List, Result, Ok, Bool, true, false, refl}
 use Rattle.cms_fields.specs.Steps.{◌>>◌, want}
+use Rattle.cms_text.specs.Bytes.{byte}
 use Rattle.cms_fields.specs.Stamps.{has_stamp}
 use Rattle.cms_fields.specs.Entries.{entry_fields, has_name, has_mode, has_format, length_fits, counts_fit, levels_fit, has_pointer_size, entry_of}
 use Rattle.cms_fields.specs.declared.entry.Entry.{Entry}
@@ -23,7 +24,7 @@ pub record EntryIs (bsize : ℕ) (bytes : List ℕ) (e : Entry) : Type 0 where
   pub counts : counts_fit bsize (entry_fields bytes) ≡ true
   pub levels : levels_fit bsize (entry_fields bytes) ≡ true
   pub pointers : has_pointer_size bytes ≡ true
-  pub stamp : has_stamp bytes 54 ≡ true
+  pub stamp : has_stamp bytes 54 (byte bytes 31) ≡ true
   pub fields : entry_fields bytes ≡ e
 
 pub entry_is : (bsize : ℕ) (bytes : List ℕ) (e : Entry) → entry_of bsize bytes ≡ Ok e → EntryIs bsize bytes e
@@ -36,5 +37,5 @@ entry_is bsize bytes e is =
     let f = want_ok (counts_fit bsize (entry_fields bytes)) failed.Counts _ e d.1 in
     let g = want_ok (levels_fit bsize (entry_fields bytes)) failed.Levels _ e f.1 in
     let h = want_ok (has_pointer_size bytes) failed.PointerSize _ e g.1 in
-    let i = want_ok (has_stamp bytes 54) failed.Date _ e h.1 in
+    let i = want_ok (has_stamp bytes 54 (byte bytes 31)) failed.Date _ e h.1 in
     record { name = a.0; mode = b.0; format = c.0; long = d.0; counts = f.0; levels = g.0; pointers = h.0; stamp = i.0; fields = ok_same (entry_fields bytes) e i.1 }

@@ -10,11 +10,12 @@ use Rattle.cms_names.specs.Names.{filled, is_part}
 use Rattle.cms_names.specs.declared.name.Format.{Format}
 use Rattle.cms_names.specs.declared.name.Format.TheVariants.{F, V}
 use Rattle.cms_text.specs.Bytes.{word, byte}
-use Rattle.cms_fields.specs.Stamps.{packed, unpacked, is_packed, stamp_bytes, stamp_at, are_packed, has_stamp, is_stamp}
+use Rattle.cms_fields.specs.Stamps.{stamp_bytes, stamp_flags, stamp_at, are_packed, has_stamp, is_stamp}
 use Rattle.cms_fields.specs.Entries.{entry_of, entry_bytes, entry_table, filled_in, entry_fields, passes, has_name, has_mode, has_format, has_pointer_size, name_at, format_at, format_byte, pointer_size, length_fits, counts_fit, levels_fit, part_in}
 use Rattle.cms_fields.specs.declared.entry.Entry.{Entry}
 use Rattle.cms_fields.proofs.Parts.{length-filled, part_in-filled, is_part_field-filled}
 use Rattle.cms_fields.proofs.Dates.{stamp_small, IsSmall}
+use Rattle.cms_fields.proofs.StampBytes.{Spells, stamp_back, has_back}
 
 -- what an entry's type says of its fields
 pub record IsEntry (e : Entry) : Type 0 where
@@ -51,10 +52,10 @@ of_eight P xs long each =
 abbrev bytes_of : List ℕ → List ℕ → Entry → List ℕ
 bytes_of file kind e =
     filled_in ((0, file) ∷ (8, kind)
-    ∷ (24, 0xC1 ∷ (0xF0 + e.number) ∷ []) ∷ (30, format_byte e.format ∷ [])
+    ∷ (24, 0xC1 ∷ (0xF0 + e.number) ∷ []) ∷ (30, format_byte e.format ∷ []) ∷ (31, stamp_flags e.stamp ∷ [])
     ∷ (32, big_bytes 4 e.length) ∷ (40, big_bytes 4 e.root) ∷ (44, big_bytes 4 e.blocks) ∷ (48, big_bytes 4 e.count)
     ∷ (52, e.levels ∷ []) ∷ (53, pointer_size e.format ∷ [])
-    ∷ (54, packed e.stamp.year ∷ packed e.stamp.month ∷ packed e.stamp.day ∷ packed e.stamp.hour ∷ packed e.stamp.minute ∷ packed e.stamp.second ∷ []) ∷ [])
+    ∷ (54, stamp_bytes e.stamp) ∷ [])
     (replicate 64 0)
 
 -- what such bytes say, place by place
@@ -69,15 +70,11 @@ record Says (file kind : List ℕ) (e : Entry) (bytes : List ℕ) : Type 0 where
   count_at : word bytes 48 ≡ e.count
   levels_at : byte bytes 52 ≡ e.levels
   size_at : byte bytes 53 ≡ pointer_size e.format
-  year_at : byte bytes 54 ≡ packed e.stamp.year
-  month_at : byte bytes 55 ≡ packed e.stamp.month
-  day_at : byte bytes 56 ≡ packed e.stamp.day
-  hour_at : byte bytes 57 ≡ packed e.stamp.hour
-  minute_at : byte bytes 58 ≡ packed e.stamp.minute
-  second_at : byte bytes 59 ≡ packed e.stamp.second
+  flags_at : byte bytes 31 ≡ stamp_flags e.stamp
+  date_at : Spells bytes 54 e.stamp
 
 says : (file kind : List ℕ) (e : Entry) → length file ≡ 8 → length kind ≡ 8 → IsEntry e → Says file kind e (bytes_of file kind e)
-unfolding word
+unfolding word stamp_bytes
 says file kind e file_long kind_long is =
     of_eight (λ f. Says f kind e (bytes_of f kind e)) file file_long (λ a b c d e' f g h.
     of_eight (λ k. Says (a ∷ b ∷ c ∷ d ∷ e' ∷ f ∷ g ∷ h ∷ []) k e (bytes_of (a ∷ b ∷ c ∷ d ∷ e' ∷ f ∷ g ∷ h ∷ []) k e)) kind kind_long (λ i j k l m n o p. record {
@@ -91,12 +88,8 @@ says file kind e file_long kind_long is =
       count_at = big_number-reads_back 4 e.count [] is.count_fits;
       levels_at = refl;
       size_at = refl;
-      year_at = refl;
-      month_at = refl;
-      day_at = refl;
-      hour_at = refl;
-      minute_at = refl;
-      second_at = refl;
+      flags_at = refl;
+      date_at = record { year = refl; month = refl; day = refl; hour = refl; minute = refl; second = refl };
     }))
 
 -- the tests that bytes pass which spell an entry
@@ -108,7 +101,7 @@ pub record Passed (bsize : ℕ) (bytes : List ℕ) (found : Entry) : Type 0 wher
   pub counts_so : counts_fit bsize found ≡ true
   pub levels_so : levels_fit bsize found ≡ true
   pub size_so : has_pointer_size bytes ≡ true
-  pub date_so : has_stamp bytes 54 ≡ true
+  pub date_so : has_stamp bytes 54 (byte bytes 31) ≡ true
   pub entry_so : entry_fields bytes ≡ found
 
 -- bytes that pass each test spell what they say
@@ -116,38 +109,6 @@ pub entry_spelled : (bsize : ℕ) (bytes : List ℕ) (found : Entry) → Passed 
 unfolding entry_of
 entry_spelled bsize bytes found p =
     rw (p.name_so, p.mode_so, p.format_so, p.entry_so, p.length_so, p.counts_so, p.levels_so, p.size_so, p.date_so) refl
-
--- a number of two digits is read back
-unpacked_back : (n : ℕ) → n ≤ 99 → unpacked (packed n) ≡ n
-unpacked_back n few = omega arith
-
-packed_is : (n : ℕ) → n ≤ 99 → is_packed (packed n) ≡ true
-packed_is n few =
-    let high : packed n / 16 < 10 = omega arith in
-    let low : packed n % 16 < 10 = omega arith in
-    and_from _ _ (lt-ltb (packed n / 16) 10 high) (lt-ltb (packed n % 16) 10 low)
-
-stamp_back : (file kind : List ℕ) (e : Entry) (bytes : List ℕ) → Says file kind e bytes → IsSmall e.stamp → stamp_at bytes 54 ≡ e.stamp
-unfolding stamp_at
-stamp_back file kind e bytes s small = λ i. record {
-  year = (ap unpacked s.year_at ∙ unpacked_back e.stamp.year small.year) i;
-  month = (ap unpacked s.month_at ∙ unpacked_back e.stamp.month small.month) i;
-  day = (ap unpacked s.day_at ∙ unpacked_back e.stamp.day small.day) i;
-  hour = (ap unpacked s.hour_at ∙ unpacked_back e.stamp.hour small.hour) i;
-  minute = (ap unpacked s.minute_at ∙ unpacked_back e.stamp.minute small.minute) i;
-  second = (ap unpacked s.second_at ∙ unpacked_back e.stamp.second small.second) i;
-}
-
-packed_back : (file kind : List ℕ) (e : Entry) (bytes : List ℕ) → Says file kind e bytes → IsSmall e.stamp → are_packed bytes 54 ≡ true
-unfolding are_packed
-packed_back file kind e bytes s small =
-    let year : is_packed (byte bytes 54) ≡ true = rw s.year_at (packed_is e.stamp.year small.year) in
-    let month : is_packed (byte bytes 55) ≡ true = rw s.month_at (packed_is e.stamp.month small.month) in
-    let day : is_packed (byte bytes 56) ≡ true = rw s.day_at (packed_is e.stamp.day small.day) in
-    let hour : is_packed (byte bytes 57) ≡ true = rw s.hour_at (packed_is e.stamp.hour small.hour) in
-    let minute : is_packed (byte bytes 58) ≡ true = rw s.minute_at (packed_is e.stamp.minute small.minute) in
-    let second : is_packed (byte bytes 59) ≡ true = rw s.second_at (packed_is e.stamp.second small.second) in
-    and_from _ _ (and_from _ _ (and_from _ _ (and_from _ _ (and_from _ _ year month) day) hour) minute) second
 
 format_back : (format : Format) (bytes : List ℕ) → byte bytes 30 ≡ format_byte format → (has_format bytes ≡ true) × (format_at bytes ≡ format)
 unfolding has_format format_at
@@ -175,7 +136,7 @@ fields_back e bytes is small s =
       blocks = s.blocks_at i;
       count = s.count_at i;
       levels = s.levels_at i;
-      stamp = stamp_back _ _ e bytes s small i;
+      stamp = (ap (stamp_at bytes 54) s.flags_at ∙ stamp_back bytes 54 e.stamp s.date_at small) i;
     }
 
 -- the tests that an entry's fields pass
@@ -203,12 +164,8 @@ size_back : (e : Entry) (bytes : List ℕ) → format_at bytes ≡ e.format → 
 unfolding has_pointer_size
 size_back e bytes form size = rw (form, size, eq-eqb (pointer_size e.format) (pointer_size e.format) refl) (or-true (byte bytes 52 == 0))
 
-date_back : (e : Entry) (bytes : List ℕ) → are_packed bytes 54 ≡ true → stamp_at bytes 54 ≡ e.stamp → is_stamp e.stamp ≡ true → has_stamp bytes 54 ≡ true
-unfolding has_stamp
-date_back e bytes digits is there = rw (digits, is) there
-
 written_says : (e : Entry) → IsEntry e → Says (filled e.name.file) (filled e.name.kind) e (entry_bytes e)
-unfolding entry_table stamp_bytes
+unfolding entry_table
 written_says e is = says (filled e.name.file) (filled e.name.kind) e (length-filled e.name.file is.file) (length-filled e.name.kind is.kind) is
 
 pub entry_written : (bsize : ℕ) (e : Entry) → IsEntry e → passes bsize e ≡ true → entry_of bsize (entry_bytes e) ≡ Ok e
@@ -217,7 +174,6 @@ entry_written bsize e is pass =
     let small = stamp_small e.stamp f.stamp_so in
     let s = written_says e is in
     let form = format_back e.format (entry_bytes e) s.form_at in
-    let date = stamp_back _ _ e (entry_bytes e) s small in
     entry_spelled bsize (entry_bytes e) e (record {
       name_so = name_back e.name.file e.name.kind (entry_bytes e) s.file_at s.kind_at is.file is.kind;
       mode_so = mode_back e (entry_bytes e) f.number s.mode_at;
@@ -226,6 +182,6 @@ entry_written bsize e is pass =
       counts_so = f.counts_so;
       levels_so = f.levels_so;
       size_so = size_back e (entry_bytes e) form.1 s.size_at;
-      date_so = date_back e (entry_bytes e) (packed_back _ _ e (entry_bytes e) s small) date f.stamp_so;
+      date_so = ap (has_stamp (entry_bytes e) 54) s.flags_at ∙ has_back (entry_bytes e) 54 e.stamp s.date_at f.stamp_so;
       entry_so = fields_back e (entry_bytes e) is small s;
     })

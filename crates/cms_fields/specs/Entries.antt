@@ -9,7 +9,7 @@ use Rattle.cms_names.specs.declared.name.Format.TheVariants.{F, V}
 use Rattle.cms_fields.specs.Steps.{◌>>◌, want}
 use Rattle.cms_text.specs.Bytes.{word, byte, overwritten}
 use Rattle.cms_fields.specs.Numbers.{up, is_shape}
-use Rattle.cms_fields.specs.Stamps.{stamp_at, has_stamp, is_stamp, stamp_bytes}
+use Rattle.cms_fields.specs.Stamps.{stamp_at, has_stamp, is_stamp, stamp_bytes, stamp_flags}
 use Rattle.cms_fields.specs.declared.entry.Entry.{Entry}
 use Rattle.cms_fields.specs.declared.entry.EntryFault as fault
 use Rattle.cms_fields.specs.declared.entry.EntryFault.TheVariants as failed
@@ -57,7 +57,7 @@ entry_fields bytes = record {
   blocks = word bytes 44;
   count = word bytes 48;
   levels = byte bytes 52;
-  stamp = stamp_at bytes 54;
+  stamp = stamp_at bytes 54 (byte bytes 31);
 }
 
 -- both parts are 1 to 8 name characters and then blanks
@@ -101,7 +101,7 @@ entry_of bsize bytes = do
   want (counts_fit bsize (entry_fields bytes)) failed.Counts
   want (levels_fit bsize (entry_fields bytes)) failed.Levels
   want (has_pointer_size bytes) failed.PointerSize
-  want (has_stamp bytes 54) failed.Date
+  want (has_stamp bytes 54 (byte bytes 31)) failed.Date
   Ok (entry_fields bytes)
 
 -- the entry's fields pass the tests at this block size
@@ -118,7 +118,7 @@ format_byte V = 0xE5
 unfoldable pub entry_table : Entry → List (ℕ × List ℕ)
 entry_table e =
     (0, filled e.name.file) ∷ (8, filled e.name.kind)
-    ∷ (24, 0xC1 ∷ (0xF0 + e.number) ∷ []) ∷ (30, format_byte e.format ∷ [])
+    ∷ (24, 0xC1 ∷ (0xF0 + e.number) ∷ []) ∷ (30, format_byte e.format ∷ []) ∷ (31, stamp_flags e.stamp ∷ [])
     ∷ (32, big_bytes 4 e.length) ∷ (40, big_bytes 4 e.root) ∷ (44, big_bytes 4 e.blocks) ∷ (48, big_bytes 4 e.count)
     ∷ (52, e.levels ∷ []) ∷ (53, pointer_size e.format ∷ []) ∷ (54, stamp_bytes e.stamp) ∷ []
 

@@ -82,10 +82,10 @@ days_to m =
 unfoldable pub seconds_to : Moment → ℕ
 seconds_to m = days_to m * 86400 + (m.hour * 3600 + (m.minute * 60 + m.second))
 
--- a volume keeps the last two digits of the year
+-- the stamp of a moment
 unfoldable pub stamp_of : Moment → Stamp
 stamp_of m = record {
-  year = m.year % 100;
+  year = m.year;
   month = m.month;
   day = m.day;
   hour = m.hour;

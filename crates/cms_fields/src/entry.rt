@@ -8,7 +8,7 @@ use crate::grammar::{
     counts_fit, format_byte, format_in, has_pointer_size, length_fits, levels_fit, mode_number_in,
     name_in, pointer_size,
 };
-use crate::packed::{has_stamp, packed_stamp, stamp_at};
+use crate::packed::{has_stamp, packed_stamp, stamp_at, stamp_flags};
 use crate::time::Stamp;
 use cms_journal::BlockSize;
 use cms_names::{Format, Name};
@@ -61,11 +61,14 @@ pub enum EntryFault {
 /// The letter of the mode that is written.
 const LETTER_A: u8 = 0xC1;
 
+/// Where the flags stand, which tell the date's century.
+const FLAGS: usize = 31;
+
 /// Where the date stands.
 const DATE: usize = 54;
 
 /// The entry that the first 64 bytes spell on a volume with blocks of this size. Bytes in which no field stands, the mode's
-/// letter, the flags and the length of V records in a file aren't tested.
+/// letter, all flags but the century's and the length of V records in a file aren't tested.
 #[tactic(auto, unfolding(crate::specs::Entries::entry_of, crate::specs::Entries::entry_fields))]
 pub fn read_entry(bytes: &[u8], bsize: BlockSize) -> Result<Entry, EntryFault>
     requires long { 64 ≤ length bytes.now }
@@ -93,7 +96,7 @@ pub fn read_entry(bytes: &[u8], bsize: BlockSize) -> Result<Entry, EntryFault>
     if !has_pointer_size(bytes, format) {
         return Err(EntryFault::PointerSize);
     }
-    if !has_stamp(bytes, DATE) {
+    if !has_stamp(bytes, DATE, bytes[FLAGS]) {
         return Err(EntryFault::Date);
     }
     Ok(entry)
@@ -115,12 +118,12 @@ fn fields_in(bytes: &[u8], name: Name, number: u8, format: Format) -> Entry
         blocks: word_at(bytes, 44),
         count: word_at(bytes, 48),
         levels: bytes[52],
-        stamp: stamp_at(bytes, DATE),
+        stamp: stamp_at(bytes, DATE, bytes[FLAGS]),
     }
 }
 
-/// Writes the 64 bytes of an entry: its fields, the mode's letter as A, no flags, and zeros where no
-/// field stands. On a volume with blocks of a size at which the entry's fields pass, they spell
+/// Writes the 64 bytes of an entry: its fields, the mode's letter as A, no flag but the century's, and
+/// zeros where no field stands. On a volume with blocks of a size at which the entry's fields pass, they spell
 /// this entry.
 pub fn write_entry(entry: &Entry, into: &mut [u8])
     requires long { length into.old ≡ 64 }
@@ -134,6 +137,7 @@ pub fn write_entry(entry: &Entry, into: &mut [u8])
     put(into, 8, entry.name.kind.padded());
     put(into, 24, &[LETTER_A, ZERO + entry.number]);
     put(into, 30, &[format_byte(entry.format)]);
+    put(into, FLAGS, &[stamp_flags(&entry.stamp)]);
     put_word(into, 32, entry.length);
     put_word(into, 40, entry.root);
     put_word(into, 44, entry.blocks);

@@ -16,5 +16,5 @@ pub use grammar::pointer_size;
 pub use label::{Label, LabelFault, read_label, write_label};
 pub use limits::{LONGEST_RECORD, MOST_BYTES, MOST_FILES, MOST_RECORDS};
 pub use new_label::first_fields;
-pub use packed::put_stamp;
+pub use packed::{read_stamp, write_stamp};
 pub use time::{FIRST_MOMENT, Moment, Stamp};

@@ -83,10 +83,10 @@ fn shown_at(seconds: u32) -> DateTime
     Offset::UTC.to_datetime(timestamp)
 }
 
-/// A moment as a volume keeps it, with the last two digits of its year.
+/// A civil date and time as a volume keeps it: the two centuries from 1900 on.
 #[derive(Clone, Copy, PartialEq, Eq)]
 pub struct Stamp {
-    /// 0 to 99
+    /// 1900 to 2099
     pub year: u16,
     /// 1 to 12
     pub month: u8,
@@ -98,14 +98,14 @@ pub struct Stamp {
 }
 
 impl Stamp {
-    /// The stamp of a moment: its year is that of the moment modulo 100.
+    /// The stamp of a moment, with the same fields.
     #[tactic(auto, unfolding(crate::specs::Moments::stamp_of))]
     pub fn of(moment: &Moment) -> Stamp
         ensures value { result ≡ stamp_of moment.now }
         ensures valid { is_moment moment.now ≡ true → is_stamp result ≡ true }
     {
         Stamp {
-            year: moment.year % 100,
+            year: moment.year,
             month: moment.month,
             day: moment.day,
             hour: moment.hour,
@@ -114,13 +114,13 @@ impl Stamp {
         }
     }
 
-    /// Whether there is such a date and time, in a year of two digits of which each fourth is a
-    /// leap year.
+    /// Whether there is such a date and time, in a year from 1900 to 2099. Each fourth year of a
+    /// century from its first on is a leap year, so 1900 is one.
     #[tactic(auto, unfolding(crate::specs::Stamps::is_stamp))]
     pub fn is_valid(&self) -> bool
         ensures { result ≡ is_stamp self.now }
     {
-        self.year <= 99
+        matches!(self.year, 1900..=2099)
             && matches!(self.month, 1..=12)
             && self.day >= 1
             && self.day <= days_of_month(self.year % 4 == 0, self.month)

@@ -15,7 +15,7 @@ use Rattle.cms_search.proofs.Machines.{machine}
 -- ---- machines
 
 abbrev pub stamp : Stamp
-stamp = record { year = 0; month = 1; day = 1; hour = 0; minute = 1; second = 9 }
+stamp = record { year = 2000; month = 1; day = 1; hour = 0; minute = 1; second = 9 }
 
 abbrev pub unit : ℕ → Device
 unit vdev = record { vdev = vdev; bsize = 512; blocks = 40; writable = true }

@@ -3,7 +3,7 @@ use Rattle.std.specs.Prelude.{◌≡◌, ℕ, ◌+◌, ◌-◌, ◌*◌, ◌/◌
 use Rattle.byteorder.specs.Endian.{big_bytes}
 use Rattle.cms_journal.specs.Journal.{IsBlockSize}
 use Rattle.cms_fields.specs.Numbers.{up}
-use Rattle.cms_fields.specs.Stamps.{is_stamp, stamp_bytes}
+use Rattle.cms_fields.specs.Stamps.{is_stamp, stamp_bytes, stamp_flags}
 use Rattle.cms_fields.specs.Labels.{label_of}
 use Rattle.cms_fields.specs.Entries.{passes, filled_in}
 use Rattle.cms_fields.specs.declared.time.Stamp.{Stamp}
@@ -51,8 +51,8 @@ map_file bsize s = file_at bsize s.map (length s.map.leaves)
 -- the entry of a system file: its 16 bytes of names, the length of its records, where it stands, and the stamp
 unfoldable pub system_entry : List ℕ → ℕ → SystemFile → Stamp → List ℕ
 system_entry name size file stamp =
-    filled_in ((0, name) ∷ (24, 0xC1 ∷ 0xF1 ∷ []) ∷ (30, 0xC6 ∷ []) ∷ (32, big_bytes 4 size) ∷ (40, big_bytes 4 file.root)
-    ∷ (44, big_bytes 4 file.blocks) ∷ (48, big_bytes 4 file.count) ∷ (52, file.levels ∷ 4 ∷ [])
+    filled_in ((0, name) ∷ (24, 0xC1 ∷ 0xF1 ∷ []) ∷ (30, 0xC6 ∷ []) ∷ (31, stamp_flags stamp ∷ [])
+    ∷ (32, big_bytes 4 size) ∷ (40, big_bytes 4 file.root) ∷ (44, big_bytes 4 file.blocks) ∷ (48, big_bytes 4 file.count) ∷ (52, file.levels ∷ 4 ∷ [])
     ∷ (54, stamp_bytes stamp) ∷ []) (replicate 64 0)
 
 -- the bytes of a directory of these files: its own entry, the map's, the files', and zeros up to the end of its last block

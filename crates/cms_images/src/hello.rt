@@ -107,7 +107,7 @@ pub const ERASE_EXEC: &[Edit] = &[
     (4, 136, &[0xC5, 0xE7, 0xC5, 0xC3, 0x40, 0x40, 0x40, 0x40]),
 ];
 
-/// What is written where HELLO TEXT is erased at noon of 1 July 26: first the map, to block 8.
+/// What is written where HELLO TEXT is erased at noon of 1 July 2026: first the map, to block 8.
 pub const NEW_MAP: &[Edit] = &[(8, 0, &[0xF9, 0x00])];
 
 /// Then the directory, to block 5.
@@ -115,7 +115,7 @@ pub const NEW_DIRECTORY: &[Edit] = &[
     (5, 0, &[0, 0, 0, 1, 0, 0, 0, 0]),
     (5, 8, &[0xC4, 0xC9, 0xD9, 0xC5, 0xC3, 0xE3, 0xD6, 0xD9]),
     (5, 24, &[0xC1, 0xF1]),
-    (5, 30, &[0xC6]),
+    (5, 30, &[0xC6, 0x08]),
     (5, 32, &[0, 0, 0, 64]),
     (5, 40, &[0, 0, 0, 5]),
     (5, 44, &[0, 0, 0, 1]),
@@ -125,7 +125,7 @@ pub const NEW_DIRECTORY: &[Edit] = &[
     (5, 64, &[0, 0, 0, 2, 0, 0, 0, 0]),
     (5, 72, &[0xC1, 0xD3, 0xD3, 0xD6, 0xC3, 0xD4, 0xC1, 0xD7]),
     (5, 88, &[0xC1, 0xF1]),
-    (5, 94, &[0xC6]),
+    (5, 94, &[0xC6, 0x08]),
     (5, 96, &[0, 0, 2, 0]),
     (5, 104, &[0, 0, 0, 8]),
     (5, 108, &[0, 0, 0, 1]),

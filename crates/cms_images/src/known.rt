@@ -96,7 +96,7 @@ fn file(letter: u8, root: u32, second: u8) -> Row {
     }
 }
 
-/// Puts the entry of a number into a directory of one block.
+/// Puts the entry of a number into a directory of one block. It was written in the first seconds of 2000.
 fn put_entry(image: &mut [u8], block: usize, number: usize, row: &Row)
     requires { number < 8 }
 {
@@ -104,7 +104,7 @@ fn put_entry(image: &mut [u8], block: usize, number: usize, row: &Row)
     put(image, block, at, &row.name);
     put(image, block, at + 8, &row.kind);
     put(image, block, at + 24, &[0xC1, 0xF1]);
-    put(image, block, at + 30, &[row.format]);
+    put(image, block, at + 30, &[row.format, 0x08]);
     put_number(image, block, at + 32, row.length);
     put_number(image, block, at + 40, row.root);
     put_number(image, block, at + 44, row.blocks);

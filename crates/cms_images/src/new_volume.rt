@@ -16,7 +16,7 @@ pub struct Made {
     pub pointers: u32,
 }
 
-/// The image of a volume TEST01 that was made at noon on 1 July 26 on blocks of zeros: the directory in block 4, the map from block 6 on.
+/// The image of a volume TEST01 that was made at noon on 1 July 2026 on blocks of zeros: the directory in block 4, the map from block 6 on.
 pub fn formatted(alloc: Global, made: &Made) -> Result<Vec<u8>, AllocError> {
     let size = (made.bsize as usize).saturating_mul(made.total as usize);
     let mut bytes = vec![in alloc; 0; size]?;
@@ -70,7 +70,7 @@ fn put_entry(image: &mut [u8], start: usize, name: &[u8; 16], numbers: [u32; 4],
     let [length, root, blocks, records] = numbers;
     put_at(image, start, name);
     put_at(image, start.saturating_add(24), &[0xC1, 0xF1]);
-    put_at(image, start.saturating_add(30), &[0xC6]);
+    put_at(image, start.saturating_add(30), &[0xC6, 0x08]);
     put_number(image, start.saturating_add(32), length);
     put_number(image, start.saturating_add(40), root);
     put_number(image, start.saturating_add(44), blocks);

@@ -2,9 +2,9 @@
 
 use cms_fields::Stamp;
 
-/// The first second of a year 00.
+/// The first second of the year 2000.
 pub const START: Stamp = Stamp {
-    year: 0,
+    year: 2000,
     month: 1,
     day: 1,
     hour: 0,
@@ -12,9 +12,9 @@ pub const START: Stamp = Stamp {
     second: 0,
 };
 
-/// 1 July 26 at noon.
+/// 1 July 2026 at noon.
 pub const NOON: Stamp = Stamp {
-    year: 26,
+    year: 2026,
     month: 7,
     day: 1,
     hour: 12,

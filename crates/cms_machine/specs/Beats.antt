@@ -5,7 +5,7 @@ use Rattle.cms_journal.specs.declared.event.Event.{Event}
 use Rattle.cms_journal.specs.declared.event.Event.TheVariants.{Read, Now, Typed, Wrote, Synced}
 use Rattle.cms_journal.specs.Causes.{Counted}
 use Rattle.cms_journal.specs.Told.{Told, plus, typed, syncs}
-use Rattle.cms_fields.specs.Stamps.{stamp_bytes}
+use Rattle.cms_fields.specs.Stamps.{stamp_bytes, stamp_flags}
 use Rattle.cms_fields.specs.declared.time.Stamp.{Stamp}
 use Rattle.cms_model.specs.Minidisks.{State}
 use Rattle.cms_machine.specs.Slots.{Slot, unit_set, unit_state, IsAmong}
@@ -81,10 +81,12 @@ OnlyRead es = AllByRecursion IsRead es
 abbrev pub OnlyDisk : ℕ → List Event → Type 0
 OnlyDisk u es = AllByRecursion (IsDiskOf u) es
 
--- a directory's first block has this stamp in its own entry and in the allocation map's, each of 64 bytes
+-- a directory's first block has this stamp in its own entry and in the allocation map's, each of 64 bytes: its date and its century
 pub record HasStamp (bytes : List ℕ) (stamp : Stamp) : Type 0 where
   pub directory : take 6 (drop 54 bytes) ≡ stamp_bytes stamp
+  pub directory_flags : take 1 (drop 31 bytes) ≡ stamp_flags stamp ∷ []
   pub map : take 6 (drop 118 bytes) ≡ stamp_bytes stamp
+  pub map_flags : take 1 (drop 95 bytes) ≡ stamp_flags stamp ∷ []
 
 -- a directory begins in block 4 or 5: such a block is written with this stamp, where there is one, and not else
 abbrev pub MayWrite : Option Stamp → ℕ → List ℕ → Type 0

@@ -138,7 +138,7 @@ file_of format name size = record {
   number = 1;
   format = format;
   length = size;
-  stamp = record { year = 0; month = 1; day = 1; hour = 0; minute = 0; second = 0 };
+  stamp = record { year = 2000; month = 1; day = 1; hour = 0; minute = 0; second = 0 };
   records = replicate size 0 ∷ [];
 }
 

@@ -36,10 +36,10 @@ system_entry : ℕ → ℕ → ℕ → ℕ → List ℕ
 system_entry high low root count =
     zeros 30 ++ (0xC6 ∷ 0 ∷ 0 ∷ 0 ∷ high ∷ low ∷ zeros 4 ++ (0 ∷ 0 ∷ 0 ∷ root ∷ 0 ∷ 0 ∷ 0 ∷ 1 ∷ 0 ∷ 0 ∷ 0 ∷ count ∷ zeros 12))
 
--- the file A B A1, F of length 2 with 3 records, in block 7, of 1 July 26 at noon
+-- the file A B A1, F of length 2 with 3 records, in block 7, of 1 July 2026 at noon
 file_entry : List ℕ
 file_entry =
-    0xC1 ∷ replicate 7 0x40 ++ (0xC2 ∷ replicate 7 0x40 ++ (zeros 8 ++ (0xC1 ∷ 0xF1 ∷ zeros 4 ++ (0xC6 ∷ 0 ∷ 0 ∷ 0 ∷ 0 ∷ 2 ∷ zeros 4
+    0xC1 ∷ replicate 7 0x40 ++ (0xC2 ∷ replicate 7 0x40 ++ (zeros 8 ++ (0xC1 ∷ 0xF1 ∷ zeros 4 ++ (0xC6 ∷ 0x08 ∷ 0 ∷ 0 ∷ 0 ∷ 2 ∷ zeros 4
     ++ (0 ∷ 0 ∷ 0 ∷ 7 ∷ 0 ∷ 0 ∷ 0 ∷ 1 ∷ 0 ∷ 0 ∷ 0 ∷ 3 ∷ 0 ∷ 4 ∷ 0x26 ∷ 0x07 ∷ 0x01 ∷ 0x12 ∷ 0 ∷ 0 ∷ [])))))
 
 -- the directory in block 4, the map in block 6 with these marks, the file in block 7
@@ -55,7 +55,7 @@ disk : Disk
 disk = record { bsize = 512; count = 8 }
 
 noon : Stamp
-noon = record { year = 26; month = 7; day = 1; hour = 12; minute = 0; second = 0 }
+noon = record { year = 2026; month = 7; day = 1; hour = 12; minute = 0; second = 0 }
 
 file : File
 file = record {

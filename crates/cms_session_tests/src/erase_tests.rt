@@ -95,7 +95,7 @@ fn files_are_erased_and_kept(rt: HostRuntime) -> Result<(), Fail> {
     check_sessions(rt.alloc(), SESSIONS)
 }
 
-// 1 July 26 at noon, in seconds after 1970.
+// 1 July 2026 at noon, in seconds after 1970.
 const NOON: i64 = 1_782_907_200;
 
 // What a crash after so many events of a session leaves, or its end, where all that was written is.
@@ -143,12 +143,16 @@ fn other_image(alloc: Global) -> Result<String, AllocError> {
     Ok(String::new(alloc))
 }
 
-// The first erasure writes the directory to block 5, the second to block 4; each has the second of its turn in the entries of
-// the directory and of the map, in the hour of the zone.
+// The first erasure writes the directory to block 5, the second to block 4; each has the second of its turn and its century in
+// the entries of the directory and of the map, in the hour of the zone.
 const STAMPS: &[(&str, &[Edit])] = &[
     (
         "191,512,rw,A",
         &[
+            (5, 31, &[0x08]),
+            (5, 95, &[0x08]),
+            (4, 31, &[0x08]),
+            (4, 95, &[0x08]),
             (5, 54, &[0x26, 0x07, 0x01, 0x12, 0x34, 0x56]),
             (5, 118, &[0x26, 0x07, 0x01, 0x12, 0x34, 0x56]),
             (4, 54, &[0x26, 0x07, 0x01, 0x12, 0x34, 0x58]),
@@ -158,6 +162,10 @@ const STAMPS: &[(&str, &[Edit])] = &[
     (
         "-z W0100 191,512,rw,A",
         &[
+            (5, 31, &[0x08]),
+            (5, 95, &[0x08]),
+            (4, 31, &[0x08]),
+            (4, 95, &[0x08]),
             (5, 54, &[0x26, 0x07, 0x01, 0x11, 0x34, 0x56]),
             (5, 118, &[0x26, 0x07, 0x01, 0x11, 0x34, 0x56]),
             (4, 54, &[0x26, 0x07, 0x01, 0x11, 0x34, 0x58]),

@@ -40,7 +40,7 @@ pub fn quoted(alloc: Global, word: &Word) -> Result<String, AllocError> {
 
 /// The first of January 1900.
 pub const STAMP: Stamp = Stamp {
-    year: 0,
+    year: 1900,
     month: 1,
     day: 1,
     hour: 0,

@@ -1,12 +1,5 @@
-use Rattle.std.proofs.Common.{arith}
 use Rattle.cms_fields.proofs.Dates.{stamp_small}
 use Rattle.cms_fields.proofs.packed.packed_stamp.Goals as goal
-
-pub overflow_cast-stamp : goal.overflow_cast-stamp
-overflow_cast-stamp c = omega (arith, (stamp_small c.args.stamp.now c.requires).year)
-
-pub packed-requires : goal.packed-requires
-packed-requires c = (stamp_small c.args.stamp.now c.requires).year
 
 pub packed-requires-2 : goal.packed-requires-2
 packed-requires-2 c = (stamp_small c.args.stamp.now c.requires).month
