@@ -9,3 +9,5 @@ pub mod Lifting
 pub mod Stepping
 pub mod Totals
 pub mod Own
+pub mod Pathing
+mod PathRows

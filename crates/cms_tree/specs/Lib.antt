@@ -4,3 +4,4 @@ pub mod Builds
 pub mod Levels
 pub mod Tiers
 pub mod Climbs
+pub mod Paths

@@ -4,11 +4,13 @@
 mod climb;
 mod node;
 mod read;
+mod sharing;
 mod sizes;
 mod types;
 
 pub use climb::{Climb, climb_laws};
 pub use node::{build, build_laws};
 pub use read::{leaves, walk};
+pub use sharing::{left_out, path, path_laws};
 pub use sizes::shape;
 pub use types::{Mark, Shape, TreeAt, TreeFault, Walked};
