@@ -1,6 +1,6 @@
 -- The free blocks of a map: the search for the next, what marking the lowest of them leaves, and what they are.
 use Rattle.std.proofs.Common.{◌≡◌, inl, inr, ⊎_elim, ℕ, zero, suc, ◌+◌, ◌-◌, ◌*◌, ◌^◌, ◌≤◌, ◌<◌, Bool, true, false, List, [], ◌∷◌, ◌++◌, length, take, drop, get_or, set, refl, sym, ◌∙◌, ap, arith, length-set}
-use Rattle.std.proofs.lemmas.List.{append-nil, append_assoc, drop_more, take_more, drop-drop, drop-set-lt, length-drop, get_or_default}
+use Rattle.std.proofs.lemmas.List.{append_assoc, drop_more, take_more, drop-drop, drop-set-lt, length-drop, get_or_default}
 use Rattle.std.specs.Prelude.{◌≢◌, ◌==◌, ◌&&◌, if◌then◌else◌}
 use Rattle.std.proofs.lemmas.Bool.{cases_eq, and_parts, eqb-true}
 use Rattle.std.specs.List.Sorted.{IsStrictlyIncreasing}
@@ -111,10 +111,6 @@ pub record Marking (old : List Bool) (had : List ℕ) (bits : List Bool) (has : 
   pub same : drop block bits ≡ drop block old
   pub left : free_from (block + 1) (drop block old) ≡ drop taken (free_blocks old)
 
-pub starts : (old : List Bool) (had : List ℕ) → Marking old had old had 0 0
-unfolding with_marked
-starts old had = record { marks = refl; blocks = sym (append-nil had); same = refl; left = refl }
-
 -- one more is free while fewer are marked than are free
 pub one_left : (old : List Bool) (had : List ℕ) (bits : List Bool) (has : List ℕ) (block taken : ℕ) → Marking old had bits has block taken → taken < length (free_blocks old)
     → 0 < length (free_from (block + 1) (drop block bits))
@@ -178,7 +174,7 @@ is_free k n (bit ∷ bits) low high is = ⊎_elim
 pub free_are_unused : FreeAreUnused
 free_are_unused bits n = (λ h. let all = in_free 1 n bits h in (all.0, omega (arith, all.1), all.2), λ all. is_free 1 n bits all.0 (omega (arith, all.1)) all.2)
 
-free_above : (k : ℕ) (bits : List Bool) (i : ℕ) → i < length (free_from k bits) → k ≤ get_or (free_from k bits) i 0
+pub free_above : (k : ℕ) (bits : List Bool) (i : ℕ) → i < length (free_from k bits) → k ≤ get_or (free_from k bits) i 0
 unfolding free_from
 free_above k [] i less = absurd (omega arith)
 free_above k (true ∷ bits) i less = let deeper = free_above (k + 1) bits i less in omega arith

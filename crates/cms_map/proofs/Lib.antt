@@ -1,3 +1,5 @@
 pub mod Free
 pub mod Held
+pub mod Low
 pub mod Packed
+pub mod Touching

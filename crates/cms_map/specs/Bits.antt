@@ -1,5 +1,5 @@
 -- The allocation map as a list of bits, that of block 1 first; true is in use.
-use Rattle.std.specs.Prelude.{◌≡◌, ◌↔◌, ℕ, zero, suc, ◌+◌, ◌-◌, ◌*◌, ◌^◌, ◌≤◌, Bool, true, false, if◌then◌else◌, List, [], ◌∷◌, length, map, drop, slice_set, slice_index_or}
+use Rattle.std.specs.Prelude.{◌≡◌, ◌↔◌, ℕ, zero, suc, ◌+◌, ◌-◌, ◌*◌, ◌^◌, ◌≤◌, Bool, true, false, if◌then◌else◌, List, [], ◌∷◌, length, map, take, drop, slice_set, slice_index_or}
 use Rattle.std.specs.List.Sorted.{IsStrictlyIncreasing}
 use Rattle.std.specs.List.{range_with_len}
 use Rattle.std.specs.Int.{div_ceil}
@@ -19,6 +19,10 @@ free_from n (false ∷ bits) = n ∷ free_from (n + 1) bits
 -- the free blocks in ascending order
 abbrev pub free_blocks : List Bool → List ℕ
 free_blocks bits = free_from 1 bits
+
+-- none of the blocks up to this one is free
+abbrev pub NoneIsFree : ℕ → List Bool → Type 0
+NoneIsFree low bits = free_blocks (take low bits) ≡ []
 
 -- the map with these blocks in use
 unfoldable pub with_marked : List ℕ → List Bool → List Bool

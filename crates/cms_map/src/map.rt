@@ -2,28 +2,33 @@
 ghost use Rattle.std.specs.Prelude.{◌≡◌, ◌==◌, ◌&&◌, ℕ, ◌+◌, ◌-◌, ◌*◌, ◌^◌, ◌≤◌, ◌<◌, ◌++◌, ◌∷◌, true, false, length, take, drop, nat_le, if◌then◌else◌, IfOk, ◌/◌, ◌%◌, slice_index_or, slice_set, vec_len, vec_capacity};
 ghost use Rattle.cms_model.specs.Maps.{is_marked};
 ghost use Rattle.cms_map.specs.Bits.{HasFixed, bits_in, free_from, free_blocks, with_marked, number_of, byte_at, bytes_from};
+ghost use Rattle.std.specs.Prelude.{All, map, min};
+ghost use Rattle.std.specs.Option.{option_map_or};
+ghost use Rattle.std.specs.Int.{div_ceil};
+ghost use Rattle.cms_map.specs.Touched.{data_block, AppendsTouched, IsLowest};
 
 use std::alloc::{AllocError, Global};
 use std::marker::Model;
 
 /// The blocks of a volume that are in use, seen as a list of bits: that of block 1 first, true where it is in use. It takes a bit of
-/// memory a block.
+/// memory a block. Up to the block `low` none is free, so the search for free blocks begins behind it.
 #[derive(Clone, Drop)]
 pub struct Map {
     bytes: Vec<u8>,
     blocks: u32,
     free: u32,
+    low: u32,
 }
 
 impl Model for Map {
     ghost use Rattle.std.specs.Prelude.{List, Bool};
-    ghost use Rattle.cms_map.specs.Bits.{bits_in, IsHeld};
+    ghost use Rattle.cms_map.specs.Bits.{bits_in, IsHeld, NoneIsFree};
 
     ghost Value = { List Bool };
 
     ghost view = { λ m. bits_in m.blocks m.bytes.items };
 
-    ghost invariant = { λ m. IsHeld m.blocks m.free m.bytes.items };
+    ghost invariant = { λ m. IsHeld m.blocks m.free m.bytes.items × NoneIsFree m.low (bits_in m.blocks m.bytes.items) };
 }
 
 impl Map {
@@ -46,6 +51,7 @@ impl Map {
             bytes: held,
             blocks: n,
             free: n - used,
+            low: 0,
         })
     }
 
@@ -80,12 +86,13 @@ impl Map {
         if n > self.free_count() {
             return false;
         }
-        let mut block = 0;
+        let mut block = self.low;
         for _taken in 0..n {
             block = self.next_free(block);
             self.mark(block);
             into.push(block).unwrap();
         }
+        self.low = block;
         true
     }
 
@@ -99,6 +106,7 @@ impl Map {
         if self.is_used(block) {
             self.bytes[place_of(block)] &= !bit_of(block);
             self.free += 1;
+            self.low = self.low.min(block - 1);
         }
     }
 
@@ -108,6 +116,22 @@ impl Map {
     {
         for (place, byte) in into.iter_mut().enumerate() {
             *byte = self.byte(from as usize + place);
+        }
+    }
+
+    /// Appends the numbers of the map's data blocks of `bsize` bytes in which the bits of these blocks stand, from 0: ascending and
+    /// each once. Takes no memory: the vector must have room for as many as the map has data blocks.
+    pub fn touched(&self, blocks: &[u32], bsize: u32, into: &mut Vec<u32>)
+        requires size { 0 < bsize }
+        requires blocks { All (λ n. (1 ≤ n) × (n ≤ length self.now)) blocks.now }
+        requires room { vec_len into.old + div_ceil (length self.now) (8 * bsize) ≤ vec_capacity into.old }
+        ensures touched { AppendsTouched bsize blocks.now into.old.items into.new.items }
+        ensures capacity { vec_capacity into.old ≤ vec_capacity into.new }
+    {
+        let mut from = 0;
+        while let Some(place) = next_touched(blocks, bsize, from) {
+            into.push(place).unwrap();
+            from = place + 1;
         }
     }
 
@@ -195,4 +219,30 @@ fn bit_of(block: u32) -> u8
     ensures { result ≡ 2 ^ (7 - (block - 1) % 8) }
 {
     1 << (7 - (block - 1) % 8)
+}
+
+// The lowest of the data blocks, from this one on, in which a bit of these blocks stands.
+fn next_touched(blocks: &[u32], bsize: u32, from: u32) -> Option<u32>
+    requires size { 0 < bsize }
+    requires first { All (λ n. 1 ≤ n) blocks.now }
+    ensures lowest { IsLowest from (map (data_block bsize) blocks.now) result }
+{
+    let mut lowest = None;
+    for block in blocks {
+        let place = (*block - 1) / 8 / bsize;
+        if place >= from {
+            lowest = Some(lower_of(lowest, place));
+        }
+    }
+    lowest
+}
+
+// The lower of two places, of which the first may be lacking.
+fn lower_of(lowest: Option<u32>, place: u32) -> u32
+    ensures { result ≡ option_map_or (min place) lowest place }
+{
+    match lowest {
+        Some(low) => place.min(low),
+        None => place,
+    }
 }

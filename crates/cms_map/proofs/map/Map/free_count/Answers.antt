@@ -1,4 +1,4 @@
-use Rattle.std.proofs.Common.{Bool, List, subst}
+use Rattle.std.proofs.Common.{subst}
 use Rattle.cms_map.specs.Bits.{HasFixed}
 use Rattle.cms_map.proofs.Held.{fixed_in}
 use Rattle.cms_map.proofs.map.Map.free_count.Goals as goal

@@ -8,5 +8,5 @@ returns c =
     let long = ap length c.self.view_is in
     let within : c.args.block ≤ m.blocks = omega (arith, bits_count m.blocks m.bytes.items) in
     rw c.deref.ensures.value at c.is_marked.ensures
-    ∙ marked_held m.blocks m.free m.bytes.items c.args.block c.self.invariant c.requires.first within
+    ∙ marked_held m.blocks m.free m.bytes.items c.args.block c.self.invariant.0 c.requires.first within
     ∙ ap (λ (l : List Bool). get_or l (c.args.block - 1) false) c.self.view_is

@@ -31,10 +31,11 @@ overflow_sub-result c =
     omega (arith, l.invariant.ones, length-take (8 * l.at) bits, bits_count c.args.n c.args.bytes.now)
 
 pub invariant_of-result : goal.invariant_of-result
+unfolding free_from
 invariant_of-result c =
     let l = c.loop-at in
     let end : l.at ≡ div_ceil c.args.n 8 = omega (arith, c.div_ceil-count.ensures) in
-    (reads c.args.n l.used c.args.bytes.now l.held.items (rw end at l.invariant.bytes) (rw end at l.invariant.ones)).held
+    ((reads c.args.n l.used c.args.bytes.now l.held.items (rw end at l.invariant.bytes) (rw end at l.invariant.ones)).held, refl)
 
 pub returns-clause-bits : goal.returns-clause-bits
 returns-clause-bits c =
