@@ -1,42 +1,14 @@
 -- Records of bytes that come in pieces.
-use Rattle.std.proofs.Common.{◌≡◌, ◌⊎◌, ⊎_elim, ℕ, zero, suc, ◌+◌, ◌-◌, ◌≤◌, ◌<◌, Bool, true, false, if◌then◌else◌, List, [], ◌∷◌, ◌++◌, length, take, drop, Option, None, Some, Result, Ok, refl, sym, ◌∙◌, ap, subst, arith, append_assoc, length-append}
+use Rattle.std.proofs.Common.{◌≡◌, ◌⊎◌, inl, inr, get_or, append-nil, ⊎_elim, ℕ, zero, suc, ◌+◌, ◌≤◌, ◌<◌, Bool, true, false, if◌then◌else◌, List, [], ◌∷◌, ◌++◌, length, take, drop, Option, None, Some, Result, Ok, refl, sym, ◌∙◌, ap, subst, arith, length-append}
 use Rattle.std.specs.Prelude.{max, nat_le, nat_lt, ◌==◌, IfSome}
-use Rattle.std.proofs.lemmas.List.{drop-drop, length-take-le, take_all, take-append-drop}
-use Rattle.std.proofs.lemmas.Bool.{le-leb, lt-leb, leb-true, le-ltb, cases_Bool, eqb-true, eq-eqb}
+use Rattle.std.proofs.lemmas.List.{length-take-le, take_all, take-append-drop}
+use Rattle.std.proofs.lemmas.Bool.{le-leb, lt-leb, leb-true, le-ltb, lt-ltb, ltb-true, cases_Bool, eqb-true, eq-eqb}
 use Rattle.cms_fields.specs.Steps.{◌>>◌, want}
 use Rattle.cms_text.specs.Bytes.{half}
 use Rattle.cms_model.specs.declared.fault.VarFault.{VarFault}
 use Rattle.cms_model.specs.declared.fault.VarFault.TheVariants.{Zero, PastEnd}
-use Rattle.cms_records.specs.Pieces.{Begun, head_of, next_place, bytes_so_far, record_size, IsPart}
+use Rattle.cms_records.specs.Pieces.{Begun, next_place, bytes_so_far, record_size, IsPart}
 use Rattle.cms_records.proofs.Scanning.{half_front}
-
--- ---- the front of bytes
-
--- the front of two lists that holds the first of them
-front_past : (before more : List ℕ) (k : ℕ) → length before ≤ k → take k (before ++ more) ≡ before ++ take (k - length before) more
-front_past [] more k le = let e : k - 0 ≡ k = omega arith in rw e refl
-front_past (x ∷ xs) more zero le = absurd (omega arith)
-front_past (x ∷ xs) more (suc k) le = let e : suc k - suc (length xs) ≡ k - length xs = omega arith in rw e (ap (λ (l : List ℕ). x ∷ l) (front_past xs more k (omega arith)))
-
-drop_taken : (j : ℕ) (more : List ℕ) → drop (length (take j more)) more ≡ drop j more
-drop_taken zero more = refl
-drop_taken (suc j) [] = refl
-drop_taken (suc j) (x ∷ xs) = drop_taken j xs
-
--- what was taken, and the rest of the piece, are all bytes again
-pub rejoined : (before piece : List ℕ) (k from next : ℕ) → length before ≤ k → from ≤ next → length before + (next - from) ≡ length (take k (before ++ drop from piece))
-    → take k (before ++ drop from piece) ++ drop next piece ≡ before ++ drop from piece
-rejoined before piece k from next le later taken =
-    let more = drop from piece in
-    let j = k - length before in
-    let past = front_past before more k le in
-    let long = ap length past ∙ length-append before (take j more) in
-    let count : next - from ≡ length (take j more) = omega arith in
-    let at : from + (next - from) ≡ next = omega arith in
-    let rest : drop next piece ≡ drop j more =
-    ap (λ (n : ℕ). drop n piece) (sym at) ∙ (sym (drop-drop (next - from) from piece) ∙ (ap (λ (n : ℕ). drop n more) count ∙ drop_taken j more)) in
-    ap (λ (l : List ℕ). l ++ drop next piece) past
-    ∙ (ap (λ (l : List ℕ). (before ++ take j more) ++ l) rest ∙ (append_assoc before (take j more) (drop j more) ∙ ap (λ (l : List ℕ). before ++ l) (take-append-drop j more)))
 
 -- ---- the size of a record
 
@@ -76,18 +48,11 @@ size_least longest place bytes n is = go (nat_lt (length bytes) 2) (nat_le 1 (ha
 
 -- ---- a piece is fed
 
--- the front that was taken first tells the size
-pub size_told : (fixed : Option ℕ) (longest place head : ℕ) (before more : List ℕ) → (fixed ≡ None → head ≡ 2)
-    → record_size fixed longest place (take (max head (length before)) (before ++ more)) ≡ record_size fixed longest place (before ++ more)
-size_told fixed longest place head before more two = size_front fixed longest place (before ++ more) (max head (length before)) (λ none. let h = two none in omega arith)
-
 -- what came before is no more than the record
-pub part_fits : (fixed : Option ℕ) (longest place head n : ℕ) (before more : List ℕ) → ((m : ℕ) → fixed ≡ Some m → head ≡ m) → (fixed ≡ None → head ≡ 2)
-    → IsPart (record_size fixed longest place before) false before
-    → record_size fixed longest place (before ++ more) ≡ Ok (Some n) → max head (length before) ≤ n
-part_fits (Some m) longest place head n before more heads two part is = let h = heads m refl in let same : m ≡ n = cc is in omega arith
-part_fits None longest place head n before more heads two part is =
-    let h = two refl in
+pub part_fits : (fixed : Option ℕ) (longest place n : ℕ) (before more : List ℕ) → IsPart (record_size fixed longest place before) false before
+    → record_size fixed longest place (before ++ more) ≡ Ok (Some n) → length before ≤ n
+part_fits (Some m) longest place n before more part is = let same : m ≡ n = cc is in omega arith
+part_fits None longest place n before more part is =
     let least = size_least longest place (before ++ more) n is in
     ⊎_elim
     (λ (short : length before ≤ 1). omega arith)
@@ -110,32 +75,56 @@ front_few n all second is = subst (λ (l : List ℕ). length l ≤ n) (sym is) (
     short (suc k) [] = omega arith
     short (suc k) (x ∷ xs) = let s = short k xs in omega arith
 
--- all of it
-pub all_taken : (before piece : List ℕ) (k n from next : ℕ) (first second : List ℕ) → length before ≤ k → k ≤ n → from ≤ next → length before + (next - from) ≡ length first
-    → first ≡ take k (before ++ drop from piece) → second ≡ take (max n (length first)) (first ++ drop next piece) → second ≡ take n (before ++ drop from piece)
-all_taken before piece k n from next first second le fits later taken first_is second_is =
-    let joined = rejoined before piece k from next le later (taken ∙ ap length first_is) in
-    let short : length first ≤ k = front_few k (before ++ drop from piece) first first_is in
-    let m : max n (length first) ≡ n = omega arith in
-    second_is ∙ (ap (λ (j : ℕ). take j (first ++ drop next piece)) m ∙ ap (take n) (ap (λ (l : List ℕ). l ++ drop next piece) first_is ∙ joined))
-
--- bytes that tell the size of a record were taken, and then all of the record
-pub record IsTaken (fixed : Option ℕ) (longest place n : ℕ) (before more second : List ℕ) : Type 0 where
-  pub size : record_size fixed longest place (before ++ more) ≡ Ok (Some n)
-  pub all : second ≡ take n (before ++ more)
-
-pub is_taken : (fixed : Option ℕ) (longest place head n : ℕ) (before piece : List ℕ) (from next : ℕ) (first second : List ℕ) (whole : Bool) → whole ≡ false → head ≡ head_of fixed
-    → IsPart (record_size fixed longest place before) whole before → record_size fixed longest place first ≡ Ok (Some n)
-    → from ≤ next → length before + (next - from) ≡ length first → first ≡ take (max head (length before)) (before ++ drop from piece)
-    → second ≡ take (max n (length first)) (first ++ drop next piece) → IsTaken fixed longest place n before (drop from piece) second
-is_taken fixed longest place head n before piece from next first second whole begun is part size later taken first_is second_is =
-    let more = drop from piece in
-    let two = λ (none : fixed ≡ None). is ∙ ap head_of none in
+-- all of the record was taken that came
+pub is_taken : (fixed : Option ℕ) (longest place n : ℕ) (before more after : List ℕ) (whole : Bool) → whole ≡ false → IsPart (record_size fixed longest place before) whole before
+    → record_size fixed longest place (before ++ more) ≡ Ok (Some n) → after ≡ take (max n (length before)) (before ++ more) → after ≡ take n (before ++ more)
+is_taken fixed longest place n before more after whole begun part size is =
     let so_far = subst (λ (b : Bool). IsPart (record_size fixed longest place before) b before) begun part in
-    let all : record_size fixed longest place (before ++ more) ≡ Ok (Some n) =
-    sym (size_told fixed longest place head before more two) ∙ (ap (record_size fixed longest place) (sym first_is) ∙ size) in
-    let fits = part_fits fixed longest place head n before more (λ m e. is ∙ ap head_of e) two so_far all in
-    record { size = all; all = all_taken before piece (max head (length before)) n from next first second (omega arith) fits later taken first_is second_is }
+    let fits = part_fits fixed longest place n before more so_far size in
+    let m : max n (length before) ≡ n = omega arith in
+    is ∙ ap (λ (k : ℕ). take k (before ++ more)) m
+
+-- where bytes don't tell the size, they are fewer than two
+pub untold_few : (fixed : Option ℕ) (longest place : ℕ) (bytes : List ℕ) → record_size fixed longest place bytes ≡ Ok None → (fixed ≡ None) × (length bytes < 2)
+untold_few (Some m) longest place bytes is = absurd (cc is)
+untold_few None longest place bytes is = (refl, go (nat_lt (length bytes) 2) refl is)
+  where
+    ends : (b d : Bool) → (want b (Zero place) >> (want d (PastEnd place) >> Ok (Some (2 + half bytes 0)))) ≡ Ok None → length bytes < 2
+    ends false d is = absurd (cc is)
+    ends true false is = absurd (cc is)
+    ends true true is = absurd (cc is)
+
+    go : (a : Bool) → nat_lt (length bytes) 2 ≡ a → (if a then Ok None else (want (nat_le 1 (half bytes 0)) (Zero place) >> (want (nat_le (half bytes 0) longest) (PastEnd place) >> Ok (Some (2 + half bytes 0)))))
+        ≡ Ok None → length bytes < 2
+    go true e is = ltb-true (length bytes) 2 e
+    go false e is = ends (nat_le 1 (half bytes 0)) (nat_le (half bytes 0) longest) is
+
+-- fewer than two bytes don't tell it
+pub few_untold : (longest place : ℕ) (bytes : List ℕ) → length bytes < 2 → record_size None longest place bytes ≡ Ok None
+few_untold longest place bytes few = let a : nat_lt (length bytes) 2 ≡ true = lt-ltb (length bytes) 2 few in rw a refl
+
+-- two bytes tell it, though they came in two pieces
+pub joined_told : (fixed : Option ℕ) (longest place high low : ℕ) (came more : List ℕ) → length came ≡ 1 → 0 < length more → high ≡ get_or came 0 0 → low ≡ get_or more 0 0
+    → record_size fixed longest place (high ∷ low ∷ []) ≡ record_size fixed longest place (came ++ more)
+joined_told fixed longest place high low (h ∷ []) (l ∷ more) one some is_high is_low =
+    let all : take 2 (h ∷ l ∷ more) ≡ high ∷ low ∷ [] = rw (is_high, is_low) refl in
+    ap (record_size fixed longest place) (sym all) ∙ size_front fixed longest place (h ∷ l ∷ more) 2 (λ none. omega arith)
+joined_told fixed longest place high low [] more one some is_high is_low = absurd (omega arith)
+joined_told fixed longest place high low (h ∷ g ∷ came) more one some is_high is_low = absurd (omega arith)
+joined_told fixed longest place high low (h ∷ []) [] one some is_high is_low = absurd (omega arith)
+
+-- two bytes that came tell it, and so does one with nothing behind it
+pub front_told : (fixed : Option ℕ) (longest place : ℕ) (came more : List ℕ) → (2 ≤ length came) ⊎ (length more ≡ 0)
+    → record_size fixed longest place came ≡ record_size fixed longest place (came ++ more)
+front_told fixed longest place came more (inl two) =
+    let front : take (length came) (came ++ more) ≡ came = taken came in
+    ap (record_size fixed longest place) (sym front) ∙ size_front fixed longest place (came ++ more) (length came) (λ none. two)
+  where
+    taken : (xs : List ℕ) → take (length xs) (xs ++ more) ≡ xs
+    taken [] = refl
+    taken (x ∷ xs) = ap (λ (l : List ℕ). x ∷ l) (taken xs)
+front_told fixed longest place came [] (inr none) = ap (record_size fixed longest place) (sym (append-nil came))
+front_told fixed longest place came (x ∷ more) (inr none) = absurd (omega arith)
 
 -- it is whole where so many bytes are there
 pub whole_told : (n : ℕ) (all second : List ℕ) → second ≡ take n all → (length second == n) ≡ nat_le n (length all)

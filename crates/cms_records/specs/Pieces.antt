@@ -21,11 +21,6 @@ bytes_so_far s = if s.whole then [] else s.bytes
 abbrev pub next_place : Begun → ℕ
 next_place s = if s.whole then s.place + length s.bytes else s.place
 
--- how many bytes tell it
-abbrev pub head_of : Option ℕ → ℕ
-head_of None = 2
-head_of (Some n) = n
-
 -- how many bytes a record has that begins these, with those of its length, where they tell it; or what is wrong with its length
 abbrev pub record_size : Option ℕ → ℕ → ℕ → List ℕ → Result (Option ℕ) VarFault
 record_size (Some n) longest place bytes = Ok (Some n)

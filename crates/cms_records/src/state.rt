@@ -1,13 +1,16 @@
 // One record after another, of bytes that come in pieces.
-ghost use Rattle.std.specs.Prelude.{◌≡◌, ℕ, ◌+◌, ◌-◌, ◌≤◌, ◌++◌, [], Some, true, false, max, length, vec_capacity, take, drop, IfOk, IfErr, IfSome, OnOk, Ok, Err};
+ghost use Rattle.std.specs.Prelude.{◌≡◌, ℕ, ◌+◌, ◌-◌, ◌≤◌, ◌++◌, [], Some, true, false, max, length, vec_capacity, take, drop, IfOk, IfErr, IfSome, OnErr, OnOk, Ok, Err};
 ghost use Rattle.cms_text.specs.Bytes.{half};
 ghost use Rattle.cms_fields.specs.Limits.{longest_record, most_bytes};
-ghost use Rattle.cms_records.specs.Pieces.{Begun, Takes, head_of, record_size, bytes_so_far, next_place, text_in};
+ghost use Rattle.cms_records.specs.Pieces.{Begun, Takes, record_size, bytes_so_far, next_place, text_in};
 
 use crate::VarFault;
 use cms_text::bytes::{after, half_at};
 use std::alloc::{AllocError, Global};
 use std::marker::Model;
+
+// How many bytes tell the length of a record.
+const HEAD: usize = 2;
 
 /// What a piece gave.
 #[derive(Clone, Copy, Debug, PartialEq, Eq)]
@@ -60,7 +63,7 @@ impl RecordState {
 
     /// Takes bytes of a piece from the place `from` on, until a record is whole or the piece ends: at most 67,108,864 in all. A
     /// record that is whole is followed by a new one. `Zero` where a length is 0, `PastEnd` where it is above the longest, with the
-    /// place of the length's first byte among all bytes; the state isn't used again then. It takes no memory.
+    /// place of the length's first byte among all bytes; nothing is taken then. It takes no memory.
     pub fn feed(&mut self, piece: &[u8], from: usize) -> Result<Fed, VarFault>
         requires from { from ≤ length piece.now }
         requires few { self.old.place + length self.old.bytes + length piece.now ≤ most_bytes + from }
@@ -70,13 +73,15 @@ impl RecordState {
         ensures rules { (self.new.fixed ≡ self.old.fixed) × (self.new.longest ≡ self.old.longest) }
         ensures fault { IfErr result (λ why. record_size self.old.fixed self.old.longest (next_place self.old)
             (bytes_so_far self.old ++ drop from piece.now) ≡ Err why) }
+        ensures refused { OnErr result (self.new ≡ self.old) }
     {
-        self.begin();
-        let next = take(&mut self.bytes, piece, from, head_of(self.fixed));
-        let Some(size) = size_of(self.fixed, self.longest, self.place, &self.bytes)? else {
+        let Some(size) = self.size_with(&piece[from..])? else {
+            self.begin();
+            let next = take(&mut self.bytes, piece, from, HEAD);
             return Ok(Fed { next, whole: false });
         };
-        let next = take(&mut self.bytes, piece, next, size as usize);
+        self.begin();
+        let next = take(&mut self.bytes, piece, from, size as usize);
         self.whole = self.bytes.len() == size as usize;
         Ok(Fed {
             next,
@@ -95,6 +100,18 @@ impl RecordState {
         }
     }
 
+    // How many bytes the record has that is read next, where more bytes come.
+    fn size_with(&self, more: &[u8]) -> Result<Option<u32>, VarFault>
+        ensures size { result ≡ record_size self.now.fixed self.now.longest (next_place self.now) (bytes_so_far self.now ++ more.now) }
+        ensures held { length self.now.bytes ≤ self.now.longest + 2 }
+    {
+        if self.whole {
+            let place = self.place + self.bytes.len() as u32;
+            return size_of(self.fixed, self.longest, place, more);
+        }
+        joined_size(self.fixed, self.longest, self.place, &self.bytes, more)
+    }
+
     // Behind a whole record a new one begins.
     fn begin(&mut self)
         ensures { self.new ≡ record {
@@ -110,16 +127,6 @@ impl RecordState {
             self.bytes.clear();
             self.whole = false;
         }
-    }
-}
-
-// How many bytes tell the size of a record.
-fn head_of(fixed: Option<u32>) -> usize
-    ensures { result ≡ head_of fixed }
-{
-    match fixed {
-        Some(size) => size as usize,
-        None => 2,
     }
 }
 
@@ -147,6 +154,26 @@ fn size_of(
         return Err(VarFault::PastEnd(place));
     }
     Ok(Some(2 + size))
+}
+
+// The same of bytes that came, with more behind them.
+fn joined_size(
+    fixed: Option<u32>,
+    longest: u32,
+    place: u32,
+    came: &[u8],
+    more: &[u8],
+) -> Result<Option<u32>, VarFault>
+    requires { longest ≤ longest_record }
+    ensures { result ≡ record_size fixed longest place (came.now ++ more.now) }
+{
+    if came.is_empty() {
+        return size_of(fixed, longest, place, more);
+    }
+    if came.len() == 1 && !more.is_empty() {
+        return size_of(fixed, longest, place, &[came[0], more[0]]);
+    }
+    size_of(fixed, longest, place, came)
 }
 
 // Takes bytes of a piece until there are so many, or the piece ends; the place behind them. There is room for them.
