@@ -1,15 +1,25 @@
 // Records whose bytes come in pieces.
 use cms_cases::{bytes_of, number, told, word};
 use cms_journal::BlockSize;
-use cms_records::{Fed, RecordState, VarFault, VarScan, VarSizes};
+use cms_records::{Fed, RecordState, VarFault, VarScan, VarSizes, put_var};
 use std::alloc::{AllocError, Global};
 
 /// `varying`, `long`, `fixed`: how far the last piece is fed, or the fault.
+/// `refused`: what is said of a length of 0 whose first byte came before, and of the piece that is fed in its place.
+/// `start/LENGTH LENGTH ..`: where the first record begins in the last data block of 512 bytes of records of these lengths.
 /// `sizes/COUNT/PIECE/PIECE`: the sizes of so many records in two pieces, which stand in whole blocks of 512 bytes.
 pub const ROWS: &str = "\
 varying => Err(Zero(8))
 long => Err(PastEnd(0))
 fixed => Ok(Fed { next: 3, whole: false })
+refused => (Err(Zero(3)), Ok(Fed { next: 2, whole: true }))
+start/1 => 0
+start/600 => 4294967295
+start/600 1 3 => 90
+start/510 1 => 0
+start/509 1 => 4294967295
+start/509 600 => 4294967295
+start/600 600 1 => 180
 sizes/2/00 03 C1 C2 C3 00 01 C4 => Ok(VarSizes { longest: 3, stored: 8 })
 sizes/2/00 03 C1 C2 C3 00/01 C4 => Ok(VarSizes { longest: 3, stored: 8 })
 sizes/2/00/03 C1 C2 C3 00 01 C4 => Ok(VarSizes { longest: 3, stored: 8 })
@@ -72,6 +82,32 @@ fn fixed(alloc: Global) -> Result<String, AllocError> {
     told(alloc, &state.feed(&[0, 0, 1], 2))
 }
 
+// A length of which the second byte is refused, and another second byte.
+fn refused(alloc: Global) -> Result<String, AllocError> {
+    let mut state = RecordState::new(alloc, None, 3)?;
+    let _first = state.feed(&[0, 1, 0xC1, 0], 0);
+    let _cut = state.feed(&[0, 1, 0xC1, 0], 3);
+    let bad = state.feed(&[0, 0xC4], 0);
+    told(alloc, &(bad, state.feed(&[1, 0xC4], 0)))
+}
+
+const FILL: [u8; 700] = [7; 700];
+
+// Where the first record begins in the last data block of records of these lengths, from 1 to 700.
+fn start(alloc: Global, lengths: &str) -> Result<String, AllocError> {
+    let mut bytes = Vec::new(alloc);
+    let mut count = 0_u32;
+    for length in lengths.split(' ') {
+        put_var(&mut bytes, &FILL[..number(length).clamp(1, 700) as usize])?;
+        count = count.saturating_add(1);
+    }
+    let mut scan = VarScan::new(count, BlockSize::new(512));
+    if bytes.len() <= 10_000 {
+        let _fed = scan.feed(&bytes);
+    }
+    told(alloc, &scan.last_start())
+}
+
 // So many records in two pieces, in whole blocks of 512 bytes.
 fn sizes(count: u32, first: &[u8], second: &[u8]) -> Result<VarSizes, VarFault> {
     let mut scan = VarScan::new(count, BlockSize::new(512));
@@ -102,6 +138,8 @@ pub fn answer(alloc: Global, case: &str) -> Result<String, AllocError> {
         "varying" => varying(alloc),
         "long" => long(alloc),
         "fixed" => fixed(alloc),
+        "refused" => refused(alloc),
+        "start" => start(alloc, word(case, 1)),
         _ => sizes_told(alloc, case),
     }
 }

@@ -1,17 +1,20 @@
 -- Records of varying lengths, whose bytes come in pieces.
-use Rattle.std.proofs.Common.{◌≡◌, ◌⊎◌, inl, inr, ℕ, zero, suc, ◌+◌, ◌-◌, ◌*◌, ◌≤◌, ◌<◌, true, false, List, [], ◌∷◌, ◌++◌, length, take, drop, map, slice_index, Option, None, Some, Result, Ok, Err, refl, sym, ◌∙◌, ap, subst, arith, append-nil, append_assoc, length-append}
+use Rattle.std.proofs.Common.{◌≡◌, ◌⊎◌, ⊎_elim, inl, inr, ℕ, zero, suc, ◌+◌, ◌-◌, ◌*◌, ◌≤◌, ◌<◌, true, false, List, [], ◌∷◌, ◌++◌, length, take, drop, map, slice_index, Option, None, Some, Result, Ok, Err, refl, sym, ◌∙◌, ap, subst, arith, append-nil, append_assoc, length-append}
 use Rattle.std.specs.Prelude.{max, nat_le, nat_lt}
 use Rattle.std.specs.List.{concat}
 use Rattle.std.proofs.lemmas.List.{drop-drop, length-drop, length-take-le, get_or_append_left, get_or-append-add}
-use Rattle.std.proofs.lemmas.Bool.{le-leb, lt-leb, lt-ltb, le-ltb}
+use Rattle.std.proofs.lemmas.Bool.{le-leb, lt-leb, lt-ltb, le-ltb, cases_lt}
 use Rattle.cms_fields.specs.Steps.{◌>>=◌}
 use Rattle.cms_text.specs.Bytes.{half}
 use Rattle.cms_model.specs.Records.{varying, longest, with_length}
 use Rattle.cms_model.specs.declared.fault.VarFault.{VarFault}
 use Rattle.cms_model.specs.declared.fault.VarFault.TheVariants.{Zero, PastEnd, Left}
+use Rattle.cms_records.specs.declared.sizes.VarSizes.{VarSizes}
 use Rattle.cms_records.specs.Views.{first_size}
-use Rattle.cms_records.specs.Scans.{filled_by, sizes_in, with_before, Scan, Holds, IsSizeAt, EndWithin, IsFed, IsPast, Passes, IsCut}
+use Rattle.cms_records.specs.Scans.{filled_by, sizes_in, sizes_of, with_before, Scan, Holds, IsSizeAt, EndWithin, IsFed, IsPast, Passes, IsCut}
+use Rattle.cms_records.specs.Starts.{begins, last_start, start_in, with_place}
 use Rattle.cms_records.proofs.Lengths.{behind, varying_next, first_begins}
+use Rattle.cms_records.proofs.Starting.{none_began, more_began, next_began, start_is}
 
 abbrev Records : Type 0
 Records = Result (List (List ℕ)) VarFault
@@ -61,7 +64,7 @@ length_at before piece place high start b0 b1 long fits (inr one) kept first sec
 
 -- ---- the first record
 
-first_is : (place : ℕ) (bytes : List ℕ) (n : ℕ) → 2 ≤ length bytes → half bytes 0 ≡ n → 1 ≤ n → 2 + n ≤ length bytes → first_size place bytes ≡ Ok n
+pub first_is : (place : ℕ) (bytes : List ℕ) (n : ℕ) → 2 ≤ length bytes → half bytes 0 ≡ n → 1 ≤ n → 2 + n ≤ length bytes → first_size place bytes ≡ Ok n
 unfolding first_size
 first_is place bytes n two is some fits =
     let a : nat_le 2 (length bytes) ≡ true = le-leb 2 (length bytes) two in
@@ -96,7 +99,7 @@ with_none (Ok records) = let e : longest records ≡ max 0 (longest records) = o
     ap (λ (n : ℕ). Ok (record { longest = n; stored = filled_by records })) e ∙ ap (λ (n : ℕ). Ok (record { longest = max 0 (longest records); stored = n })) f
 with_none (Err e) = refl
 
-filled_next : (text : List ℕ) (more : List (List ℕ)) (long : ℕ) → length text ≡ long → filled_by (text ∷ more) ≡ 2 + long + filled_by more
+pub filled_next : (text : List ℕ) (more : List (List ℕ)) (long : ℕ) → length text ≡ long → filled_by (text ∷ more) ≡ 2 + long + filled_by more
 filled_next text more long is =
     let two : length (with_length text) ≡ 2 + length text = omega arith in
     length-append (with_length text) (concat (map with_length more)) ∙ omega (arith, two)
@@ -134,9 +137,9 @@ step_fault bsize (suc n) place size all fault some is =
 
 -- ---- the state
 
-pub none_fed : (bsize count high : ℕ) → IsFed count [] (record { bsize = bsize; left = count; place = 0; size = None; high = high; fed = 0; longest = 0 })
+pub none_fed : (bsize count high : ℕ) → IsFed count [] (record { bsize = bsize; left = count; place = 0; size = None; high = high; fed = 0; longest = 0; first = None })
 none_fed bsize count high = record {
-  holds = record { fed = refl; within = omega arith; comes = λ rest. with_none (varying bsize count 0 rest); size = tt };
+  holds = record { fed = refl; within = omega arith; comes = λ rest. with_none (varying bsize count 0 rest); size = tt; began = none_began bsize count };
   waits = inr (inl refl);
 }
 
@@ -152,6 +155,7 @@ holds_more count bytes piece s fed is h =
       comes = λ rest. subst (λ (l : List ℕ). sizes_in s.bsize count l ≡ with_before s.longest s.place (varying s.bsize s.left s.place (drop s.place l))) (sym (append_assoc bytes piece rest))
           (h.comes (piece ++ rest));
       size = sized s.size h.size;
+      began = more_began count s.bsize s.left s.place s.first bytes piece h.began;
     }
   where
     sized : (o : Option ℕ) → IsSizeAt bytes s.place o → IsSizeAt (bytes ++ piece) s.place o
@@ -159,19 +163,21 @@ holds_more count bytes piece s fed is h =
     sized (Some n) x = let fits = x.1 in let long = length-append bytes piece in (x.0, omega arith, half_front bytes piece s.place fits ∙ x.2)
 
 -- a record is passed
-pub holds_next : (count : ℕ) (bytes : List ℕ) (s : Scan) (n : ℕ) → Holds count bytes s → 1 ≤ s.left → half (drop s.place bytes) 0 ≡ n → 1 ≤ n → s.place + 2 + n ≤ s.fed
-    → Holds count bytes (record s { left = s.left - 1; place = s.place + (2 + n); longest = max s.longest n; size = None })
-holds_next count bytes s n h some is one fits =
+pub holds_next : (count : ℕ) (bytes : List ℕ) (s : Scan) (n : ℕ) → 0 < s.bsize → Holds count bytes s → 1 ≤ s.left → half (drop s.place bytes) 0 ≡ n → 1 ≤ n → s.place + 2 + n ≤ s.fed
+    → Holds count bytes (record s { left = s.left - 1; place = s.place + (2 + n); longest = max s.longest n; size = None; first = Some (with_place s.bsize s.first s.place) })
+holds_next count bytes s n wide h some is one fits =
     let was = h.fed in
+    let sized = λ (rest : List ℕ).
+    let long = length-drop s.place (bytes ++ rest) in
+    let joined = length-append bytes rest in
+    first_is s.place (drop s.place (bytes ++ rest)) n (omega arith) (half_front bytes rest s.place (omega arith) ∙ is) one (omega arith) in
     record {
       fed = was;
       within = omega arith;
       comes = λ rest.
-          let long = length-drop s.place (bytes ++ rest) in
-          let joined = length-append bytes rest in
-          h.comes rest ∙ step_next s.bsize s.left s.place s.longest (bytes ++ rest) n some
-          (first_is s.place (drop s.place (bytes ++ rest)) n (omega arith) (half_front bytes rest s.place (omega arith) ∙ is) one (omega arith));
+          h.comes rest ∙ step_next s.bsize s.left s.place s.longest (bytes ++ rest) n some (sized rest);
       size = tt;
+      began = next_began count s.bsize s.left s.place n s.first bytes wide some sized h.began;
     }
 
 -- a length of 0
@@ -186,7 +192,7 @@ holds_zero count bytes s h some is fits rest =
 
 -- a length is known
 pub holds_size : (count : ℕ) (bytes : List ℕ) (s : Scan) (n : ℕ) → Holds count bytes s → half (drop s.place bytes) 0 ≡ n → 1 ≤ n → s.place + 2 ≤ s.fed → Holds count bytes (record s { size = Some n })
-holds_size count bytes s n h is one fits = let was = h.fed in record { fed = was; within = h.within; comes = h.comes; size = (one, omega arith, is) }
+holds_size count bytes s n h is one fits = let was = h.fed in record { fed = was; within = h.within; comes = h.comes; size = (one, omega arith, is); began = h.began }
 
 -- none is past a kept byte any more
 pub past_next : (before : List ℕ) (place high n : ℕ) (size : Option ℕ) → IsPast before place high size → (size ≡ None) ⊎ (size ≡ Some n) → length before ≤ place + (2 + n)
@@ -207,7 +213,7 @@ waits_past before place high (Some n) less = omega arith
 pub keeps : (count : ℕ) (before piece : List ℕ) (s : Scan) (start high : ℕ) → length before ≡ start → Holds count (before ++ piece) s → (s.left ≡ 0) ⊎ (Passes before s × IsCut s.fed s.place s.size)
     → ((d : ℕ) → s.place ≡ start + d → s.place + 1 ≡ s.fed → high ≡ slice_index piece d) → (s.place < start → high ≡ s.high) → IsFed count (before ++ piece) (record s { high = high })
 keeps count before piece s start high long h which here kept = record {
-  holds = record { fed = h.fed; within = h.within; comes = h.comes; size = h.size };
+  holds = record { fed = h.fed; within = h.within; comes = h.comes; size = h.size; began = h.began };
   waits = waits which;
 }
   where
@@ -275,3 +281,23 @@ ends_well count bytes s f none few =
     let g : s.place + 0 ≡ s.place = omega arith in
     let here : with_before s.longest s.place (varying s.bsize s.left s.place (drop s.place bytes)) ≡ Ok (record { longest = max s.longest 0; stored = s.place + 0 }) = rw (none, fits) refl in
     whole count bytes s f.holds ∙ (here ∙ (ap (λ (n : ℕ). Ok (record { longest = n; stored = s.place + 0 })) e ∙ ap (λ (n : ℕ). Ok (record { longest = s.longest; stored = n })) g))
+
+-- where the last records begin
+pub starts_well : (count : ℕ) (bytes : List ℕ) (s : Scan) (records : List (List ℕ)) → 0 < s.bsize → IsFed count bytes s → varying s.bsize count 0 bytes ≡ Ok records
+    → start_in s.bsize s.place s.first ≡ last_start s.bsize (filled_by records) (begins 0 records)
+starts_well count bytes s records wide f is = ⊎_elim
+    (λ (some : 0 < s.left). absurd (cc (sym told ∙ ends_past count bytes s f some)))
+    (λ (none : s.left ≤ 0). ⊎_elim
+    (λ (few : s.fed - s.place < s.bsize).
+    let ends : ◌≡◌ {A = Result VarSizes VarFault} (Ok (sizes_of records)) (Ok (record { longest = s.longest; stored = s.place })) = sym told ∙ ends_well count bytes s f (omega arith) few in
+    let filled : filled_by records ≡ s.place = stored_same (sizes_of records) (record { longest = s.longest; stored = s.place }) ends in
+    rw filled (start_is count s.bsize s.left s.place s.first bytes records wide (omega arith) f.holds.began is))
+    (λ (much : s.bsize ≤ s.fed - s.place). absurd (cc (sym told ∙ ends_left count bytes s f (omega arith) much)))
+    (cases_lt (s.fed - s.place) s.bsize))
+    (cases_lt 0 s.left)
+  where
+    told : sizes_in s.bsize count bytes ≡ Ok (sizes_of records)
+    told = ap (λ (r : Records). r >>= λ records. Ok (sizes_of records)) is
+
+    stored_same : (a b : VarSizes) → ◌≡◌ {A = Result VarSizes VarFault} (Ok a) (Ok b) → a.stored ≡ b.stored
+    stored_same a b same = let is : a ≡ b = cc same in ap (λ (v : VarSizes). v.stored) is

@@ -4,3 +4,4 @@ pub mod Pieces
 pub mod States
 pub mod LawsPieces
 pub mod Stored
+pub mod Starts

@@ -3,11 +3,17 @@ ghost use Rattle.std.specs.Prelude.{◌≡◌, ◌⊎◌, ℕ, List, Option, ◌
 ghost use Rattle.cms_text.specs.Bytes.{half};
 ghost use Rattle.cms_records.specs.Scans.{Scan, sizes_in, Holds, Passes, IsCut, IsFed};
 ghost use Rattle.cms_fields.specs.Limits.{longest_record, most_bytes};
+ghost use Rattle.cms_model.specs.Records.{varying};
+ghost use Rattle.cms_records.specs.Scans.{filled_by};
+ghost use Rattle.cms_records.specs.Starts.{begins, last_start, start_in, with_place};
 
 use crate::VarFault;
 use crate::sizes::VarSizes;
 use cms_journal::BlockSize;
 use std::marker::Model;
+
+/// The place of a record in a data block in which none begins.
+const NOWHERE: u32 = u32::MAX;
 
 /// A check of records that each stand behind their length, whose bytes are given a piece at a time. It holds none of them but
 /// the first byte of a length that a piece cut off.
@@ -20,6 +26,7 @@ pub struct VarScan {
     high: u8,
     fed: u32,
     longest: u32,
+    first: Option<u32>,
 }
 
 impl Model for VarScan {
@@ -37,6 +44,7 @@ impl Model for VarScan {
       high = s.high;
       fed = s.fed;
       longest = s.longest;
+      first = s.first;
     } };
 
     ghost invariant = { λ s. (s.place ≤ s.fed) × (s.fed ≤ most_bytes) × (s.longest ≤ longest_record)
@@ -58,6 +66,7 @@ impl VarScan {
             high: 0,
             fed: 0,
             longest: 0,
+            first: None,
         }
     }
 
@@ -99,6 +108,16 @@ impl VarScan {
             longest: self.longest,
             stored: self.place,
         })
+    }
+
+    /// Once all bytes came of records that `end` tells of: the place within the last data block that they fill at which the first
+    /// record in it begins, 4,294,967,295 where none does.
+    pub fn last_start(&self) -> u32
+        ensures { (count : ℕ) (bytes : List ℕ) (records : List (List ℕ)) → IsFed count bytes self.now
+            → varying self.now.bsize count 0 bytes ≡ Ok records → result ≡ last_start self.now.bsize (filled_by records) (begins 0 records) }
+    {
+        let bsize = self.bsize.bytes();
+        start_in(bsize, self.place, self.first)
     }
 
     // The byte at a place: in this piece, which begins at `start`, or the one that was kept.
@@ -162,6 +181,9 @@ impl VarScan {
             self.size = Some(size);
             return Ok(false);
         }
+        let bsize = self.bsize.bytes();
+        let first = first_with(bsize, self.first, self.place);
+        self.first = Some(first);
         self.place += 2 + size;
         self.longest = self.longest.max(size);
         self.left -= 1;
@@ -181,5 +203,27 @@ impl VarScan {
         if self.place >= start && self.place + 1 == self.fed {
             self.high = piece[(self.place - start) as usize];
         }
+    }
+}
+
+// Where the first record begins in the data block in which that at this place begins, by that of the record before.
+fn first_with(bsize: u32, first: Option<u32>, place: u32) -> u32
+    requires { 0 < bsize }
+    ensures { result ≡ with_place bsize first place }
+{
+    match first {
+        Some(first) if first / bsize == place / bsize => first,
+        _ => place,
+    }
+}
+
+// The place of that record within its data block, if this is the last of those that so many bytes fill.
+fn start_in(bsize: u32, stored: u32, first: Option<u32>) -> u32
+    requires { 0 < bsize }
+    ensures { result ≡ start_in bsize stored first }
+{
+    match first {
+        Some(first) if first / bsize == stored.saturating_sub(1) / bsize => first % bsize,
+        _ => NOWHERE,
     }
 }

@@ -1,6 +1,7 @@
-use Rattle.std.proofs.Common.{rules, ◌≡◌, ◌<◌, ◌≤◌, ◌+◌, ◌-◌, ◌++◌, None, Some, inl, sym, ◌∙◌, ap, subst, arith}
+use Rattle.std.proofs.Common.{rules, ◌≡◌, ◌<◌, ◌≤◌, ◌+◌, ◌-◌, ◌++◌, ℕ, None, Some, inl, sym, ◌∙◌, ap, subst, arith}
 use Rattle.std.specs.Prelude.{max}
 use Rattle.cms_records.specs.Scans.{Scan, Holds}
+use Rattle.cms_records.specs.Starts.{with_place}
 use Rattle.cms_records.proofs.Scanning.{holds_zero, holds_size, holds_next, past_next}
 use Rattle.cms_records.proofs.scan.VarScan.pass.Goals as goal
 
@@ -33,11 +34,16 @@ returns-clause-passed c = λ more count bytes long holds past.
     let told = c.in-Some.ensures.size count bytes long holds past in
     let at : c.self.inside.place ≡ now.place = ap (λ (s : Scan). s.place) c.self.view_is in
     let fed : c.self.inside.fed ≡ now.fed = ap (λ (s : Scan). s.fed) c.self.view_is in
-    let new = ap (λ (s : Scan). record s { left = s.left - 1; place = s.place + (2 + n); longest = max s.longest n; size = None }) c.self.view_is in
+    let new = ap (λ (s : Scan). record s { left = s.left - 1; place = s.place + (2 + n); longest = max s.longest n; size = None; first = Some (with_place s.bsize s.first s.place) }) c.self.view_is in
     let less = past_next bytes now.place now.high n now.size past c.in-Some.ensures.known in
     let fits : c.self.inside.place + 2 + n ≤ c.self.inside.fed = search rules in
-    let longest : c.max-self-inside.result ≡ max c.self.inside.longest n = search rules in (
-      rw longest (subst (Holds count (bytes ++ c.args.piece.now)) (sym new) (holds_next count (bytes ++ c.args.piece.now) now n holds c.requires.some told.1 some (omega (arith, fits, at, fed)))),
+    let longest : c.max-self-inside.result ≡ max c.self.inside.longest n = search rules in
+    let size : c.bytes-bsize.result ≡ c.self.inside.bsize = c.bytes-bsize.ensures.value in
+    let bsize : c.self.inside.bsize ≡ now.bsize = ap (λ (s : Scan). s.bsize) c.self.view_is in
+    let wide : 0 < now.bsize = omega (arith, c.bytes-bsize.ensures.least, size, bsize) in
+    let first : c.first_with-first.result ≡ with_place c.self.inside.bsize c.self.inside.first c.self.inside.place =
+    c.first_with-first.ensures ∙ ap (λ (b : ℕ). with_place b c.self.inside.first c.self.inside.place) size in (
+      rw (longest, first) (subst (Holds count (bytes ++ c.args.piece.now)) (sym new) (holds_next count (bytes ++ c.args.piece.now) now n wide holds c.requires.some told.1 some (omega (arith, fits, at, fed)))),
       inl
           (omega (arith, less, at)),
     )
