@@ -12,4 +12,5 @@ pub mod Feed
 pub mod Waits
 pub mod Whole
 pub mod StepsFit
+pub mod FaultsFit
 mod Examples

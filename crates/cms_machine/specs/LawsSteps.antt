@@ -1,16 +1,18 @@
 -- What follows for device steps: what is said of their outcomes fits the events of an update and what a crash leaves of them.
-use Rattle.std.specs.Prelude.{◌≡◌, ◌≢◌, ◌⊎◌, ℕ, suc, if◌then◌else◌, false, List, [], ◌∷◌, Some, None}
+use Rattle.std.specs.Prelude.{◌≡◌, ◌≢◌, ◌⊎◌, ℕ, suc, ◌≤◌, if◌then◌else◌, false, List, [], ◌∷◌, Some, None, ⊤}
 use Rattle.cms_journal.specs.declared.event.Event.{Event}
 use Rattle.cms_journal.specs.declared.event.Event.TheVariants.{Wrote, Synced}
 use Rattle.cms_journal.specs.Journal.{Journal}
 use Rattle.cms_journal.specs.Told.{syncs}
+use Rattle.cms_names.specs.declared.name.Name.{Name}
+use Rattle.cms_fields.specs.declared.time.Stamp.{Stamp}
 use Rattle.cms_model.specs.Minidisks.{Minidisk, State}
 use Rattle.cms_model.specs.Volumes.{Disk, state_of}
 use Rattle.cms_model.specs.Settled.{EachCrash, Write, writes, update}
-use Rattle.cms_model.specs.Changes.{Change, Changed, answer_of}
+use Rattle.cms_model.specs.Changes.{Change, Add, Relabel, Changed, answer_of}
 use Rattle.cms_model.specs.LawsUpdates.{after, now, IsFront, with_label, relabel, wipe}
 use Rattle.cms_machine.specs.Slots.{Side, Slot, Doubt, named, set_of, IsAmong}
-use Rattle.cms_machine.specs.Steps.{Outcome, Good, ReadFault, OldFault, EitherFault, is_relabel, is_taken, MayPut, after_access, after_update, after_put, access_syncs, update_syncs, label_syncs, put_syncs, faults_in}
+use Rattle.cms_machine.specs.Steps.{Step, Access, Get, Put, Wipe, Make, Outcome, Good, ReadFault, SyncFault, OldFault, EitherFault, IsOutcome, is_relabel, is_taken, MayPut, after_access, after_update, after_put, access_syncs, update_syncs, label_syncs, put_syncs, faults_in}
 
 -- the events of a change that is made
 abbrev pub change_events : ℕ → Change → List Write → List ℕ → List Event
@@ -61,3 +63,52 @@ DoubtHasBoth =
 -- each outcome but Good is a fault
 abbrev pub FaultsAreCounted : Type 0
 FaultsAreCounted = (o : Outcome) (os : List Outcome) → o ≢ Good → faults_in (o ∷ os) ≡ suc (faults_in os)
+
+-- ---- which faults a step may have, each with all the steps that may
+
+-- the change adds records to a file
+abbrev pub IsAddition : Change → Type 0
+IsAddition change = (name : Name) × (more : List (List ℕ)) × (stamp : Stamp) × (change ≡ Add name more stamp)
+
+-- neither a limit nor want of room refuses it
+abbrev pub IsMade : Minidisk → Change → Type 0
+IsMade m change = (new : Minidisk) × (answer_of m change ≡ Changed new)
+
+-- a read may fail in it, behind so many records
+abbrev pub MayFailReading : Step → ℕ → Type 0
+MayFailReading (Access u slot) j = j ≡ 0
+MayFailReading (Get u f wanted) j = j ≤ wanted
+MayFailReading (Put u m change stamp) j = (j ≡ 0) × IsAddition change
+MayFailReading (Wipe u old) j = ⊥
+MayFailReading (Make u old m stamp) j = ⊥
+
+-- it is an access of a unit in doubt
+abbrev pub IsOfDoubt : Step → Type 0
+IsOfDoubt s = (u : ℕ) × (before after : State) × (side : Side) × (s ≡ Access u (Doubt before after side))
+
+-- it writes new blocks, and then the label that names them
+abbrev pub WritesBlocks : Step → Type 0
+WritesBlocks (Access u slot) = ⊥
+WritesBlocks (Get u f wanted) = ⊥
+WritesBlocks (Put u m change stamp) = IsMade m change × ((volid : List ℕ) → change ≢ Relabel volid)
+WritesBlocks (Wipe u old) = ⊥
+WritesBlocks (Make u old m stamp) = ⊤
+
+-- it writes the label
+abbrev pub WritesLabel : Step → Type 0
+WritesLabel (Access u slot) = ⊥
+WritesLabel (Get u f wanted) = ⊥
+WritesLabel (Put u m change stamp) = IsMade m change
+WritesLabel (Wipe u old) = ⊤
+WritesLabel (Make u old m stamp) = ⊤
+
+-- a read fails in an access, a reading and an addition alone; a sync that ends a doubt in an access of a unit in doubt alone; a fault
+-- leaves the unit as before where new blocks are written before the label, and in doubt where the label is
+pub record FaultsOf (s : Step) : Type 0 where
+  pub read : (j : ℕ) → IsOutcome s (ReadFault j) → MayFailReading s j
+  pub sync : IsOutcome s SyncFault → IsOfDoubt s
+  pub old : IsOutcome s OldFault → WritesBlocks s
+  pub either : (side : Side) → IsOutcome s (EitherFault side) → WritesLabel s
+
+abbrev pub FaultsFitSteps : Type 0
+FaultsFitSteps = (s : Step) → FaultsOf s

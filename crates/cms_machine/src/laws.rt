@@ -1,7 +1,7 @@
 // Laws of beats and of runs.
 ghost use Rattle.cms_machine.specs.Items.{ToldAreSure, WholeByLines};
 ghost use Rattle.cms_machine.specs.Laws.{CrashesWithin, WithinIsAt, KeepSound, AddUp, RunsJoin, StopsJoin, LeadsWithin, FeedsBeats, StopsFollow, RunsCome, ReadsAreWanted, DoubtEndsNow, SettledIsNow, DoubtIsOfBoth};
-ghost use Rattle.cms_machine.specs.LawsSteps.{SyncsAreCounted, RefusedIsNothing, KeptWithoutSync, AccessEndsDoubt, DoubtHasBoth, FaultsAreCounted};
+ghost use Rattle.cms_machine.specs.LawsSteps.{SyncsAreCounted, RefusedIsNothing, KeptWithoutSync, AccessEndsDoubt, DoubtHasBoth, FaultsAreCounted, FaultsFitSteps};
 
 /// The items of a console.
 ///
@@ -65,6 +65,9 @@ pub fn laws_of_units()
 /// - An access ends a doubt with the state that the unit's contents have.
 /// - A unit in doubt has the old state and the new in its set.
 /// - Each outcome but a good one counts as a fault.
+/// - A read fails in an access, a reading and an addition of records alone, a sync that ends a doubt only in an access of a unit in
+///   doubt. A fault leaves the unit as before only where new blocks are written before the label, so of no relabelling and no
+///   wiping, and in doubt only where the label is written.
 pub fn laws_of_steps()
     ensures syncs { SyncsAreCounted }
     ensures refused { RefusedIsNothing }
@@ -72,4 +75,5 @@ pub fn laws_of_steps()
     ensures ended { AccessEndsDoubt }
     ensures doubt { DoubtHasBoth }
     ensures faults { FaultsAreCounted }
+    ensures fit { FaultsFitSteps }
 {}

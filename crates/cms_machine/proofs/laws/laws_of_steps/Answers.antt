@@ -1,4 +1,5 @@
 use Rattle.cms_machine.proofs.StepsFit.{syncs_counted, refused_is_nothing, kept_without_sync, access_ends_doubt, doubt_has_both, faults_counted}
+use Rattle.cms_machine.proofs.FaultsFit.{faults_fit}
 use Rattle.cms_machine.proofs.laws.laws_of_steps.Goals as goal
 
 pub returns-clause-syncs : goal.returns-clause-syncs
@@ -18,3 +19,6 @@ returns-clause-doubt c = doubt_has_both
 
 pub returns-clause-faults : goal.returns-clause-faults
 returns-clause-faults c = faults_counted
+
+pub returns-clause-fit : goal.returns-clause-fit
+returns-clause-fit c = faults_fit
