@@ -10,7 +10,7 @@ use Rattle.cms_model.specs.Changes.{answer_of, changed, changed_files, is_full, 
 use Rattle.cms_model.specs.Minidisks.{State, Volume, Not}
 use Rattle.cms_model.specs.Sizes.{directory_more, file_size, free_count, map_size, stored_size, tree_size, used_count, levels, levels_from, pointer_count, pointers_to}
 use Rattle.cms_machine.specs.Acts.{Act, typed_line}
-use Rattle.cms_machine.specs.Feeds.{Close, Over, WaitsForScript, WaitsForMoment, feed}
+use Rattle.cms_machine.specs.Feeds.{Close, Over, WaitsForScript, WaitsForMoment, WaitsForObject, feed}
 use Rattle.cms_machine.specs.Items.{Item, Text, Bad, Long, Rest}
 use Rattle.cms_machine.specs.Slots.{Slot, Settled, Doubt, Before, After}
 use Rattle.cms_machine.specs.Steps.{Outcome, Good, SyncFault, ReadFault, OldFault, EitherFault}
@@ -142,7 +142,7 @@ volid_in (Some (Doubt before after side)) = []
 volid_in None = []
 
 abbrev course_of : Act Course → List Item → List Outcome → Close Course
-course_of tree console outcomes = (feed tree console true [] outcomes).close
+course_of tree console outcomes = (feed tree console true [] outcomes []).close
 
 -- what is on the first unit, and the letters
 pub record Left : Type 0 where
@@ -154,6 +154,7 @@ left_in (Over (Went s code)) = record { volid = volid_in (slice_get s.units 0); 
 left_in (Over OutOfTurns) = record { volid = []; letters = [] }
 left_in WaitsForScript = record { volid = []; letters = [] }
 left_in WaitsForMoment = record { volid = []; letters = [] }
+left_in WaitsForObject = record { volid = []; letters = [] }
 
 relabelled : (formats (labelled (as_a 0)) (codes "FORMAT 191 A (LABEL") (text (codes "new") ∷ []) [] ≡ types (second_question ∷ []) 0)
     × (left_in (course_of (format (labelled (as_a 0)) (words (codes "FORMAT 191 A (LABEL"))) (text (codes "new") ∷ []) [])

@@ -14,7 +14,7 @@ use Rattle.cms_operands.specs.Operands.{device, ended, letter, letter_in, needed
 use Rattle.cms_operands.specs.declared.refusal.Refusal.TheVariants.{BadMode}
 use Rattle.cms_world.specs.Seen.{Seen}
 use Rattle.cms_disk.specs.declared.unit.UnitInfo.{UnitInfo}
-use Rattle.cms_search.specs.Calls.{Acts, Does, Meaning, Spot, course_of, holds, machine_of, said}
+use Rattle.cms_search.specs.Calls.{Acts, Does, Meaning, Spot, course_of, holds, machine_of, said, spot_at}
 use Rattle.cms_search.specs.Held.{StandsAs, disk_of}
 use Rattle.cms_search.specs.Machine.{Course, Letter, letter_at}
 use Rattle.cms_search.specs.Refusing.{no_disk}
@@ -124,18 +124,18 @@ disk_tree st f units = format_disk (machine_of st units) f
 
 pub format_missing : (before now : Seen) (st : State) (f : Formatting) (r : Result declared.Course End) → unit_of_device f.line.vdev st.table.units ≡ None
     → Does before now (saying (typed_line (message_text (M113 (device_text f.line.vdev))))) r said → IfOk r (λ c. c ≡ course.Went (pos no_disk))
-    → Acts (record { world = before; state = st }) (record { world = now; state = st }) (disk_tree st f) r (course_of st)
+    → Acts (spot_at before st) (spot_at now st) (disk_tree st f) r (course_of st)
 format_missing before now st f r none does went =
-    acts_refused (record { world = before; state = st }) (record { world = now; state = st }) (disk_tree st f) (M113 (device_text f.line.vdev)) (pos no_disk) r does went refl
+    acts_refused (spot_at before st) (spot_at now st) (disk_tree st f) (M113 (device_text f.line.vdev)) (pos no_disk) r does went refl
     (λ units h. no_device_is st units f.line.vdev (format_unit (machine_of st units) f) none)
 
 pub format_doubted : (before now : Seen) (st : State) (f : Formatting) (unit : UnitInfo) (r : Result declared.Course End) → unit_of_device f.line.vdev st.table.units ≡ Some unit
     → is_marked f.line.vdev st.table ≡ true
     → Does before now (saying (typed_line (message_text (M115 (device_text f.line.vdev))))) r said → IfOk r (λ c. c ≡ course.Went (pos no_disk))
-    → Acts (record { world = before; state = st }) (record { world = now; state = st }) (disk_tree st f) r (course_of st)
+    → Acts (spot_at before st) (spot_at now st) (disk_tree st f) r (course_of st)
 format_doubted before now st f unit r is marked does went =
     let old : Spot = record { world = before; state = st } in
-    acts_refused old (record { world = now; state = st }) (disk_tree st f) (M115 (device_text f.line.vdev)) (pos no_disk) r does went refl
+    acts_refused old (spot_at now st) (disk_tree st f) (M115 (device_text f.line.vdev)) (pos no_disk) r does went refl
     (λ units h. let m = met old units f unit true is marked h in m.goes ∙ (let e = m.doubt in rw e refl))
 
 pub format_relabels : (old new : Spot) (f : Formatting) (unit : UnitInfo) (r : Result declared.Course End) (d : Meaning declared.Course Course)
@@ -173,9 +173,9 @@ relabel_on st units line s at =
 
 pub relabel_missing : (before now : Seen) (st : State) (line : FormatLine) (r : Result declared.Course End) → item_at st.table.seats line.letter ≡ None
     → Does before now (saying (typed_line (message_text (M069 (letter_text line.letter))))) r said → IfOk r (λ c. c ≡ course.Went (pos no_disk))
-    → Acts (record { world = before; state = st }) (record { world = now; state = st }) (relabel_tree st line) r (course_of st)
+    → Acts (spot_at before st) (spot_at now st) (relabel_tree st line) r (course_of st)
 relabel_missing before now st line r none does went =
-    acts_refused (record { world = before; state = st }) (record { world = now; state = st }) (relabel_tree st line) (M069 (letter_text line.letter)) (pos no_disk) r does went refl
+    acts_refused (spot_at before st) (spot_at now st) (relabel_tree st line) (M069 (letter_text line.letter)) (pos no_disk) r does went refl
     (λ units h. ap (λ (x : Option Letter). relabel (machine_of st units) line x)
     (letter_told st.table.seats line.letter ∙ ap (λ (y : Option Seated). option_map (λ (z : Seated). z.letter) y) none))
 
@@ -183,10 +183,10 @@ relabel_missing before now st line r none does went =
 pub relabel_other : (before now : Seen) (st : State) (line : FormatLine) (told : Seat) (r : Result declared.Course End) → (item_at st.table.seats line.letter ≡ None → ⊥)
     → IsTold st line.letter told → told.vdev ≢ line.vdev
     → Does before now (saying (typed_line (message_text (M069 (letter_text line.letter))))) r said → IfOk r (λ c. c ≡ course.Went (pos no_disk))
-    → Acts (record { world = before; state = st }) (record { world = now; state = st }) (relabel_tree st line) r (course_of st)
+    → Acts (spot_at before st) (spot_at now st) (relabel_tree st line) r (course_of st)
 relabel_other before now st line told r some is other does went =
     let seat = there (item_at st.table.seats line.letter) some in
-    acts_refused (record { world = before; state = st }) (record { world = now; state = st }) (relabel_tree st line) (M069 (letter_text line.letter)) (pos no_disk) r does went refl
+    acts_refused (spot_at before st) (spot_at now st) (relabel_tree st line) (M069 (letter_text line.letter)) (pos no_disk) r does went refl
     (λ units h.
     let vdev = vdev_is st units seat.0.letter.unit told.vdev (is seat.0 seat.1).2 in
     let no = ne_eqb told.vdev line.vdev other in
@@ -196,10 +196,10 @@ relabel_other before now st line told r some is other does went =
 pub relabel_locked : (before now : Seen) (st : State) (line : FormatLine) (told : Seat) (r : Result declared.Course End) → (item_at st.table.seats line.letter ≡ None → ⊥)
     → IsTold st line.letter told → told.vdev ≡ line.vdev → told.read_only ≡ true
     → Does before now (saying (typed_line (message_text (M037 (letter_text line.letter))))) r said → IfOk r (λ c. c ≡ course.Went (pos no_disk))
-    → Acts (record { world = before; state = st }) (record { world = now; state = st }) (relabel_tree st line) r (course_of st)
+    → Acts (spot_at before st) (spot_at now st) (relabel_tree st line) r (course_of st)
 relabel_locked before now st line told r some is same locked does went =
     let seat = there (item_at st.table.seats line.letter) some in
-    acts_refused (record { world = before; state = st }) (record { world = now; state = st }) (relabel_tree st line) (M037 (letter_text line.letter)) (pos no_disk) r does went refl
+    acts_refused (spot_at before st) (spot_at now st) (relabel_tree st line) (M037 (letter_text line.letter)) (pos no_disk) r does went refl
     (λ units h.
     let vdev = vdev_is st units seat.0.letter.unit told.vdev (is seat.0 seat.1).2 in
     let yes = eq-eqb told.vdev line.vdev same in

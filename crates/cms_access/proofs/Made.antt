@@ -18,7 +18,7 @@ use Rattle.cms_disk.specs.Making.{Formats, IsMakeFault}
 use Rattle.cms_disk.specs.declared.fault.DiskFault.{DiskFault}
 use Rattle.cms_disk.specs.declared.fault.DiskFault.TheVariants as failed
 use Rattle.cms_disk.specs.declared.unit.UnitInfo.{UnitInfo}
-use Rattle.cms_search.specs.Calls.{Acts, Comes, Does, Spot, Usable, course_of, machine_of, said}
+use Rattle.cms_search.specs.Calls.{Acts, Comes, Does, Spot, Usable, course_of, machine_of, said, spot_at}
 use Rattle.cms_search.specs.Formatting.{FormatsUnit, MayFormat, answer_made, table_made}
 use Rattle.cms_search.specs.Machine.{Course, Letter, Places}
 use Rattle.cms_search.specs.Reading.{without_device}
@@ -220,7 +220,7 @@ made_bad old now last t places line volid unit stamp r x may when formatted is k
 -- or there was no memory
 pub made_starved : (old : Spot) (now : Seen) (t : Accesses) (st : State) (line : FormatLine) (volid : List ℕ) (unit : UnitInfo) (stamp : Stamp) (r : Result ⊤ DiskFault) (e : End)
     → MayRemake old.state line unit → Formatted old now t line volid unit stamp r → made_of r ≡ Err e
-    → Acts {T = declared.Course} old (record { world = now; state = st }) (remaking_tree old.state line volid) (Err e) (course_of st)
+    → Acts {T = declared.Course} old (spot_at now st) (remaking_tree old.state line volid) (Err e) (course_of st)
 made_starved old now t st line volid unit stamp r e may formatted is =
     let p = placed old.state line unit may in
     let f = formatted p.place unit p.place_is p.unit_is in
@@ -228,4 +228,4 @@ made_starved old now t st line volid unit stamp r e may formatted is =
     let told = subst (λ (x : Result Accessed DiskFault). IfErr x (λ why. why ≡ failed.Memory → now.told ≡ old.world.told)) w.0 f.nothing refl in
     let edges = f.changes.edges in
     let none = w.1 in
-    rw none (cut_off old (record { world = now; state = st }) (remaking_tree old.state line volid) (course_of st) told f.changes.faults (omega (arith, edges)))
+    rw none (cut_off old (spot_at now st) (remaking_tree old.state line volid) (course_of st) told f.changes.faults (omega (arith, edges)))

@@ -14,7 +14,7 @@ use Rattle.cms_line.specs.declared.message.Message.{Message}
 use Rattle.cms_line.specs.declared.message.Message.TheVariants.{M062}
 use Rattle.cms_disk.specs.declared.unit.UnitInfo.{UnitInfo}
 use Rattle.cms_search.specs.Asking as asking
-use Rattle.cms_search.specs.Calls.{Acts, Does, Meaning, Spot, course_of, itself, machine_of, said}
+use Rattle.cms_search.specs.Calls.{Acts, Does, Meaning, Spot, course_of, itself, machine_of, said, spot_at}
 use Rattle.cms_search.specs.Machine.{Course, Machine, Went}
 use Rattle.cms_search.specs.Shows.{device_of, devices_of}
 use Rattle.cms_search.specs.Tables.{Accesses, place_of_device, unit_of_device}
@@ -100,7 +100,7 @@ refusing_is s text units is = rw is refl
 
 pub label_refused : (before now : Seen) (s : State) (text : List ℕ) (c : declared.Course) → is_label text ≡ false
     → Does before now (saying (typed_line (message_text (M062 text)))) (Ok c) said → c ≡ course.Went (pos 20)
-    → Acts (record { world = before; state = s }) (record { world = now; state = s }) (λ units. labelled (machine_of s units) text) (Ok (label.Ended c)) (labelling_of s)
+    → Acts (spot_at before s) (spot_at now s) (λ units. labelled (machine_of s units) text) (Ok (label.Ended c)) (labelling_of s)
 label_refused before now s text c is does went =
     let old : Spot = record { world = before; state = s } in
     let new : Spot = record { world = now; state = s } in
@@ -111,7 +111,7 @@ label_refused before now s text c is does went =
 
 pub label_stops : (before now : Seen) (s : State) (text : List ℕ) (e : End) → is_label text ≡ false
     → Does {T = declared.Course} before now (saying (typed_line (message_text (M062 text)))) (Err e) said
-    → Acts {T = answers.Label} (record { world = before; state = s }) (record { world = now; state = s }) (λ units. labelled (machine_of s units) text) (Err e) (labelling_of s)
+    → Acts {T = answers.Label} (spot_at before s) (spot_at now s) (λ units. labelled (machine_of s units) text) (Err e) (labelling_of s)
 label_stops before now s text e is does =
     let old : Spot = record { world = before; state = s } in
     let new : Spot = record { world = now; state = s } in

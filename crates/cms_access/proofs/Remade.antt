@@ -208,14 +208,14 @@ slot_then units before s o there = slot_there units (unit_of s) (Settled before)
 
 did_ran : {R : Type 0} (p m : Point) (j : Journal) (unit : UnitInfo) (before : disks.State) (s : Step) (o : Outcome) (k : Outcome → Act R) → p.journal ≡ Some j → Sees j (unit_of s) unit
     → makes.Does p.journal m.journal (disk_on unit) before s o → slice_get p.units (unit_of s) ≡ Some (Settled before) → IsOf s (slice_get p.units (unit_of s)) → m.units ≡ units_after p.units s o
-    → Counted p.faults (faults_in (o ∷ [])) m.faults → KeepsConsole p m → Ran p m (Does s k) (k o)
-did_ran p m j unit before s o k is sees d there speaks units counted console =
+    → Counted p.faults (faults_in (o ∷ [])) m.faults → KeepsConsole p m → m.objects ≡ p.objects → Ran p m (Does s k) (k o)
+did_ran p m j unit before s o k is sees d there speaks units counted console objects =
     let u = unit_of s in
     let slot : slice_get m.units u ≡ Some (slot_after (Settled before) s o) = ap (λ (l : List Slot). slice_get l u) units ∙ slot_then p.units before s o there in
     let first : unit_set p.units u ≡ set_of (Settled before) = rw there refl in
     let behind : unit_set m.units u ≡ set_of (slot_after (Settled before) s o) = rw slot refl in
     let covers : Covers p.journal d.events u (unit_set p.units u) (unit_set m.units u) = rw (first, behind) d.covers in
-    ran_step p m s o k d.events d.told counted d.of_unit d.fits speaks units console (λ sound. covers)
+    ran_step p m s o k d.events d.told counted d.of_unit d.fits speaks units console objects (λ sound. covers)
     (λ sound x has. ap (λ (z : Option Slot). option_map state_in z) slot
     ∙ ap (λ (y : disks.State). Some y) (has_state m.journal j d.events u unit (state_in (slot_after (Settled before) s o)) x (told_after p.journal m.journal j d.events is d.told) sees d.left has))
 
@@ -392,7 +392,7 @@ wipe_ran old mid units line volid u unit f side d counted console =
     let step = Wipe u f.before in
     did_ran (at old units) (at mid (units_after units step (EitherFault side))) f.journal unit f.before step (EitherFault side) (λ o. wiped (after_step z step o) u line m o) f.told
     (sees_own old units u unit f) (subst (λ (v : ℕ). makes.Does old.world.told mid.world.told (disk_on unit) f.before (Wipe v f.before) (EitherFault side)) f.line.number d)
-    f.slot f.slot refl counted (keeps_console old mid (at old units) (at mid (units_after units step (EitherFault side))) refl refl refl refl console)
+    f.slot f.slot refl counted (keeps_console old mid (at old units) (at mid (units_after units step (EitherFault side))) refl refl refl refl console) refl
 
 -- both steps were done, the second with this outcome
 both_ran : (old mid : Spot) (units : List Slot) (line : FormatLine) (volid : List ℕ) (u : ℕ) (unit : UnitInfo) (f : Found old units u unit) (o : Outcome)
@@ -408,16 +408,16 @@ both_ran old mid units line volid u unit f o d counted console =
     let second = make_of old.state u unit volid in
     let units' = wiped_units units u f.before in
     let p = at old units in
-    let mid' : Point = record { journal = d.wiped; faults = old.world.faults; units = units'; unread = old.state.console.unread; ended = old.state.console.ended } in
+    let mid' : Point = record { journal = d.wiped; faults = old.world.faults; units = units'; unread = old.state.console.unread; ended = old.state.console.ended; objects = [] } in
     let wipes = subst (λ (v : ℕ). makes.Does old.world.told d.wiped (disk_on unit) f.before (Wipe v f.before) Good) f.line.number d.wipes in
     let does = subst (λ (v : ℕ). makes.Does d.wiped mid.world.told (disk_on unit) (Not 2) (Make v (Not 2) m (stamp_of old.state.moment)) o) f.line.number d.makes in
     let slot = slot_then units f.before first Good f.slot in
     ran_then
     (did_ran p mid' f.journal unit f.before first Good (λ q. wiped (after_step z first q) u line m q) f.told (sees_own old units u unit f) wipes f.slot f.slot refl
-    (counted_none old.world.faults old.world.faults (omega arith)) (record { unread = refl; ended = refl }))
+    (counted_none old.world.faults old.world.faults (omega arith)) (record { unread = refl; ended = refl }) refl)
     (did_ran mid' (at mid (units_after units' second o)) (after f.journal wipes.events) unit (Not 2) second o (λ q. made (after_step (after_step z first Good) second q) u line m.total q)
     (told_after old.world.told d.wiped f.journal wipes.events f.told wipes.told) (sees_own old units u unit f) does slot slot refl counted
-    (keeps_console old mid mid' (at mid (units_after units' second o)) refl refl refl refl console))
+    (keeps_console old mid mid' (at mid (units_after units' second o)) refl refl refl refl console) refl)
 
 both_touched : (old mid : Spot) (units : List Slot) (volid : List ℕ) (u : ℕ) (unit : UnitInfo) (f : Found old units u unit) (o : Outcome)
     → makes.DoesBoth old.world.told mid.world.told unit f.before volid (stamp_of old.state.moment) o

@@ -184,6 +184,7 @@ module _ (before : Seen) (mid now : Spot) (words : List Token) (line : CopyLine)
         stands = u.stands.stands;
         aside = subst (λ (t : Told). WritesAside t now.world.told s.disk.volume.unit m) told u.stands.aside;
         same = refl;
+        objects = refl;
       } in
       let input = input_at mid units line c file opened h x in
       let ran = read_failed_beside (at (first before mid) units) (at now units) s.disk m drafted x.file.unit x.file.file (wanted_in line x.file)

@@ -60,7 +60,7 @@ files_of _ = []
 
 -- the files that are left on a unit
 abbrev files_left : ℕ → Machine → List ℕ → List Outcome → List File
-files_left u s line outcomes = files_of (slice_get (units_in (feed (copyfile s (words line)) [] true [] outcomes).close) u)
+files_left u s line outcomes = files_of (slice_get (units_in (feed (copyfile s (words line)) [] true [] outcomes []).close) u)
 
 abbrev leaves_on : ℕ → Machine → List ℕ → List Left
 leaves_on u s line = map left_of (files_left u s line [])

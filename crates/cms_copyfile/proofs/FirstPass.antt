@@ -59,7 +59,7 @@ module _ (before : Seen) (mid : Spot) (words : List Token) (line : CopyLine) (c 
         let wanted = wanted_in line x.file in
         let next = behind_read s line c x.file change in
         let ran = ran_still p q (Get x.file.unit x.file.file wanted) (ReadFault 0) next read.told (counted_one before.faults mid.world.faults read.faults rose) refl (omega arith)
-        (input.offers wanted (wanted_low line.style (length x.file.file.records))) refl refl (record { unread = refl; ended = refl }) in
+        (input.offers wanted (wanted_low line.style (length x.file.file.records))) refl refl (record { unread = refl; ended = refl }) refl in
         let device = ap (vdev_of s) (sym input.unit) ∙ device_is mid.state opened.seat units file.vdev opened.device in (
           units,
           (

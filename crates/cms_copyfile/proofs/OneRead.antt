@@ -139,7 +139,7 @@ module _ (before : Seen) (mid : Spot) (words : List Token) (line : CopyLine) (c 
         let input = input_at mid units line c file opened h' (copying_at mid line c is units h') in
         let ran = ran_still (at (first before mid) units) (at mid units) (Get x.unit x.file (wanted_in line x)) Good (behind_read (machine_of mid.state units) line c x (change units))
         read.told (counted_none before.faults mid.world.faults read.faults) refl tt
-        (input.offers (wanted_in line x) (wanted_low line.style (length x.file.records))) refl refl (record { unread = refl; ended = refl }) in
+        (input.offers (wanted_in line x) (wanted_low line.style (length x.file.records))) refl refl (record { unread = refl; ended = refl }) refl in
         (units, (h', subst (λ (z : Act Stepped). Ran (at (first before mid) units) (at mid units) z (updating (machine_of mid.state units) c.letter (change units))) (sym (tree_at units h')) ran));
     later = later_read before mid.world read;
     usable = λ usable. (let same = read.told in rw same usable);

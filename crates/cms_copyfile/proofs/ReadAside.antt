@@ -53,6 +53,7 @@ pub record DraftedOn (p q : Point) (d : Accessed) (m : Minidisk) : Type 0 where
   pub stands : Stands q.journal d m
   pub aside : WritesAside p.journal q.journal d.volume.unit m
   pub same : q.units ≡ p.units
+  pub objects : q.objects ≡ p.objects
 
 module _ (p q : Point) (d : Accessed) (m : Minidisk) (x : DraftedOn p q d m) where
   set_before : unit_set p.units d.volume.unit ≡ Volume m ∷ []
@@ -99,4 +100,4 @@ module _ (p q : Point) (d : Accessed) (m : Minidisk) (x : DraftedOn p q d m) whe
         stamped = stamped_beside es d.volume.unit u x.aside.of_unit x.aside.aside;
         outcome = omega arith;
       } in
-      ran_step_all p q (Get u f wanted) (ReadFault 0) k es x.aside.told counted fits offers x.same console covered each_now
+      ran_step_all p q (Get u f wanted) (ReadFault 0) k es x.aside.told counted fits offers x.same console x.objects covered each_now

@@ -3,7 +3,7 @@ ghost use Rattle.std.specs.Prelude.{◌≡◌, ◌≤◌, ℕ, true, List, Some,
 ghost use Rattle.cms_fields.specs.Limits.{longest_record};
 ghost use Rattle.cms_fields.specs.Moments.{is_moment};
 ghost use Rattle.cms_line.specs.declared.token.Token as tokens;
-ghost use Rattle.cms_search.specs.Calls.{Acts, IsUsable, Usable, machine_of, spot};
+ghost use Rattle.cms_search.specs.Calls.{Acts, IsUsable, Usable, machine_of, spot, spot_at};
 ghost use Rattle.cms_search.specs.Searches.{item_at};
 ghost use Rattle.cms_search.specs.Tables.{letters_of, writing};
 ghost use Rattle.cms_search.specs.Stepping.{HasRead};
@@ -82,7 +82,7 @@ fn put_joined<W: World>(
     requires room { longest_record ≤ vec_capacity buffer.old }
     ensures acts { (before : Seen) (words : List tokens.Token) (line : lines.CopyLine) → HasRead before (seen W.World world.old)
         → IsFileCopy state.old.table line file.now → AreJoined (spot W.World world.old state.old) line file.now plan.now shape.now
-        → Acts (record { world = before; state = state.old }) (spot W.World world.new state.new)
+        → Acts (spot_at before state.old) (spot W.World world.new state.new)
         (λ units. spec.with_copying words line (machine_of state.old units) file.now.found
         (spec.copy_records (machine_of state.old units) line)) result (updated_of state.new) }
     ensures kept { state.new ≡ record state.old { table = state.new.table; places = state.new.places } }
@@ -136,7 +136,7 @@ pub(crate) fn append_measured<W: World>(
     ensures acts { (before : Seen) (words : List tokens.Token) (input : opened.OpenFile) → HasRead before (seen W.World world.old)
         → IsOpened state.old.table file.now.found.letter file.now.input.name input
         → AreMeasured (spot W.World world.old state.old) line.now file.now (form_in own.now) more.now
-        → Acts (record { world = before; state = state.old }) (spot W.World world.new state.new)
+        → Acts (spot_at before state.old) (spot W.World world.new state.new)
         (λ units. spec.with_copying words line.now (machine_of state.old units) file.now.found
         (spec.copy_records (machine_of state.old units) line.now)) result (updated_of state.new) }
     ensures kept { state.new ≡ record state.old { table = state.new.table; places = state.new.places } }

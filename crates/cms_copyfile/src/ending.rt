@@ -3,7 +3,7 @@ ghost use Rattle.std.specs.Prelude.{◌≡◌, ◌∷◌, List, [], IsSome};
 ghost use Rattle.cms_line.specs.declared.token.Token as tokens;
 ghost use Rattle.cms_machine.specs.Slots.{Slot};
 ghost use Rattle.cms_model.specs.Changes as model;
-ghost use Rattle.cms_search.specs.Calls.{Acts, Spot, machine_of, spot};
+ghost use Rattle.cms_search.specs.Calls.{Acts, Spot, machine_of, spot, spot_at};
 ghost use Rattle.cms_search.specs.Putting as putting;
 ghost use Rattle.cms_search.specs.Searches.{item_at};
 ghost use Rattle.cms_search.specs.Seats.{HasDevice};
@@ -60,7 +60,7 @@ pub(crate) fn end_written<W: World>(
     requires device { HasDevice state.old.table file.now.letter vdev }
     ensures acts { (before : Seen) (mid : Spot) (words : List tokens.Token) (line : lines.CopyLine) → HasRead before mid.world
         → IsWritten mid (spot W.World world.old state.old) line file.now vdev input written
-        → Acts (record { world = before; state = mid.state }) (spot W.World world.new state.new)
+        → Acts (spot_at before mid.state) (spot W.World world.new state.new)
         (λ units. spec.with_copying words line (machine_of mid.state units) file.now.found
         (spec.copy_records (machine_of mid.state units) line)) result (updated_of state.new) }
     ensures kept { state.new ≡ record state.old { table = state.new.table; places = state.new.places } }

@@ -13,7 +13,7 @@ use Rattle.cms_model.specs.Changes.{file_named}
 use Rattle.cms_model.specs.Lists.{same}
 use Rattle.cms_model.specs.Minidisks.{File, same_name}
 use Rattle.cms_machine.specs.Acts.{Act, typed_line}
-use Rattle.cms_machine.specs.Feeds.{Close, Fed, Over, WaitsForScript, WaitsForMoment, feed}
+use Rattle.cms_machine.specs.Feeds.{Close, Fed, Over, WaitsForScript, WaitsForMoment, WaitsForObject, feed}
 use Rattle.cms_machine.specs.Steps.{Outcome, ReadFault}
 use Rattle.cms_machine.specs.Traces.{bytes_of}
 use Rattle.cms_line.specs.Messages.{message_text}
@@ -66,18 +66,20 @@ code_in (Over (IsRefused (Went s code))) = Some code
 code_in (Over (IsRefused OutOfTurns)) = None
 code_in WaitsForScript = None
 code_in WaitsForMoment = None
+code_in WaitsForObject = None
 
 abbrev runs_in : Close Starting → Option Runs
 runs_in (Over (HasBegun s exec)) = Some (runs_as exec)
 runs_in (Over (IsRefused course)) = None
 runs_in WaitsForScript = None
 runs_in WaitsForMoment = None
+runs_in WaitsForObject = None
 
 abbrev answer_in : Fed Starting → Answer
 answer_in f = record { typed = bytes_of f.trace; code = code_in f.close; runs = runs_in f.close }
 
 abbrev answer : Act Starting → List Outcome → Answer
-answer tree outcomes = answer_in (feed tree [] true [] outcomes)
+answer tree outcomes = answer_in (feed tree [] true [] outcomes [])
 
 abbrev types : List ℕ → ℕ → Answer
 types text code = record { typed = lines (text ∷ []); code = Some (pos code); runs = None }

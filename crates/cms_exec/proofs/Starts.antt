@@ -127,7 +127,7 @@ comes_read old now t next o read may counted reads =
       each = λ units h.
           let r = reads units h in
           let ran = ran_still (at old units) (at new units) (Get r.unit r.file (length r.file.records)) o r.then' read.told counted refl (may (length r.file.records)) r.offers refl refl
-          (record { unread = refl; ended = refl }) in (
+          (record { unread = refl; ended = refl }) refl in (
             units,
             (
               subst (λ (told : Told). Holds told old.state.table units) (sym read.told) h,

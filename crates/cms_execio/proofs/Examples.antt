@@ -18,7 +18,7 @@ use Rattle.cms_model.specs.Minidisks.{File, Volume, same_name}
 use Rattle.cms_model.specs.Records.{longest}
 use Rattle.cms_model.specs.Sizes.{directory_more, file_size, free_count, map_size, stored_size, tree_size, used_count, levels, levels_from, pointer_count, pointers_to}
 use Rattle.cms_machine.specs.Acts.{typed_line}
-use Rattle.cms_machine.specs.Feeds.{Fed, Close, Over, WaitsForScript, WaitsForMoment, feed}
+use Rattle.cms_machine.specs.Feeds.{Fed, Close, Over, WaitsForScript, WaitsForMoment, WaitsForObject, feed}
 use Rattle.cms_machine.specs.Items.{Item, Text, Bad}
 use Rattle.cms_machine.specs.Slots.{Slot, Settled, After}
 use Rattle.cms_machine.specs.Steps.{Outcome, ReadFault, OldFault, EitherFault}
@@ -62,13 +62,14 @@ places_in (Over (Went s code)) = s.places
 places_in (Over OutOfTurns) = empty
 places_in WaitsForScript = empty
 places_in WaitsForMoment = empty
+places_in WaitsForObject = empty
 
 abbrev left_by : Fed Course → Left
 left_by f = record { typed = bytes_of f.trace; code = code_in f.close; stack = stack_in f.close; places = places_in f.close }
 
 -- nothing is left to ask for, and the steps have these outcomes
 abbrev leaves : Machine → List ℕ → List Outcome → Left
-leaves s line outcomes = left_by (feed (execio s (ebcdic line) (words line)) [] true [] outcomes)
+leaves s line outcomes = left_by (feed (execio s (ebcdic line) (words line)) [] true [] outcomes [])
 
 abbrev is_left : List (List ℕ) → ℕ → List (List ℕ) → Places → Left
 is_left typed code stack places = record { typed = lines typed; code = Some (pos code); stack = map ebcdic stack; places = places }
@@ -156,7 +157,7 @@ abbrev told_by : Fed Course → Told
 told_by f = record { typed = bytes_of f.trace; code = code_in f.close; places = places_in f.close }
 
 abbrev tells : Places → ℕ → List ℕ → List Outcome → Told
-tells p count line outcomes = told_by (feed (execio (record (three_records p) { stack = replicate count [] }) (ebcdic line) (words line)) [] true [] outcomes)
+tells p count line outcomes = told_by (feed (execio (record (three_records p) { stack = replicate count [] }) (ebcdic line) (words line)) [] true [] outcomes [])
 
 abbrev is_told : List (List ℕ) → ℕ → Places → Told
 is_told typed code places = record { typed = lines typed; code = Some (pos code); places = places }
@@ -263,6 +264,7 @@ files_in (Over (Went s code)) = files_on s.units
 files_in (Over OutOfTurns) = []
 files_in WaitsForScript = []
 files_in WaitsForMoment = []
+files_in WaitsForObject = []
 
 abbrev wrote_by : Fed Course → Wrote
 wrote_by f = record {
@@ -274,7 +276,7 @@ wrote_by f = record {
 }
 
 abbrev writes : Machine → List ℕ → List Item → List Outcome → Wrote
-writes s line items outcomes = wrote_by (feed (execio s (ebcdic line) (words line)) items true (replicate 3 (pos 5)) outcomes)
+writes s line items outcomes = wrote_by (feed (execio s (ebcdic line) (words line)) items true (replicate 3 (pos 5)) outcomes [])
 
 abbrev is_wrote : List (List ℕ) → ℕ → List File → List (List ℕ) → Places → Wrote
 is_wrote typed code files stack places = record { typed = lines typed; code = Some (pos code); files = files; stack = map ebcdic stack; places = places }

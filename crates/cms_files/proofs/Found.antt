@@ -8,7 +8,7 @@ use Rattle.cms_machine.specs.Acts.{Act, saying, typed_line}
 use Rattle.cms_machine.specs.Slots.{Slot}
 use Rattle.cms_line.specs.Messages.{message_text}
 use Rattle.cms_line.specs.declared.token.Token.{Token}
-use Rattle.cms_search.specs.Calls.{Acts, Does, Meaning, Spot, course_of, holds, machine_of, said}
+use Rattle.cms_search.specs.Calls.{Acts, Does, Meaning, Spot, course_of, holds, machine_of, said, spot_at}
 use Rattle.cms_search.specs.Machine.{Course, Machine}
 use Rattle.cms_search.specs.Shows.{Shows}
 use Rattle.cms_search.specs.declared.fault.SearchFault.{SearchFault}
@@ -72,8 +72,8 @@ acts_search_fault old new words place next find fault r is refuses same = ⊎_el
         let starved = refuses.starved memory in
         let failed = starved.0 in
         rw failed
-        (subst (λ (w : Seen). Acts {T = declared.Course} old (record { world = w; state = new.state }) tree (Err Memory) (course_of new.state)) (sym starved.1)
-        (subst (λ (s : State). Acts {T = declared.Course} old (record { world = old.world; state = s }) tree (Err Memory) (course_of s)) (sym same)
+        (subst (λ (w : Seen). Acts {T = declared.Course} old (spot_at w new.state) tree (Err Memory) (course_of new.state)) (sym starved.1)
+        (subst (λ (s : State). Acts {T = declared.Course} old (spot_at old.world s) tree (Err Memory) (course_of s)) (sym same)
         (acts_starved old tree (course_of old.state))))
 
     other : (fault ≡ why.Memory → ⊥) → Acts old new tree r (course_of new.state)

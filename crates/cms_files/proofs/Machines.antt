@@ -5,7 +5,7 @@ use Rattle.cms_fields.specs.declared.time.Stamp.{Stamp}
 use Rattle.cms_text.specs.Texts.{ebcdic}
 use Rattle.cms_model.specs.Minidisks.{File, Volume}
 use Rattle.cms_machine.specs.Acts.{Act}
-use Rattle.cms_machine.specs.Feeds.{Close, Over, WaitsForScript, WaitsForMoment, feed}
+use Rattle.cms_machine.specs.Feeds.{Close, Over, WaitsForScript, WaitsForMoment, WaitsForObject, feed}
 use Rattle.cms_machine.specs.Slots.{Slot, Settled}
 use Rattle.cms_machine.specs.Steps.{Outcome}
 use Rattle.cms_search.specs.Machine.{Letter, Machine, Course, Went, OutOfTurns}
@@ -68,9 +68,10 @@ units_in (Over (Went s code)) = s.units
 units_in (Over OutOfTurns) = []
 units_in WaitsForScript = []
 units_in WaitsForMoment = []
+units_in WaitsForObject = []
 
 abbrev pub left : Act Course → List Outcome → List Named
-left tree outcomes = names_in (units_in (feed tree [] true [] outcomes).close)
+left tree outcomes = names_in (units_in (feed tree [] true [] outcomes []).close)
 
 -- the lines that are stacked
 abbrev pub stack_in : Close Course → List (List ℕ)
@@ -78,3 +79,4 @@ stack_in (Over (Went s code)) = s.stack
 stack_in (Over OutOfTurns) = []
 stack_in WaitsForScript = []
 stack_in WaitsForMoment = []
+stack_in WaitsForObject = []

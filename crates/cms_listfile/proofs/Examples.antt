@@ -105,7 +105,7 @@ abbrev waiting : Machine
 waiting = record both { stack = ebcdic (codes "OLD") ∷ [] }
 
 abbrev stacks : List ℕ → List (List ℕ)
-stacks line = stack_in (feed (listfile waiting (words line)) [] true [] []).close
+stacks line = stack_in (feed (listfile waiting (words line)) [] true [] [] []).close
 
 abbrev ac : List ℕ
 ac = ebcdic (codes "AC       FILE     A1")
@@ -145,7 +145,7 @@ written_in (Settled (Volume m) ∷ slots) = holds_of (file_named (record { file 
 written_in (slot ∷ slots) = []
 
 abbrev writes : Machine → List ℕ → List Holds
-writes s line = written_in (units_in (feed (listfile s (words line)) [] true [] []).close)
+writes s line = written_in (units_in (feed (listfile s (words line)) [] true [] [] []).close)
 
 abbrev line_of : List ℕ → ℕ → List ℕ
 line_of text blanks = ebcdic text ++ replicate blanks 0x40

@@ -1,5 +1,6 @@
 -- Worked rows of the definitions.
-use Rattle.std.proofs.Common.{◌≡◌, inl, inr, ℕ, ℤ, true, false, List, [], ◌∷◌, refl, arith, ⊎_elim}
+use Rattle.std.specs.Prelude.{◌==◌, length}
+use Rattle.std.proofs.Common.{◌≡◌, inl, inr, ℕ, suc, ℤ, true, false, List, [], ◌∷◌, refl, arith, ⊎_elim}
 use Rattle.cms_ebcdic.specs.CodePage as page
 use Rattle.cms_fields.specs.declared.time.Stamp.{Stamp}
 use Rattle.cms_model.specs.Minidisks.{File, Minidisk, State, Volume, Not}
@@ -7,9 +8,10 @@ use Rattle.cms_model.specs.Changes.{Put, Relabel, Full, Changed, empty_minidisk}
 use Rattle.cms_machine.specs.Slots.{Before, After, Slot, Settled, Doubt}
 use Rattle.cms_machine.specs.Steps.{Access, Get, Wipe, Make, Good, ReadFault, SyncFault, OldFault, EitherFault, IsOutcome, slot_after, put_syncs, sync_count}
 use Rattle.cms_machine.specs.Items.{Text}
-use Rattle.cms_machine.specs.Acts.{Act, Done, Out, Take, Turn, Does, typed_line}
+use Rattle.cms_machine.specs.Acts.{Act, Done, Out, Take, Turn, Does, Asks, typed_line}
+use Rattle.cms_machine.specs.Objects.{Ask, Object, Went}
 use Rattle.cms_machine.specs.Traces.{TraceItem, Shown, Spent, States, added, At, Within}
-use Rattle.cms_machine.specs.Feeds.{Over, WaitsForScript, WaitsForMoment, feed}
+use Rattle.cms_machine.specs.Feeds.{Over, WaitsForScript, WaitsForMoment, WaitsForObject, feed}
 
 -- ---- a ready line, a turn, and a unit that is wiped
 
@@ -134,17 +136,34 @@ as_before stamp = refl
 abbrev tree : Act ℕ
 tree = Take (λ item. Turn (λ seconds. Does (Wipe 0 (Not 9)) (λ o. Out (82 ∷ 10 ∷ []) (Done 7))))
 
-fed_none : feed tree [] false [] [] ≡ record { trace = []; close = WaitsForScript }
+fed_none : feed tree [] false [] [] [] ≡ record { trace = []; close = WaitsForScript }
 fed_none = refl
 
-fed_line : feed tree (Text [] ∷ []) false [] [] ≡ record { trace = []; close = WaitsForMoment }
+fed_line : feed tree (Text [] ∷ []) false [] [] [] ≡ record { trace = []; close = WaitsForMoment }
 fed_line = refl
 
-fed_end : (m : ℤ) → feed tree [] true (m ∷ []) [] ≡ record { trace = Spent ∷ States 0 (Not 2 ∷ []) ∷ Shown (82 ∷ 10 ∷ []) ∷ []; close = Over 7 }
+fed_end : (m : ℤ) → feed tree [] true (m ∷ []) [] [] ≡ record { trace = Spent ∷ States 0 (Not 2 ∷ []) ∷ Shown (82 ∷ 10 ∷ []) ∷ []; close = Over 7 }
 fed_end m = refl
 
-fed_fault : (m : ℤ) → feed tree [] true (m ∷ []) (EitherFault Before ∷ []) ≡ record { trace = Spent ∷ States 0 (Not 9 ∷ Not 2 ∷ []) ∷ Shown (82 ∷ 10 ∷ []) ∷ []; close = Over 7 }
+fed_fault : (m : ℤ) → feed tree [] true (m ∷ []) (EitherFault Before ∷ []) [] ≡ record { trace = Spent ∷ States 0 (Not 9 ∷ Not 2 ∷ []) ∷ Shown (82 ∷ 10 ∷ []) ∷ []; close = Over 7 }
 fed_fault m = refl
+
+-- ---- an object, which may grow by a line when it is asked
+
+abbrev grower : Object
+grower = record { word = 71 ∷ []; does = λ before reply want after. length after == suc (length before); content = [] }
+
+abbrev asking : Act ℕ
+asking = Asks 0 grower Went (λ back. Done (length back.content))
+
+fed_answer : feed asking [] true [] [] (record { want = Ask; content = [] ∷ [] } ∷ []) ≡ record { trace = []; close = Over 1 }
+fed_answer = refl
+
+fed_untested : feed asking [] true [] [] (record { want = Ask; content = [] } ∷ []) ≡ record { trace = []; close = WaitsForObject }
+fed_untested = refl
+
+fed_unasked : feed asking [] true [] [] [] ≡ record { trace = []; close = WaitsForObject }
+fed_unasked = refl
 
 -- R; as it is typed
 ready : typed_line (217 ∷ 94 ∷ []) ≡ 82 ∷ 59 ∷ 10 ∷ []

@@ -4,9 +4,9 @@ use Rattle.cms_journal.specs.declared.event.Event.{Event}
 use Rattle.cms_journal.specs.declared.event.Event.TheVariants.{Read}
 use Rattle.cms_journal.specs.Told.{plus}
 use Rattle.cms_machine.specs.Steps.{Step}
-use Rattle.cms_machine.specs.Acts.{Act, Done, Out, Take, Turn, Does, bind}
+use Rattle.cms_machine.specs.Acts.{Act, Done, Out, Take, Turn, Does, Asks, Drops, bind}
 use Rattle.cms_machine.specs.Points.{Point, with_events, Sound}
-use Rattle.cms_machine.specs.Beats.{Deed, Said, Turned, Took, Did, Beat, Beats, Chain, Next, Leads}
+use Rattle.cms_machine.specs.Beats.{Deed, Said, Turned, Took, Did, Asked, Dropped, Beat, Beats, Chain, Next, Leads}
 use Rattle.cms_machine.specs.Runs.{Ran, Begun, Part, Broke}
 use Rattle.cms_machine.proofs.Lists.{empty_front, no_element}
 use Rattle.cms_machine.proofs.Pieces.{plus-nil}
@@ -26,6 +26,8 @@ next-bind (Out b t) v (Said c) f n = (n.0, ap (λ z. bind z f) n.1)
 next-bind (Take k) v (Took i) f n = ap (λ z. bind z f) n
 next-bind (Turn k) v (Turned m) f n = ap (λ z. bind z f) n
 next-bind (Does s k) v (Did r o) f n = (n.0, ap (λ z. bind z f) n.1)
+next-bind (Asks k o r g) v (Asked m p q b) f n = (n.0, n.1, n.2, ap (λ z. bind z f) n.3)
+next-bind (Drops k t) v (Dropped m) f n = (n.0, ap (λ z. bind z f) n.1)
 next-bind (Done a) v d f n = absurd n
 next-bind (Out b t) v (Turned m) f n = absurd n
 next-bind (Out b t) v (Took i) f n = absurd n
@@ -39,6 +41,24 @@ next-bind (Turn k) v (Did r o) f n = absurd n
 next-bind (Does s k) v (Said c) f n = absurd n
 next-bind (Does s k) v (Took i) f n = absurd n
 next-bind (Does s k) v (Turned m) f n = absurd n
+next-bind (Out b t) v (Asked m p q y) f n = absurd n
+next-bind (Out b t) v (Dropped m) f n = absurd n
+next-bind (Take k) v (Asked m p q y) f n = absurd n
+next-bind (Take k) v (Dropped m) f n = absurd n
+next-bind (Turn k) v (Asked m p q y) f n = absurd n
+next-bind (Turn k) v (Dropped m) f n = absurd n
+next-bind (Does s k) v (Asked m p q y) f n = absurd n
+next-bind (Does s k) v (Dropped m) f n = absurd n
+next-bind (Asks k o r g) v (Said c) f n = absurd n
+next-bind (Asks k o r g) v (Took i) f n = absurd n
+next-bind (Asks k o r g) v (Turned m) f n = absurd n
+next-bind (Asks k o r g) v (Did w x) f n = absurd n
+next-bind (Asks k o r g) v (Dropped m) f n = absurd n
+next-bind (Drops k t) v (Said c) f n = absurd n
+next-bind (Drops k t) v (Took i) f n = absurd n
+next-bind (Drops k t) v (Turned m) f n = absurd n
+next-bind (Drops k t) v (Did w x) f n = absurd n
+next-bind (Drops k t) v (Asked m p q y) f n = absurd n
 
 -- beats that lead through a tree lead through it within a larger one
 pub leads-bind : {A B : Type 0} (t u : Act A) (bs : List Beat) (f : A → Act B) → Leads t bs u → Leads (bind t f) bs (bind u f)
@@ -80,6 +100,8 @@ part_none p (Out b t) = (tt, (b, refl))
 part_none p (Take k) = (tt, λ a c b h. absurd (no_element a c (Read b) h))
 part_none p (Turn k) = refl
 part_none p (Does s k) = begun_none p s
+part_none p (Asks n o r k) = refl
+part_none p (Drops n t) = refl
 
 pub part_bind : {A B : Type 0} (p : Point) (t : Act A) (f : A → Act B) (es : List Event) → Part p t es → Part p (bind t f) es
 part_bind p (Done a) f es h = subst (Part p (f a)) (sym h) (part_none p (f a))
@@ -87,6 +109,8 @@ part_bind p (Out b t) f es h = h
 part_bind p (Take k) f es h = h
 part_bind p (Turn k) f es h = h
 part_bind p (Does s k) f es h = h
+part_bind p (Asks n o r k) f es h = h
+part_bind p (Drops n t) f es h = h
 
 pub broke_then : {R : Type 0} {p m q : Point} {t u : Act R} → Ran p m t u → Broke m q u → Broke p q t
 broke_then a b = record { mid = b.mid; rest = b.rest; ran = ran_then a b.ran; loose = b.loose; part = b.part; journal = b.journal; faults = b.faults; units = b.units }

@@ -8,7 +8,7 @@ use Rattle.cms_machine.specs.Slots.{Slot, unit_set, IsAmong}
 use Rattle.cms_machine.specs.Steps.{unit_of, new_slot}
 use Rattle.cms_machine.specs.Traces.{TraceItem, Shown, Spent, States, states_in, last_set, At, Within}
 use Rattle.cms_machine.specs.Points.{Leaves, Point, Sound}
-use Rattle.cms_machine.specs.Beats.{Deed, Said, Turned, Took, Did, Beat, pieces, shown_by, trace, Fits, IsTyped, IsRead, IsDiskOf, OnlyTyped, OnlyRead, OnlyDisk, Beats, Chain}
+use Rattle.cms_machine.specs.Beats.{Deed, Said, Turned, Took, Did, Asked, Dropped, Beat, pieces, shown_by, trace, Fits, IsTyped, IsRead, IsDiskOf, OnlyTyped, OnlyRead, OnlyDisk, Beats, Chain}
 use Rattle.cms_machine.proofs.Lists.{lt_or_le, split, empty_front, typed-append, moments-append}
 use Rattle.cms_journal.proofs.Events.{all_front}
 use Rattle.cms_machine.proofs.Pieces.{plus_plus, plus-nil, typed_silent, read_silent, disk_silent}
@@ -60,6 +60,10 @@ inside_beat (Did s o) es p q fits e tr u set x a =
     let t : typed p ≡ [] = silent.typed_none in
     let n : moments p ≡ [] = silent.moments_none in
     rw (t, n) (here_states (unit_of s) (new_slot s o) tr u set x a)
+inside_beat (Asked n o r b) es p q fits e tr u set x a =
+    let none : p ≡ [] = empty_front p q (e ∙ fits.0) in rw none (here tr u set x (⊎_elim (λ h. h) (λ h. h) a))
+inside_beat (Dropped n) es p q fits e tr u set x a =
+    let none : p ≡ [] = empty_front p q (e ∙ fits) in rw none (here tr u set x (⊎_elim (λ h. h) (λ h. h) a))
 
 -- a mark past a unit's set
 past_states : (v : ℕ) (new : Option Slot) (tr : List TraceItem) (t n u : ℕ) (set : List State) (x : State) → Within tr t n u (last_set u set (states_in v new)) x
@@ -90,6 +94,8 @@ past_beat (Did s o) es fits tr t n u set x w =
     let zt : 0 + t ≡ t = omega arith in
     let zn : 0 + n ≡ n = omega arith in
     rw (a, b, zt, zn) (past_states (unit_of s) (new_slot s o) tr t n u set x w)
+past_beat (Asked n o r b) es fits tr t k u set x w = let zt : 0 + t ≡ t = omega arith in let zk : 0 + k ≡ k = omega arith in rw (fits.0, zt, zk) w
+past_beat (Dropped n) es fits tr t k u set x w = let zt : 0 + t ≡ t = omega arith in let zk : 0 + k ≡ k = omega arith in rw (fits, zt, zk) w
 
 -- after a beat what is known of the units holds again
 pub sound_beat : (p m : Point) (b : Beat) → Beats p b m → Sound p → Sound m

@@ -1,6 +1,6 @@
 -- A single deed as a run of its tree, and one that was cut off.
 use Rattle.std.proofs.Common.{◌≡◌, ◌≢◌, inl, inr, ℕ, ℤ, ◌≤◌, List, [], ◌∷◌, ◌++◌, Option, Some, None, refl, ap, sym, ◌∙◌, subst, arith, slice_get}
-use Rattle.std.specs.Prelude.{option_map}
+use Rattle.std.specs.Prelude.{◌<◌, true, length, option_map, remove, set}
 use Rattle.std.proofs.lemmas.Bool.Decides.{eqb_tells}
 use Rattle.cms_journal.specs.declared.event.Event.{Event}
 use Rattle.cms_journal.specs.declared.event.Event.TheVariants.{Now}
@@ -11,9 +11,10 @@ use Rattle.cms_model.specs.Minidisks.{State}
 use Rattle.cms_machine.specs.Slots.{Slot, state_in, unit_set, unit_state, IsAmong}
 use Rattle.cms_machine.specs.Steps.{Step, Outcome, Good, unit_of, new_slot, put_slot, units_after, IsOutcome, IsOf, sync_count, faults_in}
 use Rattle.cms_machine.specs.Items.{Item, Lazy, Takes}
-use Rattle.cms_machine.specs.Acts.{Act, Out, Take, Turn, Does}
+use Rattle.cms_machine.specs.Objects.{Back, Object, Reply, answered, may_answer}
+use Rattle.cms_machine.specs.Acts.{Act, Out, Take, Turn, Does, Asks, Drops}
 use Rattle.cms_machine.specs.Points.{Leaves, HasNow, Point, with_events, Sound}
-use Rattle.cms_machine.specs.Beats.{Said, Turned, Took, Did, OnlyTyped, OnlyRead, FitsStep, KeepsConsole, Covers, Beats}
+use Rattle.cms_machine.specs.Beats.{Said, Turned, Took, Did, Asked, Dropped, OnlyTyped, OnlyRead, FitsStep, KeepsConsole, Covers, Beats}
 use Rattle.cms_machine.specs.Runs.{Ran, Begun, Broke}
 use Rattle.cms_machine.proofs.Units.{other_slot}
 use Rattle.cms_journal.proofs.Events.{all_front, of_aside}
@@ -37,8 +38,8 @@ now_kept p m es journal units aside sound u x has =
 
 -- bytes were typed
 pub ran_out : {R : Type 0} (p m : Point) (b : List ℕ) (t : Act R) (es : List Event) → m.journal ≡ plus p.journal es → OnlyTyped es → typed es ≡ b → p.faults ≤ m.faults → m.units ≡ p.units
-    → KeepsConsole p m → Ran p m (Out b t) t
-ran_out p m b t es journal only is later units console = ran_one p m (Out b t) t (record { deed = Said b; piece = es }) beat (refl, refl)
+    → KeepsConsole p m → m.objects ≡ p.objects → Ran p m (Out b t) t
+ran_out p m b t es journal only is later units console objects = ran_one p m (Out b t) t (record { deed = Said b; piece = es }) beat (refl, refl)
   where
     beat : Beats p (record { deed = Said b; piece = es }) m
     beat = record {
@@ -48,14 +49,15 @@ ran_out p m b t es journal only is later units console = ran_one p m (Out b t) t
       console = console;
       speaks = tt;
       units = units;
+      objects = objects;
       covered = λ sound u. covers_aside p es u (unit_set m.units u) (typed_aside es u only) (same_sets p m u units) sound;
       now = now_kept p m es journal units (λ u. typed_aside es u only);
     }
 
 -- a turn was spent
-pub ran_turn : {R : Type 0} (p m : Point) (seconds : ℤ) (k : ℤ → Act R) → m.journal ≡ plus p.journal (Now seconds ∷ []) → p.faults ≤ m.faults → m.units ≡ p.units → KeepsConsole p m
+pub ran_turn : {R : Type 0} (p m : Point) (seconds : ℤ) (k : ℤ → Act R) → m.journal ≡ plus p.journal (Now seconds ∷ []) → p.faults ≤ m.faults → m.units ≡ p.units → KeepsConsole p m → m.objects ≡ p.objects
     → Ran p m (Turn k) (k seconds)
-ran_turn p m seconds k journal later units console = ran_one p m (Turn k) (k seconds) (record { deed = Turned seconds; piece = Now seconds ∷ [] }) beat refl
+ran_turn p m seconds k journal later units console objects = ran_one p m (Turn k) (k seconds) (record { deed = Turned seconds; piece = Now seconds ∷ [] }) beat refl
   where
     beat : Beats p (record { deed = Turned seconds; piece = Now seconds ∷ [] }) m
     beat = record {
@@ -65,14 +67,15 @@ ran_turn p m seconds k journal later units console = ran_one p m (Turn k) (k sec
       console = console;
       speaks = tt;
       units = units;
+      objects = objects;
       covered = λ sound u. covers_aside p (Now seconds ∷ []) u (unit_set m.units u) (tt, tt) (same_sets p m u units) sound;
       now = now_kept p m (Now seconds ∷ []) journal units (λ u. (tt, tt));
     }
 
 -- an item was taken, or the script's end was found
 pub ran_take : {R : Type 0} (p m : Point) (i : Option Item) (k : Option Item → Act R) (es : List Event) → m.journal ≡ plus p.journal es → OnlyRead es → p.faults ≤ m.faults → m.units ≡ p.units
-    → Takes p.unread p.ended es i m.unread m.ended → Ran p m (Take k) (k i)
-ran_take p m i k es journal only later units takes = ran_one p m (Take k) (k i) (record { deed = Took i; piece = es }) beat refl
+    → Takes p.unread p.ended es i m.unread m.ended → m.objects ≡ p.objects → Ran p m (Take k) (k i)
+ran_take p m i k es journal only later units takes objects = ran_one p m (Take k) (k i) (record { deed = Took i; piece = es }) beat refl
   where
     beat : Beats p (record { deed = Took i; piece = es }) m
     beat = record {
@@ -82,6 +85,7 @@ ran_take p m i k es journal only later units takes = ran_one p m (Take k) (k i) 
       console = takes;
       speaks = tt;
       units = units;
+      objects = objects;
       covered = λ sound u. covers_aside p es u (unit_set m.units u) (read_aside es u only) (same_sets p m u units) sound;
       now = now_kept p m es journal units (λ u. read_aside es u only);
     }
@@ -133,9 +137,9 @@ now_step p m s o es journal only units sound own u = elim (eqb_tells (unit_of s)
 -- a step was done, with this outcome
 pub ran_step_all : {R : Type 0} (p m : Point) (s : Step) (o : Outcome) (k : Outcome → Act R) (es : List Event) → m.journal ≡ plus p.journal es → Counted p.faults (faults_in (o ∷ [])) m.faults
     → FitsStep s o es
-    → IsOf s (slice_get p.units (unit_of s)) → m.units ≡ units_after p.units s o → KeepsConsole p m → (Sound p → (u : ℕ) → Covers p.journal es u (unit_set p.units u) (unit_set m.units u))
+    → IsOf s (slice_get p.units (unit_of s)) → m.units ≡ units_after p.units s o → KeepsConsole p m → m.objects ≡ p.objects → (Sound p → (u : ℕ) → Covers p.journal es u (unit_set p.units u) (unit_set m.units u))
     → (Sound p → (u : ℕ) → OwnNow m u) → Ran p m (Does s k) (k o)
-ran_step_all p m s o k es journal counted fits speaks units console covered now = ran_one p m (Does s k) (k o) (record { deed = Did s o; piece = es }) beat (refl, refl)
+ran_step_all p m s o k es journal counted fits speaks units console objects covered now = ran_one p m (Does s k) (k o) (record { deed = Did s o; piece = es }) beat (refl, refl)
   where
     beat : Beats p (record { deed = Did s o; piece = es }) m
     beat = record {
@@ -145,24 +149,25 @@ ran_step_all p m s o k es journal counted fits speaks units console covered now 
       console = console;
       speaks = speaks;
       units = units;
+      objects = objects;
       covered = covered;
       now = now;
     }
 
 -- the same with events of its own unit alone
 pub ran_step : {R : Type 0} (p m : Point) (s : Step) (o : Outcome) (k : Outcome → Act R) (es : List Event) → m.journal ≡ plus p.journal es → Counted p.faults (faults_in (o ∷ [])) m.faults
-    → OnlyOf (unit_of s) es → FitsStep s o es → IsOf s (slice_get p.units (unit_of s)) → m.units ≡ units_after p.units s o → KeepsConsole p m
+    → OnlyOf (unit_of s) es → FitsStep s o es → IsOf s (slice_get p.units (unit_of s)) → m.units ≡ units_after p.units s o → KeepsConsole p m → m.objects ≡ p.objects
     → (Sound p → Covers p.journal es (unit_of s) (unit_set p.units (unit_of s)) (unit_set m.units (unit_of s))) → (Sound p → OwnNow m (unit_of s)) → Ran p m (Does s k) (k o)
-ran_step p m s o k es journal counted only fits speaks units console own own_now =
-    ran_step_all p m s o k es journal counted fits speaks units console (λ sound u. covers_step p m s o es only units sound (own sound) u)
+ran_step p m s o k es journal counted only fits speaks units console objects own own_now =
+    ran_step_all p m s o k es journal counted fits speaks units console objects (λ sound u. covers_step p m s o es only units sound (own sound) u)
     (λ sound u. now_step p m s o es journal only units sound (own_now sound) u)
 
 -- a step that adds no event and leaves the unit as it is
 pub ran_still : {R : Type 0} (p m : Point) (s : Step) (o : Outcome) (k : Outcome → Act R) → m.journal ≡ p.journal → Counted p.faults (faults_in (o ∷ [])) m.faults → sync_count s o ≡ 0 → IsOutcome s o
-    → IsOf s (slice_get p.units (unit_of s)) → m.units ≡ p.units → new_slot s o ≡ None → KeepsConsole p m → Ran p m (Does s k) (k o)
-ran_still p m s o k journal counted synced outcome speaks units none console =
+    → IsOf s (slice_get p.units (unit_of s)) → m.units ≡ p.units → new_slot s o ≡ None → KeepsConsole p m → m.objects ≡ p.objects → Ran p m (Does s k) (k o)
+ran_still p m s o k journal counted synced outcome speaks units none console objects =
     let after : m.units ≡ units_after p.units s o = units ∙ ap (put_slot p.units (unit_of s)) (sym none) in
-    ran_step p m s o k [] journal counted tt (record { disk = tt; synced = sym synced; stamped = tt; outcome = outcome }) speaks after console
+    ran_step p m s o k [] journal counted tt (record { disk = tt; synced = sym synced; stamped = tt; outcome = outcome }) speaks after console objects
     (λ sound. covers_aside p [] (unit_of s) (unit_set m.units (unit_of s)) tt (same_sets p m (unit_of s) units) sound) (λ sound. now_kept p m [] journal units (λ u. tt) sound (unit_of s))
 
 -- a step was cut off, with events of its own unit alone: it is enough to know that unit
@@ -189,3 +194,46 @@ begun_by p s es only synced own own_now = record {
 pub broke_step : {R : Type 0} (p q : Point) (s : Step) (k : Outcome → Act R) (es : List Event) → q.journal ≡ plus p.journal es → Begun p s es → p.faults ≤ q.faults → q.units ≡ p.units
     → Broke p q (Does s k)
 broke_step p q s k es journal begun later units = broke_now es begun journal later units
+
+-- ---- objects
+
+-- the object in a place was asked, and this came back
+pub ran_ask : {R : Type 0} (p : Point) (n : ℕ) (o : Object) (r : Reply) (b : Back) (k : Back → Act R) → slice_get p.objects n ≡ Some o
+    → may_answer o r b ≡ true → Ran p (record p { objects = set p.objects n (answered o b) }) (Asks n o r k) (k b)
+ran_ask p n o r b k there may = ran_one p m (Asks n o r k) (k b) (record { deed = Asked n o r b; piece = [] }) beat (refl, refl, refl, refl)
+  where
+    m : Point
+    m = record p { objects = set p.objects n (answered o b) }
+
+    beat : Beats p (record { deed = Asked n o r b; piece = [] }) m
+    beat = record {
+      journal = refl;
+      faults = not_counted p.faults p.faults (omega arith);
+      fits = (refl, may);
+      console = record { unread = refl; ended = refl };
+      speaks = tt;
+      units = refl;
+      objects = (there, refl);
+      covered = λ sound u. covers_aside p [] u (unit_set p.units u) tt refl sound;
+      now = λ sound u x has. sound.now u x has;
+    }
+
+-- it was dropped
+pub ran_drop : {R : Type 0} (p : Point) (n : ℕ) (t : Act R) → n < length p.objects → Ran p (record p { objects = remove p.objects n }) (Drops n t) t
+ran_drop p n t there = ran_one p m (Drops n t) t (record { deed = Dropped n; piece = [] }) beat (refl, refl)
+  where
+    m : Point
+    m = record p { objects = remove p.objects n }
+
+    beat : Beats p (record { deed = Dropped n; piece = [] }) m
+    beat = record {
+      journal = refl;
+      faults = not_counted p.faults p.faults (omega arith);
+      fits = refl;
+      console = record { unread = refl; ended = refl };
+      speaks = tt;
+      units = refl;
+      objects = (there, refl);
+      covered = λ sound u. covers_aside p [] u (unit_set p.units u) tt refl sound;
+      now = λ sound u x has. sound.now u x has;
+    }

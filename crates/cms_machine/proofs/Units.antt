@@ -9,7 +9,7 @@ use Rattle.cms_model.specs.Minidisks.{Volume}
 use Rattle.cms_machine.specs.Slots.{Slot, Settled, set_of, unit_set}
 use Rattle.cms_machine.specs.Steps.{Step, Access, Get, Put, Wipe, Make, unit_of, new_slot, put_slot, IsOf}
 use Rattle.cms_machine.specs.Traces.{last_set, states_in}
-use Rattle.cms_machine.specs.Beats.{Deed, Said, Turned, Took, Did, Beat, Beats, shown_by, SpeaksOf, units_by}
+use Rattle.cms_machine.specs.Beats.{Deed, Said, Turned, Took, Did, Asked, Dropped, Beat, Beats, shown_by, SpeaksOf, units_by}
 use Rattle.cms_machine.specs.Points.{Point}
 
 -- an element of a list in which another, or the same, was put
@@ -60,6 +60,8 @@ pub sets_by : (d : Deed) (units : List Slot) → SpeaksOf d units → (u : ℕ) 
 sets_by (Said b) units speaks u = refl
 sets_by (Turned m) units speaks u = refl
 sets_by (Took i) units speaks u = refl
+sets_by (Asked n o r b) units speaks u = refl
+sets_by (Dropped n) units speaks u = refl
 sets_by (Did s o) units speaks u = let there = is_there s (slice_get units (unit_of s)) speaks in sets_put units (unit_of s) u there.0 (new_slot s o) there.1
 
 -- and of a beat

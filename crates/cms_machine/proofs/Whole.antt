@@ -10,11 +10,12 @@ use Rattle.cms_model.specs.Minidisks.{State}
 use Rattle.cms_machine.specs.Slots.{Slot, unit_set, unit_state, IsAmong}
 use Rattle.cms_machine.specs.Steps.{Outcome, Good, ReadFault, SyncFault, OldFault, EitherFault, unit_of, new_slot, faults_in}
 use Rattle.cms_machine.specs.Items.{Item, extended, items, Goes}
-use Rattle.cms_machine.specs.Acts.{Act, Done, Out, Take, Turn, Does}
+use Rattle.cms_machine.specs.Acts.{Act, Done, Out, Take, Turn, Does, Asks, Drops}
+use Rattle.cms_machine.specs.Objects.{Back}
 use Rattle.cms_machine.specs.Traces.{TraceItem, Shown, Spent, States, bytes_of, turns_of, states_in, last_set, Within}
 use Rattle.cms_machine.specs.Feeds.{Fed, Over, WaitsForScript, feed, prepend, Waits}
 use Rattle.cms_machine.specs.Points.{Leaves, HasNow, Point, with_events, Sound}
-use Rattle.cms_machine.specs.Beats.{Deed, Said, Turned, Took, Did, Beat, pieces, shown_by, trace, outcome_of, outcomes, Fits, OnConsole, IsTyped, IsRead, IsDiskOf, OnlyTyped, OnlyRead, OnlyDisk, units_by, Chain}
+use Rattle.cms_machine.specs.Beats.{Deed, Said, Turned, Took, Did, Asked, Dropped, Beat, pieces, shown_by, trace, outcome_of, outcomes, backs, Fits, OnConsole, IsTyped, IsRead, IsDiskOf, OnlyTyped, OnlyRead, OnlyDisk, units_by, Chain}
 use Rattle.cms_machine.specs.Runs.{Ran, Part, Broke, events_of, fed}
 use Rattle.cms_machine.specs.Laws.{AddsUp, FollowsTree, ComesTo}
 use Rattle.cms_machine.proofs.Lists.{lt_or_le, split, split_at, empty_front, no_element, typed-append, script-append, moments-append, over-append}
@@ -74,6 +75,8 @@ chain_last p q (b ∷ bs) chain u =
 ended_is : (d : Deed) (es : List Event) (p m : Point) → Fits d es → OnConsole d es p m → m.ended ≡ (p.ended || is_over es)
 ended_is (Said c) es p m fits console = console.ended ∙ sym (ap (λ (z : Bool). p.ended || z) (typed_silent es fits.0).over_not ∙ or-false p.ended)
 ended_is (Turned t) es p m fits console = console.ended ∙ sym (ap (λ (z : List Event). p.ended || is_over z) fits ∙ or-false p.ended)
+ended_is (Asked n o r b) es p m fits console = console.ended ∙ sym (ap (λ (z : List Event). p.ended || is_over z) fits.0 ∙ or-false p.ended)
+ended_is (Dropped n) es p m fits console = console.ended ∙ sym (ap (λ (z : List Event). p.ended || is_over z) fits ∙ or-false p.ended)
 ended_is (Took i) es p m fits console = console.over
 ended_is (Did s o) es p m fits console = console.ended ∙ sym (ap (λ (z : Bool). p.ended || z) (disk_silent (unit_of s) es fits.disk).over_not ∙ or-false p.ended)
 
@@ -121,6 +124,8 @@ turns_states u (Some slot) = refl
 turns_beat : (d : Deed) (es : List Event) → Fits d es → turns_of (shown_by d) ≡ length (moments es)
 turns_beat (Said c) es fits = sym (ap length (typed_silent es fits.0).moments_none)
 turns_beat (Turned m) es fits = sym (ap (λ (z : List Event). length (moments z)) fits)
+turns_beat (Asked n o r b) es fits = sym (ap (λ (z : List Event). length (moments z)) fits.0)
+turns_beat (Dropped n) es fits = sym (ap (λ (z : List Event). length (moments z)) fits)
 turns_beat (Took i) es fits = sym (ap length (read_silent es fits).moments_none)
 turns_beat (Did s o) es fits = turns_states (unit_of s) (new_slot s o) ∙ sym (ap length (disk_silent (unit_of s) es fits.disk).moments_none)
 
@@ -137,6 +142,8 @@ units_beat : (units : List Slot) (d : Deed) → length (units_by units d) ≡ le
 units_beat units (Said b) = refl
 units_beat units (Turned m) = refl
 units_beat units (Took i) = refl
+units_beat units (Asked n o r b) = refl
+units_beat units (Dropped n) = refl
 units_beat units (Did s o) = units_put units (unit_of s) (new_slot s o)
 
 pub units_chain : (p q : Point) (bs : List Beat) → Chain p bs q → length q.units ≡ length p.units
@@ -151,6 +158,8 @@ part_moments p (Done a) es h = ap moments h
 part_moments p (Out b t) es h = (typed_silent es h.0).moments_none
 part_moments p (Take k) es h = (read_silent es h.0).moments_none
 part_moments p (Turn k) es h = ap moments h
+part_moments p (Asks n o r k) es h = ap moments h
+part_moments p (Drops n t) es h = ap moments h
 part_moments p (Does s k) es h = (disk_silent (unit_of s) es h.disk).moments_none
 
 read_past_end : (p : Point) (es c : List Event) (b : List ℕ) → ((p.ended || false) ≡ false) → p.ended ≡ true → ⊥
@@ -161,6 +170,8 @@ pub part_no_script : {R : Type 0} (p : Point) (t : Act R) (es : List Event) → 
 part_no_script p (Done a) es h e = ap script h
 part_no_script p (Out b t) es h e = (typed_silent es h.0).script_none
 part_no_script p (Turn k) es h e = ap script h
+part_no_script p (Asks n o r k) es h e = ap script h
+part_no_script p (Drops n t) es h e = ap script h
 part_no_script p (Does s k) es h e = (disk_silent (unit_of s) es h.disk).script_none
 part_no_script p (Take k) [] h e = refl
 part_no_script p (Take k) (Read b ∷ es) h e = absurd (read_past_end p es es b (h.1 [] es b refl).0 e)
@@ -171,17 +182,19 @@ part_no_script p (Take k) (Wrote u k' b ∷ es) h e = absurd h.0.0
 part_no_script p (Take k) (Synced u ∷ es) h e = absurd h.0.0
 
 -- their bytes are the first of those of the rest of the tree
-pub part_bytes : {R : Type 0} (p : Point) (t : Act R) (es : List Event) → Part p t es → (is : List Item) (e : Bool) (ms : List ℤ) (os : List Outcome)
-    → (more : List ℕ) × (typed es ++ more ≡ bytes_of (feed t is e ms os).trace)
-part_bytes p (Done a) es h is e ms os = (bytes_of (feed (Done a) is e ms os).trace, let z : typed es ≡ [] = ap typed h in rw z refl)
-part_bytes p (Out b t) es h is e ms os = (
-  h.1.0 ++ bytes_of (feed t is e ms os).trace,
-  sym (append_assoc (typed es) h.1.0 (bytes_of (feed t is e ms os).trace))
-      ∙ ap (λ (z : List ℕ). z ++ bytes_of (feed t is e ms os).trace) h.1.1,
+pub part_bytes : {R : Type 0} (p : Point) (t : Act R) (es : List Event) → Part p t es → (is : List Item) (e : Bool) (ms : List ℤ) (os : List Outcome) (back : List Back)
+    → (more : List ℕ) × (typed es ++ more ≡ bytes_of (feed t is e ms os back).trace)
+part_bytes p (Done a) es h is e ms os back = (bytes_of (feed (Done a) is e ms os back).trace, let z : typed es ≡ [] = ap typed h in rw z refl)
+part_bytes p (Out b t) es h is e ms os back = (
+  h.1.0 ++ bytes_of (feed t is e ms os back).trace,
+  sym (append_assoc (typed es) h.1.0 (bytes_of (feed t is e ms os back).trace))
+      ∙ ap (λ (z : List ℕ). z ++ bytes_of (feed t is e ms os back).trace) h.1.1,
 )
-part_bytes p (Take k) es h is e ms os = (bytes_of (feed (Take k) is e ms os).trace, let z : typed es ≡ [] = (read_silent es h.0).typed_none in rw z refl)
-part_bytes p (Turn k) es h is e ms os = (bytes_of (feed (Turn k) is e ms os).trace, let z : typed es ≡ [] = ap typed h in rw z refl)
-part_bytes p (Does s k) es h is e ms os = (bytes_of (feed (Does s k) is e ms os).trace, let z : typed es ≡ [] = (disk_silent (unit_of s) es h.disk).typed_none in rw z refl)
+part_bytes p (Take k) es h is e ms os back = (bytes_of (feed (Take k) is e ms os back).trace, let z : typed es ≡ [] = (read_silent es h.0).typed_none in rw z refl)
+part_bytes p (Turn k) es h is e ms os back = (bytes_of (feed (Turn k) is e ms os back).trace, let z : typed es ≡ [] = ap typed h in rw z refl)
+part_bytes p (Does s k) es h is e ms os back = (bytes_of (feed (Does s k) is e ms os back).trace, let z : typed es ≡ [] = (disk_silent (unit_of s) es h.disk).typed_none in rw z refl)
+part_bytes p (Asks n o r k) es h is e ms os back = (bytes_of (feed (Asks n o r k) is e ms os back).trace, let z : typed es ≡ [] = ap typed h in rw z refl)
+part_bytes p (Drops n t) es h is e ms os back = (bytes_of (feed (Drops n t) is e ms os back).trace, let z : typed es ≡ [] = ap typed h in rw z refl)
 
 -- a front of them is such too
 pub part_front : {R : Type 0} (p : Point) (t : Act R) (a b : List Event) → Part p t (a ++ b) → Part p t a
@@ -193,6 +206,8 @@ part_front p (Take k) a b h = (
       (let z : (x ++ Read c ∷ y) ++ b ≡ a ++ b = ap (λ (w : List Event). w ++ b) e in sym (append_assoc x (Read c ∷ y) b) ∙ z),
 )
 part_front p (Turn k) a b h = empty_front a b h
+part_front p (Asks n o r k) a b h = empty_front a b h
+part_front p (Drops n t) a b h = empty_front a b h
 part_front p (Does s k) a b h = record {
   disk = all_front (IsDiskOf (unit_of s)) a b h.disk;
   synced = omega (arith, syncs_front a b, h.synced);
@@ -212,6 +227,8 @@ part_sound p (Done c) es h sound = sound_aside p es (λ u. none_untouched es u h
 part_sound p (Out b t) es h sound = sound_aside p es (λ u. typed_aside es u h.0) sound
 part_sound p (Take k) es h sound = sound_aside p es (λ u. read_aside es u h.0) sound
 part_sound p (Turn k) es h sound = sound_aside p es (λ u. none_untouched es u h) sound
+part_sound p (Asks n o r k) es h sound = sound_aside p es (λ u. none_untouched es u h) sound
+part_sound p (Drops n t) es h sound = sound_aside p es (λ u. none_untouched es u h) sound
 part_sound p (Does s k) es h sound = h.kept sound es [] (append-nil es)
 
 sound_same : (a q : Point) → q.journal ≡ a.journal → q.units ≡ a.units → Sound a → Sound q
@@ -221,41 +238,51 @@ sound_same a q journal units sound = record {
 }
 
 -- a mark among them
-pub part_within : {R : Type 0} (p : Point) (t : Act R) (es : List Event) → Part p t es → Sound p → (u : ℕ) (x : State) → Leaves (plus p.journal es) u x → (is : List Item) (e : Bool) (ms : List ℤ)
-    → Within (feed t is e ms []).trace (length (typed es)) 0 u (unit_set p.units u) x
-part_within p (Done c) es h sound u x leaves is e ms = part_keeps p es u x (none_untouched es u h) sound leaves
-part_within p (Out b t) es h sound u x leaves is e ms =
+pub part_within : {R : Type 0} (p : Point) (t : Act R) (es : List Event) → Part p t es → Sound p → (u : ℕ) (x : State) → Leaves (plus p.journal es) u x → (is : List Item) (e : Bool) (ms : List ℤ) (back : List Back)
+    → Within (feed t is e ms [] back).trace (length (typed es)) 0 u (unit_set p.units u) x
+part_within p (Done c) es h sound u x leaves is e ms back = part_keeps p es u x (none_untouched es u h) sound leaves
+part_within p (Out b t) es h sound u x leaves is e ms back =
     let among = part_keeps p es u x (typed_aside es u h.0) sound leaves in
     let total : length (typed es) + length h.1.0 ≡ length b = sym (length-append (typed es) h.1.0) ∙ ap length h.1.1 in
     ⊎_elim
     (λ lt. inl (lt, refl, among))
-    (λ le. inr (le, (let z : length (typed es) - length b ≡ 0 = omega (arith, total, le) in rw z (here (feed t is e ms []).trace u (unit_set p.units u) x among))))
+    (λ le. inr (le, (let z : length (typed es) - length b ≡ 0 = omega (arith, total, le) in rw z (here (feed t is e ms [] back).trace u (unit_set p.units u) x among))))
     (lt_or_le (length (typed es)) (length b))
-part_within p (Take k) es h sound u x leaves is e ms =
+part_within p (Take k) es h sound u x leaves is e ms back =
     let among = part_keeps p es u x (read_aside es u h.0) sound leaves in
     let z : typed es ≡ [] = (read_silent es h.0).typed_none in
-    rw z (here (feed (Take k) is e ms []).trace u (unit_set p.units u) x among)
-part_within p (Turn k) es h sound u x leaves is e ms =
+    rw z (here (feed (Take k) is e ms [] back).trace u (unit_set p.units u) x among)
+part_within p (Turn k) es h sound u x leaves is e ms back =
     let among = part_keeps p es u x (none_untouched es u h) sound leaves in
     let z : typed es ≡ [] = ap typed h in
-    rw z (here (feed (Turn k) is e ms []).trace u (unit_set p.units u) x among)
-part_within p (Does s k) es h sound u x leaves is e ms =
+    rw z (here (feed (Turn k) is e ms [] back).trace u (unit_set p.units u) x among)
+part_within p (Does s k) es h sound u x leaves is e ms back =
     let among = (h.kept sound es [] (append-nil es)).each u x leaves in
     let z : typed es ≡ [] = (disk_silent (unit_of s) es h.disk).typed_none in
-    rw z (here_states (unit_of s) (new_slot s Good) (feed (k Good) is e ms []).trace u (unit_set p.units u) x (inl among))
+    rw z (here_states (unit_of s) (new_slot s Good) (feed (k Good) is e ms [] back).trace u (unit_set p.units u) x (inl among))
+part_within p (Asks n o r k) es h sound u x leaves is e ms back =
+    let among = part_keeps p es u x (none_untouched es u h) sound leaves in
+    let z : typed es ≡ [] = ap typed h in
+    rw z (here (feed (Asks n o r k) is e ms [] back).trace u (unit_set p.units u) x among)
+part_within p (Drops n t) es h sound u x leaves is e ms back =
+    let among = part_keeps p es u x (none_untouched es u h) sound leaves in
+    let z : typed es ≡ [] = ap typed h in
+    rw z (here (feed (Drops n t) is e ms [] back).trace u (unit_set p.units u) x among)
 
 -- a read among them comes where the machine waits
-pub part_waits : {R : Type 0} (p : Point) (t : Act R) (es a c : List Event) (b : List ℕ) → Part p t es → a ++ Read b ∷ c ≡ es → (ms : List ℤ) (os : List Outcome)
-    → (p.ended ≡ false) × (typed a ≡ []) × (moments a ≡ []) × (feed t (items (extended p.unread (script a)) false) false ms os ≡ record { trace = []; close = WaitsForScript })
-part_waits p (Take k) es a c b h e ms os =
+pub part_waits : {R : Type 0} (p : Point) (t : Act R) (es a c : List Event) (b : List ℕ) → Part p t es → a ++ Read b ∷ c ≡ es → (ms : List ℤ) (os : List Outcome) (back : List Back)
+    → (p.ended ≡ false) × (typed a ≡ []) × (moments a ≡ []) × (feed t (items (extended p.unread (script a)) false) false ms os back ≡ record { trace = []; close = WaitsForScript })
+part_waits p (Take k) es a c b h e ms os back =
     let lazy = h.1 a c b e in
     let silent = read_silent a (all_front IsRead a (Read b ∷ c) (subst OnlyRead (sym e) h.0)) in
     let l : items (extended p.unread (script a)) false ≡ [] = lazy.1 in
     (or_first p.ended (is_over a) lazy.0, silent.typed_none, silent.moments_none, rw l refl)
-part_waits p (Done x) es a c b h e ms os = absurd (no_element a c (Read b) (e ∙ h))
-part_waits p (Out x t) es a c b h e ms os = absurd (read_not_typed a c b (subst OnlyTyped (sym e) h.0))
-part_waits p (Turn k) es a c b h e ms os = absurd (no_element a c (Read b) (e ∙ h))
-part_waits p (Does s k) es a c b h e ms os = absurd (read_not_disk (unit_of s) a c b (subst (OnlyDisk (unit_of s)) (sym e) h.disk))
+part_waits p (Done x) es a c b h e ms os back = absurd (no_element a c (Read b) (e ∙ h))
+part_waits p (Out x t) es a c b h e ms os back = absurd (read_not_typed a c b (subst OnlyTyped (sym e) h.0))
+part_waits p (Turn k) es a c b h e ms os back = absurd (no_element a c (Read b) (e ∙ h))
+part_waits p (Does s k) es a c b h e ms os back = absurd (read_not_disk (unit_of s) a c b (subst (OnlyDisk (unit_of s)) (sym e) h.disk))
+part_waits p (Asks n o r k) es a c b h e ms os back = absurd (no_element a c (Read b) (e ∙ h))
+part_waits p (Drops n t) es a c b h e ms os back = absurd (no_element a c (Read b) (e ∙ h))
 
 -- ---- a run that was cut off, on all that was told
 
@@ -281,39 +308,40 @@ module _ {R : Type 0} (p q : Point) (t : Act R) (b : Broke p q t) where
   all_sound sound = sound_same (with_events b.mid b.loose) q b.journal b.units (part_sound b.mid b.rest b.loose b.part (chain_sound p b.mid b.ran.beats b.ran.chain sound))
 
   -- the tree on all that was told is the beats' trace, and then the rest of the tree on what the last events told
-  pub fed_all : fed p t (events_of b) (outcomes b.ran.beats) ≡ prepend (trace b.ran.beats) (fed b.mid b.rest b.loose [])
+  pub fed_all : fed p t (events_of b) (outcomes b.ran.beats) (backs b.ran.beats) ≡ prepend (trace b.ran.beats) (fed b.mid b.rest b.loose [] [])
   fed_all =
       let e : Bool = p.ended || is_over (pieces b.ran.beats ++ b.loose) in
-      let on = feed_beats t b.rest p b.mid b.ran.beats b.ran.chain b.ran.leads (script b.loose) e mid_goes (moments b.loose) [] in
+      let on = feed_beats t b.rest p b.mid b.ran.beats b.ran.chain b.ran.leads (script b.loose) e mid_goes (moments b.loose) [] [] in
       let o : outcomes b.ran.beats ++ [] ≡ outcomes b.ran.beats = append-nil (outcomes b.ran.beats) in
+      let k : backs b.ran.beats ++ [] ≡ backs b.ran.beats = append-nil (backs b.ran.beats) in
       let s : script (pieces b.ran.beats ++ b.loose) ≡ script (pieces b.ran.beats) ++ script b.loose = script-append (pieces b.ran.beats) b.loose in
       let m : moments (pieces b.ran.beats ++ b.loose) ≡ moments (pieces b.ran.beats) ++ moments b.loose = moments-append (pieces b.ran.beats) b.loose in
-      let there = rw o at on in
-      rw (s, m) (there ∙ ap (λ (z : Bool). prepend (trace b.ran.beats) (feed b.rest (items (extended b.mid.unread (script b.loose)) z) z (moments b.loose) [])) mid_over)
+      let there = rw (o, k) at on in
+      rw (s, m) (there ∙ ap (λ (z : Bool). prepend (trace b.ran.beats) (feed b.rest (items (extended b.mid.unread (script b.loose)) z) z (moments b.loose) [] [])) mid_over)
 
   -- the bytes typed are the first of the machine's
-  pub bytes_all : (more : List ℕ) × (typed (events_of b) ++ more ≡ bytes_of (fed p t (events_of b) (outcomes b.ran.beats)).trace)
+  pub bytes_all : (more : List ℕ) × (typed (events_of b) ++ more ≡ bytes_of (fed p t (events_of b) (outcomes b.ran.beats) (backs b.ran.beats)).trace)
   bytes_all =
       let over = b.mid.ended || is_over b.loose in
-      let part = part_bytes b.mid b.rest b.loose b.part (items (extended b.mid.unread (script b.loose)) over) over (moments b.loose) [] in
+      let part = part_bytes b.mid b.rest b.loose b.part (items (extended b.mid.unread (script b.loose)) over) over (moments b.loose) [] [] in
       let bytes : bytes_of (trace b.ran.beats) ≡ typed (pieces b.ran.beats) = bytes_chain p b.mid b.ran.beats b.ran.chain in
-      let all : bytes_of (fed p t (events_of b) (outcomes b.ran.beats)).trace ≡ bytes_of (trace b.ran.beats ++ (fed b.mid b.rest b.loose []).trace) = ap (λ (z : Fed R). bytes_of z.trace) fed_all in
+      let all : bytes_of (fed p t (events_of b) (outcomes b.ran.beats) (backs b.ran.beats)).trace ≡ bytes_of (trace b.ran.beats ++ (fed b.mid b.rest b.loose [] []).trace) = ap (λ (z : Fed R). bytes_of z.trace) fed_all in
       (part.0, rw (all, typed-append, bytes-append, bytes, append_assoc) (ap (λ (z : List ℕ). typed (pieces b.ran.beats) ++ z) part.1))
 
   -- a crash at any moment leaves what is within the machine's trace there
   pub crashes : Sound p → (front rest : List Event) → front ++ rest ≡ events_of b → (u : ℕ) (x : State) → Leaves (plus p.journal front) u x
-      → Within (fed p t (events_of b) (outcomes b.ran.beats)).trace (length (typed front)) (length (moments front)) u (unit_set p.units u) x
+      → Within (fed p t (events_of b) (outcomes b.ran.beats) (backs b.ran.beats)).trace (length (typed front)) (length (moments front)) u (unit_set p.units u) x
   crashes sound front rest e u x leaves =
-      let within : Within (trace b.ran.beats ++ (fed b.mid b.rest b.loose []).trace) (length (typed front)) (length (moments front)) u (unit_set p.units u) x =
+      let within : Within (trace b.ran.beats ++ (fed b.mid b.rest b.loose [] []).trace) (length (typed front)) (length (moments front)) u (unit_set p.units u) x =
       ⊎_elim
-      (λ i. law p b.mid b.ran.beats b.ran.chain sound front i.0 i.1 u x leaves (fed b.mid b.rest b.loose []).trace)
+      (λ i. law p b.mid b.ran.beats b.ran.chain sound front i.0 i.1 u x leaves (fed b.mid b.rest b.loose [] []).trace)
       (λ i.
       let over = b.mid.ended || is_over b.loose in
       let part : Part b.mid b.rest i.0 = part_front b.mid b.rest i.0 rest (subst (Part b.mid b.rest) (sym i.2) b.part) in
       let there : Leaves (plus b.mid.journal i.0) u x = subst (λ (j : Told). Leaves j u x)
       (ap (plus p.journal) i.1 ∙ sym (plus_plus p.journal (pieces b.ran.beats) i.0) ∙ ap (λ (j : Told). plus j i.0) (sym (chain_told p b.mid b.ran.beats b.ran.chain))) leaves in
-      let now = part_within b.mid b.rest i.0 part (chain_sound p b.mid b.ran.beats b.ran.chain sound) u x there (items (extended b.mid.unread (script b.loose)) over) over (moments b.loose) in
-      let past = past_chain p b.mid b.ran.beats b.ran.chain (fed b.mid b.rest b.loose []).trace (length (typed i.0)) 0 u x now in
+      let now = part_within b.mid b.rest i.0 part (chain_sound p b.mid b.ran.beats b.ran.chain sound) u x there (items (extended b.mid.unread (script b.loose)) over) over (moments b.loose) [] in
+      let past = past_chain p b.mid b.ran.beats b.ran.chain (fed b.mid b.rest b.loose [] []).trace (length (typed i.0)) 0 u x now in
       let n : moments i.0 ≡ [] = part_moments b.mid b.rest i.0 part in
       let et : length (typed front) ≡ length (typed (pieces b.ran.beats)) + length (typed i.0) =
       ap (λ (z : List Event). length (typed z)) i.1 ∙ ap length (typed-append (pieces b.ran.beats) i.0) ∙ length-append (typed (pieces b.ran.beats)) (typed i.0) in
@@ -326,23 +354,24 @@ module _ {R : Type 0} (p q : Point) (t : Act R) (b : Broke p q t) where
 
   -- at each read the machine, on what was told before it, waits
   pub all_wait : (front rest : List Event) (c : List ℕ) → front ++ Read c ∷ rest ≡ events_of b
-      → Waits (feed t (items (extended p.unread (script front)) false) false (moments front) (outcomes b.ran.beats)) (typed front)
+      → Waits (feed t (items (extended p.unread (script front)) false) false (moments front) (outcomes b.ran.beats) (backs b.ran.beats)) (typed front)
   all_wait front rest c e =
       let o : outcomes b.ran.beats ++ [] ≡ outcomes b.ran.beats = append-nil (outcomes b.ran.beats) in
+      let k : backs b.ran.beats ++ [] ≡ backs b.ran.beats = append-nil (backs b.ran.beats) in
       ⊎_elim
-      (λ i. let w = waits t b.rest p b.mid b.ran.beats b.ran.chain b.ran.leads front i.0 c i.1 [] in rw o at w)
+      (λ i. let w = waits t b.rest p b.mid b.ran.beats b.ran.chain b.ran.leads front i.0 c i.1 [] [] in rw (o, k) at w)
       (λ i.
-      let w = part_waits b.mid b.rest b.loose i.0 rest c b.part i.2 [] [] in
+      let w = part_waits b.mid b.rest b.loose i.0 rest c b.part i.2 [] [] [] in
       let goes : Goes b.mid.ended (script i.0) false = λ ended. absurd (false_true b.mid.ended w.0 ended) in
-      let on = feed_beats t b.rest p b.mid b.ran.beats b.ran.chain b.ran.leads (script i.0) false goes [] [] in
-      let there = rw o at on in
+      let on = feed_beats t b.rest p b.mid b.ran.beats b.ran.chain b.ran.leads (script i.0) false goes [] [] [] in
+      let there = rw (o, k) at on in
       let s : script front ≡ script (pieces b.ran.beats) ++ script i.0 = ap script i.1 ∙ script-append (pieces b.ran.beats) i.0 in
       let n : moments i.0 ≡ [] = w.2 in
       let m : moments front ≡ moments (pieces b.ran.beats) ++ [] = ap moments i.1 ∙ moments-append (pieces b.ran.beats) i.0 ∙ ap (λ (z : List ℤ). moments (pieces b.ran.beats) ++ z) n in
       let none : typed i.0 ≡ [] = w.1 in
       let ty : typed front ≡ typed (pieces b.ran.beats) = ap typed i.1 ∙ typed-append (pieces b.ran.beats) i.0 ∙ ap (λ (z : List ℕ). typed (pieces b.ran.beats) ++ z) none
       ∙ append-nil (typed (pieces b.ran.beats)) in
-      let run : feed t (items (extended p.unread (script front)) false) false (moments front) (outcomes b.ran.beats) ≡ record { trace = trace b.ran.beats ++ []; close = WaitsForScript } =
+      let run : feed t (items (extended p.unread (script front)) false) false (moments front) (outcomes b.ran.beats) (backs b.ran.beats) ≡ record { trace = trace b.ran.beats ++ []; close = WaitsForScript } =
       rw (s, m) (there ∙ ap (prepend (trace b.ran.beats)) w.3) in
       let bytes : bytes_of (trace b.ran.beats ++ []) ≡ typed front = ap bytes_of (append-nil (trace b.ran.beats)) ∙ bytes_chain p b.mid b.ran.beats b.ran.chain ∙ sym ty in
       record { close = ap (λ (z : Fed R). z.close) run; bytes_are = ap (λ (z : Fed R). bytes_of z.trace) run ∙ bytes })
@@ -354,7 +383,7 @@ module _ {R : Type 0} (p q : Point) (t : Act R) (b : Broke p q t) where
       ⊎_elim
       (λ i. no_read p b.mid b.ran.beats b.ran.chain ended front i.0 c i.1)
       (λ i.
-      let w = part_waits b.mid b.rest b.loose i.0 rest c b.part i.2 [] [] in
+      let w = part_waits b.mid b.rest b.loose i.0 rest c b.part i.2 [] [] [] in
       let kept : b.mid.ended ≡ true = chain_ended p b.mid b.ran.beats b.ran.chain ∙ ap (λ (z : Bool). z || is_over (pieces b.ran.beats)) ended in
       false_true b.mid.ended w.0 kept)
       (split_at front (Read c) rest (pieces b.ran.beats) b.loose e)
@@ -366,21 +395,21 @@ abbrev pub whole : {R : Type 0} (p q : Point) (t : Act R) (a : R) → Ran p q t 
 whole p q t a r = record { mid = q; rest = Done a; ran = r; loose = []; part = refl; journal = sym (plus-nil q.journal); faults = omega arith; units = refl }
 
 -- the tree on all that was told comes to its result, with the beats' trace
-pub fed_whole : {R : Type 0} (p q : Point) (t : Act R) (a : R) (r : Ran p q t (Done a)) → fed p t (pieces r.beats) (outcomes r.beats) ≡ record { trace = trace r.beats; close = Over a }
+pub fed_whole : {R : Type 0} (p q : Point) (t : Act R) (a : R) (r : Ran p q t (Done a)) → fed p t (pieces r.beats) (outcomes r.beats) (backs r.beats) ≡ record { trace = trace r.beats; close = Over a }
 fed_whole {R = R} p q t a r =
     let all = fed_all p q t (whole p q t a r) in
     let pieces_nil : pieces r.beats ++ [] ≡ pieces r.beats = append-nil (pieces r.beats) in
     let trace_nil : trace r.beats ++ [] ≡ trace r.beats = append-nil (trace r.beats) in
-    let there : fed p t (pieces r.beats) (outcomes r.beats) ≡ record { trace = trace r.beats ++ []; close = Over a } =
-    subst (λ (es : List Event). fed p t es (outcomes r.beats) ≡ record { trace = trace r.beats ++ []; close = Over a }) pieces_nil all in
+    let there : fed p t (pieces r.beats) (outcomes r.beats) (backs r.beats) ≡ record { trace = trace r.beats ++ []; close = Over a } =
+    subst (λ (es : List Event). fed p t es (outcomes r.beats) (backs r.beats) ≡ record { trace = trace r.beats ++ []; close = Over a }) pieces_nil all in
     there ∙ ap (λ (tr : List TraceItem). record { trace = tr; close = Over a }) trace_nil
 
-pub comes_to : {R : Type 0} (p q : Point) (t : Act R) (a : R) (r : Ran p q t (Done a)) → ComesTo p q t a r
+pub comes_to : {R : Type 0} (p q : Point) (t : Act R) (a : R) (r : Ran p q t (Done a)) → ComesTo p q t a r (backs r.beats)
 comes_to {R = R} p q t a r =
     let run = fed_whole p q t a r in
-    let same : (fed p t (pieces r.beats) (outcomes r.beats)).trace ≡ trace r.beats = ap (λ (z : Fed R). z.trace) run in
+    let same : (fed p t (pieces r.beats) (outcomes r.beats) (backs r.beats)).trace ≡ trace r.beats = ap (λ (z : Fed R). z.trace) run in
     let told = chain_told p q r.beats r.chain in
-    let sets : (u : ℕ) → unit_set q.units u ≡ last_set u (unit_set p.units u) (fed p t (pieces r.beats) (outcomes r.beats)).trace =
+    let sets : (u : ℕ) → unit_set q.units u ≡ last_set u (unit_set p.units u) (fed p t (pieces r.beats) (outcomes r.beats) (backs r.beats)).trace =
     λ u. chain_last p q r.beats r.chain u ∙ ap (last_set u (unit_set p.units u)) (sym same) in
     record {
       journal = told;
@@ -403,7 +432,7 @@ adds_up p q bs chain = record {
   as_many = units_chain p q bs chain;
 }
 
-pub follows_tree : {R : Type 0} (p q : Point) (t : Act R) (b : Broke p q t) → FollowsTree p q t b
+pub follows_tree : {R : Type 0} (p q : Point) (t : Act R) (b : Broke p q t) → FollowsTree p q t b (backs b.ran.beats)
 follows_tree p q t b = record {
   journal = told_all p q t b;
   faults = counted_all p q t b;
@@ -414,6 +443,6 @@ follows_tree p q t b = record {
   waits = all_wait p q t b;
   given = no_reads p q t b;
   waits_before = λ front rest bytes e early later cut.
-      waits_early t p.unread early later (moments front) (outcomes b.ran.beats) (typed front)
-      (subst (λ (told : List ℕ). Waits (feed t (items (extended p.unread told) false) false (moments front) (outcomes b.ran.beats)) (typed front)) (sym cut) (all_wait p q t b front rest bytes e));
+      waits_early t p.unread early later (moments front) (outcomes b.ran.beats) (backs b.ran.beats) (typed front)
+      (subst (λ (told : List ℕ). Waits (feed t (items (extended p.unread told) false) false (moments front) (outcomes b.ran.beats) (backs b.ran.beats)) (typed front)) (sym cut) (all_wait p q t b front rest bytes e));
 }

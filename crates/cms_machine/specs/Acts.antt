@@ -2,16 +2,20 @@
 use Rattle.std.specs.Prelude.{ℕ, ℤ, List, [], ◌∷◌, ◌++◌, Option, map}
 use Rattle.cms_ebcdic.specs.CodePage.{host_of}
 use Rattle.cms_machine.specs.Items.{Item}
+use Rattle.cms_machine.specs.Objects.{Back, Object, Reply}
 use Rattle.cms_machine.specs.Steps.{Step, Outcome}
 
 -- Done: the result. Out: these bytes are typed. Take: the next console item is taken, or the script's end is found. Turn: a
--- turn is spent; the clock tells its seconds. Does: a device step, and its outcome.
+-- turn is spent; the clock tells its seconds. Does: a device step, and its outcome. Asks: the object in this place is told a reply, and
+-- something comes back. Drops: the object in this place is dropped.
 pub data Act (R : Type 0) : Type 0 where
   Done : R → Act R
   Out : List ℕ → Act R → Act R
   Take : (Option Item → Act R) → Act R
   Turn : (ℤ → Act R) → Act R
   Does : Step → (Outcome → Act R) → Act R
+  Asks : ℕ → Object → Reply → (Back → Act R) → Act R
+  Drops : ℕ → Act R → Act R
 
 -- one after another
 abbrev pub bind : {A B : Type 0} → Act A → (A → Act B) → Act B
@@ -20,6 +24,8 @@ bind (Out b t) f = Out b (bind t f)
 bind (Take k) f = Take (λ i. bind (k i) f)
 bind (Turn k) f = Turn (λ m. bind (k m) f)
 bind (Does s k) f = Does s (λ o. bind (k o) f)
+bind (Asks n o r k) f = Asks n o r (λ b. bind (k b) f)
+bind (Drops n t) f = Drops n (bind t f)
 
 -- ---- a single thing
 

@@ -1,5 +1,5 @@
 -- Beats: each a single thing that was done, with its piece of the journal, the oldest event first.
-use Rattle.std.specs.Prelude.{◌≡◌, ◌⊎◌, ℕ, ℤ, List, [], ◌∷◌, ◌++◌, take, drop, Option, Some, None, slice_get, ⊤}
+use Rattle.std.specs.Prelude.{◌≡◌, ◌⊎◌, ℕ, ℤ, ◌<◌, true, length, remove, set, List, [], ◌∷◌, ◌++◌, take, drop, Option, Some, None, slice_get, ⊤}
 use Rattle.std.specs.List.{AllByRecursion}
 use Rattle.cms_journal.specs.declared.event.Event.{Event}
 use Rattle.cms_journal.specs.declared.event.Event.TheVariants.{Read, Now, Typed, Wrote, Synced}
@@ -11,16 +11,20 @@ use Rattle.cms_model.specs.Minidisks.{State}
 use Rattle.cms_machine.specs.Slots.{Slot, unit_set, unit_state, IsAmong}
 use Rattle.cms_machine.specs.Steps.{Step, Outcome, unit_of, IsOutcome, IsOf, sync_count, stamp_in, units_after, faults_in}
 use Rattle.cms_machine.specs.Items.{Item, Takes}
-use Rattle.cms_machine.specs.Acts.{Act, Out, Take, Turn, Does}
+use Rattle.cms_machine.specs.Objects.{Back, Object, Reply, answered, may_answer}
+use Rattle.cms_machine.specs.Acts.{Act, Out, Take, Turn, Does, Asks, Drops}
 use Rattle.cms_machine.specs.Traces.{TraceItem, Shown, Spent, added}
 use Rattle.cms_machine.specs.Points.{Leaves, HasNow, Point, Sound}
 
--- bytes were typed; a turn was spent, with these seconds; an item was taken, or the script's end was found; a step was done
+-- bytes were typed; a turn was spent, with these seconds; an item was taken, or the script's end was found; a step was done; the object
+-- in a place was asked, and this came back; it was dropped
 pub data Deed : Type 0 where
   Said : List ℕ → Deed
   Turned : ℤ → Deed
   Took : Option Item → Deed
   Did : Step → Outcome → Deed
+  Asked : ℕ → Object → Reply → Back → Deed
+  Dropped : ℕ → Deed
 
 pub record Beat : Type 0 where
   pub deed : Deed
@@ -37,6 +41,8 @@ shown_by (Said b) = Shown b ∷ []
 shown_by (Turned m) = Spent ∷ []
 shown_by (Took i) = []
 shown_by (Did s o) = added s o
+shown_by (Asked n o r b) = []
+shown_by (Dropped n) = []
 
 -- the trace of beats
 abbrev pub trace : List Beat → List TraceItem
@@ -48,11 +54,26 @@ outcome_of (Said b) = []
 outcome_of (Turned m) = []
 outcome_of (Took i) = []
 outcome_of (Did s o) = o ∷ []
+outcome_of (Asked n o r b) = []
+outcome_of (Dropped n) = []
 
 -- the outcomes of their steps
 abbrev pub outcomes : List Beat → List Outcome
 outcomes [] = []
 outcomes (b ∷ bs) = outcome_of b.deed ++ outcomes bs
+
+abbrev pub back_of : Deed → List Back
+back_of (Said b) = []
+back_of (Turned m) = []
+back_of (Took i) = []
+back_of (Did s o) = []
+back_of (Asked n o r b) = b ∷ []
+back_of (Dropped n) = []
+
+-- what came back in them
+abbrev pub backs : List Beat → List Back
+backs [] = []
+backs (b ∷ bs) = back_of b.deed ++ backs bs
 
 -- ---- the events that a piece may have
 
@@ -114,6 +135,8 @@ Fits (Said b) es = OnlyTyped es × (typed es ≡ b)
 Fits (Turned m) es = es ≡ Now m ∷ []
 Fits (Took i) es = OnlyRead es
 Fits (Did s o) es = FitsStep s o es
+Fits (Asked n o r b) es = (es ≡ []) × (may_answer o r b ≡ true)
+Fits (Dropped n) es = es ≡ []
 
 -- ---- the console
 
@@ -128,6 +151,8 @@ OnConsole (Said b) es p m = KeepsConsole p m
 OnConsole (Turned t) es p m = KeepsConsole p m
 OnConsole (Took i) es p m = Takes p.unread p.ended es i m.unread m.ended
 OnConsole (Did s o) es p m = KeepsConsole p m
+OnConsole (Asked n o r b) es p m = KeepsConsole p m
+OnConsole (Dropped n) es p m = KeepsConsole p m
 
 -- ---- the units
 
@@ -137,6 +162,8 @@ SpeaksOf (Said b) units = ⊤
 SpeaksOf (Turned m) units = ⊤
 SpeaksOf (Took i) units = ⊤
 SpeaksOf (Did s o) units = IsOf s (slice_get units (unit_of s))
+SpeaksOf (Asked n o r b) units = ⊤
+SpeaksOf (Dropped n) units = ⊤
 
 -- the units after a deed
 abbrev pub units_by : List Slot → Deed → List Slot
@@ -144,6 +171,19 @@ units_by units (Said b) = units
 units_by units (Turned m) = units
 units_by units (Took i) = units
 units_by units (Did s o) = units_after units s o
+units_by units (Asked n o r b) = units
+units_by units (Dropped n) = units
+
+-- ---- the objects
+
+-- what a deed does to the objects: the one that was asked is there, and holds what came back; one that was dropped is gone
+abbrev pub OnObjects : Deed → List Object → List Object → Type 0
+OnObjects (Said b) old new = new ≡ old
+OnObjects (Turned m) old new = new ≡ old
+OnObjects (Took i) old new = new ≡ old
+OnObjects (Did s o) old new = new ≡ old
+OnObjects (Asked n o r b) old new = (slice_get old n ≡ Some o) × (new ≡ set old n (answered o b))
+OnObjects (Dropped n) old new = (n < length old) × (new ≡ remove old n)
 
 -- a piece is covered, after the journal before it: a crash within it leaves the unit in a state of its set before or after the
 -- beat, a crash behind it of the set after
@@ -161,6 +201,7 @@ pub record Beats (p : Point) (b : Beat) (m : Point) : Type 0 where
   pub console : OnConsole b.deed b.piece p m
   pub speaks : SpeaksOf b.deed p.units
   pub units : m.units ≡ units_by p.units b.deed
+  pub objects : OnObjects b.deed p.objects m.objects
   pub covered : Sound p → (u : ℕ) → Covers p.journal b.piece u (unit_set p.units u) (unit_set m.units u)
   -- behind it the contents of each unit have the state of its slot
   pub now : Sound p → (u : ℕ) (x : State) → HasNow m.journal u x → unit_state m.units u ≡ Some x
@@ -176,6 +217,8 @@ Next (Out b t) (Said c) u = (c ≡ b) × (u ≡ t)
 Next (Take k) (Took i) u = u ≡ k i
 Next (Turn k) (Turned m) u = u ≡ k m
 Next (Does s k) (Did r o) u = (r ≡ s) × (u ≡ k o)
+Next (Asks n o r k) (Asked m p q b) u = (m ≡ n) × (p ≡ o) × (q ≡ r) × (u ≡ k b)
+Next (Drops n t) (Dropped m) u = (m ≡ n) × (u ≡ t)
 Next _ _ u = ⊥
 
 -- the deeds of the beats are those of the tree, up to the rest of it

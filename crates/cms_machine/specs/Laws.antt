@@ -12,7 +12,8 @@ use Rattle.cms_machine.specs.Acts.{Act, Done, bind}
 use Rattle.cms_machine.specs.Traces.{TraceItem, bytes_of, turns_of, last_set, At, Within}
 use Rattle.cms_machine.specs.Feeds.{Over, feed, prepend, Waits, WaitsBehind}
 use Rattle.cms_machine.specs.Points.{Leaves, Point, Sound}
-use Rattle.cms_machine.specs.Beats.{Beat, pieces, trace, outcomes, Chain, Leads}
+use Rattle.cms_machine.specs.Objects.{Back}
+use Rattle.cms_machine.specs.Beats.{Beat, pieces, trace, outcomes, backs, Chain, Leads}
 use Rattle.cms_machine.specs.Runs.{Ran, Broke, events_of, fed}
 
 -- ---- beats, from a point where a crash leaves each unit in a state of its set
@@ -66,49 +67,49 @@ LeadsWithin A R = (t u : Act A) (bs : List Beat) (f : A → Act R) → Leads t b
 abbrev pub FeedsBeats : Type 0 → Type 0
 FeedsBeats R =
     (t u : Act R) (p q : Point) (bs : List Beat) → Chain p bs q → Leads t bs u → (more : List ℕ) (over : Bool) → Goes q.ended more over
-    → (ms : List ℤ) (os : List Outcome)
-    → feed t (items (extended p.unread (script (pieces bs) ++ more)) over) over (moments (pieces bs) ++ ms) (outcomes bs ++ os)
-    ≡ prepend (trace bs) (feed u (items (extended q.unread more) over) over ms os)
+    → (ms : List ℤ) (os : List Outcome) (back : List Back)
+    → feed t (items (extended p.unread (script (pieces bs) ++ more)) over) over (moments (pieces bs) ++ ms) (outcomes bs ++ os) (backs bs ++ back)
+    ≡ prepend (trace bs) (feed u (items (extended q.unread more) over) over ms os back)
 
 -- a run that was cut off is one of the machine on all that was told: what was told is the journal, the faults are counted, the
 -- bytes typed are the first of the machine's, a crash at any moment leaves what is within its trace there, a read comes only where
 -- it waits for the script, with all its bytes typed, and where the run was cut off a crash leaves each unit as the machine knows it
-pub record FollowsTree {R : Type 0} (p q : Point) (t : Act R) (b : Broke p q t) : Type 0 where
+pub record FollowsTree {R : Type 0} (p q : Point) (t : Act R) (b : Broke p q t) (back : List Back) : Type 0 where
   pub journal : q.journal ≡ plus p.journal (events_of b)
   pub faults : Counted p.faults (faults_in (outcomes b.ran.beats)) q.faults
-  pub bytes : (more : List ℕ) × (typed (events_of b) ++ more ≡ bytes_of (fed p t (events_of b) (outcomes b.ran.beats)).trace)
+  pub bytes : (more : List ℕ) × (typed (events_of b) ++ more ≡ bytes_of (fed p t (events_of b) (outcomes b.ran.beats) back).trace)
   pub crash :
       Sound p → (front rest : List Event) → front ++ rest ≡ events_of b → (u : ℕ) (x : State) → Leaves (plus p.journal front) u x
-      → Within (fed p t (events_of b) (outcomes b.ran.beats)).trace (length (typed front)) (length (moments front)) u (unit_set p.units u) x
+      → Within (fed p t (events_of b) (outcomes b.ran.beats) back).trace (length (typed front)) (length (moments front)) u (unit_set p.units u) x
   pub sound : Sound p → Sound q
   pub as_many : length q.units ≡ length p.units
   pub waits :
       (front rest : List Event) (bytes : List ℕ) → front ++ Read bytes ∷ rest ≡ events_of b
-      → Waits (feed t (items (extended p.unread (script front)) false) false (moments front) (outcomes b.ran.beats)) (typed front)
+      → Waits (feed t (items (extended p.unread (script front)) false) false (moments front) (outcomes b.ran.beats) back) (typed front)
   -- no read comes where the script had ended
   pub given : p.ended ≡ true → (front rest : List Event) (bytes : List ℕ) → front ++ Read bytes ∷ rest ≡ events_of b → ⊥
   -- and also on a front of the script told by then, as that up to its last line feed
   pub waits_before :
       (front rest : List Event) (bytes : List ℕ) → front ++ Read bytes ∷ rest ≡ events_of b → (early later : List ℕ)
       → early ++ later ≡ script front
-      → WaitsBehind (feed t (items (extended p.unread early) false) false (moments front) (outcomes b.ran.beats)) (typed front)
+      → WaitsBehind (feed t (items (extended p.unread early) false) false (moments front) (outcomes b.ran.beats) back) (typed front)
 
 abbrev pub StopsFollow : Type 0 → Type 0
-StopsFollow R = (p q : Point) (t : Act R) (b : Broke p q t) → FollowsTree p q t b
+StopsFollow R = (p q : Point) (t : Act R) (b : Broke p q t) → FollowsTree p q t b (backs b.ran.beats)
 
 -- a run to its result is one of the machine to that result: the machine's bytes are those typed, each of its turns has a moment,
 -- and a crash leaves each unit in a state of its last set
-pub record ComesTo {R : Type 0} (p q : Point) (t : Act R) (a : R) (ran : Ran p q t (Done a)) : Type 0 where
+pub record ComesTo {R : Type 0} (p q : Point) (t : Act R) (a : R) (ran : Ran p q t (Done a)) (back : List Back) : Type 0 where
   pub journal : q.journal ≡ plus p.journal (pieces ran.beats)
-  pub close : (fed p t (pieces ran.beats) (outcomes ran.beats)).close ≡ Over a
-  pub bytes : bytes_of (fed p t (pieces ran.beats) (outcomes ran.beats)).trace ≡ typed (pieces ran.beats)
-  pub turns : turns_of (fed p t (pieces ran.beats) (outcomes ran.beats)).trace ≡ length (moments (pieces ran.beats))
-  pub sets : (u : ℕ) → unit_set q.units u ≡ last_set u (unit_set p.units u) (fed p t (pieces ran.beats) (outcomes ran.beats)).trace
+  pub close : (fed p t (pieces ran.beats) (outcomes ran.beats) back).close ≡ Over a
+  pub bytes : bytes_of (fed p t (pieces ran.beats) (outcomes ran.beats) back).trace ≡ typed (pieces ran.beats)
+  pub turns : turns_of (fed p t (pieces ran.beats) (outcomes ran.beats) back).trace ≡ length (moments (pieces ran.beats))
+  pub sets : (u : ℕ) → unit_set q.units u ≡ last_set u (unit_set p.units u) (fed p t (pieces ran.beats) (outcomes ran.beats) back).trace
   pub states : Sound p → (u : ℕ) (x : State) → Leaves (plus p.journal (pieces ran.beats)) u x
-      → IsAmong x (last_set u (unit_set p.units u) (fed p t (pieces ran.beats) (outcomes ran.beats)).trace)
+      → IsAmong x (last_set u (unit_set p.units u) (fed p t (pieces ran.beats) (outcomes ran.beats) back).trace)
 
 abbrev pub RunsCome : Type 0 → Type 0
-RunsCome R = (p q : Point) (t : Act R) (a : R) (ran : Ran p q t (Done a)) → ComesTo p q t a ran
+RunsCome R = (p q : Point) (t : Act R) (a : R) (ran : Ran p q t (Done a)) → ComesTo p q t a ran (backs ran.beats)
 
 -- ---- what is known of a unit
 

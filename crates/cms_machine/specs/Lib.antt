@@ -1,6 +1,7 @@
 pub mod Slots
 pub mod Steps
 pub mod Items
+pub mod Objects
 pub mod Acts
 pub mod Traces
 pub mod Feeds
@@ -9,3 +10,4 @@ pub mod Beats
 pub mod Runs
 pub mod Laws
 pub mod LawsSteps
+pub mod LawsObjects

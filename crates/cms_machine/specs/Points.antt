@@ -9,6 +9,7 @@ use Rattle.cms_model.specs.Trees.{image_of}
 use Rattle.cms_model.specs.Volumes.{disk_of, state_of}
 use Rattle.cms_machine.specs.Slots.{Slot, unit_set, unit_state, IsAmong}
 use Rattle.cms_machine.specs.Items.{Unread}
+use Rattle.cms_machine.specs.Objects.{Object}
 
 -- a crash at this journal may leave the unit in this state
 pub record LeavesIn (j : Journal) (u : ℕ) (x : State) : Type 0 where
@@ -33,18 +34,23 @@ abbrev pub HasNow : Told → ℕ → State → Type 0
 HasNow None u x = ⊥
 HasNow (Some j) u x = HasNowIn j u x
 
--- the journal, the count of device faults, the machine's units, and of the script what was read and not taken, and whether its
--- end was found
+-- the journal, the count of device faults, the machine's units, of the script what was read and not taken, and whether its end was
+-- found, and the objects
 pub record Point : Type 0 where
   pub journal : Told
   pub faults : ℕ
   pub units : List Slot
   pub unread : Unread
   pub ended : Bool
+  pub objects : List Object
 
 -- the same with these events added to the journal, the oldest first
 abbrev pub with_events : Point → List Event → Point
 with_events p es = record p { journal = plus p.journal es }
+
+-- the same beside these objects
+abbrev pub beside : List Object → Point → Point
+beside objects p = record p { objects = objects }
 
 -- a crash leaves each unit in a state of its set, and its contents have the state of its slot: that at which it is settled, or that
 -- of the side of its doubt

@@ -4,7 +4,8 @@ use Rattle.cms_journal.specs.declared.event.Event.{Event}
 use Rattle.cms_journal.specs.Told.{plus, typed, script, is_over, moments, syncs}
 use Rattle.cms_machine.specs.Steps.{Step, Outcome, Good, unit_of, sync_count}
 use Rattle.cms_machine.specs.Items.{extended, items, Lazy}
-use Rattle.cms_machine.specs.Acts.{Act, Done, Out, Take, Turn, Does}
+use Rattle.cms_machine.specs.Objects.{Back}
+use Rattle.cms_machine.specs.Acts.{Act, Done, Out, Take, Turn, Does, Asks, Drops}
 use Rattle.cms_machine.specs.Feeds.{Fed, feed}
 use Rattle.cms_machine.specs.Points.{Point, with_events, Sound}
 use Rattle.cms_machine.specs.Beats.{Beat, pieces, Chain, Leads, OnlyTyped, OnlyRead, OnlyDisk}
@@ -29,6 +30,8 @@ Part p (Out b t) es = OnlyTyped es × ((more : List ℕ) × (typed es ++ more �
 Part p (Take k) es = OnlyRead es × Lazy p.unread p.ended es
 Part p (Turn k) es = es ≡ []
 Part p (Does s k) es = Begun p s es
+Part p (Asks n o r k) es = es ≡ []
+Part p (Drops n t) es = es ≡ []
 
 -- from a point with a tree, cut off somewhere; the machine's units are those before the deed that was cut off
 pub record Broke {R : Type 0} (p q : Point) (t : Act R) : Type 0 where
@@ -48,5 +51,5 @@ abbrev pub events_of : {R : Type 0} {p q : Point} {t : Act R} → Broke p q t �
 events_of b = pieces b.ran.beats ++ b.loose
 
 -- a tree run on what these events told since a point, with what was read and not taken there
-abbrev pub fed : {R : Type 0} → Point → Act R → List Event → List Outcome → Fed R
-fed p t es os = feed t (items (extended p.unread (script es)) (p.ended || is_over es)) (p.ended || is_over es) (moments es) os
+abbrev pub fed : {R : Type 0} → Point → Act R → List Event → List Outcome → List Back → Fed R
+fed p t es os bs = feed t (items (extended p.unread (script es)) (p.ended || is_over es)) (p.ended || is_over es) (moments es) os bs

@@ -1,6 +1,7 @@
 // Laws of beats and of runs.
 ghost use Rattle.cms_machine.specs.Items.{ToldAreSure, WholeByLines};
 ghost use Rattle.cms_machine.specs.Laws.{CrashesWithin, WithinIsAt, KeepSound, AddUp, RunsJoin, StopsJoin, LeadsWithin, FeedsBeats, StopsFollow, RunsCome, ReadsAreWanted, DoubtEndsNow, SettledIsNow, DoubtIsOfBoth};
+ghost use Rattle.cms_machine.specs.LawsObjects.{AskedAnswers, AskedNoMore, DroppedIsGone, NoneAreAsked, RunsBeside, StayDistinct, StopsBeside};
 ghost use Rattle.cms_machine.specs.LawsSteps.{SyncsAreCounted, RefusedIsNothing, KeptWithoutSync, AccessEndsDoubt, DoubtHasBoth, FaultsAreCounted, FaultsFitSteps};
 
 /// The items of a console.
@@ -76,4 +77,21 @@ pub fn laws_of_steps()
     ensures doubt { DoubtHasBoth }
     ensures faults { FaultsAreCounted }
     ensures fit { FaultsFitSteps }
+{}
+
+/// Objects.
+///
+/// - One that is asked stands in its place, its test holds of what comes back, and that it holds from then on.
+/// - Words that differ go on to differ, and behind the dropping of an object none stands under its word.
+/// - Where none stands under a word none is asked under it any more, and none comes to stand under it.
+/// - Where there are none, nothing comes back, and none come.
+/// - A run where there are none is one beside any, which it leaves as they are, also where it was cut off.
+pub fn laws_of_objects<R>()
+    ensures asked { AskedAnswers }
+    ensures distinct { StayDistinct }
+    ensures dropped { DroppedIsGone }
+    ensures gone { AskedNoMore }
+    ensures none { NoneAreAsked }
+    ensures runs { RunsBeside R }
+    ensures stops { StopsBeside R }
 {}

@@ -4,5 +4,6 @@
 mod laws;
 
 pub use laws::{
-    law_of_beats, laws_of_items, laws_of_joining, laws_of_runs, laws_of_steps, laws_of_units,
+    law_of_beats, laws_of_items, laws_of_joining, laws_of_objects, laws_of_runs, laws_of_steps,
+    laws_of_units,
 };

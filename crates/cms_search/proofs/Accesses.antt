@@ -32,7 +32,7 @@ use Rattle.cms_disk.specs.declared.unit.UnitInfo.{UnitInfo}
 use Rattle.cms_disk.proofs.Standing.{state_stands}
 use Rattle.cms_disk.proofs.Quieting.{firm_now}
 use Rattle.cms_search.specs.Accessing.{IsOfAccess, accessing_tree, disk_for, forgetting, opened, refused_as}
-use Rattle.cms_search.specs.Calls.{Acts, Holds, IsSeatOf, IsUsable, IsUsableTable, Spot, Usable, at, beside, holds, itself, machine_of}
+use Rattle.cms_search.specs.Calls.{Acts, Holds, IsSeatOf, IsUsable, IsUsableTable, Spot, Usable, at, beside, holds, itself, machine_of, spot_at}
 use Rattle.cms_search.specs.Held.{HoldsTable, HoldsUnit, StandsAs, disk_of as disk_of_unit}
 use Rattle.cms_search.specs.Machine.{Letter, Machine, Places, after_step}
 use Rattle.cms_search.specs.Releasing as releasing
@@ -96,9 +96,6 @@ letter_made st units u n ext unit has =
 
 -- ---- the unit that is looked at
 
-abbrev spot_with : Seen → State → Spot
-spot_with w s = record { world = w; state = s }
-
 -- a unit was looked at behind these calls, and this was found
 pub record Looked (old : Spot) (w : Seen) (vdev n : ℕ) (ext : Option ℕ) (u : ℕ) (found : Result Accessed AccessFault) : Type 0 where
   pub place : place_of_device vdev old.state.table.units ≡ Some u
@@ -160,7 +157,7 @@ still false (Settled state) is = (ReadFault 0, record { may = refl; synced = ref
 still false (Doubt before later side) is = absurd is
 
 not_synced : (old : Spot) (w : Seen) (vdev n : ℕ) (ext : Option ℕ) (u : ℕ) (l : Looked old w vdev n ext u (Err Sync))
-    → Acts old (spot_with w old.state) (accessing_tree old.state vdev n ext) (Ok ends.Failed) (beside old.state itself)
+    → Acts old (spot_at w old.state) (accessing_tree old.state vdev n ext) (Ok ends.Failed) (beside old.state itself)
 not_synced old w vdev n ext u l = record {
   each = λ units h.
       let d = line_of old units u l.unit l.doubt l.has l.mark h in
@@ -170,8 +167,8 @@ not_synced old w vdev n ext u l = record {
       let none = o.1.none in
       let k = λ (x : Outcome). Done (opened (after_step (machine_of old.state units) (Access u d.line.slot) x) n letter d.line.slot x) in
       let counted : Counted old.world.faults (faults_in (o.0 ∷ [])) w.faults = let one = o.1.counts in rw one (counted_one old.world.faults w.faults l.changes.faults (l.changes.cause refl)) in
-      let ran : Ran (at old units) (at (spot_with w old.state) units) (Does (Access u d.line.slot) k) (k o.0) =
-      ran_still (at old units) (at (spot_with w old.state) units) (Access u d.line.slot) o.0 k told counted o.1.synced o.1.may d.line.there refl none (record { unread = refl; ended = refl }) in
+      let ran : Ran (at old units) (at (spot_at w old.state) units) (Does (Access u d.line.slot) k) (k o.0) =
+      ran_still (at old units) (at (spot_at w old.state) units) (Access u d.line.slot) o.0 k told counted o.1.synced o.1.may d.line.there refl none (record { unread = refl; ended = refl }) refl in
       let same : after_step (machine_of old.state units) (Access u d.line.slot) o.0 ≡ machine_of old.state units = rw none refl in
       let end' : k o.0 ≡ Done (machine_of old.state units, ends.Failed) =
       ap (λ (x : Machine × AccessEnd). Done x) (o.1.fails (after_step (machine_of old.state units) (Access u d.line.slot) o.0) n letter ∙ ap (λ (s : Machine). (s, ends.Failed)) same) in
@@ -179,7 +176,7 @@ not_synced old w vdev n ext u l = record {
         units,
         (
           rw told h,
-          rw tree (subst (λ (t : Act (Machine × AccessEnd)). Ran (at old units) (at (spot_with w old.state) units) (Does (Access u d.line.slot) k) t) end' ran),
+          rw tree (subst (λ (t : Act (Machine × AccessEnd)). Ran (at old units) (at (spot_at w old.state) units) (Does (Access u d.line.slot) k) t) end' ran),
         ),
       );
   later = later_changes old.world w l.changes;
@@ -285,7 +282,7 @@ record Refuses (old : Spot) (w : Seen) (n : ℕ) (letter : Letter) (slot : Slot)
 not_accessed : (old : Spot) (w : Seen) (vdev n : ℕ) (ext : Option ℕ) (u : ℕ) (fault : OpenFault) (l : Looked old w vdev n ext u (Err (Open fault))) (e : AccessEnd)
     → ((units : List Slot) (d : Line old units u l.unit l.doubt) → IsLeft (disk_on l.unit) (after d.journal (sync_of l.doubt u)) u (Err (Open fault))
     → Refuses old w n (letter_for u l.unit.writable n ext) d.line.slot e × IsQuiet (disk_on l.unit) (after d.journal (sync_of l.doubt u)) u)
-    → Acts old (spot_with w (state_refused old.state u)) (accessing_tree old.state vdev n ext) (Ok e) (beside (state_refused old.state u) itself)
+    → Acts old (spot_at w (state_refused old.state u)) (accessing_tree old.state vdev n ext) (Ok e) (beside (state_refused old.state u) itself)
 not_accessed old w vdev n ext u fault l e ends_so = record {
   each = λ units h.
       let d = line_of old units u l.unit l.doubt l.has l.mark h in
@@ -295,10 +292,10 @@ not_accessed old w vdev n ext u fault l e ends_so = record {
       let so = ends_so units d then'.left in
       let o = so.0.outcome in
       let units' = units_then units u slot o in
-      let new = spot_with w (state_refused old.state u) in
+      let new = spot_at w (state_refused old.state u) in
       let k = λ (x : Outcome). Done (opened (after_step (machine_of old.state units) (Access u slot) x) n letter slot x) in
       let ran : Ran (at old units) (at new units') (Does (Access u slot) k) (k o) =
-      sure_ran (at old units) (at new units') d.journal l.doubt u slot o k d.told then'.grown d.line.there refl d.marked d.sure so.0.sure so.0.counted (record { unread = refl; ended = refl }) in
+      sure_ran (at old units) (at new units') d.journal l.doubt u slot o k d.told then'.grown d.line.there refl d.marked d.sure so.0.sure so.0.counted (record { unread = refl; ended = refl }) refl in
       let end' : k o ≡ Done (machine_of (state_refused old.state u) units', e) =
       ap (λ (x : Machine × AccessEnd). Done x) (so.0.ends (after_step (machine_of old.state units) (Access u slot) o)) in
       let stands = stands_refused d.journal old.state.table u l.unit slot l.doubt d.table.table l.mark d.marked d.stands so.1 in
@@ -320,7 +317,7 @@ not_accessed old w vdev n ext u fault l e ends_so = record {
 
 -- the device failed in a read
 unread : (old : Spot) (w : Seen) (vdev n : ℕ) (ext : Option ℕ) (u : ℕ) (l : Looked old w vdev n ext u (Err (Open failed.Device)))
-    → Acts old (spot_with w (state_refused old.state u)) (accessing_tree old.state vdev n ext) (Ok ends.Failed) (beside (state_refused old.state u) itself)
+    → Acts old (spot_at w (state_refused old.state u)) (accessing_tree old.state vdev n ext) (Ok ends.Failed) (beside (state_refused old.state u) itself)
 unread old w vdev n ext u l = not_accessed old w vdev n ext u failed.Device l ends.Failed (λ units d left. (
   record {
     outcome = ReadFault 0;
@@ -334,7 +331,7 @@ unread old w vdev n ext u l = not_accessed old w vdev n ext u failed.Device l en
 -- the unit is no volume, for this reason
 volumeless : (old : Spot) (w : Seen) (vdev n : ℕ) (ext : Option ℕ) (u : ℕ) (fault : OpenFault) (l : Looked old w vdev n ext u (Err (Open fault))) → (fault ≡ failed.Device → ⊥)
     → (fault ≡ failed.Memory → ⊥)
-    → Acts old (spot_with w (state_refused old.state u)) (accessing_tree old.state vdev n ext) (Ok (ends.NoVolume (reason fault))) (beside (state_refused old.state u) itself)
+    → Acts old (spot_at w (state_refused old.state u)) (accessing_tree old.state vdev n ext) (Ok (ends.NoVolume (reason fault))) (beside (state_refused old.state u) itself)
 volumeless old w vdev n ext u fault l device memory = not_accessed old w vdev n ext u fault l (ends.NoVolume (reason fault)) (λ units d left.
     let j' = after d.journal (sync_of l.doubt u) in
     let firm = refused_firm (disk_on l.unit) j' u fault device memory left in
@@ -414,7 +411,7 @@ machine_seated st units n u s =
     forgot (Some d) ls = refl
 
 disk_found : (old : Spot) (w : Seen) (vdev n : ℕ) (ext : Option ℕ) (u : ℕ) (disk : Accessed) (l : Looked old w vdev n ext u (Ok disk)) → n < 26
-    → Acts old (spot_with w (state_seated old.state n u (seat_of u l.unit n ext disk))) (accessing_tree old.state vdev n ext) (Ok (ends.Done (letter_for u l.unit.writable n ext).read_only))
+    → Acts old (spot_at w (state_seated old.state n u (seat_of u l.unit n ext disk))) (accessing_tree old.state vdev n ext) (Ok (ends.Done (letter_for u l.unit.writable n ext).read_only))
     (beside (state_seated old.state n u (seat_of u l.unit n ext disk)) itself)
 disk_found old w vdev n ext u disk l below = record {
   each = λ units h.
@@ -433,11 +430,11 @@ disk_found old w vdev n ext u disk l below = record {
       ap (λ (x : Disk). state_of x (now j' u)) (sym on.disk) ∙ (ap (λ (k : ℕ). state_of disk.volume.disk (now j' k)) (sym own) ∙ stands) in
       let state = state_now d.journal (sync_of l.doubt u) units old.state.table u l.unit d.line d.sure (Volume m) there in
       let units' = units_then units u slot Good in
-      let new = spot_with w state' in
+      let new = spot_at w state' in
       let k = λ (x : Outcome). Done (opened (after_step (machine_of old.state units) (Access u slot) x) n letter slot x) in
       let ran : Ran (at old units) (at new units') (Does (Access u slot) k) (k Good) =
       sure_ran (at old units) (at new units') d.journal l.doubt u slot Good k d.told then'.grown d.line.there refl d.marked d.sure tt (counted_none old.world.faults w.faults l.changes.faults)
-      (record { unread = refl; ended = refl }) in
+      (record { unread = refl; ended = refl }) refl in
       let end' : k Good ≡ Done (machine_of state' units', ends.Done letter.read_only) =
       let machine = machine_seated old.state units' n u seat in
       rw (state, machine) refl in
@@ -460,13 +457,13 @@ disk_found old w vdev n ext u disk l below = record {
 -- ---- there was no memory
 
 starved : (old : Spot) (w : Seen) (vdev n : ℕ) (ext : Option ℕ) (u : ℕ) (l : Looked old w vdev n ext u (Err (Open failed.Memory)))
-    → Acts {T = AccessEnd} old (spot_with w old.state) (accessing_tree old.state vdev n ext) (Err Memory) (beside old.state itself)
+    → Acts {T = AccessEnd} old (spot_at w old.state) (accessing_tree old.state vdev n ext) (Err Memory) (beside old.state itself)
 starved old w vdev n ext u l = record {
   each = λ units h.
       let d = line_of old units u l.unit l.doubt l.has l.mark h in
       let grown = grown_to old w vdev n ext u (Err (Open failed.Memory)) l units d tt in
       let tree = tree_is old w vdev n ext u (Err (Open failed.Memory)) l units d in
-      (units, rw tree (sure_broke (at old units) (at (spot_with w old.state) units) d.journal l.doubt u d.line.slot _ d.told grown d.line.there refl d.marked d.sure l.changes.faults));
+      (units, rw tree (sure_broke (at old units) (at (spot_at w old.state) units) d.journal l.doubt u d.line.slot _ d.told grown d.line.there refl d.marked d.sure l.changes.faults));
   later = later_changes old.world w l.changes;
   usable = λ u. tt;
   cause = λ edge. absurd (cc);
@@ -475,7 +472,7 @@ starved old w vdev n ext u l = record {
 -- ---- an access that was refused
 
 abbrev Comes : Spot → Seen → State → ℕ → ℕ → Option ℕ → SearchFault → Type 0
-Comes old w st vdev n ext fault = Acts old (spot_with w st) (accessing_tree old.state vdev n ext) (refused_as fault) (beside st itself)
+Comes old w st vdev n ext fault = Acts old (spot_at w st) (accessing_tree old.state vdev n ext) (refused_as fault) (beside st itself)
 
 fault_is : (x fault : SearchFault) → ◌≡◌ {A = Result ⊤ SearchFault} (Err x) (Err fault) → x ≡ fault
 fault_is x fault is = cc is
@@ -544,22 +541,22 @@ refused_to old w vdev n ext u (Err (Open (failed.System m))) l fault is =
 -- nothing was done
 stayed : (old : Spot) (w : Seen) (vdev n : ℕ) (ext : Option ℕ) (e : AccessEnd) → w ≡ old.world
     → ((units : List Slot) → accessing_tree old.state vdev n ext units ≡ Done (machine_of old.state units, e))
-    → Acts old (spot_with w old.state) (accessing_tree old.state vdev n ext) (Ok e) (beside old.state itself)
+    → Acts old (spot_at w old.state) (accessing_tree old.state vdev n ext) (Ok e) (beside old.state itself)
 stayed old w vdev n ext e world tree =
-    acts_stayed old (spot_with w old.state) (accessing_tree old.state vdev n ext) e (beside old.state itself) world refl
-    (λ units h. (subst (λ (x : Seen). holds (spot_with x old.state) units) (sym world) h, tree units))
-    (λ usable. subst (λ (x : Seen). IsUsable (spot_with x old.state)) (sym world) usable)
+    acts_stayed old (spot_at w old.state) (accessing_tree old.state vdev n ext) e (beside old.state itself) world refl
+    (λ units h. (subst (λ (x : Seen). holds (spot_at x old.state) units) (sym world) h, tree units))
+    (λ usable. subst (λ (x : Seen). IsUsable (spot_at x old.state)) (sym world) usable)
 
 -- no unit has the device
 no_unit : (old : Spot) (w : Seen) (vdev n : ℕ) (ext : Option ℕ) → w ≡ old.world → place_of_device vdev old.state.table.units ≡ None
-    → Acts old (spot_with w old.state) (accessing_tree old.state vdev n ext) (Ok ends.NoUnit) (beside old.state itself)
+    → Acts old (spot_at w old.state) (accessing_tree old.state vdev n ext) (Ok ends.NoUnit) (beside old.state itself)
 no_unit old w vdev n ext world none =
     stayed old w vdev n ext ends.NoUnit world (λ units. (let placed = unit_told vdev old.state.table.units ∙ none in rw placed refl))
 
 -- or the parent is missing
 no_parent : (old : Spot) (w : Seen) (vdev n : ℕ) (ext : Option ℕ) (u parent : ℕ) → w ≡ old.world → place_of_device vdev old.state.table.units ≡ Some u
     → missing_parent old.state.table.seats n ext ≡ Some parent
-    → Acts old (spot_with w old.state) (accessing_tree old.state vdev n ext) (Ok (ends.NoParent parent)) (beside old.state itself)
+    → Acts old (spot_at w old.state) (accessing_tree old.state vdev n ext) (Ok (ends.NoParent parent)) (beside old.state itself)
 no_parent old w vdev n ext u parent world place missing =
     stayed old w vdev n ext (ends.NoParent parent) world (λ units.
     let placed = unit_told vdev old.state.table.units ∙ place in
@@ -584,7 +581,7 @@ looked_so old w t' vdev n ext u r place free e changes = record {
 pub access_refused : (old : Spot) (w : Seen) (t' : Accesses) (vdev n : ℕ) (ext : Option ℕ) (fault : SearchFault) (r : Result AccessEnd End) → r ≡ refused_as fault
     → EndsAccess old.world.told w.told old.state.table t' n ext (Err fault) (wanted_in old.state.table vdev n ext)
     → ChangesUnits {T = ⊤} old.world w (λ f. f ≡ why.Volume failed.Device) (Err fault) → OnErr (wanted_in old.state.table vdev n ext) (w ≡ old.world)
-    → Acts old (spot_with w (record old.state { table = t' })) (accessing_tree old.state vdev n ext) r (beside (record old.state { table = t' }) itself)
+    → Acts old (spot_at w (record old.state { table = t' })) (accessing_tree old.state vdev n ext) r (beside (record old.state { table = t' }) itself)
 access_refused old w t' vdev n ext fault r is ends' changes unlooked =
     rw is (cases (place_of_device vdev old.state.table.units) refl (missing_parent old.state.table.seats n ext) refl ends' unlooked)
   where
@@ -645,14 +642,14 @@ pub access_done : (old : Spot) (w : Seen) (t' : Accesses) (places : Places) (vde
     → IfSome left (λ told. ForSome (item_at old.state.table.seats n) (λ s. (told.parent ≡ s.letter.parent) × (told.read_only ≡ s.letter.read_only)
     × (option_map (λ (y : UnitInfo). y.vdev) (slice_get old.state.table.units s.letter.unit) ≡ Some told.vdev)))
     → places ≡ forgetting left vdev old.state.places → read_only ≡ has (λ s. s.letter.read_only) (item_at t'.seats n)
-    → Acts old (spot_with w (record old.state { table = t'; places = places })) (accessing_tree old.state vdev n ext) (Ok (ends.Done read_only))
+    → Acts old (spot_at w (record old.state { table = t'; places = places })) (accessing_tree old.state vdev n ext) (Ok (ends.Done read_only))
     (beside (record old.state { table = t'; places = places }) itself)
 access_done old w t' places vdev n ext x left read_only below ends' changes is_table none some forgot marks =
     cases (place_of_device vdev old.state.table.units) refl (missing_parent old.state.table.seats n ext) refl ends'
   where
     found_so : (u : ℕ) (found : Result Accessed AccessFault) (l : Looked old w vdev n ext u found) → Ok x ≡ answer_for found
         → t' ≡ table_after old.state.table u (letter_for u l.unit.writable n ext) n found
-        → Acts old (spot_with w (record old.state { table = t'; places = places })) (accessing_tree old.state vdev n ext) (Ok (ends.Done read_only))
+        → Acts old (spot_at w (record old.state { table = t'; places = places })) (accessing_tree old.state vdev n ext) (Ok (ends.Done read_only))
         (beside (record old.state { table = t'; places = places }) itself)
     found_so u (Err Sync) l is table = absurd (cc is)
     found_so u (Err (Open failed.Device)) l is table = absurd (cc is)
@@ -680,7 +677,7 @@ access_done old w t' places vdev n ext x left read_only below ends' changes is_t
 
     cases : (place : Option ℕ) → place_of_device vdev old.state.table.units ≡ place → (missing : Option ℕ) → missing_parent old.state.table.seats n ext ≡ missing
         → EndsAccess old.world.told w.told old.state.table t' n ext (Ok x) (wanted_unit vdev place missing)
-        → Acts old (spot_with w (record old.state { table = t'; places = places })) (accessing_tree old.state vdev n ext) (Ok (ends.Done read_only))
+        → Acts old (spot_at w (record old.state { table = t'; places = places })) (accessing_tree old.state vdev n ext) (Ok (ends.Done read_only))
         (beside (record old.state { table = t'; places = places }) itself)
     cases None place missing free e = let clash = e.0 in absurd (cc clash)
     cases (Some u) place (Some parent) free e = let clash = e.0 in absurd (cc clash)

@@ -2,6 +2,7 @@
 use Rattle.std.proofs.Common.{◌≡◌, ◌≤◌, ℕ, ℤ, List, [], Result, Ok, Err, IfOk, refl, ap, sym, ◌∙◌, subst, arith}
 use Rattle.cms_journal.specs.Causes.{Rose}
 use Rattle.cms_journal.proofs.Pieces.{grown_same, grown_idle, grown_then}
+use Rattle.cms_machine.specs.Objects.{Object}
 use Rattle.cms_machine.specs.Slots.{Slot}
 use Rattle.cms_machine.specs.Acts.{Act, Done, bind, saying, typed_line}
 use Rattle.cms_machine.proofs.Single.{broke_before}
@@ -15,7 +16,7 @@ use Rattle.cms_search.specs.declared.state.State.{State}
 use Rattle.cms_search.specs.declared.state.Course as declared
 use Rattle.cms_search.specs.declared.state.Course.TheVariants as course
 use Rattle.cms_search.specs.Machine.{Went}
-use Rattle.cms_search.specs.Calls.{Spot, IsLater, IsUsable, Meaning, at, holds, Plays, Does, Acts, Comes, after_world, said, machine_of, course_of, refusal_tree}
+use Rattle.cms_search.specs.Calls.{SpotWith, IsLater, IsUsable, Meaning, at, holds, Plays, Does, Acts, Comes, after_world, said, machine_of, course_of, refusal_tree}
 use Rattle.cms_world.specs.Seen.{Seen}
 use Rattle.cms_search.specs.Talks.{Talks}
 use Rattle.cms_search.proofs.Holding.{holds_idle, usable_grown}
@@ -47,24 +48,24 @@ later_does before now t r d does = record {
 }
 
 -- a table that is the same may be used still
-pub usable_later : (old new : Spot) → IsLater old.world new.world → new.state.table ≡ old.state.table → IsUsable old → IsUsable new
+pub usable_later : {os : List Object} (old new : SpotWith os) → IsLater old.world new.world → new.state.table ≡ old.state.table → IsUsable old → IsUsable new
 usable_later old new later same usable = rw same (usable_grown old.world.told new.world.told old.state.table later.grown usable)
 
 -- ---- a call of the console or the clock alone
 
 -- where the console is kept a point is as that call made it
-pub at_kept : (old new : Spot) (units : List Slot) → new.world.faults ≡ old.world.faults → new.state.console ≡ old.state.console
+pub at_kept : {os : List Object} (old new : SpotWith os) (units : List Slot) → new.world.faults ≡ old.world.faults → new.state.console ≡ old.state.console
     → at new units ≡ after_world (at old units) new.world
-at_kept old new units faults same =
-    ap (λ (c : ConsoleState). record { journal = new.world.told; faults = new.world.faults; units = units; unread = c.unread; ended = c.ended }) same
+at_kept {os} old new units faults same =
+    ap (λ (c : ConsoleState). record { journal = new.world.told; faults = new.world.faults; units = units; unread = c.unread; ended = c.ended; objects = os }) same
     ∙ ap (λ (n : ℕ). record (after_world (at old units) new.world) { faults = n }) faults
 
 -- what it makes of the machine's units
-pub holds_does : {R T : Type 0} (old new : Spot) (t : Act R) (r : Result T End) (d : T → R) (units : List Slot) → Does old.world new.world t r d
+pub holds_does : {R T : Type 0} {os : List Object} (old new : SpotWith os) (t : Act R) (r : Result T End) (d : T → R) (units : List Slot) → Does old.world new.world t r d
     → new.state.table ≡ old.state.table → holds old units → holds new units
 holds_does old new t r d units does same h = rw same (holds_idle old.world.told new.world.told old.state.table units does.idle h)
 
-plays_does : {R T : Type 0} (old new : Spot) (t : Act R) (r : Result T End) (d : T → R) (units : List Slot) → Does old.world new.world t r d
+plays_does : {R T : Type 0} {os : List Object} (old new : SpotWith os) (t : Act R) (r : Result T End) (d : T → R) (units : List Slot) → Does old.world new.world t r d
     → new.state ≡ old.state → Plays (at old units) (at new units) t r d
 plays_does old new t r d units does same = let faults = does.faults in rw (same, faults) (does.each (at old units) refl)
 
@@ -77,12 +78,12 @@ later_talks before now was is t r d talks = record {
   edges = talks.edges;
 }
 
-plays_talks : {R T : Type 0} (old new : Spot) (t : Act R) (r : Result T End) (d : T → R) (units : List Slot)
+plays_talks : {R T : Type 0} {os : List Object} (old new : SpotWith os) (t : Act R) (r : Result T End) (d : T → R) (units : List Slot)
     → Talks old.world new.world old.state.console new.state.console t r d → Plays (at old units) (at new units) t r d
-plays_talks old new t r d units talks = let faults = talks.faults in rw faults (talks.each old.world.faults units)
+plays_talks {os = os} old new t r d units talks = let faults = talks.faults in rw faults (talks.each old.world.faults units os)
 
 -- on whichever units, it did all of its tree or was cut off in it
-pub acts_talks : {R T : Type 0} (old new : Spot) (t : List Slot → Act R) (r : Result T End) (d : Meaning T R) → new.state.table ≡ old.state.table
+pub acts_talks : {R T : Type 0} {os : List Object} (old new : SpotWith os) (t : List Slot → Act R) (r : Result T End) (d : Meaning T R) → new.state.table ≡ old.state.table
     → ((units : List Slot) → Talks old.world new.world old.state.console new.state.console (t units) r (d units)) → Acts old new t r d
 acts_talks old new t (Ok x) d table talks =
     let later = later_talks old.world new.world old.state.console new.state.console (t []) (Ok x) (d []) (talks []) in
@@ -107,14 +108,14 @@ acts_talks {T = T} old new t (Err e) d table talks = record {
 
 -- ---- parts of a call
 
-pub comes_none : {R : Type 0} (old : Spot) (t : List Slot → Act R) → Comes old old t t
+pub comes_none : {R : Type 0} {a : List Object} (old : SpotWith a) (t : List Slot → Act R) → Comes old old t t
 comes_none old t = record {
   each = λ units h. (units, (h, ran_none (at old units) (t units)));
   later = later_none old.world;
   usable = λ u. u;
 }
 
-pub comes_then : {R : Type 0} (old mid new : Spot) (t u v : List Slot → Act R) → Comes old mid t u → Comes mid new u v → Comes old new t v
+pub comes_then : {R : Type 0} {a b c : List Object} (old : SpotWith a) (mid : SpotWith b) (new : SpotWith c) (t u v : List Slot → Act R) → Comes old mid t u → Comes mid new u v → Comes old new t v
 comes_then old mid new t u v a b = record {
   each = λ units h. let x = a.each units h in let y = b.each x.0 x.1.0 in (y.0, (y.1.0, ran_then x.1.1 y.1.1));
   later = later_then old.world mid.world new.world a.later b.later;
@@ -122,7 +123,7 @@ comes_then old mid new t u v a b = record {
 }
 
 -- the tree is another by its units
-pub comes_same : {R : Type 0} (old : Spot) (t u : List Slot → Act R) → ((units : List Slot) → holds old units → t units ≡ u units) → Comes old old t u
+pub comes_same : {R : Type 0} {a : List Object} (old : SpotWith a) (t u : List Slot → Act R) → ((units : List Slot) → holds old units → t units ≡ u units) → Comes old old t u
 comes_same old t u same = record {
   each = λ units h. (units, (h, (let e = same units h in rw e (ran_none (at old units) (u units)))));
   later = later_none old.world;
@@ -130,7 +131,7 @@ comes_same old t u same = record {
 }
 
 -- a call within a tree
-pub comes_in : {A R T : Type 0} (old new : Spot) (s : List Slot → Act A) (f : A → Act R) (x : T) (d : Meaning T A) → Acts old new s (Ok x) d
+pub comes_in : {A R T : Type 0} {a b : List Object} (old : SpotWith a) (new : SpotWith b) (s : List Slot → Act A) (f : A → Act R) (x : T) (d : Meaning T A) → Acts old new s (Ok x) d
     → Comes old new (λ units. bind (s units) f) (λ units. f (d units x))
 comes_in old new s f x d a = record {
   each = λ units h. let y = a.each units h in (y.0, (y.1.0, ran_bind f y.1.1));
@@ -139,7 +140,7 @@ comes_in old new s f x d a = record {
 }
 
 -- a call that knows of no unit, within a tree that does
-pub comes_does : {A R T : Type 0} (old new : Spot) (s : Act A) (f : List Slot → A → Act R) (x : T) (d : T → A) → Does old.world new.world s (Ok x) d
+pub comes_does : {A R T : Type 0} {os : List Object} (old new : SpotWith os) (s : Act A) (f : List Slot → A → Act R) (x : T) (d : T → A) → Does old.world new.world s (Ok x) d
     → new.state ≡ old.state → Comes old new (λ units. bind s (f units)) (λ units. f units (d x))
 comes_does old new s f x d c same =
     let later = later_does old.world new.world s (Ok x) d c in
@@ -151,7 +152,7 @@ comes_does old new s f x d c same =
     }
 
 -- a call that only talks, within a tree
-pub comes_talks : {A R T : Type 0} (old new : Spot) (s : List Slot → Act A) (f : A → Act R) (x : T) (d : Meaning T A) → new.state.table ≡ old.state.table
+pub comes_talks : {A R T : Type 0} {os : List Object} (old new : SpotWith os) (s : List Slot → Act A) (f : A → Act R) (x : T) (d : Meaning T A) → new.state.table ≡ old.state.table
     → ((units : List Slot) → Talks old.world new.world old.state.console new.state.console (s units) (Ok x) (d units))
     → Comes old new (λ units. bind (s units) f) (λ units. f (d units x))
 comes_talks old new s f x d table talks = comes_in old new s f x d (acts_talks old new s (Ok x) d table talks)
@@ -159,12 +160,12 @@ comes_talks old new s f x d table talks = comes_in old new s f x d (acts_talks o
 -- ---- calls
 
 -- all of the tree was done
-pub acts_done : {R T : Type 0} (old new : Spot) (t : List Slot → Act R) (x : T) (d : Meaning T R) → Comes old new t (λ units. Done (d units x))
+pub acts_done : {R T : Type 0} {a b : List Object} (old : SpotWith a) (new : SpotWith b) (t : List Slot → Act R) (x : T) (d : Meaning T R) → Comes old new t (λ units. Done (d units x))
     → Acts old new t (Ok x) d
 acts_done old new t x d g = record { each = g.each; later = g.later; usable = g.usable; cause = tt }
 
 -- cut off where it came to
-pub acts_here : {R T : Type 0} (old new : Spot) (t u : List Slot → Act R) (e : End) (d : Meaning T R) → Comes old new t u
+pub acts_here : {R T : Type 0} {a b : List Object} (old : SpotWith a) (new : SpotWith b) (t u : List Slot → Act R) (e : End) (d : Meaning T R) → Comes old new t u
     → (e ≡ Edge → Rose old.world.edges new.world.edges) → Acts old new t (Err e) d
 acts_here old new t u e d g cause = record {
   each = λ units h. let x = g.each units h in (x.0, broke_here x.1.1);
@@ -174,10 +175,10 @@ acts_here old new t u e d g cause = record {
 }
 
 -- there was no memory where it came to
-pub no_memory : {R T : Type 0} (old new : Spot) (t u : List Slot → Act R) (d : Meaning T R) → Comes old new t u → Acts old new t (Err Memory) d
+pub no_memory : {R T : Type 0} {a b : List Object} (old : SpotWith a) (new : SpotWith b) (t u : List Slot → Act R) (d : Meaning T R) → Comes old new t u → Acts old new t (Err Memory) d
 no_memory old new t u d g = acts_here old new t u Memory d g (λ edge. absurd (cc))
 
-pub acts_after : {R T : Type 0} (old mid new : Spot) (t u : List Slot → Act R) (r : Result T End) (d : Meaning T R) → Comes old mid t u → Acts mid new u r d → Acts old new t r d
+pub acts_after : {R T : Type 0} {a b c : List Object} (old : SpotWith a) (mid : SpotWith b) (new : SpotWith c) (t u : List Slot → Act R) (r : Result T End) (d : Meaning T R) → Comes old mid t u → Acts mid new u r d → Acts old new t r d
 acts_after old mid new t u (Ok x) d g a = record {
   each = λ units h. let y = g.each units h in let z = a.each y.0 y.1.0 in (z.0, (z.1.0, ran_then y.1.1 z.1.1));
   later = later_then old.world mid.world new.world g.later a.later;
@@ -192,12 +193,12 @@ acts_after old mid new t u (Err e) d g a = record {
 }
 
 -- the tree is another by its units
-pub acts_same : {R T : Type 0} (old new : Spot) (t u : List Slot → Act R) (r : Result T End) (d : Meaning T R)
+pub acts_same : {R T : Type 0} {a b : List Object} (old : SpotWith a) (new : SpotWith b) (t u : List Slot → Act R) (r : Result T End) (d : Meaning T R)
     → ((units : List Slot) → holds old units → t units ≡ u units) → Acts old new u r d → Acts old new t r d
 acts_same old new t u r d same a = acts_after old old new t u r d (comes_same old t u same) a
 
 -- a call that was cut off, within a tree
-pub acts_stop : {A R T U : Type 0} (old new : Spot) (s : List Slot → Act A) (f : A → Act R) (e : End) (d : Meaning T A) (d' : Meaning U R) → Acts old new s (Err e) d
+pub acts_stop : {A R T U : Type 0} {a b : List Object} (old : SpotWith a) (new : SpotWith b) (s : List Slot → Act A) (f : A → Act R) (e : End) (d : Meaning T A) (d' : Meaning U R) → Acts old new s (Err e) d
     → Acts old new (λ units. bind (s units) f) (Err e) d'
 acts_stop old new s f e d d' a = record {
   each = λ units h. let x = a.each units h in (x.0, broke_bind f x.1);
@@ -206,7 +207,7 @@ acts_stop old new s f e d d' a = record {
   cause = a.cause;
 }
 
-pub does_stop : {A R T U : Type 0} (old new : Spot) (s : Act A) (f : List Slot → A → Act R) (e : End) (d : T → A) (d' : Meaning U R)
+pub does_stop : {A R T U : Type 0} {os : List Object} (old new : SpotWith os) (s : Act A) (f : List Slot → A → Act R) (e : End) (d : T → A) (d' : Meaning U R)
     → Does {T = T} old.world new.world s (Err e) d → new.state ≡ old.state → Acts {T = U} old new (λ units. bind s (f units)) (Err e) d'
 does_stop {T = T} old new s f e d d' c same = record {
   each = λ units h. (units, broke_bind (f units) (plays_does {T = T} old new s (Err e) d units c same));
@@ -216,7 +217,7 @@ does_stop {T = T} old new s f e d d' c same = record {
 }
 
 -- there was no memory, and nothing was done
-pub cut_off : {R T : Type 0} (old new : Spot) (t : List Slot → Act R) (d : Meaning T R) → new.world.told ≡ old.world.told → old.world.faults ≤ new.world.faults
+pub cut_off : {R T : Type 0} {os : List Object} (old new : SpotWith os) (t : List Slot → Act R) (d : Meaning T R) → new.world.told ≡ old.world.told → old.world.faults ≤ new.world.faults
     → old.world.edges ≤ new.world.edges → Acts {T = T} old new t (Err Memory) d
 cut_off old new t d told faults edges = record {
   each = λ units h. (units, broke_before (at old units) (at new units) (t units) told faults refl);
@@ -228,7 +229,7 @@ cut_off old new t d told faults edges = record {
 -- ---- refusals
 
 -- a command was refused, which leaves the state
-pub refused : (old new : Spot) (message : Message) (code : ℤ) (r : Result declared.Course End)
+pub refused : {os : List Object} (old new : SpotWith os) (message : Message) (code : ℤ) (r : Result declared.Course End)
     → Does old.world new.world (saying (typed_line (message_text message))) r said → IfOk r (λ c. c ≡ course.Went code) → new.state ≡ old.state
     → Acts old new (refusal_tree old.state message code) r (course_of new.state)
 refused old new message code (Ok c) d went same =

@@ -287,5 +287,5 @@ change_ran old new units u m change stamp o k there c now counted console =
     let behind : unit_set (changed_units units u m change stamp o) u ≡ set_of (changed_slot u m change stamp o) = rw slot refl in
     let covers : Covers old.world.told c.events u (unit_set units u) (unit_set (changed_units units u m change stamp o) u) = rw (before, behind) c.covers in
     ran_step (at old units) (at new (changed_units units u m change stamp o)) (Put u m change stamp) o k c.events c.told counted c.of_unit c.fits there refl
-    (record { unread = ap (λ (s : ConsoleState). s.unread) console; ended = ap (λ (s : ConsoleState). s.ended) console }) (λ sound. covers)
+    (record { unread = ap (λ (s : ConsoleState). s.unread) console; ended = ap (λ (s : ConsoleState). s.ended) console }) refl (λ sound. covers)
     (λ sound x has. ap (λ (z : Option Slot). option_map state_in z) slot ∙ ap (λ (y : State). Some y) (now x has))

@@ -226,7 +226,7 @@ get_first : {R : Type 0} (p q : Point) (before now : Seen) (u : ℕ) (f : File) 
 get_first p q before now u f wanted o k next offers may counted journal is goes =
     let m : Point = record p { faults = q.faults } in
     ran_then
-    (ran_still p m (Get u f wanted) o k refl counted refl may offers refl refl (record { unread = refl; ended = refl }))
+    (ran_still p m (Get u f wanted) o k refl counted refl may offers refl refl (record { unread = refl; ended = refl }) refl)
     (subst (λ (z : Point). Ran m z (k o) next) (sym is) (goes m journal))
 
 -- on these units a tree reads what is wanted of the file of which these records are left, and goes on by the outcome

@@ -1,6 +1,7 @@
 pub mod Machines
 pub mod Holding
 pub mod Acts
+pub mod Besides
 pub mod Says
 pub mod Searching
 pub mod Tabling
@@ -9,6 +10,7 @@ pub mod Ready
 pub mod Reading
 pub mod Asks
 pub mod Talking
+pub mod Turns
 pub mod Frames
 pub mod Seats
 pub mod Meeting

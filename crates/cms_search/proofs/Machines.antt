@@ -4,7 +4,7 @@ use Rattle.std.specs.FinMap.{empty}
 use Rattle.cms_fields.specs.declared.time.Moment.{Moment}
 use Rattle.cms_text.specs.Texts.{ebcdic}
 use Rattle.cms_machine.specs.Acts.{Act}
-use Rattle.cms_machine.specs.Feeds.{Fed, Close, Over, WaitsForScript, WaitsForMoment, feed}
+use Rattle.cms_machine.specs.Feeds.{Fed, Close, Over, WaitsForScript, WaitsForMoment, WaitsForObject, feed}
 use Rattle.cms_machine.specs.Items.{Item}
 use Rattle.cms_machine.specs.Slots.{Slot}
 use Rattle.cms_machine.specs.Steps.{Outcome}
@@ -46,13 +46,14 @@ code_in (Over (Went s code)) = Some code
 code_in (Over OutOfTurns) = None
 code_in WaitsForScript = None
 code_in WaitsForMoment = None
+code_in WaitsForObject = None
 
 abbrev pub answer_in : Fed Course → Answer
 answer_in f = record { typed = bytes_of f.trace; code = code_in f.close }
 
 -- where these items stand in the console, the clock tells these seconds, and the steps have these outcomes
 abbrev pub answer_asked : Act Course → List Item → List ℤ → List Outcome → Answer
-answer_asked tree console seconds outcomes = answer_in (feed tree console true seconds outcomes)
+answer_asked tree console seconds outcomes = answer_in (feed tree console true seconds outcomes [])
 
 -- where nothing is asked for, and the steps have these outcomes
 abbrev pub answer : Act Course → List Outcome → Answer

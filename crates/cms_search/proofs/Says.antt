@@ -40,7 +40,7 @@ pub said_line : (before now : Seen) (text : List ℕ) (r : Result (Unit {0}) End
 said_line before now text (Ok x) ok err faults edges cause = record {
   each = λ p journal.
       ran_out p (after_world p now) (typed_line text) (Done x) ok.events (ok.told ∙ ap (λ (t : Told). plus t ok.events) (sym journal))
-      ok.only (sym (append-nil (typed ok.events)) ∙ ok.is) (omega arith) refl (record { unread = refl; ended = refl });
+      ok.only (sym (append-nil (typed ok.events)) ∙ ok.is) (omega arith) refl (record { unread = refl; ended = refl }) refl;
   idle = record { events = ok.events; told = ok.told; none = typed_no_disk ok.events ok.only };
   faults = faults;
   edges = edges;

@@ -1,5 +1,5 @@
 -- Calls that change the state alone, and refusals that a tree tells.
-use Rattle.std.proofs.Common.{◌≡◌, ℕ, ℤ, List, Some, None, Ok, Err, Result, refl, sym, ap, ◌∙◌, subst}
+use Rattle.std.proofs.Common.{◌≡◌, ℕ, ℤ, List, [], Some, None, Ok, Err, Result, refl, sym, ap, ◌∙◌, subst}
 use Rattle.std.specs.Prelude.{IfOk, pos}
 use Rattle.cms_journal.specs.Told.{Told}
 use Rattle.cms_machine.specs.Acts.{Act, Done, saying, typed_line}
@@ -8,7 +8,7 @@ use Rattle.cms_machine.proofs.Join.{ran_none}
 use Rattle.cms_line.specs.ConsoleState.{ConsoleState}
 use Rattle.cms_line.specs.Messages.{message_text}
 use Rattle.cms_line.specs.declared.message.Message.{Message}
-use Rattle.cms_search.specs.Calls.{Acts, Does, IsLater, IsUsable, Meaning, Spot, Usable, Holds, at, course_of, holds, machine_of, refusal_tree, said}
+use Rattle.cms_search.specs.Calls.{Acts, Does, IsLater, IsUsable, Meaning, Spot, Usable, Holds, at, course_of, holds, machine_of, refusal_tree, said, spot_at}
 use Rattle.cms_line.specs.declared.token.Token.{Token}
 use Rattle.cms_operands.specs.Choices.{AnswersLine}
 use Rattle.cms_operands.specs.Refusals.{code_of, message_of}
@@ -31,8 +31,8 @@ use Rattle.cms_search.proofs.Released.{holds_left, usable_left}
 -- a point is the same where the world and the console are
 at_same : (old new : Spot) (units : List Slot) → new.world ≡ old.world → new.state.console ≡ old.state.console → at new units ≡ at old units
 at_same old new units world console =
-    ap (λ (w : Seen). record { journal = w.told; faults = w.faults; units = units; unread = new.state.console.unread; ended = new.state.console.ended }) world
-    ∙ ap (λ (c : ConsoleState). record { journal = old.world.told; faults = old.world.faults; units = units; unread = c.unread; ended = c.ended }) console
+    ap (λ (w : Seen). record { journal = w.told; faults = w.faults; units = units; unread = new.state.console.unread; ended = new.state.console.ended; objects = [] }) world
+    ∙ ap (λ (c : ConsoleState). record { journal = old.world.told; faults = old.world.faults; units = units; unread = c.unread; ended = c.ended; objects = [] }) console
 
 -- all of the tree is done, and only the state is another
 pub acts_stayed : {R T : Type 0} (old new : Spot) (t : List Slot → Act R) (x : T) (d : Meaning T R) → new.world ≡ old.world → new.state.console ≡ old.state.console
@@ -95,6 +95,6 @@ acts_line_fault old new words next read line.Memory r is done same =
     let t : List Slot → Act Course = λ units. on_line (machine_of old.state units) words (next (machine_of old.state units)) (read units) in
     let starved = done.0 in
     rw starved
-    (subst (λ (w : Seen). Acts {T = declared.Course} old (record { world = w; state = new.state }) t (Err Memory) (course_of new.state)) (sym done.1)
-    (subst (λ (s : State). Acts {T = declared.Course} old (record { world = old.world; state = s }) t (Err Memory) (course_of s)) (sym same)
+    (subst (λ (w : Seen). Acts {T = declared.Course} old (spot_at w new.state) t (Err Memory) (course_of new.state)) (sym done.1)
+    (subst (λ (s : State). Acts {T = declared.Course} old (spot_at old.world s) t (Err Memory) (course_of s)) (sym same)
     (acts_starved old t (course_of old.state))))

@@ -221,7 +221,7 @@ ran_refused old mid n s change why units a k told synced none =
     subst (λ (z : Act Changing). Ran (at old units) (at mid units) z (then_of old.state n s (change units) m units Good)) (sym (tree_is old.state n s (change units) units m a.there k.met.slot))
     (ran_still (at old units) (at mid units) (step_of old.state s (change units) m) Good (then_of old.state n s (change units) m units) told
     (counted_none old.world.faults mid.world.faults a.seat.does.changes.units.faults) synced tt k.met.slot refl none
-    (record { unread = ap (λ (c : ConsoleState). c.unread) console; ended = ap (λ (c : ConsoleState). c.ended) console }))
+    (record { unread = ap (λ (c : ConsoleState). c.unread) console; ended = ap (λ (c : ConsoleState). c.ended) console }) refl)
 
 -- the machine that a refused step leaves
 same_units : (st : State) (n : ℕ) (s : Seated) (change : Change) (m : Minidisk) (units : List Slot) → new_slot (step_of st s change m) Good ≡ None

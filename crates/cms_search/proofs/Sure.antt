@@ -218,15 +218,15 @@ covers_sync p j doubt u slot later told s among sound = record {
 pub sure_ran : {R : Type 0} (p q : Point) (j : Journal) (doubt : Bool) (u : ℕ) (slot : Slot) (o : Outcome) (k : Outcome → Act R) → p.journal ≡ Some j
     → q.journal ≡ plus p.journal (sync_of doubt u)
     → slice_get p.units u ≡ Some slot → q.units ≡ units_then p.units u slot o → IsMarked doubt slot → IsSure j (sync_of doubt u) u slot → IsSureOutcome o
-    → Counted p.faults (faults_in (o ∷ [])) q.faults → KeepsConsole p q → Ran p q (Does (Access u slot) k) (k o)
-sure_ran p q j doubt u slot o k told grown there units marked s is counted console =
+    → Counted p.faults (faults_in (o ∷ [])) q.faults → KeepsConsole p q → q.objects ≡ p.objects → Ran p q (Does (Access u slot) k) (k o)
+sure_ran p q j doubt u slot o k told grown there units marked s is counted console objects =
     let own = sync_own doubt u in
     let then' : slice_get q.units u ≡ Some (Settled (state_in slot)) = ap (λ (us : List Slot). slice_get us u) units ∙ there_then p.units u slot o there is in
     let set : unit_set q.units u ≡ state_in slot ∷ [] = rw then' refl in
     let state : unit_state q.units u ≡ Some (state_in slot) = rw then' refl in
     ran_step p q (Access u slot) o k (sync_of doubt u) grown counted own
     (record { disk = of_disk u (sync_of doubt u) own; synced = sure_syncs doubt u slot o marked is; stamped = stamped doubt; outcome = sure_may slot o is })
-    there units console
+    there units console objects
     (λ sound. covers_sync p j doubt u slot (unit_set q.units u) told s (rw set (inl refl)) sound)
     (λ sound x has. state ∙ ap (λ (y : State). Some y) (s.has x (has_in p.journal j (sync_of doubt u) u x told (subst (λ (t : Told). HasNow t u x) grown has))))
   where

@@ -9,6 +9,7 @@ use Rattle.cms_journal.proofs.Pieces.{idle_same, idle_then}
 use Rattle.cms_machine.specs.Acts.{Act, Done, bind, taking, turning}
 use Rattle.cms_machine.specs.Beats.{IsRead, OnlyRead}
 use Rattle.cms_machine.specs.Items.{Item, Text}
+use Rattle.cms_machine.specs.Objects.{Object}
 use Rattle.cms_machine.specs.Runs.{Ran}
 use Rattle.cms_machine.specs.Slots.{Slot}
 use Rattle.cms_machine.proofs.Join.{after, broke_in, ran_none}
@@ -37,14 +38,14 @@ use Rattle.cms_search.proofs.Says.{aside}
 
 -- a part of a call: its tree has come so far
 pub record Came {R : Type 0} (before now : Seen) (was is : ConsoleState) (t u : Act R) : Type 0 where
-  pub each : (n : ℕ) (units : List Slot) → Ran (standing before.told was n units) (standing now.told is n units) t u
+  pub each : (n : ℕ) (units : List Slot) (os : List Object) → Ran (standing before.told was n units os) (standing now.told is n units os) t u
   pub idle : Idle before.told now.told
   pub faults : now.faults ≡ before.faults
   pub edges : before.edges ≤ now.edges
 
 pub came_none : {R : Type 0} (before : Seen) (was : ConsoleState) (t : Act R) → Came before before was was t t
 came_none before was t = record {
-  each = λ n units. ran_none (standing before.told was n units) t;
+  each = λ n units os. ran_none (standing before.told was n units os) t;
   idle = idle_same before.told before.told refl;
   faults = refl;
   edges = omega arith;
@@ -54,7 +55,7 @@ came_none before was t = record {
 pub came_on : {A R T : Type 0} (before mid now : Seen) (was c is : ConsoleState) (t : Act R) (s : Act A) (f : A → Act R) (x : T) (d : T → A)
     → Came before mid was c t (bind s f) → Talks mid now c is s (Ok x) d → Came before now was is t (f (d x))
 came_on before mid now was c is t s f x d a b = record {
-  each = λ n units. after (standing before.told was n units) (standing mid.told c n units) (standing now.told is n units) t s f (d x) (a.each n units) (b.each n units);
+  each = λ n units os. after (standing before.told was n units os) (standing mid.told c n units os) (standing now.told is n units os) t s f (d x) (a.each n units os) (b.each n units os);
   idle = idle_then before.told mid.told now.told a.idle b.idle;
   faults = b.faults ∙ a.faults;
   edges = omega (arith, a.edges, b.edges);
@@ -64,7 +65,7 @@ came_on before mid now was c is t s f x d a b = record {
 pub came_off : {A R T U : Type 0} (before mid now : Seen) (was c is : ConsoleState) (t : Act R) (s : Act A) (f : A → Act R) (e : End) (d : T → A) (d' : U → R)
     → Came before mid was c t (bind s f) → Talks {T = T} mid now c is s (Err e) d → Talks before now was is t (Err e) d'
 came_off before mid now was c is t s f e d d' a b = record {
-  each = λ n units. broke_in (standing before.told was n units) (standing mid.told c n units) (standing now.told is n units) t s f (a.each n units) (b.each n units);
+  each = λ n units os. broke_in (standing before.told was n units os) (standing mid.told c n units os) (standing now.told is n units os) t s f (a.each n units os) (b.each n units os);
   idle = idle_then before.told mid.told now.told a.idle b.idle;
   faults = b.faults ∙ a.faults;
   edges = omega (arith, a.edges, b.edges);
@@ -73,12 +74,12 @@ came_off before mid now was c is t s f e d d' a b = record {
 
 -- the tree is done
 pub came_to : {R T : Type 0} (before now : Seen) (was is : ConsoleState) (t : Act R) (x : T) (d : T → R) → Came before now was is t (Done (d x)) → Talks before now was is t (Ok x) d
-came_to before now was is t x d a = record { each = λ n units. a.each n units; idle = a.idle; faults = a.faults; edges = a.edges; cause = tt }
+came_to before now was is t x d a = record { each = λ n units os. a.each n units os; idle = a.idle; faults = a.faults; edges = a.edges; cause = tt }
 
 -- a call that leaves the console alone
 pub of_does : {R T : Type 0} (before now : Seen) (c : ConsoleState) (t : Act R) (r : Result T End) (d : T → R) → Does before now t r d → Talks before now c c t r d
 of_does before now c t r d a = record {
-  each = λ n units. a.each (standing before.told c n units) refl;
+  each = λ n units os. a.each (standing before.told c n units os) refl;
   idle = a.idle;
   faults = a.faults;
   edges = a.edges;
@@ -93,8 +94,8 @@ read_no_disk es only = aside IsRead (λ u k v is. is) (λ u is. is) es only
 pub took : (before now : Seen) (was is : ConsoleState) (l : ConsoleLine) → Took before.told now.told was is l → now.faults ≡ before.faults → before.edges ≤ now.edges
     → Talks before now was is taking (Ok l) item_of
 took before now was is l t faults edges = record {
-  each = λ n units.
-      ran_take (standing before.told was n units) (standing now.told is n units) (item_of l) (λ i. Done i) t.events t.told t.only (omega arith) refl t.takes;
+  each = λ n units os.
+      ran_take (standing before.told was n units os) (standing now.told is n units os) (item_of l) (λ i. Done i) t.events t.told t.only (omega arith) refl t.takes refl;
   idle = record { events = t.events; told = t.told; none = read_no_disk t.events t.only };
   faults = faults;
   edges = edges;
@@ -104,8 +105,8 @@ took before now was is l t faults edges = record {
 pub stayed : (before now : Seen) (was is : ConsoleState) (e : End) → Stayed before.told now.told was is → now.faults ≡ before.faults → before.edges ≤ now.edges
     → (e ≡ Edge → Rose before.edges now.edges) → Talks {T = ConsoleLine} before now was is taking (Err e) item_of
 stayed before now was is e st faults edges cause = record {
-  each = λ n units.
-      broke_take (standing before.told was n units) (standing now.told is n units) (λ i. Done i) st.events st.told st.only st.keeps.lazy (omega arith) refl;
+  each = λ n units os.
+      broke_take (standing before.told was n units os) (standing now.told is n units os) (λ i. Done i) st.events st.told st.only st.keeps.lazy (omega arith) refl;
   idle = record { events = st.events; told = st.told; none = read_no_disk st.events st.only };
   faults = faults;
   edges = edges;
@@ -118,7 +119,7 @@ pub clock_told : (before now : Seen) (seconds : ℤ) → now.told ≡ adds (Now 
 clock_told before now seconds told faults edges = record {
   each = λ p journal.
       ran_turn p (after_world p now) seconds (λ m. Done m) (told ∙ ap (λ (t : Told). adds (Now seconds) t) (sym journal)) (omega arith) refl
-      (record { unread = refl; ended = refl });
+      (record { unread = refl; ended = refl }) refl;
   idle = record { events = Now seconds ∷ []; told = told; none = (tt, tt) };
   faults = faults;
   edges = edges;

@@ -8,6 +8,7 @@ use Rattle.cms_journal.specs.Told.{Told, Idle, Grown}
 use Rattle.cms_fields.specs.Moments.{first_moment}
 use Rattle.cms_machine.specs.Slots.{Slot}
 use Rattle.cms_machine.specs.Acts.{Act, Done, Out, typed_line}
+use Rattle.cms_machine.specs.Objects.{Object}
 use Rattle.cms_machine.specs.Points.{Point}
 use Rattle.cms_machine.specs.Runs.{Ran, Broke}
 use Rattle.cms_world.specs.declared.world.World.{Ghosts}
@@ -92,28 +93,44 @@ pub record IsLater (before now : Seen) : Type 0 where
   pub faults : before.faults ≤ now.faults
   pub edges : before.edges ≤ now.edges
 
--- where a session stands: what its world shows, and its state
-pub record Spot : Type 0 where
+-- where a session with these objects stands: what its world shows, and its state
+pub record SpotWith (objects : List Object) : Type 0 where
   pub world : Seen
   pub state : declared.State.State
 
+-- where one without objects stands, as every command does
+abbrev pub Spot : Type 0
+Spot = SpotWith []
+
+abbrev pub spot_at : Seen → declared.State.State → Spot
+spot_at world state = record { world = world; state = state }
+
 abbrev pub spot : {W : Type 0} → Ghosts W → W → declared.State.State → Spot
-spot shows w s = record { world = seen shows w; state = s }
+spot shows w s = spot_at (seen shows w) s
+
+-- the same with objects
+abbrev pub spot_with : {W : Type 0} → Ghosts W → W → declared.State.State → (objects : List Object) → SpotWith objects
+spot_with shows w s objects = record { world = seen shows w; state = s }
+
+-- a spot beside objects
+abbrev pub spot_beside : (objects : List Object) → Spot → SpotWith objects
+spot_beside objects s = record { world = s.world; state = s.state }
 
 -- and with the machine's units
-abbrev pub at : Spot → List Slot → Point
-at s units = record {
+abbrev pub at : {objects : List Object} → SpotWith objects → List Slot → Point
+at {objects} s units = record {
   journal = s.world.told;
   faults = s.world.faults;
   units = units;
   unread = s.state.console.unread;
   ended = s.state.console.ended;
+  objects = objects;
 }
 
-abbrev pub holds : Spot → List Slot → Type 0
+abbrev pub holds : {objects : List Object} → SpotWith objects → List Slot → Type 0
 holds s units = Holds s.world.told s.state.table units
 
-abbrev pub IsUsable : Spot → Type 0
+abbrev pub IsUsable : {objects : List Object} → SpotWith objects → Type 0
 IsUsable s = Usable s.world.told s.state.table
 
 -- ---- what a value of a call means
@@ -153,12 +170,13 @@ pub record Does {R T : Type 0} (before now : Seen) (t : Act R) (result : Result 
   pub edges : before.edges ≤ now.edges
   pub cause : IfErr result (λ e. e ≡ Edge → Rose before.edges now.edges)
 
-abbrev pub Ends : {R T : Type 0} → Point → Spot → Act R → Result T End → Meaning T R → Type 0
+abbrev pub Ends : {R T : Type 0} {objects : List Object} → Point → SpotWith objects → Act R → Result T End → Meaning T R → Type 0
 Ends p new t (Ok x) done = (units : List Slot) × (holds new units × Ran p (at new units) t (Done (done units x)))
 Ends p new t (Err e) done = (units : List Slot) × Broke p (at new units) t
 
--- what is said of every call on the session's state
-pub record Acts {R T : Type 0} (old new : Spot) (t : List Slot → Act R) (result : Result T End) (done : Meaning T R) : Type 0 where
+-- what is said of every call on the session's state; a command leaves the session without objects, as it found it
+pub record Acts {R T : Type 0} {before after : List Object} (old : SpotWith before) (new : SpotWith after) (t : List Slot → Act R)
+    (result : Result T End) (done : Meaning T R) : Type 0 where
   -- on whichever units the machine holds it did its tree, or was cut off in it
   pub each : (units : List Slot) → holds old units → Ends (at old units) new (t units) result done
   -- the journal has grown, and no count has fallen
@@ -169,7 +187,7 @@ pub record Acts {R T : Type 0} (old new : Spot) (t : List Slot → Act R) (resul
   pub cause : IfErr result (λ e. e ≡ Edge → Rose old.world.edges new.world.edges)
 
 -- a part of such a call: its tree has come so far
-pub record Comes {R : Type 0} (old mid : Spot) (t next : List Slot → Act R) : Type 0 where
+pub record Comes {R : Type 0} {before after : List Object} (old : SpotWith before) (mid : SpotWith after) (t next : List Slot → Act R) : Type 0 where
   pub each : (units : List Slot) → holds old units → (now : List Slot) × (holds mid now
       × Ran (at old units) (at mid now) (t units) (next now))
   pub later : IsLater old.world mid.world

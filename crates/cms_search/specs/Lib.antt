@@ -16,6 +16,7 @@ pub mod Formatting
 pub mod ChangeTold
 pub mod LineRefused
 pub mod Talks
+pub mod Turns
 pub mod Leaving
 pub mod Accessing
 pub mod Putting

@@ -5,6 +5,7 @@ use Rattle.cms_journal.specs.Told.{Told, Idle}
 use Rattle.cms_machine.specs.Slots.{Slot}
 use Rattle.cms_machine.specs.Items.{Item, Bad, Long, Rest}
 use Rattle.cms_machine.specs.Acts.{Act}
+use Rattle.cms_machine.specs.Objects.{Object}
 use Rattle.cms_machine.specs.Points.{Point}
 use Rattle.cms_line.specs.ConsoleState.{ConsoleState}
 use Rattle.cms_search.specs.Asking as asking
@@ -19,19 +20,21 @@ use Rattle.cms_search.specs.declared.state.State.{State}
 use Rattle.cms_search.specs.declared.state.End.{End}
 use Rattle.cms_search.specs.declared.state.End.TheVariants.{Edge}
 
--- where a run stands with this journal, this console, so many device faults and these units
-abbrev pub standing : Told → ConsoleState → ℕ → List Slot → Point
-standing told console faults units = record {
+-- where a run stands with this journal, this console, so many device faults, these units and these objects
+abbrev pub standing : Told → ConsoleState → ℕ → List Slot → List Object → Point
+standing told console faults units objects = record {
   journal = told;
   faults = faults;
   units = units;
   unread = console.unread;
   ended = console.ended;
+  objects = objects;
 }
 
 pub record Talks {R T : Type 0} (before now : Seen) (was is : ConsoleState) (t : Act R) (r : Result T End) (done : T → R) : Type 0 where
-  -- on whichever units, and whichever their count of faults, it did its tree, or was cut off in it
-  pub each : (faults : ℕ) (units : List Slot) → Plays (standing before.told was faults units) (standing now.told is faults units) t r done
+  -- on whichever units and beside whichever objects, and whichever the count of faults, it did its tree, or was cut off in it
+  pub each : (faults : ℕ) (units : List Slot) (objects : List Object)
+      → Plays (standing before.told was faults units objects) (standing now.told is faults units objects) t r done
   -- nothing happened to any unit
   pub idle : Idle before.told now.told
   pub faults : now.faults ≡ before.faults

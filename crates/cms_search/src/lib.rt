@@ -21,6 +21,7 @@ mod state;
 mod stepping;
 mod table;
 mod telling;
+mod turning;
 
 pub use accessing::AccessEnd;
 pub use asking::{Asked, ask, clock};
@@ -42,3 +43,4 @@ pub use telling::{
     add_left, add_right, device_text, device_word, first_column, hexadecimal_digit, letter_text,
     letter_word,
 };
+pub use turning::turn;

@@ -14,13 +14,15 @@ use Rattle.cms_machine.specs.Acts.{Act}
 use Rattle.cms_machine.specs.Acts as acts
 use Rattle.cms_machine.specs.Feeds.{Fed}
 use Rattle.cms_machine.specs.Points.{LeavesIn, Leaves, HasNowIn, HasNow, Point, Sound}
-use Rattle.cms_machine.specs.Beats.{pieces, outcomes}
+use Rattle.cms_machine.specs.Beats.{pieces, outcomes, backs}
+use Rattle.cms_machine.specs.Laws.{FollowsTree, ComesTo}
 use Rattle.cms_machine.specs.Runs.{Ran, Broke, events_of}
 use Rattle.cms_machine.proofs.Law.{at_of_within}
+use Rattle.cms_machine.proofs.Asking.{none_asked}
 use Rattle.cms_machine.proofs.Single.{broke_before}
 use Rattle.cms_machine.proofs.Whole.{follows_tree, comes_to, whole}
 use Rattle.cms_disk.specs.declared.unit.UnitInfo.{UnitInfo}
-use Rattle.cms_search.specs.Calls.{Spot, Holds, Acts, at, first_state, machine_of}
+use Rattle.cms_search.specs.Calls.{Spot, Holds, Acts, at, first_state, machine_of, spot_at}
 use Rattle.cms_search.specs.Machine.{Letter, Machine}
 use Rattle.cms_search.specs.Shows.{devices_of}
 use Rattle.cms_search.specs.Tables.{HaveDistinctDevices, Seated, new_table}
@@ -46,7 +48,7 @@ use Rattle.cms_session.proofs.Starts.{first_state_of, none_lettered, settled_at,
 -- nothing was done
 pub cut_before : (p : Point) (now : Seen) (t : Act Finish) → now.told ≡ p.journal → p.faults ≤ now.faults → WasCut p now t
 cut_before p now t told later =
-    let q : Point = record { journal = now.told; faults = now.faults; units = p.units; unread = p.unread; ended = p.ended } in
+    let q : Point = record { journal = now.told; faults = now.faults; units = p.units; unread = p.unread; ended = p.ended; objects = [] } in
     record { point = q; shown = record { told = refl; faults = refl }; broke = broke_before p q t told later refl }
 
 -- the state of a session at its start, where it stands then, and the machine that it is
@@ -69,7 +71,7 @@ point_first before words units = first_point before.told before.faults units (gi
 
 -- what a session did from there
 abbrev Did : Seen → Seen → declared.State → declared.State → Result Finish End → Type 0
-Did before now s new r = Acts (record { world = before; state = s }) (record { world = now; state = new }) (session_tree s) r finished
+Did before now s new r = Acts (spot_at before s) (spot_at now new) (session_tree s) r finished
 
 -- it was cut off
 was_cut : (before now : Seen) (words : Words) (infos : List UnitInfo) (s new : declared.State) (e : End) (units : List Slot) → s ≡ start_state words infos → Did before now s new (Err e)
@@ -77,7 +79,7 @@ was_cut : (before now : Seen) (words : Words) (infos : List UnitInfo) (s new : d
 was_cut before now words infos s new e units is did h =
     let there = subst (λ (x : declared.State). Did before now x new (Err e)) is did in
     let x = there.each units h in
-    let q = at (record { world = now; state = new }) x.0 in
+    let q = at (spot_at now new) x.0 in
     record {
       point = q;
       shown = record { told = refl; faults = refl };
@@ -99,7 +101,7 @@ pub runs_whole : (before now : Seen) (words : Words) (infos : List UnitInfo) (s 
 runs_whole before now words infos s new end is did units h =
     let there = subst (λ (x : declared.State). Did before now x new (Ok end)) is did in
     let x = there.each units h in
-    let q = at (record { world = now; state = new }) x.0 in
+    let q = at (spot_at now new) x.0 in
     ended_as (point_first before words units) before.edges now (tree_first words infos units) end (record {
       point = q;
       shown = record { told = refl; faults = refl };
@@ -150,12 +152,25 @@ not_given : (given : Option (List ℕ)) → (is_some given ≡ true → ⊥) →
 not_given None none = refl
 not_given (Some bytes) none = absurd (none refl)
 
+-- no object comes back, since there are none
+no_backs : (s : Start) (q : Point) (u : Act Finish) (r : Ran (start_point s) q (start_tree s) u) → backs r.beats ≡ []
+no_backs s q u r = (none_asked (start_point s) q r.beats r.chain refl).0
+
+follows_alone : (s : Start) (q : Point) (b : Broke (start_point s) q (start_tree s)) → FollowsTree (start_point s) q (start_tree s) b []
+follows_alone s q b =
+    subst (FollowsTree (start_point s) q (start_tree s) b) (no_backs s b.mid b.rest b.ran) (follows_tree (start_point s) q (start_tree s) b)
+
+comes_alone : (s : Start) (q : Point) (end : Finish) (r : Ran (start_point s) q (start_tree s) (acts.Done end))
+    → ComesTo (start_point s) q (start_tree s) end r []
+comes_alone s q end r =
+    subst (ComesTo (start_point s) q (start_tree s) end r) (no_backs s q (acts.Done end) r) (comes_to (start_point s) q (start_tree s) end r)
+
 headline_of : (s : Start) (before now : Seen) (status : Status) (q : Point) (b : Broke (start_point s) q (start_tree s)) → before.faults ≡ s.faults
     → IsAsSeen q now → EndsAs s (events_of b) (run_on s (events_of b) (outcomes b.ran.beats)) q.units before.edges now.edges status
     → Headline s before now status
 unfolding machine
 headline_of s before now status q b faults is ends =
-    let follows = follows_tree (start_point s) q (start_tree s) b in
+    let follows = follows_alone s q b in
     let many = faults_in (outcomes b.ran.beats) in
     record {
       events = events_of b;
@@ -179,13 +194,13 @@ headline_of s before now status q b faults is ends =
 begins_of : (s : Start) (q : Point) (b : Broke (start_point s) q (start_tree s))
     → Begins (events_of b) (run_on s (events_of b) (outcomes b.ran.beats))
 unfolding machine
-begins_of s q b = (follows_tree (start_point s) q (start_tree s) b).bytes
+begins_of s q b = (follows_alone s q b).bytes
 
 came_of : (s : Start) (q : Point) (end : Finish) (r : Ran (start_point s) q (start_tree s) (acts.Done end))
     → Came s (pieces r.beats) (run_on s (pieces r.beats) (outcomes r.beats)) q.units end
 unfolding machine
 came_of s q end r =
-    let comes = comes_to (start_point s) q (start_tree s) end r in
+    let comes = comes_alone s q end r in
     record { close = comes.close; bytes = comes.bytes; turns = comes.turns; sets = comes.sets; states = comes.states (sound_start s) }
 
 came_whole : (s : Start) (q : Point) (end : Finish) (r : Ran (start_point s) q (start_tree s) (acts.Done end))

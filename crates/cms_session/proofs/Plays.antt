@@ -12,7 +12,8 @@ use Rattle.cms_session.specs.declared.state.Round.TheVariants as end
 use Rattle.exec2_run.specs.declared.exec.Exec.{Exec}
 use Rattle.cms_session.specs.Machine.{round_by, rounds as rounds_from, run_lines, then_round, session}
 use Rattle.cms_session.specs.Procedures.{Round, statement}
-use Rattle.cms_session.specs.Calls.{access_tree, finished, machine_now, round_with, session_tree}
+use Rattle.cms_search.specs.Turns.{machine_now}
+use Rattle.cms_session.specs.Calls.{access_tree, finished, round_with, session_tree}
 use Rattle.cms_session.proofs.Rounds.{line_round_on}
 
 -- so many rounds at most, on the machine with these units and procedures

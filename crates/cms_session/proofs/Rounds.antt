@@ -1,70 +1,43 @@
 -- Lines that CMS takes, turns and the ready line.
-use Rattle.std.proofs.Common.{◌≡◌, ℕ, ℤ, ◌≤◌, suc, List, [], ◌∷◌, Option, Some, None, Result, Ok, Err, refl, ap, sym, ◌∙◌, subst}
+use Rattle.std.proofs.Common.{◌≡◌, ℕ, ℤ, ◌≤◌, suc, List, [], ◌∷◌, Option, Some, None, Result, Ok, Err, refl, ap, subst}
 use Rattle.std.specs.FinMap.{empty}
 use Rattle.std.specs.Prelude.{option_map, pos}
 use Rattle.cms_journal.specs.Causes.{Rose}
-use Rattle.cms_fields.specs.declared.time.Moment.{Moment}
-use Rattle.cms_fields.specs.Moments.{moment_of}
 use Rattle.cms_machine.specs.Slots.{Slot}
 use Rattle.cms_machine.specs.Items as items
 use Rattle.cms_machine.specs.Items.{Item}
-use Rattle.cms_machine.specs.Acts.{Act, Done, bind, saying, taking as taking_item, turning, typed_line}
-use Rattle.cms_line.specs.ConsoleState.{ConsoleState}
+use Rattle.cms_machine.specs.Acts.{Act, Done, bind, saying, taking as taking_item, typed_line}
 use Rattle.cms_line.specs.Consoles.{Took, Stayed, item_of}
 use Rattle.cms_line.specs.declared.console.ConsoleLine.{ConsoleLine}
 use Rattle.cms_line.specs.Messages.{message_text}
 use Rattle.cms_line.specs.declared.message.Message.{Message}
-use Rattle.cms_search.specs.Calls.{Spot, Meaning, Does, Acts, Comes, beside, itself, said, holds, machine_of, course_of, refusal_tree}
-use Rattle.cms_search.specs.Machine.{Machine, turned}
+use Rattle.cms_search.specs.Calls.{Spot, Meaning, Does, Acts, Comes, beside, itself, said, holds, machine_of, course_of, refusal_tree, spot_at}
+use Rattle.cms_search.specs.Machine.{Machine}
 use Rattle.cms_search.specs.Ready.{ready_line}
-use Rattle.cms_search.specs.Talks.{Talks}
 use Rattle.cms_search.specs.declared.state.Course as declared
 use Rattle.cms_search.specs.declared.state.Course.TheVariants as course
 use Rattle.cms_search.specs.declared.state.End.{End}
 use Rattle.cms_search.specs.declared.state.End.TheVariants.{Edge}
 use Rattle.cms_search.specs.declared.state.State.{State}
 use Rattle.cms_search.proofs.Acts.{acts_talks, comes_then, comes_in, comes_same, acts_done, acts_after, acts_same, acts_stop, refused}
-use Rattle.cms_search.proofs.Talking.{Came, came_none, came_on, came_off, came_to, of_does, took, stayed}
+use Rattle.cms_search.proofs.Talking.{Came, came_none, came_to, took, stayed}
+use Rattle.cms_search.proofs.Turns.{cut_talks, done_talks, talks_kept}
 use Rattle.cms_world.specs.Seen.{Seen}
 use Rattle.exec2_run.specs.declared.exec.Exec.{Exec}
 use Rattle.cms_session.specs.Machine.{line_round, on_turn, on_taken, run_item}
 use Rattle.cms_session.specs.Procedures.{Round, Ready, ended, readied}
-use Rattle.cms_session.specs.Calls.{machine_now, item_in, taking_tree, turning_tree, round_with}
+use Rattle.cms_search.specs.Turns.{machine_now, turning_tree}
+use Rattle.cms_session.specs.Calls.{item_in, taking_tree, round_with}
 use Rattle.cms_session.specs.declared.round.Taken.{Taken}
 use Rattle.cms_session.specs.declared.round.Taken.TheVariants as given
 use Rattle.cms_session.specs.declared.state.Round as rounds
 use Rattle.cms_session.specs.declared.state.Round.TheVariants as end
 use Rattle.cms_session.specs.declared.state.Finish.TheVariants as finish
 
--- ---- calls of the console and the clock
-
--- a call of them, and what follows it is done
-done_talks : {A R T U : Type 0} (old new : Spot) (s : Act A) (f : List Slot → A → Act R) (x : T) (d : T → A) (y : U) (m : Meaning U R) → new.state.table ≡ old.state.table
-    → Talks old.world new.world old.state.console new.state.console s (Ok x) d → ((units : List Slot) → f units (d x) ≡ Done (m units y))
-    → Acts old new (λ units. bind s (f units)) (Ok y) m
-done_talks {R = R} old new s f x d y m table talks is = acts_talks old new (λ units. bind s (f units)) (Ok y) m table
-    (λ units. came_to old.world new.world old.state.console new.state.console (bind s (f units)) y (m units)
-    (subst (λ (t : Act R). Came old.world new.world old.state.console new.state.console (bind s (f units)) t) (is units)
-    (came_on old.world old.world new.world old.state.console old.state.console new.state.console (bind s (f units)) s (f units) x d
-    (came_none old.world old.state.console (bind s (f units))) talks)))
-
--- or it was cut off
-cut_talks : {A R T U : Type 0} (old new : Spot) (s : Act A) (f : List Slot → A → Act R) (e : End) (d : T → A) (m : Meaning U R) → new.state.table ≡ old.state.table
-    → Talks {T = T} old.world new.world old.state.console new.state.console s (Err e) d → Acts {T = U} old new (λ units. bind s (f units)) (Err e) m
-cut_talks {T = T} {U = U} old new s f e d m table talks = acts_talks {T = U} old new (λ units. bind s (f units)) (Err e) m table
-    (λ units. came_off {T = T} {U = U} old.world old.world new.world old.state.console old.state.console new.state.console (bind s (f units)) s (f units) e d (m units)
-    (came_none old.world old.state.console (bind s (f units))) talks)
-
--- the same of one that leaves the console
-talks_kept : {A T : Type 0} (old new : Spot) (s : Act A) (r : Result T End) (d : T → A) → new.state.console ≡ old.state.console → Does old.world new.world s r d
-    → Talks old.world new.world old.state.console new.state.console s r d
-talks_kept {T = T} old new s r d console does =
-    subst (λ (c : ConsoleState). Talks {T = T} old.world new.world old.state.console c s r d) (sym console) (of_does old.world new.world old.state.console s r d does)
-
 -- ---- taking
 
 pub stacked_so : (w : Seen) (s : State) (line : List ℕ) (lines : List (List ℕ)) → s.stack ≡ line ∷ lines
-    → Acts (record { world = w; state = s }) (record { world = w; state = record s { stack = lines } }) (taking_tree s) (Ok (Some (given.Text line)))
+    → Acts (spot_at w s) (spot_at w (record s { stack = lines })) (taking_tree s) (Ok (Some (given.Text line)))
     (beside (record s { stack = lines }) (option_map item_in))
 stacked_so w s line lines is =
     let old : Spot = record { world = w; state = s } in
@@ -97,26 +70,6 @@ not_taken old new e none st faults edges kept cause =
     unstacked old new (Err e) (beside new.state (option_map item_in)) none
     (cut_talks {T = ConsoleLine} {U = Option Taken} old new taking_item (λ units i. Done (machine_of old.state units, i)) e item_of (beside new.state (option_map item_in))
     (ap (λ (s : State). s.table) kept) (stayed old.world new.world old.state.console new.state.console e st faults edges cause))
-
--- ---- a turn
-
--- a turn was spent at this moment
-pub turned_so : (old new : Spot) (seconds : ℤ) (moment : Moment) (left : ℕ) (x : Unit {0}) → Does old.world new.world turning (Ok seconds) itself
-    → moment ≡ moment_of seconds old.state.offset → new.state ≡ record old.state { moment = moment; left = left }
-    → Acts old new (turning_tree old.state left) (Ok x) (machine_now new.state)
-turned_so old new seconds moment left x does is kept =
-    done_talks old new turning (λ units m. Done (turned (machine_of old.state units) left m)) seconds itself x (machine_now new.state) (ap (λ (s : State). s.table) kept)
-    (talks_kept old new turning (Ok seconds) itself (ap (λ (s : State). s.console) kept) does)
-    (λ units.
-    let machine : machine_of new.state units ≡ turned (machine_of old.state units) left seconds =
-    ap (λ (s : State). machine_of s units) kept ∙ ap (λ (m : Moment). record (machine_of old.state units) { moment = m; left = left }) is in
-    rw machine refl)
-
-pub not_turned : (old new : Spot) (left : ℕ) (e : End) → Does {T = ℤ} old.world new.world turning (Err e) itself → new.state.console ≡ old.state.console → new.state.table ≡ old.state.table
-    → Acts {T = Unit {0}} old new (turning_tree old.state left) (Err e) (machine_now new.state)
-not_turned old new left e does console table =
-    cut_talks {T = ℤ} {U = Unit {0}} old new turning (λ units m. Done (turned (machine_of old.state units) left m)) e itself (machine_now new.state) table
-    (talks_kept {T = ℤ} old new turning (Err e) itself console does)
 
 -- ---- the ready line
 

@@ -33,7 +33,8 @@ use Rattle.cms_session.specs.Commands.{is_comment}
 use Rattle.cms_session.specs.Lines.{Issued, issued}
 use Rattle.cms_session.specs.Machine.{run_line}
 use Rattle.cms_session.specs.Procedures.{Round, Ends, Ready, answered, came_to, end_of, finding, following, given, giving, going_on, idle, meeting, met, over, readied, settled, stacking_for, statement, statement_with, stepped, unless_over}
-use Rattle.cms_session.specs.Calls.{issued_of, machine_now, round_with, take_up_tree, turning_tree}
+use Rattle.cms_search.specs.Turns.{machine_now, turning_tree}
+use Rattle.cms_session.specs.Calls.{issued_of, round_with, take_up_tree}
 use Rattle.cms_session.specs.declared.issuing.Issued as declared_issued
 use Rattle.cms_session.specs.declared.state.Round as rounds
 use Rattle.cms_session.specs.declared.state.Round.TheVariants as end

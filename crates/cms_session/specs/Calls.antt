@@ -2,13 +2,13 @@
 use Rattle.std.specs.Prelude.{ℕ, ℤ, List, ◌∷◌, length, Option, Some, None}
 use Rattle.cms_line.specs.Tokens.{tokens_of}
 use Rattle.cms_machine.specs.Slots.{Slot}
-use Rattle.cms_machine.specs.Acts.{Act, Turn, Done, bind}
+use Rattle.cms_machine.specs.Acts.{Act, bind}
 use Rattle.cms_machine.specs.Items as items
 use Rattle.cms_machine.specs.Items.{Item}
 use Rattle.cms_line.specs.declared.message.Message.{Message}
 use Rattle.cms_line.specs.declared.token.Token.{Token}
 use Rattle.cms_search.specs.Calls.{Meaning, course_of, machine_of}
-use Rattle.cms_search.specs.Machine.{Machine, Course, refusal, turned, typing}
+use Rattle.cms_search.specs.Machine.{Machine, Course, refusal, typing}
 use Rattle.cms_search.specs.Asking.{ask}
 use Rattle.cms_search.specs.declared.state.State.{State}
 use Rattle.cms_exec.specs.declared.started.Started.{Started}
@@ -123,15 +123,7 @@ item_in given.Rest = items.Rest
 abbrev pub taking_tree : State → List Slot → Act (Machine × Option Item)
 taking_tree s units = taking (machine_of s units)
 
--- a turn is spent, which leaves so many
-abbrev pub turning_tree : State → ℕ → List Slot → Act Machine
-turning_tree s left units = Turn (λ seconds. Done (turned (machine_of s units) left seconds))
-
 -- ---- what their values mean
-
--- the machine with this state
-abbrev pub machine_now : {T : Type 0} → State → Meaning T Machine
-machine_now s units x = machine_of s units
 
 -- what a call of a procedure comes to, as what its line comes to
 abbrev pub issued_started : Started → declared.Issued

@@ -65,6 +65,7 @@ first_point told faults units given = record {
   units = units;
   unread = (first_console given).unread;
   ended = (first_console given).ended;
+  objects = [];
 }
 
 -- the machine with no turn spent, no disk accessed, no line stacked and no place kept

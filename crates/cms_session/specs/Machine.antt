@@ -101,6 +101,6 @@ access_first s = bind (accessing s 0x191 0 None) (λ x. Done x.0)
 abbrev pub started : Machine → Act Finish
 started s = bind (access_first s) run_lines
 
--- the machine from a start, on what was told of the script and of the clock, with these outcomes
+-- the machine from a start, on what was told of the script and of the clock, with these outcomes, and without objects
 unfoldable pub machine : Machine → List ℕ → Bool → List ℤ → List Outcome → Fed Finish
-machine s script ended seconds outcomes = feed (started s) (items (record { within = 0; bytes = script }) ended) ended seconds outcomes
+machine s script ended seconds outcomes = feed (started s) (items (record { within = 0; bytes = script }) ended) ended seconds outcomes []

@@ -11,7 +11,6 @@ mod state;
 mod statement;
 mod status;
 mod top;
-mod turning;
 
 pub use cms_words::WordFault;
 pub use laws::laws_of_sessions;

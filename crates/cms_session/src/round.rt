@@ -12,9 +12,8 @@ use crate::command::is_comment;
 use crate::issuing::{Issued, take_up};
 use crate::state::{Finish, Round, Session};
 use crate::statement::{answer, statement};
-use crate::turning::turn;
 use cms_line::{ConsoleLine, Line, LineFault, Message};
-use cms_search::{End, State, refuse};
+use cms_search::{End, State, refuse, turn};
 use cms_world::World;
 use std::alloc::Global;
 

@@ -1,7 +1,8 @@
 // The session: device 191 is accessed, and rounds follow until it ends.
 ghost use Rattle.std.specs.Prelude.{◌≡◌, []};
 ghost use Rattle.cms_search.specs.Calls.{spot, Acts, IsUsable};
-ghost use Rattle.cms_session.specs.Calls.{access_tree, finished, machine_now, procedures_of, rounds_tree, session_tree};
+ghost use Rattle.cms_search.specs.Turns.{machine_now};
+ghost use Rattle.cms_session.specs.Calls.{access_tree, finished, procedures_of, rounds_tree, session_tree};
 ghost use Rattle.cms_fields.specs.Offsets.{IsOffset};
 
 use crate::round::round;

@@ -17,10 +17,9 @@ ghost use Rattle.cms_session.specs.declared.state.Round.TheVariants.{Ready};
 
 use crate::issuing::{Issued, issue};
 use crate::state::{Finish, Round, Session};
-use crate::turning::turn;
 use cms_files::{StackEnd, has_room, stack_lines};
 use cms_line::{Line, Lines, Message, Word};
-use cms_search::{Asked, Course, End, State, say, say_message, say_ready};
+use cms_search::{Asked, Course, End, State, say, say_message, say_ready, turn};
 use cms_text::decimal;
 use cms_world::World;
 use exec2_run::{Exec, Side, Want};

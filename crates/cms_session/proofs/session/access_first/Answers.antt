@@ -4,7 +4,8 @@ use Rattle.cms_machine.specs.Acts.{Done}
 use Rattle.cms_search.specs.Accessing.{accessing_tree}
 use Rattle.cms_search.specs.Calls.{beside, itself}
 use Rattle.cms_search.proofs.Acts.{acts_done, acts_stop, comes_in}
-use Rattle.cms_session.specs.Calls.{access_tree, machine_now}
+use Rattle.cms_search.specs.Turns.{machine_now}
+use Rattle.cms_session.specs.Calls.{access_tree}
 use Rattle.cms_session.proofs.session.access_first.Goals as goal
 
 pub returns-in_err-access-clause-acts : goal.returns-in_err-access-clause-acts

@@ -1,6 +1,7 @@
 use Rattle.std.proofs.lemmas.Result.{err_from_is_err_and}
 use Rattle.cms_search.proofs.Acts.{acts_stop}
-use Rattle.cms_session.specs.Calls.{access_tree, finished, machine_now}
+use Rattle.cms_search.specs.Turns.{machine_now}
+use Rattle.cms_session.specs.Calls.{access_tree, finished}
 use Rattle.cms_session.specs.Machine.{run_lines}
 use Rattle.cms_session.proofs.Plays.{played}
 use Rattle.cms_session.proofs.session.play.Goals as goal

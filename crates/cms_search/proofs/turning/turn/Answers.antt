@@ -1,8 +1,8 @@
 use Rattle.std.proofs.Common.{rules, refl, w32, w64, FitsSigned}
 use Rattle.std.proofs.lemmas.Int.{to_z-of_z}
 use Rattle.std.proofs.lemmas.Result.{err_from_is_err_and}
-use Rattle.cms_session.proofs.Rounds.{turned_so, not_turned}
-use Rattle.cms_session.proofs.turning.turn.Goals as goal
+use Rattle.cms_search.proofs.Turns.{turned_so, not_turned}
+use Rattle.cms_search.proofs.turning.turn.Goals as goal
 
 pub returns-in_err-clock-clause-acts : goal.returns-in_err-clock-clause-acts
 returns-in_err-clock-clause-acts g c =

@@ -4,10 +4,11 @@ ghost use Rattle.cms_fields.specs.Moments.{is_moment};
 ghost use Rattle.cms_fields.specs.Offsets.{IsOffset};
 ghost use Rattle.cms_search.specs.Calls.{spot, Acts};
 ghost use Rattle.cms_world.specs.Seen.{seen};
-ghost use Rattle.cms_session.specs.Calls.{machine_now, turning_tree};
+ghost use Rattle.cms_search.specs.Turns.{machine_now, turning_tree};
 
+use crate::asking::clock;
+use crate::state::{End, State};
 use cms_fields::Moment;
-use cms_search::{End, State, clock};
 use cms_world::World;
 
 /// Spends a turn, and asks the clock once for its moment.
