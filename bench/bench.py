@@ -11,7 +11,7 @@ copy       a file of F 80 records of 64 MiB, and one of 1 MiB, by COPYFILE, besi
 execio     2,000 lines of one record each, `EXECIO 1 DISKW`, beside as many transactions of one row in SQLite with synchronous=FULL
 procedure  procedures of 1,000,000 turns, two of them beside the same loop in REXX, where Regina's `rexx` is installed
 
-The program is built first by `./cms --version`, where it isn't built. All files are made in a folder of their own in the folder in which
+The program is built first by `./cms --build`, where it isn't built. All files are made in a folder of their own in the folder in which
 this is started, so its file system is the one that is measured. Memory is told by /usr/bin/time.
 """
 
@@ -196,7 +196,7 @@ def main():
     if unknown:
         sys.exit(f"bench: no {unknown[0]}; there are {', '.join(BENCHES)}, and all")
     if not PROGRAM.exists():
-        subprocess.run([HOME / "cms", "--version"], check=True)
+        subprocess.run([HOME / "cms", "--build"], check=True)
     with tempfile.TemporaryDirectory(dir=".") as folder:
         os.chdir(folder)
         for name in names:

@@ -243,7 +243,7 @@ def main():
     count = int(sys.argv[1]) if len(sys.argv) > 1 else 10_000
     seed = int(sys.argv[2]) if len(sys.argv) > 2 else 1
     if not PROGRAM.exists():
-        sys.exit("hostile: build the program first, by ./cms --version")
+        sys.exit("hostile: build the program first, by ./cms --build")
     memory = "/dev/shm" if os.access("/dev/shm", os.W_OK) else None
     with tempfile.TemporaryDirectory(dir=memory) as folder:
         os.chdir(folder)

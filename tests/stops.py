@@ -160,7 +160,7 @@ class Trial:
 
 def run(make):
     """Builds the program, and runs a trial that is made in a new folder."""
-    subprocess.run([ROOT / "cms", "--version"], stdout=subprocess.DEVNULL, check=True)
+    subprocess.run([ROOT / "cms", "--build"], stdout=subprocess.DEVNULL, check=True)
     with tempfile.TemporaryDirectory() as folder:
         trial = make(pathlib.Path(folder))
         stops = trial.killed("pwrite64") + trial.killed("fdatasync")
