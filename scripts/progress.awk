@@ -11,14 +11,19 @@ function weight(name) {
     return name in weights ? weights[name] : 60
 }
 
-# A crate that has begun counts as half done.
-function remaining(    name, left, speed) {
+# What a crate that isn't done has had of its weight, by the time since it began: never all of it.
+function had(name,    so_far) {
+    so_far = name in begun ? 0.6 * ($1 - begun[name]) : 0
+    return so_far < 0.9 * weight(name) ? so_far : 0.9 * weight(name)
+}
+
+function remaining(    name, left) {
     for (name in needed)
-        if (!(name in done)) left += name in begun ? weight(name) / 2 : weight(name)
-    for (name in begun)
-        if (!(name in done)) work += weight(name) / 2
-    speed = (0.6 * processors * 120 + work) / (120 + $1 - start)
-    return left / speed
+        if (!(name in done)) {
+            left += weight(name) - had(name)
+            work += had(name)
+        }
+    return left / ((0.6 * processors * 120 + work) / (120 + $1 - start))
 }
 
 BEGIN {
@@ -28,13 +33,16 @@ BEGIN {
         if (line !~ /^#/ && split(line, part, " ") == 2) weights[part[1]] = part[2]
 }
 $2 == "started" { start = $1 }
-$2 == "begun" { begun[$3] = 1; begins++ }
+$2 == "kept" { is_new = !($3 in begun) }
+$2 == "begun" || $2 == "kept" && is_new { begun[$3] = $1; begins++ }
 $2 == "proved" || $2 == "kept" { done[$3] = 1; ends++ }
 $2 == "proved" { work += weight($3) }
 END {
     told = span($1 - start) " so far" (ends < count ? ", about " span(remaining()) " more" : "")
-    if ($2 == "begun") printf "cms: %d of %d: %s begins; %s\n", begins, count, $3, told
+    place = "cms: " begins " of " count ": " $3
+    if ($2 == "begun") print place " begins; " told
+    if ($2 == "kept" && is_new) print place " was proved before; " told
+    if ($2 == "kept" && !is_new) printf "cms: %s was proved before, %d of %d are done; %s\n", $3, ends, count, told
     if ($2 == "proved") printf "cms: %s is proved, %d of %d are done; %s\n", $3, ends, count, told
-    if ($2 == "kept") printf "cms: %s was proved before, %d of %d are done; %s\n", $3, ends, count, told
     if ($2 == "said") { sub(/^[0-9]+ said /, ""); print "cms: " $0 }
 }

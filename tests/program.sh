@@ -143,7 +143,7 @@ printf 'TYPE HELLO TEXT A\n' >script
 expect 'built at a word that writes' 0 error 'cms: the program is built' 191,512,rw,disk.img
 same 'what the built program types' "$(printf 'HELLO\nWORLD\nR;')"
 holds 'the places go up' \
-    awk '$3 == "of" && $6 == "begins;" { if ($2 != ++place) bad = 1; all = $4 + 0 } END { exit bad || !place || place != all }' error
+    awk '$3 == "of" && $4 ~ /:$/ { if ($2 != ++place) bad = 1; all = $4 + 0 } END { exit bad || !place || place != all }' error
 expect 'and runs from then on' 0 output 'HELLO' 191,512,ro,disk.img
 holds 'with no word of the building' test ! -s error
 
