@@ -21,7 +21,7 @@ pub struct Fed {
     pub whole: bool,
 }
 
-/// A record that is read from pieces of a file's bytes. It holds no more than that record, with its length.
+/// A record that is read from pieces of a file's bytes. It has room for the longest record and two bytes more, for its length.
 #[derive(Drop)]
 pub struct RecordState {
     fixed: Option<u32>,
@@ -44,8 +44,8 @@ impl Model for RecordState {
 }
 
 impl RecordState {
-    /// Before the first byte of records of at most `longest` bytes, 65,535 at most: all of `fixed` bytes, or each behind its own
-    /// length.
+    /// Before the first byte of records of at most `longest` bytes: all of `fixed` bytes, or each behind its own length. `longest` is
+    /// at most 65,535, the greatest length that two bytes tell, which no file's record passes.
     pub fn new(alloc: Global, fixed: Option<u32>, longest: u32) -> Result<RecordState, AllocError>
         requires fixed { IfSome fixed (λ n. (1 ≤ n) × (n ≤ longest)) }
         requires longest { longest ≤ longest_record }
