@@ -102,21 +102,22 @@ fn stays(code: u8) -> bool {
     fold_upper(code) == code && fold_lower(code) == code
 }
 
-fn is_so(case: &str) -> bool {
-    let (what, last) = case.rsplit_once(' ').unwrap_or((case, ""));
-    let last = byte(last);
-    match what {
+fn is_so(case: &str) -> Option<bool> {
+    let (what, last) = case.rsplit_once(' ')?;
+    let last = byte(last)?;
+    let is_so = match what {
         "outside" => from_host(last).is_none(),
         "unused" => to_host(last) == b'.',
         "no letter" => stays(last),
         _ => match what.strip_prefix("capital of ") {
-            Some(small) => folds(byte(small), last),
+            Some(small) => folds(byte(small)?, last),
             None => has_code(what, last),
         },
-    }
+    };
+    Some(is_so)
 }
 
 /// Whether a case is so.
 pub fn answer(alloc: Global, case: &str) -> Result<String, AllocError> {
-    told(alloc, &is_so(case))
+    told(alloc, &is_so(case).ok_or(AllocError)?)
 }

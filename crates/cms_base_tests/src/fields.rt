@@ -162,8 +162,8 @@ fn edited(alloc: Global, text: &str, case: &str) -> Result<Vec<u8>, AllocError> 
 }
 
 fn moment(alloc: Global, case: &str) -> Result<String, AllocError> {
-    let seconds = word(case, 1).parse().unwrap_or(0);
-    let offset: i32 = word(case, 2).parse().unwrap_or(0);
+    let seconds = word(case, 1).parse().ok().ok_or(AllocError)?;
+    let offset: i32 = word(case, 2).parse().ok().ok_or(AllocError)?;
     let Moment {
         year,
         month,

@@ -75,16 +75,17 @@ fn touched(alloc: Global, block: u32) -> Result<String, AllocError> {
 }
 
 // The three bytes that six hexadecimal digits say.
-fn three(digits: &str) -> [u8; 3] {
-    let [_, first, second, third] = u32::from_str_radix(digits, 16).unwrap_or(0).to_be_bytes();
-    [first, second, third]
+fn three(digits: &str) -> Result<[u8; 3], AllocError> {
+    let number = u32::from_str_radix(digits, 16).ok().ok_or(AllocError)?;
+    let [_, first, second, third] = number.to_be_bytes();
+    Ok([first, second, third])
 }
 
 fn given(alloc: Global, case: &str) -> Result<String, AllocError> {
-    let map = Map::of_bytes(alloc, &three(word(case, 1)), number(word(case, 2)).min(24))?;
+    let map = Map::of_bytes(alloc, &three(word(case, 1))?, number(word(case, 2)).min(24))?;
     let mut into = [7; 3];
     map.clone()?.put_bytes(number(word(case, 3)), &mut into);
-    told(alloc, &(into == three(word(case, 4))))
+    told(alloc, &(into == three(word(case, 4))?))
 }
 
 /// What a case comes to.

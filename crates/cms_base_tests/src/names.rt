@@ -153,7 +153,7 @@ fn answer_to(alloc: Global, what: &str, first: &[u8], second: &[u8]) -> Result<S
 /// What a case comes to.
 pub fn answer(alloc: Global, case: &str) -> Result<String, AllocError> {
     if let Some(code) = case.strip_prefix("character/") {
-        return told(alloc, &is_name_character(byte(code)));
+        return told(alloc, &is_name_character(byte(code).ok_or(AllocError)?));
     }
     let first = ebcdic(alloc, word(case, 1))?;
     let second = ebcdic(alloc, word(case, 2))?;

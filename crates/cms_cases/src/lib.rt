@@ -7,5 +7,5 @@ mod saying;
 mod telling;
 
 pub use rows::{Subject, try_rows};
-pub use saying::{byte, bytes_of, number, word};
+pub use saying::{byte, bytes_of, number, word, written_out};
 pub use telling::{ascii, push_ascii, told};

@@ -6,21 +6,47 @@ pub fn word(case: &str, place: usize) -> &str {
     case.split('/').nth(place).unwrap_or("")
 }
 
-/// The number that a text is, or 0.
+/// The number that a text is, 0 where it is left out. Any other text is the greatest number, with which no case comes to its answer.
 pub fn number(text: &str) -> u32 {
-    text.parse().unwrap_or(0)
+    match text {
+        "" => 0,
+        _ => text.parse().unwrap_or(u32::MAX),
+    }
 }
 
-/// The byte that two hexadecimal digits say, or 0.
-pub fn byte(digits: &str) -> u8 {
-    u8::from_str_radix(digits, 16).unwrap_or(0)
+/// The byte that two hexadecimal digits say, if they are such.
+pub fn byte(digits: &str) -> Option<u8> {
+    u8::from_str_radix(digits, 16).ok()
 }
 
-/// The bytes that a text says, each by two hexadecimal digits and a blank behind it, if any.
+/// The bytes that a text says, each by two hexadecimal digits and a blank behind it, if any; nothing where it says something else.
 pub fn bytes_of(alloc: Global, text: &str) -> Result<Vec<u8>, AllocError> {
     let mut bytes = Vec::new(alloc);
     for digits in text.split_ascii_whitespace() {
-        bytes.push(byte(digits))?;
+        bytes.push(byte(digits).ok_or(AllocError)?)?;
     }
     Ok(bytes)
+}
+
+// What stands in braces in front of the rest: a piece, and behind a star how often.
+fn repeated(part: &str) -> Option<(&str, usize, &str)> {
+    let (inner, rest) = part.split_once("}")?;
+    let (piece, count) = inner.rsplit_once("*")?;
+    Some((piece, count.parse().ok()?, rest))
+}
+
+/// A text in which a piece in braces, with a star and a number behind it, stands that many times. Other braces stand as they are.
+pub fn written_out(alloc: Global, text: &str) -> Result<String, AllocError> {
+    let mut parts = text.split("{");
+    let mut whole = String::from_str(alloc, parts.next().unwrap_or(""))?;
+    for part in parts {
+        if let Some((piece, count, rest)) = repeated(part) {
+            whole.push_str(&piece.repeat(alloc, count)?)?;
+            whole.push_str(rest)?;
+        } else {
+            whole.push_str("{")?;
+            whole.push_str(part)?;
+        }
+    }
+    Ok(whole)
 }

@@ -54,7 +54,9 @@ fn put_text(image: &mut [u8], change: &str) {
     let block = number(words.next().unwrap_or(""));
     let mut at = number(words.next().unwrap_or(""));
     for digits in words {
-        put(image, block as usize, at as usize, &[byte(digits)]);
+        if let Some(byte) = byte(digits) {
+            put(image, block as usize, at as usize, &[byte]);
+        }
         at = at.saturating_add(1);
     }
 }

@@ -1,6 +1,7 @@
 // Transcripts, and whether sessions are as these say.
 use crate::session::ended;
 use crate::volumes::{WORDS, image, world_named};
+use cms_cases::written_out;
 use cms_images::image_left;
 use cms_world::MemWorld;
 use std::alloc::{AllocError, Global};
@@ -141,18 +142,6 @@ fn session_unlike(alloc: Global, head: &str, text: &str) -> Result<String, Alloc
         return Ok(differing);
     }
     left_otherwise(alloc, &world, line_behind(text, LEFT))
-}
-
-// A text in which what stands in braces, a piece, a star and a number, stands that many times.
-fn written_out(alloc: Global, text: &str) -> Result<String, AllocError> {
-    let mut whole = String::new(alloc);
-    for part in text.split("{") {
-        let (more, rest) = part.split_once("}").unwrap_or(("", part));
-        let (piece, count) = more.rsplit_once("*").unwrap_or(("", ""));
-        whole.push_str(&piece.repeat(alloc, count.parse().unwrap_or(0))?)?;
-        whole.push_str(rest)?;
-    }
-    Ok(whole)
 }
 
 // What the first session does that isn't as its transcript says; nothing where all are so.

@@ -28,5 +28,5 @@ impl Subject for Cases {
 
 #[test]
 fn cases_have_their_answers(rt: HostRuntime) -> Result<(), Fail> {
-    try_rows(rt.alloc(), ROWS)
+    try_rows(&rt, ROWS)
 }
