@@ -6,12 +6,14 @@ use std::alloc::{AllocError, Global};
 
 /// Messages by their numbers and words, and their texts.
 pub const ROWS: &str = "001 XYZ => CMS001E Unknown command XYZ
+001 {X*255} => CMS001E Unknown command {X*255}
 002 PROFILE EXEC A => CMS002E File PROFILE EXEC A not found
 003 FOO => CMS003E Option FOO is not valid
 010 => CMS010E Line has an invalid character
 011 => CMS011E Line is longer than 255 bytes
 024 A FILE A1 => CMS024E File A FILE A1 already exists
 029 X RECFM => CMS029E Parameter X of option RECFM is not valid
+029 {X*254} {Y*255} => CMS029E Parameter {X*254} of option {Y*255} is not valid
 037 B => CMS037E Disk B is read-only
 048 9 => CMS048E Mode 9 is not valid
 054 => CMS054E Operand is missing
@@ -25,6 +27,7 @@ pub const ROWS: &str = "001 XYZ => CMS001E Unknown command XYZ
 107 A 20 7 => CMS107E Disk A is full, 20 blocks needed, 7 free
 112 192 4 => CMS112E Device 192 holds no volume, reason 4
 113 1FF => CMS113E Device 1FF does not exist
+113 FFF => CMS113E Device FFF does not exist
 114 195 => CMS114E Device 195 is too small
 115 191 => CMS115E Device 191 is in doubt
 120 2 => CMS120E Limit 2 reached

@@ -10,7 +10,13 @@ pub const WORDS: &str = " => .
     => .
 LISTFILE * * A (DATE => LISTFILE 0-8;* 9-10;* 11-12;A 13-14;( 15-16;DATE 16-20;.
   type a(b)c ) => TYPE 2-6;A 7-8;( 8-9;B 9-10;) 10-11;C 11-12;) 13-14;.
-() => ( 0-1;) 1-2;.";
+() => ( 0-1;) 1-2;.
+{A*253} => {A*253} 0-253;.
+{A*254} => {A*254} 0-254;.
+{A*255} => {A*255} 0-255;.
+{A*127} {B*127} => {A*127} 0-127;{B*127} 128-255;.
+A{ *253}B => A 0-1;B 254-255;.
+A{ *251}( B => A 0-1;( 252-253;B 254-255;.";
 
 /// Options up to the first refusal: the place of each one's rule and that of the word behind its own, and the fault.
 pub const ACCEPTED: &str = "\
@@ -39,7 +45,8 @@ pub const ANSWERED: &str = "\
 L (DATE D => Ok(Series { items: [Choice { nth: 0, next: 3 }, Choice { nth: 0, next: 4 }] })
 L (DATE) X => Err(After(4))
 L (DATE FROM 1) => Err(Missing(5))
-L (DISK BLUE LABEL => Err(Unknown(3))";
+L (DISK BLUE LABEL => Err(Unknown(3))
+L ({DATE *25}BLUE => Err(Unknown(27))";
 
 fn words_of(alloc: Global, line: &str) -> Result<Tokens, AllocError> {
     tokens(alloc, &short(alloc, line)?)

@@ -28,6 +28,60 @@ R;
 > TYPE X Y A
 CMS002E File X Y A not found
 R(00028);
+# one file: 800,512,rw,A FFF,512,n9,N 8A0,1024,rw,C
+> ACCESS 8FF B
+CMS113E Device 8FF does not exist
+R(00036);
+> ACCESS FFF B
+CMS112E Device FFF holds no volume, reason 2
+R(00036);
+> RELEASE FFF
+CMS069E Disk FFF is not accessed
+R(00036);
+> FORMAT 8A0 B
+CMS114E Device 8A0 is too small
+R(00036);
+> FORMAT FFF B
+CMS603R FORMAT will erase all files on disk B (FFF). Go on? Enter YES or NO
+> YES
+CMS605R Enter disk label
+> HIGH
+CMS733I 9 blocks formatted on B (FFF)
+R;
+> ACCESS 800 A
+R;
+> ACCESS FFF B/B
+CMS723I B (FFF) R/O
+R;
+> QUERY DISK
+LABEL  VDV M STA BLKSZ  FILES     USED     FREE    TOTAL
+TEST01 800 A R/W   512      1        7        2        9
+HIGH   FFF B R/O   512      0        6        3        9
+R;
+> QUERY SEARCH
+TEST01 800 A   R/W
+HIGH   FFF B   R/O
+R;
+# one file: 9F1,512,rw,A
+^ 4
+> ACCESS 9F1 A
+CMS105E Device fault on 9F1
+R(00100);
+# one file: BFF,512,rw,A
+^ 14
+> ACCESS BFF A
+R;
+> ERASE A FILE A
+CMS105E Device fault on BFF
+R(00100);
+> FORMAT BFF A
+CMS115E Device BFF is in doubt
+R(00036);
+> ACCESS BFF A
+R;
+> LISTFILE
+CMS002E File * * A not found
+R(00028);
 # one file: 191,512,rw,A
 > ACCESS 199 C
 CMS113E Device 199 does not exist

@@ -254,6 +254,114 @@ F2       D        B1
 R;
 ";
 
+// Records and files that are longer, and disks behind the third.
+const LARGE: &str = "# new: 191,512,n400,A 192,512,n400,B 193,1024,n200,C
+> FORMAT 191 A
+CMS603R FORMAT will erase all files on disk A (191). Go on? Enter YES or NO
+> YES
+CMS605R Enter disk label
+> WORK
+CMS733I 400 blocks formatted on A (191)
+R;
+> FORMAT 192 D
+CMS603R FORMAT will erase all files on disk D (192). Go on? Enter YES or NO
+> YES
+CMS605R Enter disk label
+> FOURTH
+CMS733I 400 blocks formatted on D (192)
+R;
+> FORMAT 193 Z
+CMS603R FORMAT will erase all files on disk Z (193). Go on? Enter YES or NO
+> YES
+CMS605R Enter disk label
+> LAST
+CMS733I 200 blocks formatted on Z (193)
+R;
+> EXECIO 1 DISKW S FILE A (STRING ABC
+R;
+> COPYFILE S FILE A T FILE D (RECFM F LRECL 600 FILL X
+R;
+> TYPE T FILE D
+ABC{X*597}
+R;
+> LISTFILE T FILE D (ALLOC NOHEADER
+T        FILE     D1 F   600        1        2
+R;
+> COPYFILE T FILE D = = Z (RECFM V LRECL 513 LOWCASE TYPE
+T FILE D1 TO T FILE Z1
+R;
+> TYPE T FILE Z
+abc{x*510}
+R;
+> LISTFILE T FILE Z (FORMAT NOHEADER
+T        FILE     Z1 V   513
+R;
+> COPYFILE T FILE Z S FILE A (APPEND UPCASE
+R;
+> TYPE S FILE A (COL 1-3
+ABC
+ABC
+R;
+> TYPE S FILE A 2 (COL 510-600
+XXXX
+R;
+> COPYFILE T FILE D (RECFM V TRUNC FILL X
+R;
+> LISTFILE T FILE D (FORMAT NOHEADER
+T        FILE     D1 V     3
+R;
+> COPYFILE T FILE D L FILE D (RECFM F LRECL 65535 FILL *
+R;
+> LISTFILE L FILE D (ALLOC NOHEADER
+L        FILE     D1 F 65535        1      128
+R;
+> TYPE L FILE D (HEX
+C1C2C3{5C*65532}
+R;
+> COPYFILE L FILE D = = Z (RECFM V
+R;
+> LISTFILE L FILE Z (ALLOC NOHEADER
+L        FILE     Z1 V 65535        1       65
+R;
+> TYPE L FILE Z (COL 65000-65535
+{**536}
+R;
+> EXECIO 6000 DISKW M FILE A (STRING R
+R;
+> COPYFILE M FILE A = = D (RECFM F LRECL 2
+R;
+> LISTFILE M FILE * (ALLOC NOHEADER
+M        FILE     A1 V     1     6000       36
+M        FILE     D1 F     2     6000       24
+R;
+> COPYFILE M FILE A N FILE D (FROM 5500 FOR 600
+R;
+> LISTFILE N FILE D (ALLOC NOHEADER
+N        FILE     D1 V     1      501        3
+R;
+> COPYFILE M FILE A M FILE D (APPEND
+R;
+> LISTFILE M FILE D (ALLOC NOHEADER
+M        FILE     D1 F     2    12000       47
+R;
+> TYPE M FILE D 12000 (HEX
+D940
+R;
+> COPYFILE M FILE A N FILE Z (FROM 6001
+CMS121E File has only 6000 records
+R(00024);
+> LISTFILE * * D
+T        FILE     D1
+L        FILE     D1
+M        FILE     D1
+N        FILE     D1
+R;
+> QUERY DISK D
+LABEL  VDV M STA BLKSZ  FILES     USED     FREE    TOTAL
+FOURTH 192 D R/W   512      4      188      212      400
+R;
+";
+
 const REFUSED: &str = "# texts
 > COPYFILE
 CMS054E Operand is missing
@@ -372,6 +480,7 @@ R;
 fn files_are_copied(rt: HostRuntime) -> Result<(), Fail> {
     check_sessions(rt.alloc(), COPIED)?;
     check_sessions(rt.alloc(), STEPS)?;
+    check_sessions(rt.alloc(), LARGE)?;
     check_sessions(rt.alloc(), REFUSED)
 }
 

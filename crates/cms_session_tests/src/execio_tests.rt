@@ -124,6 +124,61 @@ CMS001E Unknown command TWO
 R(-0003);
 > EXECIO 1 DISKR FIXED DATA A 3
 R;
+# texts
+> EXECIO 3 DISKW LONG FILE A
+> {X*253}
+> {Y*254}
+> {Z*255}
+R;
+> EXECIO 1 DISKW LONG FILE A (STRING {A*220}
+R;
+> EXECIO * DISKR LONG FILE A
+R;
+CMS001E Unknown command {X*253}
+R(-0003);
+CMS001E Unknown command {Y*254}
+R(-0003);
+CMS001E Unknown command {Z*255}
+R(-0003);
+CMS001E Unknown command {A*220}
+R(-0003);
+> COPYFILE LONG FILE A WIDE FILE A (RECFM F LRECL 256 FILL *
+R;
+> EXECIO 3 DISKR WIDE FILE A
+R;
+CMS001E Unknown command {X*253}**
+R(-0003);
+CMS001E Unknown command {Y*254}*
+R(-0003);
+CMS001E Unknown command {Z*255}
+R(-0003);
+# spanning, stars and blanks
+@ P
+| &TRACE OFF
+| EXECIO 1 DISKR V FILE A 1
+| &READ STRING &X
+| &L = &LENGTH OF &X
+| &TYPE &L
+| EXECIO 1 DISKR V FILE A 1 (STRIP
+| &READ STRING &X
+| &L = &LENGTH OF &X
+| &TYPE &L &X
+> P
+255
+250 {**250}
+R;
+# long records: 191,512,ro,A
+> EXECIO 1 DISKR L FILE A 3
+R;
+CMS001E Unknown command {C*255}
+R(-0003);
+! Done arrrrinronooi
+# spanning, stars: 191,512,ro,A
+> EXECIO 1 DISKR V FILE A 2
+R;
+CMS001E Unknown command ABC
+R(-0003);
+! Done arrrrrrinrronooi
 # one file
 > EXECIO 2 DISKR A FILE A
 R(00002);

@@ -204,6 +204,14 @@ R;
 > LISTFILE (ALLOC NOHEADER
 V        FILE     A1 V   509        2        2
 R;
+# spanning, stars: 191,512,ro,A
+> TYPE V FILE A (HEX
+{5C*508}C1
+C1C2C3
+R;
+> TYPE V FILE A 1 1 (HEX COL 100-400
+{5C*301}
+R;
 ";
 
 const ERASED: &str = "# texts

@@ -198,6 +198,22 @@ R(-0003);
 > STATE CMS EXEC
 CMS002E File CMS EXEC A not found
 R(00028);
+# texts
+@ P
+| &TRACE OFF
+| LISTFILE BETA DATA A (STACK DATE
+| &READ STRING &X
+| &READ STRING &Y
+| &TYPE &X
+| &TYPE &Y
+| LISTFILE BETA DATA A (LIFO LABEL NOHEADER
+| &READ STRING &X
+| &TYPE &X
+> P
+FILENAME FILETYPE FM F LRECL  RECORDS   BLOCKS DATE     TIME
+BETA     DATA     A2 V     4        4        1 12/31/99 23:59:59
+BETA     DATA     A2 V     4        4        1 12/31/99 23:59:59 TEST01
+R;
 ";
 
 const WRITTEN: &str = "# rows
@@ -236,6 +252,18 @@ R;
 R;
 > L CMS * A (ALLOC NOHEADER
 CMS      EXEC     A1 F    80        2        1
+R;
+# texts
+> L BETA * A (EXEC DATE
+R;
+> L ALPHA * A (APPEND LABEL
+R;
+> TYPE CMS EXEC A 2 (COL 1-77
+&1 &2 BETA     DATA     A2 V     4        4        1 12/31/99 23:59:59{ *7}
+&1 &2 ALPHA    TEXT     A1 F     5        2        1 12/31/99 23:59:59 TEST01
+R;
+> L CMS * A (ALLOC NOHEADER
+CMS      EXEC     A1 F    80        3        1
 R;
 # rows
 > L AB * A (APPEND

@@ -176,6 +176,61 @@ R(-9999);
 > G
 A
 R;
+# lines of 253 to 255 bytes
+> EXECIO 4 DISKW G EXEC A
+> &TRACE OFF
+> &TYPE {A*247}
+> &TYPE {B*248}
+> &TYPE {C*249}
+R;
+> G
+{A*247}
+{B*248}
+{C*249}
+R;
+> {X*253}
+CMS001E Unknown command {X*253}
+R(-0003);
+> STATE G EXEC A{ *240}
+R;
+> STATE G EXEC{ *242}A
+R;
+# many words
+@ G
+| &TRACE OFF
+| &TYPE &N &24 &25
+| &CALL -S{ B*24} C
+| &X = &CONCAT OF{ D*64}
+| &TYPE &X
+| &EXIT
+| -S &TYPE &N &24 &25
+| &RETURN
+> G{ A*24} Z
+25 A Z
+25 B C
+{D*64}
+R;
+> EXEC G{ A*99} Z
+100 A A
+25 B C
+{D*64}
+R;
+# a clock that starts on 2051-06-15 at 06:07:08
+~ 2570422028
+@ G
+| &TRACE OFF
+| &TYPE &DATE &TIME
+> G
+51/06/15 06:07:12
+R;
+> COPYFILE G EXEC A = COPY = (OLDDATE
+R;
+> ACCESS 191 A
+R;
+> LISTFILE G * A (DATE NOHEADER
+G        EXEC     A1 V    17        2        1 06/15/51 06:07:09
+G        COPY     A1 V    17        2        1 06/15/51 06:07:09
+R;
 # the date and the time
 @ G
 | &TRACE OFF
@@ -287,6 +342,23 @@ R(10004);
 > G
 CMS002E File NONE FILE A not found
 28
+R;
+# a word of a function is too long
+@ G
+| &TRACE OFF
+| &V = {A*150}
+| &X = &LENGTH OF {C*120}&V
+> G
+CMS085E Procedure G stopped at line 3 with fault 5
+R(10005);
+# a procedure's file can't be read
+^ 16
+@ G
+| &TRACE OFF
+> G
+CMS105E Device fault on 191
+R(00100);
+> G
 R;
 # three procedures, each with its code
 @ G

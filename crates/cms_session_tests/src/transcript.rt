@@ -1,6 +1,6 @@
 // Transcripts, and whether sessions are as these say.
 use crate::session::ended;
-use crate::volumes::{WORDS, image, world_named};
+use crate::volumes::{WORDS, YEAR_2000, image, world_at};
 use cms_cases::written_out;
 use cms_images::image_left;
 use cms_world::MemWorld;
@@ -58,9 +58,17 @@ const PLAN: &str = "^ ";
 // Before the name of the image that the session leaves of its first unit.
 const LEFT: &str = "= ";
 
+// Before the second at which the clock starts, behind 1970-01-01 00:00:00.
+const CLOCK: &str = "~ ";
+
 // Whether a line tells of the session itself.
 fn is_told(line: &str) -> bool {
-    line.starts_with(ENDING) || line.starts_with(PLAN) || line.starts_with(LEFT)
+    for sign in [ENDING, PLAN, LEFT, CLOCK] {
+        if line.starts_with(sign) {
+            return true;
+        }
+    }
+    false
 }
 
 // What stands in the first line behind this sign; nothing where no line has it.
@@ -71,6 +79,14 @@ fn line_behind<'a>(text: &'a str, sign: &str) -> &'a str {
         }
     }
     ""
+}
+
+// The second at which the clock starts: the first of the year 2000 where none is told.
+fn start(text: &str) -> i64 {
+    match line_behind(text, CLOCK) {
+        "" => YEAR_2000,
+        told => told.parse().unwrap_or(0),
+    }
 }
 
 // Plans the call that fails.
@@ -134,7 +150,7 @@ fn left_otherwise(alloc: Global, world: &MemWorld, name: &str) -> Result<String,
 fn session_unlike(alloc: Global, head: &str, text: &str) -> Result<String, AllocError> {
     let (images, words) = head.split_once(": ").unwrap_or((head, WORDS));
     let transcript = Transcript::of(alloc, text)?;
-    let mut world = world_named(alloc, images, &transcript.script)?;
+    let mut world = world_at(alloc, images, &transcript.script, start(text))?;
     plan(&mut world, line_behind(text, PLAN))?;
     let ending = line_behind(text, ENDING);
     let differing = differs(alloc, head, words, &mut world, &transcript, ending)?;

@@ -198,6 +198,9 @@ const LAST_MARKED: &[Edit] = &[(6, 1, &[0x80])];
 // The first record of V FILE is of stars up to its last byte.
 const STARS: &[Edit] = &[(7, 2, &[0x5C; 508])];
 
+// Of its bytes the five behind the 250th are blanks.
+const STARS_AND_BLANKS: &[Edit] = &[(7, 2, &[0x5C; 508]), (7, 252, &[0x40; 5])];
+
 // All blocks but the last five, or the last six, are marked.
 const FIVE_FREE: &[Edit] = &[(6, 0, &[0xFF; 512]), (7, 0, &[0xE0])];
 
@@ -217,6 +220,7 @@ fn changes(name: &str) -> &'static [Edit] {
         "on third" => ON_THIRD,
         "one root" => ONE_ROOT,
         "stars" => STARS,
+        "stars and blanks" => STARS_AND_BLANKS,
         "five free" => FIVE_FREE,
         "six free" => SIX_FREE,
         _ => &[],
@@ -293,9 +297,12 @@ pub fn world_at(
     Ok(world)
 }
 
-/// The same; the clock says the first second of the year 2000.
+/// The first second of the year 2000, behind 1970-01-01 00:00:00.
+pub const YEAR_2000: i64 = 946_684_800;
+
+/// The same; the clock says that second.
 pub fn world_named(alloc: Global, names: &str, script: &str) -> Result<MemWorld, AllocError> {
-    world_at(alloc, names, script, 946_684_800)
+    world_at(alloc, names, script, YEAR_2000)
 }
 
 /// The words of the program by which the first two of these images are units that may be written.

@@ -1,6 +1,6 @@
 // Procedures and what they want, by the rules of VM/SP EXEC 2.
 use crate::shared::{coded, procedure_of, word};
-use cms_cases::ascii;
+use cms_cases::{ascii, written_out};
 use cms_fields::Moment;
 use cms_names::{Name, Part};
 use cms_text::Lines;
@@ -179,7 +179,8 @@ fn run(alloc: Global, row: &Row<'_>, turns: u32) -> Result<String, Fail> {
     Ok(all)
 }
 
-/// Procedures with what they want. Where no turns are written, any number will do.
+/// Procedures with what they want. Where no turns are written, any number will do. A piece in braces, with a star and a number behind it,
+/// stands for so many of it.
 const ROWS: &str = "# ---- typing and expansion
  # &TYPE HELLO # # say [HELLO];end 0;turns 2
  # &type hello World # # say [hello World];end 0
@@ -396,6 +397,21 @@ T a b c # &TYPE &INDEX &N &LINE &LINENUM # # say [3 3 2 2];end 0
 T(A B # &TYPE &1 &2 &N &ARGSTRING # # say [(A B 2 (A B];end 0
 T  a  b # &TYPE &ARGSTRING # # say [ a  b];end 0
  # &TYPE &DATE &TIME # # say [00/01/01 00:00:01];end 0
+# ---- long lines, words and values, and many words
+ # %253;%254;%255 # # cmd [{X*253}];cmd [{X*254}];cmd [{X*255}];end 0
+ # &TYPE {A*247};&TYPE {B*248};&TYPE {C*249} # # say [{A*247}];say [{B*248}];say [{C*249}];end 0
+ # &X = {A*200};&Y = &CONCAT OF &X {B*55};&TYPE &Y # # say [{A*200}{B*55}];end 0
+ # &X = {A*201};&TYPE {C*54}&X;&TYPE {C*55}&X # # say [{C*54}{A*201}];fail 5 4
+ # &IF {A*110} = {A*110} &TYPE Y;&IF {A*109}B < {A*110} &TYPE N # # say [Y];end 0
+ # &X = &LEFT OF A 150;&IF &X = A &TYPE Y # # say [Y];end 0
+ # &X = {A*120};&Y = &CONCAT OF &X {B*120};&IF &Y > &X &TYPE Y;&IF &X GE &Y &TYPE N # # say [Y];end 0
+ # &X = {A*200};&Y = &CONCAT OF &X {A*54} B;&Z = &CONCAT OF &X {A*54} C;&IF &Y < &Z &TYPE Y;&IF &Y = &Z &TYPE N # # say [Y];end 0
+ # &X = &CONCAT OF{ A*64};&Y = &POSITION OF B{ A*70} B;&Z = &WORD OF 65{ A*64} C;&TYPE &X &Y &Z # # say [{A*64} 71 C];end 0
+T{ A*24} B # &TYPE &N &24 &25 # # say [25 A B];end 0
+ # &CALL -S{ A*99} B;&EXIT;-S &TYPE &N &99 &100;&RETURN # # say [100 A B];end 0
+ # &ARGS{ A*30} B;&TYPE &N &31 # # say [31 B];end 0
+ # &READ ARGS;&TYPE &N &1 &31 # r{ A*30} B # read;say [31 A B];end 0
+ # &READ VARS{ &A*21} &B;&TYPE &A &B # r{ X*20} Y Z # read;say [Y Z];end 0
 # ---- limits
  # &LOOP 2 999;&I = &I + 1;&V&I = X;&TYPE OK # # say [OK];end 0
  # &LOOP 2 1000;&I = &I + 1;&V&I = X;&TYPE OK # # fail 14 4
@@ -407,7 +423,8 @@ T X # &LOOP 2 997;&I = &I + 1;&V&I = X;&CALL -S;&EXIT;-S &Y = 1;&Z = 2;&RETURN #
 
 #[test]
 fn procedures_want_what_they_say(rt: HostRuntime) -> Result<(), Fail> {
-    for text in ROWS.lines() {
+    let rows = written_out(rt.alloc(), ROWS)?;
+    for text in rows.lines() {
         if !text.starts_with('#') {
             let row = row_of(text).ok_or("no row")?;
             assert_eq!(rt;
