@@ -16,6 +16,7 @@ trap 'rm -rf "$folder"' EXIT
 scripts() {
     cat <<'LIST'
 program.sh       -       statuses, what is typed, and what is said on standard error
+examples.py      -       the examples of README.md and docs/cms.1 type what these show
 volumes.py       -       makes volumes of several directory and map blocks, and reads them as they were made
 crash.py         strace  an ERASE, stopped at each write and each sync, on the example and on volumes of volumes.py
 format_crash.py  strace  a FORMAT and a relabelling, stopped so
