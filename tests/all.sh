@@ -21,6 +21,7 @@ volumes.py       -       makes volumes of several directory and map blocks, and 
 crash.py         strace  an ERASE, stopped at each write and each sync, on the example and on volumes of volumes.py
 format_crash.py  strace  a FORMAT and a relabelling, stopped so
 files_crash.py   strace  a COPYFILE, an ERASE, a RENAME and a LISTFILE with EXEC, stopped so
+edge.py          cc      files, folders, streams, locks and syncs that fail
 memory.py        strace  calls for memory that the system refuses
 memory_paths.py  gdb     answers of want of memory that no session of the tests passes by; wants rt too
 hostile.py       -       10,000 damaged images, and single cases; the one of a full file system wants leave to mount
