@@ -15,7 +15,7 @@ trap 'rm -rf "$folder"' EXIT
 # Each script, what it needs, and what it does.
 scripts() {
     cat <<'LIST'
-program.sh       -       statuses, what is typed, and what is said on standard error
+program.sh       git     statuses, what is typed, and what is said on standard error
 examples.py      -       the examples of README.md and docs/cms.1 type what these show
 volumes.py       -       makes volumes of several directory and map blocks, and reads them as they were made
 crash.py         strace  an ERASE, stopped at each write and each sync, on the example and on volumes of volumes.py
@@ -75,7 +75,7 @@ for word in "$@"; do
     fi
 done
 if [ ! -x "$program" ]; then
-    echo 'all: build the program first, by ./cms --version' >&2
+    echo 'all: build the program first, by ./cms --build' >&2
     exit 2
 fi
 list >"$folder/list"
