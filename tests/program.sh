@@ -2,7 +2,7 @@
 # Runs the program on the example's image, and looks at its statuses, what it types and what it says on standard error; then `./cms` in a
 # fresh clone, where it isn't built, in both ways; and installs it. It is no part of the gate.
 # It needs `git`, the commit that is to be tried, and the toolchain. The program is built first, here and in the clone: where `rt ci` proved
-# this commit on the machine that takes minutes, and else what ./cms says. The four unproved runs take about a minute each.
+# this commit on the machine that takes minutes, and else what ./cms says. The four unproved runs take a minute or more each.
 home=$(readlink -f -- "$(dirname -- "$(readlink -f -- "$0")")/..")
 cms=$home/cms
 "$cms" --build || exit 1
