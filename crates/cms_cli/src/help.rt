@@ -61,7 +61,7 @@ status:
        5  two unit words have one device
        6  NUMBER isn't as above
   3  there is no memory
-  4  an image couldn't be attached, or the input, the output or the clock failed
+  4  an image is in use or couldn't be attached, or the input, the output or the clock failed
   5  the turns are spent
 
 At 2 to 5 a line on standard error says what failed.";

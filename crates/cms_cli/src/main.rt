@@ -3,12 +3,11 @@
 
 ghost use Rattle.std.specs.Prelude.{◌≡◌, if◌then◌else◌};
 ghost use Rattle.cms_session.specs.Statuses.{code_of};
-ghost use Rattle.cms_session.specs.declared.status.Status.TheVariants as statuses;
 
 mod help;
 mod telling;
 
-use cms_host::FileWorld;
+use cms_host::{FileWorld, Host};
 use cms_session::{Status, WordFault, run};
 use cms_world::Argv;
 use help::{HELP, VERSION};
@@ -38,19 +37,12 @@ fn arguments(rt: &HostRuntime) -> Result<Argv, Status> {
     Ok(words)
 }
 
-/// Types a text, and says how the program ends.
-fn told(rt: &HostRuntime, text: &str) -> Status {
-    match rt.println(text) {
-        Ok(()) => Status::Done,
-        Err(_) => Status::World,
-    }
-}
-
-/// How the program ends: as the session did, or as one whose world failed where what it typed couldn't be written.
-fn ending(status: Status, written: bool) -> Status
-    ensures { result ≡ (if written then status else statuses.World) }
-{
-    if written { status } else { Status::World }
+/// How the program ends.
+#[derive(Clone, Copy)]
+struct Ending {
+    status: Status,
+    /// all that was typed could be written
+    written: bool,
 }
 
 /// Opens a folder three times, so that no image gets the place of a standard stream that isn't open: it would be read as the script, or
@@ -64,48 +56,75 @@ fn hold_streams(rt: &HostRuntime) -> io::Result<[File; 3]> {
 }
 
 /// A session over real files. Where the world failed it says on standard error what.
-fn session(rt: &HostRuntime, words: &Argv) -> Status {
+fn session(rt: &HostRuntime, words: &Argv) -> Ending {
     let Ok(_streams) = hold_streams(rt) else {
         let _ = eprintln!(rt; "cms: {FOLDER} can't be opened");
-        return Status::World;
+        return ended(Status::World);
     };
     let lines = rt.stdout().is_terminal();
-    let Ok(mut world) = FileWorld::new(rt.alloc(), rt, lines) else {
-        return Status::Memory;
+    let host = Host::new(rt.alloc(), rt);
+    let Ok(mut world) = FileWorld::new(rt.alloc(), host, lines) else {
+        return ended(Status::Memory);
     };
     let status = run(rt.alloc(), words, &mut world);
     let written = world.finish();
-    let status = ending(status, written);
-    if let Status::World = status {
+    if written && matches!(status, Status::World) {
         tell_world(rt, words, &world);
     }
-    status
+    Ending { status, written }
+}
+
+/// An ending where nothing was typed.
+fn ended(status: Status) -> Ending {
+    Ending {
+        status,
+        written: true,
+    }
+}
+
+/// Types a text.
+fn type_text(rt: &HostRuntime, text: &str) -> Ending {
+    Ending {
+        status: Status::Done,
+        written: rt.println(text).is_ok(),
+    }
+}
+
+/// Types the number of the reason for which words are refused.
+fn type_reason(rt: &HostRuntime, status: Status) -> Ending {
+    let written = match status {
+        Status::Usage(fault) => {
+            println!(rt; "cms: words refused, reason {}", fault.number()).is_ok()
+        }
+        _ => true,
+    };
+    Ending { status, written }
 }
 
 /// What the words ask for: a text of the program itself, or a session.
-fn answer(rt: &HostRuntime, words: &Argv) -> Status {
+fn answer(rt: &HostRuntime, words: &Argv) -> Ending {
     match words.get(1) {
-        Some("--help" | "-h") => told(rt, HELP),
-        Some("--version") => told(rt, VERSION),
+        Some("--help" | "-h") => type_text(rt, HELP),
+        Some("--version") => type_text(rt, VERSION),
         _ => session(rt, words),
     }
 }
 
-/// The program's exit code: 0, or 2 to 5.
-fn exit_code(status: Status) -> u8
-    ensures { result ≡ code_of status }
+/// The program's exit code: that of the status, 0 or 2 to 5, and 4 where not all that was typed could be written.
+fn exit_code(status: Status, written: bool) -> u8
+    ensures { result ≡ (if written then code_of status else 4) }
 {
-    status.code()
+    if written { status.code() } else { 4 }
 }
 
 fn main(rt: HostRuntime) -> ExitCode {
-    let status = match arguments(&rt) {
+    let mut ending = match arguments(&rt) {
         Ok(words) => answer(&rt, &words),
-        Err(status) => status,
+        Err(status) => ended(status),
     };
-    if let Status::Usage(fault) = status {
-        let _ = println!(rt; "cms: words refused, reason {}", fault.number());
+    if ending.written {
+        ending = type_reason(&rt, ending.status);
     }
-    tell_ending(&rt, status);
-    ExitCode::from(exit_code(status))
+    tell_ending(&rt, ending.status, ending.written);
+    ExitCode::from(exit_code(ending.status, ending.written))
 }

@@ -1,1 +1,2 @@
-mod Rests
+mod Printing
+mod Found

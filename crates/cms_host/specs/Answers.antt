@@ -1,5 +1,5 @@
 -- How a world of files answers, and counts its failures.
-use Rattle.std.specs.Prelude.{◌≡◌, ℕ, ◌+◌, ◌-◌, ◌^◌, min, List, drop, Bool, true, false, Option, Some, None, Result, Ok, Err}
+use Rattle.std.specs.Prelude.{◌≡◌, ℕ, ◌+◌, ◌-◌, ◌^◌, min, Bool, true, false, Option, Some, None, Result, Ok, Err}
 use Rattle.cms_journal.specs.declared.event.Failed.{Failed}
 
 -- a count of failures after a call that went, or one that failed: one more, up to the last value of a counter
@@ -11,8 +11,3 @@ counted false count = min (count + 1) (2 ^ 64 - 1)
 abbrev pub answer_of : {T : Type 0} → Option T → Result T Failed
 answer_of (Some value) = Ok value
 answer_of None = Err (record {})
-
--- the bytes that are left once those of a front are gone
-pub record IsRest (old new : List ℕ) : Type 0 where
-  pub gone : ℕ
-  pub rest : new ≡ drop gone old

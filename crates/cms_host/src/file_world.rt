@@ -1,116 +1,57 @@
 // The world of real files, the standard streams and the system's clock.
-ghost use Rattle.std.specs.Prelude.{◌≡◌, ◌≤◌, ◌<◌, ◌↔◌, ◌+◌, [], length, vec_len, None, IfSome, IfOk, OnErr, IsOk, IsTrue, is_some};
+ghost use Rattle.std.specs.Prelude.{◌≡◌, ◌≢◌, ◌≤◌, ◌<◌, ◌↔◌, ◌-◌, ◌*◌, ◌⊎◌, [], ◌∷◌, length, take, slice_get, vec_len, false, None, IfSome, IsNone, OnSome, IfOk, OnOk, OnErr, IsOk, IsTrue, is_some};
 ghost use Rattle.cms_journal.specs.Causes.{HasCause};
-ghost use Rattle.cms_host.specs.Answers.{counted, answer_of, IsRest};
+ghost use Rattle.cms_host.specs.Answers.{counted, answer_of};
+ghost use Rattle.cms_host.specs.Deeds.{Prints, PrintsThen, opening_deeds};
+ghost use Rattle.cms_host.specs.Units.{OnlyLoses, UnitDeeds};
+ghost use Rattle.cms_host.specs.declared.system.Deed.TheVariants.{Wrote, Synced, ScriptRead};
 
 use crate::file_unit::{FileUnit, open_unit};
 use crate::output::Gathered;
+use crate::system::{Lock, System, Warning};
+use crate::trouble::Trouble;
 use cms_world::{Access, Failed, Unit, World};
 use std::alloc::{AllocError, Global};
-use std::fs::{File, Files};
 use std::io;
-use std::io::{ErrorKind, Read};
-use std::time::Clock;
+use std::io::ErrorKind;
 
 #[cfg(test)]
 mod tests;
 
-/// How often a call that a signal interrupted is made again.
-const TRIES: u32 = 1_000_000;
-
-// Reads once, again where a signal interrupted it: no bytes are the end.
-fn read_some<I: Read>(input: &mut I, into: &mut [u8]) -> Option<usize>
-    ensures { IfSome result (λ n. n ≤ length into.old) }
-{
-    for _ in 0..TRIES {
-        match input.read(into) {
-            Ok(count) => return Some(count),
-            Err(error) if error.kind() == ErrorKind::Interrupted => {}
-            Err(_) => return None,
-        }
-    }
-    None
-}
-
-// Adds an image as the next unit.
-fn add_unit<R: Files<File = File>>(
-    rt: &R,
-    units: &mut Vec<FileUnit>,
-    name: &str,
-    bsize: u32,
-    access: Access,
-) -> io::Result<Unit>
-    requires { 0 < bsize }
-    ensures number { IfOk result (λ unit. unit.number ≡ length units.old.items) }
-    ensures added { IfOk result (λ unit. length units.new.items ≡ length units.old.items + 1) }
-    ensures kept { OnErr result (units.new.items ≡ units.old.items) }
-{
-    let Ok(number) = u8::try_from(units.len()) else {
-        return Err(io::Error::from(ErrorKind::QuotaExceeded));
-    };
-    let unit = open_unit(rt, name, bsize, access)?;
-    let blocks = unit.blocks();
-    match units.push(unit) {
-        Ok(()) => Ok(Unit { number, blocks }),
-        Err(_) => Err(io::Error::from(ErrorKind::OutOfMemory)),
-    }
-}
-
-// The seconds since 1970-01-01 00:00:00 UTC.
-fn seconds<C: Clock>(clock: &C) -> Option<i64> {
-    match clock.since_1970() {
-        Ok(time) => i64::try_from(time.as_secs()).ok(),
-        Err(_) => None,
-    }
-}
-
-/// What failed, for a person who reads it.
-#[derive(Drop)]
-pub enum Trouble {
-    /// an image couldn't be attached, for the system's reason
-    Image(io::Error),
-    /// a block of an image couldn't be read or written
-    Device,
-    /// the script couldn't be read
-    Input,
-    /// what was typed couldn't be written
-    Output,
-    /// the clock couldn't be read
-    Clock,
-}
-
 /// A world over real files: a unit is an image file, the console is standard input and output, and the clock is the
 /// system's. It keeps no journal.
 ///
-/// What is typed is gathered. It is written before the script is read, an image is attached, or a unit is written or synced, when
-/// 65,536 bytes are gathered, and at the end; where output is taken line by line it isn't gathered. Where it can't be written the
+/// What is typed is gathered. It is printed before the script is read, an image is attached, or a unit is written or synced, when
+/// 65,536 bytes are gathered, and at the end; where output is taken line by line it isn't gathered. Where it can't be printed the
 /// call fails before it does anything, and what is left is tried again with the next call.
+///
+/// An image is locked as long as the world stands. A unit whose sync failed once isn't synced any more: each later sync of it fails.
 #[derive(Drop)]
-pub struct FileWorld<R: Files<File = File> + io::Input + Print + Clock + Drop> {
-    rt: R,
-    input: R::Reader,
+pub struct FileWorld<S: System + Drop> {
+    system: S,
     output: Gathered,
     units: Vec<FileUnit>,
     faults: u64,
     edges: u64,
     trouble: Option<Trouble>,
+    warned: bool,
 }
 
-impl<R: Files<File = File> + io::Input + Print + Clock + Drop> FileWorld<R> {
+impl<S: System + Drop> FileWorld<S> {
     /// A world with no units, whose output is gathered or is taken line by line.
-    pub fn new(alloc: Global, rt: R, lines: bool) -> Result<Self, AllocError>
+    pub fn new(alloc: Global, system: S, lines: bool) -> Result<Self, AllocError>
         ensures units { IfOk result (λ world. world.units.items ≡ []) }
         ensures counts { IfOk result (λ world. (world.faults ≡ 0) × (world.edges ≡ 0)) }
+        ensures output { IfOk result (λ world. world.output ≡ []) }
     {
-        let input = rt.reader();
         Ok(FileWorld {
-            rt,
-            input,
+            system,
             output: Gathered::new(alloc, lines)?,
             units: Vec::new(alloc),
             faults: 0,
             edges: 0,
             trouble: None,
+            warned: false,
         })
     }
 
@@ -126,48 +67,183 @@ impl<R: Files<File = File> + io::Input + Print + Clock + Drop> FileWorld<R> {
         self.units.len()
     }
 
-    /// Writes all that was typed, and says whether it could.
+    /// Prints all that was typed, and says whether it could.
     pub fn finish(&mut self) -> bool
+        ensures all { IsTrue result ↔ (self.new.output ≡ []) }
+        ensures prints { Prints self.old.output self.new.output
+            (S.told self.old.system) (S.told self.new.system) }
+        ensures units { self.new.units.items ≡ self.old.units.items }
         ensures faults { self.new.faults ≡ self.old.faults }
         ensures edges { self.new.edges ≡ self.old.edges }
-        ensures written { IsTrue result → self.new.output ≡ [] }
-        ensures kept { IsRest self.old.output self.new.output }
     {
-        let written = self.output.flush(&self.rt);
-        if !written {
+        let printed = self.output.flush(&mut self.system);
+        if !printed {
             self.trouble = Some(Trouble::Output);
         }
-        written
+        printed
     }
 
-    // An image as the next unit, once what was typed is written.
-    fn add_image(&mut self, name: &str, bsize: u32, access: Access) -> Option<Unit>
+    // Adds an image as the next unit.
+    #[tactic(auto, using(crate::proofs::Printing::done_lemmas))]
+    fn add_unit(&mut self, name: &str, bsize: u32, access: Access) -> Result<Unit, Trouble>
         requires { 0 < bsize }
+        ensures number { IfOk result (λ unit. unit.number ≡ length self.old.units.items) }
+        ensures opened { IfOk result (λ unit. UnitDeeds self.new.units.items unit.number
+            (λ u. opening_deeds u.file name.now bsize access u.lock) self.old.output self.new.output
+            (S.told self.old.system) (S.told self.new.system)) }
+        ensures units { OnOk result (take (length self.old.units.items) self.new.units.items
+            ≡ self.old.units.items) }
+        ensures kept { OnErr result (self.new.units.items ≡ self.old.units.items) }
         ensures faults { self.new.faults ≡ self.old.faults }
         ensures edges { self.new.edges ≡ self.old.edges }
     {
         if !self.finish() {
-            return None;
+            return Err(Trouble::Output);
         }
-        match add_unit(&self.rt, &mut self.units, name, bsize, access) {
-            Ok(unit) => Some(unit),
-            Err(error) => {
-                self.trouble = Some(Trouble::Image(error));
+        let Ok(number) = u8::try_from(self.units.len()) else {
+            return Err(Trouble::Image(io::Error::from(ErrorKind::QuotaExceeded)));
+        };
+        let unit = open_unit(&mut self.system, name, bsize, access)?;
+        match self.units.push(unit) {
+            Ok(()) => Ok(Unit {
+                number,
+                blocks: unit.blocks,
+            }),
+            Err(_) => Err(Trouble::Image(io::Error::from(ErrorKind::OutOfMemory))),
+        }
+    }
+
+    // An image as the next unit. Where it can't be locked a person is told so, once.
+    fn attach_image(&mut self, name: &str, bsize: u32, access: Access) -> Option<Unit>
+        requires { 0 < bsize }
+        ensures number { IfSome result (λ unit. unit.number ≡ length self.old.units.items) }
+        ensures opened { IfSome result (λ unit. UnitDeeds self.new.units.items unit.number
+            (λ u. opening_deeds u.file name.now bsize access u.lock) self.old.output self.new.output
+            (S.told self.old.system) (S.told self.new.system)) }
+        ensures units { OnSome result (take (length self.old.units.items) self.new.units.items
+            ≡ self.old.units.items) }
+        ensures kept { IsNone result → self.new.units.items ≡ self.old.units.items }
+        ensures faults { self.new.faults ≡ self.old.faults }
+        ensures edges { self.new.edges ≡ self.old.edges }
+    {
+        match self.add_unit(name, bsize, access) {
+            Ok(unit) => {
+                self.warn_of_locks();
+                Some(unit)
+            }
+            Err(trouble) => {
+                self.trouble = Some(trouble);
                 None
             }
         }
     }
 
-    // The next bytes of the script, once what was typed is written.
-    fn take_script(&mut self, into: &mut [u8]) -> Option<usize>
+    // Tells a person, once, that the last image has no lock.
+    fn warn_of_locks(&mut self)
+        ensures told { S.told self.new.system ≡ S.told self.old.system }
+        ensures output { self.new.output ≡ self.old.output }
+        ensures units { self.new.units.items ≡ self.old.units.items }
+        ensures faults { self.new.faults ≡ self.old.faults }
+        ensures edges { self.new.edges ≡ self.old.edges }
+    {
+        if self.warned {
+            return;
+        }
+        if let Some(unit) = self.units.last() {
+            if let Lock::Unknown = unit.lock {
+                self.warned = true;
+                self.system.warn(Warning::NoLocks(unit.file));
+            }
+        }
+    }
+
+    // Reads a block of a unit, and says whether all of it was read.
+    fn read_unit(&mut self, unit: u8, block: u32, into: &mut [u8]) -> bool
+        ensures told { S.told self.new.system ≡ S.told self.old.system }
+        ensures output { self.new.output ≡ self.old.output }
+        ensures units { self.new.units.items ≡ self.old.units.items }
+        ensures faults { self.new.faults ≡ self.old.faults }
+        ensures edges { self.new.edges ≡ self.old.edges }
+    {
+        match self.units.get(unit as usize) {
+            Some(unit) => unit.read(&mut self.system, block, into),
+            None => false,
+        }
+    }
+
+    // Writes a block of a unit once what was typed is printed, and says whether all of it was written.
+    #[tactic(auto, using(crate::proofs::Printing::done_lemmas))]
+    fn write_unit(&mut self, unit: u8, block: u32, from: &[u8]) -> bool
+        ensures wrote { IsTrue result → UnitDeeds self.old.units.items unit
+            (λ u. Wrote u.file ((block - 1) * u.bsize) from.now ∷ [])
+            self.old.output self.new.output (S.told self.old.system) (S.told self.new.system) }
+        ensures failed { Prints self.old.output self.new.output
+            (S.told self.old.system) (S.told self.new.system)
+            ⊎ UnitDeeds self.old.units.items unit
+            (λ u. Wrote u.file ((block - 1) * u.bsize) from.now ∷ [])
+            self.old.output self.new.output (S.told self.old.system) (S.told self.new.system) }
+        ensures units { self.new.units.items ≡ self.old.units.items }
+        ensures faults { self.new.faults ≡ self.old.faults }
+        ensures edges { self.new.edges ≡ self.old.edges }
+    {
+        let printed = self.finish();
+        match self.units.get(unit as usize) {
+            Some(unit) if printed => unit.write(&mut self.system, block, from),
+            _ => false,
+        }
+    }
+
+    // Syncs a unit once what was typed is printed, and says whether it is. Where that fails a person is told so, once a unit.
+    #[tactic(auto, using(crate::proofs::Printing::done_lemmas))]
+    fn sync_unit(&mut self, unit: u8) -> bool
+        ensures synced { IsTrue result → UnitDeeds self.old.units.items unit
+            (λ u. Synced u.file ∷ []) self.old.output self.new.output
+            (S.told self.old.system) (S.told self.new.system) }
+        ensures believed { IsTrue result → IfSome (slice_get self.old.units.items unit)
+            (λ u. u.lost ≡ false) }
+        ensures failed { result ≡ false → Prints self.old.output self.new.output
+            (S.told self.old.system) (S.told self.new.system) }
+        ensures lost { result ≡ false → (self.new.output ≢ [])
+            ⊎ IfSome (slice_get self.new.units.items unit) (λ u. IsTrue u.lost) }
+        ensures units { OnlyLoses unit result self.old.units.items self.new.units.items }
+        ensures faults { self.new.faults ≡ self.old.faults }
+        ensures edges { self.new.edges ≡ self.old.edges }
+    {
+        if !self.finish() {
+            return false;
+        }
+        let place = unit as usize;
+        if place >= self.units.len() {
+            return false;
+        }
+        let mut unit = self.units[place];
+        let was_lost = unit.lost;
+        let synced = unit.sync(&mut self.system);
+        self.units[place] = unit;
+        if !synced && !was_lost {
+            self.system.warn(Warning::LostSync(unit.file));
+        }
+        synced
+    }
+
+    // The next bytes of the script, once what was typed is printed.
+    #[tactic(auto, using(crate::proofs::Printing::done_lemmas))]
+    fn read_script(&mut self, into: &mut [u8]) -> Option<usize>
         ensures within { IfSome result (λ n. n ≤ length into.old) }
+        ensures done { OnSome result (PrintsThen (ScriptRead ∷ []) self.old.output self.new.output
+            (S.told self.old.system) (S.told self.new.system)) }
+        ensures failed { Prints self.old.output self.new.output
+            (S.told self.old.system) (S.told self.new.system)
+            ⊎ PrintsThen (ScriptRead ∷ []) self.old.output self.new.output
+            (S.told self.old.system) (S.told self.new.system) }
+        ensures units { self.new.units.items ≡ self.old.units.items }
         ensures faults { self.new.faults ≡ self.old.faults }
         ensures edges { self.new.edges ≡ self.old.edges }
     {
         if !self.finish() {
             return None;
         }
-        let count = read_some(&mut self.input, into);
+        let count = self.system.read(into);
         if count.is_none() {
             self.trouble = Some(Trouble::Input);
         }
@@ -180,6 +256,9 @@ impl<R: Files<File = File> + io::Input + Print + Clock + Drop> FileWorld<R> {
         ensures faults { self.new.faults ≡ counted went self.old.faults }
         ensures cause { HasCause self.old.faults self.new.faults result }
         ensures edges { self.new.edges ≡ self.old.edges }
+        ensures units { self.new.units.items ≡ self.old.units.items }
+        ensures output { self.new.output ≡ self.old.output }
+        ensures told { S.told self.new.system ≡ S.told self.old.system }
     {
         if went {
             return Ok(());
@@ -197,6 +276,9 @@ impl<R: Files<File = File> + io::Input + Print + Clock + Drop> FileWorld<R> {
         ensures edges { self.new.edges ≡ counted (is_some answer) self.old.edges }
         ensures cause { HasCause self.old.edges self.new.edges result }
         ensures faults { self.new.faults ≡ self.old.faults }
+        ensures units { self.new.units.items ≡ self.old.units.items }
+        ensures output { self.new.output ≡ self.old.output }
+        ensures told { S.told self.new.system ≡ S.told self.old.system }
     {
         match answer {
             Some(value) => Ok(value),
@@ -208,7 +290,7 @@ impl<R: Files<File = File> + io::Input + Print + Clock + Drop> FileWorld<R> {
     }
 }
 
-impl<R: Files<File = File> + io::Input + Print + Clock + Drop> World for FileWorld<R> {
+impl<S: System + Drop> World for FileWorld<S> {
     ghost faults = { λ w. w.faults };
 
     ghost edges = { λ w. w.edges };
@@ -216,43 +298,32 @@ impl<R: Files<File = File> + io::Input + Print + Clock + Drop> World for FileWor
     ghost told = { λ w. None };
 
     fn attach(&mut self, name: &str, bsize: u32, access: Access) -> Result<Unit, Failed> {
-        let unit = self.add_image(name, bsize, access);
+        let unit = self.attach_image(name, bsize, access);
         self.edge_answer(unit)
     }
 
     fn read_block(&mut self, unit: u8, block: u32, into: &mut [u8]) -> Result<(), Failed> {
-        let went = match self.units.get(unit as usize) {
-            Some(unit) => unit.read(block, into),
-            None => false,
-        };
+        let went = self.read_unit(unit, block, into);
         self.unit_answer(went)
     }
 
     fn write_block(&mut self, unit: u8, block: u32, from: &[u8]) -> Result<(), Failed> {
-        let written = self.finish();
-        let went = match self.units.get(unit as usize) {
-            Some(unit) if written => unit.write(block, from),
-            _ => false,
-        };
+        let went = self.write_unit(unit, block, from);
         self.unit_answer(went)
     }
 
     fn sync(&mut self, unit: u8) -> Result<(), Failed> {
-        let written = self.finish();
-        let went = match self.units.get(unit as usize) {
-            Some(unit) if written => unit.sync(),
-            _ => false,
-        };
+        let went = self.sync_unit(unit);
         self.unit_answer(went)
     }
 
     fn read(&mut self, into: &mut [u8]) -> Result<usize, Failed> {
-        let count = self.take_script(into);
+        let count = self.read_script(into);
         self.edge_answer(count)
     }
 
     fn type_out(&mut self, from: &[u8]) -> Result<usize, Failed> {
-        let count = self.output.add(&self.rt, from);
+        let count = self.output.add(&mut self.system, from);
         if count.is_none() {
             self.trouble = Some(Trouble::Output);
         }
@@ -260,7 +331,7 @@ impl<R: Files<File = File> + io::Input + Print + Clock + Drop> World for FileWor
     }
 
     fn now(&mut self) -> Result<i64, Failed> {
-        let seconds = seconds(&self.rt);
+        let seconds = self.system.seconds();
         if seconds.is_none() {
             self.trouble = Some(Trouble::Clock);
         }

@@ -1,9 +1,17 @@
 //! The world of real files: [`FileWorld`], whose units are image files, whose console is standard input and output, and whose
-//! clock is the system's.
+//! clock is the system's. It asks a [`System`] for all of that, of which [`Host`] is the real one.
 #![tactic(auto)]
 
 mod file_unit;
 mod file_world;
+mod host;
+#[cfg(test)]
+mod logged;
 mod output;
+mod system;
+mod trouble;
 
-pub use file_world::{FileWorld, Trouble};
+pub use file_world::FileWorld;
+pub use host::Host;
+pub use system::{Deed, Lock, Sharing, System, Warning};
+pub use trouble::Trouble;

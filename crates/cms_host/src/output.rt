@@ -1,9 +1,9 @@
 // Standard output, gathered.
-ghost use Rattle.std.specs.Prelude.{◌≡◌, ◌≤◌, ◌<◌, ◌++◌, [], length, take, IfSome, IfOk, IsTrue, IsNone, false};
-ghost use Rattle.cms_host.specs.Answers.{IsRest};
+ghost use Rattle.std.specs.Prelude.{◌≡◌, ◌≤◌, ◌<◌, ◌↔◌, ◌++◌, [], length, take, IfSome, IfOk, IsTrue, IsNone, false};
+ghost use Rattle.cms_host.specs.Deeds.{Prints, then_done, printing};
 
+use crate::system::System;
 use std::alloc::{AllocError, Global};
-use std::io::ErrorKind;
 use std::marker::Model;
 
 #[cfg(test)]
@@ -12,43 +12,28 @@ mod tests;
 /// How many bytes are gathered.
 const ROOM: usize = 65_536;
 
-/// How often a call that a signal interrupted is made again.
-const TRIES: u32 = 1_000_000;
-
-// Writes at least one byte, from the front, again where a signal interrupted it.
-fn write_some<P: Print>(output: &P, from: &[u8]) -> Option<usize>
-    ensures { IfSome result (λ n. (0 < n) × (n ≤ length from.now)) }
+// Prints all bytes, or as many as it can: how many.
+#[tactic(auto, using(crate::proofs::Printing::front_lemmas))]
+fn print_front<S: System>(system: &mut S, from: &[u8]) -> usize
+    ensures within { result ≤ length from.now }
+    ensures printed { S.told system.new
+        ≡ then_done (S.told system.old) (printing (take result from.now)) }
 {
-    for _ in 0..TRIES {
-        match output.write_some(from) {
-            Ok(0) => return None,
-            Ok(count) => return Some(count),
-            Err(error) if error.kind() == ErrorKind::Interrupted => {}
-            Err(_) => return None,
+    let mut printed = 0;
+    while printed < from.len() {
+        match system.print(&from[printed..]) {
+            Some(count) => printed += count,
+            None => return printed,
         }
     }
-    None
+    printed
 }
 
-// Writes all bytes, or as many as it can: how many.
-fn write_front<P: Print>(output: &P, from: &[u8]) -> usize
-    ensures { result ≤ length from.now }
-{
-    let mut written = 0;
-    while written < from.len() {
-        match write_some(output, &from[written..]) {
-            Some(count) => written += count,
-            None => return written,
-        }
-    }
-    written
-}
-
-/// What was typed and isn't written yet. Contracts see its bytes.
+/// What was typed and isn't printed yet. Contracts see its bytes.
 #[derive(Drop)]
 pub struct Gathered {
     bytes: Vec<u8>,
-    written: usize,
+    printed: usize,
     lines: bool,
 }
 
@@ -57,9 +42,9 @@ impl Model for Gathered {
 
     ghost Value = { List ℕ };
 
-    ghost view = { λ g. drop g.written g.bytes.items };
+    ghost view = { λ g. drop g.printed g.bytes.items };
 
-    ghost invariant = { λ g. g.written ≤ length g.bytes.items };
+    ghost invariant = { λ g. g.printed ≤ length g.bytes.items };
 }
 
 impl Gathered {
@@ -69,29 +54,29 @@ impl Gathered {
     {
         Ok(Gathered {
             bytes: Vec::with_capacity(alloc, ROOM)?,
-            written: 0,
+            printed: 0,
             lines,
         })
     }
 
-    /// Writes all that was gathered, and says whether it could: what couldn't be written stays.
-    #[tactic(auto, using(crate::proofs::Rests::front_gone, crate::proofs::Rests::none_left))]
-    pub fn flush<P: Print>(&mut self, output: &P) -> bool
-        ensures all { IsTrue result → self.new ≡ [] }
-        ensures rest { IsRest self.old self.new }
+    /// Prints all that was gathered, and says whether it could: what couldn't be printed stays.
+    #[tactic(auto, using(crate::proofs::Printing::flush_lemmas))]
+    pub fn flush<S: System>(&mut self, system: &mut S) -> bool
+        ensures all { IsTrue result ↔ (self.new ≡ []) }
+        ensures prints { Prints self.old self.new (S.told system.old) (S.told system.new) }
     {
-        let count = write_front(output, &self.bytes[self.written..]);
-        self.written += count;
-        if self.written < self.bytes.len() {
+        let count = print_front(system, &self.bytes[self.printed..]);
+        self.printed += count;
+        if self.printed < self.bytes.len() {
             return false;
         }
         self.bytes.clear();
-        self.written = 0;
+        self.printed = 0;
         true
     }
 
     // Gathers bytes where there is room for them, and says whether there was.
-    #[tactic(auto, using(crate::proofs::Rests::added_behind))]
+    #[tactic(auto, using(crate::proofs::Printing::gather_lemmas))]
     fn gather(&mut self, from: &[u8]) -> bool
         ensures gathered { IsTrue result → self.new ≡ self.old ++ from.now }
         ensures full { result ≡ false → self.new ≡ self.old }
@@ -108,26 +93,28 @@ impl Gathered {
         }
     }
 
-    /// Takes bytes of the front, at least one: how many, or none where they can't be written.
+    /// Takes bytes of the front, at least one: how many, or none where they can't be printed.
     ///
-    /// They are gathered where there is room for them, once all that was gathered is written where there isn't. More than there
-    /// is ever room for, or where nothing is gathered, they are written at once.
-    #[tactic(auto, using(crate::proofs::Rests::taken_lemmas))]
-    pub fn add<P: Print>(&mut self, output: &P, from: &[u8]) -> Option<usize>
+    /// They are gathered where there is room for them, once all that was gathered is printed where there isn't. More than there
+    /// is ever room for, or where nothing is gathered, they are printed at once.
+    #[tactic(auto, using(crate::proofs::Printing::add_lemmas))]
+    pub fn add<S: System>(&mut self, system: &mut S, from: &[u8]) -> Option<usize>
         requires { 0 < length from.now }
         ensures within { IfSome result (λ n. (0 < n) × (n ≤ length from.now)) }
-        ensures taken { IfSome result (λ n. IsRest (self.old ++ take n from.now) self.new) }
-        ensures failed { IsNone result → IsRest self.old self.new }
+        ensures taken { IfSome result (λ n.
+            Prints (self.old ++ take n from.now) self.new (S.told system.old) (S.told system.new)) }
+        ensures failed { IsNone result
+            → Prints self.old self.new (S.told system.old) (S.told system.new) }
     {
         if self.gather(from) {
             return Some(from.len());
         }
-        if !self.flush(output) {
+        if !self.flush(system) {
             return None;
         }
         if self.gather(from) {
             return Some(from.len());
         }
-        write_some(output, from)
+        system.print(from)
     }
 }

@@ -1,13 +1,100 @@
-// Units that are real files.
-use super::{FileWorld, read_some, seconds};
-use crate::file_unit::tests::path;
+// What a world of files asks of its system, in one log; and units that are real files.
+use super::FileWorld;
+use crate::host::Host;
+use crate::host::tests::path;
+use crate::logged::Logged;
+use crate::system::Lock;
 use cms_world::{Access, World};
-use std::io::{ErrorKind, Read};
 use std::test::Fail;
-use std::time::{Clock, Duration};
 use std::{fs, io};
 
-type Files<'a> = FileWorld<&'a HostRuntime>;
+// A step is a character: `n` and `o` attach a new image and one that is only read, `t` types two letters, `w` and `g` write and read
+// a block of the first unit, `y` syncs it, `r` reads the script, `c` the clock. Before it `0`, `1` and `9` give the printer so much
+// room, `u` and `k` make locks unknown and refused, and `x`, `d` and `z` make the next sync, folders and writes fail.
+fn prepare(system: &mut Logged, step: char) -> bool {
+    match step {
+        '0' => system.room = 0,
+        '1' => system.room = 1,
+        '9' => system.room = 9,
+        'u' => system.lock = Lock::Unknown,
+        'k' => system.lock = Lock::Refused,
+        'x' => system.sync_fails = true,
+        'd' => system.folder_fails = true,
+        'z' => system.write_fails = true,
+        _ => return false,
+    }
+    true
+}
+
+fn went(world: &mut FileWorld<Logged>, step: char) -> bool {
+    let mut block = [0; 512];
+    match step {
+        'n' => world.attach("i", 512, Access::New(8)).is_ok(),
+        'o' => world.attach("i", 512, Access::ReadOnly).is_ok(),
+        't' => world.type_out(b"ab").is_ok(),
+        'w' => world.write_block(0, 1, &block).is_ok(),
+        'g' => world.read_block(0, 1, &mut block).is_ok(),
+        'y' => world.sync(0).is_ok(),
+        'r' => world.read(&mut block).is_ok(),
+        _ => world.now().is_ok(),
+    }
+}
+
+// What a world asks of its system at these steps, behind each a dot where it went and a hyphen where not; and how many failed.
+fn asked(rt: &HostRuntime, steps: &str) -> io::Result<String> {
+    let mut world = FileWorld::new(rt.alloc(), Logged::new(rt.alloc()), false)?;
+    for step in steps.chars() {
+        if !prepare(&mut world.system, step) {
+            let went = went(&mut world, step);
+            world.system.log.push(if went { '.' } else { '-' })?;
+        }
+    }
+    let log = world.system.log.as_str();
+    Ok(format!(in rt.alloc(); "{log} {},{}", world.faults, world.edges)?)
+}
+
+const ROWS: &[(&str, &str)] = &[
+    // an image is locked before it is made, and its folder synced in the end
+    ("no", "OLSYD.OL. 0,0"),
+    // what was typed is printed before a unit is written or synced, before the script is read, and before an image is attached
+    ("n9twtytrto", "OLSYD..abW..abY..abR..abOL. 0,0"),
+    // where it can't be printed nothing is done, and a part that could isn't printed again
+    ("ntwyrog9w", "OLSYD..----G.abW. 2,2"),
+    ("nt1w9w", "OLSYD..a-bW. 1,0"),
+    // a sync that failed is never believed again, and that is told once
+    ("nxyywgy", "OLSYD.Y!--W.G.- 3,0"),
+    // writes that fail are asked for and counted
+    ("nzwy", "OLSYD.W-Y. 1,0"),
+    // where locks aren't known the session goes on, and that is told once; where one is refused nothing is made
+    ("uno", "OLSYD!.OL. 0,0"),
+    ("kno", "OL-OL- 0,2"),
+    // a new image that can't be synced, or whose folder can't be, isn't attached
+    ("xn", "OLSY- 0,1"),
+    ("dnc", "OLSYD-- 0,2"),
+];
+
+// The first row that comes out otherwise; nothing where there is none.
+fn other_row(rt: &HostRuntime) -> io::Result<String> {
+    for (steps, wanted) in ROWS {
+        let log = asked(rt, steps)?;
+        if log.as_str() != *wanted {
+            return Ok(format!(in rt.alloc(); "{steps}: {log}")?);
+        }
+    }
+    Ok(String::new(rt.alloc()))
+}
+
+#[test]
+fn what_is_asked_of_the_system_comes_in_order(rt: HostRuntime) -> Result<(), Fail> {
+    assert_eq!(rt; other_row(&rt)?.as_str(), "");
+    Ok(())
+}
+
+type Files<'a> = FileWorld<Host<&'a HostRuntime>>;
+
+fn world(rt: &HostRuntime) -> io::Result<Files<'_>> {
+    Ok(FileWorld::new(rt.alloc(), Host::new(rt.alloc(), rt), false)?)
+}
 
 // What comes of attaching images, each with a semicolon behind it: the unit's number and its blocks, or a hyphen.
 fn attached(
@@ -27,32 +114,43 @@ fn attached(
     Ok(told)
 }
 
-// The same of a torn image, of a new one, and of a folder, and how many calls failed.
+// The same of a torn image, of a new one, of a folder, and of images that are in use, in two worlds at once.
 fn attachings<'a>(rt: &'a HostRuntime, torn: &'a str, new: &'a str) -> io::Result<String> {
     fs::write(rt, torn, &[7; 2000])?;
-    let mut world = FileWorld::new(rt.alloc(), rt, false)?;
+    let mut first = world(rt)?;
+    let mut second = world(rt)?;
     let rows = [
+        (torn, Access::ReadOnly),
+        (torn, Access::ReadOnly),
         (torn, Access::ReadWrite),
         (new, Access::ReadOnly),
         ("/", Access::ReadOnly),
         (new, Access::New(8)),
         (new, Access::New(8)),
-        (torn, Access::New(8)),
         (new, Access::ReadOnly),
     ];
-    let told = attached(rt, &mut world, &rows)?;
+    let one = attached(rt, &mut first, &rows)?;
+    let rows = [
+        (torn, Access::ReadOnly),
+        (torn, Access::ReadWrite),
+        (new, Access::ReadWrite),
+        (new, Access::ReadOnly),
+    ];
+    let other = attached(rt, &mut second, &rows)?;
+    drop(first);
+    let later = attached(rt, &mut second, &[(new, Access::ReadWrite)])?;
     fs::remove_file(rt, torn)?;
     fs::remove_file(rt, new)?;
-    Ok(format!(in rt.alloc(); "{told}{},{}", world.faults, world.edges)?)
+    Ok(format!(in rt.alloc(); "{one} {other} {later}")?)
 }
 
 #[test]
-fn images_are_attached(rt: HostRuntime) -> Result<(), Fail> {
+fn images_are_attached_and_locked(rt: HostRuntime) -> Result<(), Fail> {
     let torn = path(&rt, "torn")?;
     let new = path(&rt, "new")?;
     assert_eq!(rt;
         attachings(&rt, &torn, &new)?.as_str(),
-        "0 3;-;-;1 8;-;-;2 8;0,4"
+        "0 3;1 3;-;-;-;2 8;-;-; 0 3;-;-;-; 1 8;"
     );
     Ok(())
 }
@@ -83,18 +181,19 @@ const WRITES: [(u8, u32, u8); 6] = [
 const READS: [(u8, u32); 8] = [
     (0, 1),
     (0, 2),
+    (0, 3),
+    (0, 8),
     (1, 2),
-    (1, 3),
-    (1, 8),
     (0, 0),
     (0, 9),
     (2, 1),
 ];
 
-// What comes of these calls on a new image that is attached once more, to be read alone; and how many failed.
-fn written_and_read(rt: &HostRuntime, name: &str) -> io::Result<String> {
-    let mut world = FileWorld::new(rt.alloc(), rt, false)?;
-    let rows = [(name, Access::New(8)), (name, Access::ReadOnly)];
+// What comes of these calls on a new image and one that is read alone; and how many failed.
+fn written_and_read<'a>(rt: &'a HostRuntime, name: &'a str, other: &'a str) -> io::Result<String> {
+    fs::write(rt, other, &[7; 2000])?;
+    let mut world = world(rt)?;
+    let rows = [(name, Access::New(8)), (other, Access::ReadOnly)];
     let mut told = attached(rt, &mut world, &rows)?;
     for (unit, block, letter) in WRITES {
         told.push(if fill(&mut world, unit, block, letter) {
@@ -111,79 +210,24 @@ fn written_and_read(rt: &HostRuntime, name: &str) -> io::Result<String> {
         })?;
     }
     fs::remove_file(rt, name)?;
+    fs::remove_file(rt, other)?;
     Ok(format!(in rt.alloc(); "{told};{},{}", world.faults, world.edges)?)
 }
 
 #[test]
 fn blocks_are_written_and_read(rt: HostRuntime) -> Result<(), Fail> {
     let name = path(&rt, "blocks")?;
+    let other = path(&rt, "other")?;
     assert_eq!(rt;
-        written_and_read(&rt, &name)?.as_str(),
-        "0 8;1 8;ww----;09905---;7,0"
-    );
-    Ok(())
-}
-
-// A clock that stands still, or one that can't be read.
-#[derive(Drop)]
-struct Still(Option<u64>);
-
-impl Clock for Still {
-    fn monotonic(&self) -> io::Result<Duration> {
-        Err(io::Error::from(ErrorKind::Unsupported))
-    }
-
-    fn since_1970(&self) -> io::Result<Duration> {
-        match self.0 {
-            Some(seconds) => Ok(Duration::from_secs(seconds)),
-            None => Err(io::Error::from(ErrorKind::Unsupported)),
-        }
-    }
-}
-
-// A reader that is interrupted, gives three bytes, and fails.
-#[derive(Drop)]
-struct Breaks(u32);
-
-impl Read for Breaks {
-    fn read(&mut self, into: &mut [u8]) -> io::Result<usize> {
-        self.0 = self.0.wrapping_add(1);
-        match self.0 {
-            1 => Err(io::Error::from(ErrorKind::Interrupted)),
-            2 => {
-                let count = into.len().min(3);
-                into[..count].fill(b'X');
-                Ok(count)
-            }
-            _ => Err(io::Error::from(ErrorKind::BrokenPipe)),
-        }
-    }
-}
-
-fn clocks_and_reads(rt: &HostRuntime) -> io::Result<String> {
-    let clocks = [seconds(&Still(Some(946_684_800))), seconds(&Still(None))];
-    let mut reader = Breaks(0);
-    let mut bytes = [b'-'; 5];
-    let reads = [
-        read_some(&mut reader, &mut bytes),
-        read_some(&mut reader, &mut bytes),
-    ];
-    let text = str::from_utf8(&bytes).unwrap_or("");
-    Ok(format!(in rt.alloc(); "{clocks:?} {reads:?} {text}")?)
-}
-
-#[test]
-fn clocks_and_readers_that_fail(rt: HostRuntime) -> Result<(), Fail> {
-    assert_eq!(rt;
-        clocks_and_reads(&rt)?.as_str(),
-        "[Some(946684800), None] [Some(3), None] XXX--"
+        written_and_read(&rt, &name, &other)?.as_str(),
+        "0 8;1 3;ww----;09057---;7,0"
     );
     Ok(())
 }
 
 #[test]
 fn the_clock_is_the_systems(rt: HostRuntime) -> Result<(), Fail> {
-    let mut world = FileWorld::new(rt.alloc(), &rt, false)?;
+    let mut world = world(&rt)?;
     assert!(rt; world.now().is_ok_and(|seconds| seconds > 1_700_000_000));
     Ok(())
 }

@@ -1,0 +1,31 @@
+use Rattle.std.proofs.Common.{◌≡◌, ◌∙◌, ◌<◌, [], ◌∷◌, Option, Some, IfSome, IsTrue, not, true, false, length, slice_get, slice_set, refl, sym, ap, subst, inl, inr, arith, rules}
+use Rattle.std.proofs.lemmas.Option.{slice_get_read}
+use Rattle.cms_host.specs.declared.file_unit.FileUnit.{FileUnit}
+use Rattle.cms_host.proofs.Printing.{done_behind}
+use Rattle.cms_host.proofs.Found.{there_too, put_there}
+use Rattle.cms_host.proofs.file_world.FileWorld.sync_unit.Goals as goal
+
+pub returns-else-not-synced-clause-synced : goal.returns-else-not-synced-clause-synced
+returns-else-not-synced-clause-synced g c =
+    let inside : c.args.unit < length c.finish.new.self.units.items = omega (arith, c.finish.new.self.units.ok.0) in
+    let there : slice_get c.finish.new.self.units.items c.args.unit ≡ Some c.index.result.now = slice_get_read _ _ _ _ refl inside c.index.ensures in
+    let none : c.finish.new.self.output ≡ [] = search rules in
+    λ went. record {
+      of = c.index.result.now;
+      found = there_too _ _ _ _ c.finish.ensures.units there;
+      done = done_behind _ _ _ _ _ _ _ c.finish.ensures.prints none refl (c.sync-synced.ensures.synced went);
+    }
+
+pub returns-else-not-synced-clause-believed : goal.returns-else-not-synced-clause-believed
+returns-else-not-synced-clause-believed g c =
+    let inside : c.args.unit < length c.finish.new.self.units.items = omega (arith, c.finish.new.self.units.ok.0) in
+    let there : slice_get c.finish.new.self.units.items c.args.unit ≡ Some c.index.result.now = slice_get_read _ _ _ _ refl inside c.index.ensures in
+    λ went.
+    let here : c.index.result.now.lost ≡ false = grind (arith, c.sync-synced.ensures.believed, went) in
+    subst (λ (o : Option FileUnit). IfSome o (λ (u : FileUnit). u.lost ≡ false)) (sym (there_too _ _ _ _ c.finish.ensures.units there)) here
+
+pub returns-else-not-synced-clause-lost : goal.returns-else-not-synced-clause-lost
+returns-else-not-synced-clause-lost g c =
+    let inside : c.args.unit < length c.finish.new.self.units.items = omega (arith, c.finish.new.self.units.ok.0) in
+    λ failed. inr (subst (λ (o : Option FileUnit). IfSome o (λ (u : FileUnit). IsTrue u.lost)) (sym (put_there c.finish.new.self.units.items c.args.unit c.sync-synced.new.self inside))
+    (ap (λ (u : FileUnit). u.lost) c.sync-synced.ensures.lost ∙ ap not failed))
