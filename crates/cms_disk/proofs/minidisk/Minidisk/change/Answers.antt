@@ -2,7 +2,7 @@ use Rattle.std.proofs.Common.{rules, ◌≡◌, Some, sym, ◌∙◌, ap, subst}
 use Rattle.std.proofs.lemmas.Result.{err_from_is_err_and}
 use Rattle.cms_held.specs.Kept.{Keeps}
 use Rattle.cms_held.specs.Opening.{HeldVolume, Holding}
-use Rattle.cms_journal.specs.Journal.{Journal, IsWritable}
+use Rattle.cms_journal.specs.Journal.{Journal, HasBlocks, IsWritable}
 use Rattle.cms_journal.specs.Told.{plus}
 use Rattle.cms_model.specs.Minidisks as minidisks
 use Rattle.cms_edf.specs.Finishing.{IsStopped, LeadsTo, step_events}
@@ -36,6 +36,11 @@ carry_out-requires-clause-plan g c = record {
   stamp = c.args.stamp.now;
   is = subst (λ (v : HeldVolume). IsPlanFor v (change_of c.args.change.now) c.args.stamp.now c.in_ok-plan.plan) (sym c.plan.ensures.volume) c.in_ok-plan.ensures.planned;
 }
+
+pub carry_out-requires-clause-blocks : goal.carry_out-requires-clause-blocks
+carry_out-requires-clause-blocks g c = λ j told.
+    subst (λ (v : HeldVolume). HasBlocks j.units v.unit v.disk.count v.disk.bsize)
+    (sym (c.plan.ensures.volume ∙ ap (λ (a : Accessed). a.volume) c.self.view_is)) (c.requires.blocks j told)
 
 pub carry_out-requires-clause-writable : goal.carry_out-requires-clause-writable
 carry_out-requires-clause-writable g c = λ j told.
