@@ -26,17 +26,35 @@ WORD = "191,512,rw,a.img"
 MAKE = b"FORMAT 191 A\nYES\nMADE01\nEXECIO 1 DISKW FIRST FILE A (STRING one\nQUERY DISK\n"
 CHANGE = b"EXECIO 1 DISKW SECOND FILE A (STRING two\nLISTFILE\n"
 
-# Each call is counted where CMS_FAIL names it, as in `fdatasync=1:5`: the first call fails with error 5. `flock=*:95` fails them all.
+# What CHANGE types where its update fails: the fault, and the list of what is there; or, where the label may be there or not, a disk that
+# was given up.
+FAULT = "CMS105E Device fault on 191\nR(00100);\n"
+KEPT = "FIRST    FILE     A1\nR;\n"
+GIVEN_UP = "CMS069E Disk A is not accessed\nR(00036);\n"
+
+# The label is the third block. The first block that an update of the image writes is behind it, and goes over this end.
+LABEL_ENDS = 3 * 512
+LIMIT = 5 * 512 + 40
+
+# Each call is counted where CMS_FAIL names it, as in `fdatasync=1:5`: the first call fails with error 5. `flock=*:95` fails them all. Each
+# that fails is written to the file that CMS_LOG names.
 LIBRARY = r"""
 #define _GNU_SOURCE
 #include <dlfcn.h>
 #include <errno.h>
+#include <fcntl.h>
 #include <stdlib.h>
 #include <string.h>
 #include <sys/stat.h>
 #include <sys/types.h>
 #include <time.h>
 #include <unistd.h>
+
+static void told(const char *call) {
+    int log = open(getenv("CMS_LOG"), O_WRONLY | O_CREAT | O_APPEND, 0600);
+    if (write(log, call, strlen(call)) < 0) abort();
+    close(log);
+}
 
 static int fails(const char *call, int *count) {
     const char *rule = getenv("CMS_FAIL");
@@ -45,6 +63,7 @@ static int fails(const char *call, int *count) {
     rule += length + 1;
     *count += 1;
     if (*rule != '*' && atoi(rule) != *count) return 0;
+    told(call);
     errno = atoi(strchr(rule, ':') + 1);
     return 1;
 }
@@ -90,6 +109,7 @@ ssize_t pwrite(int fd, const void *bytes, size_t size, off_t at) { return pwrite
 int clock_gettime(clockid_t which, struct timespec *time) {
     static int count;
     if (which == CLOCK_REALTIME && getenv("CMS_FAIL") && !strcmp(getenv("CMS_FAIL"), "1969")) {
+        told("clock");
         time->tv_sec = -1000;
         time->tv_nsec = 0;
         return 0;
@@ -114,15 +134,19 @@ def plain():
 def environment(fail):
     given = dict(os.environ)
     if fail:
-        given |= {"LD_PRELOAD": os.path.abspath("fails.so"), "CMS_FAIL": fail}
+        given |= {"LD_PRELOAD": os.path.abspath("fails.so"), "CMS_FAIL": fail, "CMS_LOG": os.path.abspath("failed")}
     return given
 
 
 def session(words, text, fail=None, prepare=plain, output=subprocess.PIPE):
-    """The status of a whole session, what it types, and the lines that it says."""
+    """The status of a whole session, what it types, and the lines that it says. What is to fail must have failed."""
+    failed = pathlib.Path("failed")
+    failed.unlink(missing_ok=True)
     done = subprocess.run(
         [PROGRAM, *words], input=text, stdout=output, stderr=subprocess.PIPE, preexec_fn=prepare, env=environment(fail), timeout=SECONDS, check=False
     )
+    if fail and not failed.exists():
+        raise Failed(f"{fail} never came: status {done.returncode}, typed {done.stdout!r}")
     return done.returncode, (done.stdout or b"").decode(), done.stderr.decode().splitlines()
 
 
@@ -278,12 +302,10 @@ def folder_is_synced():
     return "as it must be"
 
 
-def write_fails(nth):
-    """No room in the middle of a block of an update: it is typed, and the minidisk stands."""
+def write_fails(nth, behind):
+    """No room in the middle of a block of an update: its line says so, the next one goes on as it must, and the minidisk stands."""
     image()
-    code, typed, said = session([WORD], CHANGE, fail=f"pwrite={nth}:28")
-    if code != 0 or said or "R(00100)" not in typed and "R;" not in typed:
-        raise Failed(f"status {code}, typed {typed!r}, said {said}")
+    expect(session([WORD], CHANGE, fail=f"pwrite={nth}:28"), 0, [], FAULT + behind)
     return after()
 
 
@@ -305,15 +327,15 @@ def no_room_in_system():
 def few_bytes():
     plain()
     signal.signal(signal.SIGXFSZ, signal.SIG_IGN)
-    resource.setrlimit(resource.RLIMIT_FSIZE, (6_000, 6_000))
+    resource.setrlimit(resource.RLIMIT_FSIZE, (LIMIT, LIMIT))
 
 
 def limited_file():
-    """The process may write no byte behind the first 6,000 of a file."""
-    image()
-    code, typed, said = session([WORD], CHANGE * 9, prepare=few_bytes)
-    if code or said:
-        raise Failed(f"status {code}, said {said}, typed {typed!r}")
+    """The process may write only the front of a file, which ends within the first block of an update: no update is made."""
+    before = image()
+    expect(session([WORD], CHANGE * 3, prepare=few_bytes), 0, [], (FAULT + KEPT) * 3)
+    if pathlib.Path("a.img").read_bytes()[:LABEL_ENDS] != before[:LABEL_ENDS]:
+        raise Failed("the label was written")
     return after()
 
 
@@ -366,8 +388,8 @@ def all_cases():
     yield "a folder that can't be synced", folder_fails
     yield "a folder that can't be opened", closed_folder
     yield "the order of the calls that make an image", folder_is_synced
-    for nth in range(1, 6):
-        yield f"write {nth} of an update has no room", functools.partial(write_fails, nth)
+    for nth, behind in enumerate([KEPT, KEPT, KEPT, GIVEN_UP], 1):
+        yield f"write {nth} of an update has no room", functools.partial(write_fails, nth, behind)
     yield "a file system that is full", no_room_in_system
     yield "a file that may not grow", limited_file
     yield "updates behind lines that can't be typed", lambda: without_output(b"LISTFILE\n" + CHANGE)
