@@ -1,2 +1,3 @@
 mod Printing
 mod Found
+mod Failures

@@ -1,13 +1,6 @@
--- How a world of files answers, and counts its failures.
-use Rattle.std.specs.Prelude.{◌≡◌, ℕ, ◌+◌, ◌-◌, ◌^◌, min, Bool, true, false, Option, Some, None, Result, Ok, Err}
-use Rattle.cms_journal.specs.declared.event.Failed.{Failed}
+-- How a world of files counts its failures.
+use Rattle.std.specs.Prelude.{ℕ, ◌+◌, ◌-◌, ◌^◌, min}
 
--- a count of failures after a call that went, or one that failed: one more, up to the last value of a counter
-abbrev pub counted : Bool → ℕ → ℕ
-counted true count = count
-counted false count = min (count + 1) (2 ^ 64 - 1)
-
--- what was got, or a failure
-abbrev pub answer_of : {T : Type 0} → Option T → Result T Failed
-answer_of (Some value) = Ok value
-answer_of None = Err (record {})
+-- a count of failures after one more, up to the last value of a counter
+abbrev pub one_more : ℕ → ℕ
+one_more count = min (count + 1) (2 ^ 64 - 1)

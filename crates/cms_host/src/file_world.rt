@@ -1,7 +1,8 @@
 // The world of real files, the standard streams and the system's clock.
-ghost use Rattle.std.specs.Prelude.{◌≡◌, ◌≢◌, ◌≤◌, ◌<◌, ◌↔◌, ◌-◌, ◌*◌, ◌⊎◌, [], ◌∷◌, length, take, slice_get, vec_len, false, None, IfSome, IsNone, OnSome, IfOk, OnOk, OnErr, IsOk, IsTrue, is_some};
+ghost use Rattle.std.specs.Prelude.{◌≡◌, ◌≢◌, ◌≤◌, ◌<◌, ◌↔◌, ◌-◌, ◌*◌, ◌⊎◌, [], ◌∷◌, ◌++◌, length, take, slice_get, vec_len, false, None, IfSome, IsNone, OnSome, IfOk, OnOk, OnErr, IsTrue, is_ok};
 ghost use Rattle.cms_journal.specs.Causes.{HasCause};
-ghost use Rattle.cms_host.specs.Answers.{counted, answer_of};
+ghost use Rattle.cms_journal.specs.Journal.{IsBlockSize};
+ghost use Rattle.cms_host.specs.Answers.{one_more};
 ghost use Rattle.cms_host.specs.Deeds.{Prints, PrintsThen, opening_deeds};
 ghost use Rattle.cms_host.specs.Units.{OnlyLoses, UnitDeeds};
 ghost use Rattle.cms_host.specs.declared.system.Deed.TheVariants.{Wrote, Synced, ScriptRead};
@@ -250,46 +251,37 @@ impl<S: System + Drop> FileWorld<S> {
         count
     }
 
-    // The answer of a call on a unit, counted where it failed.
-    fn unit_answer(&mut self, went: bool) -> Result<(), Failed>
-        ensures answer { IsOk result ↔ IsTrue went }
-        ensures faults { self.new.faults ≡ counted went self.old.faults }
-        ensures cause { HasCause self.old.faults self.new.faults result }
+    // A failed call on a unit, counted.
+    fn unit_failed(&mut self) -> Failed
+        ensures faults { self.new.faults ≡ one_more self.old.faults }
+        ensures later { self.old.faults ≤ self.new.faults }
         ensures edges { self.new.edges ≡ self.old.edges }
         ensures units { self.new.units.items ≡ self.old.units.items }
         ensures output { self.new.output ≡ self.old.output }
         ensures told { S.told self.new.system ≡ S.told self.old.system }
     {
-        if went {
-            return Ok(());
-        }
         self.faults = self.faults.saturating_add(1);
         if self.trouble.is_none() {
             self.trouble = Some(Trouble::Device);
         }
-        Err(Failed)
+        Failed
     }
 
-    // The answer of another call, counted where it failed.
-    fn edge_answer<T: Drop>(&mut self, answer: Option<T>) -> Result<T, Failed>
-        ensures answer { result ≡ answer_of answer }
-        ensures edges { self.new.edges ≡ counted (is_some answer) self.old.edges }
-        ensures cause { HasCause self.old.edges self.new.edges result }
+    // Another failed call, counted.
+    fn edge_failed(&mut self) -> Failed
+        ensures edges { self.new.edges ≡ one_more self.old.edges }
+        ensures later { self.old.edges ≤ self.new.edges }
         ensures faults { self.new.faults ≡ self.old.faults }
         ensures units { self.new.units.items ≡ self.old.units.items }
         ensures output { self.new.output ≡ self.old.output }
         ensures told { S.told self.new.system ≡ S.told self.old.system }
     {
-        match answer {
-            Some(value) => Ok(value),
-            None => {
-                self.edges = self.edges.saturating_add(1);
-                Err(Failed)
-            }
-        }
+        self.edges = self.edges.saturating_add(1);
+        Failed
     }
 }
 
+#[tactic(auto, using(crate::proofs::Failures::cause_of))]
 impl<S: System + Drop> World for FileWorld<S> {
     ghost faults = { λ w. w.faults };
 
@@ -297,44 +289,127 @@ impl<S: System + Drop> World for FileWorld<S> {
 
     ghost told = { λ w. None };
 
-    fn attach(&mut self, name: &str, bsize: u32, access: Access) -> Result<Unit, Failed> {
-        let unit = self.attach_image(name, bsize, access);
-        self.edge_answer(unit)
-    }
-
-    fn read_block(&mut self, unit: u8, block: u32, into: &mut [u8]) -> Result<(), Failed> {
-        let went = self.read_unit(unit, block, into);
-        self.unit_answer(went)
-    }
-
-    fn write_block(&mut self, unit: u8, block: u32, from: &[u8]) -> Result<(), Failed> {
-        let went = self.write_unit(unit, block, from);
-        self.unit_answer(went)
-    }
-
-    fn sync(&mut self, unit: u8) -> Result<(), Failed> {
-        let went = self.sync_unit(unit);
-        self.unit_answer(went)
-    }
-
-    fn read(&mut self, into: &mut [u8]) -> Result<usize, Failed> {
-        let count = self.read_script(into);
-        self.edge_answer(count)
-    }
-
-    fn type_out(&mut self, from: &[u8]) -> Result<usize, Failed> {
-        let count = self.output.add(&mut self.system, from);
-        if count.is_none() {
-            self.trouble = Some(Trouble::Output);
+    fn attach(&mut self, name: &str, bsize: u32, access: Access) -> Result<Unit, Failed>
+        requires { IsBlockSize bsize }
+        ensures number { IfOk result (λ unit. unit.number ≡ length self.old.units.items) }
+        ensures opened { IfOk result (λ unit. UnitDeeds self.new.units.items unit.number
+            (λ u. opening_deeds u.file name.now bsize access u.lock) self.old.output self.new.output
+            (S.told self.old.system) (S.told self.new.system)) }
+        ensures units { OnOk result (take (length self.old.units.items) self.new.units.items
+            ≡ self.old.units.items) }
+        ensures kept { OnErr result (self.new.units.items ≡ self.old.units.items) }
+        ensures cause { HasCause self.old.edges self.new.edges result }
+        ensures faults { self.new.faults ≡ self.old.faults }
+    {
+        match self.attach_image(name, bsize, access) {
+            Some(unit) => Ok(unit),
+            None => Err(self.edge_failed()),
         }
-        self.edge_answer(count)
     }
 
-    fn now(&mut self) -> Result<i64, Failed> {
-        let seconds = self.system.seconds();
-        if seconds.is_none() {
-            self.trouble = Some(Trouble::Clock);
+    fn read_block(&mut self, unit: u8, block: u32, into: &mut [u8]) -> Result<(), Failed>
+        ensures done { S.told self.new.system ≡ S.told self.old.system }
+        ensures output { self.new.output ≡ self.old.output }
+        ensures units { self.new.units.items ≡ self.old.units.items }
+        ensures cause { HasCause self.old.faults self.new.faults result }
+        ensures edges { self.new.edges ≡ self.old.edges }
+    {
+        if self.read_unit(unit, block, into) {
+            return Ok(());
         }
-        self.edge_answer(seconds)
+        Err(self.unit_failed())
+    }
+
+    fn write_block(&mut self, unit: u8, block: u32, from: &[u8]) -> Result<(), Failed>
+        ensures done { OnOk result (UnitDeeds self.old.units.items unit
+            (λ u. Wrote u.file ((block - 1) * u.bsize) from.now ∷ [])
+            self.old.output self.new.output (S.told self.old.system) (S.told self.new.system)) }
+        ensures may_be_done { Prints self.old.output self.new.output
+            (S.told self.old.system) (S.told self.new.system)
+            ⊎ UnitDeeds self.old.units.items unit
+            (λ u. Wrote u.file ((block - 1) * u.bsize) from.now ∷ [])
+            self.old.output self.new.output (S.told self.old.system) (S.told self.new.system) }
+        ensures units { self.new.units.items ≡ self.old.units.items }
+        ensures cause { HasCause self.old.faults self.new.faults result }
+        ensures edges { self.new.edges ≡ self.old.edges }
+    {
+        if self.write_unit(unit, block, from) {
+            return Ok(());
+        }
+        Err(self.unit_failed())
+    }
+
+    fn sync(&mut self, unit: u8) -> Result<(), Failed>
+        ensures done { OnOk result (UnitDeeds self.old.units.items unit
+            (λ u. Synced u.file ∷ []) self.old.output self.new.output
+            (S.told self.old.system) (S.told self.new.system)) }
+        ensures believed { OnOk result (IfSome (slice_get self.old.units.items unit)
+            (λ u. u.lost ≡ false)) }
+        ensures prints { OnErr result (Prints self.old.output self.new.output
+            (S.told self.old.system) (S.told self.new.system)) }
+        ensures lost { OnErr result ((self.new.output ≢ [])
+            ⊎ IfSome (slice_get self.new.units.items unit) (λ u. IsTrue u.lost)) }
+        ensures units { OnlyLoses unit (is_ok result) self.old.units.items self.new.units.items }
+        ensures cause { HasCause self.old.faults self.new.faults result }
+        ensures edges { self.new.edges ≡ self.old.edges }
+    {
+        if self.sync_unit(unit) {
+            return Ok(());
+        }
+        Err(self.unit_failed())
+    }
+
+    fn read(&mut self, into: &mut [u8]) -> Result<usize, Failed>
+        ensures within { IfOk result (λ n. n ≤ length into.old) }
+        ensures done { OnOk result (PrintsThen (ScriptRead ∷ []) self.old.output self.new.output
+            (S.told self.old.system) (S.told self.new.system)) }
+        ensures may_be_done { Prints self.old.output self.new.output
+            (S.told self.old.system) (S.told self.new.system)
+            ⊎ PrintsThen (ScriptRead ∷ []) self.old.output self.new.output
+            (S.told self.old.system) (S.told self.new.system) }
+        ensures units { self.new.units.items ≡ self.old.units.items }
+        ensures cause { HasCause self.old.edges self.new.edges result }
+        ensures faults { self.new.faults ≡ self.old.faults }
+    {
+        match self.read_script(into) {
+            Some(count) => Ok(count),
+            None => Err(self.edge_failed()),
+        }
+    }
+
+    fn type_out(&mut self, from: &[u8]) -> Result<usize, Failed>
+        requires { 0 < length from.now }
+        ensures within { IfOk result (λ n. (0 < n) × (n ≤ length from.now)) }
+        ensures taken { IfOk result (λ n. Prints (self.old.output ++ take n from.now)
+            self.new.output (S.told self.old.system) (S.told self.new.system)) }
+        ensures prints { OnErr result (Prints self.old.output self.new.output
+            (S.told self.old.system) (S.told self.new.system)) }
+        ensures units { self.new.units.items ≡ self.old.units.items }
+        ensures cause { HasCause self.old.edges self.new.edges result }
+        ensures faults { self.new.faults ≡ self.old.faults }
+    {
+        match self.output.add(&mut self.system, from) {
+            Some(count) => Ok(count),
+            None => {
+                self.trouble = Some(Trouble::Output);
+                Err(self.edge_failed())
+            }
+        }
+    }
+
+    fn now(&mut self) -> Result<i64, Failed>
+        ensures done { S.told self.new.system ≡ S.told self.old.system }
+        ensures output { self.new.output ≡ self.old.output }
+        ensures units { self.new.units.items ≡ self.old.units.items }
+        ensures cause { HasCause self.old.edges self.new.edges result }
+        ensures faults { self.new.faults ≡ self.old.faults }
+    {
+        match self.system.seconds() {
+            Some(seconds) => Ok(seconds),
+            None => {
+                self.trouble = Some(Trouble::Clock);
+                Err(self.edge_failed())
+            }
+        }
     }
 }

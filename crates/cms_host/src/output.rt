@@ -59,7 +59,8 @@ impl Gathered {
         })
     }
 
-    /// Prints all that was gathered, and says whether it could: what couldn't be printed stays.
+    /// Prints all that was gathered, and says whether it could: what couldn't be printed stays. A printer may take some bytes before
+    /// it fails, so what was printed then is any front of them.
     #[tactic(auto, using(crate::proofs::Printing::flush_lemmas))]
     pub fn flush<S: System>(&mut self, system: &mut S) -> bool
         ensures all { IsTrue result ↔ (self.new ≡ []) }

@@ -1,5 +1,5 @@
 // What a world of files asks of the system that it runs on.
-ghost use Rattle.std.specs.Prelude.{◌≡◌, ◌≤◌, ◌<◌, ℕ, List, [], ◌∷◌, length, take, Option, false, IfOk, OnOk, IfSome, IsNone, IsTrue};
+ghost use Rattle.std.specs.Prelude.{◌≡◌, ◌≤◌, ◌<◌, ℕ, List, [], ◌∷◌, length, take, Option, false, IfOk, OnOk, IfSome, OnSome, IsNone, IsTrue};
 ghost use Rattle.cms_host.specs.Deeds.{then_done, MayDo, printing, lock_deeds};
 ghost use Rattle.cms_host.specs.declared.system.Deed.{Deed};
 ghost use Rattle.cms_host.specs.declared.system.Deed.TheVariants.{Opened, Sized, Wrote, Synced, FolderSynced, ScriptRead};
@@ -119,7 +119,8 @@ pub trait System {
     /// Reads the next bytes of the script into the front of a slice: how many, of which none are its end, or none where it can't.
     fn read(&mut self, into: &mut [u8]) -> Option<usize>
         ensures within { IfSome result (λ n. n ≤ length into.old) }
-        ensures done { told self.new ≡ then_done (told self.old) (ScriptRead ∷ []) };
+        ensures done { OnSome result (told self.new ≡ then_done (told self.old) (ScriptRead ∷ [])) }
+        ensures failed { MayDo (ScriptRead ∷ []) (told self.old) (told self.new) };
 
     /// The seconds since 1970-01-01 00:00:00 UTC, 0 before that; none where the clock can't be read.
     fn seconds(&mut self) -> Option<i64>
