@@ -1,17 +1,21 @@
-// A system of the tests, which writes down what it is asked for and fails where it is told to.
-ghost use Rattle.std.specs.Prelude.{None};
+// A system of the tests, which writes down what it is asked for, tells what it did, and fails where it is told to.
+ghost use Rattle.std.specs.Prelude.{◌≡◌, ◌++◌, [], ◌∷◌, Some, IfOk, OnOk, OnErr};
+ghost use Rattle.cms_host.specs.Deeds.{printing};
 
-use crate::system::{Lock, Sharing, System, Warning};
+use crate::system::{Deed, Lock, Sharing, System, Warning};
+use cms_journal::Bytes;
 use cms_world::Access;
-use std::alloc::Global;
+use std::alloc::{AllocError, Global};
 use std::io;
 use std::io::ErrorKind;
 
-/// A system that does nothing, and writes down each call as a character: `O` opens an image and `L` asks for its lock, `S` gives
-/// it its size, `Y` syncs it and `D` its folder, `G` reads a block and `W` writes one, `R` reads the script and `!` warns. What is
-/// printed stands there itself, three bytes at a time at most.
+/// A system without files, which tells what it did, and writes down each call as a character: `O` opens an image and `L` asks for
+/// its lock, `S` gives it its size, `Y` syncs it and `D` its folder, `G` reads a block and `W` writes one, `R` reads the script and
+/// `!` warns. What is printed stands there itself, three bytes at a time at most.
 #[derive(Drop)]
 pub(crate) struct Logged {
+    alloc: Global,
+    pub deeds: Vec<Deed>,
     pub log: String,
     pub room: usize,
     pub lock: Lock,
@@ -21,9 +25,17 @@ pub(crate) struct Logged {
     pub write_fails: bool,
 }
 
+fn printed(alloc: Global, from: &[u8]) -> Result<Vec<Deed>, AllocError>
+    ensures { IfOk result (λ deeds. deeds.items ≡ printing from.now) }
+{
+    from.iter().map(|byte| Deed::Printed(*byte)).collect(alloc)
+}
+
 impl Logged {
     pub(crate) fn new(alloc: Global) -> Logged {
         Logged {
+            alloc,
+            deeds: Vec::new(alloc),
             log: String::new(alloc),
             room: 0,
             lock: Lock::Taken,
@@ -34,46 +46,64 @@ impl Logged {
         }
     }
 
-    fn asked(&mut self, call: char) {
+    fn asked(&mut self, call: char)
+        ensures { self.new.deeds.items ≡ self.old.deeds.items }
+    {
         let _ = self.log.push(call);
     }
-}
 
-fn failed<T: Drop>(fails: bool, value: T) -> io::Result<T> {
-    if fails {
-        Err(io::Error::from(ErrorKind::Other))
-    } else {
-        Ok(value)
+    fn did(&mut self, deed: Deed) -> io::Result<()>
+        ensures did { OnOk result (self.new.deeds.items ≡ self.old.deeds.items ++ deed ∷ []) }
+        ensures kept { OnErr result (self.new.deeds.items ≡ self.old.deeds.items) }
+    {
+        self.deeds.push(deed)?;
+        Ok(())
     }
 }
 
 impl System for Logged {
-    ghost told = { λ l. None };
+    ghost told = { λ l. Some l.deeds.items };
 
-    fn open(&mut self, _name: &str, _access: Access) -> io::Result<usize> {
+    fn open(&mut self, name: &str, _access: Access) -> io::Result<usize> {
         self.asked('O');
         let file = self.files;
         self.files = self.files.saturating_add(1);
+        let name = Bytes::of(self.alloc, name.as_bytes())?;
+        self.did(Deed::Opened(file, name))?;
         Ok(file)
     }
 
-    fn lock(&mut self, _file: usize, _sharing: Sharing) -> io::Result<Lock> {
+    fn lock(&mut self, file: usize, sharing: Sharing) -> io::Result<Lock> {
         self.asked('L');
-        Ok(self.lock)
+        match self.lock {
+            Lock::Taken => {
+                self.did(Deed::Locked(file, sharing))?;
+                Ok(Lock::Taken)
+            }
+            Lock::Refused => Ok(Lock::Refused),
+            Lock::Unknown => {
+                self.did(Deed::Unlockable(file))?;
+                Ok(Lock::Unknown)
+            }
+        }
     }
 
-    fn set_size(&mut self, _file: usize, _bytes: u64) -> io::Result<()> {
+    fn set_size(&mut self, file: usize, bytes: u64) -> io::Result<()> {
         self.asked('S');
-        Ok(())
+        self.did(Deed::Sized(file, bytes))
     }
 
     fn size(&mut self, _file: usize) -> io::Result<u64> {
         Ok(4096)
     }
 
-    fn sync_folder(&mut self, _name: &str) -> io::Result<()> {
+    fn sync_folder(&mut self, name: &str) -> io::Result<()> {
         self.asked('D');
-        failed(self.folder_fails, ())
+        if self.folder_fails {
+            return Err(io::Error::from(ErrorKind::Other));
+        }
+        let name = Bytes::of(self.alloc, name.as_bytes())?;
+        self.did(Deed::FolderSynced(name))
     }
 
     fn read_at(&mut self, _file: usize, _into: &mut [u8], _place: u64) -> bool {
@@ -81,17 +111,25 @@ impl System for Logged {
         true
     }
 
-    fn write_at(&mut self, _file: usize, _from: &[u8], _place: u64) -> bool {
+    fn write_at(&mut self, file: usize, from: &[u8], place: u64) -> bool {
         self.asked('W');
-        !self.write_fails
+        if self.write_fails {
+            return false;
+        }
+        match Bytes::of(self.alloc, from) {
+            Ok(bytes) => self.did(Deed::Wrote(file, place, bytes)).is_ok(),
+            Err(_) => false,
+        }
     }
 
     // The first sync fails alone, as where a system drops what it couldn't write.
-    fn sync(&mut self, _file: usize) -> bool {
+    fn sync(&mut self, file: usize) -> bool {
         self.asked('Y');
-        let fails = self.sync_fails;
-        self.sync_fails = false;
-        !fails
+        if self.sync_fails {
+            self.sync_fails = false;
+            return false;
+        }
+        self.did(Deed::Synced(file)).is_ok()
     }
 
     fn print(&mut self, from: &[u8]) -> Option<usize> {
@@ -99,15 +137,17 @@ impl System for Logged {
         if count == 0 {
             return None;
         }
+        let from = &from[..count];
+        let mut deeds = printed(self.alloc, from).ok()?;
+        self.deeds.append(&mut deeds).ok()?;
         self.room = self.room.saturating_sub(count);
-        for byte in &from[..count] {
-            self.asked(char::from(*byte));
-        }
+        let _ = self.log.push_str(str::from_utf8(from).unwrap_or("?"));
         Some(count)
     }
 
     fn read(&mut self, _into: &mut [u8]) -> Option<usize> {
         self.asked('R');
+        self.did(Deed::ScriptRead).ok()?;
         Some(0)
     }
 

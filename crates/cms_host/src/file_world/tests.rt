@@ -3,8 +3,9 @@ use super::FileWorld;
 use crate::host::Host;
 use crate::host::tests::path;
 use crate::logged::Logged;
-use crate::system::Lock;
+use crate::system::{Deed, Lock};
 use cms_world::{Access, World};
+use std::alloc::AllocError;
 use std::test::Fail;
 use std::{fs, io};
 
@@ -40,7 +41,27 @@ fn went(world: &mut FileWorld<Logged>, step: char) -> bool {
     }
 }
 
-// What a world asks of its system at these steps, behind each a dot where it went and a hyphen where not; and how many failed.
+// What a system did, each as the character of its call, but a lock that isn't known as `U`.
+fn told(rt: &HostRuntime, deeds: &[Deed]) -> Result<String, AllocError> {
+    let mut told = String::new(rt.alloc());
+    for deed in deeds {
+        told.push(match deed {
+            Deed::Opened(..) => 'O',
+            Deed::Locked(..) => 'L',
+            Deed::Unlockable(_) => 'U',
+            Deed::Sized(..) => 'S',
+            Deed::Wrote(..) => 'W',
+            Deed::Synced(_) => 'Y',
+            Deed::FolderSynced(_) => 'D',
+            Deed::Printed(byte) => char::from(*byte),
+            Deed::ScriptRead => 'R',
+        })?;
+    }
+    Ok(told)
+}
+
+// What a world asks of its system at these steps, behind each a dot where it went and a hyphen where not; how many failed; and what
+// the system tells.
 fn asked(rt: &HostRuntime, steps: &str) -> io::Result<String> {
     let mut world = FileWorld::new(rt.alloc(), Logged::new(rt.alloc()), false)?;
     for step in steps.chars() {
@@ -50,27 +71,31 @@ fn asked(rt: &HostRuntime, steps: &str) -> io::Result<String> {
         }
     }
     let log = world.system.log.as_str();
-    Ok(format!(in rt.alloc(); "{log} {},{}", world.faults, world.edges)?)
+    let told = told(rt, &world.system.deeds)?;
+    Ok(format!(in rt.alloc(); "{log} {},{} {told}", world.faults, world.edges)?)
 }
 
 const ROWS: &[(&str, &str)] = &[
     // an image is locked before it is made, and its folder synced in the end
-    ("no", "OLSYD.OL. 0,0"),
+    ("no", "OLSYD.OL. 0,0 OLSYDOL"),
     // what was typed is printed before a unit is written or synced, before the script is read, and before an image is attached
-    ("n9twtytrto", "OLSYD..abW..abY..abR..abOL. 0,0"),
+    (
+        "n9twtytrto",
+        "OLSYD..abW..abY..abR..abOL. 0,0 OLSYDabWabYabRabOL",
+    ),
     // where it can't be printed nothing is done, and a part that could isn't printed again
-    ("ntwyrog9w", "OLSYD..----G.abW. 2,2"),
-    ("nt1w9w", "OLSYD..a-bW. 1,0"),
+    ("ntwyrog9w", "OLSYD..----G.abW. 2,2 OLSYDabW"),
+    ("nt1w9w", "OLSYD..a-bW. 1,0 OLSYDabW"),
     // a sync that failed is never believed again, and that is told once
-    ("nxyywgy", "OLSYD.Y!--W.G.- 3,0"),
+    ("nxyywgy", "OLSYD.Y!--W.G.- 3,0 OLSYDW"),
     // writes that fail are asked for and counted
-    ("nzwy", "OLSYD.W-Y. 1,0"),
+    ("nzwy", "OLSYD.W-Y. 1,0 OLSYDY"),
     // where locks aren't known the session goes on, and that is told once; where one is refused nothing is made
-    ("uno", "OLSYD!.OL. 0,0"),
-    ("kno", "OL-OL- 0,2"),
+    ("uno", "OLSYD!.OL. 0,0 OUSYDOU"),
+    ("kno", "OL-OL- 0,2 OO"),
     // a new image that can't be synced, or whose folder can't be, isn't attached
-    ("xn", "OLSY- 0,1"),
-    ("dnc", "OLSYD-- 0,2"),
+    ("xn", "OLSY- 0,1 OLS"),
+    ("dnc", "OLSYD-- 0,2 OLSY"),
 ];
 
 // The first row that comes out otherwise; nothing where there is none.
