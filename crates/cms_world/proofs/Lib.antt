@@ -1,3 +1,4 @@
 pub mod Chosen
+pub mod ImageLists
 pub mod Records
 pub mod Standing

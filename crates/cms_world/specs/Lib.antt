@@ -3,5 +3,7 @@ pub mod Images
 pub mod Mem
 pub mod Plan
 pub mod Quiet
+pub mod QuietUnits
+pub mod QuietWorlds
 pub mod Recorder
 pub mod Seen

@@ -1,9 +1,16 @@
 // A world that never fails.
-ghost use Rattle.std.specs.Prelude.{◌≡◌, ◌≤◌, ◌<◌, ◌↔◌, ◌++◌, ℕ, ℤ, ⊤, [], ◌∷◌, length, slice_get, option_map, None, IsNone, OnOk, OnErr};
+ghost use Rattle.std.specs.Prelude.{◌≡◌, ◌≤◌, ◌<◌, ◌↔◌, ◌++◌, ◌+◌, ◌-◌, ℕ, ℤ, ⊤, pos, [], ◌∷◌, length, slice_get, slice_index_or, slice_set, take, drop, replicate, position, min, option_map, Option, None, Some, IsNone, IfOk, OnOk, OnErr, IsTrue};
+ghost use Rattle.std.specs.Option.{option_copied, ForSome};
+ghost use Rattle.std.specs.Str.{bytes_eq};
+ghost use Rattle.std.specs.String.{string_bytes};
+ghost use Rattle.cms_journal.specs.Causes.{HasCause};
+ghost use Rattle.cms_journal.specs.Journal.{IsBlockSize, HasUnit, HasBlock, HasBlocks, IsWritable, IsAttached, may_write, adds, MayAdd, block_of};
+ghost use Rattle.cms_journal.specs.declared.event.Event.TheVariants.{Read, Now, Typed, Wrote, Synced, Missed};
 ghost use Rattle.cms_journal.specs.declared.event.Unit.{Unit};
-ghost use Rattle.std.specs.Option.{option_copied};
 ghost use Rattle.cms_world.specs.Quiet.{named_bytes, NeverFails};
+ghost use Rattle.cms_world.specs.QuietUnits.{place_of, bytes_at, put_over, put_in, part_of, unit_over, unit_for};
 
+use crate::script::Script;
 use crate::{Access, Failed, Unit, World};
 use std::alloc::{AllocError, Global};
 use std::marker::Model;
@@ -63,15 +70,48 @@ impl ImageList {
     {
         self.images.get(place)
     }
+
+    // Where the first image of a name stands.
+    fn place_of(&self, name: &str) -> Option<usize>
+        ensures { result ≡ place_of self.now name.now }
+    {
+        place_in(&self.images, name)
+    }
+
+    // The bytes of the image at a place, if there is one.
+    fn bytes_at(&self, place: Option<usize>) -> &[u8]
+        ensures { result.now ≡ bytes_at self.now place }
+    {
+        match place {
+            Some(place) => match self.get(place) {
+                Some(image) => &image.bytes,
+                None => &[],
+            },
+            None => &[],
+        }
+    }
+
+    // Puts bytes over those of the image at a place, from `start` on, where all of them fit.
+    fn put(&mut self, place: usize, start: usize, from: &[u8])
+        ensures { self.new ≡ put_in self.old (Some place) (Some start) from.now }
+    {
+        if let Some(image) = self.images.get_mut(place) {
+            put(&mut image.bytes, start, from);
+        }
+    }
 }
 
-// Where the first image of a name stands.
-fn place_of(images: &[Image], name: &str) -> Option<usize> {
+// Where the first of these images that has the name stands.
+fn place_in(images: &[Image], name: &str) -> Option<usize>
+    ensures { result ≡ position (λ image. bytes_eq (string_bytes image.name) name.now) images.now }
+{
     images.iter().position(|image| image.name.as_str() == name)
 }
 
 // Puts bytes over others from a place on, where all of them fit.
-fn put(bytes: &mut [u8], start: usize, from: &[u8]) {
+fn put(bytes: &mut [u8], start: usize, from: &[u8])
+    ensures { bytes.new ≡ put_over bytes.old start from.now }
+{
     if start <= bytes.len() && from.len() <= bytes.len() - start {
         bytes[start..start + from.len()].copy_from_slice(from);
     }
@@ -79,7 +119,7 @@ fn put(bytes: &mut [u8], start: usize, from: &[u8]) {
 
 // The bytes from a place on, as many as fill the slice; zeros where there aren't so many.
 fn take(bytes: &[u8], start: usize, into: &mut [u8])
-    ensures { length into.new ≡ length into.old }
+    ensures { into.new ≡ part_of bytes.now start (length into.old) }
 {
     if start <= bytes.len() && into.len() <= bytes.len() - start {
         into.copy_from_slice(&bytes[start..start + into.len()]);
@@ -105,11 +145,14 @@ const NO_UNIT: QuietUnit = QuietUnit {
 };
 
 impl QuietUnit {
+    ghost use Rattle.cms_world.specs.QuietUnits.{start_of};
+
     // Where a block of so many bytes begins in the image, if the unit has it.
-    fn start(&self, block: u32, size: usize) -> Option<usize> {
-        let has_it = size == self.bsize as usize && block >= 1 && block <= self.blocks;
-        if has_it {
-            (block.saturating_sub(1) as usize).checked_mul(size)
+    fn start(&self, block: u32, size: usize) -> Option<usize>
+        ensures { result ≡ start_of self.now block size }
+    {
+        if size == self.bsize as usize && block >= 1 && block <= self.blocks {
+            Some((block as usize - 1) * size)
         } else {
             None
         }
@@ -120,127 +163,222 @@ impl QuietUnit {
 ///
 /// It keeps no journal, drops what is typed, and its clock stands at 0. None of its calls takes memory: its units stand in a table
 /// of 256, and the 257th attach and each later one give the number 255 again, for the image of that call. A name that isn't there
-/// is a unit of 0 blocks; a new image reads as zeros and drops what is written. What is written to an image that may be written
-/// stands in it. A block that a unit hasn't reads as zeros, and a write of it is dropped.
+/// is a unit of 0 blocks; of images of one name the first is taken. A new image reads as zeros and drops what is written. What is
+/// written to an image that may be written stands in it. A block that a unit hasn't reads as zeros, and a write of it is dropped.
 #[derive(Drop)]
 pub struct QuietWorld {
     images: ImageList,
-    script: Vec<u8>,
-    read: usize,
+    script: Script,
     units: [QuietUnit; 256],
-    attached: usize,
+    // the number that the next attach gives
+    next: u8,
 }
 
 impl QuietWorld {
+    ghost use Rattle.cms_world.specs.QuietWorlds.{quiet_of, no_unit};
+
     /// A world with these images and this script, and no units.
-    pub fn new(images: ImageList, script: Vec<u8>) -> QuietWorld {
+    pub fn new(images: ImageList, script: Vec<u8>) -> QuietWorld
+        ensures { quiet_of result ≡ record {
+          images = images;
+          script = script.items;
+          units = replicate 256 no_unit;
+          next = 0;
+        } }
+    {
         QuietWorld {
             images,
-            script,
-            read: 0,
+            script: Script::new(script),
             units: [NO_UNIT; 256],
-            attached: 0,
+            next: 0,
         }
     }
+}
 
-    // The unit that an attach adds.
-    fn unit(&self, name: &str, bsize: u32, access: Access) -> QuietUnit
-        requires { 0 < bsize }
-    {
-        match access {
-            Access::New(blocks) => QuietUnit {
-                image: None,
-                bsize,
-                blocks,
-                writable: false,
-            },
-            Access::ReadOnly => self.found(name, bsize, false),
-            Access::ReadWrite => self.found(name, bsize, true),
-        }
+// The unit of the image of a name.
+fn unit_over(images: &ImageList, name: &str, bsize: u32, writable: bool) -> QuietUnit
+    requires { 0 < bsize }
+    ensures { result ≡ unit_over images.now name.now bsize writable }
+{
+    let image = images.place_of(name);
+    let blocks = images.bytes_at(image).len() / bsize as usize;
+    QuietUnit {
+        image,
+        bsize,
+        blocks: blocks.min(u32::MAX as usize) as u32,
+        writable,
     }
+}
 
-    // The unit of an image that was made before.
-    fn found(&self, name: &str, bsize: u32, writable: bool) -> QuietUnit
-        requires { 0 < bsize }
-    {
-        let image = place_of(&self.images.images, name);
-        let bytes = match image {
-            Some(place) => self
-                .images
-                .images
-                .get(place)
-                .map_or(0, |image| image.bytes.len()),
-            None => 0,
-        };
-        QuietUnit {
-            image,
+// The unit that an attach adds.
+fn unit_for(images: &ImageList, name: &str, bsize: u32, access: Access) -> QuietUnit
+    requires { 0 < bsize }
+    ensures { result ≡ unit_for images.now name.now bsize access }
+{
+    match access {
+        Access::New(blocks) => QuietUnit {
+            image: None,
             bsize,
-            blocks: u32::try_from(bytes / bsize as usize).unwrap_or(u32::MAX),
-            writable,
-        }
+            blocks,
+            writable: false,
+        },
+        Access::ReadOnly => unit_over(images, name, bsize, false),
+        Access::ReadWrite => unit_over(images, name, bsize, true),
     }
 }
 
 impl World for QuietWorld {
-    ghost faults = { λ w. 0 };
+    ghost use Rattle.cms_world.specs.QuietUnits.{block_in, written_in, unit_for};
+    ghost use Rattle.cms_world.specs.QuietWorlds.{quiet_of, no_unit, told_of, count_of};
 
-    ghost edges = { λ w. 0 };
+    ghost faults = { count_of };
 
-    ghost told = { λ w. None };
+    ghost edges = { count_of };
 
-    fn attach(&mut self, name: &str, bsize: u32, access: Access) -> Result<Unit, Failed> {
-        let number = u8::try_from(self.attached).unwrap_or(u8::MAX);
-        let unit = self.unit(name, bsize, access);
+    ghost told = { told_of };
+
+    // What the trait says; and the unit stands in the table, over the image of the name as it is now.
+    fn attach(&mut self, name: &str, bsize: u32, access: Access) -> Result<Unit, Failed>
+        requires size { IsBlockSize bsize }
+        requires room { ForSome (told_of self.old) (λ j. length j.units < 256) }
+        ensures attached { IfOk result (λ unit. ForSome (told_of self.old)
+            (λ j. IsAttached j (told_of self.new) name.now bsize access unit.number unit.blocks)) }
+        ensures held { IfOk result (λ unit. ForSome (told_of self.new)
+            (λ j. HasBlocks j.units unit.number unit.blocks bsize)) }
+        ensures writable { IfOk result (λ unit. IsTrue (may_write access)
+            → ForSome (told_of self.new) (λ j. IsWritable j.units unit.number)) }
+        ensures silent { told_of self.old ≡ None → told_of self.new ≡ None }
+        ensures failed { OnErr result
+            (MayAdd (Missed name.now bsize access) (told_of self.old) (told_of self.new)) }
+        ensures cause { HasCause (count_of self.old) (count_of self.new) result }
+        ensures faults { count_of self.new ≡ count_of self.old }
+
+        ensures number { IfOk result (λ unit. unit.number ≡ (quiet_of self.old).next) }
+        ensures blocks { IfOk result (λ unit. unit.blocks
+            ≡ (unit_for (quiet_of self.old).images name.now bsize access).blocks) }
+        ensures units { quiet_of self.new ≡ record (quiet_of self.old) {
+          units = slice_set (quiet_of self.old).units (quiet_of self.old).next
+              (unit_for (quiet_of self.old).images name.now bsize access);
+          next = min ((quiet_of self.old).next + 1) 255;
+        } }
+    {
+        let number = self.next;
+        let unit = unit_for(&self.images, name, bsize, access);
         self.units[number as usize] = unit;
-        self.attached = self.attached.saturating_add(1);
+        self.next = self.next.saturating_add(1);
         Ok(Unit {
             number,
             blocks: unit.blocks,
         })
     }
 
-    fn read_block(&mut self, unit: u8, block: u32, into: &mut [u8]) -> Result<(), Failed> {
+    // What the trait says; and the bytes are those of the unit's image, or zeros.
+    fn read_block(&mut self, unit: u8, block: u32, into: &mut [u8]) -> Result<(), Failed>
+        requires { ForSome (told_of self.old) (λ j. HasBlock j.units unit block (length into.old)) }
+        ensures bytes { OnOk result
+            (ForSome (told_of self.old) (λ j. into.new ≡ block_of j unit block)) }
+        ensures told { told_of self.new ≡ told_of self.old }
+        ensures cause { HasCause (count_of self.old) (count_of self.new) result }
+        ensures edges { count_of self.new ≡ count_of self.old }
+
+        ensures read { into.new ≡ block_in (quiet_of self.old).images
+            (slice_index_or (quiet_of self.old).units unit no_unit) block (length into.old) }
+        ensures same { quiet_of self.new ≡ quiet_of self.old }
+    {
         let unit = self.units[unit as usize];
-        match (unit.image, unit.start(block, into.len())) {
-            (Some(image), Some(start)) => match self.images.images.get(image) {
-                Some(image) => take(&image.bytes, start, into),
-                None => into.fill(0),
-            },
-            _ => into.fill(0),
+        match unit.start(block, into.len()) {
+            Some(start) => take(self.images.bytes_at(unit.image), start, into),
+            None => into.fill(0),
         }
         Ok(())
     }
 
-    fn write_block(&mut self, unit: u8, block: u32, from: &[u8]) -> Result<(), Failed> {
+    // What the trait says; and the bytes stand in the unit's image, if it may be written and has the block.
+    fn write_block(&mut self, unit: u8, block: u32, from: &[u8]) -> Result<(), Failed>
+        requires block { ForSome (told_of self.old)
+            (λ j. HasBlock j.units unit block (length from.now)) }
+        requires writable { ForSome (told_of self.old) (λ j. IsWritable j.units unit) }
+        ensures wrote { OnOk result
+            (told_of self.new ≡ adds (Wrote unit block from.now) (told_of self.old)) }
+        ensures failed { OnErr result
+            (MayAdd (Wrote unit block from.now) (told_of self.old) (told_of self.new)) }
+        ensures cause { HasCause (count_of self.old) (count_of self.new) result }
+        ensures edges { count_of self.new ≡ count_of self.old }
+
+        ensures images { quiet_of self.new ≡ record (quiet_of self.old) {
+          images = written_in (quiet_of self.old).images
+              (slice_index_or (quiet_of self.old).units unit no_unit) block from.now;
+        } }
+    {
         let unit = self.units[unit as usize];
-        if !unit.writable {
-            return Ok(());
-        }
-        if let (Some(image), Some(start)) = (unit.image, unit.start(block, from.len())) {
-            if let Some(image) = self.images.images.get_mut(image) {
-                put(&mut image.bytes, start, from);
-            }
+        if unit.writable
+            && let Some(image) = unit.image
+            && let Some(start) = unit.start(block, from.len())
+        {
+            self.images.put(image, start, from);
         }
         Ok(())
     }
 
-    fn sync(&mut self, _unit: u8) -> Result<(), Failed> {
+    // What the trait says, and nothing is changed.
+    fn sync(&mut self, _unit: u8) -> Result<(), Failed>
+        requires { ForSome (told_of self.old) (λ j. HasUnit j.units _unit) }
+        ensures synced { OnOk result (told_of self.new ≡ adds (Synced _unit) (told_of self.old)) }
+        ensures failed { OnErr result (told_of self.new ≡ told_of self.old) }
+        ensures cause { HasCause (count_of self.old) (count_of self.new) result }
+        ensures edges { count_of self.new ≡ count_of self.old }
+
+        ensures same { quiet_of self.new ≡ quiet_of self.old }
+    {
         Ok(())
     }
 
-    fn read(&mut self, into: &mut [u8]) -> Result<usize, Failed> {
-        let left = self.script.len().saturating_sub(self.read);
-        let count = left.min(into.len());
-        take(&self.script, self.read, &mut into[..count]);
-        self.read = self.read.saturating_add(count);
+    // What the trait says; and the bytes are the next of the script, as many as there is room for.
+    fn read(&mut self, into: &mut [u8]) -> Result<usize, Failed>
+        requires { 0 < length into.old }
+        ensures within { IfOk result (λ n. n ≤ length into.old) }
+        ensures bytes { IfOk result (λ n. told_of self.new
+            ≡ adds (Read (take n into.new)) (told_of self.old)) }
+        ensures failed { OnErr result (told_of self.new ≡ told_of self.old) }
+        ensures cause { HasCause (count_of self.old) (count_of self.new) result }
+        ensures faults { count_of self.new ≡ count_of self.old }
+
+        ensures next { IfOk result (λ n. take n into.new
+            ≡ take (length into.old) (quiet_of self.old).script) }
+        ensures rest { IfOk result (λ n. quiet_of self.new
+            ≡ record (quiet_of self.old) { script = drop n (quiet_of self.old).script }) }
+    {
+        let count = self.script.copy(into);
+        self.script.advance(count);
         Ok(count)
     }
 
-    fn type_out(&mut self, from: &[u8]) -> Result<usize, Failed> {
+    // What the trait says; all the bytes are taken, and nothing is changed.
+    fn type_out(&mut self, from: &[u8]) -> Result<usize, Failed>
+        requires { 0 < length from.now }
+        ensures within { IfOk result (λ n. (0 < n) × (n ≤ length from.now)) }
+        ensures typed { IfOk result (λ n. told_of self.new
+            ≡ adds (Typed (take n from.now)) (told_of self.old)) }
+        ensures failed { OnErr result (told_of self.new ≡ told_of self.old) }
+        ensures cause { HasCause (count_of self.old) (count_of self.new) result }
+        ensures faults { count_of self.new ≡ count_of self.old }
+
+        ensures all { IfOk result (λ n. n ≡ length from.now) }
+        ensures same { quiet_of self.new ≡ quiet_of self.old }
+    {
         Ok(from.len())
     }
 
-    fn now(&mut self) -> Result<i64, Failed> {
+    // What the trait says; the clock is at 0, and nothing is changed.
+    fn now(&mut self) -> Result<i64, Failed>
+        ensures now { IfOk result (λ t. told_of self.new ≡ adds (Now t) (told_of self.old)) }
+        ensures failed { OnErr result (told_of self.new ≡ told_of self.old) }
+        ensures cause { HasCause (count_of self.old) (count_of self.new) result }
+        ensures faults { count_of self.new ≡ count_of self.old }
+
+        ensures clock { IfOk result (λ t. t ≡ pos 0) }
+        ensures same { quiet_of self.new ≡ quiet_of self.old }
+    {
         Ok(0)
     }
 }

@@ -10,10 +10,10 @@ fn image(alloc: Global, name: &str, byte: u8, size: usize) -> Result<Image, Allo
     })
 }
 
-// Two images, `a` of 1,100 bytes 7 and `b` of 512 bytes 9.
+// Three images, `a` of 1,100 bytes 7, `b` of 512 bytes 9, and another `a`, which is never found.
 fn world(alloc: Global) -> Result<QuietWorld, AllocError> {
     let mut images = ImageList::new(alloc);
-    for (name, byte, size) in [("a", 7, 1100), ("b", 9, 512)] {
+    for (name, byte, size) in [("a", 7, 1100), ("b", 9, 512), ("a", 8, 2048)] {
         images.push(image(alloc, name, byte, size)?)?;
     }
     let script = b"TYPE".as_slice().to_vec(alloc)?;
@@ -59,6 +59,10 @@ const SESSIONS: &[(&str, &[Step])] = &[
             Step::Block(2, 1, 0),
             Step::Block(3, 1, 0),
             Step::Block(9, 1, 0),
+            // a later unit over an image sees what was written to it
+            Step::Attach("a", Access::ReadOnly, 4, 2),
+            Step::Block(4, 1, 5),
+            Step::Block(4, 2, 7),
         ],
     ),
     (
