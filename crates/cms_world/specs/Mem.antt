@@ -71,7 +71,7 @@ pub record IsStill (old new : MemWorld) : Type 0 where
   pub edges : edges_of new ≡ edges_of old
   pub calls : calls_of new ≡ calls_of old
 
--- a call that isn't planned to fail was written down by its letter; one that failed was, or found no memory for it
+-- a call that isn't planned to fail was written down by its letter; one that failed was, or found no memory
 pub record IsCalled {T E : Type 0} (letter : ℕ) (old new : MemWorld) (result : Result T E) : Type 0 where
   pub ok : OnOk result (calls_of new ≡ calls_of old ++ letter ∷ [])
   pub unplanned : OnOk result (planned_next old ≡ None)

@@ -1,9 +1,9 @@
 -- The calls of a world in memory, and those that are to fail.
-use Rattle.std.specs.Prelude.{◌≡◌, ◌⊎◌, ℕ, ◌+◌, Bool, true, false, List, [], ◌∷◌, ◌++◌, length, reverse, find, ◌==◌, Option, None, Some, option_map}
+use Rattle.std.specs.Prelude.{◌≡◌, ◌⊎◌, ℕ, ◌+◌, Bool, List, [], ◌∷◌, ◌++◌, length, reverse, find, ◌==◌, Option, None, Some, option_map}
 use Rattle.cms_world.specs.declared.plan.Plan.{Plan}
 use Rattle.cms_world.specs.declared.plan.Planned.{Planned}
 use Rattle.cms_world.specs.declared.plan.Next.{Next}
-use Rattle.cms_world.specs.declared.plan.Next.TheVariants.{Goes, Fails, Lands}
+use Rattle.cms_world.specs.declared.plan.Next.TheVariants.{Goes, Fails}
 
 -- what is planned of the call with this number: it is to fail, and a write of it lands or doesn't. What was said last holds
 abbrev pub planned_of : List Planned → ℕ → Option Bool
@@ -21,5 +21,5 @@ pub record IsPlanned (letter : ℕ) (old new : Plan) (plan : Option Bool) : Type
 -- what comes of a call by the plan; one that finds no memory for its letter fails
 abbrev pub IsNext : ℕ → Plan → Plan → Next → Type 0
 IsNext letter old new Goes = IsPlanned letter old new None
-IsNext letter old new Lands = IsPlanned letter old new (Some true)
-IsNext letter old new Fails = IsPlanned letter old new (Some false) ⊎ (new.calls.items ≡ old.calls.items)
+IsNext letter old new Fails =
+    ((lands : Bool) × IsPlanned letter old new (Some lands)) ⊎ (new.calls.items ≡ old.calls.items)

@@ -1,5 +1,5 @@
 // A world in memory, which tells its journal and fails where it is told to.
-ghost use Rattle.std.specs.Prelude.{◌≡◌, ◌≢◌, ◌↔◌, ◌≤◌, ◌<◌, ◌+◌, ◌-◌, ◌^◌, ℕ, List, [], ◌∷◌, ◌++◌, length, take, drop, min, option_map, Option, None, Some, true, IfOk, OnOk, OnErr, All, IsTrue};
+ghost use Rattle.std.specs.Prelude.{◌≡◌, ◌≢◌, ◌⊎◌, ◌↔◌, ◌≤◌, ◌<◌, ◌+◌, ◌-◌, ◌^◌, ℕ, List, [], ◌∷◌, ◌++◌, length, take, drop, min, option_map, Option, None, Some, true, IfOk, OnOk, OnErr, All, IsTrue};
 ghost use Rattle.std.specs.List.{concat};
 ghost use Rattle.std.specs.Option.{ForSome};
 ghost use Rattle.cms_journal.specs.Causes.{Rose, HasCause};
@@ -37,7 +37,7 @@ pub struct MemWorld {
 }
 
 impl MemWorld {
-    ghost use Rattle.cms_world.specs.Mem.{journal_of, faults_of, edges_of, calls_of, planned_of, images_of, image_of, standing_of, rest_of, IsStill};
+    ghost use Rattle.cms_world.specs.Mem.{journal_of, told_of, faults_of, edges_of, calls_of, planned_of, images_of, image_of, standing_of, rest_of, IsStill};
 
     /// A world with no images and no units, with this script and a clock that says `start` first and then a second more at each
     /// call, held at the greatest `i64`.
@@ -78,7 +78,7 @@ impl MemWorld {
     }
 
     /// Plans that the call with this number fails, counted from 1 over all seven calls of the trait; a write adds its event where
-    /// it `lands`. Of two plans for one call the later holds.
+    /// it `lands`, and is no call where no memory is left for that. Of two plans for one call the later holds.
     pub fn fail_at(&mut self, call: u32, lands: bool) -> Result<(), AllocError>
         ensures planned { OnOk result (planned_of self.new call ≡ Some lands) }
         ensures others { (other : ℕ) → other ≢ call → planned_of self.new other ≡ planned_of self.old other }
@@ -161,6 +161,26 @@ impl MemWorld {
         self.recorder.crash(alloc, unit, at, choice)
     }
 
+    // A write fails and lands: it is written down only once its event stands.
+    fn land(&mut self, unit: u8, block: u32, from: &[u8])
+        requires { HasBlock (journal_of self.old).units unit block (length from.now) }
+        ensures landed { (told_of self.new ≡ adds (Wrote unit block from.now) (told_of self.old))
+            ⊎ IsStill self.old self.new }
+        ensures calls { (calls_of self.new ≡ calls_of self.old ++ WRITE_BLOCK ∷ [])
+            ⊎ (calls_of self.new ≡ calls_of self.old) }
+        ensures rest { rest_of self.new ≡ rest_of self.old }
+        ensures faults { faults_of self.new ≡ faults_of self.old }
+        ensures edges { edges_of self.new ≡ edges_of self.old }
+    {
+        if self
+            .recorder
+            .add_write(self.alloc, unit, block, from)
+            .is_ok()
+        {
+            let _ = self.plan.write_down(WRITE_BLOCK);
+        }
+    }
+
     // The bytes that stand under a name by now.
     fn standing(&self, name: &str) -> Result<Option<Vec<u8>>, AllocError>
         ensures standing { IfOk result (λ standing. option_map (λ bytes. bytes.items) standing ≡ standing_of self.now name.now) }
@@ -196,7 +216,7 @@ fn counted(failures: &mut u64) -> Failed
 }
 
 impl World for MemWorld {
-    ghost use Rattle.cms_world.specs.Mem.{journal_of, told_of, faults_of, edges_of, planned_next, standing_of, rest_of, next_second, IsCalled};
+    ghost use Rattle.cms_world.specs.Mem.{journal_of, told_of, faults_of, edges_of, calls_of, planned_next, standing_of, rest_of, next_second, IsCalled};
 
     ghost faults = { faults_of };
 
@@ -258,7 +278,8 @@ impl World for MemWorld {
         Err(counted(&mut self.faults))
     }
 
-    // What the trait says; and a failed write adds nothing unless it was planned to land.
+    // What the trait says; and a failed write adds its event where it was planned to land, or finds no memory and isn't written
+    // down. Else it adds nothing.
     fn write_block(&mut self, unit: u8, block: u32, from: &[u8]) -> Result<(), Failed>
         requires block { ForSome (told_of self.old) (λ j. HasBlock j.units unit block (length from.now)) }
         requires writable { ForSome (told_of self.old) (λ j. IsWritable j.units unit) }
@@ -268,24 +289,22 @@ impl World for MemWorld {
         ensures edges { edges_of self.new ≡ edges_of self.old }
 
         ensures dropped { OnErr result (planned_next self.old ≢ Some true → journal_of self.new ≡ journal_of self.old) }
+        ensures landed { OnErr result (planned_next self.old ≡ Some true
+            → (told_of self.new ≡ adds (Wrote unit block from.now) (told_of self.old))
+            ⊎ (calls_of self.new ≡ calls_of self.old)) }
         ensures rest { rest_of self.new ≡ rest_of self.old }
         ensures called { IsCalled WRITE_BLOCK self.old self.new result }
     {
-        match self.plan.next(WRITE_BLOCK) {
-            Next::Goes => {
-                if self
-                    .recorder
-                    .add_write(self.alloc, unit, block, from)
-                    .is_ok()
-                {
-                    return Ok(());
-                }
-            }
-            Next::Lands => {
-                let _ = self.recorder.add_write(self.alloc, unit, block, from);
-            }
-            Next::Fails => {}
-        };
+        if self.plan.lands_next() {
+            self.land(unit, block, from);
+        } else if let Next::Goes = self.plan.next(WRITE_BLOCK)
+            && self
+                .recorder
+                .add_write(self.alloc, unit, block, from)
+                .is_ok()
+        {
+            return Ok(());
+        }
         Err(counted(&mut self.faults))
     }
 

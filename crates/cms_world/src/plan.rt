@@ -1,5 +1,5 @@
 // The calls of a world in memory, and those that are to fail.
-ghost use Rattle.std.specs.Prelude.{◌≡◌, ◌∷◌, ◌++◌, [], OnOk, OnErr};
+ghost use Rattle.std.specs.Prelude.{◌≡◌, ◌↔◌, ◌∷◌, ◌++◌, [], Some, true, OnOk, OnErr, IsTrue};
 
 use std::alloc::{AllocError, Global};
 
@@ -38,10 +38,8 @@ pub struct Planned {
 pub enum Next {
     /// it is done
     Goes,
-    /// it fails, and nothing happens
+    /// it fails
     Fails,
-    /// it fails, and a write adds its event
-    Lands,
 }
 
 /// The calls so far, and those that are to fail.
@@ -54,7 +52,7 @@ pub struct Plan {
 }
 
 impl Plan {
-    ghost use Rattle.cms_world.specs.Plan.{planned_of, IsNext};
+    ghost use Rattle.cms_world.specs.Plan.{planned_of, next_number, IsNext};
 
     /// A plan under which no call fails.
     pub fn new(alloc: Global) -> Self
@@ -82,14 +80,31 @@ impl Plan {
         ensures next { IsNext letter self.old self.new result }
         ensures failing { self.new.failing.items ≡ self.old.failing.items }
     {
-        if self.calls.push(letter).is_err() {
+        if self.write_down(letter).is_err() {
             return Next::Fails;
         }
         match self.planned(self.calls.len()) {
             None => Next::Goes,
-            Some(true) => Next::Lands,
-            Some(false) => Next::Fails,
+            Some(_) => Next::Fails,
         }
+    }
+
+    /// Whether the next call is to fail, and what it writes stands all the same.
+    pub fn lands_next(&self) -> bool
+        ensures { IsTrue result
+            ↔ (planned_of self.now.failing.items (next_number self.now) ≡ Some true) }
+    {
+        self.planned(self.calls.len() + 1) == Some(true)
+    }
+
+    /// Writes a call down by its letter.
+    pub fn write_down(&mut self, letter: u8) -> Result<(), AllocError>
+        ensures ok { OnOk result (self.new.calls.items ≡ self.old.calls.items ++ letter ∷ []) }
+        ensures err { OnErr result (self.new.calls.items ≡ self.old.calls.items) }
+        ensures failing { self.new.failing.items ≡ self.old.failing.items }
+    {
+        self.calls.push(letter)?;
+        Ok(())
     }
 
     fn planned(&self, number: usize) -> Option<bool>

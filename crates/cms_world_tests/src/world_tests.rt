@@ -304,7 +304,8 @@ fn sessions_go_as_they_say(rt: HostRuntime) -> Result<(), Fail> {
     Ok(())
 }
 
-// A call that fails, whether a write lands, how many events there are then, and what block 1 holds.
+// A call that fails, whether a write lands, how many events there are then, and what block 1 holds. Each call has its letter, also
+// the one that fails.
 const FAILURES: &[(u32, bool, usize, Option<u8>)] = &[
     (1, true, 1, None),
     (2, false, 1, Some(b'a')),
@@ -317,10 +318,16 @@ const FAILURES: &[(u32, bool, usize, Option<u8>)] = &[
 // Whether an attach, a write, a sync and a read go, but for the call that fails, and how many events there are then.
 fn fails_alone(world: &mut MemWorld, call: u32, letter: Option<u8>) -> Option<usize> {
     let blocks = if call == 1 { None } else { Some(1) };
+    let letters = if call == 1 {
+        b"a".as_slice()
+    } else {
+        b"awsr".as_slice()
+    };
     let goes = attach(world, "disk", 512, Access::ReadWrite) == blocks
         && write(world, 0, 1, b'A') == (call > 2)
         && sync(world, 0) == (call == 2 || call > 3)
-        && block(world, 0, 1) == letter.map(|letter| [letter; 512]);
+        && block(world, 0, 1) == letter.map(|letter| [letter; 512])
+        && was_called(world, letters);
     goes.then_some(world.events())
 }
 
