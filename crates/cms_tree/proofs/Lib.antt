@@ -4,6 +4,7 @@ pub mod Rest
 pub mod Within
 pub mod Filling
 pub mod Rising
+pub mod Plain
 pub mod Building
 pub mod Lifting
 pub mod Stepping

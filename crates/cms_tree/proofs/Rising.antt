@@ -178,6 +178,27 @@ level_long marks n size fan blocks =
     length_cut (up (length (children_from marks n size 0 blocks)) fan) fan (children_from marks n size 0 blocks) ∙ ap (λ (c : ℕ). up c fan) (length-children marks n size 0 blocks)
 
 -- it is no block of the lowest level: it is one of the levels above
+pub higher : (fan l : ℕ) (blocks numbers : List ℕ) (size place n : ℕ) → 1 ≤ fan → 1 ≤ size → length blocks ≡ up n size
+    → place < over_count fan (suc l) (length blocks) → over_count fan (suc l) (length blocks) ≤ length numbers → up (length blocks) fan ≤ place
+    → (marks : List Mark) → get_or (all_over fan (suc l) (children_from marks n size 0 blocks) numbers) place []
+    ≡ get_or (all_over fan l (children_from marks n (size * fan) 0 (take (up (length blocks) fan) numbers)) (drop (up (length blocks) fan) numbers)) (place - up (length blocks) fan) []
+unfolding all_over
+higher fan l blocks numbers size place n some room wide within enough past marks =
+    let m = up (length blocks) fan in
+    let below = children_from marks n size 0 blocks in
+    let level = level_over fan below in
+    let long = level_long marks n size fan blocks in
+    let groups : level ≡ cut m fan below = ap (λ (c : ℕ). cut (up c fan) fan below) (length-children marks n size 0 blocks) in
+    let zero' : 0 * fan ≡ 0 = omega arith in
+    let rise : parents numbers (cut m fan below) ≡ children_from marks n (size * fan) 0 (take m numbers) =
+    ap (λ (i : ℕ). parents numbers (cut m fan (children_from marks n size i blocks))) (sym zero')
+    ∙ parents_rise marks n size fan m 0 blocks numbers some room refl (omega arith) (λ more. omega arith) in
+    let rise' : parents numbers level ≡ children_from marks n (size * fan) 0 (take m numbers) = ap (parents numbers) groups ∙ rise in
+    let past' : length level ≤ place = omega arith in
+    get_or-append_right level (all_over fan l (parents numbers level) (drop (length level) numbers)) (length level) place [] refl past'
+    ∙ (rw (long, rise') refl)
+
+-- of the levels above there is one
 record Higher (fan k : ℕ) (blocks numbers : List ℕ) (size place : ℕ) (n : ℕ) : Type 0 where
   l : ℕ
   k_is : k ≡ suc l
@@ -186,39 +207,24 @@ record Higher (fan k : ℕ) (blocks numbers : List ℕ) (size place : ℕ) (n : 
   same : (marks : List Mark) → get_or (all_over fan k (children_from marks n size 0 blocks) numbers) place []
       ≡ get_or (all_over fan l (children_from marks n (size * fan) 0 (take (up (length blocks) fan) numbers)) (drop (up (length blocks) fan) numbers)) (place - up (length blocks) fan) []
 
-higher : (fan k : ℕ) (blocks numbers : List ℕ) (size place n : ℕ) → 1 ≤ fan → 1 ≤ size → length blocks ≡ up n size
+has_higher : (fan k : ℕ) (blocks numbers : List ℕ) (size place n : ℕ) → 1 ≤ fan → 1 ≤ size → length blocks ≡ up n size
     → place < over_count fan k (length blocks) → over_count fan k (length blocks) ≤ length numbers → up (length blocks) fan ≤ place
     → Higher fan k blocks numbers size place n
-unfolding all_over
-higher fan zero blocks numbers size place n some room wide within enough past = absurd (omega arith)
-higher fan (suc l) blocks numbers size place n some room wide within enough past =
-    let m = up (length blocks) fan in
-    record {
-      l = l;
-      k_is = refl;
-      within = omega arith;
-      enough = omega arith;
-      same = λ marks.
-          let below = children_from marks n size 0 blocks in
-          let level = level_over fan below in
-          let long = level_long marks n size fan blocks in
-          let groups : level ≡ cut m fan below = ap (λ (c : ℕ). cut (up c fan) fan below) (length-children marks n size 0 blocks) in
-          let zero' : 0 * fan ≡ 0 = omega arith in
-          let rise : parents numbers (cut m fan below) ≡ children_from marks n (size * fan) 0 (take m numbers) =
-          ap (λ (i : ℕ). parents numbers (cut m fan (children_from marks n size i blocks))) (sym zero')
-          ∙ parents_rise marks n size fan m 0 blocks numbers some room refl (omega arith) (λ more. omega arith) in
-          let rise' : parents numbers level ≡ children_from marks n (size * fan) 0 (take m numbers) = ap (parents numbers) groups ∙ rise in
-          let past' : length level ≤ place = omega arith in
-          get_or-append_right level (all_over fan l (parents numbers level) (drop (length level) numbers)) (length level) place [] refl past'
-          ∙ (rw (long, rise') refl);
-    }
+has_higher fan zero blocks numbers size place n some room wide within enough past = absurd (omega arith)
+has_higher fan (suc l) blocks numbers size place n some room wide within enough past = record {
+  l = l;
+  k_is = refl;
+  within = omega arith;
+  enough = omega arith;
+  same = higher fan l blocks numbers size place n some room wide within enough past;
+}
 
 pub rises_next : (fan : ℕ) (leaves fresh : List ℕ) (nth : ℕ) (blocks numbers : List ℕ) (size place count : ℕ) → 1 ≤ fan
     → Rises fan leaves fresh nth blocks numbers size place → count ≡ up (length blocks) fan → count ≤ place
     → Rises fan leaves fresh nth (take count numbers) (drop count numbers) (size * fan) (place - count)
 rises_next fan leaves fresh nth blocks numbers size place count some r is past =
     let n = length leaves in
-    let h = higher fan r.k blocks numbers size place n some r.room r.wide r.within r.enough (omega arith) in
+    let h = has_higher fan r.k blocks numbers size place n some r.room r.wide r.within r.enough (omega arith) in
     let enough = h.enough in
     let within = h.within in
     let long : length (take count numbers) ≡ count = length-take count numbers ∙ (omega arith) in
@@ -295,7 +301,7 @@ rises_bounds fan leaves fresh nth blocks numbers size place count wide narrow so
     let more : size * fan * 1 ≤ size * fan * fan ^ next.k = mul-le-mul_left (size * fan) power in
     let most = levels_room fan n wide narrow small in
     let all = next.power in
-    let h = higher fan r.k blocks numbers size place n (omega arith) r.room r.wide r.within r.enough (omega arith) in
+    let h = has_higher fan r.k blocks numbers size place n (omega arith) r.room r.wide r.within r.enough (omega arith) in
     let enough = h.enough in
     let some' : 1 ≤ length blocks = subst (λ (c : ℕ). 1 ≤ c) (sym r.wide) (up_some n size r.room some) in
     record {

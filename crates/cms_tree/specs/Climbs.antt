@@ -13,7 +13,8 @@ use Rattle.cms_tree.specs.declared.types.Mark.{Mark}
 use Rattle.cms_tree.specs.declared.climb.Level.{Level}
 use Rattle.cms_tree.specs.Builds.{IsBuildable, HasNodes}
 use Rattle.cms_tree.specs.Levels.{mark_at}
-use Rattle.cms_tree.specs.Tiers.{complete_from, node_write, lowest, Stand}
+use Rattle.cms_tree.specs.Kept.{Kept}
+use Rattle.cms_tree.specs.Tiers.{complete_from, node_on, node_write, put_node, lowest, Stand}
 
 -- a climb: the bytes of a block and of a pointer, how many leaves there are to be and how many were added, and the open pointer
 -- block of each level, bottom level first
@@ -60,11 +61,20 @@ abbrev pub climb_writes : ℕ → ℕ → List ℕ → List Mark → List ℕ �
 climb_writes bsize psize leaves marks fresh i = map (node_write bsize psize leaves marks fresh)
     (complete_from (bsize / psize) (levels (bsize / psize) (length leaves)) 0 (length leaves) i)
 
--- the climb has added the first of these leaves, with these marks, and its pointer blocks have these numbers
-pub record Climbs (c : Climbing) (leaves : List ℕ) (marks : List Mark) (fresh : List ℕ) : Type 0 where
+-- the same of a tree that keeps so many leaves of the tree before, and so much of the pointer blocks of each level
+abbrev pub climb_writes_on : ℕ → ℕ → List ℕ → List Mark → List ℕ → ℕ → List Kept → ℕ → List Write
+climb_writes_on bsize psize leaves marks fresh kept es i = map (put_node fresh (node_on bsize psize leaves marks fresh kept es))
+    (complete_from (bsize / psize) (levels (bsize / psize) (length leaves)) 0 (length leaves) i)
+
+-- the climb has added the first of these leaves, with these marks, or kept them, and its pointer blocks have these numbers
+pub record ClimbsOn (c : Climbing) (kept : ℕ) (es : List Kept) (leaves : List ℕ) (marks : List Mark) (fresh : List ℕ) : Type 0 where
   pub plan : IsBuildable c.bsize c.psize leaves marks fresh
   pub count : c.count ≡ length leaves
-  pub stand : c.added < c.count → Stand c.bsize c.psize marks (length leaves) fresh (lowest leaves) c.added c.levels
+  pub stand : c.added < c.count → Stand c.bsize c.psize marks (length leaves) fresh (lowest kept leaves) es c.added c.levels
+
+-- where nothing is kept
+abbrev pub Climbs : Climbing → List ℕ → List Mark → List ℕ → Type 0
+Climbs c leaves marks fresh = ClimbsOn c 0 [] leaves marks fresh
 
 -- the leaf and its mark are the next
 pub record IsNext (c : Climbing) (leaves : List ℕ) (marks : List Mark) (leaf : ℕ) (mark : Mark) : Type 0 where
@@ -76,6 +86,14 @@ abbrev pub Adds : Told → Told → ℕ → Climbing → Climbing → List ℕ �
 Adds old new u c c' leaves marks fresh (Ok x) =
     (new ≡ plus old (writes u (climb_writes c.bsize c.psize leaves marks fresh c.added))) × Climbs c' leaves marks fresh
 Adds old new u c c' leaves marks fresh (Err e) = AddsFront old new (writes u (climb_writes c.bsize c.psize leaves marks fresh c.added))
+
+-- the same of a tree that keeps some of the tree before
+abbrev pub AddsOn : Told → Told → ℕ → Climbing → Climbing → ℕ → List Kept → List ℕ → List Mark → List ℕ → Result ⊤ Failed → Type 0
+AddsOn old new u c c' kept es leaves marks fresh (Ok x) =
+    (new ≡ plus old (writes u (climb_writes_on c.bsize c.psize leaves marks fresh kept es c.added)))
+    × ClimbsOn c' kept es leaves marks fresh
+AddsOn old new u c c' kept es leaves marks fresh (Err e) =
+    AddsFront old new (writes u (climb_writes_on c.bsize c.psize leaves marks fresh kept es c.added))
 
 -- none is added of so many leaves, whatever these are
 pub record IsNew (bsize psize count : ℕ) (c : Climbing) : Type 0 where

@@ -1,5 +1,5 @@
 // Pointer blocks that are written while their leaves are.
-ghost use Rattle.std.specs.Prelude.{◌≡◌, ◌⊎◌, ℕ, List, ◌+◌, ◌*◌, ◌/◌, ◌%◌, ◌^◌, ◌<◌, ◌≤◌, length, suc, drop, replicate, All, IfOk, IfSome};
+ghost use Rattle.std.specs.Prelude.{◌≡◌, ◌⊎◌, ℕ, List, ◌+◌, ◌*◌, ◌/◌, ◌%◌, ◌^◌, ◌<◌, ◌≤◌, length, suc, drop, replicate, unwrap_or, Some, None, All, IfOk, IfSome};
 ghost use Rattle.std.specs.Option.{ForSome};
 ghost use Rattle.cms_journal.specs.Journal.{IsBlockSize, IsWritable};
 ghost use Rattle.cms_text.specs.Bytes.{overwritten};
@@ -9,7 +9,8 @@ ghost use Rattle.cms_model.specs.Sizes.{levels, pointer_count};
 ghost use Rattle.cms_tree.specs.declared.types.Mark.{Mark};
 ghost use Rattle.cms_tree.specs.Builds.{cell_of};
 ghost use Rattle.cms_tree.specs.Levels.{over_count};
-ghost use Rattle.cms_tree.specs.Climbs.{AddsOwn, HasEach, HasSize, HoldsLittle, IsNew, IsNext, Climbs, Adds, ClimbsAll};
+ghost use Rattle.cms_tree.specs.Climbs.{AddsOn, AddsOwn, HasEach, HasSize, HoldsLittle, IsNew, IsNext, Climbs, ClimbsOn, Adds, ClimbsAll};
+ghost use Rattle.cms_tree.specs.Kept.{Kept, kept_here};
 ghost use Rattle.cms_tree.specs.Tiers.{ends_group, Tier, IsTier, IsOpen, IsChild, IsParent, Stand, Lifts, Rises};
 ghost use Rattle.cms_world.specs.Seen.{OnUnits, seen};
 
@@ -34,8 +35,8 @@ pub struct Climb {
 #[derive(Drop)]
 struct Level {
     bytes: Vec<u8>,
-    // the `place` of the first data block below it
-    place: u32,
+    // the `place` of the first data block below it, as soon as that is known
+    place: Option<u32>,
 }
 
 // A block by its place on its level, with all that stands below it.
@@ -77,7 +78,7 @@ impl Climb {
         for _ in 0..height {
             levels.push(Level {
                 bytes: vec![in alloc; 0; bsize.bytes() as usize]?,
-                place: 0,
+                place: None,
             })?;
         }
         Ok(Climb {
@@ -109,6 +110,9 @@ impl Climb {
         ensures adds { (leaves : List ℕ) (marks : List Mark) → Climbs self.old leaves marks fresh.now
             → IsNext self.old leaves marks leaf mark.now
             → Adds (W.told world.old) (W.told world.new) unit self.old self.new leaves marks fresh.now result }
+        ensures adds_on { (kept : ℕ) (es : List Kept) (leaves : List ℕ) (marks : List Mark)
+            → ClimbsOn self.old kept es leaves marks fresh.now → IsNext self.old leaves marks leaf mark.now
+            → AddsOn (W.told world.old) (W.told world.new) unit self.old self.new kept es leaves marks fresh.now result }
         ensures added { self.new ≡ record self.old { added = self.old.added + 1; levels = self.new.levels } }
         ensures held { HoldsLittle self.new }
         ensures own { AddsOwn (W.told world.old) (W.told world.new) unit self.old.bsize fresh.now }
@@ -147,8 +151,8 @@ fn ends_group(fan: u32, count: u32, nth: u32) -> bool
 }
 
 impl Level {
-    // Points to a block at its place in the pointer block.
-    fn point(&mut self, psize: u8, fan: u32, child: &Child)
+    // Points to a block at its place in the pointer block, and tells the `place` of the first data block below that.
+    fn point(&mut self, psize: u8, fan: u32, child: &Child) -> u32
         requires psize { (psize ≡ 4) ⊎ (psize ≡ 12) }
         requires some { 1 ≤ fan }
         requires room { fan * psize ≤ length self.old.bytes.items }
@@ -156,13 +160,12 @@ impl Level {
         ensures bytes { self.new.bytes.items ≡ overwritten (child.now.nth % fan * psize)
             (cell_bytes (cell_of psize (record { block = child.now.block; mark = child.now.mark }))) self.old.bytes.items }
         ensures size { length self.new.bytes.items ≡ length self.old.bytes.items }
-        ensures first { child.now.nth % fan ≡ 0 → self.new.place ≡ child.now.mark.place }
-        ensures later { 1 ≤ child.now.nth % fan → self.new.place ≡ self.old.place }
+        ensures place { result ≡ unwrap_or self.old.place child.now.mark.place }
+        ensures known { self.new.place ≡ Some result }
     {
+        let place = self.place.unwrap_or(child.mark.place);
+        self.place = Some(place);
         let at = child.nth % fan;
-        if at == 0 {
-            self.place = child.mark.place;
-        }
         put_cell(
             &mut self.bytes,
             at as usize * usize::from(psize),
@@ -170,14 +173,16 @@ impl Level {
             child.block,
             &child.mark,
         );
+        place
     }
 
     // Begins the next pointer block.
     fn clear(&mut self)
         ensures bytes { self.new.bytes.items ≡ replicate (length self.old.bytes.items) 0 }
-        ensures place { self.new.place ≡ self.old.place }
+        ensures place { self.new.place ≡ None }
     {
         self.bytes.fill(0);
+        self.place = None;
     }
 }
 
@@ -199,18 +204,20 @@ fn lift<W: World>(
     requires fresh { up child.now.count (bsize / psize) ≤ length fresh.now }
     requires blocks { ForSome (W.told world.old) (λ j. HasEach j.units unit bsize fresh.now) }
     requires writable { ForSome (W.told world.old) (λ j. IsWritable j.units unit) }
-    ensures lifts { (leaves : List ℕ) (marks : List Mark) (numbers : List ℕ) (tier : Tier) (levels : ℕ)
-        → fresh.now ≡ drop tier.first numbers → IsTier (bsize / psize) leaves marks numbers tier (suc levels)
-        → IsOpen bsize psize marks (length leaves) tier child.now.nth level.old
+    ensures lifts { (leaves : List ℕ) (marks : List Mark) (numbers : List ℕ) (node : ℕ → List ℕ) (tier : Tier)
+        (es : List Kept) (levels : ℕ)
+        → fresh.now ≡ drop tier.first numbers → IsTier bsize psize leaves marks numbers node tier es (suc levels)
+        → IsOpen bsize psize marks (length leaves) tier (kept_here es) child.now.nth level.old
         → IsChild psize marks (length leaves) tier child.now
-        → Lifts (W.told world.old) (W.told world.new) unit bsize psize leaves marks numbers tier child.now level.new result }
+        → Lifts (W.told world.old) (W.told world.new) unit bsize psize leaves marks numbers node tier (kept_here es)
+        child.now level.new result }
     ensures parent { IfOk result (λ parent. IfSome parent (IsParent (bsize / psize) child.now)) }
     ensures size { HasSize bsize level.new }
     ensures own { AddsOwn (W.told world.old) (W.told world.new) unit bsize fresh.now }
     ensures counts { OnUnits (seen W.World world.old) (seen W.World world.new) result }
 {
     let fan = bsize.bytes() / u32::from(psize);
-    level.point(psize, fan, child);
+    let place = level.point(psize, fan, child);
     if !ends_group(fan, child.count, child.nth) {
         return Ok(None);
     }
@@ -222,7 +229,7 @@ fn lift<W: World>(
         block,
         mark: Mark {
             last: child.mark.last,
-            place: level.place,
+            place,
         },
         nth,
         count: child.count.div_ceil(fan),
@@ -246,11 +253,13 @@ fn rise<W: World>(
     requires fresh { over_count (bsize / psize) (length levels.old) child.now.count ≤ length fresh.now }
     requires blocks { ForSome (W.told world.old) (λ j. HasEach j.units unit bsize fresh.now) }
     requires writable { ForSome (W.told world.old) (λ j. IsWritable j.units unit) }
-    ensures rises { (leaves : List ℕ) (marks : List Mark) (numbers : List ℕ) (tier : Tier) → fresh.now ≡ drop tier.first numbers
-        → IsTier (bsize / psize) leaves marks numbers tier (length levels.old)
-        → Stand bsize psize marks (length leaves) numbers tier child.now.nth levels.old
+    ensures rises { (leaves : List ℕ) (marks : List Mark) (numbers : List ℕ) (node : ℕ → List ℕ) (tier : Tier) (es : List Kept)
+        → fresh.now ≡ drop tier.first numbers
+        → IsTier bsize psize leaves marks numbers node tier es (length levels.old)
+        → Stand bsize psize marks (length leaves) numbers tier es child.now.nth levels.old
         → IsChild psize marks (length leaves) tier child.now
-        → Rises (W.told world.old) (W.told world.new) unit bsize psize leaves marks numbers tier child.now levels.old levels.new result }
+        → Rises (W.told world.old) (W.told world.new) unit bsize psize leaves marks numbers node tier es child.now
+        levels.old levels.new result }
     ensures sizes { All (HasSize bsize) levels.new }
     ensures own { AddsOwn (W.told world.old) (W.told world.new) unit bsize fresh.now }
     ensures counts { OnUnits (seen W.World world.old) (seen W.World world.new) result }

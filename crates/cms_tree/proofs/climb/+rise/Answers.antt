@@ -9,6 +9,7 @@ use Rattle.cms_tree.specs.declared.types.Mark.{Mark}
 use Rattle.cms_tree.specs.declared.climb.Level.{Level}
 use Rattle.cms_tree.specs.declared.climb.Child.{Child}
 use Rattle.cms_tree.specs.Levels.{over_count}
+use Rattle.cms_tree.specs.Kept.{kept_here, kept_above}
 use Rattle.cms_tree.specs.Tiers.{Tier, tier_above, IsTier, IsParent, Stand, Lifts, Rises}
 use Rattle.cms_tree.specs.Climbs.{HasSize, HasEach}
 use Rattle.cms_tree.proofs.Lifting.{some_fan, tier_next}
@@ -17,11 +18,11 @@ use Rattle.cms_tree.proofs.Own.{own_none, own_twice, own_grown, in_drop, in_take
 use Rattle.cms_tree.proofs.climb.+rise.Goals as goal
 
 pub returns-in_default-clause-rises : goal.returns-in_default-clause-rises
-returns-in_default-clause-rises g t c = λ leaves marks numbers tier fresh_is is_tier stand is_child.
+returns-in_default-clause-rises g t c = λ leaves marks numbers node tier es fresh_is is_tier stand is_child.
     let a = c.args in
     let none : a.levels.now ≡ [] = empty a.levels.now c.in_default.ensures.cases in
-    subst (λ (l : List Level). Rises (g.W.World.told a.world.now) (g.W.World.told a.world.now) a.unit a.bsize a.psize leaves marks numbers tier a.child.now l l (Ok tt)) (sym none)
-    (rises_nothing (g.W.World.told a.world.now) a.unit a.bsize a.psize leaves marks numbers tier a.child.now)
+    subst (λ (l : List Level). Rises (g.W.World.told a.world.now) (g.W.World.told a.world.now) a.unit a.bsize a.psize leaves marks numbers node tier es a.child.now l l (Ok tt)) (sym none)
+    (rises_nothing (g.W.World.told a.world.now) a.unit a.bsize a.psize leaves marks numbers node tier es a.child.now)
   where
     empty : (l : List Level) → length l ≡ 0 → l ≡ []
     empty [] is = refl
@@ -34,17 +35,17 @@ pub lift-requires-clause-level : goal.lift-requires-clause-level
 lift-requires-clause-level g t c = All-head (HasSize c.args.bsize) c.in-Some.level.now c.in-Some.above.now (subst (All (HasSize c.args.bsize)) c.in-Some.ensures.cases.0 c.requires.levels)
 
 pub returns-in_err-parent-clause-rises : goal.returns-in_err-parent-clause-rises
-returns-in_err-parent-clause-rises g t c = λ leaves marks numbers tier fresh_is is_tier stand is_child.
+returns-in_err-parent-clause-rises g t c = λ leaves marks numbers node tier es fresh_is is_tier stand is_child.
     let a = c.args in
     let p = err_from_is_err_and c.from_residual.result c.from_residual.ensures.1 in
     let whole = c.in-Some.ensures.cases.0 in
     let above = c.in-Some.above.now in
-    let tier' = subst (λ (l : List Level). IsTier (a.bsize / a.psize) leaves marks numbers tier (length l)) whole is_tier in
-    let stand' = subst (λ (l : List Level). Stand a.bsize a.psize marks (length leaves) numbers tier a.child.now.nth l) whole stand in
-    let lifted = c.in_err-parent.ensures.lifts leaves marks numbers tier (length above) fresh_is tier' stand'.0 is_child in
-    rw p.1 (subst (λ (l : List Level). Rises (g.W.World.told a.world.now) (g.W.World.told c.lift.new.world) a.unit a.bsize a.psize leaves marks numbers tier a.child.now l (c.lift.new.level ∷ above)
+    let tier' = subst (λ (l : List Level). IsTier a.bsize a.psize leaves marks numbers node tier es (length l)) whole is_tier in
+    let stand' = subst (λ (l : List Level). Stand a.bsize a.psize marks (length leaves) numbers tier es a.child.now.nth l) whole stand in
+    let lifted = c.in_err-parent.ensures.lifts leaves marks numbers node tier es (length above) fresh_is tier' stand'.0 is_child in
+    rw p.1 (subst (λ (l : List Level). Rises (g.W.World.told a.world.now) (g.W.World.told c.lift.new.world) a.unit a.bsize a.psize leaves marks numbers node tier es a.child.now l (c.lift.new.level ∷ above)
     (Err p.0)) (sym whole)
-    (rises_failed (g.W.World.told a.world.now) (g.W.World.told c.lift.new.world) a.unit a.bsize a.psize leaves marks numbers tier a.child.now c.in-Some.level.now c.lift.new.level above
+    (rises_failed (g.W.World.told a.world.now) (g.W.World.told c.lift.new.world) a.unit a.bsize a.psize leaves marks numbers node tier es a.child.now c.in-Some.level.now c.lift.new.level above
     (c.lift.new.level ∷ above) p.0 lifted))
 
 pub returns-in_err-parent-clause-sizes : goal.returns-in_err-parent-clause-sizes
@@ -107,7 +108,7 @@ returns-in-Some-2-clause-own g t c =
     (λ n is_in. in_drop n count a.fresh.now (in_take n (length a.fresh.now - count) (drop count a.fresh.now) is_in)) c.lift.ensures.own c.rise.ensures.own
 
 pub returns-in-Some-2-clause-rises : goal.returns-in-Some-2-clause-rises
-returns-in-Some-2-clause-rises g t c = λ leaves marks numbers tier fresh_is is_tier stand is_child.
+returns-in-Some-2-clause-rises g t c = λ leaves marks numbers node tier es fresh_is is_tier stand is_child.
     let a = c.args in
     let whole = c.in-Some.ensures.cases.0 in
     let above = c.in-Some.above.now in
@@ -116,37 +117,37 @@ returns-in-Some-2-clause-rises g t c = λ leaves marks numbers tier fresh_is is_
     let old = g.W.World.told a.world.now in
     let mid = g.W.World.told c.lift.new.world in
     let some = some_fan a.bsize a.psize c.requires.size c.requires.psize in
-    let tier' = subst (λ (l : List Level). IsTier fan leaves marks numbers tier (length l)) whole is_tier in
-    let stand' = subst (λ (l : List Level). Stand a.bsize a.psize marks (length leaves) numbers tier a.child.now.nth l) whole stand in
+    let tier' = subst (λ (l : List Level). IsTier a.bsize a.psize leaves marks numbers node tier es (length l)) whole is_tier in
+    let stand' = subst (λ (l : List Level). Stand a.bsize a.psize marks (length leaves) numbers tier es a.child.now.nth l) whole stand in
     let p : IsParent fan a.child.now parent = subst (λ (o : Option Child). IfSome o (IsParent fan a.child.now)) c.in-Some-2.is c.in_ok-parent.ensures.parent in
-    let lifted : Lifts old mid a.unit a.bsize a.psize leaves marks numbers tier a.child.now c.lift.new.level (Ok (Some parent)) =
-    subst (λ (o : Option Child). Lifts old mid a.unit a.bsize a.psize leaves marks numbers tier a.child.now c.lift.new.level (Ok o)) c.in-Some-2.is
-    (c.in_ok-parent.ensures.lifts leaves marks numbers tier (length above) fresh_is tier' stand'.0 is_child) in
+    let lifted : Lifts old mid a.unit a.bsize a.psize leaves marks numbers node tier (kept_here es) a.child.now c.lift.new.level (Ok (Some parent)) =
+    subst (λ (o : Option Child). Lifts old mid a.unit a.bsize a.psize leaves marks numbers node tier (kept_here es) a.child.now c.lift.new.level (Ok o)) c.in-Some-2.is
+    (c.in_ok-parent.ensures.lifts leaves marks numbers node tier es (length above) fresh_is tier' stand'.0 is_child) in
     let count : parent.count ≡ up (length tier.blocks) fan = p.count ∙ ap (λ (n : ℕ). up n fan) is_child.count in
     let rest : take (length a.fresh.now - parent.count) (drop parent.count a.fresh.now) ≡ drop (tier.first + up (length tier.blocks) fan) numbers =
     take_all (length a.fresh.now - parent.count) (drop parent.count a.fresh.now) (let long = length-drop parent.count a.fresh.now in omega arith)
     ∙ ap (drop parent.count) fresh_is ∙ drop-drop parent.count tier.first numbers ∙ ap (λ (n : ℕ). drop (tier.first + n) numbers) count in
-    let stand'' : Stand a.bsize a.psize marks (length leaves) numbers (tier_above fan numbers tier) parent.nth above =
-    subst (λ (n : ℕ). Stand a.bsize a.psize marks (length leaves) numbers (tier_above fan numbers tier) n above) (sym p.nth) stand'.1 in
-    let risen = c.rise.ensures.rises leaves marks numbers (tier_above fan numbers tier) rest (tier_next fan leaves marks numbers tier (length above) some tier') stand'' lifted.2 in
-    subst (λ (l : List Level). Rises old (g.W.World.told c.rise.new.world) a.unit a.bsize a.psize leaves marks numbers tier a.child.now l (c.lift.new.level ∷ c.rise.new.levels) c.rise.result)
+    let stand'' : Stand a.bsize a.psize marks (length leaves) numbers (tier_above fan numbers tier (kept_here es)) (kept_above es) parent.nth above =
+    subst (λ (n : ℕ). Stand a.bsize a.psize marks (length leaves) numbers (tier_above fan numbers tier (kept_here es)) (kept_above es) n above) (sym p.nth) stand'.1 in
+    let risen = c.rise.ensures.rises leaves marks numbers node (tier_above fan numbers tier (kept_here es)) (kept_above es) rest (tier_next a.bsize a.psize leaves marks numbers node tier es (length above) some tier') stand'' lifted.2 in
+    subst (λ (l : List Level). Rises old (g.W.World.told c.rise.new.world) a.unit a.bsize a.psize leaves marks numbers node tier es a.child.now l (c.lift.new.level ∷ c.rise.new.levels) c.rise.result)
     (sym whole)
-    (rises_on old mid (g.W.World.told c.rise.new.world) a.unit a.bsize a.psize leaves marks numbers tier a.child.now parent c.in-Some.level.now c.lift.new.level above c.rise.new.levels c.rise.result
+    (rises_on old mid (g.W.World.told c.rise.new.world) a.unit a.bsize a.psize leaves marks numbers node tier es a.child.now parent c.in-Some.level.now c.lift.new.level above c.rise.new.levels c.rise.result
     some c.requires.within is_child.count p lifted risen)
 
 pub returns-in-None-clause-rises : goal.returns-in-None-clause-rises
-returns-in-None-clause-rises g t c = λ leaves marks numbers tier fresh_is is_tier stand is_child.
+returns-in-None-clause-rises g t c = λ leaves marks numbers node tier es fresh_is is_tier stand is_child.
     let a = c.args in
     let whole = c.in-Some.ensures.cases.0 in
     let above = c.in-Some.above.now in
     let fan = a.bsize / a.psize in
     let old = g.W.World.told a.world.now in
     let new = g.W.World.told c.lift.new.world in
-    let tier' = subst (λ (l : List Level). IsTier fan leaves marks numbers tier (length l)) whole is_tier in
-    let stand' = subst (λ (l : List Level). Stand a.bsize a.psize marks (length leaves) numbers tier a.child.now.nth l) whole stand in
-    let lifted : Lifts old new a.unit a.bsize a.psize leaves marks numbers tier a.child.now c.lift.new.level (Ok None) =
-    subst (λ (o : Option Child). Lifts old new a.unit a.bsize a.psize leaves marks numbers tier a.child.now c.lift.new.level (Ok o)) c.in-None.is
-    (c.in_ok-parent.ensures.lifts leaves marks numbers tier (length above) fresh_is tier' stand'.0 is_child) in
-    subst (λ (l : List Level). Rises old new a.unit a.bsize a.psize leaves marks numbers tier a.child.now l (c.lift.new.level ∷ above) (Ok tt)) (sym whole)
-    (rises_no_more old new a.unit a.bsize a.psize leaves marks numbers tier a.child.now c.in-Some.level.now c.lift.new.level above
+    let tier' = subst (λ (l : List Level). IsTier a.bsize a.psize leaves marks numbers node tier es (length l)) whole is_tier in
+    let stand' = subst (λ (l : List Level). Stand a.bsize a.psize marks (length leaves) numbers tier es a.child.now.nth l) whole stand in
+    let lifted : Lifts old new a.unit a.bsize a.psize leaves marks numbers node tier (kept_here es) a.child.now c.lift.new.level (Ok None) =
+    subst (λ (o : Option Child). Lifts old new a.unit a.bsize a.psize leaves marks numbers node tier (kept_here es) a.child.now c.lift.new.level (Ok o)) c.in-None.is
+    (c.in_ok-parent.ensures.lifts leaves marks numbers node tier es (length above) fresh_is tier' stand'.0 is_child) in
+    subst (λ (l : List Level). Rises old new a.unit a.bsize a.psize leaves marks numbers node tier es a.child.now l (c.lift.new.level ∷ above) (Ok tt)) (sym whole)
+    (rises_no_more old new a.unit a.bsize a.psize leaves marks numbers node tier es a.child.now c.in-Some.level.now c.lift.new.level above
     (some_fan a.bsize a.psize c.requires.size c.requires.psize) stand' lifted)

@@ -14,14 +14,14 @@ use Rattle.cms_tree.proofs.climb.lift.Goals as goal
 use Rattle.cms_tree.proofs.climb.lift.Goals.{After-deref}
 
 pub returns-then-not-ends_group-clause-lifts : goal.returns-then-not-ends_group-clause-lifts
-returns-then-not-ends_group-clause-lifts g c = λ leaves marks numbers tier levels fresh_is is_tier is_open is_child.
+returns-then-not-ends_group-clause-lifts g c = λ leaves marks numbers node tier es levels fresh_is is_tier is_open is_child.
     let a = c.args in
     let fan = c.bytes.result / c.from.result in
     let fan_is : fan ≡ a.bsize / a.psize = rw (c.bytes.ensures.value, c.from.ensures) refl in
-    let s : Stands a.bsize a.psize fan leaves marks numbers tier levels a.child.now a.level.now =
+    let s : Stands a.bsize a.psize fan leaves marks numbers node tier es levels a.child.now a.level.now =
     record { size = c.requires.size; kind = c.requires.psize; fan_is = fan_is; within = c.requires.within; tier = is_tier; is_open = is_open; is_child = is_child } in
-    let p : Pointed a.psize fan a.child.now a.level.now c.point.new.self = record { bytes = c.point.ensures.bytes; first = c.point.ensures.first; later = c.point.ensures.later } in
-    stands_on (g.W.World.told a.world.now) a.bsize a.psize fan leaves marks numbers tier levels a.child.now a.level.now c.point.new.self s p (sym c.ends_group.ensures ∙ c.if-not-ends_group.true)
+    let p : Pointed a.psize fan a.child.now a.level.now c.point-place.new.self c.point-place.result = record { bytes = c.point-place.ensures.bytes; first = c.point-place.ensures.place; known = c.point-place.ensures.known } in
+    stands_on (g.W.World.told a.world.now) a.bsize a.psize fan leaves marks numbers node tier es levels a.child.now a.level.now c.point-place.new.self c.point-place.result s p (sym c.ends_group.ensures ∙ c.if-not-ends_group.true)
 
 pub returns-then-not-ends_group-clause-own : goal.returns-then-not-ends_group-clause-own
 returns-then-not-ends_group-clause-own g c = own_none (g.W.World.told c.args.world.now) c.args.unit c.args.bsize c.args.fresh.now
@@ -36,7 +36,7 @@ has_fresh g c =
     let some : 1 ≤ fan = rw fan_is (some_fan a.bsize a.psize c.requires.size c.requires.psize) in
     let low = group_within fan a.child.now.count a.child.now.nth some c.requires.within in
     let enough : up a.child.now.count fan ≤ length a.fresh.now = rw fan_is c.requires.fresh in
-    (omega arith, ap (λ (l : List ℕ). length l) c.deref.ensures.value ∙ c.point.ensures.size ∙ c.requires.level)
+    (omega arith, ap (λ (l : List ℕ). length l) c.deref.ensures.value ∙ c.point-place.ensures.size ∙ c.requires.level)
 
 pub write_block-requires-clause-block : goal.write_block-requires-clause-block
 write_block-requires-clause-block g c = λ j told.
@@ -47,19 +47,19 @@ write_block-requires-clause-block g c = λ j told.
     (All-get_or (λ n. HasBlock j.units a.unit n a.bsize) a.fresh.now (a.child.now.nth / fan) 0 fresh.0 (c.requires.blocks j told))
 
 pub returns-in_err-write_block-clause-lifts : goal.returns-in_err-write_block-clause-lifts
-returns-in_err-write_block-clause-lifts g c = λ leaves marks numbers tier levels fresh_is is_tier is_open is_child.
+returns-in_err-write_block-clause-lifts g c = λ leaves marks numbers node tier es levels fresh_is is_tier is_open is_child.
     let a = c.args in
     let fan = c.bytes.result / c.from.result in
     let fan_is : fan ≡ a.bsize / a.psize = rw (c.bytes.ensures.value, c.from.ensures) refl in
-    let s : Stands a.bsize a.psize fan leaves marks numbers tier levels a.child.now a.level.now =
+    let s : Stands a.bsize a.psize fan leaves marks numbers node tier es levels a.child.now a.level.now =
     record { size = c.requires.size; kind = c.requires.psize; fan_is = fan_is; within = c.requires.within; tier = is_tier; is_open = is_open; is_child = is_child } in
-    let q : Pointed a.psize fan a.child.now a.level.now c.point.new.self = record { bytes = c.point.ensures.bytes; first = c.point.ensures.first; later = c.point.ensures.later } in
+    let q : Pointed a.psize fan a.child.now a.level.now c.point-place.new.self c.point-place.result = record { bytes = c.point-place.ensures.bytes; first = c.point-place.ensures.place; known = c.point-place.ensures.known } in
     let p = err_from_is_err_and c.from_residual.result c.from_residual.ensures.1 in
     let is : ends_group fan a.child.now.count a.child.now.nth ≡ true = sym c.ends_group.ensures ∙ c.if-not-ends_group.false in
     rw p.1 (
       stands_ends a.bsize a.psize fan a.child.now fan_is is,
       may_add_front _ (g.W.World.told a.world.now) (g.W.World.told c.write_block.new.self) _
-          (stands_whole a.unit a.bsize a.psize fan leaves marks numbers a.fresh.now tier levels a.child.now a.level.now c.point.new.self c.deref.result.now s q is fresh_is c.deref.ensures.value)
+          (stands_whole a.unit a.bsize a.psize fan leaves marks numbers a.fresh.now node tier es levels a.child.now a.level.now c.point-place.new.self c.point-place.result c.deref.result.now s q is fresh_is c.deref.ensures.value)
           c.in_err-write_block.ensures.failed,
     )
 
@@ -96,22 +96,21 @@ returns-clause-own g c =
     (in_at a.fresh.now (a.child.now.nth / fan) fresh.0) fresh.1 (inr c.in_ok-write_block.ensures.wrote)
 
 pub returns-clause-lifts : goal.returns-clause-lifts
-returns-clause-lifts g c = λ leaves marks numbers tier levels fresh_is is_tier is_open is_child.
+returns-clause-lifts g c = λ leaves marks numbers node tier es levels fresh_is is_tier is_open is_child.
     let a = c.args in
     let fan = c.bytes.result / c.from.result in
     let fan_is : fan ≡ a.bsize / a.psize = rw (c.bytes.ensures.value, c.from.ensures) refl in
-    let s : Stands a.bsize a.psize fan leaves marks numbers tier levels a.child.now a.level.now =
+    let s : Stands a.bsize a.psize fan leaves marks numbers node tier es levels a.child.now a.level.now =
     record { size = c.requires.size; kind = c.requires.psize; fan_is = fan_is; within = c.requires.within; tier = is_tier; is_open = is_open; is_child = is_child } in
-    let q : Pointed a.psize fan a.child.now a.level.now c.point.new.self = record { bytes = c.point.ensures.bytes; first = c.point.ensures.first; later = c.point.ensures.later } in
+    let q : Pointed a.psize fan a.child.now a.level.now c.point-place.new.self c.point-place.result = record { bytes = c.point-place.ensures.bytes; first = c.point-place.ensures.place; known = c.point-place.ensures.known } in
     let is : ends_group fan a.child.now.count a.child.now.nth ≡ true = sym c.ends_group.ensures ∙ c.if-not-ends_group.false in
     let some : 1 ≤ fan = rw fan_is (some_fan a.bsize a.psize c.requires.size c.requires.psize) in
     let count : c.div_ceil.result ≡ up a.child.now.count fan = c.div_ceil.ensures ∙ div_ceil_is a.child.now.count fan some in
-    let wrote = stands_whole a.unit a.bsize a.psize fan leaves marks numbers a.fresh.now tier levels a.child.now a.level.now c.point.new.self c.deref.result.now s q is fresh_is c.deref.ensures.value
+    let wrote = stands_whole a.unit a.bsize a.psize fan leaves marks numbers a.fresh.now node tier es levels a.child.now a.level.now c.point-place.new.self c.point-place.result c.deref.result.now s q is fresh_is c.deref.ensures.value
     in
-    let zeros : c.clear.new.self.bytes.items ≡ replicate a.bsize 0 = c.clear.ensures.bytes ∙ ap (λ (n : ℕ). replicate n 0) (c.point.ensures.size ∙ c.requires.level) in (
+    let zeros : c.clear.new.self.bytes.items ≡ replicate a.bsize 0 = c.clear.ensures.bytes ∙ ap (λ (n : ℕ). replicate n 0) (c.point-place.ensures.size ∙ c.requires.level) in (
       stands_ends a.bsize a.psize fan a.child.now fan_is is,
       c.in_ok-write_block.ensures.wrote ∙ ap (plus (g.W.World.told a.world.now)) wrote,
-      stands_parent a.bsize a.psize fan leaves marks numbers a.fresh.now tier levels a.child.now a.level.now c.point.new.self c.div_ceil.result c.clear.new.self.place s q is fresh_is count
-          c.clear.ensures.place,
-      λ less. stands_next a.bsize a.psize fan leaves marks numbers tier levels a.child.now a.level.now c.clear.new.self s is zeros less,
+      stands_parent a.bsize a.psize fan leaves marks numbers a.fresh.now node tier es levels a.child.now a.level.now c.point-place.new.self c.div_ceil.result c.point-place.result s q is fresh_is count,
+      λ less. stands_next a.bsize a.psize fan leaves marks numbers node tier es levels a.child.now a.level.now c.clear.new.self s is zeros c.clear.ensures.place less,
     )
