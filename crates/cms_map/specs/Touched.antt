@@ -21,4 +21,5 @@ pub record AppendsTouched (bsize : ℕ) (blocks old new : List ℕ) : Type 0 whe
 -- the lowest of the numbers from one on, if there is one
 abbrev pub IsLowest : ℕ → List ℕ → Option ℕ → Type 0
 IsLowest from numbers None = (n : ℕ) → In n numbers → n < from
-IsLowest from numbers (Some low) = (from ≤ low) × In low numbers × ((n : ℕ) → In n numbers → from ≤ n → low ≤ n)
+IsLowest from numbers (Some low) = (from ≤ low) × In low numbers
+    × ((n : ℕ) → In n numbers → from ≤ n → low ≤ n)

@@ -28,7 +28,8 @@ impl Model for Map {
 
     ghost view = { λ m. bits_in m.blocks m.bytes.items };
 
-    ghost invariant = { λ m. IsHeld m.blocks m.free m.bytes.items × NoneIsFree m.low (bits_in m.blocks m.bytes.items) };
+    ghost invariant = { λ m. IsHeld m.blocks m.free m.bytes.items
+        × NoneIsFree m.low (bits_in m.blocks m.bytes.items) };
 }
 
 impl Map {
@@ -124,7 +125,8 @@ impl Map {
     pub fn touched(&self, blocks: &[u32], bsize: u32, into: &mut Vec<u32>)
         requires size { 0 < bsize }
         requires blocks { All (λ n. (1 ≤ n) × (n ≤ length self.now)) blocks.now }
-        requires room { vec_len into.old + div_ceil (length self.now) (8 * bsize) ≤ vec_capacity into.old }
+        requires room { vec_len into.old + div_ceil (length self.now) (8 * bsize)
+            ≤ vec_capacity into.old }
         ensures touched { AppendsTouched bsize blocks.now into.old.items into.new.items }
         ensures capacity { vec_capacity into.old ≤ vec_capacity into.new }
     {
