@@ -18,7 +18,8 @@ FirstIsTold =
 -- begin where they did, the later ones behind them
 abbrev pub VaryingExtends : Type 0
 VaryingExtends =
-    (bsize size count : ℕ) (bytes rest : List ℕ) (records more : List (List ℕ)) → varying bsize count 0 bytes ≡ Ok records
-    → All (Fits V size) more → length rest < bsize
-    → (varying bsize (count + length more) 0 ((take (filled_by records) bytes ++ stored V more) ++ rest) ≡ Ok (records ++ more))
+    (bsize size count : ℕ) (bytes rest : List ℕ) (records more : List (List ℕ))
+    → varying bsize count 0 bytes ≡ Ok records → All (Fits V size) more → length rest < bsize
+    → (varying bsize (count + length more) 0 ((take (filled_by records) bytes ++ stored V more) ++ rest)
+    ≡ Ok (records ++ more))
     × (begins 0 (records ++ more) ≡ begins 0 records ++ begins (filled_by records) more)

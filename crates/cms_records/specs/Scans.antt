@@ -44,7 +44,8 @@ IsSizeAt bytes place None = ⊤
 IsSizeAt bytes place (Some n) = (1 ≤ n) × (place + 2 ≤ length bytes) × (half (drop place bytes) 0 ≡ n)
 
 -- records begin at these places, and then where those do that are left, of which the first begins here, in these bytes
-pub record BeganWith (bsize left place : ℕ) (bytes places : List ℕ) (records : List (List ℕ)) : Type 0 where
+pub record BeganWith (bsize left place : ℕ) (bytes places : List ℕ) (records : List (List ℕ))
+    : Type 0 where
   pub more : List (List ℕ)
   pub read : varying bsize left place bytes ≡ Ok more
   pub are : begins 0 records ≡ places ++ begins place more
@@ -52,8 +53,8 @@ pub record BeganWith (bsize left place : ℕ) (bytes places : List ℕ) (records
 -- whatever bytes come behind these, all records begin where those before did, and then where those that are left do
 pub record Began (count bsize left place : ℕ) (first : Option ℕ) (bytes : List ℕ) : Type 0 where
   pub places : List ℕ
-  pub all : (rest : List ℕ) (records : List (List ℕ)) → varying bsize count 0 (bytes ++ rest) ≡ Ok records
-      → BeganWith bsize left place (drop place (bytes ++ rest)) places records
+  pub all : (rest : List ℕ) (records : List (List ℕ))
+      → varying bsize count 0 (bytes ++ rest) ≡ Ok records → BeganWith bsize left place (drop place (bytes ++ rest)) places records
   pub below : (other : ℕ) → In other places → other < place
   pub first_is : IsFirst bsize places first
 

@@ -19,7 +19,8 @@ nowhere = 2 ^ 32 - 1
 -- the place within the last of the data blocks that so many bytes fill at which the first record in it begins, by the places of all
 abbrev pub last_start : ℕ → ℕ → List ℕ → ℕ
 last_start bsize stored places =
-    let last = (stored - 1) / bsize in option_map_or (λ place. place - last * bsize) (first_from bsize last places) nowhere
+    let last = (stored - 1) / bsize in
+    option_map_or (λ place. place - last * bsize) (first_from bsize last places) nowhere
 
 -- the first of the places in the data block in which the last of them lies
 abbrev pub IsFirst : ℕ → List ℕ → Option ℕ → Type 0
@@ -35,4 +36,5 @@ with_place bsize (Some first) place = if first / bsize == place / bsize then fir
 -- the place of the first within its data block, where that is the last of those that so many bytes fill
 abbrev pub start_in : ℕ → ℕ → Option ℕ → ℕ
 start_in bsize stored None = nowhere
-start_in bsize stored (Some first) = if first / bsize == (stored - 1) / bsize then first % bsize else nowhere
+start_in bsize stored (Some first) =
+    if first / bsize == (stored - 1) / bsize then first % bsize else nowhere

@@ -113,8 +113,9 @@ impl VarScan {
     /// Once all bytes came of records that `end` tells of: the place within the last data block that they fill at which the first
     /// record in it begins, 4,294,967,295 where none does.
     pub fn last_start(&self) -> u32
-        ensures { (count : ℕ) (bytes : List ℕ) (records : List (List ℕ)) → IsFed count bytes self.now
-            → varying self.now.bsize count 0 bytes ≡ Ok records → result ≡ last_start self.now.bsize (filled_by records) (begins 0 records) }
+        ensures { (count : ℕ) (bytes : List ℕ) (records : List (List ℕ))
+            → IsFed count bytes self.now → varying self.now.bsize count 0 bytes ≡ Ok records
+            → result ≡ last_start self.now.bsize (filled_by records) (begins 0 records) }
     {
         let bsize = self.bsize.bytes();
         start_in(bsize, self.place, self.first)

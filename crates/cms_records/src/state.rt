@@ -102,7 +102,8 @@ impl RecordState {
 
     // How many bytes the record has that is read next, where more bytes come.
     fn size_with(&self, more: &[u8]) -> Result<Option<u32>, VarFault>
-        ensures size { result ≡ record_size self.now.fixed self.now.longest (next_place self.now) (bytes_so_far self.now ++ more.now) }
+        ensures size { result ≡ record_size self.now.fixed self.now.longest (next_place self.now)
+            (bytes_so_far self.now ++ more.now) }
         ensures held { length self.now.bytes ≤ self.now.longest + 2 }
     {
         if self.whole {
