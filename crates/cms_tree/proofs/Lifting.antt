@@ -1,27 +1,25 @@
 -- A pointer block while a climb fills it.
-use Rattle.std.proofs.Common.{◌≡◌, ◌⊎◌, inl, inr, ⊎_elim, ℕ, zero, suc, min, max, cond, eqb, ltb, ◌+◌, ◌-◌, ◌*◌, ◌/◌, ◌%◌, ◌<◌, ◌≤◌, Bool, true, false, List, [], ◌∷◌, ◌++◌, length, take, drop, get_or, Option, Some, None, refl, sym, ◌∙◌, ap, subst, arith, append-nil, append_assoc, length-append, div-add-mod', mod-lt, mul-le-mul_right, mul-pos}
+use Rattle.std.proofs.Common.{◌≡◌, ◌⊎◌, inl, inr, ⊎_elim, ℕ, suc, min, cond, eqb, ltb, ◌+◌, ◌-◌, ◌*◌, ◌/◌, ◌%◌, ◌<◌, ◌≤◌, true, false, List, [], ◌∷◌, ◌++◌, length, take, drop, get_or, Option, Some, None, refl, sym, ◌∙◌, ap, subst, arith, append-nil, append_assoc, length-append, div-add-mod', mod-lt, mul-le-mul_right}
 use Rattle.std.specs.Prelude.{replicate, unwrap_or}
 use Rattle.std.proofs.lemmas.Bool.{cases_lt, cases_eq, cond-true, cond-false, eqb-true, eqb-false, eq-eqb, ne_eqb, both_ways, le-ltb, lt-ltb}
 use Rattle.std.proofs.lemmas.Nat.{div-mul-add, mod-mul-add, div_below}
-use Rattle.std.proofs.lemmas.List.{take_more, take_all, length-take, length-take-le, length-drop, drop-drop, get_or-drop, get_or-take, take-take}
-use Rattle.std.proofs.Math.Seq.{drop-append_seam}
+use Rattle.std.proofs.lemmas.List.{take_more, length-take-le, length-drop, get_or-drop, get_or-take}
 use Rattle.cms_journal.specs.declared.event.Event.{Event}
 use Rattle.cms_journal.specs.declared.event.Event.TheVariants.{Wrote}
 use Rattle.cms_journal.specs.Journal.{IsBlockSize, MayAdd}
-use Rattle.cms_journal.specs.Told.{Told, plus}
+use Rattle.cms_journal.specs.Told.{Told}
 use Rattle.cms_text.specs.Bytes.{overwritten}
 use Rattle.cms_fields.specs.Numbers.{up}
-use Rattle.cms_model.specs.Lists.{cut}
 use Rattle.cms_model.specs.LawsTrees.{cell_bytes}
 use Rattle.cms_model.specs.Settled.{writes}
-use Rattle.cms_model.proofs.Quotients.{up_spec, up_up, up_some}
+use Rattle.cms_model.proofs.Quotients.{up_spec, up_up}
 use Rattle.cms_tree.specs.declared.types.Mark.{Mark}
 use Rattle.cms_tree.specs.declared.climb.Level.{Level}
 use Rattle.cms_tree.specs.declared.climb.Child.{Child}
 use Rattle.cms_tree.specs.Builds as built
 use Rattle.cms_tree.specs.Builds.{cell_of}
-use Rattle.cms_tree.specs.Levels.{mark_at, wide_mark, over_count}
-use Rattle.cms_tree.specs.Kept.{Kept, kept_here, kept_above, nothing}
+use Rattle.cms_tree.specs.Levels.{mark_at, over_count}
+use Rattle.cms_tree.specs.Kept.{Kept, kept_here, kept_above}
 use Rattle.cms_model.specs.LawsUpdates.{AddsFront}
 use Rattle.cms_tree.specs.Tiers.{Tier, tier_above, tier_mark, cells_from, behind_kept, pointing, node_in, place_over, Keeps, IsTier, IsOpen, IsChild, ends_group, put_node}
 use Rattle.cms_tree.proofs.Filling.{length-cell, overwrite-zeros, same_cell}

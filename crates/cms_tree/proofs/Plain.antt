@@ -1,18 +1,15 @@
 -- A tree that keeps nothing of the tree before is the one that `build` makes.
-use Rattle.std.proofs.Common.{◌≡◌, ◌⊎◌, ⊎_elim, ℕ, zero, suc, cond, eqb, ltb, min, max, ◌+◌, ◌-◌, ◌*◌, ◌/◌, ◌%◌, ◌<◌, ◌≤◌, Bool, true, false, List, [], ◌∷◌, ◌++◌, length, take, drop, get_or, Option, Some, None, refl, sym, ◌∙◌, ap, subst, arith, mul-le-mul_right}
+use Rattle.std.proofs.Common.{◌≡◌, ◌⊎◌, ⊎_elim, ℕ, zero, suc, cond, eqb, ltb, min, ◌+◌, ◌-◌, ◌*◌, ◌/◌, ◌<◌, ◌≤◌, Bool, true, false, List, [], ◌∷◌, length, take, drop, get_or, Option, None, refl, sym, ◌∙◌, ap, arith, mul-le-mul_right}
 use Rattle.std.proofs.Math.Nat.{zero-div}
-use Rattle.std.specs.Prelude.{replicate, unwrap_or}
 use Rattle.std.proofs.lemmas.Bool.{cases_lt, cond-true, cond-false, lt-ltb, le-ltb}
 use Rattle.std.proofs.lemmas.List.{drop-drop, length-take, length-take-le, length-drop, take_min}
 use Rattle.cms_fields.specs.Numbers.{up}
-use Rattle.cms_model.specs.LawsTrees.{cell_bytes}
 use Rattle.cms_model.proofs.Quotients.{up_up}
 use Rattle.cms_tree.specs.declared.types.Mark.{Mark}
-use Rattle.cms_tree.specs.Builds as built
-use Rattle.cms_tree.specs.Builds.{all_over, node_bytes, cell_of}
-use Rattle.cms_tree.specs.Levels.{mark_at, wide_mark, children_from, over_count}
-use Rattle.cms_tree.specs.Kept.{Kept, nothing}
-use Rattle.cms_tree.specs.Tiers.{Tier, tier_above, tier_mark, cells_from, behind_kept, pointing, node_in}
+use Rattle.cms_tree.specs.Builds.{all_over, node_bytes}
+use Rattle.cms_tree.specs.Levels.{children_from, over_count}
+use Rattle.cms_tree.specs.Kept.{nothing}
+use Rattle.cms_tree.specs.Tiers.{Tier, tier_above, cells_from, behind_kept, pointing, node_in}
 use Rattle.cms_tree.proofs.Filling.{cells, length-children, below_some}
 use Rattle.cms_tree.proofs.Rising.{found, higher}
 

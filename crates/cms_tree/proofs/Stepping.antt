@@ -1,16 +1,16 @@
 -- A climb while a leaf is added, level by level.
-use Rattle.std.proofs.Common.{◌≡◌, ⊎_elim, ℕ, zero, suc, ◌+◌, ◌-◌, ◌*◌, ◌/◌, ◌%◌, ◌<◌, ◌≤◌, min, cond, eqb, true, false, List, [], ◌∷◌, ◌++◌, length, drop, get_or, map, All, None, Some, Result, Ok, Err, refl, sym, ◌∙◌, ap, subst, arith, append_assoc}
+use Rattle.std.proofs.Common.{◌≡◌, ℕ, suc, ◌+◌, ◌-◌, ◌*◌, ◌/◌, ◌%◌, ◌<◌, ◌≤◌, min, cond, eqb, true, false, List, [], ◌∷◌, ◌++◌, length, get_or, map, All, None, Some, Result, Ok, Err, refl, sym, ◌∙◌, ap, subst, arith, append_assoc}
 use Rattle.std.proofs.Math.Nat.{zero-div, zero-mod}
 use Rattle.std.specs.Prelude.{replicate}
 use Rattle.std.proofs.lemmas.Bool.{cond-true, cond-false}
-use Rattle.std.proofs.lemmas.List.Elements.{All-head, All-tail, All-drop}
+use Rattle.std.proofs.lemmas.List.Elements.{All-head, All-tail}
 use Rattle.cms_journal.specs.declared.event.Event.{Event}
 use Rattle.cms_journal.specs.declared.event.Event.TheVariants.{Wrote}
 use Rattle.cms_journal.specs.declared.event.Failed.{Failed}
 use Rattle.cms_journal.specs.declared.event.Attached.{Attached}
-use Rattle.cms_journal.specs.Journal.{Journal, IsWritable}
+use Rattle.cms_journal.specs.Journal.{Journal}
 use Rattle.cms_journal.specs.Told.{Told, plus, back, Grown}
-use Rattle.cms_journal.proofs.Pieces.{plus_plus, plus-none, plus-some}
+use Rattle.cms_journal.proofs.Pieces.{plus-none, plus-some}
 use Rattle.cms_fields.specs.Numbers.{up}
 use Rattle.cms_model.specs.Sizes.{levels, pointer_count}
 use Rattle.cms_model.specs.Settled.{Write, writes}
@@ -23,9 +23,9 @@ use Rattle.cms_tree.specs.Builds as built
 use Rattle.cms_tree.specs.Builds.{IsBuildable, all_over, node_at, node_bytes}
 use Rattle.cms_tree.specs.Levels.{over_count}
 use Rattle.cms_tree.specs.Kept.{Kept, kept_here, kept_above, nothing}
-use Rattle.cms_tree.specs.Tiers.{Tier, lowest, tier_above, node_on, IsTier, IsOpen, IsChild, IsParent, Stand, Lifts, Rises, rise_writes, put_node, complete_from, ends_group}
+use Rattle.cms_tree.specs.Tiers.{Tier, lowest, tier_above, node_on, IsTier, IsChild, IsParent, Stand, Lifts, Rises, rise_writes, put_node, complete_from, ends_group}
 use Rattle.cms_tree.specs.Climbs.{Climbing, Climbs, ClimbsOn, IsNext, Adds, AddsOn, climb_writes, climb_writes_on}
-use Rattle.cms_tree.proofs.Lifting.{Ends, ends_is, ends_begins, Goes, goes_is, next_within, group_within, kept_open}
+use Rattle.cms_tree.proofs.Lifting.{ends_is, ends_begins, goes_is, next_within, group_within, kept_open}
 use Rattle.cms_tree.proofs.Rising.{marked-is, up_one, all_count}
 use Rattle.cms_tree.proofs.Plain.{either, plain_node}
 

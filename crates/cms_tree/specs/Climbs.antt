@@ -61,16 +61,21 @@ abbrev pub climb_writes : ℕ → ℕ → List ℕ → List Mark → List ℕ �
 climb_writes bsize psize leaves marks fresh i = map (node_write bsize psize leaves marks fresh)
     (complete_from (bsize / psize) (levels (bsize / psize) (length leaves)) 0 (length leaves) i)
 
--- the same of a tree that keeps so many leaves of the tree before, and so much of the pointer blocks of each level
+-- the same of a tree that keeps so many leaves of the tree before, and so much of the pointer blocks
+-- of each level
 abbrev pub climb_writes_on : ℕ → ℕ → List ℕ → List Mark → List ℕ → ℕ → List Kept → ℕ → List Write
-climb_writes_on bsize psize leaves marks fresh kept es i = map (put_node fresh (node_on bsize psize leaves marks fresh kept es))
+climb_writes_on bsize psize leaves marks fresh kept es i =
+    map (put_node fresh (node_on bsize psize leaves marks fresh kept es))
     (complete_from (bsize / psize) (levels (bsize / psize) (length leaves)) 0 (length leaves) i)
 
--- the climb has added the first of these leaves, with these marks, or kept them, and its pointer blocks have these numbers
-pub record ClimbsOn (c : Climbing) (kept : ℕ) (es : List Kept) (leaves : List ℕ) (marks : List Mark) (fresh : List ℕ) : Type 0 where
+-- the climb has kept or added the first of these leaves, with these marks, and its pointer blocks
+-- have these numbers
+pub record ClimbsOn (c : Climbing) (kept : ℕ) (es : List Kept) (leaves : List ℕ) (marks : List Mark)
+    (fresh : List ℕ) : Type 0 where
   pub plan : IsBuildable c.bsize c.psize leaves marks fresh
   pub count : c.count ≡ length leaves
-  pub stand : c.added < c.count → Stand c.bsize c.psize marks (length leaves) fresh (lowest kept leaves) es c.added c.levels
+  pub stand : c.added < c.count
+      → Stand c.bsize c.psize marks (length leaves) fresh (lowest kept leaves) es c.added c.levels
 
 -- where nothing is kept
 abbrev pub Climbs : Climbing → List ℕ → List Mark → List ℕ → Type 0
@@ -88,12 +93,15 @@ Adds old new u c c' leaves marks fresh (Ok x) =
 Adds old new u c c' leaves marks fresh (Err e) = AddsFront old new (writes u (climb_writes c.bsize c.psize leaves marks fresh c.added))
 
 -- the same of a tree that keeps some of the tree before
-abbrev pub AddsOn : Told → Told → ℕ → Climbing → Climbing → ℕ → List Kept → List ℕ → List Mark → List ℕ → Result ⊤ Failed → Type 0
+abbrev pub AddsOn : Told → Told → ℕ → Climbing → Climbing → ℕ → List Kept → List ℕ → List Mark
+    → List ℕ → Result ⊤ Failed → Type 0
 AddsOn old new u c c' kept es leaves marks fresh (Ok x) =
-    (new ≡ plus old (writes u (climb_writes_on c.bsize c.psize leaves marks fresh kept es c.added)))
+    (new ≡ plus old
+    (writes u (climb_writes_on c.bsize c.psize leaves marks fresh kept es c.added)))
     × ClimbsOn c' kept es leaves marks fresh
 AddsOn old new u c c' kept es leaves marks fresh (Err e) =
-    AddsFront old new (writes u (climb_writes_on c.bsize c.psize leaves marks fresh kept es c.added))
+    AddsFront old new
+    (writes u (climb_writes_on c.bsize c.psize leaves marks fresh kept es c.added))
 
 -- none is added of so many leaves, whatever these are
 pub record IsNew (bsize psize count : ℕ) (c : Climbing) : Type 0 where

@@ -1,9 +1,9 @@
 -- What a tree that is built on keeps of the tree before, level by level.
 use Rattle.std.specs.Prelude.{ℕ, List, [], ◌∷◌, Option, None}
 
--- of a pointer block that the tree before has too, but with other pointers behind these: the bytes of the
--- pointers that are kept, and the third word with which the tree before points to it. Where no such block
--- is on a level there is no pointer and no word
+-- of a pointer block of which the tree before has a part: the bytes of its first pointers, those that
+-- are kept, and the third word with which the tree before points to it. Where a level has no such
+-- block there is no pointer and no word
 pub record Kept : Type 0 where
   pub front : List ℕ
   pub place : Option ℕ

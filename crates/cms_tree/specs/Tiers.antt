@@ -1,7 +1,6 @@
 -- The open pointer blocks of a tree while a leaf is added.
 use Rattle.std.specs.Prelude.{◌≡◌, ℕ, zero, suc, ◌+◌, ◌-◌, ◌*◌, ◌/◌, ◌%◌, ◌<◌, ◌≤◌, min, max, Bool, true, false, if◌then◌else◌, ◌==◌, nat_lt, List, [], ◌∷◌, ◌++◌, length, take, drop, map, replicate, slice_index, unwrap_or, Option, None, Some, Result, Ok, Err, ⊤}
 use Rattle.cms_journal.specs.Told.{Told, plus}
-use Rattle.cms_journal.specs.declared.event.Event.{Event}
 use Rattle.cms_journal.specs.declared.event.Failed.{Failed}
 use Rattle.cms_fields.specs.Numbers.{up}
 use Rattle.cms_model.specs.Settled.{Write, writes}
@@ -34,13 +33,14 @@ abbrev pub put_node : List ℕ → (ℕ → List ℕ) → ℕ → Write
 put_node fresh node nth = record { block = slice_index fresh nth; bytes = node nth }
 
 abbrev pub node_write : ℕ → ℕ → List ℕ → List Mark → List ℕ → ℕ → Write
-node_write bsize psize leaves marks fresh nth = put_node fresh (node_at bsize psize leaves marks fresh) nth
+node_write bsize psize leaves marks fresh nth =
+    put_node fresh (node_at bsize psize leaves marks fresh) nth
 
 -- ---- the levels
 
--- the blocks of a level, each but the last with `size` leaves below it; `first` is the place among all of the first pointer block
--- over them. So many of them are kept of the tree before, and `place` is the third word with which that one points to the block
--- behind these, where it has a part of what is below it
+-- the blocks of a level, each but the last with `size` leaves below it; `first` is the place among
+-- all of the first pointer block over them. So many of them are kept of the tree before, and `place`
+-- is the third word with which that one points to the block behind these, where it has a part of it
 pub record Tier : Type 0 where
   pub first : ℕ
   pub size : ℕ
@@ -72,54 +72,64 @@ tier_mark marks count t i = record {
 -- the bytes of the pointers to blocks of a level, from its block i on
 unfoldable pub cells_from : ℕ → List Mark → ℕ → Tier → ℕ → List ℕ → List ℕ
 cells_from psize marks count t i [] = []
-cells_from psize marks count t i (n ∷ ns) = cell_bytes (cell_of psize (record { block = n; mark = tier_mark marks count t i }))
+cells_from psize marks count t i (n ∷ ns) =
+    cell_bytes (cell_of psize (record { block = n; mark = tier_mark marks count t i }))
     ++ cells_from psize marks count t (i + 1) ns
 
 -- the first block of a level to which pointer block j over it has a pointer that isn't kept
 abbrev pub behind_kept : ℕ → Tier → ℕ → ℕ
 behind_kept fan t j = max t.kept (j * fan)
 
--- the bytes of pointer block j over a level with its pointers to the blocks before block `upto`: the kept ones, those behind them,
--- and then zeros
+-- the bytes of pointer block j over a level with its pointers to the blocks before block `upto`:
+-- the kept ones, those behind them, and then zeros
 abbrev pub pointing : ℕ → ℕ → List Mark → ℕ → Tier → Kept → ℕ → ℕ → List ℕ
 pointing bsize psize marks count t e j upto =
     (if j == t.kept / (bsize / psize) then e.front else [])
     ++ cells_from psize marks count t (behind_kept (bsize / psize) t j)
-    (take (upto - behind_kept (bsize / psize) t j) (drop (behind_kept (bsize / psize) t j) t.blocks))
+    (take (upto - behind_kept (bsize / psize) t j)
+    (drop (behind_kept (bsize / psize) t j) t.blocks))
     ++ replicate (bsize - (upto - j * (bsize / psize)) * psize) 0
 
--- the bytes of the pointer block at a place among those of so many levels, `es` being what is kept on each
+-- the bytes of the pointer block at a place among those of so many levels, where so much is kept on
+-- each
 unfoldable pub node_in : ℕ → ℕ → List Mark → ℕ → List ℕ → ℕ → Tier → List Kept → ℕ → List ℕ
 node_in bsize psize marks count fresh zero t es nth = []
 node_in bsize psize marks count fresh (suc k) t es nth =
     if nat_lt nth (up (length t.blocks) (bsize / psize))
-    then pointing bsize psize marks count t (kept_here es) nth (min ((nth + 1) * (bsize / psize)) (length t.blocks))
-    else node_in bsize psize marks count fresh k (tier_above (bsize / psize) fresh t (kept_here es)) (kept_above es)
+    then pointing bsize psize marks count t (kept_here es) nth
+    (min ((nth + 1) * (bsize / psize)) (length t.blocks))
+    else node_in bsize psize marks count fresh k
+    (tier_above (bsize / psize) fresh t (kept_here es)) (kept_above es)
     (nth - up (length t.blocks) (bsize / psize))
 
--- the bytes of the pointer block at a place, from 0, of a tree that keeps so many leaves of the tree before, and so much of the
--- pointer blocks of each level
+-- the bytes of the pointer block at a place, from 0, of a tree that keeps so many leaves of the
+-- tree before, and so much of the pointer blocks of each level
 abbrev pub node_on : ℕ → ℕ → List ℕ → List Mark → List ℕ → ℕ → List Kept → ℕ → List ℕ
 node_on bsize psize leaves marks fresh kept es nth =
-    node_in bsize psize marks (length leaves) fresh (levels (bsize / psize) (length leaves)) (lowest kept leaves) es nth
+    node_in bsize psize marks (length leaves) fresh (levels (bsize / psize) (length leaves))
+    (lowest kept leaves) es nth
 
 -- ---- the open pointer blocks
 
 -- the place in the mark of pointer block j over a level
 abbrev pub place_over : List Mark → ℕ → Tier → Kept → ℕ → ℕ
-place_over marks fan t e j = unwrap_or (if j == t.kept / fan then e.place else None) (mark_at marks (j * (t.size * fan))).place
+place_over marks fan t e j = unwrap_or (if j == t.kept / fan then e.place else None)
+    (mark_at marks (j * (t.size * fan))).place
 
--- the kept pointers are those to the kept blocks in their pointer block, which the tree before has where it has a part of the
--- block behind these
+-- the kept pointers are those to the kept blocks that no whole pointer block points to; the tree
+-- before has a part of the open pointer block where it has one of these, or a part of the block
+-- behind them
 pub record Keeps (psize fan : ℕ) (t : Tier) (e : Kept) : Type 0 where
   pub front : length e.front ≡ t.kept % fan * psize
   pub partly : e.place ≡ None → (t.place ≡ None) × (t.kept % fan ≡ 0)
 
--- the open pointer block points to the blocks before block k that no whole pointer block points to, and has the place of its mark
--- as soon as that is known
-pub record IsOpen (bsize psize : ℕ) (marks : List Mark) (count : ℕ) (t : Tier) (e : Kept) (k : ℕ) (level : Level) : Type 0 where
+-- the open pointer block points to the blocks before block k that no whole pointer block points to,
+-- and has the place of its mark as soon as that is known
+pub record IsOpen (bsize psize : ℕ) (marks : List Mark) (count : ℕ) (t : Tier) (e : Kept) (k : ℕ)
+    (level : Level) : Type 0 where
   pub bytes : level.bytes.items ≡ pointing bsize psize marks count t e (k / (bsize / psize)) k
-  pub known : psize ≡ 12 → 1 ≤ k % (bsize / psize) → level.place ≡ Some (place_over marks (bsize / psize) t e (k / (bsize / psize)))
+  pub known : psize ≡ 12 → 1 ≤ k % (bsize / psize)
+      → level.place ≡ Some (place_over marks (bsize / psize) t e (k / (bsize / psize)))
   pub unknown : psize ≡ 12 → k % (bsize / psize) ≡ 0
       → level.place ≡ (if k / (bsize / psize) == t.kept / (bsize / psize) then e.place else None)
   pub behind : t.kept ≤ k
@@ -128,14 +138,16 @@ pub record IsOpen (bsize psize : ℕ) (marks : List Mark) (count : ℕ) (t : Tie
 -- and so on each level above
 abbrev pub Stand : ℕ → ℕ → List Mark → ℕ → List ℕ → Tier → List Kept → ℕ → List Level → Type 0
 Stand bsize psize marks count fresh t es k [] = ⊤
-Stand bsize psize marks count fresh t es k (level ∷ above) = IsOpen bsize psize marks count t (kept_here es) k level
-    × Stand bsize psize marks count fresh (tier_above (bsize / psize) fresh t (kept_here es)) (kept_above es) (k / (bsize / psize)) above
+Stand bsize psize marks count fresh t es k (level ∷ above) =
+    IsOpen bsize psize marks count t (kept_here es) k level
+    × Stand bsize psize marks count fresh (tier_above (bsize / psize) fresh t (kept_here es))
+    (kept_above es) (k / (bsize / psize)) above
 
 -- ---- a step up
 
--- the level is one of the tree's, with so many above it, and `node` has the bytes of their pointer blocks
-pub record IsTier (bsize psize : ℕ) (leaves : List ℕ) (marks : List Mark) (fresh : List ℕ) (node : ℕ → List ℕ) (t : Tier)
-    (es : List Kept) (levels : ℕ) : Type 0 where
+-- the level is one of the tree's, with so many above it; `node` has the bytes of all pointer blocks
+pub record IsTier (bsize psize : ℕ) (leaves : List ℕ) (marks : List Mark) (fresh : List ℕ)
+    (node : ℕ → List ℕ) (t : Tier) (es : List Kept) (levels : ℕ) : Type 0 where
   pub size : 1 ≤ t.size
   pub count : length t.blocks ≡ up (length leaves) t.size
   pub numbers : t.first + over_count (bsize / psize) levels (length t.blocks) ≤ length fresh
@@ -156,8 +168,8 @@ pub record IsParent (fan : ℕ) (child parent : Child) : Type 0 where
 
 -- the next block of a level was pointed to: the pointer block over it isn't complete, or it was written as it is built, and is the
 -- next block of its own level
-abbrev pub Lifts : Told → Told → ℕ → ℕ → ℕ → List ℕ → List Mark → List ℕ → (ℕ → List ℕ) → Tier → Kept → Child → Level
-    → Result (Option Child) Failed → Type 0
+abbrev pub Lifts : Told → Told → ℕ → ℕ → ℕ → List ℕ → List Mark → List ℕ → (ℕ → List ℕ) → Tier
+    → Kept → Child → Level → Result (Option Child) Failed → Type 0
 Lifts old new u bsize psize leaves marks fresh node t e child level (Ok None) =
     (ends_group (bsize / psize) child.count child.nth ≡ false) × (new ≡ old)
     × IsOpen bsize psize marks (length leaves) t e (child.nth + 1) level
@@ -165,20 +177,24 @@ Lifts old new u bsize psize leaves marks fresh node t e child level (Ok (Some pa
     (ends_group (bsize / psize) child.count child.nth ≡ true)
     × (new ≡ plus old (writes u (put_node fresh node (t.first + child.nth / (bsize / psize)) ∷ [])))
     × IsChild psize marks (length leaves) (tier_above (bsize / psize) fresh t e) parent
-    × (child.nth + 1 < child.count → IsOpen bsize psize marks (length leaves) t e (child.nth + 1) level)
+    × (child.nth + 1 < child.count
+    → IsOpen bsize psize marks (length leaves) t e (child.nth + 1) level)
 Lifts old new u bsize psize leaves marks fresh node t e child level (Err x) =
     (ends_group (bsize / psize) child.count child.nth ≡ true)
-    × AddsFront old new (writes u (put_node fresh node (t.first + child.nth / (bsize / psize)) ∷ []))
+    × AddsFront old new
+    (writes u (put_node fresh node (t.first + child.nth / (bsize / psize)) ∷ []))
 
 -- the writes of the pointer blocks that are complete with a block of a level, under so many levels
 abbrev pub rise_writes : ℕ → List ℕ → (ℕ → List ℕ) → Tier → Child → ℕ → List Write
-rise_writes fan fresh node t child levels = map (put_node fresh node) (complete_from fan levels t.first child.count child.nth)
+rise_writes fan fresh node t child levels =
+    map (put_node fresh node) (complete_from fan levels t.first child.count child.nth)
 
 -- these were written, and the levels stand before the block behind this one, where there is one
-abbrev pub Rises : Told → Told → ℕ → ℕ → ℕ → List ℕ → List Mark → List ℕ → (ℕ → List ℕ) → Tier → List Kept → Child
-    → List Level → List Level → Result ⊤ Failed → Type 0
+abbrev pub Rises : Told → Told → ℕ → ℕ → ℕ → List ℕ → List Mark → List ℕ → (ℕ → List ℕ) → Tier
+    → List Kept → Child → List Level → List Level → Result ⊤ Failed → Type 0
 Rises old new u bsize psize leaves marks fresh node t es child levels levels' (Ok x) =
     (new ≡ plus old (writes u (rise_writes (bsize / psize) fresh node t child (length levels))))
-    × (child.nth + 1 < child.count → Stand bsize psize marks (length leaves) fresh t es (child.nth + 1) levels')
+    × (child.nth + 1 < child.count
+    → Stand bsize psize marks (length leaves) fresh t es (child.nth + 1) levels')
 Rises old new u bsize psize leaves marks fresh node t es child levels levels' (Err e) =
     AddsFront old new (writes u (rise_writes (bsize / psize) fresh node t child (length levels)))

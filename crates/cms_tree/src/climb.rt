@@ -111,8 +111,10 @@ impl Climb {
             → IsNext self.old leaves marks leaf mark.now
             → Adds (W.told world.old) (W.told world.new) unit self.old self.new leaves marks fresh.now result }
         ensures adds_on { (kept : ℕ) (es : List Kept) (leaves : List ℕ) (marks : List Mark)
-            → ClimbsOn self.old kept es leaves marks fresh.now → IsNext self.old leaves marks leaf mark.now
-            → AddsOn (W.told world.old) (W.told world.new) unit self.old self.new kept es leaves marks fresh.now result }
+            → ClimbsOn self.old kept es leaves marks fresh.now
+            → IsNext self.old leaves marks leaf mark.now
+            → AddsOn (W.told world.old) (W.told world.new) unit self.old self.new kept es leaves
+            marks fresh.now result }
         ensures added { self.new ≡ record self.old { added = self.old.added + 1; levels = self.new.levels } }
         ensures held { HoldsLittle self.new }
         ensures own { AddsOwn (W.told world.old) (W.told world.new) unit self.old.bsize fresh.now }
@@ -151,7 +153,8 @@ fn ends_group(fan: u32, count: u32, nth: u32) -> bool
 }
 
 impl Level {
-    // Points to a block at its place in the pointer block, and tells the `place` of the first data block below that.
+    // Points to a block at its place in the pointer block, and tells the `place` of the first data
+    // block below that.
     fn point(&mut self, psize: u8, fan: u32, child: &Child) -> u32
         requires psize { (psize ≡ 4) ⊎ (psize ≡ 12) }
         requires some { 1 ≤ fan }
@@ -204,13 +207,14 @@ fn lift<W: World>(
     requires fresh { up child.now.count (bsize / psize) ≤ length fresh.now }
     requires blocks { ForSome (W.told world.old) (λ j. HasEach j.units unit bsize fresh.now) }
     requires writable { ForSome (W.told world.old) (λ j. IsWritable j.units unit) }
-    ensures lifts { (leaves : List ℕ) (marks : List Mark) (numbers : List ℕ) (node : ℕ → List ℕ) (tier : Tier)
-        (es : List Kept) (levels : ℕ)
-        → fresh.now ≡ drop tier.first numbers → IsTier bsize psize leaves marks numbers node tier es (suc levels)
+    ensures lifts { (leaves : List ℕ) (marks : List Mark) (numbers : List ℕ) (node : ℕ → List ℕ)
+        (tier : Tier) (es : List Kept) (levels : ℕ)
+        → fresh.now ≡ drop tier.first numbers
+        → IsTier bsize psize leaves marks numbers node tier es (suc levels)
         → IsOpen bsize psize marks (length leaves) tier (kept_here es) child.now.nth level.old
         → IsChild psize marks (length leaves) tier child.now
-        → Lifts (W.told world.old) (W.told world.new) unit bsize psize leaves marks numbers node tier (kept_here es)
-        child.now level.new result }
+        → Lifts (W.told world.old) (W.told world.new) unit bsize psize leaves marks numbers node
+        tier (kept_here es) child.now level.new result }
     ensures parent { IfOk result (λ parent. IfSome parent (IsParent (bsize / psize) child.now)) }
     ensures size { HasSize bsize level.new }
     ensures own { AddsOwn (W.told world.old) (W.told world.new) unit bsize fresh.now }
@@ -253,13 +257,13 @@ fn rise<W: World>(
     requires fresh { over_count (bsize / psize) (length levels.old) child.now.count ≤ length fresh.now }
     requires blocks { ForSome (W.told world.old) (λ j. HasEach j.units unit bsize fresh.now) }
     requires writable { ForSome (W.told world.old) (λ j. IsWritable j.units unit) }
-    ensures rises { (leaves : List ℕ) (marks : List Mark) (numbers : List ℕ) (node : ℕ → List ℕ) (tier : Tier) (es : List Kept)
-        → fresh.now ≡ drop tier.first numbers
+    ensures rises { (leaves : List ℕ) (marks : List Mark) (numbers : List ℕ) (node : ℕ → List ℕ)
+        (tier : Tier) (es : List Kept) → fresh.now ≡ drop tier.first numbers
         → IsTier bsize psize leaves marks numbers node tier es (length levels.old)
         → Stand bsize psize marks (length leaves) numbers tier es child.now.nth levels.old
         → IsChild psize marks (length leaves) tier child.now
-        → Rises (W.told world.old) (W.told world.new) unit bsize psize leaves marks numbers node tier es child.now
-        levels.old levels.new result }
+        → Rises (W.told world.old) (W.told world.new) unit bsize psize leaves marks numbers node
+        tier es child.now levels.old levels.new result }
     ensures sizes { All (HasSize bsize) levels.new }
     ensures own { AddsOwn (W.told world.old) (W.told world.new) unit bsize fresh.now }
     ensures counts { OnUnits (seen W.World world.old) (seen W.World world.new) result }

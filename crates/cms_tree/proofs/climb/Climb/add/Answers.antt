@@ -7,7 +7,7 @@ use Rattle.cms_tree.specs.declared.climb.Child.{Child}
 use Rattle.cms_tree.specs.Levels.{over_count}
 use Rattle.cms_tree.specs.Builds.{node_at}
 use Rattle.cms_tree.specs.Tiers.{lowest, node_on, IsTier, Stand, Rises}
-use Rattle.cms_tree.specs.Climbs.{Climbing, IsClimbing, ClimbsOn, IsNext, Adds, AddsOn}
+use Rattle.cms_tree.specs.Climbs.{Climbing, Adds, AddsOn}
 use Rattle.cms_tree.proofs.Lifting.{some_fan}
 use Rattle.cms_tree.proofs.Stepping.{over_all, tier_lowest, tier_lowest_on, leaf_child, leaf_added, leaf_added_on}
 use Rattle.cms_tree.proofs.climb.Climb.add.Goals as goal
