@@ -1,4 +1,4 @@
-use Rattle.std.proofs.Common.{◌≡◌, ◌∙◌, ◌<◌, [], ◌∷◌, Option, Some, IfSome, IsTrue, not, true, false, length, slice_get, slice_set, refl, sym, ap, subst, inl, inr, arith, rules}
+use Rattle.std.proofs.Common.{◌≡◌, ◌∙◌, ◌<◌, [], Option, Some, IfSome, IsTrue, not, false, length, slice_get, refl, sym, ap, subst, inr, arith, rules}
 use Rattle.std.proofs.lemmas.Option.{slice_get_read}
 use Rattle.cms_host.specs.declared.file_unit.FileUnit.{FileUnit}
 use Rattle.cms_host.proofs.Printing.{done_behind}
