@@ -85,8 +85,7 @@ impl Cursor {
 
     /// Reads the next record, and says whether there was one: none after the last. `Device` leaves the same records to read.
     /// `Altered` where the file's bytes aren't its records any more, which is never in a world that tells its journal and has left
-    /// the file as it was; it comes again at each later call. A block is read once, and no sooner than a record needs it. It
-    /// takes no memory.
+    /// the file as it was; it comes again at each later call. No block is read sooner than a record needs it. It takes no memory.
     pub fn next<W: World>(&mut self, world: &mut W) -> Result<bool, DiskFault>
         requires blocks { ForSome (W.told world.old) (λ j. HasBlocks j.units self.old.unit self.old.total self.old.bsize) }
         ensures records { OfImage (W.told world.old) self.old.unit (λ image. (records : List (List ℕ)) → HasLeft image self.old records
