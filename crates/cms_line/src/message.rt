@@ -58,6 +58,8 @@ pub enum Message {
     M120(Word),
     /// how many records a file has
     M121(Word),
+    /// the word of an extension that isn't there
+    M122(Word),
     /// the letter and the device that FORMAT asks of
     M603(Word, Word),
     /// FORMAT asks for a label
@@ -214,6 +216,7 @@ fn add_message(into: &mut Vec<u8>, message: &Message) -> Result<(), AllocError>
         Message::M115(vdev) => add_one(into, "CMS115E Device ", vdev, " is in doubt"),
         Message::M120(limit) => add_one(into, "CMS120E Limit ", limit, " reached"),
         Message::M121(records) => add_one(into, "CMS121E File has only ", records, " records"),
+        Message::M122(word) => add_one(into, "CMS122E Extension ", word, " does not exist"),
         Message::M603(letter, vdev) => add_two(
             into,
             "CMS603R FORMAT will erase all files on disk ",

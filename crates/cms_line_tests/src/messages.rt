@@ -32,6 +32,7 @@ pub const ROWS: &str = "001 XYZ => CMS001E Unknown command XYZ
 115 191 => CMS115E Device 191 is in doubt
 120 2 => CMS120E Limit 2 reached
 121 40 => CMS121E File has only 40 records
+122 NONE => CMS122E Extension NONE does not exist
 603 A 191 => CMS603R FORMAT will erase all files on disk A (191). Go on? Enter YES or NO
 605 => CMS605R Enter disk label
 723 C 19E => CMS723I C (19E) R/O
@@ -63,7 +64,8 @@ fn of_one(number: u32, word: Word) -> Message {
         114 => Message::M114(word),
         115 => Message::M115(word),
         120 => Message::M120(word),
-        _ => Message::M121(word),
+        121 => Message::M121(word),
+        _ => Message::M122(word),
     }
 }
 

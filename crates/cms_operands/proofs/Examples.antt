@@ -31,8 +31,10 @@ named word = command_named (ebcdic word)
 
 spelled : (named (codes "AC") ≡ Some command.Access) × (named (codes "A") ≡ None) × (named (codes "RE") ≡ Some command.Rename)
     × (named (codes "REL") ≡ Some command.Release) × (named (codes "EX") ≡ Some command.Exec) × (named (codes "ACCESSED") ≡ None)
+    × (named (codes "NUCXMAP") ≡ Some command.Nucxmap) × (named (codes "NUCXMA") ≡ None)
+    × (named (codes "NUCXDROP") ≡ Some command.Nucxdrop) × (named (codes "NUCXDRO") ≡ None)
 unfolding spellings ebcdic code_of code_page
-spelled = (refl, refl, refl, refl, refl, refl)
+spelled = (refl, refl, refl, refl, refl, refl, refl, refl, refl, refl)
 
 -- ---- operands
 

@@ -4,7 +4,7 @@ use Rattle.std.specs.Option.{option_map}
 use Rattle.cms_line.specs.Options.{is_named}
 use Rattle.cms_text.specs.Texts.{coded}
 use Rattle.cms_operands.specs.declared.spelling.CommandName.{CommandName}
-use Rattle.cms_operands.specs.declared.spelling.CommandName.TheVariants.{Access, Release, Format, Query, Listfile, Copyfile, Rename, Erase, TypeFile, State, Execio, Exec}
+use Rattle.cms_operands.specs.declared.spelling.CommandName.TheVariants.{Access, Release, Format, Query, Listfile, Copyfile, Rename, Erase, TypeFile, State, Execio, Exec, Nucxdrop, Nucxmap}
 use Rattle.cms_operands.specs.declared.spelling.Spelling.{Spelling}
 
 -- a command is named by each beginning of its word that is long enough
@@ -24,7 +24,9 @@ spellings =
     ∷ spelled (codes "TYPE    ") 1 TypeFile
     ∷ spelled (codes "STATE   ") 5 State
     ∷ spelled (codes "EXECIO  ") 6 Execio
-    ∷ spelled (codes "EXEC    ") 2 Exec ∷ []
+    ∷ spelled (codes "EXEC    ") 2 Exec
+    ∷ spelled (codes "NUCXDROP") 8 Nucxdrop
+    ∷ spelled (codes "NUCXMAP ") 7 Nucxmap ∷ []
 
 -- the command of the first spelling that a word is
 abbrev pub first_named : List ℕ → List Spelling → Option CommandName

@@ -20,6 +20,8 @@ pub enum CommandName {
     State,
     Execio,
     Exec,
+    Nucxdrop,
+    Nucxmap,
 }
 
 /// A command with its word and the length of the word's shortest spelling.
@@ -43,7 +45,7 @@ fn spelled(word: &[u8; 8], least: u8, command: CommandName) -> Spelling
 }
 
 #[tactic(auto, unfolding(crate::specs::Spellings::spellings))]
-fn spellings() -> [Spelling; 12]
+fn spellings() -> [Spelling; 14]
     ensures { result ≡ spec.spellings }
 {
     [
@@ -59,6 +61,8 @@ fn spellings() -> [Spelling; 12]
         spelled(b"STATE   ", 5, CommandName::State),
         spelled(b"EXECIO  ", 6, CommandName::Execio),
         spelled(b"EXEC    ", 2, CommandName::Exec),
+        spelled(b"NUCXDROP", 8, CommandName::Nucxdrop),
+        spelled(b"NUCXMAP ", 7, CommandName::Nucxmap),
     ]
 }
 

@@ -27,6 +27,8 @@ request_by (Some named.State) = Command State
 request_by (Some named.Exec) = Exec
 request_by (Some named.Copyfile) = Command Copyfile
 request_by (Some named.Execio) = Command Execio
+request_by (Some named.Nucxdrop) = Command Unknown
+request_by (Some named.Nucxmap) = Command Unknown
 request_by None = Command Unknown
 
 -- what a line with this first word asks for

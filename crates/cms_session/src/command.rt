@@ -82,6 +82,8 @@ pub fn request_of(word: &[u8]) -> Request
         Some(CommandName::Exec) => Request::Exec,
         Some(CommandName::Copyfile) => Request::Command(Command::Copyfile),
         Some(CommandName::Execio) => Request::Command(Command::Execio),
+        Some(CommandName::Nucxdrop) => Request::Command(Command::Unknown),
+        Some(CommandName::Nucxmap) => Request::Command(Command::Unknown),
         None => Request::Command(Command::Unknown),
     }
 }
