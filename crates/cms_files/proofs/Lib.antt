@@ -8,4 +8,5 @@ pub mod OpenedFiles
 pub mod LastUpdates
 pub mod FileTold
 pub mod FilesRead
+pub mod Consumed
 pub mod Parts

@@ -2,6 +2,7 @@ pub mod Identifiers
 pub mod Opening
 pub mod Files
 pub mod Updating
+pub mod Consuming
 pub mod Stacking
 pub mod Pushing
 pub mod Gathering

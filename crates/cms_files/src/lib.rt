@@ -2,6 +2,7 @@
 //! for a file, and lines that are stacked.
 #![tactic(auto)]
 
+mod consuming;
 mod each;
 mod gathering;
 mod identifier;
@@ -15,6 +16,7 @@ mod told;
 mod updating;
 mod writing;
 
+pub use consuming::{consume, consume_last, is_consumed};
 pub use each::{FileUpdate, update_each, update_taken};
 pub use gathering::Gathered;
 pub use identifier::{
