@@ -2,7 +2,7 @@
 use Rattle.std.proofs.Common.{◌≡◌, ◌∙◌, Bool, true, false, ℕ, List, Option, Some, None, Result, Ok, Err, refl, sym, ap, subst, slice_get}
 use Rattle.std.specs.Prelude.{⊤, ◌==◌, ◌&&◌, not, is_ok, IsSome}
 use Rattle.std.specs.Option.{ForSome, option_and_then}
-use Rattle.std.proofs.lemmas.Bool.{and_parts, cases_Bool}
+use Rattle.std.proofs.lemmas.Bool.{ne_eqb}
 use Rattle.cms_names.specs.declared.name.Name.{Name}
 use Rattle.cms_edf.specs.Asking.{infos_in}
 use Rattle.cms_edf.specs.declared.held.FileInfo.{FileInfo}
@@ -49,6 +49,12 @@ module _ (t : Accesses) (n : ℕ) (name : Name) where
       let may : is_ok (writing (item_at (letters_of t) n) n) ≡ has (λ disk. not disk.read_only) (letter_at s n) =
       ap (λ (ls : List (Option Letter)). is_ok (writing (item_at ls n) n)) shows.letters ∙ writes_so (letter_at s n) n in
       ap (λ (b : Bool). (i.number == read_once) && b) may ∙ ap (λ (b : Bool). b && has (λ disk. not disk.read_only) (letter_at s n)) (sym number)
+
+  -- one of another number isn't
+  pub consumed_other : (s : Machine) (i : FileInfo) → info_named t n name ≡ Some i → (i.number ≡ read_once → ⊥) → Shows t s → is_consumed s n name ≡ false
+  consumed_other s i is other shows =
+      sym (consumed_told s i is shows)
+      ∙ ap (λ (b : Bool). b && is_ok (writing (item_at (letters_of t) n) n)) (ne_eqb i.number read_once other)
 
   -- one that isn't there isn't
   pub consumed_none : (s : Machine) → info_named t n name ≡ None → Shows t s → is_consumed s n name ≡ false
