@@ -138,6 +138,29 @@ unfolding type_operands file_input full_name reading_mode number number_or_all o
     file_named same_name same typing
 failed_records = (refl, refl)
 
+-- a file of mode number 3 goes behind its last record, where the device doesn't fail
+abbrev once : Machine
+once = one_disk (file (codes "P") (codes "FILE") 3 (codes "X" ∷ codes "Y" ∷ []) ∷ [])
+
+abbrev types_once : List ℕ → List Outcome → Answer
+types_once line outcomes = answer (type_command once (words line)) outcomes
+
+abbrev leaves_once : List ℕ → List Outcome → List Named
+leaves_once line outcomes = left (type_command once (words line)) outcomes
+
+read_once : (types_once (codes "TYPE P FILE") [] ≡ types (codes "X" ∷ codes "Y" ∷ []) 0)
+    × (leaves_once (codes "TYPE P FILE") [] ≡ [])
+    × (leaves_once (codes "TYPE P FILE A 2 9") [] ≡ [])
+    × (leaves_once (codes "TYPE P FILE A 1 1") [] ≡ named (codes "P") (codes "FILE") 3 ∷ [])
+    × (leaves_once (codes "TYPE P FILE") (ReadFault 1 ∷ []) ≡ named (codes "P") (codes "FILE") 3 ∷ [])
+    × (types_once (codes "TYPE P FILE") (Good ∷ OldFault ∷ []) ≡ types (codes "X" ∷ codes "Y" ∷ codes "CMS105E Device fault on 191" ∷ []) 100)
+unfolding type_operands file_input full_name reading_mode number number_or_all operands_of needed given given_or name text_of is_name_character mode_word_of short_mode_of letter_of mode_number_of
+    ended chosen_of options_of options_from
+    all_valued valued setting_in last_among ebcdic code_of code_page host_of upper_of character_of tokens_of tokens_from message_of message_text typed_line magnitude_of number_within places_from
+    answer_of limit changed_files written_file is_full free_count used_count directory_more tree_size pointer_count pointers_to levels levels_from map_size need changed file_size
+    stored_size file_named same_name same moment decimal_of written digits drop_file last_first typing
+read_once = (refl, refl, refl, refl, refl, refl)
+
 -- ---- ERASE
 
 abbrev one : List ℕ → List ℕ → ℕ → File

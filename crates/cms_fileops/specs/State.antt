@@ -8,8 +8,7 @@ use Rattle.cms_operands.specs.Operands.{ended, operands_of}
 use Rattle.cms_operands.specs.declared.refusal.Refusal.{Refusal}
 use Rattle.cms_search.specs.Machine.{Machine, Course, Went}
 use Rattle.cms_search.specs.Refusing.{on_line}
-use Rattle.cms_search.specs.Searches.{look_up, shelves_in}
-use Rattle.cms_files.specs.Files.{on_found}
+use Rattle.cms_files.specs.Files.{file_found, on_found}
 use Rattle.cms_files.specs.Identifiers.{file_input}
 use Rattle.cms_files.specs.declared.identifier.FileInput.{FileInput}
 
@@ -24,7 +23,7 @@ abbrev pub state_line : List Token → Result FileInput Refusal
 state_line words = without_options words (state_operands (operands_of words))
 
 abbrev pub look_for : Machine → List Token → FileInput → Act Course
-look_for s words input = on_found s words 1 (λ found. Done (Went s (pos 0))) (look_up (shelves_in s) input.mode input.name)
+look_for s words input = on_found s words 1 (λ found. Done (Went s (pos 0))) (file_found s input)
 
 -- whether a file is there: 069, 002
 abbrev pub state : Machine → List Token → Act Course

@@ -1,10 +1,9 @@
 -- TYPE fn ft [fm [first [last]]] [(HEX] [COL a-b]
-use Rattle.std.specs.Prelude.{⊤, ℕ, pos, ◌-◌, ◌/◌, ◌%◌, nat_le, nat_lt, Bool, false, if◌then◌else◌, List, [], ◌∷◌, codes, drop, is_some, length, map, min, take, Option, Some, None, Result, Ok}
+use Rattle.std.specs.Prelude.{⊤, ℕ, ◌-◌, ◌/◌, ◌%◌, ◌==◌, nat_lt, if◌then◌else◌, List, [], ◌∷◌, codes, drop, is_some, length, map, min, take, Option, Some, None, Result, Ok}
 use Rattle.std.specs.List.{flat_map}
 use Rattle.std.specs.Option.{option_and_then, option_map_or}
 use Rattle.cms_fields.specs.Steps.{◌>>=◌, ◌>>◌}
 use Rattle.cms_text.specs.Texts.{coded}
-use Rattle.cms_model.specs.Minidisks.{File}
 use Rattle.cms_machine.specs.Acts.{Act, Done, saying, typed_line}
 use Rattle.cms_line.specs.declared.token.Token.{Token}
 use Rattle.cms_operands.specs.Choices.{chosen_of, flag, form, last_among}
@@ -16,13 +15,15 @@ use Rattle.cms_operands.specs.declared.choosing.Setting.{Setting}
 use Rattle.cms_operands.specs.declared.choosing.Setting.TheVariants as says
 use Rattle.cms_operands.specs.declared.refusal.Refusal.{Refusal}
 use Rattle.cms_operands.specs.declared.refusal.Refusal.TheVariants.{BadOperand}
-use Rattle.cms_search.specs.Machine.{Machine, Course, Went, letter_at, typing}
+use Rattle.cms_search.specs.Machine.{Machine, Course, letter_at, typing}
 use Rattle.cms_search.specs.Refusing.{device_fault, on_line}
 use Rattle.cms_search.specs.Releasing.{vdev_of}
 use Rattle.cms_search.specs.Stepping.{reading}
 use Rattle.cms_search.specs.Telling.{hexadecimal_digit}
-use Rattle.cms_files.specs.Files.{UnitFile, file_on, file_read, on_found, word_refused}
+use Rattle.cms_files.specs.Consuming.{last_consuming}
+use Rattle.cms_files.specs.Files.{UnitFile, file_found, file_on, on_found, word_refused}
 use Rattle.cms_files.specs.Identifiers.{file_input}
+use Rattle.cms_files.specs.Updating.{went}
 use Rattle.cms_fileops.specs.declared.typing.ColumnRange.{ColumnRange}
 use Rattle.cms_fileops.specs.declared.typing.TypeLine.{TypeLine}
 use Rattle.cms_fileops.specs.declared.typing.TypeRange.{TypeRange}
@@ -80,34 +81,36 @@ typed_nth line n text = if nat_lt n line.range.first then Done tt else saying (t
 
 -- ---- the command
 
--- so many records are all that are wanted
-abbrev pub ends_at : TypeRange → ℕ → Bool
-ends_at range n = option_map_or (λ last. nat_le last n) range.last false
-
--- how many records are read: to the last that is typed, at most to the end
-abbrev pub wanted_of : TypeRange → File → ℕ
-wanted_of range f = option_map_or (λ last. min last (length f.records)) range.last (length f.records)
+-- of so many records these are read: to the last that is typed, at most to the end
+abbrev pub wanted_of : TypeRange → ℕ → ℕ
+wanted_of range count = option_map_or (λ last. min last count) range.last count
 
 -- the records in front of the first aren't typed
 abbrev pub typing_from : TypeLine → List (List ℕ) → Act Course → Act Course
 typing_from line records next = typing (map (record_text line.style) (drop (line.range.first - 1) records)) next
 
-abbrev pub type_records : Machine → TypeLine → UnitFile → Act Course
-type_records s line x =
-    reading (typing_from line) x.unit x.file (wanted_of line.range x.file) (Done (Went s (pos 0))) (device_fault s (vdev_of s x.unit))
+-- behind the last that is typed, of so many: where it was the file's last the file may be erased
+abbrev pub type_ended : Machine → TypeLine → ℕ → ℕ → Act Course
+type_ended s line n count =
+    if wanted_of line.range count == count then last_consuming s n line.range.input.name else went s
+
+abbrev pub type_records : Machine → TypeLine → ℕ → UnitFile → Act Course
+type_records s line n x =
+    reading (typing_from line) x.unit x.file (wanted_of line.range (length x.file.records))
+    (type_ended s line n (length x.file.records)) (device_fault s (vdev_of s x.unit))
 
 -- a first record that isn't there is refused as an operand: 070
-abbrev pub type_found : Machine → List Token → TypeLine → UnitFile → Act Course
-type_found s words line x =
-    if nat_lt (length x.file.records) line.range.first then word_refused s words (BadOperand 4) else type_records s line x
+abbrev pub type_found : Machine → List Token → TypeLine → ℕ → UnitFile → Act Course
+type_found s words line n x =
+    if nat_lt (length x.file.records) line.range.first then word_refused s words (BadOperand 4) else type_records s line n x
+
+-- the file of the line's name on the disk of letter n
+abbrev pub type_on : Machine → List Token → TypeLine → ℕ → Act Course
+type_on s words line n = on_found s words 1 (type_found s words line n) (file_on s line.range.input.name (letter_at s n))
 
 abbrev pub type_file : Machine → List Token → TypeLine → Act Course
-type_file s words line = on_found s words 1 (type_found s words line) (file_read s line.range.input)
+type_file s words line = on_found s words 1 (λ found. type_on s words line found.letter) (file_found s line.range.input)
 
--- the same of the file of the line's name on the disk of letter n
-abbrev pub type_on : Machine → List Token → TypeLine → ℕ → Act Course
-type_on s words line n = on_found s words 1 (type_found s words line) (file_on s line.range.input.name (letter_at s n))
-
--- the records of a file are typed, each as it is handed out: 069, 002, 070, 105
+-- the records of a file are typed, each as it is handed out; one of mode number 3 is erased behind its last: 069, 002, 070, 105, 107
 abbrev pub type_command : Machine → List Token → Act Course
 type_command s words = on_line s words (type_file s words) (type_line words)

@@ -1,5 +1,6 @@
 // TYPE.
-ghost use Rattle.std.specs.Prelude.{◌≡◌, ◌≤◌, ◌-◌, drop, take, List, IfOk};
+ghost use Rattle.std.specs.Prelude.{◌≡◌, ◌≤◌, ◌-◌, drop, take, true, List, IfOk};
+ghost use Rattle.cms_fields.specs.Moments.{is_moment};
 ghost use Rattle.cms_line.specs.declared.token.Token.{Token};
 ghost use Rattle.cms_operands.specs.Choices.{AnswersLine};
 ghost use Rattle.cms_search.specs.Calls.{Acts, Does, IsUsable, course_of, itself, machine_of, spot};
@@ -7,7 +8,7 @@ ghost use Rattle.cms_world.specs.Seen.{seen};
 ghost use Rattle.cms_files.specs.Opening.{IsOpened};
 ghost use Rattle.cms_fileops.specs.Typing as spec;
 
-use cms_files::{FileInput, OpenFile, file_input, open_file, refuse_unfound};
+use cms_files::{FileInput, OpenFile, consume_last, file_input, open_file, refuse_unfound};
 use cms_line::{Token, Tokens};
 use cms_operands::{
     ChosenOption, CommandFault, LARGEST, OptionForm, Parameter, Refusal, Setting, chosen_options,
@@ -118,13 +119,13 @@ impl ColumnRange {
 }
 
 impl TypeRange {
-    // Whether so many records are all that are wanted.
-    fn ends_at(&self, count: u32) -> bool
-        ensures { result ≡ spec.ends_at self.now count }
+    // How many of so many records are read: to the last that is typed, at most to the end.
+    fn wanted(&self, count: u32) -> u32
+        ensures { result ≡ spec.wanted_of self.now count }
     {
         match self.last {
-            Some(last) => last <= count,
-            None => false,
+            Some(last) => last.min(count),
+            None => count,
         }
     }
 }
@@ -174,49 +175,54 @@ fn type_nth<W: World>(
     }
 }
 
-// Types the records of a file on the disk of a letter, each as it is handed out; the first that is typed is there.
+// Types the records of a file on the disk of a letter, each as it is handed out; the first that is typed is there. Where the last is the
+// file's, that may erase it.
 fn type_records<W: World>(
     alloc: Global,
     world: &mut W,
-    state: &State,
+    state: &mut State,
     letter: u8,
     file: OpenFile,
     line: &TypeLine,
 ) -> Result<Course, End>
-    requires usable { IsUsable (spot W.World world.old state.now) }
-    requires opened { IsOpened state.now.table letter line.now.range.input.name file }
+    requires usable { IsUsable (spot W.World world.old state.old) }
+    requires moment { is_moment state.old.moment ≡ true }
+    requires opened { IsOpened state.old.table letter line.now.range.input.name file }
     requires first { line.now.range.first ≤ file.count }
-    ensures { (words : List Token) → Acts (spot W.World world.old state.now) (spot W.World world.new state.now)
-        (λ units. spec.type_on (machine_of state.now units) words line.now letter) result (course_of state.now) }
+    ensures acts { (words : List Token) → Acts (spot W.World world.old state.old) (spot W.World world.new state.new)
+        (λ units. spec.type_on (machine_of state.old units) words line.now letter) result (course_of state.new) }
+    ensures kept { state.new ≡ record state.old { table = state.new.table; places = state.new.places } }
 {
     let vdev = file.vdev;
+    let count = file.count;
+    let last = line.range.wanted(count);
     let mut cursor = file.cursor;
-    let mut count = 0;
-    while !line.range.ends_at(count) {
+    for nth in 0..last {
         match cursor.next(world) {
-            Ok(true) => {
-                count += 1;
-                type_nth(alloc, world, line, count, cursor.text())?;
-            }
-            Ok(false) => return Ok(Course::Went(0)),
+            Ok(_) => type_nth(alloc, world, line, nth + 1, cursor.text())?,
             Err(fault) => return refuse_unread(alloc, world, vdev, fault),
         }
     }
-    Ok(Course::Went(0))
+    if last < count {
+        return Ok(Course::Went(0));
+    }
+    consume_last(alloc, world, state, letter, &line.range.input.name)
 }
 
 // Types the file of the line's name on the disk of a letter.
 fn type_on<W: World>(
     alloc: Global,
     world: &mut W,
-    state: &State,
+    state: &mut State,
     words: &Tokens,
     line: &TypeLine,
     letter: u8,
 ) -> Result<Course, End>
-    requires usable { IsUsable (spot W.World world.old state.now) }
-    ensures { Acts (spot W.World world.old state.now) (spot W.World world.new state.now)
-        (λ units. spec.type_on (machine_of state.now units) words.now line.now letter) result (course_of state.now) }
+    requires usable { IsUsable (spot W.World world.old state.old) }
+    requires moment { is_moment state.old.moment ≡ true }
+    ensures acts { Acts (spot W.World world.old state.old) (spot W.World world.new state.new)
+        (λ units. spec.type_on (machine_of state.old units) words.now line.now letter) result (course_of state.new) }
+    ensures kept { state.new ≡ record state.old { table = state.new.table; places = state.new.places } }
 {
     match open_file(alloc, &state.table, letter, &line.range.input.name) {
         Ok(file) if file.count < line.range.first => {
@@ -231,13 +237,15 @@ fn type_on<W: World>(
 fn type_file<W: World>(
     alloc: Global,
     world: &mut W,
-    state: &State,
+    state: &mut State,
     words: &Tokens,
     line: &TypeLine,
 ) -> Result<Course, End>
-    requires usable { IsUsable (spot W.World world.old state.now) }
-    ensures { Acts (spot W.World world.old state.now) (spot W.World world.new state.now)
-        (λ units. spec.type_file (machine_of state.now units) words.now line.now) result (course_of state.now) }
+    requires usable { IsUsable (spot W.World world.old state.old) }
+    requires moment { is_moment state.old.moment ≡ true }
+    ensures acts { Acts (spot W.World world.old state.old) (spot W.World world.new state.new)
+        (λ units. spec.type_file (machine_of state.old units) words.now line.now) result (course_of state.new) }
+    ensures kept { state.new ≡ record state.old { table = state.new.table; places = state.new.places } }
 {
     let input = &line.range.input;
     match state.table.find_read(&input.name, &input.mode) {
@@ -246,7 +254,7 @@ fn type_file<W: World>(
     }
 }
 
-/// TYPE: the records of a file, each as it is handed out.
+/// TYPE: the records of a file, each as it is handed out. A file of mode number 3 is erased once its last record was typed.
 pub fn run_type<W: World>(
     alloc: Global,
     world: &mut W,
@@ -254,9 +262,10 @@ pub fn run_type<W: World>(
     words: &Tokens,
 ) -> Result<Course, End>
     requires usable { IsUsable (spot W.World world.old state.old) }
+    requires moment { is_moment state.old.moment ≡ true }
     ensures acts { Acts (spot W.World world.old state.old) (spot W.World world.new state.new)
         (λ units. spec.type_command (machine_of state.old units) words.now) result (course_of state.new) }
-    ensures kept { state.new ≡ state.old }
+    ensures kept { state.new ≡ record state.old { table = state.new.table; places = state.new.places } }
 {
     match type_line(alloc, words) {
         Ok(line) => type_file(alloc, world, state, words, &line),

@@ -18,6 +18,7 @@ use Rattle.cms_search.specs.Searches.{Listed, Shelf, Shelves, item_at, look_up, 
 use Rattle.cms_search.specs.Telling.{device_text, letter_text}
 use Rattle.cms_search.specs.declared.fault.SearchFault.{SearchFault}
 use Rattle.cms_search.specs.declared.fault.SearchFault.TheVariants as why
+use Rattle.cms_search.specs.declared.search.Found.{Found}
 use Rattle.cms_files.specs.Identifiers.{mode_or_a, part_or_all, takes_name, takes_number}
 use Rattle.cms_files.specs.declared.identifier.FileInput.{FileInput}
 use Rattle.cms_files.specs.declared.identifier.NameChoice.{NameChoice}
@@ -99,11 +100,9 @@ abbrev pub file_on : Machine → Name → Option Letter → Result UnitFile Sear
 file_on s name None = Err why.NotFound
 file_on s name (Some disk) = file_in disk.unit name (minidisk_in (slice_get s.units disk.unit))
 
--- the first file of a name that its mode finds: 069, 002
-abbrev pub file_read : Machine → FileInput → Result UnitFile SearchFault
-file_read s input = do
-  found ← look_up (shelves_in s) input.mode input.name
-  file_on s input.name (letter_at s found.letter)
+-- the first disk on which a file's mode finds it: 069, 002
+abbrev pub file_found : Machine → FileInput → Result Found SearchFault
+file_found s input = look_up (shelves_in s) input.mode input.name
 
 -- ---- files that are changed
 
