@@ -12,7 +12,7 @@ use Rattle.cms_names.specs.declared.name.Format.TheVariants as format
 use Rattle.cms_names.specs.declared.name.Name.{Name}
 use Rattle.cms_text.specs.Numbers.{decimal_of, written, magnitude_of}
 use Rattle.cms_text.specs.Texts.{ebcdic, is_keyword}
-use Rattle.cms_model.specs.Changes.{answer_of, changed, changed_files, change_file, file_named, is_full, limit, need, put_file, written_file}
+use Rattle.cms_model.specs.Changes.{answer_of, changed, changed_files, change_file, drop_file, file_named, is_full, last_first, limit, need, put_file, written_file}
 use Rattle.cms_model.specs.Lists.{same}
 use Rattle.cms_model.specs.Minidisks.{File, Volume, same_name}
 use Rattle.cms_model.specs.Records.{longest}
@@ -21,7 +21,7 @@ use Rattle.cms_machine.specs.Acts.{typed_line}
 use Rattle.cms_machine.specs.Feeds.{Fed, Close, Over, WaitsForScript, WaitsForMoment, WaitsForObject, feed}
 use Rattle.cms_machine.specs.Items.{Item, Text, Bad}
 use Rattle.cms_machine.specs.Slots.{Slot, Settled, After}
-use Rattle.cms_machine.specs.Steps.{Outcome, ReadFault, OldFault, EitherFault}
+use Rattle.cms_machine.specs.Steps.{Outcome, Good, ReadFault, OldFault, EitherFault}
 use Rattle.cms_machine.specs.Traces.{bytes_of}
 use Rattle.cms_line.specs.Messages.{message_text}
 use Rattle.cms_line.specs.Options.{options_from, options_of}
@@ -146,6 +146,21 @@ unfolding execio_operands read_operands file_input full_name operands_of needed 
     letter_of mode_number_of number number_or_all number_within magnitude_of ended string_place text_in chosen_of options_of options_from all_valued valued setting_in
     last_among ebcdic code_of code_page host_of upper_of character_of tokens_of tokens_from is_keyword places_from file_named same_name same message_text typed_line
 failed_reads p kept = (rw kept refl, rw kept refl, rw kept refl, rw kept refl)
+
+-- a file of mode number 3 goes behind its last record, and no place is kept in it; where the device fails then the lines stay, and the place
+abbrev once : Places → Machine
+once p = keeping p (one_disk (file (codes "A") (codes "FILE") 3 (codes "X" ∷ codes "Y" ∷ []) ∷ []))
+
+read_once : (p : Places) → get p key ≡ Some 1 → (leaves (once p) (codes "EXECIO 2 DISKR A FILE") [] ≡ is_left [] 2 (codes "Y" ∷ []) (remove p key))
+    × (leaves (once p) (codes "EXECIO 1 DISKR A FILE A 1") [] ≡ is_left [] 0 (codes "X" ∷ []) (insert p key 1))
+    × (leaves (once p) (codes "EXECIO 0 DISKR A FILE A 3") [] ≡ is_left [] 0 [] (insert p key 2))
+    × (leaves (once p) (codes "EXECIO * DISKR A FILE (FINIS") (Good ∷ OldFault ∷ []) ≡ is_left (codes "CMS105E Device fault on 191" ∷ []) 100 (codes "Y" ∷ []) p)
+unfolding execio_operands read_operands file_input full_name operands_of needed given given_or name text_of is_name_character reading_mode mode_word_of short_mode_of
+    letter_of mode_number_of number number_or_all number_within magnitude_of ended string_place text_in chosen_of options_of options_from all_valued valued setting_in
+    last_among ebcdic code_of code_page host_of upper_of character_of tokens_of tokens_from is_keyword places_from file_named same_name same message_text typed_line
+    answer_of limit changed_files written_file is_full free_count used_count directory_more tree_size pointer_count pointers_to levels levels_from map_size need changed file_size
+    stored_size moment decimal_of written digits drop_file last_first
+read_once p kept = (rw kept refl, refl, refl, rw kept refl)
 
 -- what a machine with so many stacked lines types, and the reading places there
 pub record Told : Type 0 where

@@ -1,11 +1,11 @@
 -- DISKR: records are taken as they are handed out, and their lines are stacked together.
 use Rattle.std.proofs.Common.{◌≡◌, ◌⊎◌, ◌+◌, ◌-◌, ◌<◌, ◌≤◌, ◌∙◌, Bool, false, ℕ, zero, suc, negsuc, List, [], ◌∷◌, ◌++◌, length, drop, take, map, min, true, Option, Some, None, Result, Ok, Err, inl, inr, pos, refl, sym, ap, subst, slice_get, arith}
-use Rattle.std.specs.Prelude.{◌==◌, IfOk, nat_lt}
+use Rattle.std.specs.Prelude.{◌==◌, ◌&&◌, IfOk, nat_lt}
 use Rattle.std.proofs.Math.Seq.{drop-nil, take-append_seam}
-use Rattle.std.proofs.lemmas.Bool.{cases_Bool, ltb-true, ltb-false, ne_eqb}
+use Rattle.std.proofs.lemmas.Bool.{cases_Bool, lt-ltb, ltb-true, ltb-false, ne_eqb}
 use Rattle.std.proofs.lemmas.List.{drop-append-le, drop-take, drop_all, length-append, map-append}
 use Rattle.cms_journal.specs.Told.{Told}
-use Rattle.cms_model.specs.Changes.{file_named}
+use Rattle.cms_model.specs.Changes.{Drop, file_named}
 use Rattle.cms_model.specs.LawsUpdates.{now}
 use Rattle.cms_model.specs.Minidisks.{File, Minidisk, Volume}
 use Rattle.cms_machine.specs.Acts.{Act, Done, saying, typed_line}
@@ -19,30 +19,34 @@ use Rattle.cms_disk.specs.declared.fault.DiskFault.TheVariants as failed
 use Rattle.cms_line.specs.Messages.{message_text}
 use Rattle.cms_line.specs.declared.message.Message.TheVariants.{M105}
 use Rattle.cms_line.specs.declared.token.Token.{Token}
-use Rattle.cms_search.specs.Calls.{Acts, Comes, Spot, course_of, machine_of, refusal_tree, said}
+use Rattle.cms_search.specs.Calls.{Acts, Comes, Spot, course_of, holds, machine_of, refusal_tree, said}
 use Rattle.cms_search.specs.Calls as calls
 use Rattle.cms_search.specs.Machine.{Course, Machine, Places, Went}
 use Rattle.cms_search.specs.Refusing.{device_fault, unread_code, unread_message}
 use Rattle.cms_search.specs.Releasing.{vdev_of}
-use Rattle.cms_search.specs.Stepping.{HasRead, handed, reading, silently}
+use Rattle.cms_search.specs.Stepping.{HasRead, Stepped, handed, reading, silently, unless_failed}
 use Rattle.cms_search.specs.Telling.{device_text}
 use Rattle.cms_search.specs.declared.state.Course as declared
 use Rattle.cms_search.specs.declared.state.Course.TheVariants as course
 use Rattle.cms_search.specs.declared.state.End.{End}
 use Rattle.cms_search.specs.declared.state.End.TheVariants.{Memory}
 use Rattle.cms_search.specs.declared.state.State.{State}
-use Rattle.cms_search.proofs.Acts.{acts_after, acts_done, acts_stop, comes_in, comes_same, comes_then, cut_off, no_memory}
+use Rattle.cms_search.proofs.Acts.{acts_after, acts_done, acts_same, acts_stop, comes_in, comes_none, comes_same, comes_then, cut_off, no_memory}
 use Rattle.cms_search.proofs.Handing.{AreAmong, Handed, Hands, IsOpen, Reads, handed_more, handed_none, handed_past, left_long, narrowed, only, only_read, passes_read, read_wanted, reads_none, reads_then, silent, silent_each, silent_one, unread_ends}
 use Rattle.cms_search.proofs.Meeting.{letter_is, meets_at}
 use Rattle.cms_search.proofs.Staying.{acts_stayed}
 use Rattle.cms_world.specs.Seen.{OnlyReads, Seen}
+use Rattle.cms_files.specs.Consuming.{is_consumed}
 use Rattle.cms_files.specs.Files.{UnitFile}
 use Rattle.cms_files.specs.Opening.{IsOpened}
 use Rattle.cms_files.specs.Stacking.{stacking}
+use Rattle.cms_files.specs.Updating.{updated_of, updating_tree}
+use Rattle.cms_files.specs.declared.updating.Updated as declared_updated
+use Rattle.cms_files.specs.declared.updating.Updated.TheVariants as was
 use Rattle.cms_files.specs.declared.opening.OpenFile.{OpenFile}
 use Rattle.cms_files.proofs.OpenedFiles.{opened_device, opened_reads}
 use Rattle.cms_execio.specs.Passing.{IsPast}
-use Rattle.cms_execio.specs.Reading.{code_of_taken, if_good, in_front, line_of_nth, lines_taken, places_behind, read_done, read_found, read_on, read_taken, stack_read, taken_of}
+use Rattle.cms_execio.specs.Reading.{code_of_taken, erase_read, if_good, in_front, keep_place, line_of_nth, lines_taken, places_behind, read_done, read_ended, read_found, read_on, read_taken, stack_read, taken_of}
 use Rattle.cms_execio.specs.Records.{stacked_line}
 use Rattle.cms_execio.specs.declared.line.ReadLine.{ReadLine}
 
@@ -130,11 +134,22 @@ pub taken_few : (count : Option ℕ) (left : ℕ) → taken_of count left ≤ le
 taken_few None left = omega arith
 taken_few (Some n) left = omega arith
 
+-- no record is stacked, so the last isn't
+pub last_none : (taken front count : ℕ) (last : Bool) → last ≡ (nat_lt 0 taken && (front + taken == count)) → taken ≡ 0 → last ≡ false
+last_none taken front count last is none = is ∙ ap (λ (k : ℕ). nat_lt 0 k && (front + k == count)) none
+
+-- it is where it is the file's
+pub last_some : (taken front count : ℕ) (last : Bool) → last ≡ (nat_lt 0 taken && (front + taken == count)) → 1 ≤ taken → last ≡ (front + taken == count)
+last_some taken front count last is some =
+    let more : nat_lt 0 taken ≡ true = lt-ltb 0 taken some in
+    is ∙ ap (λ (b : Bool). b && (front + taken == count)) more
+
 -- there are some, so the file is read
-some_read : (s : Machine) (line : ReadLine) (x : UnitFile) (vdev front taken t : ℕ) → taken ≡ suc t
-    → read_taken s line x vdev front taken
-    ≡ reading silently x.unit x.file (front + taken) (stack_read s line vdev front taken (lines_taken line.style.strips front taken x.file.records)) (device_fault s vdev)
-some_read s line x vdev front taken t some =
+some_read : (s : Machine) (line : ReadLine) (n : ℕ) (x : UnitFile) (vdev front taken t : ℕ) → taken ≡ suc t
+    → read_taken s line n x vdev front taken
+    ≡ reading silently x.unit x.file (front + taken)
+    (stack_read s line n vdev (front + taken == length x.file.records) front taken (lines_taken line.style.strips front taken x.file.records)) (device_fault s vdev)
+some_read s line n x vdev front taken t some =
     let no : (taken == 0) ≡ false = ne_eqb taken 0 (λ (none : taken ≡ 0). omega (arith, none, some)) in
     rw no refl
 
@@ -146,12 +161,15 @@ module _ (old : Spot) (words : List Token) (n : ℕ) (line : ReadLine) (file : O
   abbrev wanted : File → ℕ
   wanted f = min (front + taken) (length f.records)
 
-  -- behind all of them
-  abbrev pub rest : List (List ℕ) → List Slot → Act Course
-  rest lines units = stack_read (machine_of old.state units) line file.vdev front taken lines
+  -- behind all of them, whether the file's last is among them
+  abbrev pub rest : Bool → List (List ℕ) → List Slot → Act Course
+  rest last lines units = stack_read (machine_of old.state units) line n file.vdev last front taken lines
+
+  abbrev pub behind : List (List ℕ) → List Slot → Act Course
+  behind = rest (front + taken == file.count)
 
   abbrev then' : List Slot → File → Outcome → Act Course
-  then' units f = handed silently f (wanted f) (rest (lines_taken line.style.strips front taken f.records) units) (device_fault (machine_of old.state units) file.vdev)
+  then' units f = handed silently f (wanted f) (behind (lines_taken line.style.strips front taken f.records) units) (device_fault (machine_of old.state units) file.vdev)
 
   few : taken ≤ file.count - front
   few = subst (λ (k : ℕ). k ≤ file.count - front) (sym taken_is) (taken_few line.range.count (file.count - front))
@@ -164,17 +182,17 @@ module _ (old : Spot) (words : List Token) (n : ℕ) (line : ReadLine) (file : O
       omega arith
 
   found_so : (units : List Slot) (x : UnitFile) → vdev_of (machine_of old.state units) x.unit ≡ file.vdev → length x.file.records ≡ file.count
-      → read_found (machine_of old.state units) line x ≡ read_taken (machine_of old.state units) line x file.vdev front taken
+      → read_found (machine_of old.state units) line n x ≡ read_taken (machine_of old.state units) line n x file.vdev front taken
   found_so units x vdev long =
       let s = machine_of old.state units in
       let places = old.state.places in
-      ap (λ (v : ℕ). read_taken s line x v (in_front places line.range v) (taken_of line.range.count (length x.file.records - in_front places line.range v))) vdev
-      ∙ (ap (λ (k : ℕ). read_taken s line x file.vdev k (taken_of line.range.count (length x.file.records - k))) (sym front_is)
-      ∙ (ap (λ (k : ℕ). read_taken s line x file.vdev front (taken_of line.range.count (k - front))) long
-      ∙ ap (λ (k : ℕ). read_taken s line x file.vdev front k) (sym taken_is)))
+      ap (λ (v : ℕ). read_taken s line n x v (in_front places line.range v) (taken_of line.range.count (length x.file.records - in_front places line.range v))) vdev
+      ∙ (ap (λ (k : ℕ). read_taken s line n x file.vdev k (taken_of line.range.count (length x.file.records - k))) (sym front_is)
+      ∙ (ap (λ (k : ℕ). read_taken s line n x file.vdev front (taken_of line.range.count (k - front))) long
+      ∙ ap (λ (k : ℕ). read_taken s line n x file.vdev front k) (sym taken_is)))
 
   on_file : (units : List Slot) (m : Minidisk) (f : File) → slice_get units o.seat.letter.unit ≡ Some (Settled (Volume m)) → file_named line.range.input.name m.files ≡ Some f
-      → length f.records ≡ file.count → tree units ≡ read_taken (machine_of old.state units) line (record { unit = o.seat.letter.unit; file = f }) file.vdev front taken
+      → length f.records ≡ file.count → tree units ≡ read_taken (machine_of old.state units) line n (record { unit = o.seat.letter.unit; file = f }) file.vdev front taken
   on_file units m f slot named long =
       let letter = letter_is old.state.table n o.seat o.there in
       rw (letter, slot, named)
@@ -188,12 +206,13 @@ module _ (old : Spot) (words : List Token) (n : ℕ) (line : ReadLine) (file : O
       let low = few in
       let all : front + taken ≡ min (front + taken) (length f.records) = omega arith in
       on_file units m f slot named long
-      ∙ (some_read s line (record { unit = u; file = f }) file.vdev front taken t some
-      ∙ ap (λ (k : ℕ). reading silently u f k (rest (lines_taken line.style.strips front taken f.records) units) (device_fault s file.vdev)) all))
+      ∙ (some_read s line n (record { unit = u; file = f }) file.vdev front taken t some
+      ∙ (ap (λ (k : ℕ). reading silently u f (front + taken) (rest (front + taken == k) (lines_taken line.style.strips front taken f.records) units) (device_fault s file.vdev)) long
+      ∙ ap (λ (k : ℕ). reading silently u f k (behind (lines_taken line.style.strips front taken f.records) units) (device_fault s file.vdev)) all)))
 
   -- no record is wanted
-  pub taken_nothing : taken ≡ 0 → Comes old old tree (rest [])
-  taken_nothing none = comes_same old tree (rest [])
+  pub taken_nothing : taken ≡ 0 → Comes old old tree (rest false [])
+  taken_nothing none = comes_same old tree (rest false [])
       (λ units h.
       let k = meets_at old units n o.seat o.there h in
       let m = k.met.minidisk in
@@ -202,7 +221,7 @@ module _ (old : Spot) (words : List Token) (n : ℕ) (line : ReadLine) (file : O
       let s = machine_of old.state units in
       let x : UnitFile = record { unit = o.seat.letter.unit; file = f.0 } in
       on_file units m f.0 k.met.slot f.1 (left_long image file.cursor f.0.records f.2 ∙ sym o.count)
-      ∙ (ap (λ (k : ℕ). read_taken s line x file.vdev front k) none ∙ ap (λ (k : ℕ). stack_read s line file.vdev front k []) (sym none)))
+      ∙ (ap (λ (k : ℕ). read_taken s line n x file.vdev front k) none ∙ ap (λ (k : ℕ). stack_read s line n file.vdev false front k []) (sym none)))
 
   among : (mid : Spot) (c : Reading) (k : ℕ) (lines : List (List ℕ)) (so : TakenSoFar line front old.world mid.world file.cursor c k lines) → k ≤ front + taken
       → AreAmong wanted so.handed.front
@@ -221,12 +240,12 @@ module _ (old : Spot) (words : List Token) (n : ℕ) (line : ReadLine) (file : O
 
   -- all that are wanted were handed out
   pub taken_all : (t : ℕ) → taken ≡ suc t → (mid : Spot) (c : Reading) (k : ℕ) (lines : List (List ℕ)) → TakenSoFar line front old.world mid.world file.cursor c k lines → k ≡ front + taken
-      → mid.state ≡ old.state → Comes old mid tree (rest lines)
+      → mid.state ≡ old.state → Comes old mid tree (behind lines)
   taken_all t some mid c k lines so all same =
       let so_long : length so.handed.front ≡ front + taken = so.long ∙ all in
-      read_wanted silent old mid mid file.cursor c tree o.seat.letter.unit wanted (only (rest lines) then') (rest lines)
-      (narrowed old mid file.cursor c tree o.seat.letter.unit wanted then' (rest lines) (reads t some) so.handed
-      (λ units f more is. ap (λ (l : List (List ℕ)). rest l units)
+      read_wanted silent old mid mid file.cursor c tree o.seat.letter.unit wanted (only (behind lines) then') (behind lines)
+      (narrowed old mid file.cursor c tree o.seat.letter.unit wanted then' (behind lines) (reads t some) so.handed
+      (λ units f more is. ap (λ (l : List (List ℕ)). behind l units)
       (ap (map (stacked_line line.style.strips)) (sym (drop-take front taken f.records)
       ∙ ap (drop front) (ap (λ (k : ℕ). take k f.records) (sym so_long) ∙ (ap (take (length so.handed.front)) is ∙ take-append_seam so.handed.front more)))
       ∙ sym so.lines_are)))
@@ -264,18 +283,15 @@ ends_so next s units (course.Went (pos (suc k))) other = refl
 ends_so next s units (course.Went (negsuc k)) other = refl
 ends_so next s units course.OutOfTurns other = refl
 
-module _ (old mid : Spot) (line : ReadLine) (vdev front taken : ℕ) (lines : List (List ℕ)) where
+module _ (old mid : Spot) (line : ReadLine) (n vdev : ℕ) (last : Bool) (front taken : ℕ) (lines : List (List ℕ)) where
   abbrev stack_tree : List Slot → Act Course
   stack_tree units = stacking (machine_of old.state units) line.style.end lines
 
   abbrev read_tree : List Slot → Act Course
-  read_tree units = stack_read (machine_of old.state units) line vdev front taken lines
+  read_tree units = stack_read (machine_of old.state units) line n vdev last front taken lines
 
   abbrev next : Machine → Act Course
-  next = read_done line vdev front taken
-
-  abbrev with_places : Places → Spot
-  with_places p = record { world = mid.world; state = record mid.state { places = p } }
+  next = read_done line n vdev last front taken
 
   came : (x : declared.Course) → Acts old mid stack_tree (Ok x) (course_of mid.state) → Comes old mid read_tree (λ units. if_good next (course_of mid.state units x))
   came x a = comes_in {T = declared.Course} old mid stack_tree (if_good next) x (course_of mid.state) a
@@ -287,28 +303,82 @@ module _ (old mid : Spot) (line : ReadLine) (vdev front taken : ℕ) (lines : Li
       (comes_then old mid mid read_tree (λ units. if_good next (course_of mid.state units x)) (λ units. Done (course_of mid.state units x)) (came x a)
       (comes_same mid (λ units. if_good next (course_of mid.state units x)) (λ units. Done (course_of mid.state units x)) (λ units h. ends_so next mid.state units x other)))
 
-  went : (x : declared.Course) → Acts old mid stack_tree (Ok x) (course_of mid.state) → x ≡ course.Went (pos 0) → Comes old mid read_tree (λ units. next (machine_of mid.state units))
-  went x a is = subst (λ (y : declared.Course). Comes old mid read_tree (λ units. if_good next (course_of mid.state units y))) is (came x a)
-
-  pub stacked_done : (x : declared.Course) (p : Places) (y : declared.Course) → Acts old mid stack_tree (Ok x) (course_of mid.state) → x ≡ course.Went (pos 0)
-      → p ≡ places_behind line vdev (front + taken) mid.state.places → y ≡ course.Went (pos (code_of_taken line.range.count taken))
-      → Acts old (with_places p) read_tree (Ok y) (course_of (with_places p).state)
-  stacked_done x p y a is places codes =
-      acts_after old mid (with_places p) read_tree (λ units. next (machine_of mid.state units)) (Ok y) (course_of (with_places p).state) (went x a is)
-      (acts_stayed mid (with_places p) (λ units. next (machine_of mid.state units)) y (course_of (with_places p).state) refl refl
-      (λ units h. (
-        h,
-        ap (λ (q : Places). Done (Went (record (machine_of mid.state units) { places = q }) (pos (code_of_taken line.range.count taken)))) (sym places)
-            ∙ ap (λ (z : declared.Course). Done (course_of (with_places p).state units z)) (sym codes),
-      ))
-      (λ usable. usable))
-
-  pub stacked_starved : (x : declared.Course) (p : Places) → Acts old mid stack_tree (Ok x) (course_of mid.state) → x ≡ course.Went (pos 0) → p ≡ mid.state.places
-      → Acts {T = declared.Course} old (with_places p) read_tree (Err Memory) (course_of (with_places p).state)
-  stacked_starved x p a is same =
-      subst (λ (q : Places). Acts {T = declared.Course} old (with_places q) read_tree (Err Memory) (course_of (with_places q).state)) (sym same)
-      (no_memory old mid read_tree (λ units. next (machine_of mid.state units)) (course_of mid.state) (went x a is))
+  -- all had, and the command ended
+  pub stacked_then : (new : Spot) (x : declared.Course) (r : Result declared.Course End) → Acts old mid stack_tree (Ok x) (course_of mid.state) → x ≡ course.Went (pos 0)
+      → Acts mid new (λ units. next (machine_of mid.state units)) r (course_of new.state) → Acts old new read_tree r (course_of new.state)
+  stacked_then new x r a is b =
+      acts_after old mid new read_tree (λ units. next (machine_of mid.state units)) r (course_of new.state)
+      (subst (λ (y : declared.Course). Comes old mid read_tree (λ units. if_good next (course_of mid.state units y))) is (came x a)) b
 
   pub stacked_stops : (e : End) → Acts {T = declared.Course} old mid stack_tree (Err e) (course_of mid.state)
       → Acts {T = declared.Course} old mid read_tree (Err e) (course_of mid.state)
   stacked_stops e a = acts_stop old mid stack_tree (if_good next) e (course_of mid.state) (course_of mid.state) a
+
+-- ---- the command's end
+
+module _ (old : Spot) (line : ReadLine) (n vdev : ℕ) (last : Bool) (front taken : ℕ) where
+  abbrev done_tree : List Slot → Act Course
+  done_tree units = read_done line n vdev last front taken (machine_of old.state units)
+
+  -- whether the file goes
+  abbrev pub Goes : Bool → Type 0
+  Goes b = (units : List Slot) → holds old units → (last && is_consumed (machine_of old.state units) n line.range.input.name) ≡ b
+
+  abbrev with_places : Places → Spot
+  with_places p = record { world = old.world; state = record old.state { places = p } }
+
+  stays : Goes false → Comes old old done_tree (λ units. keep_place line vdev front taken (machine_of old.state units))
+  stays not = comes_same old done_tree (λ units. keep_place line vdev front taken (machine_of old.state units)) (λ units h. (let e = not units h in rw e refl))
+
+  -- it stays, and its place is kept
+  pub read_kept : (p : Places) (y : declared.Course) → Goes false → p ≡ places_behind line vdev (front + taken) old.state.places
+      → y ≡ course.Went (pos (code_of_taken line.range.count taken)) → Acts old (with_places p) done_tree (Ok y) (course_of (with_places p).state)
+  read_kept p y not places codes =
+      acts_after old old (with_places p) done_tree (λ units. keep_place line vdev front taken (machine_of old.state units)) (Ok y) (course_of (with_places p).state) (stays not)
+      (acts_stayed old (with_places p) (λ units. keep_place line vdev front taken (machine_of old.state units)) y (course_of (with_places p).state) refl refl
+      (λ units h. (
+        h,
+        ap (λ (q : Places). Done (Went (record (machine_of old.state units) { places = q }) (pos (code_of_taken line.range.count taken)))) (sym places)
+            ∙ ap (λ (z : declared.Course). Done (course_of (with_places p).state units z)) (sym codes),
+      ))
+      (λ usable. usable))
+
+  -- there was no memory for it
+  pub read_starved : (p : Places) → p ≡ old.state.places → Acts {T = declared.Course} old (with_places p) done_tree (Err Memory) (course_of (with_places p).state)
+  read_starved p same =
+      subst (λ (q : Places). Acts {T = declared.Course} old (with_places q) done_tree (Err Memory) (course_of (with_places q).state)) (sym same)
+      (no_memory old old done_tree done_tree (course_of old.state) (comes_none old done_tree))
+
+  -- it goes
+  pub read_erases : (new : Spot) (r : Result declared.Course End) → Goes true → Acts old new (λ units. erase_read line n taken (machine_of old.state units)) r (course_of new.state)
+      → Acts old new done_tree r (course_of new.state)
+  read_erases new r goes a =
+      acts_same old new done_tree (λ units. erase_read line n taken (machine_of old.state units)) r (course_of new.state) (λ units h. (let e = goes units h in rw e refl)) a
+
+-- ---- the erasure
+
+module _ (old new : Spot) (line : ReadLine) (n taken : ℕ) where
+  abbrev update : List Slot → Act Stepped
+  update = updating_tree old.state n (Drop line.range.input.name)
+
+  abbrev erase_tree : List Slot → Act Course
+  erase_tree units = erase_read line n taken (machine_of old.state units)
+
+  pub erased : (x : declared_updated.Updated) (y : declared.Course) → Acts old new update (Ok x) (updated_of new.state) → x ≡ was.Done
+      → y ≡ course.Went (pos (code_of_taken line.range.count taken)) → Acts old new erase_tree (Ok y) (course_of new.state)
+  erased x y a is codes =
+      rw codes
+      (acts_done old new erase_tree (course.Went (pos (code_of_taken line.range.count taken))) (course_of new.state)
+      (comes_in old new update (unless_failed (read_ended line taken)) was.Done (updated_of new.state)
+      (subst (λ (z : declared_updated.Updated). Acts old new update (Ok z) (updated_of new.state)) is a)))
+
+  pub erasure_ends : (x : declared_updated.Updated) (y : declared.Course) → Acts old new update (Ok x) (updated_of new.state) → x ≡ was.Stopped y
+      → Acts old new erase_tree (Ok y) (course_of new.state)
+  erasure_ends x y a is =
+      acts_done old new erase_tree y (course_of new.state)
+      (comes_in old new update (unless_failed (read_ended line taken)) (was.Stopped y) (updated_of new.state)
+      (subst (λ (z : declared_updated.Updated). Acts old new update (Ok z) (updated_of new.state)) is a))
+
+  pub erasure_cut : (e : End) → Acts {T = declared_updated.Updated} old new update (Err e) (updated_of new.state)
+      → Acts {T = declared.Course} old new erase_tree (Err e) (course_of new.state)
+  erasure_cut e a = acts_stop old new update (unless_failed (read_ended line taken)) e (updated_of new.state) (course_of new.state) a

@@ -1,16 +1,19 @@
 -- DISKR: records of a file are stacked.
-use Rattle.std.specs.Prelude.{ℕ, zero, suc, pos, negsuc, ◌+◌, ◌-◌, ◌==◌, nat_lt, if◌then◌else◌, Bool, true, false, List, [], ◌∷◌, drop, length, map, min, take, Option, Some, None}
+use Rattle.std.specs.Prelude.{ℕ, zero, suc, pos, negsuc, ◌+◌, ◌-◌, ◌==◌, ◌&&◌, nat_lt, if◌then◌else◌, Bool, true, false, List, [], ◌∷◌, drop, length, map, min, take, Option, Some, None}
 use Rattle.std.specs.FinMap.{get, insert, remove}
 use Rattle.std.specs.Option.{option_map_or, unwrap_or}
 use Rattle.cms_names.specs.declared.name.Name.{Name}
+use Rattle.cms_model.specs.Changes.{Drop}
 use Rattle.cms_machine.specs.Acts.{Act, Done, bind}
 use Rattle.cms_line.specs.declared.token.Token.{Token}
 use Rattle.cms_search.specs.Machine.{Machine, Course, Places, Went, OutOfTurns, letter_at, place_key}
 use Rattle.cms_search.specs.Refusing.{device_fault}
 use Rattle.cms_search.specs.Releasing.{vdev_of}
-use Rattle.cms_search.specs.Stepping.{reading, silently}
-use Rattle.cms_files.specs.Files.{UnitFile, file_on, file_read, on_found}
+use Rattle.cms_search.specs.Stepping.{reading, silently, unless_failed}
+use Rattle.cms_files.specs.Consuming.{is_consumed}
+use Rattle.cms_files.specs.Files.{UnitFile, file_found, file_on, on_found}
 use Rattle.cms_files.specs.Stacking.{stacking}
+use Rattle.cms_files.specs.Updating.{updating}
 use Rattle.cms_execio.specs.Records.{stacked_line}
 use Rattle.cms_execio.specs.declared.line.ReadLine.{ReadLine}
 use Rattle.cms_execio.specs.declared.line.ReadRange.{ReadRange}
@@ -52,14 +55,28 @@ if_good next OutOfTurns = Done OutOfTurns
 abbrev pub places_behind : ReadLine → ℕ → ℕ → Places → Places
 places_behind line vdev next places = going_on line.style.forgets vdev line.range.input.name next places
 
--- the command's end, behind so many records of which so many were stacked
-abbrev pub read_done : ReadLine → ℕ → ℕ → ℕ → Machine → Act Course
-read_done line vdev front taken s =
-    Done (Went (record s { places = places_behind line vdev (front + taken) s.places }) (pos (code_of_taken line.range.count taken)))
+-- the command's end, behind records of which so many were stacked
+abbrev pub read_ended : ReadLine → ℕ → Machine → Act Course
+read_ended line taken s = Done (Went s (pos (code_of_taken line.range.count taken)))
+
+-- reading goes on behind so many records and those that were stacked
+abbrev pub keep_place : ReadLine → ℕ → ℕ → ℕ → Machine → Act Course
+keep_place line vdev front taken s =
+    read_ended line taken (record s { places = places_behind line vdev (front + taken) s.places })
+
+-- the file goes, and no place is kept; where that is refused reading goes on where it did: 107, 105
+abbrev pub erase_read : ReadLine → ℕ → ℕ → Machine → Act Course
+erase_read line n taken s = bind (updating s n (Drop line.range.input.name)) (unless_failed (read_ended line taken))
+
+-- behind the lines: where the file's last record is among them the file on the disk of letter n may be erased
+abbrev pub read_done : ReadLine → ℕ → ℕ → Bool → ℕ → ℕ → Machine → Act Course
+read_done line n vdev last front taken s =
+    if last && is_consumed s n line.range.input.name then erase_read line n taken s else keep_place line vdev front taken s
 
 -- the lines are stacked, all or none: 120
-abbrev pub stack_read : Machine → ReadLine → ℕ → ℕ → ℕ → List (List ℕ) → Act Course
-stack_read s line vdev front taken lines = bind (stacking s line.style.end lines) (if_good (read_done line vdev front taken))
+abbrev pub stack_read : Machine → ReadLine → ℕ → ℕ → Bool → ℕ → ℕ → List (List ℕ) → Act Course
+stack_read s line n vdev last front taken lines =
+    bind (stacking s line.style.end lines) (if_good (read_done line n vdev last front taken))
 
 -- the lines that records are: so many, behind so many in front of them
 abbrev pub lines_taken : Bool → ℕ → ℕ → List (List ℕ) → List (List ℕ)
@@ -70,22 +87,23 @@ abbrev pub line_of_nth : Bool → ℕ → ℕ → List ℕ → List (List ℕ)
 line_of_nth strips front nth text = if nat_lt nth front then [] else stacked_line strips text ∷ []
 
 -- the records are read up to the last that is stacked, where there is one: 105
-abbrev pub read_taken : Machine → ReadLine → UnitFile → ℕ → ℕ → ℕ → Act Course
-read_taken s line x vdev front taken =
-    if taken == 0 then stack_read s line vdev front 0 []
+abbrev pub read_taken : Machine → ReadLine → ℕ → UnitFile → ℕ → ℕ → ℕ → Act Course
+read_taken s line n x vdev front taken =
+    if taken == 0 then stack_read s line n vdev false front 0 []
     else reading silently x.unit x.file (front + taken)
-    (stack_read s line vdev front taken (lines_taken line.style.strips front taken x.file.records)) (device_fault s vdev)
+    (stack_read s line n vdev (front + taken == length x.file.records) front taken (lines_taken line.style.strips front taken x.file.records))
+    (device_fault s vdev)
 
-abbrev pub read_from : Machine → ReadLine → UnitFile → ℕ → ℕ → Act Course
-read_from s line x vdev front = read_taken s line x vdev front (taken_of line.range.count (length x.file.records - front))
+abbrev pub read_from : Machine → ReadLine → ℕ → UnitFile → ℕ → ℕ → Act Course
+read_from s line n x vdev front = read_taken s line n x vdev front (taken_of line.range.count (length x.file.records - front))
 
-abbrev pub read_found : Machine → ReadLine → UnitFile → Act Course
-read_found s line x = read_from s line x (vdev_of s x.unit) (in_front s.places line.range (vdev_of s x.unit))
+abbrev pub read_found : Machine → ReadLine → ℕ → UnitFile → Act Course
+read_found s line n x = read_from s line n x (vdev_of s x.unit) (in_front s.places line.range (vdev_of s x.unit))
 
--- records of a file are stacked: 069, 002, 105, 120
-abbrev pub disk_read : Machine → List Token → ReadLine → Act Course
-disk_read s words line = on_found s words 3 (read_found s line) (file_read s line.range.input)
-
--- the same of the file of the line's name on the disk of letter n
+-- the file of the line's name on the disk of letter n
 abbrev pub read_on : Machine → List Token → ReadLine → ℕ → Act Course
-read_on s words line n = on_found s words 3 (read_found s line) (file_on s line.range.input.name (letter_at s n))
+read_on s words line n = on_found s words 3 (read_found s line n) (file_on s line.range.input.name (letter_at s n))
+
+-- records of a file are stacked; one of mode number 3 is erased behind its last: 069, 002, 105, 120, 107
+abbrev pub disk_read : Machine → List Token → ReadLine → Act Course
+disk_read s words line = on_found s words 3 (λ found. read_on s words line found.letter) (file_found s line.range.input)

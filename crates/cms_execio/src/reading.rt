@@ -1,5 +1,10 @@
 // DISKR: records of a file are stacked.
-ghost use Rattle.std.specs.Prelude.{◌≡◌, ◌+◌, ◌-◌, ◌++◌, ◌<◌, ◌≤◌, ◌^◌, List, OnOk, false, pos, true};
+ghost use Rattle.std.specs.Prelude.{◌≡◌, ◌+◌, ◌-◌, ◌++◌, ◌==◌, ◌&&◌, ◌<◌, ◌≤◌, ◌^◌, IsSome, List, Ok, OnOk, false, nat_lt, pos, true};
+ghost use Rattle.std.specs.Option.{ForSome};
+ghost use Rattle.cms_disk.specs.Disks.{place_of};
+ghost use Rattle.cms_fields.specs.Moments.{is_moment};
+ghost use Rattle.cms_search.specs.Searches.{item_at};
+ghost use Rattle.cms_search.specs.Tables.{letters_of, writing};
 ghost use Rattle.cms_search.specs.declared.state.Course.TheVariants.{Went};
 ghost use Rattle.cms_line.specs.declared.token.Token.{Token};
 ghost use Rattle.cms_search.specs.Calls.{Acts, IsUsable, course_of, machine_of, spot};
@@ -13,7 +18,10 @@ use crate::line::ReadLine;
 use crate::place::{code_of_taken, go_on, in_front, taken_of};
 use crate::record::stacked_line;
 use cms_disk::Cursor;
-use cms_files::{OpenFile, open_file, refuse_unfound, stack_lines};
+use cms_edf::Change;
+use cms_files::{
+    OpenFile, Updated, is_consumed, open_file, refuse_unfound, stack_lines, update_disk,
+};
 use cms_line::{Lines, Tokens};
 use cms_names::Format;
 use cms_search::{Course, End, Places, State, refuse_unread};
@@ -26,6 +34,8 @@ struct Span {
     /// how many stand in front of them
     front: u32,
     taken: u32,
+    /// the file's last is among them
+    last: bool,
 }
 
 impl Span {
@@ -35,11 +45,14 @@ impl Span {
         ensures taken { result.taken ≡ spec.taken_of line.now.range.count (file.now.count - result.front) }
         ensures few { result.taken ≤ file.now.count - result.front }
         ensures fits { result.front + result.taken < 2 ^ 32 }
+        ensures last { result.last ≡ (nat_lt 0 result.taken && (result.front + result.taken == file.now.count)) }
     {
         let front = in_front(places, &line.range, file.vdev);
+        let taken = taken_of(line.range.count, file.count.saturating_sub(front));
         Span {
             front,
-            taken: taken_of(line.range.count, file.count.saturating_sub(front)),
+            taken,
+            last: taken > 0 && front + taken == file.count,
         }
     }
 }
@@ -80,33 +93,87 @@ fn course_behind(count: Option<u32>, taken: u32) -> Course
     Course::Went(code_of_taken(count, taken))
 }
 
-// Stacks the lines of records, all or none; reading goes on behind the records then.
+// The file goes, as the last thing of the command, which stacked so many of its records. No reading place is kept in it then.
+fn erase_read<W: World>(
+    alloc: Global,
+    world: &mut W,
+    state: &mut State,
+    letter: u8,
+    line: &ReadLine,
+    taken: u32,
+) -> Result<Course, End>
+    requires usable { IsUsable (spot W.World world.old state.old) }
+    requires moment { is_moment state.old.moment ≡ true }
+    requires writing { writing (item_at (letters_of state.old.table) letter) letter ≡ Ok tt }
+    requires there { ForSome (item_at state.old.table.seats letter)
+        (λ s. IsSome (place_of line.now.range.input.name s.disk.volume)) }
+    ensures acts { Acts (spot W.World world.old state.old) (spot W.World world.new state.new)
+        (λ units. spec.erase_read line.now letter taken (machine_of state.old units)) result (course_of state.new) }
+    ensures kept { state.new ≡ record state.old { table = state.new.table; places = state.new.places } }
+{
+    let name = &line.range.input.name;
+    match update_disk(alloc, world, state, letter, &Change::Drop { name })? {
+        Updated::Done => Ok(course_behind(line.range.count, taken)),
+        Updated::Stopped(course) => Ok(course),
+    }
+}
+
+// Ends the command behind the lines that were stacked: a file whose last record is among them may be erased; else reading goes on behind the
+// records.
+fn end_read<W: World>(
+    alloc: Global,
+    world: &mut W,
+    state: &mut State,
+    letter: u8,
+    line: &ReadLine,
+    vdev: u16,
+    span: Span,
+) -> Result<Course, End>
+    requires usable { IsUsable (spot W.World world.old state.old) }
+    requires moment { is_moment state.old.moment ≡ true }
+    requires fits { span.front + span.taken < 2 ^ 32 }
+    ensures acts { Acts (spot W.World world.old state.old) (spot W.World world.new state.new)
+        (λ units. spec.read_done line.now letter vdev span.last span.front span.taken (machine_of state.old units)) result
+        (course_of state.new) }
+    ensures kept { state.new ≡ record state.old { table = state.new.table; places = state.new.places } }
+{
+    let name = &line.range.input.name;
+    if span.last && is_consumed(&state.table, letter, name) {
+        return erase_read(alloc, world, state, letter, line, span.taken);
+    }
+    let behind = span.front + span.taken;
+    go_on(&mut state.places, line.style.forgets, vdev, name, behind)?;
+    Ok(course_behind(line.range.count, span.taken))
+}
+
+// Stacks the lines of records of a file on the disk of a letter, all or none, and ends the command.
 fn stack_read<W: World>(
     alloc: Global,
     world: &mut W,
     state: &mut State,
+    letter: u8,
     line: &ReadLine,
     vdev: u16,
     span: Span,
     lines: &Lines,
 ) -> Result<Course, End>
-    requires { span.front + span.taken < 2 ^ 32 }
+    requires usable { IsUsable (spot W.World world.old state.old) }
+    requires moment { is_moment state.old.moment ≡ true }
+    requires fits { span.front + span.taken < 2 ^ 32 }
     ensures acts { Acts (spot W.World world.old state.old) (spot W.World world.new state.new)
-        (λ units. spec.stack_read (machine_of state.old units) line.now vdev span.front span.taken lines.now) result (course_of state.new) }
-    ensures kept { state.new ≡ record state.old { stack = state.new.stack; places = state.new.places } }
+        (λ units. spec.stack_read (machine_of state.old units) line.now letter vdev span.last span.front span.taken lines.now) result
+        (course_of state.new) }
+    ensures kept { state.new ≡ record state.old {
+      table = state.new.table;
+      stack = state.new.stack;
+      places = state.new.places;
+    } }
 {
     let course = stack_lines(alloc, world, state, line.style.end, lines)?;
     if !went_well(course) {
         return Ok(course);
     }
-    go_on(
-        &mut state.places,
-        line.style.forgets,
-        vdev,
-        &line.range.input.name,
-        span.front + span.taken,
-    )?;
-    Ok(course_behind(line.range.count, span.taken))
+    end_read(alloc, world, state, letter, line, vdev, span)
 }
 
 // Passes over the records in front of those that are stacked, where all of the file have one length. Says how many it passed over.
@@ -136,14 +203,20 @@ fn read_span<W: World>(
     span: Span,
 ) -> Result<Course, End>
     requires usable { IsUsable (spot W.World world.old state.old) }
+    requires moment { is_moment state.old.moment ≡ true }
     requires opened { IsOpened state.old.table letter line.now.range.input.name file }
     requires front { span.front ≡ spec.in_front state.old.places line.now.range file.vdev }
     requires taken { span.taken ≡ spec.taken_of line.now.range.count (file.count - span.front) }
     requires some { 1 ≤ span.taken }
+    requires last { span.last ≡ (span.front + span.taken == file.count) }
     requires fits { span.front + span.taken < 2 ^ 32 }
     ensures acts { (words : List Token) → Acts (spot W.World world.old state.old) (spot W.World world.new state.new)
         (λ units. spec.read_on (machine_of state.old units) words line.now letter) result (course_of state.new) }
-    ensures kept { state.new ≡ record state.old { stack = state.new.stack; places = state.new.places } }
+    ensures kept { state.new ≡ record state.old {
+      table = state.new.table;
+      stack = state.new.stack;
+      places = state.new.places;
+    } }
 {
     let vdev = file.vdev;
     let format = file.format;
@@ -156,7 +229,7 @@ fn read_span<W: World>(
             Err(fault) => return refuse_unread(alloc, world, vdev, fault),
         }
     }
-    stack_read(alloc, world, state, line, vdev, span, &lines)
+    stack_read(alloc, world, state, letter, line, vdev, span, &lines)
 }
 
 // Stacks the records of a file on the disk of a letter that the line says; where there are none of them the file isn't read.
@@ -169,15 +242,20 @@ fn read_records<W: World>(
     file: OpenFile,
 ) -> Result<Course, End>
     requires usable { IsUsable (spot W.World world.old state.old) }
+    requires moment { is_moment state.old.moment ≡ true }
     requires opened { IsOpened state.old.table letter line.now.range.input.name file }
     ensures acts { (words : List Token) → Acts (spot W.World world.old state.old) (spot W.World world.new state.new)
         (λ units. spec.read_on (machine_of state.old units) words line.now letter) result (course_of state.new) }
-    ensures kept { state.new ≡ record state.old { stack = state.new.stack; places = state.new.places } }
+    ensures kept { state.new ≡ record state.old {
+      table = state.new.table;
+      stack = state.new.stack;
+      places = state.new.places;
+    } }
 {
     let span = Span::of(&state.places, line, &file);
     if span.taken == 0 {
         let none = Lines::new(alloc);
-        return stack_read(alloc, world, state, line, file.vdev, span, &none);
+        return stack_read(alloc, world, state, letter, line, file.vdev, span, &none);
     }
     read_span(alloc, world, state, letter, line, file, span)
 }
@@ -192,9 +270,14 @@ fn read_on<W: World>(
     letter: u8,
 ) -> Result<Course, End>
     requires usable { IsUsable (spot W.World world.old state.old) }
+    requires moment { is_moment state.old.moment ≡ true }
     ensures acts { Acts (spot W.World world.old state.old) (spot W.World world.new state.new)
         (λ units. spec.read_on (machine_of state.old units) words.now line.now letter) result (course_of state.new) }
-    ensures kept { state.new ≡ record state.old { stack = state.new.stack; places = state.new.places } }
+    ensures kept { state.new ≡ record state.old {
+      table = state.new.table;
+      stack = state.new.stack;
+      places = state.new.places;
+    } }
 {
     match open_file(alloc, &state.table, letter, &line.range.input.name) {
         Ok(file) => read_records(alloc, world, state, letter, line, file),
@@ -202,7 +285,8 @@ fn read_on<W: World>(
     }
 }
 
-/// EXECIO's DISKR: records of a file are stacked, all that are wanted or none.
+/// EXECIO's DISKR: records of a file are stacked, all that are wanted or none. A file of mode number 3 is erased once its last record was
+/// stacked.
 pub fn disk_read<W: World>(
     alloc: Global,
     world: &mut W,
@@ -211,9 +295,14 @@ pub fn disk_read<W: World>(
     line: &ReadLine,
 ) -> Result<Course, End>
     requires usable { IsUsable (spot W.World world.old state.old) }
+    requires moment { is_moment state.old.moment ≡ true }
     ensures acts { Acts (spot W.World world.old state.old) (spot W.World world.new state.new)
         (λ units. spec.disk_read (machine_of state.old units) words.now line.now) result (course_of state.new) }
-    ensures kept { state.new ≡ record state.old { stack = state.new.stack; places = state.new.places } }
+    ensures kept { state.new ≡ record state.old {
+      table = state.new.table;
+      stack = state.new.stack;
+      places = state.new.places;
+    } }
 {
     let input = &line.range.input;
     match state.table.find_read(&input.name, &input.mode) {

@@ -11,5 +11,5 @@ pub returns-in-Err-clause-acts : goal.returns-in-Err-clause-acts
 returns-in-Err-clause-acts g c =
     let s = c.args.state.now in
     let line = c.args.line.now in
-    acts_unopened (spot g.W.World c.args.world.now s) (spot g.W.World c.refuse_unfound.new.world s) c.args.words.now 3 (λ m. read_found m line) c.args.letter line.range.input.name c.in-Err.fault
+    acts_unopened (spot g.W.World c.args.world.now s) (spot g.W.World c.refuse_unfound.new.world s) c.args.words.now 3 (λ m. read_found m line c.args.letter) c.args.letter line.range.input.name c.in-Err.fault
     c.refuse_unfound.result c.in-Err.ensures.missing c.in-Err.ensures.fault c.refuse_unfound.ensures refl

@@ -1,7 +1,7 @@
-use Rattle.std.proofs.Common.{ℕ, List, [], subst}
+use Rattle.std.proofs.Common.{◌≡◌, ℕ, List, [], false, subst, arith}
 use Rattle.cms_search.specs.Calls.{Acts, course_of, spot}
 use Rattle.cms_search.proofs.Acts.{acts_after}
-use Rattle.cms_execio.proofs.Takings.{rest, taken_nothing, tree}
+use Rattle.cms_execio.proofs.Takings.{last_none, last_some, rest, taken_nothing, tree}
 use Rattle.cms_execio.proofs.reading.read_records.Goals as goal
 
 -- none is wanted or left
@@ -14,12 +14,17 @@ returns-then-span-eq0-clause-acts g c = λ words.
     let span = c.of-span.result in
     let front = c.of-span.ensures.front in
     let taken = c.of-span.ensures.taken in
+    let none : span.last ≡ false = last_none span.taken span.front file.count span.last c.of-span.ensures.last c.if-span-eq0.true in
     let old = spot g.W.World c.args.world.now s in
     let new = spot g.W.World c.stack_read.new.world c.stack_read.new.state in
-    acts_after old old new (tree old words c.args.letter line file o span.front span.taken front taken) (rest old words c.args.letter line file o span.front span.taken front taken [])
+    acts_after old old new (tree old words c.args.letter line file o span.front span.taken front taken) (rest old words c.args.letter line file o span.front span.taken front taken false [])
     c.stack_read.result (course_of c.stack_read.new.state) (taken_nothing old words c.args.letter line file o span.front span.taken front taken c.if-span-eq0.true)
-    (subst (λ (lines : List (List ℕ)). Acts old new (rest old words c.args.letter line file o span.front span.taken front taken lines) c.stack_read.result (course_of c.stack_read.new.state))
-    c.new-none.ensures c.stack_read.ensures.acts)
+    (subst (λ (lines : List (List ℕ)). Acts old new (rest old words c.args.letter line file o span.front span.taken front taken false lines) c.stack_read.result (course_of c.stack_read.new.state))
+    c.new-none.ensures (rw none at c.stack_read.ensures.acts))
 
 pub returns-clause-acts : goal.returns-clause-acts
 returns-clause-acts g c = c.read_span.ensures.acts
+
+-- some are, so the last is where it is the file's
+pub read_span-requires-clause-last : goal.read_span-requires-clause-last
+read_span-requires-clause-last g c = last_some c.of-span.result.taken c.of-span.result.front c.args.file.count c.of-span.result.last c.of-span.ensures.last (omega arith)

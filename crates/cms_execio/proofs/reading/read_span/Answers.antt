@@ -5,7 +5,7 @@ use Rattle.cms_search.proofs.Acts.{acts_after}
 use Rattle.cms_search.proofs.Handing.{only_read}
 use Rattle.cms_world.specs.Seen.{seen}
 use Rattle.cms_files.proofs.OpenedFiles.{opened_open}
-use Rattle.cms_execio.proofs.Takings.{front_left, rest, taken_all, taken_left, taken_more, taken_past, taken_starved, taken_unread, tree}
+use Rattle.cms_execio.proofs.Takings.{behind, front_left, taken_all, taken_left, taken_more, taken_past, taken_starved, taken_unread, tree}
 use Rattle.cms_execio.proofs.reading.read_span.Goals as goal
 
 -- the records in front may be passed over
@@ -84,6 +84,18 @@ returns-in-Err-clause-acts g c = λ words.
     (c.args.span.taken - 1) (omega arith) (spot g.W.World c.loop-nth.world s) (spot g.W.World c.next.new.world s) (spot g.W.World c.refuse_unread.new.world s) c.loop-nth.cursor c.next.new.self
     c.loop-nth.nth c.loop-nth.lines c.in-Err.fault c.refuse_unread.result so (omega arith) next.fault next.records next.reads refl refuse.does refuse.went refl
 
+-- the units may be used still
+pub stack_read-requires-clause-usable : goal.stack_read-requires-clause-usable
+stack_read-requires-clause-usable g c =
+    let s = c.args.state.now in
+    let so =
+    c.loop-nth.invariant c.args.file.cursor c.pass_front-passed.ensures.past
+    (opened_open (spot g.W.World c.args.world.now s) c.args.letter c.args.line.now.range.input.name c.args.file c.requires.opened c.requires.usable) in
+    let span = c.args.span in
+    let come = taken_all (spot g.W.World c.args.world.now s) [] c.args.letter c.args.line.now c.args.file c.requires.opened span.front span.taken c.requires.front c.requires.taken
+    (span.taken - 1) (omega arith) (spot g.W.World c.loop-nth.world s) c.loop-nth.cursor c.loop-nth.nth c.loop-nth.lines so (omega arith) refl in
+    come.usable c.requires.usable
+
 -- all that are wanted were handed out
 pub returns-clause-acts : goal.returns-clause-acts
 returns-clause-acts g c = λ words.
@@ -96,9 +108,10 @@ returns-clause-acts g c = λ words.
     let old = spot g.W.World c.args.world.now s in
     let mid = spot g.W.World c.loop-nth.world s in
     let lines = c.loop-nth.lines in
+    let last = c.requires.last in
     acts_after old mid (spot g.W.World c.stack_read.new.world c.stack_read.new.state)
     (tree old words c.args.letter line c.args.file c.requires.opened span.front span.taken c.requires.front c.requires.taken)
-    (rest old words c.args.letter line c.args.file c.requires.opened span.front span.taken c.requires.front c.requires.taken lines) c.stack_read.result (course_of c.stack_read.new.state)
+    (behind old words c.args.letter line c.args.file c.requires.opened span.front span.taken c.requires.front c.requires.taken lines) c.stack_read.result (course_of c.stack_read.new.state)
     (taken_all old words c.args.letter line c.args.file c.requires.opened span.front span.taken c.requires.front c.requires.taken (span.taken - 1) (omega arith)
     mid c.loop-nth.cursor c.loop-nth.nth lines so (omega arith) refl)
-    c.stack_read.ensures.acts
+    (rw last at c.stack_read.ensures.acts)
