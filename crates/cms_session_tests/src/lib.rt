@@ -21,6 +21,8 @@ mod format_tests;
 #[cfg(test)]
 mod listing_tests;
 #[cfg(test)]
+mod number_three;
+#[cfg(test)]
 mod procedure_tests;
 #[cfg(test)]
 mod refusal_tests;

@@ -120,9 +120,34 @@ const CARDS: &[SmallFile] = &[
     SmallFile {
         name: "FIXED",
         kind: "DATA",
-        number: 3,
+        number: 1,
         fixed: true,
         records: &["ONE    ", "TWO    ", "       "],
+    },
+];
+
+// Files of mode number 3, and one of number 4.
+const ONCE: &[SmallFile] = &[
+    SmallFile {
+        name: "P",
+        kind: "FILE",
+        number: 3,
+        fixed: false,
+        records: &["X", "Y"],
+    },
+    SmallFile {
+        name: "W",
+        kind: "FILE",
+        number: 3,
+        fixed: true,
+        records: &["ONE  ", "TWO  ", "THREE"],
+    },
+    SmallFile {
+        name: "K",
+        kind: "FILE",
+        number: 4,
+        fixed: false,
+        records: &["X"],
     },
 ];
 
@@ -201,6 +226,9 @@ const STARS: &[Edit] = &[(7, 2, &[0x5C; 508])];
 // Of its bytes the five behind the 250th are blanks.
 const STARS_AND_BLANKS: &[Edit] = &[(7, 2, &[0x5C; 508]), (7, 252, &[0x40; 5])];
 
+// No block of a small volume is free.
+const NONE_FREE: &[Edit] = &[(6, 0, &[0xFF; 3])];
+
 // All blocks but the last five, or the last six, are marked.
 const FIVE_FREE: &[Edit] = &[(6, 0, &[0xFF; 512]), (7, 0, &[0xE0])];
 
@@ -221,6 +249,7 @@ fn changes(name: &str) -> &'static [Edit] {
         "one root" => ONE_ROOT,
         "stars" => STARS,
         "stars and blanks" => STARS_AND_BLANKS,
+        "none free" => NONE_FREE,
         "five free" => FIVE_FREE,
         "six free" => SIX_FREE,
         _ => &[],
@@ -234,6 +263,7 @@ fn files(name: &str) -> &'static [SmallFile] {
         "second" => SECOND,
         "hidden" => HIDDEN,
         "cards" => CARDS,
+        "once" => ONCE,
         "letters" => LETTERS,
         "four files" => FOUR,
         "texts" => TEXTS,
