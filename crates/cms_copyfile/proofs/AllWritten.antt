@@ -151,7 +151,7 @@ same_machine st st' n s units IsSo at h same =
     ∙ (ap (λ (t : Accesses). machine_of (record st { table = t }) units) (sym table) ∙ ap (λ (z : State). machine_of z units) (sym same))
 
 module _ (before : Seen) (mid now : Spot) (words : List Token) (line : CopyLine) (c : FileCopy) (file : OpenFile) (to : CopyTarget) (all : List Slot → List (List ℕ)) (change : List Slot → Change)
-    (s : Seated) (read : HasRead before mid.world) (is : IsFileCopy mid.state.table line c) (opened : IsOpened mid.state.table c.found.letter c.input.name file)
+    (s : Seated) (read : HasRead before mid.world) (is : IsFileCopy mid.state.table line c) (opened : IsOpened mid.state.table c.found.letter c.found.name file)
     (changes : ChangesAs mid line c change) (w : WroteAll mid now to all s Unread) where
   abbrev e : Accessed
   e = w.seat.disk

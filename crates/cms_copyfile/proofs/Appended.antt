@@ -103,7 +103,7 @@ adds_in spot line c own ext units h x =
 
 module _ (mid now : Spot) (line : CopyLine) (c : FileCopy) (own input : OpenFile) (to : CopyTarget) (plan : CopyPlan) (is : IsFileCopy mid.state.table line c)
     (mine : IsOpened mid.state.table c.letter c.name own) (counts : (s : Machine) → Shows mid.state.table s → HasRecords own.count (file_on s c.name (letter_at s c.letter)))
-    (opened : IsOpened mid.state.table c.found.letter c.input.name input) (joined : AreJoined mid line c plan to.shape) (name : to.name ≡ c.name) (letter : to.letter ≡ c.letter) where
+    (opened : IsOpened mid.state.table c.found.letter c.found.name input) (joined : AreJoined mid line c plan to.shape) (name : to.name ≡ c.name) (letter : to.letter ≡ c.letter) where
   adding : ChangesAs mid line c (add_on mid.state c to plan)
   adding units h x =
       let s = machine_of mid.state units in
@@ -162,7 +162,7 @@ module _ (mid now : Spot) (line : CopyLine) (c : FileCopy) (own input : OpenFile
           own_stay = input_stays mid units to.letter s c.letter c.name own m h there mine;
           own_left = mine'.left;
           count = (let count = mine'.count in omega (arith, count));
-          stay = input_stays mid units to.letter s c.found.letter c.input.name input m h there opened;
+          stay = input_stays mid units to.letter s c.found.letter c.found.name input m h there opened;
           left = (input_at mid units line c input opened h x).left;
         };
       }

@@ -32,7 +32,7 @@ wanted_again plan records =
     let size = length-take plan.wanted records in
     ap (λ (l : List (List ℕ)). map (copied plan.style) (drop plan.skipped l)) (take_all plan.wanted (take plan.wanted records) (omega (arith, size)))
 
-measured_so : (spot : Spot) (line : CopyLine) (c : FileCopy) (form : FileForm) (file : OpenFile) (m : Measure) → IsOpened spot.state.table c.found.letter c.input.name file → IsCopyStyle line.style
+measured_so : (spot : Spot) (line : CopyLine) (c : FileCopy) (form : FileForm) (file : OpenFile) (m : Measure) → IsOpened spot.state.table c.found.letter c.found.name file → IsCopyStyle line.style
     → OfImage spot.world.told file.cursor.unit (λ image. (records : List (List ℕ)) → HasLeft image file.cursor records → m ≡ measured form.format (copies_in (plan_for line form c) records))
     → OfImage spot.world.told file.cursor.unit (λ image. (records : List (List ℕ)) → HasLeft image file.cursor records → All (Fits V longest_record) (take (plan_for line form c).wanted records))
     → AreMeasured spot line c form m
@@ -49,7 +49,7 @@ measured_so spot line c form file m opened can measures each units h x =
 
 -- by the plan that was made
 pub measured_as : (spot : Spot) (line : CopyLine) (c : FileCopy) (form : FileForm) (file : OpenFile) (m : Measure) (plan : CopyPlan) → plan ≡ plan_for line form c
-    → IsOpened spot.state.table c.found.letter c.input.name file → IsCopyStyle line.style
+    → IsOpened spot.state.table c.found.letter c.found.name file → IsCopyStyle line.style
     → OfImage spot.world.told file.cursor.unit (λ image. (records : List (List ℕ)) → HasLeft image file.cursor records → m ≡ measured plan.format (copies_in plan records))
     → OfImage spot.world.told file.cursor.unit (λ image. (records : List (List ℕ)) → HasLeft image file.cursor records → All (Fits V longest_record) (take plan.wanted records))
     → AreMeasured spot line c form m

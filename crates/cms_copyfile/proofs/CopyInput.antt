@@ -11,19 +11,17 @@ use Rattle.cms_edf.specs.OpeningSteps.{OfImage}
 use Rattle.cms_machine.specs.Slots.{Settled, Slot}
 use Rattle.cms_machine.specs.Steps.{Offers}
 use Rattle.cms_model.specs.Changes.{file_named}
-use Rattle.cms_model.specs.LawsChanges.{AreDistinct}
 use Rattle.cms_model.specs.LawsUpdates.{now}
 use Rattle.cms_model.specs.Minidisks.{File, Minidisk, Volume}
 use Rattle.cms_model.specs.Settled.{Agree}
 use Rattle.cms_model.specs.Trees.{Image}
-use Rattle.cms_model.proofs.OpenedNames.{opened_distinct}
 use Rattle.cms_model.proofs.Results.{ok_same}
 use Rattle.cms_disk.specs.Cursors.{HasLeft}
 use Rattle.cms_disk.specs.Drafts.{WritesAside}
 use Rattle.cms_search.specs.Calls.{Spot, Usable, holds, machine_of}
 use Rattle.cms_search.specs.Searches.{item_at}
 use Rattle.cms_search.specs.Tables.{Accesses, Seated}
-use Rattle.cms_search.proofs.Handing.{open_seat}
+use Rattle.cms_search.proofs.Handing.{named_so, open_seat}
 use Rattle.cms_search.proofs.Meeting.{letter_is, meets_at}
 use Rattle.cms_search.proofs.Stepped.{has_device}
 use Rattle.cms_files.specs.Files.{UnitFile, unit_file}
@@ -34,7 +32,6 @@ use Rattle.cms_copyfile.specs.FileCopies.{IsCopying}
 use Rattle.cms_copyfile.specs.declared.copy.FileCopy.{FileCopy}
 use Rattle.cms_copyfile.specs.declared.line.CopyLine.{CopyLine}
 use Rattle.cms_copyfile.proofs.Beside.{else_same, leaves_agree}
-use Rattle.cms_copyfile.proofs.FilesAt.{named_here}
 
 -- the file of a unit
 unit_file_is : (u : ℕ) (y : Option File) (z : UnitFile) → unit_file u y ≡ Ok z → (y ≡ Some z.file) × (u ≡ z.unit)
@@ -50,7 +47,7 @@ pub record InputAt (old : Spot) (units : List Slot) (file : OpenFile) (u : ℕ) 
   pub left : OfImage old.world.told file.cursor.unit (λ image. HasLeft image file.cursor x.file.records)
   pub offers : (wanted : ℕ) → wanted ≤ length x.file.records → Offers (slice_get units x.unit) x.file wanted
 
-pub input_at : (old : Spot) (units : List Slot) (line : CopyLine) (c : FileCopy) (file : OpenFile) → (opened : IsOpened old.state.table c.found.letter c.input.name file) → holds old units
+pub input_at : (old : Spot) (units : List Slot) (line : CopyLine) (c : FileCopy) (file : OpenFile) → (opened : IsOpened old.state.table c.found.letter c.found.name file) → holds old units
     → (x : IsCopying (machine_of old.state units) line c) → InputAt old units file opened.seat.letter.unit x.file
 input_at old units line c file opened h x =
     let t = old.state.table in
@@ -62,12 +59,10 @@ input_at old units line c file opened h x =
     let o = opened.opens image m stands in
     let letter = letter_is t c.found.letter seat opened.there in
     let slot = k.met.slot in
-    let at : unit_file seat.letter.unit (slice_get m.files c.found.place) ≡ Ok x.file = rw (letter, slot) at x.found in
-    let f = unit_file_is seat.letter.unit (slice_get m.files c.found.place) x.file at in
-    let distinct : AreDistinct m.files =
-    subst (λ (y : Minidisk). AreDistinct y.files) (sym stands.minidisk_is) (opened_distinct seat.disk.volume.disk image stands.opened stands.opens) in
-    let named : file_named x.file.file.name m.files ≡ Some x.file.file = named_here m.files c.found.place x.file.file distinct f.0 in
-    let same : o.0 ≡ x.file.file = same_Some o.0 x.file.file (sym o.1 ∙ (ap (λ (n : Name). file_named n m.files) x.input.name ∙ named)) in
+    let at : unit_file seat.letter.unit (file_named c.found.name m.files) ≡ Ok x.file = rw (letter, slot) at x.found in
+    let f = unit_file_is seat.letter.unit (file_named c.found.name m.files) x.file at in
+    let name : x.file.file.name ≡ c.found.name = named_so c.found.name m.files x.file.file f.0 in
+    let same : o.0 ≡ x.file.file = same_Some o.0 x.file.file (sym o.1 ∙ f.0) in
     let left : HasLeft image file.cursor x.file.file.records = subst (λ (y : File). HasLeft image file.cursor y.records) same o.2 in
     record {
       unit = f.1;
@@ -78,7 +73,7 @@ input_at old units line c file opened h x =
       offers = λ wanted enough. record {
         minidisk = m;
         settled = subst (λ (u : ℕ). slice_get units u ≡ Some (Settled (Volume m))) f.1 slot;
-        file = named;
+        file = ap (λ (n : Name). file_named n m.files) name ∙ f.0;
         enough = enough;
       };
     }

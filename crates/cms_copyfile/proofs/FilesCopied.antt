@@ -1,50 +1,42 @@
 -- The file that is copied and its output, as the table tells them and as the machine has them.
-use Rattle.std.proofs.Common.{◌≡◌, ◌∙◌, inl, inr, ◌≤◌, ℕ, zero, suc, List, [], ◌∷◌, Option, Some, None, Result, Ok, Err, length, map, slice_get, refl, sym, ap, subst, arith}
+use Rattle.std.proofs.Common.{◌≡◌, ◌∙◌, ℕ, List, Option, Some, None, Result, Ok, Err, length, slice_get, refl, sym, ap, subst}
 use Rattle.std.specs.Prelude.{Bool, true, false, if◌then◌else◌, nat_lt}
-use Rattle.std.specs.Option.{option_and_then, option_map}
-use Rattle.std.proofs.lemmas.List.{length-map}
-use Rattle.std.proofs.lemmas.Option.{slice_get_cases, slice_get_past}
-use Rattle.cms_names.specs.Modes.{equal_signs}
+use Rattle.std.specs.Option.{option_map}
 use Rattle.cms_names.specs.declared.name.Name.{Name}
-use Rattle.cms_held.specs.Opening.{HeldFile}
-use Rattle.cms_model.specs.Minidisks.{File}
+use Rattle.cms_model.specs.Changes.{file_named}
+use Rattle.cms_model.specs.Minidisks.{File, Minidisk}
 use Rattle.cms_machine.specs.Acts.{Act, bind}
 use Rattle.cms_machine.specs.Slots.{Slot}
 use Rattle.cms_line.specs.declared.token.Token.{Token}
-use Rattle.cms_edf.specs.Asking.{info_of, infos_in}
 use Rattle.cms_edf.specs.declared.held.FileInfo.{FileInfo}
-use Rattle.cms_disk.proofs.Finding.{stands_tells}
 use Rattle.cms_search.specs.Calls.{Acts, Meaning, Spot, holds, machine_of}
-use Rattle.cms_search.specs.Machine.{Letter, Machine, letter_at}
+use Rattle.cms_search.specs.Machine.{Letter, Machine, letter_at, minidisk_in}
 use Rattle.cms_search.specs.Searches.{Shelf, Shelves, item_at, shelves_in}
 use Rattle.cms_search.specs.Shows.{Shows}
 use Rattle.cms_search.specs.Stepping.{Stepped}
-use Rattle.cms_search.specs.Tables.{Accesses, Seated, letters_of, shelf_of, writing}
+use Rattle.cms_search.specs.Tables.{Accesses, letters_of, shelf_of, writing}
 use Rattle.cms_search.specs.declared.fault.SearchFault.{SearchFault}
 use Rattle.cms_search.specs.declared.fault.SearchFault.TheVariants.{NotFound}
-use Rattle.cms_search.specs.declared.search.Found.{Found}
 use Rattle.cms_search.specs.declared.state.End.{End}
 use Rattle.cms_search.proofs.Acts.{acts_same}
 use Rattle.cms_search.proofs.Meeting.{holds_shows}
-use Rattle.cms_search.proofs.Released.{letter_told}
 use Rattle.cms_search.proofs.Shown.{shelves_shown}
 use Rattle.cms_search.proofs.Stepped.{written_at}
-use Rattle.cms_files.specs.Files.{UnitFile, file_on, search_refused, writable}
-use Rattle.cms_files.specs.Told.{IsInfo, info_found, info_named}
+use Rattle.cms_files.specs.Files.{UnitFile, file_in, file_on, search_refused, unit_file, writable}
+use Rattle.cms_files.specs.Told.{IsInfo, info_named}
 use Rattle.cms_files.specs.Updating.{on_step, stopping, telling}
 use Rattle.cms_files.specs.declared.updating.Updated.{Updated}
-use Rattle.cms_files.proofs.FileTold.{IsTold, file_told, info_is}
-use Rattle.cms_files.proofs.OpenedFiles.{letter_shown}
+use Rattle.cms_files.proofs.FileTold.{IsTold, file_told}
 use Rattle.cms_files.proofs.TakenFiles.{no_shelf, open_shelf}
 use Rattle.cms_copyfile.specs.Copyfile.{Copying, copy_found, copy_into, copy_of, copy_records, copy_told, copying_of, file_at, input_shown, is_refused, letter_for, output_shown, there_already, there_is, too_few, with_copying}
 use Rattle.cms_copyfile.specs.FileCopies.{IsCopying, IsFileCopy, IsInfoOf, copied_to, copy_number}
 use Rattle.cms_copyfile.specs.Telling.{copy_text}
 use Rattle.cms_copyfile.specs.declared.copy.FileCopy.{FileCopy}
+use Rattle.cms_copyfile.specs.declared.finding.NamedFile.{NamedFile}
 use Rattle.cms_copyfile.specs.declared.line.CopyLine.{CopyLine}
 use Rattle.cms_copyfile.specs.declared.line.Existing.{Existing}
 use Rattle.cms_copyfile.specs.declared.line.Existing.TheVariants.{Extended, Refused, Replaced}
 use Rattle.cms_copyfile.specs.declared.telling.FileShown.{FileShown}
-use Rattle.cms_copyfile.proofs.FilesAt.{stands_at}
 
 -- ---- the machine has the files
 
@@ -58,18 +50,22 @@ told_there (Err why) None is = tt
 there_told : (t : Accesses) (s : Machine) (n : ℕ) (name : Name) → Shows t s → IsInfoOf (info_named t n name) (there_is (file_on s name (letter_at s n)))
 there_told t s n name shows = told_there (file_on s name (letter_at s n)) (info_named t n name) (file_told t s n name shows)
 
+-- a file of which this is told is there
+told_found : (x : Result UnitFile SearchFault) (info : FileInfo) → IsTold x (Some info) → (y : UnitFile) × (x ≡ Ok y) × IsInfo info y.file
+told_found (Ok y) info is = (y, refl, is)
+told_found (Err why) info is = absurd is
+
 pub copying_shown : (t : Accesses) (s : Machine) (line : CopyLine) (c : FileCopy) → IsFileCopy t line c → Shows t s → IsCopying s line c
 copying_shown t s line c is shows =
-    let at = stands_at t s c.found.letter c.found.place is.seat is.held shows is.seated is.at in
-    let info : IsInfo c.input at.file = subst (λ (i : FileInfo). IsInfo i at.file) (sym is.input) (info_is at.bsize at.image is.held at.file at.is) in
-    let name : c.name ≡ equal_signs at.file.name line.files.output.name = is.name ∙ ap (λ (n : Name). equal_signs n line.files.output.name) at.is.name_is in
+    let told : IsTold (file_at s c.found) (Some c.input) = subst (IsTold (file_at s c.found)) (sym is.input) (file_told t s c.found.letter c.found.name shows) in
+    let x = told_found (file_at s c.found) c.input told in
     record {
-      file = record { unit = is.seat.letter.unit; file = at.file };
-      found = at.found;
-      input = info;
+      file = x.0;
+      found = x.1;
+      input = x.2;
       to = is.letter;
-      name = name;
-      there = subst (λ (n : Name). IsInfoOf c.there (there_is (file_on s n (letter_at s (copying_of s line c.found (record { unit = is.seat.letter.unit; file = at.file })).to)))) name
+      name = is.name;
+      there = subst (λ (n : Name). IsInfoOf c.there (there_is (file_on s n (letter_at s (letter_for line.files.output.mode c.found.letter))))) is.name
           (subst (λ (n : ℕ). IsInfoOf c.there (there_is (file_on s c.name (letter_at s n)))) is.letter
           (subst (λ (o : Option FileInfo). IsInfoOf o (there_is (file_on s c.name (letter_at s c.letter)))) (sym is.there) (there_told t s c.letter c.name shows)));
     }
@@ -78,61 +74,23 @@ copying_shown t s line c is shows =
 pub copying_at : (spot : Spot) (line : CopyLine) (c : FileCopy) → IsFileCopy spot.state.table line c → (units : List Slot) → holds spot units → IsCopying (machine_of spot.state units) line c
 copying_at spot line c is units h = copying_shown spot.state.table (machine_of spot.state units) line c is (holds_shows spot units h)
 
--- ---- the file that was found
+-- ---- no file
 
-info_at : (x : Option Seated) (place : ℕ) (info : FileInfo) → Some info ≡ option_and_then (λ (s : Seated). slice_get (infos_in s.disk.volume) place) x
-    → (s : Seated) × (x ≡ Some s) × (slice_get (map info_of s.disk.volume.files) place ≡ Some info)
-info_at None place info is = absurd (cc is)
-info_at (Some s) place info is = (s, refl, sym is)
+none_in : (u : ℕ) (x : Option File) → IsTold (unit_file u x) None → unit_file u x ≡ Err NotFound
+none_in u None told = refl
+none_in u (Some f) told = absurd told
 
-held_at : (hs : List HeldFile) (k : ℕ) (info : FileInfo) → slice_get (map info_of hs) k ≡ Some info → (h : HeldFile) × (slice_get hs k ≡ Some h) × (info ≡ info_of h)
-held_at [] k info is = absurd (cc is)
-held_at (h ∷ hs) zero info is = let same : info_of h ≡ info = cc is in (h, refl, sym same)
-held_at (h ∷ hs) (suc k) info is = held_at hs k info is
+none_of : (u : ℕ) (name : Name) (x : Option Minidisk) → IsTold (file_in u name x) None → file_in u name x ≡ Err NotFound
+none_of u name None told = refl
+none_of u name (Some m) told = none_in u (file_named name m.files) told
 
--- it is there
-pub copy_there : (t : Accesses) (line : CopyLine) (c : FileCopy) → Some c.input ≡ info_found t c.found → c.letter ≡ letter_for line.files.output.mode c.found.letter
-    → c.name ≡ equal_signs c.input.name line.files.output.name → c.there ≡ info_named t c.letter c.name → IsFileCopy t line c
-copy_there t line c is letter name there =
-    let seat = info_at (item_at t.seats c.found.letter) c.found.place c.input is in
-    let held = held_at seat.0.disk.volume.files c.found.place c.input seat.2 in
-    record {
-      seat = seat.0;
-      held = held.0;
-      seated = seat.1;
-      at = held.1;
-      input = held.2;
-      letter = letter;
-      name = name ∙ ap (λ (i : FileInfo). equal_signs i.name line.files.output.name) held.2;
-      there = there;
-    }
+none_on : (s : Machine) (name : Name) (x : Option Letter) → IsTold (file_on s name x) None → file_on s name x ≡ Err NotFound
+none_on s name None told = refl
+none_on s name (Some disk) told = none_of disk.unit name (minidisk_in (slice_get s.units disk.unit)) told
 
--- or it isn't
-pub copy_missing : (t : Accesses) (s : Machine) (found : Found) → None ≡ info_found t found → Shows t s → file_at s found ≡ Err NotFound
-copy_missing t s found none shows = cases (item_at t.seats found.letter) refl
-  where
-    cases : (x : Option Seated) → item_at t.seats found.letter ≡ x → file_at s found ≡ Err NotFound
-    cases None at =
-        let letter : letter_at s found.letter ≡ None =
-        ap (λ (ls : List (Option Letter)). item_at ls found.letter) (sym shows.letters)
-        ∙ (letter_told t.seats found.letter ∙ ap (λ (x : Option Seated). option_map (λ (y : Seated). y.letter) x) at) in
-        rw letter refl
-    cases (Some seat) at =
-        let x = shows.each found.letter seat at in
-        let files = seat.disk.volume.files in
-        let missing : None ≡ slice_get (map info_of files) found.place =
-        none ∙ ap (λ (y : Option Seated). option_and_then (λ (z : Seated). slice_get (infos_in z.disk.volume) found.place) y) at in
-        let past : length (map info_of files) ≤ found.place =
-        elim (slice_get_cases (map info_of files) found.place).1 [
-          | inl there ↦ absurd (cc (missing ∙ there.2))
-          | inr behind ↦ behind.0
-        ] in
-        let long = length-map files info_of in
-        let count = (stands_tells x.0 seat.disk x.1 x.3).held.count_is in
-        let gone = slice_get_past x.1.files found.place (omega (arith, past, long, count)) in
-        let letter = letter_shown t s found.letter seat shows at in
-        let slot = x.2 in
-        rw (letter, slot, gone) refl
+pub copy_missing : (t : Accesses) (s : Machine) (file : NamedFile) → None ≡ info_named t file.letter file.name → Shows t s → file_at s file ≡ Err NotFound
+copy_missing t s file none shows =
+    none_on s file.name (letter_at s file.letter) (subst (IsTold (file_at s file)) (sym none) (file_told t s file.letter file.name shows))
 
 -- ---- what is done with it
 
@@ -261,7 +219,7 @@ of_unwritten t s words line c x e shows is =
 
 -- ---- no file
 
-pub acts_missing : (old new : Spot) (words : List Token) (line : CopyLine) (found : Found) (r : Result Updated End) (d : Meaning Updated Stepped)
+pub acts_missing : (old new : Spot) (words : List Token) (line : CopyLine) (found : NamedFile) (r : Result Updated End) (d : Meaning Updated Stepped)
     → ((s : Machine) → Shows old.state.table s → file_at s found ≡ Err NotFound)
     → Acts old new (λ units. stopping (search_refused (machine_of old.state units) words 1 NotFound)) r d
     → Acts old new (λ units. copy_found words line (machine_of old.state units) found) r d

@@ -1,8 +1,8 @@
 -- The files that a line copies, as the table finds them.
-use Rattle.std.proofs.Common.{◌≡◌, ◌∙◌, ◌≤◌, ◌∷◌, ◌++◌, ℕ, suc, List, [], Option, Some, None, Result, Ok, Err, length, refl, sym, ap, map, arith}
+use Rattle.std.proofs.Common.{◌≡◌, ◌∙◌, ◌≤◌, ◌∷◌, ◌++◌, ℕ, suc, List, [], Option, Some, None, Result, Ok, Err, length, refl, sym, ap, map, slice_get, arith}
 use Rattle.std.specs.Prelude.{⊤, Bool, true, false, cond, not, if◌then◌else◌, ◌==◌, ◌&&◌, nat_le, nat_lt, IfSome}
 use Rattle.std.specs.List.{flat_map, list_all, prefix_len}
-use Rattle.std.specs.Option.{option_map_or}
+use Rattle.std.specs.Option.{option_and_then, option_map, option_map_or}
 use Rattle.std.specs.Str.{bytes_eq}
 use Rattle.std.proofs.lemmas.Bool.{and_from, and_parts, eqb-true, leb-true}
 use Rattle.std.proofs.lemmas.Bool.Decides.{nat_tests}
@@ -11,23 +11,28 @@ use Rattle.cms_names.specs.Names.{is_between, is_name_character, is_part, is_pat
 use Rattle.cms_names.specs.Patterns.{fits, one_and_then, some_suffix}
 use Rattle.cms_names.specs.declared.fault.NameFault.TheVariants.{BadChar, Empty, TooLong}
 use Rattle.cms_names.specs.declared.name.Name.{Name}
+use Rattle.cms_edf.specs.Asking.{infos_in}
+use Rattle.cms_edf.specs.declared.held.FileInfo.{FileInfo}
 use Rattle.cms_operands.specs.declared.mode.ReadMode.{ReadMode}
 use Rattle.cms_operands.specs.declared.operand.WriteMode.{WriteMode}
 use Rattle.cms_search.specs.Machine.{Letter, Machine}
 use Rattle.cms_search.specs.Searches.{Listed, Shelf, Shelves, fitting, found_among, found_at, found_in, found_on, is_found, item_at, letters_of_mode, may_find, places_from, search, shelves_in}
 use Rattle.cms_search.specs.Shows.{Shows}
-use Rattle.cms_search.specs.Tables.{Accesses, letters_of, shelves_of, writing}
+use Rattle.cms_search.specs.Tables.{Accesses, Seated, letters_of, shelf_of, shelves_of, told_of, writing}
 use Rattle.cms_search.specs.declared.fault.SearchFault.{SearchFault}
 use Rattle.cms_search.specs.declared.fault.SearchFault.TheVariants as why
 use Rattle.cms_search.specs.declared.search.Found.{Found}
-use Rattle.cms_search.proofs.Shown.{shelves_shown}
+use Rattle.cms_search.proofs.Searching.{item_at_map}
+use Rattle.cms_search.proofs.Shown.{shelves_shown, told_listed}
 use Rattle.cms_search.proofs.Stepped.{written_at}
-use Rattle.cms_files.specs.Files.{writable}
+use Rattle.cms_files.specs.Files.{some_found, writable}
 use Rattle.cms_files.specs.Identifiers.{takes_name, takes_part}
+use Rattle.cms_files.specs.Told.{info_found}
 use Rattle.cms_files.specs.declared.identifier.NameChoice.{NameChoice}
 use Rattle.cms_files.proofs.TakenFiles.{no_shelf, open_shelf}
-use Rattle.cms_copyfile.specs.Copyfile.{files_copied, output_is_written}
+use Rattle.cms_copyfile.specs.Copyfile.{files_copied, files_named, listed_at, named_at, output_is_written}
 use Rattle.cms_copyfile.specs.Finding.{pattern_for}
+use Rattle.cms_copyfile.specs.declared.finding.NamedFile.{NamedFile}
 use Rattle.cms_copyfile.specs.declared.line.CopyLine.{CopyLine}
 
 -- ---- patterns
@@ -179,6 +184,28 @@ output_checked t s mode (Ok tt) shows is =
 output_checked t s mode (Err e) shows is =
     ap (λ (x : Shelves). checked (writable x mode.letter)) (sym (shelves_shown t s shows)) ∙ ap checked (no_shelf t mode.letter e (sym is))
 
+-- ---- a file that was found
+
+-- what the table tells of it
+listed_shown : (t : Accesses) (found : Found) → listed_at (shelves_of t) found ≡ option_map told_of (info_found t found)
+listed_shown t found =
+    ap (λ (x : Option Shelf). option_and_then (λ (shelf : Shelf). slice_get shelf.files found.place) x) (item_at_map shelf_of t.seats found.letter) ∙ cases (item_at t.seats found.letter)
+  where
+    cases : (x : Option Seated) → option_and_then (λ (shelf : Shelf). slice_get shelf.files found.place) (option_map shelf_of x)
+        ≡ option_map told_of (option_and_then (λ (s : Seated). slice_get (infos_in s.disk.volume) found.place) x)
+    cases None = refl
+    cases (Some s) = told_listed s.disk.volume.files found.place
+
+abbrev by_name : Found → Listed → NamedFile
+by_name found f = record { letter = found.letter; name = f.name }
+
+-- its name
+pub found_none : (t : Accesses) (found : Found) → None ≡ info_found t found → None ≡ named_at (shelves_of t) found
+found_none t found none = ap (λ (x : Option FileInfo). option_map (by_name found) (option_map told_of x)) none ∙ sym (ap (option_map (by_name found)) (listed_shown t found))
+
+pub found_named : (t : Accesses) (found : Found) (info : FileInfo) → Some info ≡ info_found t found → Some (record { letter = found.letter; name = info.name }) ≡ named_at (shelves_of t) found
+found_named t found info is = ap (λ (x : Option FileInfo). option_map (by_name found) (option_map told_of x)) is ∙ sym (ap (option_map (by_name found)) (listed_shown t found))
+
 -- ---- the files
 
 abbrev searched : Shelves → CopyLine → Result (List Found) SearchFault
@@ -209,11 +236,30 @@ pub not_written : (s : Machine) (line : CopyLine) (found : List Found) (e : Sear
     → output_is_written (shelves_in s) line.files.output.mode ≡ Err e → files_copied s line ≡ Err e
 not_written s line found e is output = rw (is, output) refl
 
-pub none_copied : (s : Machine) (line : CopyLine) (found : List Found) (x : ⊤) → searched (shelves_in s) line ≡ Ok found
-    → output_is_written (shelves_in s) line.files.output.mode ≡ Ok x → found ≡ [] → files_copied s line ≡ Err why.NotFound
-none_copied s line found x is output none = rw (is, output, none) refl
+-- by the names of those that were found
+named_shown : (t : Accesses) (s : Machine) (line : CopyLine) (found : List Found) (files : List NamedFile) (x : ⊤) → Shows t s → searched (shelves_in s) line ≡ Ok found
+    → output_is_written (shelves_in s) line.files.output.mode ≡ Ok x → files ≡ files_named (shelves_of t) found → files_copied s line ≡ some_found files
+named_shown t s line found files x shows is output named =
+    let same : files_named (shelves_in s) found ≡ files = ap (λ (y : Shelves). files_named y found) (sym (shelves_shown t s shows)) ∙ sym named in
+    rw (is, output, same) refl
 
-pub some_copied : (s : Machine) (line : CopyLine) (found : List Found) (x : ⊤) → searched (shelves_in s) line ≡ Ok found
-    → output_is_written (shelves_in s) line.files.output.mode ≡ Ok x → (found ≡ [] → ⊥) → files_copied s line ≡ Ok found
-some_copied s line [] x is output some = absurd (some refl)
-some_copied s line (f ∷ found) x is output some = rw (is, output) refl
+-- a vector without items, and one with some
+pub no_items : (files : List NamedFile) (n : ℕ) → n ≡ length files → (n == 0) ≡ true → files ≡ []
+no_items [] n long none = refl
+no_items (f ∷ files) n long none = let is = eqb-true n 0 none in absurd (omega (arith, is, long))
+
+pub some_items : (files : List NamedFile) (n : ℕ) → n ≡ length files → (n == 0) ≡ false → files ≡ [] → ⊥
+some_items [] n long some none = absurd (cc (sym (ap (λ (k : ℕ). k == 0) long) ∙ some))
+some_items (f ∷ files) n long some none = absurd (cc none)
+
+pub none_copied : (t : Accesses) (s : Machine) (line : CopyLine) (found : List Found) (files : List NamedFile) (x : ⊤) → Shows t s → searched (shelves_in s) line ≡ Ok found
+    → output_is_written (shelves_in s) line.files.output.mode ≡ Ok x → files ≡ files_named (shelves_of t) found → files ≡ [] → files_copied s line ≡ Err why.NotFound
+none_copied t s line found files x shows is output named none = named_shown t s line found files x shows is output named ∙ ap (λ (l : List NamedFile). some_found l) none
+
+some_of : (files : List NamedFile) → (files ≡ [] → ⊥) → some_found files ≡ Ok files
+some_of [] some = absurd (some refl)
+some_of (f ∷ files) some = refl
+
+pub some_copied : (t : Accesses) (s : Machine) (line : CopyLine) (found : List Found) (files : List NamedFile) (x : ⊤) → Shows t s → searched (shelves_in s) line ≡ Ok found
+    → output_is_written (shelves_in s) line.files.output.mode ≡ Ok x → files ≡ files_named (shelves_of t) found → (files ≡ [] → ⊥) → files_copied s line ≡ Ok files
+some_copied t s line found files x shows is output named some = named_shown t s line found files x shows is output named ∙ some_of files some

@@ -43,7 +43,7 @@ read_never before mid new words line c u r read never a =
     (later_read before mid.world read) (λ usable. (let told = read.told in rw told usable)) a
 
 module _ (before : Seen) (mid : Spot) (words : List Token) (line : CopyLine) (c : FileCopy) (file : OpenFile) (read : HasRead before mid.world)
-    (is : IsFileCopy mid.state.table line c) (opened : IsOpened mid.state.table c.found.letter c.input.name file) where
+    (is : IsFileCopy mid.state.table line c) (opened : IsOpened mid.state.table c.found.letter c.found.name file) where
   -- its device failed
   read_lost : Rose before.faults mid.world.faults → Comes (first before mid) mid (whole mid words line c) (λ units. failing (machine_of mid.state units) file.vdev)
   read_lost rose = record {

@@ -3,7 +3,6 @@ pub mod Measured
 pub mod Passes
 pub mod CopyPasses
 pub mod ReadAside
-pub mod FilesAt
 pub mod FilesCopied
 pub mod FilesFound
 pub mod Joined

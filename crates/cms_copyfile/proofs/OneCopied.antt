@@ -82,7 +82,7 @@ puts_as spot line c to plan none name shaped units h x =
 -- ---- the file is written
 
 module _ (mid now : Spot) (line : CopyLine) (c : FileCopy) (file : OpenFile) (to : CopyTarget) (plan : CopyPlan) (is : IsFileCopy mid.state.table line c)
-    (opened : IsOpened mid.state.table c.found.letter c.input.name file) (shaped : AreShaped mid line c plan to.shape) where
+    (opened : IsOpened mid.state.table c.found.letter c.found.name file) (shaped : AreShaped mid line c plan to.shape) where
   -- the copies go into the disk
   into : (s : Seated) (units : List Slot) (h : holds mid units) → item_at mid.state.table.seats to.letter ≡ Some s → (j : Journal) (m : Minidisk) → mid.world.told ≡ Some j
       → IsMinidisk j s.disk m → IsLookedAt j s.disk → CopiesInto mid.world.told s.disk m to plan file.cursor (copying_at mid line c is units h).file.file.records
@@ -96,7 +96,7 @@ module _ (mid now : Spot) (line : CopyLine) (c : FileCopy) (file : OpenFile) (to
         looked = looked;
         shape = so.have;
         long = so.long;
-        stay = input_stays mid units to.letter s c.found.letter c.input.name file m h there opened;
+        stay = input_stays mid units to.letter s c.found.letter c.found.name file m h there opened;
         left = (input_at mid units line c file opened h x).left;
       }
 

@@ -119,7 +119,7 @@ pub cut_read : (before : Seen) (mid : Spot) (t : List Slot → Act Stepped) (d :
 cut_read before mid t d read = let edges = read.edges in cut_off (first before mid) mid t d read.told read.faults (omega (arith, edges))
 
 module _ (before : Seen) (mid : Spot) (words : List Token) (line : CopyLine) (c : FileCopy) (file : OpenFile) (change : List Slot → Change) (read : HasRead before mid.world)
-    (is : IsFileCopy mid.state.table line c) (opened : IsOpened mid.state.table c.found.letter c.input.name file) (changes : ChangesAs mid line c change) where
+    (is : IsFileCopy mid.state.table line c) (opened : IsOpened mid.state.table c.found.letter c.found.name file) (changes : ChangesAs mid line c change) where
   pub holds_by : (units : List Slot) → holds (first before mid) units → holds mid units
   holds_by units h = let same = read.told in rw same h
 

@@ -1,49 +1,54 @@
 -- COPYFILE: files are copied, one after another.
-use Rattle.std.specs.Prelude.{ℕ, nat_lt, Bool, false, true, if◌then◌else◌, List, length, slice_get, Option, None, Some, Result, Ok, Err, ⊤}
-use Rattle.std.specs.Option.{option_map, option_map_or}
+use Rattle.std.specs.Prelude.{ℕ, nat_lt, Bool, false, true, if◌then◌else◌, List, filter_map, length, slice_get, Option, None, Some, Result, Ok, Err, ⊤}
+use Rattle.std.specs.Option.{option_and_then, option_map, option_map_or}
 use Rattle.cms_names.specs.Modes.{equal_signs}
 use Rattle.cms_names.specs.declared.name.Name.{Name}
 use Rattle.cms_fields.specs.Moments.{stamp_of}
 use Rattle.cms_fields.specs.Steps.{◌>>=◌, ◌>>◌}
 use Rattle.cms_text.specs.Numbers.{decimal_of}
 use Rattle.cms_model.specs.Changes.{Change, Add, Put}
-use Rattle.cms_model.specs.Minidisks.{File, Minidisk}
+use Rattle.cms_model.specs.Minidisks.{File}
 use Rattle.cms_machine.specs.Acts.{Act, bind}
 use Rattle.cms_line.specs.declared.message.Message.TheVariants.{M121}
 use Rattle.cms_line.specs.declared.token.Token.{Token}
 use Rattle.cms_operands.specs.declared.operand.WriteMode.{WriteMode}
-use Rattle.cms_search.specs.Machine.{Course, Letter, Machine, letter_at, minidisk_in, refusal}
+use Rattle.cms_search.specs.Machine.{Course, Machine, letter_at, refusal}
 use Rattle.cms_search.specs.Refusing.{on_line}
 use Rattle.cms_search.specs.Releasing.{vdev_of}
-use Rattle.cms_search.specs.Searches.{Shelves, search, shelves_in}
+use Rattle.cms_search.specs.Searches.{Listed, Shelves, item_at, search, shelves_in}
 use Rattle.cms_search.specs.Stepping.{Stepped, failing, reading, silently}
 use Rattle.cms_search.specs.declared.fault.SearchFault.{SearchFault}
-use Rattle.cms_search.specs.declared.fault.SearchFault.TheVariants.{NotFound}
 use Rattle.cms_search.specs.declared.search.Found.{Found}
-use Rattle.cms_files.specs.Files.{UnitFile, file_exists, file_on, on_found, some_found, unit_file, writable}
+use Rattle.cms_files.specs.Files.{UnitFile, file_exists, file_on, on_found, some_found, writable}
 use Rattle.cms_files.specs.Identifiers.{takes_name}
 use Rattle.cms_files.specs.Updating.{on_step, stopping, telling, updating, updating_each}
 use Rattle.cms_copyfile.specs.Lines.{copy_line}
 use Rattle.cms_copyfile.specs.Outputs.{copied_records, extended, file_with, form_for, form_of, number_for, stamp_for, wanted_of}
 use Rattle.cms_copyfile.specs.Telling.{copy_text, mode_shown}
+use Rattle.cms_copyfile.specs.declared.finding.NamedFile.{NamedFile}
 use Rattle.cms_copyfile.specs.declared.line.CopyLine.{CopyLine}
 use Rattle.cms_copyfile.specs.declared.line.Existing.{Existing}
 use Rattle.cms_copyfile.specs.declared.line.Existing.TheVariants.{Extended, Refused, Replaced}
 use Rattle.cms_copyfile.specs.declared.telling.FileShown.{FileShown}
 
+-- ---- the files that were found
+
+-- the file at the place where a search found it
+abbrev pub listed_at : Shelves → Found → Option Listed
+listed_at shelves found = option_and_then (λ shelf. slice_get shelf.files found.place) (item_at shelves found.letter)
+
+-- the same by its name, since a file may stand in another place by the time that it is copied
+abbrev pub named_at : Shelves → Found → Option NamedFile
+named_at shelves found = option_map (λ f. record { letter = found.letter; name = f.name }) (listed_at shelves found)
+
+abbrev pub files_named : Shelves → List Found → List NamedFile
+files_named shelves found = filter_map (named_at shelves) found
+
+-- the file of that name, as it is now
+abbrev pub file_at : Machine → NamedFile → Result UnitFile SearchFault
+file_at s file = file_on s file.name (letter_at s file.letter)
+
 -- ---- a file that is copied
-
--- the file that was found, as it is now
-abbrev pub file_in : ℕ → ℕ → Option Minidisk → Result UnitFile SearchFault
-file_in u place None = Err NotFound
-file_in u place (Some m) = unit_file u (slice_get m.files place)
-
-abbrev pub file_of : Machine → ℕ → Option Letter → Result UnitFile SearchFault
-file_of s place None = Err NotFound
-file_of s place (Some disk) = file_in disk.unit place (minidisk_in (slice_get s.units disk.unit))
-
-abbrev pub file_at : Machine → Found → Result UnitFile SearchFault
-file_at s found = file_of s found.place (letter_at s found.letter)
 
 -- a file of the disk of a letter, and where it is copied to: a letter, a name, and the file of that name, if it is there
 pub record Copying : Type 0 where
@@ -61,11 +66,11 @@ there_is (Err why) = None
 abbrev pub letter_for : Option WriteMode → ℕ → ℕ
 letter_for mode n = option_map_or (λ m. m.letter) mode n
 
-abbrev pub copying_of : Machine → CopyLine → Found → UnitFile → Copying
-copying_of s line found x =
-    let to = letter_for line.files.output.mode found.letter in
-    let name = equal_signs x.file.name line.files.output.name in
-    record { letter = found.letter; input = x; to = to; name = name; there = there_is (file_on s name (letter_at s to)) }
+abbrev pub copying_of : Machine → CopyLine → NamedFile → UnitFile → Copying
+copying_of s line file x =
+    let to = letter_for line.files.output.mode file.letter in
+    let name = equal_signs file.name line.files.output.name in
+    record { letter = file.letter; input = x; to = to; name = name; there = there_is (file_on s name (letter_at s to)) }
 
 -- ---- the update
 
@@ -128,11 +133,11 @@ abbrev pub copy_of : Machine → List Token → CopyLine → Copying → Act Ste
 copy_of s words line c = on_step s words 1 (λ shelf. copy_told s words line c) (writable (shelves_in s) c.to)
 
 -- what is done with the file that was found; where it is copied to is seen first
-abbrev pub with_copying : List Token → CopyLine → Machine → Found → (Copying → Act Stepped) → Act Stepped
-with_copying words line s found next = on_step s words 1 (λ x. next (copying_of s line found x)) (file_at s found)
+abbrev pub with_copying : List Token → CopyLine → Machine → NamedFile → (Copying → Act Stepped) → Act Stepped
+with_copying words line s file next = on_step s words 1 (λ x. next (copying_of s line file x)) (file_at s file)
 
-abbrev pub copy_found : List Token → CopyLine → Machine → Found → Act Stepped
-copy_found words line s found = with_copying words line s found (copy_of s words line)
+abbrev pub copy_found : List Token → CopyLine → Machine → NamedFile → Act Stepped
+copy_found words line s file = with_copying words line s file (copy_of s words line)
 
 -- ---- the command
 
@@ -144,14 +149,14 @@ output_is_written shelves (Some mode) = do
   Ok tt
 
 -- the files that are copied, letter by letter: 069, then that of the output and 037, 002
-abbrev pub files_copied : Machine → CopyLine → Result (List Found) SearchFault
+abbrev pub files_copied : Machine → CopyLine → Result (List NamedFile) SearchFault
 files_copied s line = do
   found ← search (shelves_in s) line.files.mode (takes_name line.files.names)
   output_is_written (shelves_in s) line.files.output.mode
-  some_found found
+  some_found (files_named (shelves_in s) found)
 
 abbrev pub copy_files : Machine → List Token → CopyLine → Act Course
-copy_files s words line = on_found s words 1 (λ found. updating_each (copy_found words line) found s) (files_copied s line)
+copy_files s words line = on_found s words 1 (λ files. updating_each (copy_found words line) files s) (files_copied s line)
 
 -- files are copied in the order in which they were found, by one update each; the first refusal stops
 abbrev pub copyfile : Machine → List Token → Act Course

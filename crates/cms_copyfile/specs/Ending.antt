@@ -60,7 +60,7 @@ pub record IsWritten (mid now : Spot) (line : CopyLine) (c : FileCopy) (vdev inp
   pub wrote : WroteAll mid now to all disk written
   pub file : OpenFile
   pub is : IsFileCopy mid.state.table line c
-  pub opened : IsOpened mid.state.table c.found.letter c.input.name file
+  pub opened : IsOpened mid.state.table c.found.letter c.found.name file
   pub read : file.vdev ≡ input
   pub device : HasDevice mid.state.table c.letter vdev
   pub change : List Slot → Change

@@ -1,14 +1,11 @@
 -- A file that is copied, as the disks of the table tell it, and as the machine has it.
-use Rattle.std.specs.Prelude.{◌≡◌, ℕ, slice_get, Option, None, Some, Ok, ⊤}
+use Rattle.std.specs.Prelude.{◌≡◌, ℕ, Option, None, Some, Ok, ⊤}
 use Rattle.std.specs.Option.{option_map}
 use Rattle.cms_names.specs.Modes.{equal_signs}
 use Rattle.cms_model.specs.Minidisks.{File}
-use Rattle.cms_held.specs.Opening.{HeldFile}
-use Rattle.cms_edf.specs.Asking.{info_of}
 use Rattle.cms_edf.specs.declared.held.FileInfo.{FileInfo}
 use Rattle.cms_search.specs.Machine.{Machine}
-use Rattle.cms_search.specs.Searches.{item_at}
-use Rattle.cms_search.specs.Tables.{Accesses, Seated}
+use Rattle.cms_search.specs.Tables.{Accesses}
 use Rattle.cms_files.specs.Files.{UnitFile}
 use Rattle.cms_files.specs.Told.{IsInfo, info_named}
 use Rattle.cms_copyfile.specs.Copyfile.{Copying, copying_of, file_at, letter_for}
@@ -22,13 +19,9 @@ use Rattle.cms_copyfile.specs.declared.output.FileForm.{FileForm}
 
 -- it is a file of the table's, with what is told of it and of the file that has the output's name
 pub record IsFileCopy (t : Accesses) (line : CopyLine) (c : FileCopy) : Type 0 where
-  pub seat : Seated
-  pub held : HeldFile
-  pub seated : item_at t.seats c.found.letter ≡ Some seat
-  pub at : slice_get seat.disk.volume.files c.found.place ≡ Some held
-  pub input : c.input ≡ info_of held
+  pub input : Some c.input ≡ info_named t c.found.letter c.found.name
   pub letter : c.letter ≡ letter_for line.files.output.mode c.found.letter
-  pub name : c.name ≡ equal_signs held.entry.name line.files.output.name
+  pub name : c.name ≡ equal_signs c.found.name line.files.output.name
   pub there : c.there ≡ info_named t c.letter c.name
 
 -- the number that the copy gets

@@ -7,20 +7,21 @@ ghost use Rattle.cms_copyfile.specs.Copyfile as spec;
 ghost use Rattle.cms_copyfile.specs.FileCopies.{IsFileCopy, copy_number, form_in, form_into};
 ghost use Rattle.cms_copyfile.specs.Outputs.{extended};
 
+use crate::finding::NamedFile;
 use crate::line::{CopyLine, Existing};
 use crate::output::{FileForm, form_for, number_for};
 use crate::telling::FileShown;
 use cms_disk::FileInfo;
-use cms_files::{info_found, info_named};
+use cms_files::info_named;
 use cms_names::{Name, equal_signs};
 use cms_operands::WriteMode;
-use cms_search::{Found, Table};
+use cms_search::Table;
 
 /// A file that is copied, and where its copy goes.
 #[derive(Clone, Copy)]
 pub struct FileCopy {
-    /// the file, where a search found it
-    pub found: Found,
+    /// the file, as a search found it
+    pub found: NamedFile,
     /// what its disk tells of it
     pub input: FileInfo,
     /// the letter of the output's disk, A is 0
@@ -53,14 +54,14 @@ pub(crate) fn form_in(info: &FileInfo) -> FileForm
 
 impl FileCopy {
     /// The file that was found, as a line copies it; none exactly where it isn't there.
-    pub fn of(table: &Table, line: &CopyLine, found: &Found) -> Option<FileCopy>
+    pub fn of(table: &Table, line: &CopyLine, found: &NamedFile) -> Option<FileCopy>
         ensures copy { IfSome result (λ c. IsFileCopy table.now line.now c) }
         ensures found { IfSome result (λ c. c.found ≡ found.now) }
         ensures none { result ≡ None → (s : Machine) → Shows table.now s → spec.file_at s found.now ≡ Err NotFound }
     {
-        let input = info_found(table, *found)?;
+        let input = info_named(table, found.letter, &found.name)?;
         let letter = letter_for(line.files.output.mode, found.letter);
-        let name = equal_signs(&input.name, &line.files.output.name);
+        let name = equal_signs(&found.name, &line.files.output.name);
         Some(FileCopy {
             found: *found,
             input,

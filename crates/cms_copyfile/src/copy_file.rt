@@ -135,7 +135,7 @@ fn put_measured<W: World>(
     requires size { (most : ℕ) → most ≤ longest_record → longest_fit plan.now.style.fit most ≤ longest_record }
     requires room { longest_record ≤ vec_capacity buffer.old }
     ensures acts { (before : Seen) (words : List tokens.Token) (input : opened.OpenFile) → HasRead before (seen W.World world.old)
-        → IsOpened state.old.table file.now.found.letter file.now.input.name input
+        → IsOpened state.old.table file.now.found.letter file.now.found.name input
         → AreMeasured (spot W.World world.old state.old) line.now file.now (form_into line.now file.now) measure.now
         → Acts (spot_at before state.old) (spot W.World world.new state.new)
         (λ units. spec.with_copying words line.now (machine_of state.old units) file.now.found

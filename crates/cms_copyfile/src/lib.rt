@@ -23,6 +23,7 @@ mod writing;
 
 pub use copy::FileCopy;
 pub use copying::{CopyFault, put_copies};
+pub use finding::NamedFile;
 pub use joining::write_joined;
 pub use line::{CopyFiles, CopyLine, CopyOutput, CopyStyle, Existing, copy_line};
 pub use measure::Measure;

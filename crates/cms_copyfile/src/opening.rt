@@ -54,9 +54,9 @@ pub(crate) fn open_short(
 
 // Opens the file that is copied.
 pub(crate) fn open_input(alloc: Global, table: &Table, file: &FileCopy) -> Result<OpenFile, End>
-    ensures opened { IfOk result (IsOpened table.now file.now.found.letter file.now.input.name) }
+    ensures opened { IfOk result (IsOpened table.now file.now.found.letter file.now.found.name) }
     ensures short { IfOk result (λ input. input.cursor.begun.longest ≤ longest_record) }
     ensures fault { IfErr result (λ e. e ≡ Memory) }
 {
-    open_short(alloc, table, file.found.letter, &file.input.name)
+    open_short(alloc, table, file.found.letter, &file.found.name)
 }

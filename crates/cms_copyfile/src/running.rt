@@ -12,7 +12,7 @@ ghost use Rattle.cms_copyfile.specs.Lines.{IsCopyStyle};
 
 use crate::copy::FileCopy;
 use crate::copy_file::copy_records;
-use crate::finding::files_copied;
+use crate::finding::{NamedFile, files_copied};
 use crate::line::{CopyLine, Existing, copy_line};
 use crate::refusing::stop_too_few;
 use crate::telling::{copy_text, mode_shown};
@@ -21,7 +21,7 @@ use cms_files::{
     FileUpdate, Updated, refuse_unfound, stop_exists, stop_search, tell_updated, update_each,
 };
 use cms_line::Tokens;
-use cms_search::{Course, End, Found, SearchFault, State, refuse_command};
+use cms_search::{Course, End, SearchFault, State, refuse_command};
 use cms_world::World;
 use std::alloc::Global;
 
@@ -134,7 +134,7 @@ struct Copier<'w> {
     line: &'w CopyLine,
 }
 
-impl FileUpdate<Found> for Copier<'_> {
+impl FileUpdate<NamedFile> for Copier<'_> {
     ghost tree = { λ c. spec.copy_found c.words.now c.line.now };
 
     ghost takes = { λ c f. IsCopyStyle c.line.now.style };
@@ -144,7 +144,7 @@ impl FileUpdate<Found> for Copier<'_> {
         alloc: Global,
         world: &mut W,
         state: &mut State,
-        file: &Found,
+        file: &NamedFile,
     ) -> Result<Updated, End> {
         match FileCopy::of(&state.table, self.line, file) {
             Some(copy) => copy_of(alloc, world, state, self.words, self.line, &copy),
@@ -169,9 +169,9 @@ fn copy_files<W: World>(
     ensures kept { state.new ≡ record state.old { table = state.new.table; places = state.new.places } }
 {
     match files_copied(alloc, &state.table, line) {
-        Ok(found) => {
+        Ok(files) => {
             let copier = Copier { words, line };
-            update_each(alloc, world, state, &copier, found.as_slice())
+            update_each(alloc, world, state, &copier, files.as_slice())
         }
         Err(fault) => refuse_unfound(alloc, world, words, 1, fault),
     }

@@ -50,7 +50,7 @@ write_joined-written-requires-clause-own_room g c =
 
 pub write_joined-written-requires-clause-blocks : goal.write_joined-written-requires-clause-blocks
 write_joined-written-requires-clause-blocks g c =
-    opened_blocks _ c.args.state.now.table c.args.file.now.found.letter c.args.file.now.input.name c.in_ok-input.input c.in_ok-input.ensures.opened c.requires.usable
+    opened_blocks _ c.args.state.now.table c.args.file.now.found.letter c.args.file.now.found.name c.in_ok-input.input c.in_ok-input.ensures.opened c.requires.usable
 
 pub write_joined-written-requires-clause-room : goal.write_joined-written-requires-clause-room
 write_joined-written-requires-clause-room g c =

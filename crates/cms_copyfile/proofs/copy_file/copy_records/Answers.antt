@@ -17,7 +17,7 @@ use Rattle.cms_copyfile.proofs.copy_file.copy_records.Goals as goal
 
 pub measure_copies-requires-clause-blocks : goal.measure_copies-requires-clause-blocks
 measure_copies-requires-clause-blocks g c =
-    opened_blocks _ c.args.state.now.table c.args.file.now.found.letter c.args.file.now.input.name c.in_ok-input.input c.in_ok-input.ensures.opened c.requires.usable
+    opened_blocks _ c.args.state.now.table c.args.file.now.found.letter c.args.file.now.found.name c.in_ok-input.input c.in_ok-input.ensures.opened c.requires.usable
 
 pub put_measured-requires-clause-usable : goal.put_measured-requires-clause-usable
 put_measured-requires-clause-usable g c = let told = c.in-Ok.ensures.reads.told in rw told c.requires.usable

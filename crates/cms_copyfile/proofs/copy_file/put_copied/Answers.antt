@@ -29,7 +29,7 @@ write_copies-written-requires-clause-may g c = may_at _ c.args.state.now.table c
 
 pub write_copies-written-requires-clause-blocks : goal.write_copies-written-requires-clause-blocks
 write_copies-written-requires-clause-blocks g c =
-    opened_blocks _ c.args.state.now.table c.args.file.now.found.letter c.args.file.now.input.name c.in_ok-input.input c.in_ok-input.ensures.opened c.requires.usable
+    opened_blocks _ c.args.state.now.table c.args.file.now.found.letter c.args.file.now.found.name c.in_ok-input.input c.in_ok-input.ensures.opened c.requires.usable
 
 pub write_copies-written-requires-clause-room : goal.write_copies-written-requires-clause-room
 write_copies-written-requires-clause-room g c =

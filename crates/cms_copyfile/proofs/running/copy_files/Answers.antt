@@ -13,8 +13,8 @@ returns-in-Ok-clause-acts g c =
     let words = c.args.words.now in
     let old = spot g.W.World c.args.world.now st in
     let new = spot g.W.World c.update_each.new.world c.update_each.new.state in
-    let same = c.as_slice.ensures in
-    acts_found old new words 1 (λ m found. updating_each (copy_found words line) found m) (λ m. files_copied m line) c.in-Ok.found c.update_each.result _
+    let same = c.as_slice.ensures.value in
+    acts_found old new words 1 (λ m found. updating_each (copy_found words line) found m) (λ m. files_copied m line) c.in-Ok.files.items c.update_each.result _
     (λ units h. c.in-Ok.ensures.found (machine_of st units) (holds_shows old units h)) (rw same at c.update_each.ensures.acts)
 
 pub returns-in-Err-clause-acts : goal.returns-in-Err-clause-acts

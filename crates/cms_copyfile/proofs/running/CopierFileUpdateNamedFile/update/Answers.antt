@@ -1,6 +1,6 @@
 use Rattle.cms_search.specs.Calls.{spot}
 use Rattle.cms_copyfile.proofs.FilesCopied.{acts_missing}
-use Rattle.cms_copyfile.proofs.running.CopierFileUpdateFound.update.Goals as goal
+use Rattle.cms_copyfile.proofs.running.CopierFileUpdateNamedFile.update.Goals as goal
 
 pub returns-in-Some-clause-acts : goal.returns-in-Some-clause-acts
 returns-in-Some-clause-acts g c = let same = c.in-Some.ensures.found in rw same at c.copy_of.ensures.acts
