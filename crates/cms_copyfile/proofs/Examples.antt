@@ -10,7 +10,7 @@ use Rattle.cms_fields.specs.Moments.{stamp_of}
 use Rattle.cms_fields.specs.declared.time.Stamp.{Stamp}
 use Rattle.cms_text.specs.Numbers.{decimal_of, written, magnitude_of}
 use Rattle.cms_text.specs.Texts.{ebcdic}
-use Rattle.cms_model.specs.Changes.{answer_of, changed, changed_files, change_file, file_named, is_full, limit, need, put_file, written_file}
+use Rattle.cms_model.specs.Changes.{answer_of, changed, changed_files, change_file, drop_file, file_named, is_full, last_first, limit, need, put_file, written_file}
 use Rattle.cms_model.specs.Lists.{same}
 use Rattle.cms_model.specs.Minidisks.{File, Volume, same_name}
 use Rattle.cms_model.specs.Records.{longest}
@@ -30,7 +30,7 @@ use Rattle.cms_search.specs.Searches.{places_from}
 use Rattle.cms_files.specs.Identifiers.{name_choice, output_name}
 use Rattle.cms_files.specs.Updating.{updating_each}
 use Rattle.cms_search.proofs.Machines.{Answer, answer, machine, moment, types, words}
-use Rattle.cms_files.proofs.Machines.{disk, file, one_disk, stamp, unit, units_in, volume}
+use Rattle.cms_files.proofs.Machines.{disk, file, one_disk, stamp, two_disks, unit, units_in, volume}
 use Rattle.cms_copyfile.specs.Copyfile.{copyfile}
 use Rattle.cms_copyfile.specs.Lines.{copy_operands, given_output}
 
@@ -210,30 +210,30 @@ existing : (copies both (codes "COPYFILE L FILE A O FILE A") ≡ types (codes "C
     × (leaves_on 0 both (codes "COPYFILE L FILE A W FILE A (AP RECFM F LRECL 2")
     ≡ left_of l_file ∷ left_of o_file ∷ left_of (varying (codes "W") (codes "FILE") 2 2 (codes "Z" ∷ codes "AB" ∷ codes "CD" ∷ codes "G" ∷ [])) ∷ [])
     × (leaves_on 0 both (codes "COPYFILE O FILE A W FILE A (AP LRECL 1")
-    ≡ left_of l_file ∷ left_of o_file ∷ left_of (varying (codes "W") (codes "FILE") 2 1 (codes "Z" ∷ codes "X" ∷ [])) ∷ [])
+    ≡ left_of l_file ∷ left_of (varying (codes "W") (codes "FILE") 2 1 (codes "Z" ∷ codes "X" ∷ [])) ∷ [])
     × (leaves_on 0 both (codes "COPYFILE L FILE A NEW FILE A (APPEND FOR 1")
     ≡ left_of l_file ∷ left_of o_file ∷ left_of w_file ∷ left_of (varying (codes "NEW") (codes "FILE") 1 3 (codes "AB " ∷ [])) ∷ [])
 unfolding copy_operands given_output name_choice output_name name_or_all name_or_same output_mode reading_mode operands_of needed given given_or name text_of is_name_character mode_word_of
     short_mode_of letter_of mode_number_of ended chosen_of options_of options_from all_valued valued setting_in fill_in format_in hexadecimal_of last_among number_within magnitude_of
     ebcdic code_of code_page host_of upper_of lower_of character_of tokens_of tokens_from message_of message_text typed_line decimal_of written digits places_from updating_each
     equal_signs answer_of limit changed_files written_file is_full free_count used_count directory_more tree_size pointer_count pointers_to levels levels_from map_size need changed
-    file_size stored_size file_named put_file change_file same_name same longest moment stamp_of
+    file_size stored_size file_named put_file change_file same_name same longest moment stamp_of drop_file last_first
 existing = (refl, refl, refl, refl, refl, refl, refl, refl, refl)
 
 -- a new file has the digit of the output's mode, or the input's number
 numbers : (leaves_on 0 both (codes "COPYFILE O FILE A NEW = A5")
-    ≡ left_of l_file ∷ left_of o_file ∷ left_of w_file ∷ left_of (fixed (codes "NEW") (codes "FILE") 5 2 (codes "XY" ∷ [])) ∷ [])
+    ≡ left_of l_file ∷ left_of (fixed (codes "NEW") (codes "FILE") 5 2 (codes "XY" ∷ [])) ∷ left_of w_file ∷ [])
     × (leaves_on 0 both (codes "COPYFILE O FILE A NEW = A")
-    ≡ left_of l_file ∷ left_of o_file ∷ left_of w_file ∷ left_of (fixed (codes "NEW") (codes "FILE") 3 2 (codes "XY" ∷ [])) ∷ [])
+    ≡ left_of l_file ∷ left_of (fixed (codes "NEW") (codes "FILE") 3 2 (codes "XY" ∷ [])) ∷ left_of w_file ∷ [])
     × (leaves_on 0 both (codes "COPYFILE O FILE A3 NEW = = (TYPE")
-    ≡ left_of l_file ∷ left_of o_file ∷ left_of w_file ∷ left_of (fixed (codes "NEW") (codes "FILE") 3 2 (codes "XY" ∷ [])) ∷ [])
+    ≡ left_of l_file ∷ left_of (fixed (codes "NEW") (codes "FILE") 3 2 (codes "XY" ∷ [])) ∷ left_of w_file ∷ [])
     × (copies both (codes "COPYFILE O FILE A3 NEW = = (TYPE") ≡ types (codes "O FILE A3 TO NEW FILE A3" ∷ []) 0)
     × (copies both (codes "COPYFILE O FILE A W FILE A4 (TYPE REP") ≡ types (codes "O FILE A3 TO W FILE A2" ∷ []) 0)
 unfolding copy_operands given_output name_choice output_name name_or_all name_or_same output_mode reading_mode operands_of needed given given_or name text_of is_name_character mode_word_of
     short_mode_of letter_of mode_number_of ended chosen_of options_of options_from all_valued valued setting_in fill_in format_in hexadecimal_of last_among number_within magnitude_of
     ebcdic code_of code_page host_of upper_of lower_of character_of tokens_of tokens_from message_of message_text typed_line decimal_of written digits places_from updating_each
     equal_signs answer_of limit changed_files written_file is_full free_count used_count directory_more tree_size pointer_count pointers_to levels levels_from map_size need changed
-    file_size stored_size file_named put_file change_file same_name same longest moment stamp_of
+    file_size stored_size file_named put_file change_file same_name same longest moment stamp_of drop_file last_first
 numbers = (refl, refl, refl, refl, refl)
 
 -- without an output a file is copied to itself; an option may refuse it
@@ -335,6 +335,45 @@ unfolding copy_operands given_output name_choice output_name name_or_all name_or
     equal_signs answer_of limit changed_files written_file is_full free_count used_count directory_more tree_size pointer_count pointers_to levels levels_from map_size need changed
     file_size stored_size file_named put_file change_file same_name same longest moment stamp_of
 failed = (refl, refl, refl, refl, refl)
+
+-- ---- files of mode number 3
+
+abbrev once_file : List ℕ → File
+once_file name = varying name (codes "X") 3 1 (codes "A" ∷ codes "B" ∷ [])
+
+abbrev once_files : List File
+once_files = once_file (codes "P") ∷ once_file (codes "Q") ∷ varying (codes "R") (codes "X") 1 1 (codes "A" ∷ []) ∷ []
+
+abbrev once : Machine
+once = two_disks once_files [] (disk 1)
+
+-- each goes behind its copy, whichever places the others take then; not where some of its records aren't read, nor as its own output
+erased : (copies once (codes "COPYFILE * X A = = B (TYPE") ≡ types (codes "P X A3 TO P X B3" ∷ codes "Q X A3 TO Q X B3" ∷ codes "R X A1 TO R X B1" ∷ []) 0)
+    × (names_on 0 once (codes "COPYFILE * X A = = B") ([]) ≡ ebcdic (codes "R") ∷ [])
+    × (names_on 1 once (codes "COPYFILE * X A = = B") ([]) ≡ ebcdic (codes "P") ∷ ebcdic (codes "Q") ∷ ebcdic (codes "R") ∷ [])
+    × (names_on 0 once (codes "COPYFILE P X A = = B (FOR 1") ([]) ≡ ebcdic (codes "P") ∷ ebcdic (codes "Q") ∷ ebcdic (codes "R") ∷ [])
+    × (names_on 0 once (codes "COPYFILE P X A = = B (FROM 2 FOR 9") ([]) ≡ ebcdic (codes "R") ∷ ebcdic (codes "Q") ∷ [])
+    × (names_on 0 once (codes "COPYFILE P X A (RECFM F") ([]) ≡ ebcdic (codes "P") ∷ ebcdic (codes "Q") ∷ ebcdic (codes "R") ∷ [])
+    × (names_on 0 once (codes "COPYFILE * X A P X A (REPLACE") ([]) ≡ ebcdic (codes "P") ∷ ebcdic (codes "R") ∷ [])
+unfolding copy_operands given_output name_choice output_name name_or_all name_or_same output_mode reading_mode operands_of needed given given_or name text_of is_name_character mode_word_of
+    short_mode_of letter_of mode_number_of ended chosen_of options_of options_from all_valued valued setting_in fill_in format_in hexadecimal_of last_among number_within magnitude_of
+    ebcdic code_of code_page host_of upper_of lower_of character_of tokens_of tokens_from message_of message_text typed_line decimal_of written digits places_from updating_each
+    equal_signs answer_of limit changed_files written_file is_full free_count used_count directory_more tree_size pointer_count pointers_to levels levels_from map_size need changed
+    file_size stored_size file_named put_file change_file same_name same longest moment stamp_of drop_file last_first
+erased = (refl, refl, refl, refl, refl, refl, refl)
+
+-- it stays on a disk that may only be read; where the erasure fails the command ends so, and the copy isn't typed
+not_erased : (names_on 0 (record once { letters = Some (record (disk 0) { read_only = true }) ∷ Some (disk 1) ∷ replicate 24 None }) (codes "COPYFILE P X A = = B") ([])
+    ≡ ebcdic (codes "P") ∷ ebcdic (codes "Q") ∷ ebcdic (codes "R") ∷ [])
+    × (answer (copyfile once (words (codes "COPYFILE * X A = = B (TYPE"))) (Good ∷ Good ∷ OldFault ∷ []) ≡ types (codes "CMS105E Device fault on 191" ∷ []) 100)
+    × (names_on 0 once (codes "COPYFILE * X A = = B") (Good ∷ Good ∷ OldFault ∷ []) ≡ ebcdic (codes "P") ∷ ebcdic (codes "Q") ∷ ebcdic (codes "R") ∷ [])
+    × (names_on 1 once (codes "COPYFILE * X A = = B") (Good ∷ Good ∷ OldFault ∷ []) ≡ ebcdic (codes "P") ∷ [])
+unfolding copy_operands given_output name_choice output_name name_or_all name_or_same output_mode reading_mode operands_of needed given given_or name text_of is_name_character mode_word_of
+    short_mode_of letter_of mode_number_of ended chosen_of options_of options_from all_valued valued setting_in fill_in format_in hexadecimal_of last_among number_within magnitude_of
+    ebcdic code_of code_page host_of upper_of lower_of character_of tokens_of tokens_from message_of message_text typed_line decimal_of written digits places_from updating_each
+    equal_signs answer_of limit changed_files written_file is_full free_count used_count directory_more tree_size pointer_count pointers_to levels levels_from map_size need changed
+    file_size stored_size file_named put_file change_file same_name same longest moment stamp_of drop_file last_first
+not_erased = (refl, refl, refl, refl)
 
 -- ---- refusals
 

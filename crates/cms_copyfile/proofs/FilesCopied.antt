@@ -28,7 +28,7 @@ use Rattle.cms_files.specs.Updating.{on_step, stopping, telling}
 use Rattle.cms_files.specs.declared.updating.Updated.{Updated}
 use Rattle.cms_files.proofs.FileTold.{IsTold, file_told}
 use Rattle.cms_files.proofs.TakenFiles.{no_shelf, open_shelf}
-use Rattle.cms_copyfile.specs.Copyfile.{Copying, copy_found, copy_into, copy_of, copy_records, copy_told, copying_of, file_at, input_shown, is_refused, letter_for, output_shown, there_already, there_is, too_few, with_copying}
+use Rattle.cms_copyfile.specs.Copyfile.{Copying, copy_erased, copy_found, copy_into, copy_of, copy_records, copy_told, copying_of, file_at, input_shown, is_refused, letter_for, output_shown, there_already, there_is, too_few, with_copying}
 use Rattle.cms_copyfile.specs.FileCopies.{IsCopying, IsFileCopy, IsInfoOf, copied_to, copy_number}
 use Rattle.cms_copyfile.specs.Telling.{copy_text}
 use Rattle.cms_copyfile.specs.declared.copy.FileCopy.{FileCopy}
@@ -190,10 +190,10 @@ text_so s line c x =
     rw (name, number, to, called, there) refl
 
 pub told_so : (s : Machine) (words : List Token) (line : CopyLine) (c : FileCopy) (x : IsCopying s line c) (text : List ℕ) → text ≡ copy_text (shown_input c) (shown_output line c)
-    → copy_told s words line (copied_to s line c x) ≡ bind (with_copying words line s c.found (copy_into s words line)) (telling line.style.types text)
+    → copy_told s words line (copied_to s line c x) ≡ bind (with_copying words line s c.found (copy_erased s words line)) (telling line.style.types text)
 told_so s words line c x text is =
-    ap (λ (t : List ℕ). bind (copy_into s words line (copied_to s line c x)) (telling line.style.types t)) (text_so s line c x ∙ sym is)
-    ∙ ap (λ (a : Act Stepped). bind a (telling line.style.types text)) (sym (copying_is words line s c (copy_into s words line) x))
+    ap (λ (t : List ℕ). bind (copy_erased s words line (copied_to s line c x)) (telling line.style.types t)) (text_so s line c x ∙ sym is)
+    ∙ ap (λ (a : Act Stepped). bind a (telling line.style.types text)) (sym (copying_is words line s c (copy_erased s words line) x))
 
 -- ---- the output's disk
 

@@ -4,6 +4,7 @@ pub mod Passes
 pub mod CopyPasses
 pub mod ReadAside
 pub mod FilesCopied
+pub mod InputErased
 pub mod FilesFound
 pub mod Joined
 pub mod CopiesFit

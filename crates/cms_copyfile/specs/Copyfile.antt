@@ -1,5 +1,5 @@
 -- COPYFILE: files are copied, one after another.
-use Rattle.std.specs.Prelude.{ℕ, nat_lt, Bool, false, true, if◌then◌else◌, List, filter_map, length, slice_get, Option, None, Some, Result, Ok, Err, ⊤}
+use Rattle.std.specs.Prelude.{ℕ, nat_lt, ◌==◌, ◌&&◌, Bool, false, not, true, if◌then◌else◌, List, filter_map, length, slice_get, Option, None, Some, Result, Ok, Err, ⊤}
 use Rattle.std.specs.Option.{option_and_then, option_map, option_map_or}
 use Rattle.cms_names.specs.Modes.{equal_signs}
 use Rattle.cms_names.specs.declared.name.Name.{Name}
@@ -7,8 +7,8 @@ use Rattle.cms_fields.specs.Moments.{stamp_of}
 use Rattle.cms_fields.specs.Steps.{◌>>=◌, ◌>>◌}
 use Rattle.cms_text.specs.Numbers.{decimal_of}
 use Rattle.cms_model.specs.Changes.{Change, Add, Put}
-use Rattle.cms_model.specs.Minidisks.{File}
-use Rattle.cms_machine.specs.Acts.{Act, bind}
+use Rattle.cms_model.specs.Minidisks.{File, same_name}
+use Rattle.cms_machine.specs.Acts.{Act, Done, bind}
 use Rattle.cms_line.specs.declared.message.Message.TheVariants.{M121}
 use Rattle.cms_line.specs.declared.token.Token.{Token}
 use Rattle.cms_operands.specs.declared.operand.WriteMode.{WriteMode}
@@ -16,9 +16,10 @@ use Rattle.cms_search.specs.Machine.{Course, Machine, letter_at, refusal}
 use Rattle.cms_search.specs.Refusing.{on_line}
 use Rattle.cms_search.specs.Releasing.{vdev_of}
 use Rattle.cms_search.specs.Searches.{Listed, Shelves, item_at, search, shelves_in}
-use Rattle.cms_search.specs.Stepping.{Stepped, failing, reading, silently}
+use Rattle.cms_search.specs.Stepping.{Did, Failed, Stepped, failing, reading, silently}
 use Rattle.cms_search.specs.declared.fault.SearchFault.{SearchFault}
 use Rattle.cms_search.specs.declared.search.Found.{Found}
+use Rattle.cms_files.specs.Consuming.{consuming}
 use Rattle.cms_files.specs.Files.{UnitFile, file_exists, file_on, on_found, some_found, writable}
 use Rattle.cms_files.specs.Identifiers.{takes_name}
 use Rattle.cms_files.specs.Updating.{on_step, stopping, telling, updating, updating_each}
@@ -118,6 +119,26 @@ copy_into s words line c =
     else (if nat_lt (length c.input.file.records) line.style.first then stopping (too_few s (length c.input.file.records))
     else copy_records s line c)
 
+-- the file is its own output
+abbrev pub is_own : Copying → Bool
+is_own c = (c.to == c.letter) && same_name c.input.file.name c.name
+
+-- a line reads a file of so many records to its end
+abbrev pub ends : CopyLine → ℕ → Bool
+ends line count = wanted_of line.style count == count
+
+-- reading the file may erase it
+abbrev pub may_erase : CopyLine → Copying → Bool
+may_erase line c = ends line (length c.input.file.records) && not (is_own c)
+
+-- behind the copy the file of a name on the disk of letter n goes, where its mode number says so: 107, 105
+abbrev pub erasing : Bool → ℕ → Name → Stepped → Act Stepped
+erasing may n name (Did s) = if may then consuming s n name else Done (Did s)
+erasing may n name (Failed course) = Done (Failed course)
+
+abbrev pub copy_erased : Machine → List Token → CopyLine → Copying → Act Stepped
+copy_erased s words line c = bind (copy_into s words line c) (erasing (may_erase line c) c.letter c.input.file.name)
+
 abbrev pub input_shown : Copying → FileShown
 input_shown c = record { letter = c.letter; name = c.input.file.name; number = c.input.file.number }
 
@@ -126,7 +147,7 @@ output_shown line c = record { letter = c.to; name = c.name; number = number_of 
 
 -- with TYPE it is typed once it is copied
 abbrev pub copy_told : Machine → List Token → CopyLine → Copying → Act Stepped
-copy_told s words line c = bind (copy_into s words line c) (telling line.style.types (copy_text (input_shown c) (output_shown line c)))
+copy_told s words line c = bind (copy_erased s words line c) (telling line.style.types (copy_text (input_shown c) (output_shown line c)))
 
 -- the output's disk may be written: 037
 abbrev pub copy_of : Machine → List Token → CopyLine → Copying → Act Stepped
@@ -158,6 +179,7 @@ files_copied s line = do
 abbrev pub copy_files : Machine → List Token → CopyLine → Act Course
 copy_files s words line = on_found s words 1 (λ files. updating_each (copy_found words line) files s) (files_copied s line)
 
--- files are copied in the order in which they were found, by one update each; the first refusal stops
+-- files are copied in the order in which they were found, by one update each and one more where that erases the input; the first refusal
+-- stops
 abbrev pub copyfile : Machine → List Token → Act Course
 copyfile s words = on_line s words (copy_files s words) (copy_line words)

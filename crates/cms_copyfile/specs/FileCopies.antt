@@ -1,14 +1,14 @@
 -- A file that is copied, as the disks of the table tell it, and as the machine has it.
-use Rattle.std.specs.Prelude.{◌≡◌, ℕ, Option, None, Some, Ok, ⊤}
+use Rattle.std.specs.Prelude.{◌≡◌, ◌==◌, ◌&&◌, ℕ, Bool, not, Option, None, Some, Ok, ⊤}
 use Rattle.std.specs.Option.{option_map}
 use Rattle.cms_names.specs.Modes.{equal_signs}
-use Rattle.cms_model.specs.Minidisks.{File}
+use Rattle.cms_model.specs.Minidisks.{File, same_name}
 use Rattle.cms_edf.specs.declared.held.FileInfo.{FileInfo}
 use Rattle.cms_search.specs.Machine.{Machine}
 use Rattle.cms_search.specs.Tables.{Accesses}
 use Rattle.cms_files.specs.Files.{UnitFile}
 use Rattle.cms_files.specs.Told.{IsInfo, info_named}
-use Rattle.cms_copyfile.specs.Copyfile.{Copying, copying_of, file_at, letter_for}
+use Rattle.cms_copyfile.specs.Copyfile.{Copying, copying_of, ends, file_at, letter_for}
 use Rattle.cms_copyfile.specs.Outputs.{extended, form_for, number_for, plan_of}
 use Rattle.cms_copyfile.specs.declared.line.CopyLine.{CopyLine}
 use Rattle.cms_copyfile.specs.declared.copy.FileCopy.{FileCopy}
@@ -35,6 +35,14 @@ form_in info = record { format = info.format; length = info.length }
 -- the format that the copy gets
 abbrev pub form_into : CopyLine → FileCopy → FileForm
 form_into line c = form_for line.style (form_in c.input) (option_map form_in (extended line.style.existing c.there))
+
+-- it is its own output
+abbrev pub is_own_output : FileCopy → Bool
+is_own_output c = (c.letter == c.found.letter) && same_name c.input.name c.name
+
+-- reading it may erase it
+abbrev pub may_erase_input : CopyLine → FileCopy → Bool
+may_erase_input line c = ends line c.input.count && not (is_own_output c)
 
 -- which records are copied into a file of this format
 abbrev pub plan_for : CopyLine → FileForm → FileCopy → CopyPlan

@@ -4,12 +4,12 @@ ghost use Rattle.cms_search.specs.Machine.{Machine};
 ghost use Rattle.cms_search.specs.Shows.{Shows};
 ghost use Rattle.cms_search.specs.declared.fault.SearchFault.TheVariants.{NotFound};
 ghost use Rattle.cms_copyfile.specs.Copyfile as spec;
-ghost use Rattle.cms_copyfile.specs.FileCopies.{IsFileCopy, copy_number, form_in, form_into};
+ghost use Rattle.cms_copyfile.specs.FileCopies.{IsFileCopy, copy_number, form_in, form_into, is_own_output, may_erase_input};
 ghost use Rattle.cms_copyfile.specs.Outputs.{extended};
 
 use crate::finding::NamedFile;
 use crate::line::{CopyLine, Existing};
-use crate::output::{FileForm, form_for, number_for};
+use crate::output::{FileForm, form_for, number_for, wanted_of};
 use crate::telling::FileShown;
 use cms_disk::FileInfo;
 use cms_files::info_named;
@@ -101,6 +101,22 @@ impl FileCopy {
             None => None,
         };
         number_for(line.files.output.mode, self.input.number, there)
+    }
+
+    // Whether it is its own output.
+    #[tactic(auto, unfolding(cms_model::specs::Minidisks::same_name, cms_model::specs::Lists::same))]
+    fn is_own(&self) -> bool
+        ensures { result ≡ is_own_output self.now }
+    {
+        self.letter == self.found.letter && self.input.name == self.name
+    }
+
+    /// Whether a line reads it to its end, and it isn't its own output.
+    pub fn may_erase(&self, line: &CopyLine) -> bool
+        ensures { result ≡ may_erase_input line.now self.now }
+    {
+        let count = self.input.count;
+        wanted_of(&line.style, count) == count && !self.is_own()
     }
 
     /// Whether it has none of the records that a line copies.

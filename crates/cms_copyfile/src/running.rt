@@ -4,10 +4,11 @@ ghost use Rattle.cms_fields.specs.Moments.{is_moment};
 ghost use Rattle.cms_line.specs.declared.token.Token as tokens;
 ghost use Rattle.cms_search.specs.Calls.{Acts, IsUsable, course_of, machine_of, spot};
 ghost use Rattle.cms_search.specs.Searches.{item_at};
+ghost use Rattle.cms_search.specs.Stepping.{Did};
 ghost use Rattle.cms_search.specs.Tables.{letters_of, writing};
 ghost use Rattle.cms_files.specs.Updating.{updated_of};
 ghost use Rattle.cms_copyfile.specs.Copyfile as spec;
-ghost use Rattle.cms_copyfile.specs.FileCopies.{IsFileCopy};
+ghost use Rattle.cms_copyfile.specs.FileCopies.{IsFileCopy, may_erase_input};
 ghost use Rattle.cms_copyfile.specs.Lines.{IsCopyStyle};
 
 use crate::copy::FileCopy;
@@ -18,7 +19,8 @@ use crate::refusing::stop_too_few;
 use crate::telling::{copy_text, mode_shown};
 use cms_disk::FileInfo;
 use cms_files::{
-    FileUpdate, Updated, refuse_unfound, stop_exists, stop_search, tell_updated, update_each,
+    FileUpdate, Updated, consume, refuse_unfound, stop_exists, stop_search, tell_updated,
+    update_each,
 };
 use cms_line::Tokens;
 use cms_search::{Course, End, SearchFault, State, refuse_command};
@@ -80,6 +82,52 @@ fn copy_into<W: World>(
     copy_records(alloc, world, state, line, file)
 }
 
+// Behind its copy a file of mode number 3 is erased, where the line reads it to its end and it isn't its own output.
+fn erase_input<W: World>(
+    alloc: Global,
+    world: &mut W,
+    state: &mut State,
+    line: &CopyLine,
+    file: &FileCopy,
+) -> Result<Updated, End>
+    requires usable { IsUsable (spot W.World world.old state.old) }
+    requires moment { is_moment state.old.moment ≡ true }
+    ensures acts { Acts (spot W.World world.old state.old) (spot W.World world.new state.new)
+        (λ units. spec.erasing (may_erase_input line.now file.now) file.now.found.letter
+        file.now.input.name (Did (machine_of state.old units))) result (updated_of state.new) }
+    ensures kept { state.new ≡ record state.old { table = state.new.table; places = state.new.places } }
+{
+    if !file.may_erase(line) {
+        return Ok(Updated::Done);
+    }
+    consume(alloc, world, state, file.found.letter, &file.input.name)
+}
+
+// A file is copied, and erased then where its mode number says so.
+fn copy_erased<W: World>(
+    alloc: Global,
+    world: &mut W,
+    state: &mut State,
+    words: &Tokens,
+    line: &CopyLine,
+    file: &FileCopy,
+) -> Result<Updated, End>
+    requires usable { IsUsable (spot W.World world.old state.old) }
+    requires moment { is_moment state.old.moment ≡ true }
+    requires style { IsCopyStyle line.now.style }
+    requires file { IsFileCopy state.old.table line.now file.now }
+    requires writing { writing (item_at (letters_of state.old.table) file.now.letter) file.now.letter ≡ Ok tt }
+    ensures acts { Acts (spot W.World world.old state.old) (spot W.World world.new state.new)
+        (λ units. spec.with_copying words.now line.now (machine_of state.old units) file.now.found
+        (spec.copy_erased (machine_of state.old units) words.now line.now)) result (updated_of state.new) }
+    ensures kept { state.new ≡ record state.old { table = state.new.table; places = state.new.places } }
+{
+    match copy_into(alloc, world, state, words, line, file)? {
+        Updated::Done => erase_input(alloc, world, state, line, file),
+        Updated::Stopped(course) => Ok(Updated::Stopped(course)),
+    }
+}
+
 // A file is copied, and with TYPE it is typed then.
 fn copy_told<W: World>(
     alloc: Global,
@@ -100,7 +148,7 @@ fn copy_told<W: World>(
     ensures kept { state.new ≡ record state.old { table = state.new.table; places = state.new.places } }
 {
     let text = copy_text(alloc, &file.input_shown(), &file.output_shown(line))?;
-    let updated = copy_into(alloc, world, state, words, line, file)?;
+    let updated = copy_erased(alloc, world, state, words, line, file)?;
     tell_updated(world, state, updated, line.style.types, &text)
 }
 
@@ -177,7 +225,8 @@ fn copy_files<W: World>(
     }
 }
 
-/// COPYFILE: files are copied record by record, one update each, in the order in which a search finds them.
+/// COPYFILE: files are copied record by record, one update each, in the order in which a search finds them. Behind its copy a file of mode
+/// number 3 that was read to its end is erased, by an update of its own.
 pub fn run_copyfile<W: World>(
     alloc: Global,
     world: &mut W,

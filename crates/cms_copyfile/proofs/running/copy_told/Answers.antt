@@ -5,7 +5,7 @@ use Rattle.cms_search.proofs.Staying.{acts_starved}
 use Rattle.cms_files.specs.Updating.{telling}
 use Rattle.cms_files.proofs.Updates.{told_behind, told_never}
 use Rattle.cms_machine.specs.Acts.{bind}
-use Rattle.cms_copyfile.specs.Copyfile.{copy_into, copy_told, with_copying}
+use Rattle.cms_copyfile.specs.Copyfile.{copy_erased, copy_told, with_copying}
 use Rattle.cms_copyfile.specs.Telling.{copy_text}
 use Rattle.cms_copyfile.proofs.FilesCopied.{acts_copying, shown_input, shown_output, told_so}
 use Rattle.cms_copyfile.proofs.running.copy_told.Goals as goal
@@ -23,13 +23,13 @@ returns-in_err-updated-clause-acts g c =
     let line = c.args.line.now in
     let file = c.args.file.now in
     let old = spot g.W.World c.args.world.now st in
-    let new = spot g.W.World c.copy_into.new.world c.copy_into.new.state in
+    let new = spot g.W.World c.copy_erased.new.world c.copy_erased.new.state in
     let text = copy_text (shown_input file) (shown_output line file) in
     rw (p.1, p.2)
     (acts_copying old new words line file (λ m. copy_told m words line)
-    (λ units. bind (with_copying words line (machine_of st units) file.found (copy_into (machine_of st units) words line)) (telling line.style.types text)) _ _ c.requires.file
+    (λ units. bind (with_copying words line (machine_of st units) file.found (copy_erased (machine_of st units) words line)) (telling line.style.types text)) _ _ c.requires.file
     (λ units x h. told_so (machine_of st units) words line file x text refl)
-    (told_never old new (λ units. with_copying words line (machine_of st units) file.found (copy_into (machine_of st units) words line)) line.style.types text c.in_err-updated.field-0.0
+    (told_never old new (λ units. with_copying words line (machine_of st units) file.found (copy_erased (machine_of st units) words line)) line.style.types text c.in_err-updated.field-0.0
     c.in_err-updated.ensures.acts))
 
 pub returns-clause-acts : goal.returns-clause-acts
@@ -39,13 +39,13 @@ returns-clause-acts g c =
     let line = c.args.line.now in
     let file = c.args.file.now in
     let old = spot g.W.World c.args.world.now st in
-    let mid = spot g.W.World c.copy_into.new.world c.copy_into.new.state in
-    let new = spot g.W.World c.tell_updated.new.world c.copy_into.new.state in
+    let mid = spot g.W.World c.copy_erased.new.world c.copy_erased.new.state in
+    let new = spot g.W.World c.tell_updated.new.world c.copy_erased.new.state in
     let one = c.input_shown.ensures in
     let two = c.output_shown.ensures in
     let text : c.deref.result.now ≡ copy_text (shown_input file) (shown_output line file) = c.deref.ensures.value ∙ (rw (one, two) at c.in_ok-text.ensures) in
     acts_copying old new words line file (λ m. copy_told m words line)
-    (λ units. bind (with_copying words line (machine_of st units) file.found (copy_into (machine_of st units) words line)) (telling line.style.types c.deref.result.now)) c.tell_updated.result _
+    (λ units. bind (with_copying words line (machine_of st units) file.found (copy_erased (machine_of st units) words line)) (telling line.style.types c.deref.result.now)) c.tell_updated.result _
     c.requires.file (λ units x h. told_so (machine_of st units) words line file x c.deref.result.now text)
-    (told_behind old mid new (λ units. with_copying words line (machine_of st units) file.found (copy_into (machine_of st units) words line)) line.style.types c.deref.result.now
+    (told_behind old mid new (λ units. with_copying words line (machine_of st units) file.found (copy_erased (machine_of st units) words line)) line.style.types c.deref.result.now
     c.in_ok-updated.updated c.tell_updated.result c.in_ok-updated.ensures.acts c.tell_updated.ensures)
