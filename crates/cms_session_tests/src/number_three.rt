@@ -30,8 +30,8 @@ R;
 Y
 R;
 > LISTFILE * * A
-W        FILE     A3
 K        FILE     A4
+W        FILE     A3
 R;
 > TYPE W FILE A 1 2
 ONE
@@ -255,9 +255,112 @@ NEW
 R;
 ";
 
+// COPYFILE erases each such file behind its copy, whichever place it has then; not where some of its records aren't read, nor one that is its
+// own output or stands on a disk that may only be read. Where the erasure is refused, the copy is there and its line isn't typed.
+const COPIED: &str = "# texts + blank
+> COPYFILE ALPHA TEXT A P FILE A3
+R;
+> COPYFILE BETA DATA A Q FILE A3
+R;
+> COPYFILE ALSO TEXT A R FILE A1
+R;
+> ACCESS 192 B
+R;
+> COPYFILE * * A = = B (TYPE
+ALPHA TEXT A1 TO ALPHA TEXT B1
+BETA DATA A2 TO BETA DATA B2
+ALSO TEXT A0 TO ALSO TEXT B0
+P FILE A3 TO P FILE B3
+Q FILE A3 TO Q FILE B3
+R FILE A1 TO R FILE B1
+R;
+> LISTFILE * * A
+ALPHA    TEXT     A1
+BETA     DATA     A2
+ALSO     TEXT     A0
+R        FILE     A1
+R;
+> LISTFILE * FILE B
+P        FILE     B3
+Q        FILE     B3
+R        FILE     B1
+R;
+> COPYFILE P FILE B (RECFM F LRECL 8 TYPE
+P FILE B3 TO P FILE B3
+R;
+> COPYFILE P FILE B = = = (APPEND TYPE
+P FILE B3 TO P FILE B3
+R;
+> LISTFILE P FILE B (ALLOC NOHEADER
+P        FILE     B3 F     8        4        1
+R;
+> COPYFILE * FILE B3 P FILE B (REPLACE TYPE
+P FILE B3 TO P FILE B3
+Q FILE B3 TO P FILE B3
+R;
+> LISTFILE * FILE B
+P        FILE     B3
+R        FILE     B1
+R;
+# texts + blank
+> COPYFILE BETA DATA A Q FILE A3
+R;
+> COPYFILE Q FILE A Q PART A (FROM 2 FOR 2
+R;
+> COPYFILE Q FILE A Q PART A (APPEND FOR 3 TYPE
+Q FILE A3 TO Q PART A3
+R;
+> COPYFILE Q FILE A ALPHA TEXT A
+CMS024E File ALPHA TEXT A already exists
+R(00028);
+> COPYFILE Q FILE A NEW TEXT A (FROM 5
+CMS121E File has only 4 records
+R(00024);
+> STATE Q FILE A
+R;
+> COPYFILE Q FILE A Q PART A (APPEND FROM 2 FOR 3 TYPE
+Q FILE A3 TO Q PART A3
+R;
+> STATE Q FILE A
+CMS002E File Q FILE A not found
+R(00028);
+> LISTFILE Q PART A (ALLOC NOHEADER
+Q        PART     A3 V     4        8        1
+R;
+> COPYFILE Q PART A Q END A (FROM 8 FOR 9
+R;
+> LISTFILE Q * A
+Q        END      A3
+R;
+> ACCESS 191 A/A
+CMS723I A (191) R/O
+R;
+> ACCESS 192 B
+R;
+> COPYFILE Q END A = = B (TYPE
+Q END A3 TO Q END B3
+R;
+> LISTFILE Q END *
+Q        END      A3
+Q        END      B3
+R;
+# once, none free + blank
+> ACCESS 192 B
+R;
+> COPYFILE * * A = = B (TYPE
+CMS107E Disk A is full, 1 blocks needed, 0 free
+R(00100);
+> LISTFILE * * *
+P        FILE     A3
+W        FILE     A3
+K        FILE     A4
+P        FILE     B3
+R;
+";
+
 #[test]
 fn files_of_number_three_are_read_once(rt: HostRuntime) -> Result<(), Fail> {
-    let all = [TYPED, STACKED, KEPT, FULL, FAILED, LIMITED, READ_ON];
+    let all = [TYPED, STACKED, KEPT, FULL, FAILED, LIMITED, READ_ON, COPIED];
     for sessions in all {
         check_sessions(rt.alloc(), sessions)?;
     }
