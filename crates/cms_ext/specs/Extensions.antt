@@ -1,0 +1,181 @@
+-- A run of an extension: it is asked, what it wants is met, and it is asked again with the reply, until it is done.
+use Rattle.std.specs.Prelude.{ℕ, zero, suc, ℤ, pos, List, map, length, set, Option, Some, None, slice_get, Result, Ok, Err}
+use Rattle.cms_names.specs.declared.name.Format.{Format}
+use Rattle.cms_names.specs.declared.name.Format.TheVariants.{V}
+use Rattle.cms_names.specs.declared.name.Name.{Name}
+use Rattle.cms_fields.specs.Moments.{stamp_of}
+use Rattle.cms_model.specs.Changes.{Change, Put}
+use Rattle.cms_model.specs.Minidisks.{File}
+use Rattle.cms_model.specs.Records.{length_of}
+use Rattle.cms_machine.specs.Acts.{Act, Done, Turn, Asks, bind}
+use Rattle.cms_machine.specs.Objects.{Back, Object, Reply, Want, answered}
+use Rattle.cms_machine.specs.Objects as object
+use Rattle.cms_line.specs.declared.message.Message.{Message}
+use Rattle.cms_line.specs.declared.message.Message.TheVariants.{M002, M037, M069}
+use Rattle.cms_operands.specs.declared.mode.ReadMode.TheVariants.{Letter}
+use Rattle.cms_search.specs.Asking.{Asked, Given, Spent, ask}
+use Rattle.cms_search.specs.Machine.{Course, Machine, letter_at, refusal, turned, typing}
+use Rattle.cms_search.specs.Machine as command
+use Rattle.cms_search.specs.Refusing.{device_fault, no_disk}
+use Rattle.cms_search.specs.Releasing.{vdev_of}
+use Rattle.cms_search.specs.Searches.{Shelf, shelves_in}
+use Rattle.cms_search.specs.Stepping.{Did, Failed, Stepped, reading, silently}
+use Rattle.cms_search.specs.Telling.{letter_text}
+use Rattle.cms_search.specs.declared.fault.SearchFault.{SearchFault}
+use Rattle.cms_search.specs.declared.fault.SearchFault.TheVariants as why
+use Rattle.cms_files.specs.Files.{UnitFile, file_on, file_read, no_file_code, writable}
+use Rattle.cms_files.specs.Gathering.{record_in}
+use Rattle.cms_files.specs.Updating.{updating}
+
+-- the machine, and the objects that the session was handed, in the order of their words
+pub record Desk : Type 0 where
+  pub machine : Machine
+  pub objects : List Object
+
+abbrev pub desk : Machine → List Object → Desk
+desk s objects = record { machine = s; objects = objects }
+
+-- the same objects beside another machine
+abbrev pub with_machine : Desk → Machine → Desk
+with_machine d s = record d { machine = s }
+
+-- what a want comes to: the extension is told a reply; it is done, with a code; or no turn is left for the line that it asks for
+pub data Met : Type 0 where
+  Told : Desk → Reply → Met
+  Over : Desk → ℤ → Met
+  NoTurns : Met
+
+-- how a run ends: with a code; or no turn is left
+pub data Ended : Type 0 where
+  Went : Desk → ℤ → Ended
+  OutOfTurns : Ended
+
+-- ---- refusals
+
+-- a refusal has typed its message, and the extension is told its code
+abbrev pub told_code : Desk → Course → Act Met
+told_code d (command.Went s code) = Done (Told (with_machine d s) (object.Refused code))
+told_code d command.OutOfTurns = Done NoTurns
+
+abbrev pub refusing : Desk → Act Course → Act Met
+refusing d refused = bind refused (told_code d)
+
+-- no disk has the letter, or its disk may only be read: 36; or the file isn't found, which is shown with its letter: 28
+abbrev pub unfound_message : Name → ℕ → SearchFault → Message
+unfound_message name n (why.NotAccessed m) = M069 (letter_text m)
+unfound_message name n (why.ReadOnly m) = M037 (letter_text m)
+unfound_message name n other = M002 name.file name.kind (letter_text n)
+
+abbrev pub unfound_code : SearchFault → ℕ
+unfound_code (why.NotAccessed m) = no_disk
+unfound_code (why.ReadOnly m) = no_disk
+unfound_code other = no_file_code
+
+abbrev pub unfound : Desk → Name → ℕ → SearchFault → Act Met
+unfound d name n fault = refusing d (refusal d.machine (unfound_message name n fault) (unfound_code fault))
+
+-- ---- a line that is asked for
+
+abbrev pub told_line : Desk → Asked → Act Met
+told_line d (Given s line) = Done (Told (with_machine d s) (object.Got line))
+told_line d Spent = Done NoTurns
+
+abbrev pub asking : Desk → Act Met
+asking d = bind (ask d.machine) (told_line d)
+
+-- ---- a file that is read
+
+-- all its records are read, and then handed over; nothing is erased: 105
+abbrev pub read_whole : Desk → UnitFile → Act Met
+read_whole d x =
+    reading silently x.unit x.file (length x.file.records) (Done (Told d (object.Records x.file.records)))
+    (refusing d (device_fault d.machine (vdev_of d.machine x.unit)))
+
+abbrev pub read_found : Desk → Name → ℕ → Result UnitFile SearchFault → Act Met
+read_found d name n (Ok x) = read_whole d x
+read_found d name n (Err fault) = unfound d name n fault
+
+-- the file of a name that TYPE finds by a letter: 069, 002, 105
+abbrev pub getting : Desk → Name → ℕ → Act Met
+getting d name n = read_found d name n (file_read d.machine (record { name = name; mode = Letter n }))
+
+-- ---- a file that is written
+
+-- a file of these records at the turn's moment; at F each is cut to its length, or filled with blanks
+abbrev pub file_with : Machine → Name → ℕ → Format → ℕ → List (List ℕ) → File
+file_with s name number format size records = record {
+  name = name;
+  number = number;
+  format = format;
+  length = length_of format size records;
+  stamp = stamp_of s.moment;
+  records = records;
+}
+
+abbrev pub file_of : Machine → Name → ℕ → Format → ℕ → List (List ℕ) → File
+file_of s name number format size records = file_with s name number format size (map (record_in format size) records)
+
+-- a new file has varying records and mode number 1; one that is there keeps its format and number, and at F the length
+abbrev pub file_put : Machine → Name → List (List ℕ) → Result UnitFile SearchFault → File
+file_put s name records (Err why) = file_of s name 1 V 0 records
+file_put s name records (Ok x) = file_of s name x.file.number x.file.format x.file.length records
+
+abbrev pub put_change : Machine → Name → ℕ → List (List ℕ) → Change
+put_change s name n records = Put (file_put s name records (file_on s name (letter_at s n)))
+
+abbrev pub told_step : Desk → Stepped → Act Met
+told_step d (Did s) = Done (Told (with_machine d s) object.Went)
+told_step d (Failed course) = told_code d course
+
+-- one update: 120, 107, 105
+abbrev pub put_on : Desk → Name → ℕ → List (List ℕ) → Act Met
+put_on d name n records = bind (updating d.machine n (put_change d.machine name n records)) (told_step d)
+
+abbrev pub put_found : Desk → Name → ℕ → List (List ℕ) → Result Shelf SearchFault → Act Met
+put_found d name n records (Ok shelf) = put_on d name n records
+put_found d name n records (Err fault) = unfound d name n fault
+
+-- the file of a name on the disk of a letter is written: 069, 037, 120, 107, 105
+abbrev pub putting : Desk → Name → ℕ → List (List ℕ) → Act Met
+putting d name n records = put_found d name n records (writable (shelves_in d.machine) n)
+
+-- ---- the run
+
+-- what is wanted is done: lines are typed, a line is asked for, a file is read or written
+abbrev pub meeting : Desk → Want → Act Met
+meeting d (object.Say lines) = typing lines (Done (Told d object.Went))
+meeting d object.Ask = asking d
+meeting d (object.Get name n) = getting d name n
+meeting d (object.Put name n records) = putting d name n records
+meeting d (object.Ended code) = Done (Over d code)
+
+-- the object in a place holds what came back
+abbrev pub answered_at : Desk → ℕ → Object → Back → Desk
+answered_at d place o back = record d { objects = set d.objects place (answered o back) }
+
+-- it is told a reply, and what it wants is met
+abbrev pub told_at : Desk → ℕ → Reply → Option Object → Act Met
+told_at d place reply (Some o) = Asks place o reply (λ back. meeting (answered_at d place o back) back.want)
+told_at d place reply None = Done NoTurns
+
+abbrev pub round : ℕ → Desk → Reply → Act Met
+round place d reply = told_at d place reply (slice_get d.objects place)
+
+-- it is asked again in a turn of its own, which has its own moment
+abbrev pub again : (Desk → Reply → Act Ended) → Desk → Reply → ℕ → Act Ended
+again next d reply zero = Done OutOfTurns
+again next d reply (suc left) = Turn (λ seconds. next (with_machine d (turned d.machine left seconds)) reply)
+
+abbrev pub behind : (Desk → Reply → Act Ended) → Met → Act Ended
+behind next (Told d reply) = again next d reply d.machine.left
+behind next (Over d code) = Done (Went d code)
+behind next NoTurns = Done OutOfTurns
+
+-- so many rounds at most
+unfoldable pub running : ℕ → ℕ → Desk → Reply → Act Ended
+running place zero d reply = Done OutOfTurns
+running place (suc more) d reply = bind (round place d reply) (behind (running place more))
+
+-- the object in a place is told this first; each further round costs a turn, so one more than the turns is enough
+abbrev pub run_extension : ℕ → Desk → Reply → Act Ended
+run_extension place d reply = running place (suc d.machine.left) d reply

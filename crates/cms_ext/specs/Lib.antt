@@ -1,0 +1,7 @@
+pub mod Replies
+pub mod Words
+pub mod Objects
+pub mod Extensions
+pub mod Calls
+pub mod Exact
+pub mod Tally
