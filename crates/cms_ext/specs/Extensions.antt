@@ -53,12 +53,12 @@ pub data Ended : Type 0 where
 -- ---- refusals
 
 -- a refusal has typed its message, and the extension is told its code
-abbrev pub told_code : Desk → Course → Act Met
-told_code d (command.Went s code) = Done (Told (with_machine d s) (object.Refused code))
-told_code d command.OutOfTurns = Done NoTurns
+abbrev pub told_code : List Object → Course → Act Met
+told_code objects (command.Went s code) = Done (Told (desk s objects) (object.Refused code))
+told_code objects command.OutOfTurns = Done NoTurns
 
-abbrev pub refusing : Desk → Act Course → Act Met
-refusing d refused = bind refused (told_code d)
+abbrev pub refusing : List Object → Act Course → Act Met
+refusing objects refused = bind refused (told_code objects)
 
 -- no disk has the letter, or its disk may only be read: 36; or the file isn't found, which is shown with its letter: 28
 abbrev pub unfound_message : Name → ℕ → SearchFault → Message
@@ -72,16 +72,16 @@ unfound_code (why.ReadOnly m) = no_disk
 unfound_code other = no_file_code
 
 abbrev pub unfound : Desk → Name → ℕ → SearchFault → Act Met
-unfound d name n fault = refusing d (refusal d.machine (unfound_message name n fault) (unfound_code fault))
+unfound d name n fault = refusing d.objects (refusal d.machine (unfound_message name n fault) (unfound_code fault))
 
 -- ---- a line that is asked for
 
-abbrev pub told_line : Desk → Asked → Act Met
-told_line d (Given s line) = Done (Told (with_machine d s) (object.Got line))
-told_line d Spent = Done NoTurns
+abbrev pub told_line : List Object → Asked → Act Met
+told_line objects (Given s line) = Done (Told (desk s objects) (object.Got line))
+told_line objects Spent = Done NoTurns
 
 abbrev pub asking : Desk → Act Met
-asking d = bind (ask d.machine) (told_line d)
+asking d = bind (ask d.machine) (told_line d.objects)
 
 -- ---- a file that is read
 
@@ -89,7 +89,7 @@ asking d = bind (ask d.machine) (told_line d)
 abbrev pub read_whole : Desk → UnitFile → Act Met
 read_whole d x =
     reading silently x.unit x.file (length x.file.records) (Done (Told d (object.Records x.file.records)))
-    (refusing d (device_fault d.machine (vdev_of d.machine x.unit)))
+    (refusing d.objects (device_fault d.machine (vdev_of d.machine x.unit)))
 
 abbrev pub read_found : Desk → Name → ℕ → Result UnitFile SearchFault → Act Met
 read_found d name n (Ok x) = read_whole d x
@@ -123,13 +123,13 @@ file_put s name records (Ok x) = file_of s name x.file.number x.file.format x.fi
 abbrev pub put_change : Machine → Name → ℕ → List (List ℕ) → Change
 put_change s name n records = Put (file_put s name records (file_on s name (letter_at s n)))
 
-abbrev pub told_step : Desk → Stepped → Act Met
-told_step d (Did s) = Done (Told (with_machine d s) object.Went)
-told_step d (Failed course) = told_code d course
+abbrev pub told_step : List Object → Stepped → Act Met
+told_step objects (Did s) = Done (Told (desk s objects) object.Went)
+told_step objects (Failed course) = told_code objects course
 
 -- one update: 120, 107, 105
 abbrev pub put_on : Desk → Name → ℕ → List (List ℕ) → Act Met
-put_on d name n records = bind (updating d.machine n (put_change d.machine name n records)) (told_step d)
+put_on d name n records = bind (updating d.machine n (put_change d.machine name n records)) (told_step d.objects)
 
 abbrev pub put_found : Desk → Name → ℕ → List (List ℕ) → Result Shelf SearchFault → Act Met
 put_found d name n records (Ok shelf) = put_on d name n records
