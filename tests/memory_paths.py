@@ -34,6 +34,7 @@ NEVER = {
     ("cms_listfile", "line.len() > LONGEST_TEXT"): "a line of a listing has at most 77 bytes",
     ("cms_listfile", "records.data(WRITTEN_NUMBER, stamp)"): "there is a line of &TRACE OFF or a file, and a record has 80 bytes",
     ("cms_execio", "records.data(NEW_NUMBER, stamp)"): "there is a line, and none of more than 255 bytes",
+    ("cms_ext", "gathered.data(form.number, stamp)"): "there is a record, and none of more than 65,535 bytes",
     ("cms_files", "self.count.checked_add(1)"): "fewer than 2^32 lines are gathered, 10,000 asked for or one a file",
     ("cms_records", "into.len().checked_add(size)"): "no memory has 2^64 bytes",
     ("cms_disk", "front.count.checked_add(behind.count)"): "two files have at most 2,097,152 records",

@@ -72,7 +72,8 @@ unfound_code (why.ReadOnly m) = no_disk
 unfound_code other = no_file_code
 
 abbrev pub unfound : Desk → Name → ℕ → SearchFault → Act Met
-unfound d name n fault = refusing d.objects (refusal d.machine (unfound_message name n fault) (unfound_code fault))
+unfound d name n fault =
+    refusing d.objects (refusal d.machine (unfound_message name n fault) (unfound_code fault))
 
 -- ---- a line that is asked for
 
@@ -88,7 +89,8 @@ asking d = bind (ask d.machine) (told_line d.objects)
 -- all its records are read, and then handed over; nothing is erased: 105
 abbrev pub read_whole : Desk → UnitFile → Act Met
 read_whole d x =
-    reading silently x.unit x.file (length x.file.records) (Done (Told d (object.Records x.file.records)))
+    reading silently x.unit x.file (length x.file.records)
+    (Done (Told d (object.Records x.file.records)))
     (refusing d.objects (device_fault d.machine (vdev_of d.machine x.unit)))
 
 abbrev pub read_found : Desk → Name → ℕ → Result UnitFile SearchFault → Act Met
@@ -97,7 +99,8 @@ read_found d name n (Err fault) = unfound d name n fault
 
 -- the file of a name that TYPE finds by a letter: 069, 002, 105
 abbrev pub getting : Desk → Name → ℕ → Act Met
-getting d name n = read_found d name n (file_read d.machine (record { name = name; mode = Letter n }))
+getting d name n =
+    read_found d name n (file_read d.machine (record { name = name; mode = Letter n }))
 
 -- ---- a file that is written
 
@@ -113,7 +116,8 @@ file_with s name number format size records = record {
 }
 
 abbrev pub file_of : Machine → Name → ℕ → Format → ℕ → List (List ℕ) → File
-file_of s name number format size records = file_with s name number format size (map (record_in format size) records)
+file_of s name number format size records =
+    file_with s name number format size (map (record_in format size) records)
 
 -- a new file has varying records and mode number 1; one that is there keeps its format and number, and at F the length
 abbrev pub file_put : Machine → Name → List (List ℕ) → Result UnitFile SearchFault → File
@@ -129,7 +133,8 @@ told_step objects (Failed course) = told_code objects course
 
 -- one update: 120, 107, 105
 abbrev pub put_on : Desk → Name → ℕ → List (List ℕ) → Act Met
-put_on d name n records = bind (updating d.machine n (put_change d.machine name n records)) (told_step d.objects)
+put_on d name n records =
+    bind (updating d.machine n (put_change d.machine name n records)) (told_step d.objects)
 
 abbrev pub put_found : Desk → Name → ℕ → List (List ℕ) → Result Shelf SearchFault → Act Met
 put_found d name n records (Ok shelf) = put_on d name n records
@@ -155,7 +160,8 @@ answered_at d place o back = record d { objects = set d.objects place (answered 
 
 -- it is told a reply, and what it wants is met
 abbrev pub told_at : Desk → ℕ → Reply → Option Object → Act Met
-told_at d place reply (Some o) = Asks place o reply (λ back. meeting (answered_at d place o back) back.want)
+told_at d place reply (Some o) =
+    Asks place o reply (λ back. meeting (answered_at d place o back) back.want)
 told_at d place reply None = Done NoTurns
 
 abbrev pub round : ℕ → Desk → Reply → Act Met
@@ -164,7 +170,8 @@ round place d reply = told_at d place reply (slice_get d.objects place)
 -- it is asked again in a turn of its own, which has its own moment
 abbrev pub again : (Desk → Reply → Act Ended) → Desk → Reply → ℕ → Act Ended
 again next d reply zero = Done OutOfTurns
-again next d reply (suc left) = Turn (λ seconds. next (with_machine d (turned d.machine left seconds)) reply)
+again next d reply (suc left) =
+    Turn (λ seconds. next (with_machine d (turned d.machine left seconds)) reply)
 
 abbrev pub behind : (Desk → Reply → Act Ended) → Met → Act Ended
 behind next (Told d reply) = again next d reply d.machine.left

@@ -1,5 +1,4 @@
 pub mod Replies
-pub mod Words
 pub mod Objects
 pub mod Extensions
 pub mod Calls

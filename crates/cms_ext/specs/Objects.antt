@@ -16,10 +16,16 @@ abbrev pub Means : (X : Type 0) → (X → Type 0) → Type 1
 Means X T = (k : X) → Ghosts (T k)
 
 -- the object of a box under a word
-abbrev pub object_under : {X : Type 0} {T : X → Type 0} → Means X T → List ℕ → (k : X) → T k → Object
-object_under means word k value = record { word = word; does = (means k).does; content = (means k).content value }
+abbrev pub object_under : {X : Type 0} {T : X → Type 0}
+    → Means X T → List ℕ → (k : X) → T k → Object
+object_under means word k value = record {
+  word = word;
+  does = (means k).does;
+  content = (means k).content value;
+}
 
-abbrev pub object_in : {X : Type 0} {T : X → Type 0} → Means X T → List ℕ → DynBox X Global T → Object
+abbrev pub object_in : {X : Type 0} {T : X → Type 0}
+    → Means X T → List ℕ → DynBox X Global T → Object
 object_in means word b = object_under means word b.vtable b.value
 
 -- the objects of a list, in its order

@@ -13,8 +13,8 @@ pub(crate) fn ask(
 ) -> Result<ExtWant, AllocError>
     ensures same { (⟦<dyn Extension as Extension>⟧ object.new.vtable).does
         ≡ (⟦<dyn Extension as Extension>⟧ object.old.vtable).does }
-    ensures answers { Answers (⟦<dyn Extension as Extension>⟧ object.old.vtable).does (content object.old) reply.now
-        (content object.new) result }
+    ensures answers { Answers (⟦<dyn Extension as Extension>⟧ object.old.vtable).does
+        (content object.old) reply.now (content object.new) result }
 {
     object.turn(alloc, reply)
 }

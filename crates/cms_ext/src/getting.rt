@@ -1,9 +1,11 @@
 // A file that an extension reads.
-ghost use Rattle.std.specs.Prelude.{◌≡◌, List, IfOk};
-ghost use Rattle.cms_machine.specs.Objects.{Object};
-ghost use Rattle.cms_model.specs.Records.{IsValid, StandsFor};
-ghost use Rattle.cms_search.specs.Calls.{Acts, IsUsable, spot};
-ghost use Rattle.cms_ext.specs.Calls.{desk_of, met_of};
+ghost use Rattle.std.specs.Prelude.{◌≡◌, IfOk};
+ghost use Rattle.cms_model.specs.Records.{IsValid};
+ghost use Rattle.cms_records.specs.Stored.{records_in};
+ghost use Rattle.cms_search.specs.Calls.{IsUsable, spot};
+ghost use Rattle.cms_search.specs.Machine.{letter_at};
+ghost use Rattle.cms_files.specs.Files.{file_on};
+ghost use Rattle.cms_ext.specs.Calls.{Meets};
 ghost use Rattle.cms_ext.specs.Extensions as spec;
 
 use crate::extension::ExtReply;
@@ -21,6 +23,7 @@ use std::alloc::{AllocError, Global};
 // The records in the data of a file.
 fn records_of(alloc: Global, file: &FileData) -> Result<Records, AllocError>
     requires { IsValid file.now }
+    ensures { IfOk result (λ records. records ≡ records_in file.now) }
 {
     let mut records = Records::new(alloc);
     for record in StoredRecords::of(file) {
@@ -29,7 +32,7 @@ fn records_of(alloc: Global, file: &FileData) -> Result<Records, AllocError>
     Ok(records)
 }
 
-// Reads the file of a name on the disk of a letter whole.
+// Reads the file of a name whole, which was looked for by one letter, on the disk of another.
 fn read_on<W: World>(
     alloc: Global,
     world: &mut W,
@@ -39,6 +42,9 @@ fn read_on<W: World>(
     found: u8,
 ) -> Result<Met, End>
     requires usable { IsUsable (spot W.World world.old state.now) }
+    ensures { Meets (spot W.World world.old state.now) (spot W.World world.new state.now)
+        (λ d. spec.read_found d name.now letter (file_on d.machine name.now (letter_at d.machine found)))
+        result }
 {
     let vdev = state.table.vdev(found);
     let Some(disk) = state.table.disk(found) else {
@@ -69,8 +75,8 @@ pub(crate) fn get<W: World>(
     letter: u8,
 ) -> Result<Met, End>
     requires usable { IsUsable (spot W.World world.old state.now) }
-    ensures { (objects : List Object) → Acts (spot W.World world.old state.now) (spot W.World world.new state.now)
-        (λ units. spec.getting (desk_of state.now objects units) name.now letter) result (met_of state.now objects) }
+    ensures { Meets (spot W.World world.old state.now) (spot W.World world.new state.now)
+        (λ d. spec.getting d name.now letter) result }
 {
     match state.table.find_read(name, &ReadMode::Letter(letter)) {
         Ok(found) => read_on(alloc, world, state, name, letter, found.letter),

@@ -1,4 +1,9 @@
 // Extensions under their words.
+ghost use Rattle.std.proofs.Props.{props};
+ghost use Rattle.std.specs.List.{IsDistinct};
+ghost use Rattle.std.specs.Prelude.{map, length, ◌<◌, ◌^◌};
+ghost use Rattle.std.specs.Str.{bytes_eq};
+
 use crate::asking::ask;
 use crate::extension::{ExtReply, ExtWant, Extension};
 use cms_names::Part;
@@ -17,8 +22,8 @@ struct Seat<T> {
 #[derive(Drop)]
 pub struct ExtList {
     seats: Vec<Seat<Box<dyn Extension>>>,
-    ghost few: { Rattle.cms_ext.specs.Words.AreFew (Rattle.std.specs.Prelude.map (λ s. s.word) seats.items) },
-    ghost differ: { Rattle.cms_ext.specs.Words.AllDiffer (Rattle.std.specs.Prelude.map (λ s. s.word) seats.items) },
+    ghost few: { length seats.items < 2 ^ 32 },
+    ghost differ: { IsDistinct bytes_eq (map (λ s. s.word) seats.items) } by { Prim.hlevel props },
 }
 
 /// Why an extension isn't taken; it comes back.
@@ -86,8 +91,8 @@ impl ExtList {
         ensures ok { OnOk result (objects_of ⟦<dyn Extension as Extension>⟧ self.new
             ≡ objects_of ⟦<dyn Extension as Extension>⟧ self.old
             ++ object_under ⟦<dyn Extension as Extension>⟧ word object.vtable object.value ∷ []) }
-        ensures err { OnErr result
-            (objects_of ⟦<dyn Extension as Extension>⟧ self.new ≡ objects_of ⟦<dyn Extension as Extension>⟧ self.old) }
+        ensures err { OnErr result (objects_of ⟦<dyn Extension as Extension>⟧ self.new
+            ≡ objects_of ⟦<dyn Extension as Extension>⟧ self.old) }
         ensures back { IfErr result (λ fault. (fault ≡ Twice object) ⊎ (fault ≡ Memory object)) }
         ensures twice { IsSome (place_of word (objects_of ⟦<dyn Extension as Extension>⟧ self.old))
             → result ≡ Err (Twice object) }
@@ -112,7 +117,8 @@ impl ExtList {
     /// The word in a place.
     pub fn word(&self, place: u32) -> &Part
         requires { HasPlace place (objects_of ⟦<dyn Extension as Extension>⟧ self.now) }
-        ensures { slice_get (words_of (objects_of ⟦<dyn Extension as Extension>⟧ self.now)) place ≡ Some result.now }
+        ensures { slice_get (words_of (objects_of ⟦<dyn Extension as Extension>⟧ self.now)) place
+            ≡ Some result.now }
     {
         &self.seats[place as usize].word
     }

@@ -1,9 +1,12 @@
 // What an extension wants is done.
-ghost use Rattle.std.specs.Prelude.{◌≡◌, ◌≤◌, true, List};
+ghost use Rattle.std.specs.Prelude.{◌≡◌, ◌≤◌, true};
 ghost use Rattle.cms_fields.specs.Moments.{is_moment};
-ghost use Rattle.cms_machine.specs.Objects.{Object};
-ghost use Rattle.cms_search.specs.Calls.{Acts, IsUsable, spot};
-ghost use Rattle.cms_ext.specs.Calls.{desk_of, met_of};
+ghost use Rattle.cms_machine.specs.Acts.{Done};
+ghost use Rattle.cms_machine.specs.Objects.{Went};
+ghost use Rattle.cms_search.specs.Calls.{Does, IsUsable, said, spot};
+ghost use Rattle.cms_search.specs.Machine.{typing};
+ghost use Rattle.cms_world.specs.Seen.{seen};
+ghost use Rattle.cms_ext.specs.Calls.{Meets};
 ghost use Rattle.cms_ext.specs.Extensions as spec;
 ghost use Rattle.cms_ext.specs.Replies.{MayBe, want_of};
 
@@ -27,15 +30,36 @@ pub(crate) enum Met {
 }
 
 // Types lines.
-fn say_all<W: World>(world: &mut W, lines: &Lines) -> Result<Met, End> {
+fn say_lines<W: World>(world: &mut W, lines: &Lines) -> Result<(), End>
+    ensures { Does (seen W.World world.old) (seen W.World world.new)
+        (typing lines.now (Done tt)) result said }
+{
     for line in lines.as_slice() {
         say(world, line.bytes())?;
     }
+    Ok(())
+}
+
+// Types the lines that an extension says.
+fn say_all<W: World>(world: &mut W, state: &State, lines: &Lines) -> Result<Met, End>
+    ensures { Meets (spot W.World world.old state.now) (spot W.World world.new state.now)
+        (λ d. typing lines.now (Done (spec.Told d Went))) result }
+{
+    say_lines(world, lines)?;
     Ok(Met::Told(ExtReply::Went))
 }
 
-// Asks for a line.
-fn ask<W: World>(alloc: Global, world: &mut W, state: &mut State) -> Result<Met, End> {
+// Asks for the line that an extension asks for.
+fn ask<W: World>(alloc: Global, world: &mut W, state: &mut State) -> Result<Met, End>
+    ensures acts { Meets (spot W.World world.old state.old) (spot W.World world.new state.new)
+        spec.asking result }
+    ensures kept { state.new ≡ record state.old {
+      stack = state.new.stack;
+      console = state.new.console;
+      left = state.new.left;
+    } }
+    ensures left { state.new.left ≤ state.old.left }
+{
     match state.ask(alloc, world)? {
         Asked::Given(line) => Ok(Met::Told(ExtReply::Got(line))),
         Asked::Spent => Ok(Met::NoTurns),
@@ -52,8 +76,8 @@ pub(crate) fn meet<W: World>(
     requires usable { IsUsable (spot W.World world.old state.old) }
     requires moment { is_moment state.old.moment ≡ true }
     requires may { MayBe want }
-    ensures acts { (objects : List Object) → Acts (spot W.World world.old state.old) (spot W.World world.new state.new)
-        (λ units. spec.meeting (desk_of state.old objects units) (want_of want)) result (met_of state.new objects) }
+    ensures acts { Meets (spot W.World world.old state.old) (spot W.World world.new state.new)
+        (λ d. spec.meeting d (want_of want)) result }
     ensures kept { state.new ≡ record state.old {
       table = state.new.table;
       stack = state.new.stack;
@@ -64,12 +88,10 @@ pub(crate) fn meet<W: World>(
     ensures left { state.new.left ≤ state.old.left }
 {
     match want {
-        ExtWant::Say(lines) => say_all(world, &lines),
+        ExtWant::Say(lines) => say_all(world, state, &lines),
         ExtWant::Ask => ask(alloc, world, state),
         ExtWant::Get(name, letter) => get(alloc, world, state, &name, letter),
-        ExtWant::Put(name, letter, records) => {
-            put(alloc, world, state, &name, letter, &records)
-        }
+        ExtWant::Put(name, letter, records) => put(alloc, world, state, &name, letter, &records),
         ExtWant::Done(code) => Ok(Met::Over(code)),
     }
 }

@@ -28,7 +28,7 @@ impl Record {
     pub fn of(alloc: Global, bytes: &[u8]) -> Result<Record, AllocError>
         requires some { 1 ≤ length bytes.now }
         requires short { length bytes.now ≤ longest_record }
-        ensures { IfOk result (λ record. record ≡ bytes.now) }
+        ensures { IfOk result (λ made. made ≡ bytes.now) }
     {
         Ok(Record {
             bytes: bytes.to_vec(alloc)?,

@@ -27,9 +27,12 @@ fn round<W: World>(
     requires usable { IsUsable (spot W.World world.old state.old) }
     requires moment { is_moment state.old.moment ≡ true }
     requires there { HasPlace place (objects_of ⟦<dyn Extension as Extension>⟧ list.old) }
-    ensures acts { Acts (spot_with W.World world.old state.old (objects_of ⟦<dyn Extension as Extension>⟧ list.old))
+    ensures acts { Acts
+        (spot_with W.World world.old state.old (objects_of ⟦<dyn Extension as Extension>⟧ list.old))
         (spot_with W.World world.new state.new (objects_of ⟦<dyn Extension as Extension>⟧ list.new))
-        (λ units. round place (desk_of state.old (objects_of ⟦<dyn Extension as Extension>⟧ list.old) units) (reply_of reply.now))
+        (λ units. round place
+        (desk_of state.old (objects_of ⟦<dyn Extension as Extension>⟧ list.old) units)
+        (reply_of reply.now))
         result (met_of state.new (objects_of ⟦<dyn Extension as Extension>⟧ list.new)) }
     ensures words { words_of (objects_of ⟦<dyn Extension as Extension>⟧ list.new)
         ≡ words_of (objects_of ⟦<dyn Extension as Extension>⟧ list.old) }
@@ -60,9 +63,11 @@ pub fn run<W: World>(
     requires moment { is_moment state.old.moment ≡ true }
     requires offset { IsOffset state.old.offset }
     requires there { HasPlace place (objects_of ⟦<dyn Extension as Extension>⟧ list.old) }
-    ensures acts { Acts (spot_with W.World world.old state.old (objects_of ⟦<dyn Extension as Extension>⟧ list.old))
+    ensures acts { Acts
+        (spot_with W.World world.old state.old (objects_of ⟦<dyn Extension as Extension>⟧ list.old))
         (spot_with W.World world.new state.new (objects_of ⟦<dyn Extension as Extension>⟧ list.new))
-        (run_tree state.old (objects_of ⟦<dyn Extension as Extension>⟧ list.old) place (reply_of reply))
+        (run_tree state.old (objects_of ⟦<dyn Extension as Extension>⟧ list.old) place
+        (reply_of reply))
         result (ended_of state.new (objects_of ⟦<dyn Extension as Extension>⟧ list.new)) }
     ensures words { words_of (objects_of ⟦<dyn Extension as Extension>⟧ list.new)
         ≡ words_of (objects_of ⟦<dyn Extension as Extension>⟧ list.old) }

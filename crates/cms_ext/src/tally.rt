@@ -2,6 +2,7 @@
 ghost use Rattle.std.specs.Prelude.{◌≡◌, ◌≤◌, ◌∷◌, [], IfOk, OnOk, OnErr};
 ghost use Rattle.cms_ext.specs.Exact.{exactly};
 ghost use Rattle.cms_ext.specs.Tally as spec;
+ghost use Rattle.cms_ext.specs.Tally.{most};
 ghost use Rattle.cms_ext.specs.declared.extension.ExtWant.TheVariants.{Say};
 
 use crate::extension::{ExtReply, ExtWant, Extension};
@@ -18,7 +19,7 @@ const UNKNOWN: i32 = 24;
 #[derive(Drop)]
 pub struct Tally {
     count: u32,
-    ghost few: { Rattle.std.specs.Prelude.◌≤◌ count 1000000000 },
+    ghost few: { count ≤ most },
 }
 
 impl Tally {
@@ -40,7 +41,8 @@ impl Tally {
 
     // Adds one, and says the count.
     fn start(&mut self, alloc: Global) -> Result<ExtWant, AllocError>
-        ensures says { IfOk result (λ want. want ≡ Say (spec.tally_line (spec.counted self.old.count) ∷ [])) }
+        ensures says { IfOk result (λ want.
+            want ≡ Say (spec.tally_line (spec.counted self.old.count) ∷ [])) }
         ensures counts { OnOk result (self.new.count ≡ spec.counted self.old.count) }
         ensures kept { OnErr result (self.new.count ≡ self.old.count) }
     {

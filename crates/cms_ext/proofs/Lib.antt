@@ -1,0 +1,9 @@
+pub mod Boxes
+pub mod Lists
+pub mod Counts
+pub mod Exact
+pub mod Refusals
+pub mod Meets
+pub mod Gets
+pub mod Puts
+pub mod Runs

@@ -1,0 +1,8 @@
+//! An extension of a few lines, as docs/EXTENSIONS.md shows it, and the tests of cms_ext. No part of the product.
+#![tactic(auto)]
+
+mod echo;
+#[cfg(test)]
+mod lists;
+
+pub use echo::Echo;

@@ -1,0 +1,89 @@
+// Lists of extensions.
+use cms_cases::{Subject, push_ascii, try_rows};
+use cms_ext::{ExtList, Extension, PushExt, Tally};
+use cms_names::Part;
+use cms_text::coded;
+use std::alloc::{AllocError, Global};
+use std::test::Fail;
+
+// Steps on a list: a capital letter hands a Tally in under it, its small letter asks for the place, and a digit drops what stands there.
+// What comes of the steps, and the words at last.
+const ROWS: &[(Lists, &str)] = &[(
+    Lists,
+    "ABabc => ..01- AB
+ABCA1acA0c => ...!.01!.0 C
+a => - ",
+)];
+
+// The lists that rows are of.
+#[derive(Clone, Copy)]
+struct Lists;
+
+// Hands a Tally in.
+fn push(alloc: Global, list: &mut ExtList, word: Part) -> Result<char, AllocError> {
+    let tally: Box<dyn Extension> = Box::new(alloc, Tally::new())?;
+    match list.push(word, tally) {
+        Ok(()) => Ok('.'),
+        Err(PushExt::Twice(_)) => Ok('!'),
+        Err(PushExt::Memory(_)) => Ok('?'),
+    }
+}
+
+// Asks for the place of a word, below 10.
+fn find(list: &ExtList, word: &Part) -> char {
+    match list.find(word) {
+        Some(place) => char::from(b'0' + (place % 10) as u8),
+        None => '-',
+    }
+}
+
+// Drops what stands in a place, where there is one.
+fn drop_at(list: &mut ExtList, place: u32) -> char {
+    if (place as usize) < list.len() {
+        list.drop_at(place);
+        '.'
+    } else {
+        '-'
+    }
+}
+
+// What comes of a step.
+fn step(alloc: Global, list: &mut ExtList, step: u8) -> Result<char, AllocError> {
+    if step.is_ascii_digit() {
+        return Ok(drop_at(list, u32::from(step - b'0')));
+    }
+    let Ok(word) = Part::read(&coded(&[step.to_ascii_uppercase()])) else {
+        return Ok('?');
+    };
+    if step.is_ascii_uppercase() {
+        push(alloc, list, word)
+    } else {
+        Ok(find(list, &word))
+    }
+}
+
+// Adds the words in their order.
+fn push_words(into: &mut String, list: &ExtList) -> Result<(), AllocError> {
+    for place in 0..list.len() as u32 {
+        push_ascii(into, list.word(place).as_bytes())?;
+    }
+    Ok(())
+}
+
+impl Subject for Lists {
+    fn answer(&self, alloc: Global, case: &str) -> Result<String, AllocError> {
+        let mut list = ExtList::new(alloc);
+        let mut found = String::new(alloc);
+        for byte in case.as_bytes() {
+            found.push(step(alloc, &mut list, *byte)?)?;
+        }
+        found.push(' ')?;
+        push_words(&mut found, &list)?;
+        Ok(found)
+    }
+}
+
+#[test]
+fn lists_have_their_answers(rt: HostRuntime) -> Result<(), Fail> {
+    try_rows(&rt, ROWS)
+}
