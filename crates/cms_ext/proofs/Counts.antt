@@ -1,11 +1,10 @@
 -- Tally's count, as it is written and read.
-use Rattle.std.proofs.Common.{◌≡◌, ◌∙◌, ◌+◌, ◌-◌, ◌*◌, ◌<◌, ◌≤◌, ◌^◌, ℕ, zero, suc, List, [], ◌∷◌, arith, ap, length, pos, refl, rules, subst, sym}
+use Rattle.std.proofs.Common.{◌≡◌, ◌∙◌, ◌+◌, ◌-◌, ◌*◌, ◌<◌, ◌≤◌, ◌^◌, ℕ, zero, suc, List, [], ◌∷◌, arith, ap, length, pos, refl, subst, sym}
 use Rattle.std.specs.Prelude.{Option, Some, None, codes, fold}
 use Rattle.std.specs.Fmt.{signed_decimal}
 use Rattle.std.proofs.lemmas.List.{length-append}
 use Rattle.std.specs.List.{cons_option, filter_map}
 use Rattle.std.specs.Int.{IsInRange}
-use Rattle.std.specs.Fmt.{decimal}
 use Rattle.std.specs.Str.Parse.{AllDigits}
 use Rattle.std.proofs.lemmas.Fmt.{digits_value-decimal, length_signed_le}
 use lib.Signed.{mag}

@@ -1,13 +1,11 @@
 -- An object that does exactly one thing does it by its test.
-use Rattle.std.proofs.Common.{◌≡◌, ◌∙◌, ◌<◌, ◌≤◌, ◌^◌, ℕ, true, List, [], ◌∷◌, Result, Ok, Err, arith, refl, sym, ap}
+use Rattle.std.proofs.Common.{◌≡◌, ◌∙◌, ◌≤◌, ℕ, true, List, [], ◌∷◌, Result, Ok, Err, arith, refl, sym, ap}
 use Rattle.std.specs.Prelude.{◌==◌, IfOk, OnErr, OnOk}
 use Rattle.std.specs.Str.{bytes_eq}
 use Rattle.std.specs.declared.alloc.AllocError.{AllocError}
 use Rattle.std.proofs.lemmas.Bool.{eq-eqb}
 use Rattle.std.proofs.lemmas.Cmp.{int_eq_equiv}
 use Rattle.std.proofs.lemmas.Slice.Eq.{bytes_eq-Decides}
-use Rattle.cms_names.specs.declared.name.Name.{Name}
-use Rattle.cms_model.specs.Minidisks.{same_name}
 use Rattle.cms_model.proofs.Changing.{name_self}
 use Rattle.cms_machine.specs.Objects as machine
 use Rattle.cms_machine.specs.Objects.{Content, Reply, Want, Say, Ask, Get, Put, Ended}

@@ -1,5 +1,5 @@
 -- A file that an extension reads: it is looked for, and read whole.
-use Rattle.std.proofs.Common.{◌≡◌, ◌≤◌, ◌<◌, ◌∙◌, inl, inr, ℕ, List, [], ◌∷◌, Option, Some, None, Result, Ok, Err, arith, pos, length, slice_get, slice_index_or, refl, sym, ap, subst}
+use Rattle.std.proofs.Common.{◌≡◌, ◌∙◌, inl, inr, ℕ, List, [], ◌∷◌, Option, Some, None, Result, Ok, Err, arith, pos, length, slice_get, slice_index_or, refl, sym, ap, subst}
 use Rattle.std.specs.Prelude.{◌⊎◌, IfErr, IfOk, IfSome}
 use Rattle.std.specs.Option.{option_map}
 use Rattle.cms_fields.specs.Steps.{◌>>=◌}
@@ -36,7 +36,7 @@ use Rattle.cms_disk.specs.declared.unit.UnitInfo.{UnitInfo}
 use Rattle.cms_disk.proofs.Finding.{stands_tells}
 use Rattle.cms_held.specs.LawsHeld.{IsFound}
 use Rattle.cms_world.specs.Seen.{Seen}
-use Rattle.cms_search.specs.Calls.{Acts, Comes, Does, Holds, IsLater, IsUsable, Meaning, Spot, at, course_of, holds, machine_of, refusal_tree, said}
+use Rattle.cms_search.specs.Calls.{Acts, Comes, Does, Holds, IsLater, IsUsable, Meaning, Spot, at, holds, machine_of, refusal_tree, said}
 use Rattle.cms_search.specs.Machine.{Course, Machine, letter_at}
 use Rattle.cms_search.specs.Refusing.{device_fault, unread_code, unread_message}
 use Rattle.cms_search.specs.Releasing.{vdev_of}
@@ -59,7 +59,7 @@ use Rattle.cms_search.proofs.Handing.{acts_never, later_read, named_so, passes_r
 use Rattle.cms_search.proofs.Meeting.{holds_shows, letter_is, meets_at, readable_seat}
 use Rattle.cms_search.proofs.Released.{vdev_is}
 use Rattle.cms_search.proofs.Stepped.{has_device}
-use Rattle.cms_files.specs.Files.{UnitFile, file_on, file_read}
+use Rattle.cms_files.specs.Files.{UnitFile, file_on}
 use Rattle.cms_files.proofs.Found.{found_held}
 use Rattle.cms_files.proofs.OpenedFiles.{none_named, none_on, none_with, seat_with}
 use Rattle.cms_ext.specs.Calls.{desk_of, met_of, met_with}

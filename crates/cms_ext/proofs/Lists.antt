@@ -1,5 +1,5 @@
 -- What a list's items are seen as, and words that differ.
-use Rattle.std.proofs.Common.{◌≡◌, ◌≢◌, ◌∙◌, ℕ, zero, suc, ◌+◌, ◌<◌, ◌^◌, arith, List, [], ◌∷◌, ◌++◌, map, Result, Err, refl, sym, ap, ap₂, subst}
+use Rattle.std.proofs.Common.{◌≡◌, ◌∙◌, ℕ, zero, suc, ◌+◌, ◌<◌, arith, List, [], ◌∷◌, ◌++◌, map, Result, Err, refl, sym, ap, ap₂, subst}
 use Rattle.std.specs.Prelude.{Bool, true, false, cond, ◌||◌, nat_lt, is_some, if◌then◌else◌, not, position, remove, length, take, drop, set, get_or, Option, Some, None, slice_get}
 use Rattle.std.specs.Cmp.Lexicographic.{nat_list_eq_equiv}
 use Rattle.std.specs.List.{AllByRecursion, IsDistinct, list_any, prefix_len, drop-map}
@@ -126,9 +126,10 @@ gone_from word (o ∷ os) all =
 -- objects under words that differ are distinct
 pub distinct : (os : List Object) → IsDistinct bytes_eq (words_of os) → AreDistinct os
 distinct [] differ = tt
-distinct (o ∷ os) differ =
-    (gone_from o.word os (IsDistinct-head bytes_eq o.word (words_of os) differ),
-    distinct os (IsDistinct-tail bytes_eq o.word (words_of os) differ))
+distinct (o ∷ os) differ = (
+  gone_from o.word os (IsDistinct-head bytes_eq o.word (words_of os) differ),
+  distinct os (IsDistinct-tail bytes_eq o.word (words_of os) differ),
+)
 
 -- ---- the seats of a list, each seen as an object
 

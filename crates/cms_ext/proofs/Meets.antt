@@ -1,5 +1,5 @@
 -- Lines that an extension says, and the line that it asks for.
-use Rattle.std.proofs.Common.{◌≡◌, ◌+◌, ◌≤◌, ℕ, List, [], ◌∷◌, Result, Ok, Err, drop, length, refl, sym, ap, ◌∙◌, subst}
+use Rattle.std.proofs.Common.{◌≡◌, ◌+◌, ◌≤◌, ℕ, List, Ok, Err, drop, length, ap, ◌∙◌, subst}
 use Rattle.std.specs.Prelude.{Some, slice_get}
 use Rattle.std.proofs.lemmas.List.{drop_all}
 use Rattle.cms_machine.specs.Acts.{Act, Done, bind, saying, typed_line}
@@ -12,7 +12,6 @@ use Rattle.cms_search.specs.Talks.{ask_tree, asked_of}
 use Rattle.cms_search.specs.declared.asking.Asked as declared_asked
 use Rattle.cms_search.specs.declared.asking.Asked.TheVariants as asked
 use Rattle.cms_search.specs.declared.state.End.{End}
-use Rattle.cms_search.specs.declared.state.State.{State}
 use Rattle.cms_world.specs.Seen.{Seen}
 use Rattle.cms_search.proofs.Acts.{acts_done, acts_same, acts_stop, comes_does, comes_in, does_stop}
 use Rattle.cms_search.proofs.Lined.{Reached, nothing, reached_none, reached_off, reached_on, reached_to, typing_first, typing_none, typing_then}

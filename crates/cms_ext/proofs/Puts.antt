@@ -10,22 +10,20 @@ use Rattle.cms_fields.specs.Moments.{stamp_of}
 use Rattle.cms_fields.specs.declared.time.Stamp.{Stamp}
 use Rattle.cms_model.specs.Changes.{Change, Put}
 use Rattle.cms_model.specs.declared.file.FileData.{FileData}
-use Rattle.cms_machine.specs.Acts.{Act, Done, bind}
+use Rattle.cms_machine.specs.Acts.{Act, bind}
 use Rattle.cms_machine.specs.Objects.{Object}
 use Rattle.cms_machine.specs.Slots.{Slot}
 use Rattle.cms_edf.specs.declared.held.FileInfo.{FileInfo}
 use Rattle.cms_disk.specs.Drafts as drafts
 use Rattle.cms_disk.specs.Drafts.{shape_of}
-use Rattle.cms_search.specs.Calls.{Acts, Meaning, Spot, course_of, holds, machine_of}
+use Rattle.cms_search.specs.Calls.{Acts, Meaning, Spot, holds, machine_of}
 use Rattle.cms_search.specs.Machine.{Machine, letter_at}
-use Rattle.cms_search.specs.Searches.{Shelf, item_at, shelves_in}
+use Rattle.cms_search.specs.Searches.{Shelf, shelves_in}
 use Rattle.cms_search.specs.Stepping.{Stepped}
-use Rattle.cms_search.specs.Tables.{letters_of, shelves_of, writing}
 use Rattle.cms_search.specs.declared.fault.SearchFault.{SearchFault}
 use Rattle.cms_search.specs.declared.state.Course as declared
 use Rattle.cms_search.specs.declared.state.Course.TheVariants as course
 use Rattle.cms_search.specs.declared.state.End.{End}
-use Rattle.cms_search.specs.declared.state.State.{State}
 use Rattle.cms_search.proofs.Acts.{acts_done, acts_same, acts_stop, comes_in}
 use Rattle.cms_search.proofs.Meeting.{holds_shows}
 use Rattle.cms_files.specs.Files.{UnitFile, file_on, writable}

@@ -1,17 +1,17 @@
 -- A run of an extension: rounds, one after another.
-use Rattle.std.proofs.Common.{◌≡◌, ◌∙◌, ◌+◌, ◌-◌, ◌<◌, ◌≤◌, ℕ, ℤ, zero, suc, true, List, Result, Ok, Err, arith, length, map, refl, sym, ap, subst}
-use Rattle.std.specs.Prelude.{Option, Some, remove, set, slice_get}
+use Rattle.std.proofs.Common.{◌≡◌, ◌∙◌, ◌-◌, ◌≤◌, ℕ, ℤ, suc, true, List, Result, Ok, Err, arith, refl, sym, ap, subst}
+use Rattle.std.specs.Prelude.{Option, Some, remove}
 use Rattle.std.specs.declared.alloc.AllocError.{AllocError}
 use Rattle.cms_fields.specs.Moments.{is_moment}
-use Rattle.cms_machine.specs.Acts.{Act, Done, Drops, Turn, bind}
+use Rattle.cms_machine.specs.Acts.{Act, Drops, bind}
 use Rattle.cms_machine.specs.Objects.{Back, Object, Reply}
 use Rattle.cms_machine.specs.Slots.{Slot}
 use Rattle.cms_machine.specs.Points.{Point}
 use Rattle.cms_machine.specs.Runs.{Ran}
 use Rattle.cms_machine.proofs.Single.{broke_before, ran_ask, ran_drop}
 use Rattle.cms_world.specs.Seen.{Seen}
-use Rattle.cms_search.specs.Calls.{Acts, Comes, Meaning, SpotWith, at, holds, machine_of, spot_at, spot_beside}
-use Rattle.cms_search.specs.Machine.{Machine, turned}
+use Rattle.cms_search.specs.Calls.{Acts, Comes, SpotWith, at, spot_at}
+use Rattle.cms_search.specs.Machine.{Machine}
 use Rattle.cms_search.specs.Turns.{machine_now, turning_tree}
 use Rattle.cms_search.specs.declared.state.Course as declared
 use Rattle.cms_search.specs.declared.state.Course.TheVariants as course
@@ -29,7 +29,7 @@ use Rattle.cms_ext.specs.declared.extension.ExtReply.{ExtReply}
 use Rattle.cms_ext.specs.declared.extension.ExtWant.{ExtWant}
 use Rattle.cms_ext.specs.declared.meeting.Met as declared_met
 use Rattle.cms_ext.specs.declared.meeting.Met.TheVariants as met
-use Rattle.cms_ext.proofs.Lists.{objects_kept, place_kept, words_kept}
+use Rattle.cms_ext.proofs.Lists.{objects_kept, place_kept}
 
 -- where a session with these objects stands
 abbrev pub spot_in : Seen → State → (objects : List Object) → SpotWith objects

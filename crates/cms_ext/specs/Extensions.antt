@@ -1,5 +1,5 @@
 -- A run of an extension: it is asked, what it wants is met, and it is asked again with the reply, until it is done.
-use Rattle.std.specs.Prelude.{ℕ, zero, suc, ℤ, pos, List, map, length, set, Option, Some, None, slice_get, Result, Ok, Err}
+use Rattle.std.specs.Prelude.{ℕ, zero, suc, ℤ, List, map, length, set, Option, Some, None, slice_get, Result, Ok, Err}
 use Rattle.cms_names.specs.declared.name.Format.{Format}
 use Rattle.cms_names.specs.declared.name.Format.TheVariants.{V}
 use Rattle.cms_names.specs.declared.name.Name.{Name}

@@ -1,5 +1,5 @@
 -- What an extension is told, what it wants, and what a call of it says.
-use Rattle.std.specs.Prelude.{◌≡◌, ℕ, ℤ, pos, negsuc, ◌<◌, ◌≤◌, nat_le, nat_lt, Bool, true, length, Result, IfOk, OnErr, ⊤}
+use Rattle.std.specs.Prelude.{◌≡◌, ℤ, pos, negsuc, ◌<◌, ◌≤◌, nat_le, nat_lt, Bool, true, length, Result, IfOk, OnErr, ⊤}
 use Rattle.std.specs.declared.alloc.AllocError.{AllocError}
 use Rattle.cms_machine.specs.Objects.{Content, Reply, Test, Want}
 use Rattle.cms_machine.specs.Objects as machine
