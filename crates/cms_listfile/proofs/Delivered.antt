@@ -19,7 +19,7 @@ use Rattle.cms_search.proofs.Meeting.{holds_shows}
 use Rattle.cms_search.proofs.Talking.{silent}
 use Rattle.cms_files.specs.Updating.{went}
 use Rattle.cms_listfile.specs.Listfile.{with_header}
-use Rattle.cms_listfile.specs.Listing.{header, line_to, lines_of, told_columns}
+use Rattle.cms_listfile.specs.Listing.{header, line_to, lines_of, told_columns, years_of}
 use Rattle.cms_listfile.specs.Told.{line_told, lines_told, listed_at}
 use Rattle.cms_listfile.specs.declared.columns.Columns.{Columns}
 use Rattle.cms_listfile.specs.declared.line.ListedFile.{ListedFile}
@@ -90,14 +90,14 @@ listing_stacked old new end style found lines r is a =
 
 pub untold : (w : Seen) (last : Columns) (t : Accesses) (found : Found) (x : Unit {0}) → listed_at t found ≡ None → Does w w (typing (line_told last t found) nothing) (Ok x) said
 untold w last t found x none =
-    let lines : line_told last t found ≡ [] = ap (λ (o : Option ListedFile). option_map_or (λ (f : ListedFile). line_to last (told_columns f) ∷ []) o []) none in
+    let lines : line_told last t found ≡ [] = ap (λ (o : Option ListedFile). option_map_or (λ (f : ListedFile). line_to last (told_columns (years_of last) f) ∷ []) o []) none in
     subst (λ (l : List (List ℕ)). Does w w (typing l nothing) (Ok x) said) (sym lines)
     (subst (λ (a : Act (Unit {0})). Does w w a (Ok x) said) (sym typing_none) (silent w x))
 
-pub told_line : (last : Columns) (t : Accesses) (found : Found) (file : ListedFile) (line : List ℕ) → listed_at t found ≡ Some file → line ≡ line_to last (told_columns file)
+pub told_line : (last : Columns) (t : Accesses) (found : Found) (file : ListedFile) (line : List ℕ) → listed_at t found ≡ Some file → line ≡ line_to last (told_columns (years_of last) file)
     → line_told last t found ≡ line ∷ []
 told_line last t found file line at is =
-    ap (λ (o : Option ListedFile). option_map_or (λ (f : ListedFile). line_to last (told_columns f) ∷ []) o []) at ∙ ap (λ (l : List ℕ). l ∷ []) (sym is)
+    ap (λ (o : Option ListedFile). option_map_or (λ (f : ListedFile). line_to last (told_columns (years_of last) f) ∷ []) o []) at ∙ ap (λ (l : List ℕ). l ∷ []) (sym is)
 
 -- the header's
 pub header_said : (before now : Seen) (style : ListStyle) (line : List ℕ) (r : Result (Unit {0}) End) → style.header ≡ true → line ≡ header style.columns

@@ -99,6 +99,21 @@ unfolding list_operands operands_of given given_or pattern text_of is_pattern_ch
     decimal_of written digits stored_size
 columns = (refl, refl, refl, refl, refl, refl, refl, refl)
 
+-- FULLDATE shows the whole year, and the columns go to the date at least
+whole_years : (lists (one_disk (other_format ∷ [])) (codes "LISTFILE (FULLDATE")
+    ≡ types (codes "FILENAME FILETYPE FM F LRECL  RECORDS   BLOCKS DATE       TIME"
+    ∷ codes "LONGNAME T        A6 F    80       40        7 01/01/2000 00:01:09" ∷ []) 0)
+    × (lists (one_disk (other_format ∷ [])) (codes "LISTFILE (FUL LABEL")
+    ≡ types (codes "FILENAME FILETYPE FM F LRECL  RECORDS   BLOCKS DATE       TIME     LABEL"
+    ∷ codes "LONGNAME T        A6 F    80       40        7 01/01/2000 00:01:09 TEST01" ∷ []) 0)
+    × (lists (one_disk (other_format ∷ [])) (codes "LISTFILE (NOHEADER FNAME FULLD")
+    ≡ types (codes "LONGNAME T        A6 F    80       40        7 01/01/2000 00:01:09" ∷ []) 0)
+unfolding list_operands operands_of given given_or pattern text_of is_pattern_character is_name_character reading_mode mode_word_of short_mode_of letter_of mode_number_of ended chosen_of
+    options_of options_from
+    all_valued valued setting_in last_among ebcdic code_of code_page host_of upper_of character_of tokens_of tokens_from message_of message_text typed_line typing places_from fits
+    decimal_of written digits stored_size
+whole_years = (refl, refl, refl)
+
 -- ---- lines that are stacked
 
 abbrev waiting : Machine
@@ -202,10 +217,11 @@ refused : (lists both (codes "LISTFILE A! * =") ≡ types (codes "CMS062E Name A
     × (lists both (codes "LISTFILE (BLUE") ≡ types (codes "CMS003E Option BLUE is not valid" ∷ []) 24)
     × (lists both (codes "LISTFILE (FO) X") ≡ types (codes "CMS070E Operand X is not valid" ∷ []) 24)
     × (lists both (codes "LISTFILE * * C (F") ≡ types (codes "CMS003E Option F is not valid" ∷ []) 24)
+    × (lists both (codes "LISTFILE * * C (FU") ≡ types (codes "CMS003E Option FU is not valid" ∷ []) 24)
 unfolding list_operands operands_of given given_or pattern text_of is_pattern_character is_name_character reading_mode mode_word_of short_mode_of letter_of mode_number_of ended chosen_of
     options_of options_from
     all_valued valued setting_in last_among ebcdic code_of code_page host_of upper_of character_of tokens_of tokens_from message_of message_text typed_line typing places_from fits
-refused = (refl, refl, refl, refl, refl, refl)
+refused = (refl, refl, refl, refl, refl, refl, refl)
 
 -- the input's disk, the disk that is written, and then the files
 abbrev only_b : Machine

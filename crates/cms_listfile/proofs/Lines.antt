@@ -23,26 +23,30 @@ use Rattle.cms_world.specs.Seen.{Seen}
 use Rattle.cms_search.proofs.Lined.{Reached, nothing, reached_none, reached_off, reached_on, reached_to, typing_more, typing_none}
 use Rattle.cms_search.proofs.Released.{get_map, letter_told}
 use Rattle.cms_files.specs.Told.{info_found}
-use Rattle.cms_listfile.specs.Listing.{count_of, file_line, header, header_columns, info_of, line_to, lines_in, lines_of, lines_on, stamp_text, told_columns}
+use Rattle.cms_listfile.specs.Listing.{count_of, file_line, header, header_columns, info_of, line_to, lines_in, lines_of, lines_on, stamp_text, told_columns, years_of}
 use Rattle.cms_listfile.specs.Told.{full_header, line_told, lines_told, listed_at, listed_on, width}
 use Rattle.cms_listfile.specs.declared.columns.Columns.{Columns}
 use Rattle.cms_listfile.specs.declared.columns.Columns.TheVariants as to
+use Rattle.cms_listfile.specs.declared.columns.Years.{Years}
+use Rattle.cms_listfile.specs.declared.columns.Years.TheVariants.{Short, Whole}
 use Rattle.cms_listfile.specs.declared.line.ListedFile.{ListedFile}
 use Rattle.cms_listfile.proofs.Infos.{infos_told}
 
 -- ---- the header
 
-header_cut : (last : Columns) → take (width last) full_header ≡ spaced (take (count_of last) header_columns)
+header_cut : (last : Columns) → take (width last) (full_header (years_of last)) ≡ spaced (take (count_of last) (header_columns (years_of last)))
 unfolding code_of code_page
 header_cut to.Name = refl
 header_cut to.Kind = refl
 header_cut to.Mode = refl
 header_cut to.Format = refl
 header_cut to.Alloc = refl
-header_cut to.Date = refl
-header_cut to.Label = refl
+header_cut (to.Date Short) = refl
+header_cut (to.Date Whole) = refl
+header_cut (to.Label Short) = refl
+header_cut (to.Label Whole) = refl
 
-pub header_is : (last : Columns) (line : List ℕ) → line ≡ without_trailing_blanks (take (width last) full_header) → line ≡ header last
+pub header_is : (last : Columns) (line : List ℕ) → line ≡ without_trailing_blanks (take (width last) (full_header (years_of last))) → line ≡ header last
 header_is last line is = is ∙ ap without_trailing_blanks (header_cut last)
 
 -- ---- the date
@@ -51,11 +55,17 @@ spaced_more : (x : List ℕ) (xs : List (List ℕ)) (y : List ℕ) → spaced (x
 spaced_more x [] y = refl
 spaced_more x (z ∷ zs) y = append_assoc x (0x40 ∷ spaced (z ∷ zs)) (0x40 ∷ y) ∙ ap (λ (l : List ℕ). x ++ 0x40 ∷ l) (spaced_more z zs y)
 
-pub date_added : (f : ListedFile) (l l' : List ℕ) → l ≡ spaced (take 7 (told_columns f)) → l' ≡ l ++ 0x40 ∷ left_in 17 (stamp_text f.info.stamp) → l' ≡ spaced (take 8 (told_columns f))
-date_added f l l' is more =
-    let wide : left_in 17 (stamp_text f.info.stamp) ≡ stamp_text f.info.stamp = refl in
-    more ∙ ap (λ (k : List ℕ). l ++ 0x40 ∷ k) wide ∙ ap (λ (k : List ℕ). k ++ 0x40 ∷ stamp_text f.info.stamp) is
-    ∙ spaced_more (left_in 8 f.info.name.file) (take 6 (drop 1 (told_columns f))) (stamp_text f.info.stamp)
+pub date_added : (years : Years) (f : ListedFile) (l l' : List ℕ) → l ≡ spaced (take 7 (told_columns Short f)) → l' ≡ l ++ 0x40 ∷ stamp_text years f.info.stamp
+    → l' ≡ spaced (take 8 (told_columns years f))
+date_added years f l l' is more =
+    more ∙ ap (λ (k : List ℕ). k ++ 0x40 ∷ stamp_text years f.info.stamp) is
+    ∙ spaced_more (left_in 8 f.info.name.file) (take 6 (drop 1 (told_columns Short f))) (stamp_text years f.info.stamp)
+
+pub label_added : (years : Years) (f : ListedFile) (l l' : List ℕ) → l ≡ spaced (take 8 (told_columns years f)) → l' ≡ l ++ 0x40 ∷ left_in 6 f.volid
+    → l' ≡ spaced (take 9 (told_columns years f))
+label_added years f l l' is more =
+    more ∙ ap (λ (k : List ℕ). k ++ 0x40 ∷ left_in 6 f.volid) is
+    ∙ spaced_more (left_in 8 f.info.name.file) (take 7 (drop 1 (told_columns years f))) (left_in 6 f.volid)
 
 -- ---- a file that was found
 
@@ -75,7 +85,7 @@ listed_so t found d x is told = cases (item_at t.seats found.letter) is told
 
 abbrev shown_in : Columns → Found → ℕ → List ℕ → Option FileInfo → List (List ℕ)
 shown_in last found n volid x =
-    option_map_or (λ (f : ListedFile). line_to last (told_columns f) ∷ []) (option_map (λ (i : FileInfo). record { letter = n; volid = volid; info = i }) x) []
+    option_map_or (λ (f : ListedFile). line_to last (told_columns (years_of last) f) ∷ []) (option_map (λ (i : FileInfo). record { letter = n; volid = volid; info = i }) x) []
 
 one_shown : (last : Columns) (found : Found) (m : Minidisk) (x : Option File)
     → option_map_or (λ f. file_line last found.letter m f ∷ []) x [] ≡ shown_in last found found.letter m.volid (option_map (info_of m.bsize) x)
@@ -83,7 +93,7 @@ one_shown last found m None = refl
 one_shown last found m (Some f) = refl
 
 abbrev told_at : Columns → Found → Option Seated → List (List ℕ)
-told_at last found x = option_map_or (λ (f : ListedFile). line_to last (told_columns f) ∷ [])
+told_at last found x = option_map_or (λ (f : ListedFile). line_to last (told_columns (years_of last) f) ∷ [])
     (option_and_then (λ s. option_map (listed_on found.letter s.disk.volume) (slice_get (infos_in s.disk.volume) found.place)) x) []
 
 line_shown : (last : Columns) (t : Accesses) (s : Machine) (found : Found) → Shows t s → lines_on s last found (letter_at s found.letter) ≡ line_told last t found

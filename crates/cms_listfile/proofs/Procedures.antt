@@ -14,7 +14,7 @@ use Rattle.cms_files.specs.declared.gathering.Gathered.{Gathered}
 use Rattle.cms_search.specs.Tables.{Accesses}
 use Rattle.cms_search.specs.declared.search.Found.{Found}
 use Rattle.cms_listfile.specs.Listfile.{procedure_lines, records_in}
-use Rattle.cms_listfile.specs.Listing.{line_to, told_columns}
+use Rattle.cms_listfile.specs.Listing.{line_to, told_columns, years_of}
 use Rattle.cms_listfile.specs.Told.{line_told, lines_told, listed_at}
 use Rattle.cms_listfile.specs.declared.columns.Columns.{Columns}
 use Rattle.cms_listfile.specs.declared.line.ListedFile.{ListedFile}
@@ -34,7 +34,7 @@ lines_append format size a b =
 pub none_gathered : (format : Format) (size : ℕ) (some : List (List ℕ)) (last : Columns) (t : Accesses) (found : Found) (g : Gathered) → listed_at t found ≡ None
     → IsGathered format size some g → IsGathered format size (some ++ lines_for format size (line_told last t found)) g
 none_gathered format size some last t found g none is =
-    let lines : line_told last t found ≡ [] = ap (λ (o : Option ListedFile). option_map_or (λ (f : ListedFile). line_to last (told_columns f) ∷ []) o []) none in
+    let lines : line_told last t found ≡ [] = ap (λ (o : Option ListedFile). option_map_or (λ (f : ListedFile). line_to last (told_columns (years_of last) f) ∷ []) o []) none in
     subst (λ (l : List (List ℕ)). IsGathered format size l g) (sym (ap (λ (l : List (List ℕ)). some ++ lines_for format size l) lines ∙ append-nil some)) is
 
 pub one_gathered : (format : Format) (size : ℕ) (some : List (List ℕ)) (last : Columns) (t : Accesses) (found : Found) (line text : List ℕ) (g : Gathered)

@@ -28,9 +28,10 @@ use Rattle.cms_files.specs.Stacking.{stacking}
 use Rattle.cms_files.specs.Updating.{last_update, went}
 use Rattle.cms_files.specs.declared.stacking.StackEnd.{StackEnd}
 use Rattle.cms_files.specs.declared.stacking.StackEnd.TheVariants.{Front, Back}
-use Rattle.cms_listfile.specs.Listing.{count_of, header, lines_of}
+use Rattle.cms_listfile.specs.Listing.{count_of, header, lines_of, whole_years}
 use Rattle.cms_listfile.specs.declared.columns.Columns.{Columns}
 use Rattle.cms_listfile.specs.declared.columns.Columns.TheVariants as to
+use Rattle.cms_listfile.specs.declared.columns.Years.TheVariants.{Short}
 use Rattle.cms_listfile.specs.declared.listfile.Delivery.{Delivery}
 use Rattle.cms_listfile.specs.declared.listfile.Delivery.TheVariants as goes
 use Rattle.cms_listfile.specs.declared.listfile.ListFiles.{ListFiles}
@@ -54,7 +55,7 @@ options =
     ∷ flag (codes "FNAME   ") 2 ∷ flag (codes "FTYPE   ") 2 ∷ flag (codes "FMODE   ") 2 ∷ flag (codes "FORMAT  ") 2
     ∷ flag (codes "ALLOC   ") 2 ∷ flag (codes "DATE    ") 1 ∷ flag (codes "LABEL   ") 1
     ∷ flag (codes "STACK   ") 2 ∷ flag (codes "FIFO    ") 2 ∷ flag (codes "LIFO    ") 2
-    ∷ flag (codes "EXEC    ") 2 ∷ flag (codes "APPEND  ") 2 ∷ []
+    ∷ flag (codes "EXEC    ") 2 ∷ flag (codes "APPEND  ") 2 ∷ flag (codes "FULLDATE") 3 ∷ []
 
 -- the last column of an option
 abbrev pub column_of : ℕ → Columns
@@ -63,13 +64,17 @@ column_of nth =
     else (if nth == 3 then to.Kind
     else (if nth == 5 then to.Format
     else (if nth == 6 then to.Alloc
-    else (if nth == 7 then to.Date
-    else (if nth == 8 then to.Label
+    else (if nth == 7 then to.Date Short
+    else (if nth == 8 then to.Label Short
     else to.Mode)))))
 
 -- FMODE where no column is given
+abbrev pub named_columns : List ChosenOption → Columns
+named_columns chosen = option_map_or (λ o. column_of o.nth) (last_among (2 ∷ 3 ∷ 4 ∷ 5 ∷ 6 ∷ 7 ∷ 8 ∷ []) chosen) to.Mode
+
+-- with FULLDATE the date has the whole year, and the columns go to it at least
 abbrev pub columns_of : List ChosenOption → Columns
-columns_of chosen = option_map_or (λ o. column_of o.nth) (last_among (2 ∷ 3 ∷ 4 ∷ 5 ∷ 6 ∷ 7 ∷ 8 ∷ []) chosen) to.Mode
+columns_of chosen = if is_some (last_among (14 ∷ []) chosen) then whole_years (named_columns chosen) else named_columns chosen
 
 -- the header is on from FORMAT on; HEADER and NOHEADER set it
 abbrev pub header_of : Columns → List ChosenOption → Bool

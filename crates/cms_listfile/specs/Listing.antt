@@ -17,6 +17,8 @@ use Rattle.cms_search.specs.declared.search.Found.{Found}
 use Rattle.cms_files.specs.Files.{mode_text}
 use Rattle.cms_listfile.specs.declared.columns.Columns.{Columns}
 use Rattle.cms_listfile.specs.declared.columns.Columns.TheVariants as to
+use Rattle.cms_listfile.specs.declared.columns.Years.{Years}
+use Rattle.cms_listfile.specs.declared.columns.Years.TheVariants.{Short, Whole}
 use Rattle.cms_listfile.specs.declared.line.ListedFile.{ListedFile}
 
 -- ---- columns
@@ -28,23 +30,47 @@ count_of to.Kind = 2
 count_of to.Mode = 3
 count_of to.Format = 5
 count_of to.Alloc = 7
-count_of to.Date = 8
-count_of to.Label = 9
+count_of (to.Date years) = 8
+count_of (to.Label years) = 9
+
+-- how much of a year they show
+abbrev pub years_of : Columns → Years
+years_of to.Name = Short
+years_of to.Kind = Short
+years_of to.Mode = Short
+years_of to.Format = Short
+years_of to.Alloc = Short
+years_of (to.Date years) = years
+years_of (to.Label years) = years
+
+-- with whole years they go to the date at least
+abbrev pub whole_years : Columns → Columns
+whole_years to.Name = to.Date Whole
+whole_years to.Kind = to.Date Whole
+whole_years to.Mode = to.Date Whole
+whole_years to.Format = to.Date Whole
+whole_years to.Alloc = to.Date Whole
+whole_years (to.Date years) = to.Date Whole
+whole_years (to.Label years) = to.Label Whole
 
 -- the first of these columns with one blank between, without the blanks at the end
 abbrev pub line_to : Columns → List (List ℕ) → List ℕ
 line_to last columns = without_trailing_blanks (spaced (take (count_of last) columns))
 
-abbrev pub header_columns : List (List ℕ)
-header_columns =
+abbrev pub date_header : Years → List ℕ
+date_header Short = coded (codes "DATE     TIME    ")
+date_header Whole = coded (codes "DATE       TIME    ")
+
+abbrev pub header_columns : Years → List (List ℕ)
+header_columns years =
     coded (codes "FILENAME") ∷ coded (codes "FILETYPE") ∷ coded (codes "FM")
     ∷ coded (codes "F") ∷ coded (codes "LRECL")
     ∷ coded (codes " RECORDS") ∷ coded (codes "  BLOCKS")
-    ∷ coded (codes "DATE     TIME    ")
+    ∷ date_header years
     ∷ coded (codes "LABEL ") ∷ []
 
 abbrev pub header : Columns → List ℕ
-header last = line_to last header_columns
+header last = line_to last (header_columns (years_of last))
 
 -- ---- a file's columns
 
@@ -52,14 +78,19 @@ abbrev pub format_text : Format → List ℕ
 format_text format.F = coded (codes "F")
 format_text format.V = coded (codes "V")
 
--- two decimal digits
+-- the last two decimal digits
 abbrev pub two_digits : ℕ → List ℕ
 two_digits n = (0xF0 + n / 10 % 10) ∷ (0xF0 + n % 10) ∷ []
 
--- mm/dd/yy hh:mm:ss
-abbrev pub stamp_text : Stamp → List ℕ
-stamp_text s =
-    two_digits s.month ++ 0x61 ∷ (two_digits s.day ++ 0x61 ∷ (two_digits s.year
+-- yy or yyyy
+abbrev pub year_text : Years → ℕ → List ℕ
+year_text Short n = two_digits n
+year_text Whole n = two_digits (n / 100) ++ two_digits n
+
+-- mm/dd/yy hh:mm:ss or mm/dd/yyyy hh:mm:ss
+abbrev pub stamp_text : Years → Stamp → List ℕ
+stamp_text years s =
+    two_digits s.month ++ 0x61 ∷ (two_digits s.day ++ 0x61 ∷ (year_text years s.year
     ++ 0x40 ∷ (two_digits s.hour ++ 0x7A ∷ (two_digits s.minute ++ 0x7A ∷ two_digits s.second))))
 
 -- the blocks of a file's records, without the pointer blocks over them
@@ -79,16 +110,16 @@ info_of bsize f = record {
 }
 
 -- name, type, mode, format, length, records, data blocks, date with time, and the label of the disk
-abbrev pub told_columns : ListedFile → List (List ℕ)
-told_columns f =
+abbrev pub told_columns : Years → ListedFile → List (List ℕ)
+told_columns years f =
     left_in 8 f.info.name.file ∷ left_in 8 f.info.name.kind ∷ mode_text f.letter f.info.number
     ∷ format_text f.info.format ∷ right_in 5 (decimal_of f.info.length)
     ∷ right_in 8 (decimal_of f.info.count) ∷ right_in 8 (decimal_of f.info.blocks)
-    ∷ stamp_text f.info.stamp
+    ∷ stamp_text years f.info.stamp
     ∷ left_in 6 f.volid ∷ []
 
 abbrev pub file_line : Columns → ℕ → Minidisk → File → List ℕ
-file_line last n m f = line_to last (told_columns (record { letter = n; volid = m.volid; info = info_of m.bsize f }))
+file_line last n m f = line_to last (told_columns (years_of last) (record { letter = n; volid = m.volid; info = info_of m.bsize f }))
 
 -- ---- the lines of files that were found
 

@@ -10,16 +10,19 @@ use Rattle.cms_search.specs.Searches.{item_at}
 use Rattle.cms_search.specs.Tables.{Accesses, letters_of, writing}
 use Rattle.cms_search.specs.declared.search.Found.{Found}
 use Rattle.cms_listfile.specs.Listfile.{disk_a}
-use Rattle.cms_listfile.specs.Listing.{line_to, told_columns}
+use Rattle.cms_listfile.specs.Listing.{line_to, told_columns, years_of}
 use Rattle.cms_listfile.specs.declared.columns.Columns.{Columns}
 use Rattle.cms_listfile.specs.declared.columns.Columns.TheVariants as to
+use Rattle.cms_listfile.specs.declared.columns.Years.{Years}
+use Rattle.cms_listfile.specs.declared.columns.Years.TheVariants.{Short, Whole}
 use Rattle.cms_listfile.specs.declared.line.ListedFile.{ListedFile}
 use Rattle.cms_listfile.specs.declared.listfile.Delivery.{Delivery}
 use Rattle.cms_listfile.specs.declared.listfile.Delivery.TheVariants as goes
 
 -- the header of all columns as one text, and how many bytes of it the columns have up to each
-abbrev pub full_header : List ℕ
-full_header = coded (codes "FILENAME FILETYPE FM F LRECL  RECORDS   BLOCKS DATE     TIME     LABEL ")
+abbrev pub full_header : Years → List ℕ
+full_header Short = coded (codes "FILENAME FILETYPE FM F LRECL  RECORDS   BLOCKS DATE     TIME     LABEL   ")
+full_header Whole = coded (codes "FILENAME FILETYPE FM F LRECL  RECORDS   BLOCKS DATE       TIME     LABEL ")
 
 abbrev pub width : Columns → ℕ
 width to.Name = 8
@@ -27,8 +30,10 @@ width to.Kind = 17
 width to.Mode = 20
 width to.Format = 28
 width to.Alloc = 46
-width to.Date = 64
-width to.Label = 71
+width (to.Date Short) = 64
+width (to.Date Whole) = 66
+width (to.Label Short) = 71
+width (to.Label Whole) = 73
 
 -- a file of the volume of a letter
 abbrev pub listed_on : ℕ → HeldVolume → FileInfo → ListedFile
@@ -42,7 +47,7 @@ listed_at t found =
 
 -- its line
 abbrev pub line_told : Columns → Accesses → Found → List (List ℕ)
-line_told last t found = option_map_or (λ f. line_to last (told_columns f) ∷ []) (listed_at t found) []
+line_told last t found = option_map_or (λ f. line_to last (told_columns (years_of last) f) ∷ []) (listed_at t found) []
 
 abbrev pub lines_told : Columns → Accesses → List Found → List (List ℕ)
 lines_told last t found = flat_map (λ f. line_told last t f) found

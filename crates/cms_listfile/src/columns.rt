@@ -2,6 +2,15 @@
 ghost use Rattle.std.specs.Prelude.{◌≡◌};
 ghost use Rattle.cms_listfile.specs.Listing as spec;
 
+/// How much of a year is shown.
+#[derive(Clone, Copy)]
+pub enum Years {
+    /// its last two digits
+    Short,
+    /// all four
+    Whole,
+}
+
 /// How far the columns of a line go; each has those in front of it too.
 #[derive(Clone, Copy)]
 pub enum Columns {
@@ -16,9 +25,9 @@ pub enum Columns {
     /// the records and the data blocks
     Alloc,
     /// the date and the time
-    Date,
+    Date(Years),
     /// the volume id of the disk
-    Label,
+    Label(Years),
 }
 
 impl Columns {
@@ -32,8 +41,28 @@ impl Columns {
             Columns::Mode => 3,
             Columns::Format => 5,
             Columns::Alloc => 7,
-            Columns::Date => 8,
-            Columns::Label => 9,
+            Columns::Date(_) => 8,
+            Columns::Label(_) => 9,
+        }
+    }
+
+    /// How much of a year the date shows; where no date is shown it doesn't matter.
+    pub fn years(self) -> Years
+        ensures { result ≡ spec.years_of self }
+    {
+        match self {
+            Columns::Date(years) | Columns::Label(years) => years,
+            _ => Years::Short,
+        }
+    }
+
+    /// These columns with whole years: they go to the date at least.
+    pub fn with_whole_years(self) -> Columns
+        ensures { result ≡ spec.whole_years self }
+    {
+        match self {
+            Columns::Label(_) => Columns::Label(Years::Whole),
+            _ => Columns::Date(Years::Whole),
         }
     }
 }

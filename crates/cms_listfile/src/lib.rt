@@ -8,6 +8,6 @@ mod listing;
 mod running;
 mod writing;
 
-pub use columns::Columns;
+pub use columns::{Columns, Years};
 pub use listfile::{Delivery, ListFiles, ListLine, ListStyle, list_line};
 pub use running::run_listfile;

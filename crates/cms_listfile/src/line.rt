@@ -3,9 +3,10 @@ ghost use Rattle.std.specs.Prelude.{◌≡◌, ◌+◌, ◌/◌, ◌%◌, IfOk, 
 ghost use Rattle.cms_search.specs.Telling.{spaced};
 ghost use Rattle.cms_files.specs.Files.{mode_text};
 ghost use Rattle.cms_listfile.specs.Listing as spec;
+ghost use Rattle.cms_listfile.specs.declared.columns.Years.TheVariants.{Short, Whole};
 ghost use Rattle.cms_listfile.specs.Told as told;
 
-use crate::columns::Columns;
+use crate::columns::{Columns, Years};
 use cms_disk::FileInfo;
 use cms_fields::Stamp;
 use cms_names::Format;
@@ -37,9 +38,41 @@ fn ones(number: u16) -> u8
     ZERO + (number % 10) as u8
 }
 
+// mm/dd/yyyy hh:mm:ss
+fn whole_text(stamp: &Stamp) -> [u8; 19]
+    ensures { result ≡ spec.stamp_text Whole stamp.now }
+{
+    let month = u16::from(stamp.month);
+    let day = u16::from(stamp.day);
+    let hour = u16::from(stamp.hour);
+    let minute = u16::from(stamp.minute);
+    let second = u16::from(stamp.second);
+    [
+        tens(month),
+        ones(month),
+        STROKE,
+        tens(day),
+        ones(day),
+        STROKE,
+        tens(stamp.year / 100),
+        ones(stamp.year / 100),
+        tens(stamp.year),
+        ones(stamp.year),
+        BLANK,
+        tens(hour),
+        ones(hour),
+        COLON,
+        tens(minute),
+        ones(minute),
+        COLON,
+        tens(second),
+        ones(second),
+    ]
+}
+
 // mm/dd/yy hh:mm:ss
-fn stamp_text(stamp: &Stamp) -> [u8; 17]
-    ensures { result ≡ spec.stamp_text stamp.now }
+fn short_text(stamp: &Stamp) -> [u8; 17]
+    ensures { result ≡ spec.stamp_text Short stamp.now }
 {
     let month = u16::from(stamp.month);
     let day = u16::from(stamp.day);
@@ -85,13 +118,15 @@ fn mode_text(letter: u8, number: u8) -> [u8; 2]
 
 impl ListedFile {
     fn to_name(&self, alloc: Global) -> Result<Vec<u8>, AllocError>
-        ensures { IfOk result (λ line. line.items ≡ spaced (take 1 (spec.told_columns self.now))) }
+        ensures { IfOk result (λ line. line.items
+            ≡ spaced (take 1 (spec.told_columns Short self.now))) }
     {
         first_column(alloc, 8, self.info.name.file.as_bytes())
     }
 
     fn to_kind(&self, alloc: Global) -> Result<Vec<u8>, AllocError>
-        ensures { IfOk result (λ line. line.items ≡ spaced (take 2 (spec.told_columns self.now))) }
+        ensures { IfOk result (λ line. line.items
+            ≡ spaced (take 2 (spec.told_columns Short self.now))) }
     {
         let mut line = self.to_name(alloc)?;
         add_left(alloc, &mut line, 8, self.info.name.kind.as_bytes())?;
@@ -99,7 +134,8 @@ impl ListedFile {
     }
 
     fn to_mode(&self, alloc: Global) -> Result<Vec<u8>, AllocError>
-        ensures { IfOk result (λ line. line.items ≡ spaced (take 3 (spec.told_columns self.now))) }
+        ensures { IfOk result (λ line. line.items
+            ≡ spaced (take 3 (spec.told_columns Short self.now))) }
     {
         let mut line = self.to_kind(alloc)?;
         add_left(
@@ -112,7 +148,8 @@ impl ListedFile {
     }
 
     fn to_format(&self, alloc: Global) -> Result<Vec<u8>, AllocError>
-        ensures { IfOk result (λ line. line.items ≡ spaced (take 5 (spec.told_columns self.now))) }
+        ensures { IfOk result (λ line. line.items
+            ≡ spaced (take 5 (spec.told_columns Short self.now))) }
     {
         let mut line = self.to_mode(alloc)?;
         add_left(alloc, &mut line, 1, &format_text(self.info.format))?;
@@ -126,7 +163,8 @@ impl ListedFile {
     }
 
     fn to_alloc(&self, alloc: Global) -> Result<Vec<u8>, AllocError>
-        ensures { IfOk result (λ line. line.items ≡ spaced (take 7 (spec.told_columns self.now))) }
+        ensures { IfOk result (λ line. line.items
+            ≡ spaced (take 7 (spec.told_columns Short self.now))) }
     {
         let mut line = self.to_format(alloc)?;
         add_right(
@@ -144,25 +182,48 @@ impl ListedFile {
         Ok(line)
     }
 
-    fn to_date(&self, alloc: Global) -> Result<Vec<u8>, AllocError>
-        ensures { IfOk result (λ line. line.items ≡ spaced (take 8 (spec.told_columns self.now))) }
+    fn to_short_date(&self, alloc: Global) -> Result<Vec<u8>, AllocError>
+        ensures { IfOk result (λ line. line.items
+            ≡ spaced (take 8 (spec.told_columns Short self.now))) }
     {
         let mut line = self.to_alloc(alloc)?;
-        add_left(alloc, &mut line, 17, &stamp_text(&self.info.stamp))?;
+        add_left(alloc, &mut line, 17, &short_text(&self.info.stamp))?;
         Ok(line)
     }
 
-    fn to_label(&self, alloc: Global) -> Result<Vec<u8>, AllocError>
-        ensures { IfOk result (λ line. line.items ≡ spaced (take 9 (spec.told_columns self.now))) }
+    fn to_whole_date(&self, alloc: Global) -> Result<Vec<u8>, AllocError>
+        ensures { IfOk result (λ line. line.items
+            ≡ spaced (take 8 (spec.told_columns Whole self.now))) }
     {
-        let mut line = self.to_date(alloc)?;
+        let mut line = self.to_alloc(alloc)?;
+        add_left(alloc, &mut line, 19, &whole_text(&self.info.stamp))?;
+        Ok(line)
+    }
+
+    fn to_date(&self, alloc: Global, years: Years) -> Result<Vec<u8>, AllocError>
+        ensures { IfOk result (λ line. line.items
+            ≡ spaced (take 8 (spec.told_columns years self.now))) }
+    {
+        match years {
+            Years::Short => self.to_short_date(alloc),
+            Years::Whole => self.to_whole_date(alloc),
+        }
+    }
+
+    fn to_label(&self, alloc: Global, years: Years) -> Result<Vec<u8>, AllocError>
+        ensures { IfOk result (λ line. line.items
+            ≡ spaced (take 9 (spec.told_columns years self.now))) }
+    {
+        let mut line = self.to_date(alloc, years)?;
         add_left(alloc, &mut line, 6, &self.volid)?;
         Ok(line)
     }
 
     // The columns up to this one, with one blank between.
     fn columns_to(&self, alloc: Global, last: Columns) -> Result<Vec<u8>, AllocError>
-        ensures { IfOk result (λ line. line.items ≡ spaced (take (spec.count_of last) (spec.told_columns self.now))) }
+        ensures { IfOk result (λ line. line.items
+            ≡ spaced (take (spec.count_of last)
+            (spec.told_columns (spec.years_of last) self.now))) }
     {
         match last {
             Columns::Name => self.to_name(alloc),
@@ -170,14 +231,15 @@ impl ListedFile {
             Columns::Mode => self.to_mode(alloc),
             Columns::Format => self.to_format(alloc),
             Columns::Alloc => self.to_alloc(alloc),
-            Columns::Date => self.to_date(alloc),
-            Columns::Label => self.to_label(alloc),
+            Columns::Date(years) => self.to_date(alloc, years),
+            Columns::Label(years) => self.to_label(alloc, years),
         }
     }
 
     /// The line of the file with its columns up to this one.
     pub fn line(&self, alloc: Global, last: Columns) -> Result<Vec<u8>, AllocError>
-        ensures { IfOk result (λ line. line.items ≡ spec.line_to last (spec.told_columns self.now)) }
+        ensures { IfOk result (λ line. line.items
+            ≡ spec.line_to last (spec.told_columns (spec.years_of last) self.now)) }
     {
         let columns = self.columns_to(alloc, last)?;
         without_trailing_blanks(&columns).to_vec(alloc)
@@ -185,10 +247,17 @@ impl ListedFile {
 }
 
 // The header of all columns.
-fn full_header() -> [u8; 71]
-    ensures { result ≡ told.full_header }
+fn full_header(years: Years) -> [u8; 73]
+    ensures { result ≡ told.full_header years }
 {
-    coded(b"FILENAME FILETYPE FM F LRECL  RECORDS   BLOCKS DATE     TIME     LABEL ")
+    match years {
+        Years::Short => {
+            coded(b"FILENAME FILETYPE FM F LRECL  RECORDS   BLOCKS DATE     TIME     LABEL   ")
+        }
+        Years::Whole => {
+            coded(b"FILENAME FILETYPE FM F LRECL  RECORDS   BLOCKS DATE       TIME     LABEL ")
+        }
+    }
 }
 
 // How many bytes the columns have up to this one.
@@ -201,8 +270,10 @@ fn width(last: Columns) -> usize
         Columns::Mode => 20,
         Columns::Format => 28,
         Columns::Alloc => 46,
-        Columns::Date => 64,
-        Columns::Label => 71,
+        Columns::Date(Years::Short) => 64,
+        Columns::Date(Years::Whole) => 66,
+        Columns::Label(Years::Short) => 71,
+        Columns::Label(Years::Whole) => 73,
     }
 }
 
@@ -210,7 +281,7 @@ fn width(last: Columns) -> usize
 pub fn header(alloc: Global, last: Columns) -> Result<Vec<u8>, AllocError>
     ensures { IfOk result (λ line. line.items ≡ spec.header last) }
 {
-    let text = full_header();
+    let text = full_header(last.years());
     let line = without_trailing_blanks(&text[..width(last)]).to_vec(alloc)?;
     Ok(line)
 }

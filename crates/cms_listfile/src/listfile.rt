@@ -3,7 +3,7 @@ ghost use Rattle.std.specs.Prelude.{◌≡◌};
 ghost use Rattle.cms_operands.specs.Choices.{AnswersLine};
 ghost use Rattle.cms_listfile.specs.Listfile as spec;
 
-use crate::columns::Columns;
+use crate::columns::{Columns, Years};
 use cms_files::{StackEnd, is_last};
 use cms_line::{Token, Tokens};
 use cms_names::Pattern;
@@ -57,7 +57,7 @@ fn list_operands(operands: &[Token]) -> Result<ListFiles, Refusal>
     Ok(ListFiles { file, kind, mode })
 }
 
-fn options() -> [OptionForm; 14]
+fn options() -> [OptionForm; 15]
     ensures { result ≡ spec.options }
 {
     [
@@ -75,6 +75,7 @@ fn options() -> [OptionForm; 14]
         OptionForm::flag(b"LIFO    ", 2),
         OptionForm::flag(b"EXEC    ", 2),
         OptionForm::flag(b"APPEND  ", 2),
+        OptionForm::flag(b"FULLDATE", 3),
     ]
 }
 
@@ -87,9 +88,19 @@ fn column_of(nth: u32) -> Columns
         3 => Columns::Kind,
         5 => Columns::Format,
         6 => Columns::Alloc,
-        7 => Columns::Date,
-        8 => Columns::Label,
+        7 => Columns::Date(Years::Short),
+        8 => Columns::Label(Years::Short),
         _ => Columns::Mode,
+    }
+}
+
+// How far the columns go by the option that names the last.
+fn named_columns(chosen: &[ChosenOption]) -> Columns
+    ensures { result ≡ spec.named_columns chosen.now }
+{
+    match last_among(&[2, 3, 4, 5, 6, 7, 8], chosen) {
+        Some(option) => column_of(option.nth),
+        None => Columns::Mode,
     }
 }
 
@@ -97,10 +108,11 @@ fn column_of(nth: u32) -> Columns
 fn columns_of(chosen: &[ChosenOption]) -> Columns
     ensures { result ≡ spec.columns_of chosen.now }
 {
-    match last_among(&[2, 3, 4, 5, 6, 7, 8], chosen) {
-        Some(option) => column_of(option.nth),
-        None => Columns::Mode,
+    let named = named_columns(chosen);
+    if last_among(&[14], chosen).is_some() {
+        return named.with_whole_years();
     }
+    named
 }
 
 // Whether the lines have a header.

@@ -58,6 +58,13 @@ R;
 FILENAME FILETYPE FM F LRECL  RECORDS   BLOCKS DATE     TIME     LABEL
 BETA     DATA     A2 V     4        4        1 12/31/99 23:59:59 TEST01
 R;
+> L BETA (FULLDATE
+FILENAME FILETYPE FM F LRECL  RECORDS   BLOCKS DATE       TIME
+BETA     DATA     A2 V     4        4        1 12/31/1999 23:59:59
+R;
+> L BETA (FUL LABEL NOHEADER
+BETA     DATA     A2 V     4        4        1 12/31/1999 23:59:59 TEST01
+R;
 > L BETA (HEADER
 FILENAME FILETYPE FM
 BETA     DATA     A2
@@ -82,6 +89,21 @@ BETA     DATA     A2
 R;
 > L BETA (LABEL FNAME
 BETA
+R;
+# one file
+> LISTFILE A FILE A (FULLDATE NOHEADER
+A        FILE     A1 V     5        1        1 01/01/2000 00:00:02
+R;
+# one file, last century
+> LISTFILE A FILE A (FULLDATE NOHEADER
+A        FILE     A1 V     5        1        1 01/01/1900 00:00:02
+R;
+> LISTFILE A FILE A (DATE NOHEADER
+A        FILE     A1 V     5        1        1 01/01/00 00:00:02
+R;
+# one file, leap day
+> LISTFILE A FILE A (NOHEADER DATE FULLDATE
+A        FILE     A1 V     5        1        1 02/29/1900 23:59:59
 R;
 ";
 
@@ -121,6 +143,9 @@ CMS070E Operand X is not valid
 R(00024);
 > L (F
 CMS003E Option F is not valid
+R(00024);
+> L (FU
+CMS003E Option FU is not valid
 R(00024);
 > L (DATE (
 CMS003E Option ( is not valid
@@ -209,10 +234,17 @@ R(00028);
 | LISTFILE BETA DATA A (LIFO LABEL NOHEADER
 | &READ STRING &X
 | &TYPE &X
+| LISTFILE BETA DATA A (STACK FULLDATE
+| &READ STRING &X
+| &READ STRING &Y
+| &TYPE &X
+| &TYPE &Y
 > P
 FILENAME FILETYPE FM F LRECL  RECORDS   BLOCKS DATE     TIME
 BETA     DATA     A2 V     4        4        1 12/31/99 23:59:59
 BETA     DATA     A2 V     4        4        1 12/31/99 23:59:59 TEST01
+FILENAME FILETYPE FM F LRECL  RECORDS   BLOCKS DATE       TIME
+BETA     DATA     A2 V     4        4        1 12/31/1999 23:59:59
 R;
 ";
 
@@ -232,6 +264,9 @@ R;
 R;
 > L CMS * A (DATE NOHEADER
 CMS      EXEC     A1 F    80        4        1 01/01/00 00:00:00
+R;
+> L CMS * A (FULLD NOHEADER FN
+CMS      EXEC     A1 F    80        4        1 01/01/2000 00:00:00
 R;
 > L BX FILE A (APPEND FORMAT HEADER
 R;
@@ -264,6 +299,11 @@ R;
 R;
 > L CMS * A (ALLOC NOHEADER
 CMS      EXEC     A1 F    80        3        1
+R;
+> L BETA * A (EXEC LABEL FULLDATE
+R;
+> TYPE CMS EXEC A 2 (COL 1-79
+&1 &2 BETA     DATA     A2 V     4        4        1 12/31/1999 23:59:59 TEST01
 R;
 # rows
 > L AB * A (APPEND

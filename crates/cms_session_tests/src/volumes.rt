@@ -217,6 +217,15 @@ const ON_THIRD: &[Edit] = &[
 // The root block of B FILE is that of A FILE.
 const ONE_ROOT: &[Edit] = &[(4, 232, &[0, 0, 0, 7])];
 
+// No entry of the directory of one file has the flag of the years from 2000 on, as in an older volume.
+const LAST_CENTURY: &[Edit] = &[(5, 31, &[0]), (5, 95, &[0]), (5, 159, &[0])];
+
+// Its file is of 29 February 1900.
+const LEAP_DAY: &[Edit] = &[
+    (5, 159, &[0]),
+    (5, 182, &[0x00, 0x02, 0x29, 0x23, 0x59, 0x59]),
+];
+
 // Block 9 is marked, and no file has it.
 const LAST_MARKED: &[Edit] = &[(6, 1, &[0x80])];
 
@@ -239,6 +248,8 @@ fn changes(name: &str) -> &'static [Edit] {
     match name {
         "no label" => NO_LABEL,
         "all marked" => MARKED,
+        "last century" => LAST_CENTURY,
+        "leap day" => LEAP_DAY,
         "last marked" => LAST_MARKED,
         "hidden" => HIDDEN_HELLO,
         "varying" => VARYING,

@@ -1,9 +1,7 @@
-use Rattle.std.proofs.Common.{◌∙◌, ◌∷◌, ◌++◌, List, ℕ, ap}
-use Rattle.cms_search.specs.Telling.{left_in}
-use Rattle.cms_listfile.proofs.Lines.{date_added}
 use Rattle.cms_listfile.proofs.line.ListedFile.to_date.Goals as goal
 
-pub returns : goal.returns
-returns c =
-    date_added c.args.self.now c.in_ok-line.line.items c.add_left.new.line.items c.in_ok-line.ensures
-    (c.in_ok-add_left.ensures ∙ ap (λ (t : List ℕ). c.in_ok-line.line.items ++ 0x40 ∷ left_in 17 t) c.stamp_text.ensures)
+pub returns-in-Short : goal.returns-in-Short
+returns-in-Short c = rw c.in-Short.is c.to_short_date.ensures
+
+pub returns-in-Whole : goal.returns-in-Whole
+returns-in-Whole c = rw c.in-Whole.is c.to_whole_date.ensures
