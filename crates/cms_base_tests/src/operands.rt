@@ -38,6 +38,10 @@ line/X Y A 1 (LRECL ) => CMS054E Operand is missing 24
 line/X Y A 1 (LRECL ( => CMS029E Parameter ( of option LRECL is not valid 24
 line/X Y A 1 (TYPE ( => CMS003E Option ( is not valid 24
 line/X Y A 1 (T => CMS003E Option T is not valid 24
+line/X Y A 1 (FU => CMS003E Option FU is not valid 24
+line/X Y A 1 (FUL FULLDAT fulldate => [ChosenOption { nth: 5, setting: Nothing }, \
+ChosenOption { nth: 5, setting: Nothing }, ChosenOption { nth: 5, setting: Nothing }]
+line/X Y A 1 (FULLDATES => CMS003E Option FULLDATES is not valid 24
 line/X Y A 1 (TYPE) Z => CMS070E Operand Z is not valid 24
 command/A => None
 command/AC => Some(Access)
@@ -84,13 +88,14 @@ fn words_of(alloc: Global, text: &str) -> Result<Tokens, AllocError> {
     tokens(alloc, &Line::take(bytes))
 }
 
-fn forms() -> [OptionForm; 5] {
+fn forms() -> [OptionForm; 6] {
     [
         OptionForm::flag(b"TYPE    ", 2),
         OptionForm::new(b"LRECL   ", 1, Parameter::Number(1, 65535)),
         OptionForm::new(b"RECFM   ", 3, Parameter::Format),
         OptionForm::new(b"FILL    ", 2, Parameter::Fill),
         OptionForm::new(b"COL     ", 3, Parameter::Columns),
+        OptionForm::flag(b"FULLDATE", 3),
     ]
 }
 
