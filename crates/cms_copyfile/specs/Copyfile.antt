@@ -59,6 +59,7 @@ pub record Copying : Type 0 where
   pub name : Name
   pub there : Option File
 
+-- the file that was looked up, where it is there
 abbrev pub there_is : Result UnitFile SearchFault → Option File
 there_is (Ok x) = Some x.file
 there_is (Err why) = None
@@ -67,6 +68,7 @@ there_is (Err why) = None
 abbrev pub letter_for : Option WriteMode → ℕ → ℕ
 letter_for mode n = option_map_or (λ m. m.letter) mode n
 
+-- what is copied, as which name onto which letter, and the file that has that name already
 abbrev pub copying_of : Machine → CopyLine → NamedFile → UnitFile → Copying
 copying_of s line file x =
     let to = letter_for line.files.output.mode file.letter in
@@ -75,6 +77,7 @@ copying_of s line file x =
 
 -- ---- the update
 
+-- the mode number of the copy
 abbrev pub number_of : CopyLine → Copying → ℕ
 number_of line c = number_for line.files.output.mode c.input.file.number (option_map (λ f. f.number) c.there)
 
@@ -99,6 +102,7 @@ copy_records s line c =
 abbrev pub no_record_code : ℕ
 no_record_code = 24
 
+-- the file has only so many records
 abbrev pub too_few : Machine → ℕ → Act Course
 too_few s count = refusal s (M121 (decimal_of count)) no_record_code
 
@@ -109,6 +113,7 @@ is_refused Refused None = false
 is_refused Replaced there = false
 is_refused Extended there = false
 
+-- a file has the output's name, and isn't to be touched
 abbrev pub there_already : Machine → List Token → CopyLine → ℕ → Name → Act Stepped
 there_already s words line n name = stopping (file_exists s name (mode_shown words line.files.output.mode n))
 
@@ -139,9 +144,11 @@ erasing may n name (Failed course) = Done (Failed course)
 abbrev pub copy_erased : Machine → List Token → CopyLine → Copying → Act Stepped
 copy_erased s words line c = bind (copy_into s words line c) (erasing (may_erase line c) c.letter c.input.file.name)
 
+-- the file that is copied, as TYPE shows it
 abbrev pub input_shown : Copying → FileShown
 input_shown c = record { letter = c.letter; name = c.input.file.name; number = c.input.file.number }
 
+-- the copy, as TYPE shows it
 abbrev pub output_shown : CopyLine → Copying → FileShown
 output_shown line c = record { letter = c.to; name = c.name; number = number_of line c }
 
@@ -157,6 +164,7 @@ copy_of s words line c = on_step s words 1 (λ shelf. copy_told s words line c) 
 abbrev pub with_copying : List Token → CopyLine → Machine → NamedFile → (Copying → Act Stepped) → Act Stepped
 with_copying words line s file next = on_step s words 1 (λ x. next (copying_of s line file x)) (file_at s file)
 
+-- a file that was found is copied, where it is there still
 abbrev pub copy_found : List Token → CopyLine → Machine → NamedFile → Act Stepped
 copy_found words line s file = with_copying words line s file (copy_of s words line)
 
@@ -176,6 +184,7 @@ files_copied s line = do
   output_is_written (shelves_in s) line.files.output.mode
   some_found (files_named (shelves_in s) found)
 
+-- the files that the line means are copied one after another, until one is refused
 abbrev pub copy_files : Machine → List Token → CopyLine → Act Course
 copy_files s words line = on_found s words 1 (λ files. updating_each (copy_found words line) files s) (files_copied s line)
 

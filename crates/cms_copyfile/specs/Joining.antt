@@ -51,6 +51,8 @@ pub record JoinsInto (told : Told) (d : Accessed) (m : Minidisk) (to : CopyTarge
   pub long : length_of to.shape.format to.shape.length (front ++ copies_in plan records) ≡ to.shape.length
   pub left : AreLeft told d m own c front records
 
+-- what writing copies behind a file's own records came to, where d is the disk before and e the
+-- disk then
 pub record JoinsTo (before now : Seen) (d e : Accessed) (to : CopyTarget) (own : OpenFile) (c : Reading) (plan : CopyPlan)
     (written : Written) : Type 0 where
   pub came : (m : Minidisk) (front records : List (List ℕ)) → JoinsInto before.told d m to own c plan front records
@@ -59,8 +61,10 @@ pub record JoinsTo (before now : Seen) (d e : Accessed) (to : CopyTarget) (own :
 
 -- ---- on the disk of letter n, which is that of s
 
+-- the same of a draft on letter n, to which both files' records are put
 abbrev pub FillsBothSeat : Seen → Seen → Accesses → Accesses → ℕ → Seated → FileDraft → OpenFile → Reading → CopyPlan → Written → Type 0
 FillsBothSeat before now t t' n s draft own c plan written = HasDisk t t' n (λ e. FillsBoth before now s.disk e draft own c plan written)
 
+-- the same of the target's letter, from its draft on
 abbrev pub JoinsSeat : Seen → Seen → Accesses → Accesses → Seated → CopyTarget → OpenFile → Reading → CopyPlan → Written → Type 0
 JoinsSeat before now t t' s to own c plan written = HasDisk t t' to.letter (λ e. JoinsTo before now s.disk e to own c plan written)

@@ -29,6 +29,7 @@ use Rattle.cms_copyfile.specs.declared.record.Fold.TheVariants.{Lower, Upper}
 abbrev pub same_output : CopyOutput
 same_output = record { name = record { file = None; kind = None }; mode = None; existing = Replaced }
 
+-- the output that the operands from the fourth on name; a file that is there is refused
 unfoldable pub given_output : List Token → Result CopyOutput Refusal
 given_output operands = do
   name ← output_name operands 4
@@ -36,6 +37,7 @@ given_output operands = do
   mode ← output_mode 6 word
   Ok (record { name = name; mode = mode; existing = Refused })
 
+-- the output that is given, else the input itself
 abbrev pub output_of : List Token → Result CopyOutput Refusal
 output_of operands = option_map_or (λ word. given_output operands) (given operands 4) (Ok same_output)
 
@@ -51,6 +53,7 @@ copy_operands operands = do
 
 -- ---- the options
 
+-- COPYFILE's options with their parameters
 abbrev pub options : List OptionForm
 options =
     flag (codes "NEWFILE ") 4 ∷ flag (codes "REPLACE ") 3 ∷ flag (codes "APPEND  ") 2
@@ -62,6 +65,7 @@ options =
     ∷ flag (codes "OLDDATE ") 4 ∷ flag (codes "NEWDATE ") 4
     ∷ flag (codes "TYPE    ") 2 ∷ flag (codes "NOTYPE  ") 3 ∷ []
 
+-- what becomes of a file that is there, by the option's place
 abbrev pub existing_by : ℕ → Existing
 existing_by nth = if nth == 0 then Refused else (if nth == 1 then Replaced else Extended)
 
@@ -69,6 +73,7 @@ existing_by nth = if nth == 0 then Refused else (if nth == 1 then Replaced else 
 abbrev pub existing_of : Existing → List ChosenOption → Existing
 existing_of default chosen = option_map_or (λ o. existing_by o.nth) (last_among (0 ∷ 1 ∷ 2 ∷ []) chosen) default
 
+-- the number that a parameter says
 abbrev pub number_in : Setting → Option ℕ
 number_in (says.Number n) = Some n
 number_in _ = None
@@ -81,23 +86,29 @@ number_of nth chosen = option_and_then (λ o. number_in o.setting) (last_among (
 abbrev pub fold_by : ℕ → Fold
 fold_by nth = if nth == 5 then Upper else Lower
 
+-- how letters are folded, by the last of UPCASE and LOWCASE
 abbrev pub fold_of : List ChosenOption → Option Fold
 fold_of chosen = option_map (λ o. fold_by o.nth) (last_among (5 ∷ 6 ∷ []) chosen)
 
+-- the byte that a parameter says
 abbrev pub byte_in : Setting → Option ℕ
 byte_in (says.Byte c) = Some c
 byte_in _ = None
 
+-- the byte of the last FILL
 abbrev pub given_fill : List ChosenOption → Option ℕ
 given_fill chosen = option_and_then (λ o. byte_in o.setting) (last_among (9 ∷ []) chosen)
 
+-- the format that a parameter says
 abbrev pub format_in : Setting → Option Format
 format_in (says.Format f) = Some f
 format_in _ = None
 
+-- the format of the last RECFM
 abbrev pub format_of : List ChosenOption → Option Format
 format_of chosen = option_and_then (λ o. format_in o.setting) (last_among (10 ∷ []) chosen)
 
+-- how the options say that files are copied
 abbrev pub style_of : Existing → List ChosenOption → CopyStyle
 style_of default chosen = record {
   existing = existing_of default chosen;
@@ -120,6 +131,7 @@ pub record IsCopyStyle (style : CopyStyle) : Type 0 where
 
 -- ---- the line
 
+-- what COPYFILE's line says, or the first refusal
 abbrev pub copy_line : List Token → Result CopyLine Refusal
 copy_line words = do
   files ← copy_operands (operands_of words)

@@ -30,6 +30,7 @@ copies_in plan records = map (copied plan.style) (drop plan.skipped (take plan.w
 
 -- ---- the format
 
+-- the format and record length of a file
 abbrev pub form_of : File → FileForm
 form_of f = record { format = f.format; length = f.length }
 
@@ -43,6 +44,7 @@ abbrev pub fit_in : Format → ℕ → Option ℕ → Fit
 fit_in F size most = Exactly size
 fit_in V size most = option_map_or (λ n. AtMost n) most Whole
 
+-- what becomes of each record
 abbrev pub record_style : CopyStyle → FileForm → RecordStyle
 record_style style form = record {
   fold = style.fold;
@@ -60,6 +62,7 @@ plan_of style form count = record {
   format = form.format;
 }
 
+-- the copies of all records of a file
 abbrev pub copied_records : CopyStyle → FileForm → List (List ℕ) → List (List ℕ)
 copied_records style form records = copies_in (plan_of style form (length records)) records
 

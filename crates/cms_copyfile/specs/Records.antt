@@ -15,6 +15,7 @@ folded_byte None byte = byte
 folded_byte (Some Upper) byte = upper_of byte
 folded_byte (Some Lower) byte = lower_of byte
 
+-- the letters of a text are folded, where that is asked
 abbrev pub folded : Option Fold → List ℕ → List ℕ
 folded fold text = map (folded_byte fold) text
 
@@ -22,6 +23,7 @@ folded fold text = map (folded_byte fold) text
 abbrev pub truncated : ℕ → List ℕ → List ℕ
 truncated last text = take (max 1 (length (without_trailing last text))) text
 
+-- bytes of this value at the end are dropped, where that is asked
 abbrev pub truncated_if : Bool → ℕ → List ℕ → List ℕ
 truncated_if truncates last text = if truncates then truncated last text else text
 

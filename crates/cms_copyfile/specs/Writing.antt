@@ -90,6 +90,7 @@ pub record CopiesInto (told : Told) (d : Accessed) (m : Minidisk) (to : CopyTarg
   pub stay : StayBeside told d m c.unit c.leaves
   pub left : OfImage told c.unit (λ image. HasLeft image c records)
 
+-- what writing copies as a file came to, where d is the disk before and e the disk then
 pub record WritesTo (before now : Seen) (d e : Accessed) (to : CopyTarget) (plan : CopyPlan) (c : Reading)
     (written : Written) : Type 0 where
   pub came : (m : Minidisk) (records : List (List ℕ)) → CopiesInto before.told d m to plan c records
@@ -98,11 +99,14 @@ pub record WritesTo (before now : Seen) (d e : Accessed) (to : CopyTarget) (plan
 
 -- ---- on the disk of letter n, which is that of s
 
+-- what making a full draft a file of letter n's disk came to
 abbrev pub FinishesSeat : Seen → Seen → Accesses → Accesses → ℕ → Seated → FileDraft → Written → Type 0
 FinishesSeat before now t t' n s draft written = HasDisk t t' n (λ e. FinishesTo before now s.disk e draft written)
 
+-- what putting the copies in a draft on letter n, and finishing it, came to
 abbrev pub FillsSeat : Seen → Seen → Accesses → Accesses → ℕ → Seated → FileDraft → CopyPlan → Reading → Written → Type 0
 FillsSeat before now t t' n s draft plan c written = HasDisk t t' n (λ e. FillsTo before now s.disk e draft plan c written)
 
+-- the same of the target's letter, from its draft on
 abbrev pub WritesSeat : Seen → Seen → Accesses → Accesses → Seated → CopyTarget → CopyPlan → Reading → Written → Type 0
 WritesSeat before now t t' s to plan c written = HasDisk t t' to.letter (λ e. WritesTo before now s.disk e to plan c written)

@@ -40,6 +40,7 @@ pub data Starting : Type 0 where
   HasBegun : Machine → Exec → Starting
   IsRefused : Course → Starting
 
+-- a refusal ends the call
 abbrev pub refused : Act Course → Act Starting
 refused t = bind t (λ course. Done (IsRefused course))
 
@@ -54,9 +55,11 @@ started_of s units (came.Refused course) = IsRefused (course_of s units course)
 abbrev pub most_running : ℕ
 most_running = 50
 
+-- the number of the limit of procedures that run
 abbrev pub running_limit : ℕ
 running_limit = 5
 
+-- as many procedures run as may
 abbrev pub too_many : Machine → Act Course
 too_many s = refusal s (M120 (decimal_of running_limit)) limited
 
@@ -75,9 +78,11 @@ reason_of Memory = 0
 abbrev pub not_run_code : ℕ
 not_run_code = 10100
 
+-- the code of a procedure that stopped, to which its fault's number is added
 abbrev pub stopped_code : ℕ
 stopped_code = 10000
 
+-- the file is no procedure that can be run, for this reason
 abbrev pub not_run : Machine → List ℕ → ℕ → Act Course
 not_run s file reason = refusal s (M086 file (decimal_of reason)) (not_run_code + reason)
 
@@ -99,10 +104,12 @@ read_whole alloc s called f x =
     reading silently x.unit x.file (length x.file.records) (beginning alloc s called f (procedure_of x.file.records))
     (refused (device_fault s (vdev_of s x.unit)))
 
+-- the procedure's file is read and begins, where it is there; else it isn't found
 abbrev pub read_found : Global → Machine → Text → FileName → Result UnitFile SearchFault → Act Starting
 read_found alloc s called f (Ok x) = read_whole alloc s called f x
 read_found alloc s called f (Err why) = refused (no_procedure s f.name.file)
 
+-- the same, looked up on the letter on which it was found
 abbrev pub read_there : Global → Machine → Text → FileName → Act Starting
 read_there alloc s called f = read_found alloc s called f (file_on s f.name (letter_at s f.letter))
 
@@ -122,6 +129,7 @@ exec_operand words = do
   text ← needed words 1
   name 1 text
 
+-- goes on with the procedure of a name, or it isn't found
 abbrev pub on_procedure : Machine → List ℕ → (FileName → Act Starting) → Option FileName → Act Starting
 on_procedure s file next (Some f) = next f
 on_procedure s file next None = refused (no_procedure s file)
@@ -130,6 +138,7 @@ on_procedure s file next None = refused (no_procedure s file)
 abbrev pub start_named : Global → ℕ → Machine → Text → List ℕ → Act Starting
 start_named alloc running s called file = on_procedure s file (λ f. starting alloc running s called f) (procedure_named s file)
 
+-- the procedure of EXEC's operand begins, or the operand is refused
 abbrev pub exec_operands : Global → ℕ → Machine → Text → List Token → Result (List ℕ) Refusal → Act Starting
 exec_operands alloc running s called words (Ok file) = start_named alloc running s called file
 exec_operands alloc running s called words (Err why) = refused (refusal s (message_of words why) (code_of why))

@@ -14,6 +14,7 @@ use Rattle.cms_search.specs.declared.search.Found.{Found}
 use Rattle.cms_files.specs.Identifiers.{exec_kind}
 use Rattle.exec2_run.specs.declared.exec.FileName.{FileName}
 
+-- the name of a procedure's file: its type is EXEC
 abbrev pub exec_name : List ℕ → Name
 exec_name file = record { file = file; kind = exec_kind }
 
@@ -25,9 +26,11 @@ listed_at shelves found = option_and_then (λ shelf. slice_get shelf.files found
 abbrev pub file_name : Name → ℕ → Listed → FileName
 file_name name n f = record { name = name; letter = n; number = f.number }
 
+-- a file that was found, with its letter and its mode number
 abbrev pub file_found : Shelves → Name → Found → Option FileName
 file_found shelves name found = option_map (λ f. file_name name found.letter f) (listed_at shelves found)
 
+-- the same of what a search answered
 abbrev pub found_as : Shelves → Name → Result Found SearchFault → Option FileName
 found_as shelves name (Ok found) = file_found shelves name found
 found_as shelves name (Err why) = None
@@ -36,11 +39,13 @@ found_as shelves name (Err why) = None
 abbrev pub procedure_in : Shelves → List ℕ → Option FileName
 procedure_in shelves file = found_as shelves (exec_name file) (look_up shelves Any (exec_name file))
 
+-- the procedure of a name that is found first over all disks
 abbrev pub procedure_named : Machine → List ℕ → Option FileName
 procedure_named s file = procedure_in (shelves_in s) file
 
 -- ---- a procedure that a line's first word names
 
+-- the name that was read, where it is one
 abbrev pub valid_name : Result (List ℕ) NameFault → Option (List ℕ)
 valid_name (Ok file) = Some file
 valid_name (Err why) = None

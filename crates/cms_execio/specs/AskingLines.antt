@@ -9,6 +9,7 @@ use Rattle.cms_execio.specs.Writing as writing
 use Rattle.cms_execio.specs.declared.asking.AskedLines.{AskedLines}
 use Rattle.cms_execio.specs.declared.asking.AskedLines.TheVariants.{All, Spent}
 
+-- so many lines are asked for, on the machine with these units
 abbrev pub asking_tree : State → ℕ → List Slot → Act writing.AskedLines
 asking_tree s count units = writing.asking_lines count [] (machine_of s units)
 
@@ -17,5 +18,6 @@ abbrev pub asked_in : Machine → AskedLines → writing.AskedLines
 asked_in s (All lines) = writing.All s lines
 asked_in s Spent = writing.Spent
 
+-- the lines that were given, or that the turns are spent, with the state that is left
 abbrev pub asked_lines_of : State → Meaning AskedLines writing.AskedLines
 asked_lines_of s units x = asked_in (machine_of s units) x

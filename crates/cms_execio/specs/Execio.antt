@@ -10,6 +10,7 @@ use Rattle.cms_execio.specs.Writing.{disk_write}
 use Rattle.cms_execio.specs.declared.line.ExecioLine.{ExecioLine}
 use Rattle.cms_execio.specs.declared.line.ExecioLine.TheVariants as line
 
+-- DISKR or DISKW, as the line says
 abbrev pub transferring : Machine → List Token → ExecioLine → Act Course
 transferring s words (line.Read read) = disk_read s words read
 transferring s words (line.Write target text) = disk_write s words target text

@@ -30,6 +30,7 @@ use Rattle.cms_execio.specs.declared.line.WriteTarget.{WriteTarget}
 abbrev pub most_wanted : ℕ
 most_wanted = 10000
 
+-- DISKR or DISKW; another word is a bad operand
 abbrev pub direction_of : ℕ → List ℕ → Result Direction Refusal
 direction_of place text =
     if is_keyword (codes "DISKR") text then Ok goes.Read
@@ -41,6 +42,7 @@ abbrev pub number_at : ℕ → Option (List ℕ) → Result (Option ℕ) Refusal
 number_at place None = Ok None
 number_at place (Some text) = number 1 largest place text >>= λ n. Ok (Some n)
 
+-- the file of DISKR, and the line from which on it reads
 unfoldable pub read_operands : List Token → Option ℕ → Result ReadRange Refusal
 read_operands operands count = do
   input ← file_input operands 3
@@ -57,6 +59,7 @@ write_operands operands count = do
   ended operands 6
   Ok (record { name = name; mode = mode; count = n })
 
+-- what the operands behind the direction say
 abbrev pub operands_in : List Token → Option ℕ → Direction → Result Transfer Refusal
 operands_in operands count goes.Read = read_operands operands count >>= λ range. Ok (moves.Read range)
 operands_in operands count goes.Write = write_operands operands count >>= λ target. Ok (moves.Write target)
@@ -82,6 +85,7 @@ options =
 abbrev pub string_behind : List Token → ℕ → Option ℕ
 string_behind words left = option_map (λ k. left + 1 + k) (position (λ word. is_keyword (codes "STRING") word.text) (drop (left + 1) words))
 
+-- the place of STRING among the options
 unfoldable pub string_place : List Token → Option ℕ
 string_place words = option_and_then (string_behind words) (first_left words)
 
@@ -90,6 +94,7 @@ abbrev pub up_to : List Token → Option ℕ → List Token
 up_to words None = words
 up_to words (Some place) = take (place + 1) words
 
+-- the words up to STRING, with it
 abbrev pub before_text : List Token → List Token
 before_text words = up_to words (string_place words)
 
@@ -97,9 +102,11 @@ before_text words = up_to words (string_place words)
 abbrev pub text_behind : List ℕ → Token → List ℕ
 text_behind line word = without_one_blank (drop word.end line)
 
+-- the word STRING among the options
 abbrev pub string_word : List Token → Option Token
 string_word words = option_and_then (slice_get words) (string_place words)
 
+-- the text behind STRING, as the line has it
 unfoldable pub text_in : List ℕ → List Token → Option (List ℕ)
 text_in line words = option_map (text_behind line) (string_word words)
 
@@ -107,6 +114,7 @@ text_in line words = option_map (text_behind line) (string_word words)
 abbrev pub end_of : List ChosenOption → StackEnd
 end_of chosen = if is_last 1 (0 ∷ 1 ∷ []) chosen then Front else Back
 
+-- how the options say that records are stacked
 abbrev pub style_of : List ChosenOption → StackStyle
 style_of chosen = record {
   end = end_of chosen;

@@ -33,6 +33,7 @@ taken_of (Some n) left = min n left
 abbrev pub end_of_file : ℕ
 end_of_file = 2
 
+-- the code of a reading: 2 where fewer records were left than a number asks for
 abbrev pub code_of_taken : Option ℕ → ℕ → ℕ
 code_of_taken None taken = 0
 code_of_taken (Some n) taken = if nat_lt taken n then end_of_file else 0
@@ -94,9 +95,11 @@ read_taken s line n x vdev front taken =
     (stack_read s line n vdev (front + taken == length x.file.records) front taken (lines_taken line.style.strips front taken x.file.records))
     (device_fault s vdev)
 
+-- the records that are wanted are read, behind so many that stand in front
 abbrev pub read_from : Machine → ReadLine → ℕ → UnitFile → ℕ → ℕ → Act Course
 read_from s line n x vdev front = read_taken s line n x vdev front (taken_of line.range.count (length x.file.records - front))
 
+-- the same, from where the line or the reading place says
 abbrev pub read_found : Machine → ReadLine → ℕ → UnitFile → Act Course
 read_found s line n x = read_from s line n x (vdev_of s x.unit) (in_front s.places line.range (vdev_of s x.unit))
 

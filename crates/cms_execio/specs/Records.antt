@@ -19,5 +19,6 @@ or_blank (b ∷ line) = b ∷ line
 abbrev pub record_of : Format → ℕ → List ℕ → List ℕ
 record_of format size line = record_in format size (or_blank line)
 
+-- the records that lines are in a file of a format and a length
 abbrev pub records_of : Format → ℕ → List (List ℕ) → List (List ℕ)
 records_of format size lines = map (record_of format size) lines

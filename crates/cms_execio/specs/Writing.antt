@@ -25,6 +25,7 @@ pub data AskedLines : Type 0 where
   All : Machine → List (List ℕ) → AskedLines
   Spent : AskedLines
 
+-- goes on with the line that was given; or the turns are spent
 abbrev pub with_line : (Machine → List ℕ → Act AskedLines) → Asked → Act AskedLines
 with_line next (asking.Given s line) = next s line
 with_line next asking.Spent = Done Spent
@@ -62,6 +63,7 @@ abbrev pub writing : WriteTarget → Machine → List (List ℕ) → Act Course
 writing target s lines =
     last_update s target.mode.letter (written_change s target.name lines (file_on s target.name (letter_at s target.mode.letter)))
 
+-- the lines are written; or the turns are spent
 abbrev pub on_asked : WriteTarget → AskedLines → Act Course
 on_asked target (All s lines) = writing target s lines
 on_asked target Spent = Done OutOfTurns

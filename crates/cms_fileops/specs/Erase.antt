@@ -21,6 +21,7 @@ use Rattle.cms_fileops.specs.declared.erase.EraseLine.{EraseLine}
 
 -- ---- the line
 
+-- the files that ERASE's operands mean: names and a disk
 unfoldable pub erase_operands : List Token → Result EraseFiles Refusal
 erase_operands operands = do
   names ← name_choice operands 1
@@ -28,9 +29,11 @@ erase_operands operands = do
   ended operands 4
   Ok (record { names = names; mode = mode })
 
+-- TYPE and NOTYPE
 abbrev pub options : List OptionForm
 options = flag (codes "TYPE    ") 2 ∷ flag (codes "NOTYPE  ") 3 ∷ []
 
+-- what ERASE's line says, or the first refusal
 abbrev pub erase_line : List Token → Result EraseLine Refusal
 erase_line words = do
   files ← erase_operands (operands_of words)
@@ -47,6 +50,7 @@ erase_file s words n name = on_step s words 1 (λ shelf. updating s n (Drop name
 abbrev pub erase_told : List Token → ℕ → Bool → Machine → Listed → Act Stepped
 erase_told words n types s f = bind (erase_file s words n f.name) (telling types (file_text n f.name f.number))
 
+-- the files that the line means are erased one after another, until one is refused
 abbrev pub erase_files : Machine → List Token → EraseLine → Act Course
 erase_files s words line =
     updating_taken s words line.files.names line.files.mode (erase_told words line.files.mode.letter line.types)

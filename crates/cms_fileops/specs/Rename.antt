@@ -36,6 +36,7 @@ abbrev pub number_for : ℕ → Option WriteMode → Result (Option ℕ) Refusal
 number_for n None = Ok None
 number_for n (Some mode) = if mode.letter == n then Ok mode.number else Err (BadMode 6)
 
+-- the files that are renamed, the name they get, and the number
 unfoldable pub rename_operands : List Token → Result RenameFiles Refusal
 rename_operands operands = do
   names ← name_choice operands 1
@@ -52,6 +53,7 @@ rename_operands operands = do
 abbrev pub options : List OptionForm
 options = flag (codes "TYPE    ") 2 ∷ flag (codes "NOTYPE  ") 3 ∷ flag (codes "UPDIRT  ") 2 ∷ []
 
+-- what RENAME's line says, or the first refusal
 abbrev pub rename_line : List Token → Result RenameLine Refusal
 rename_line words = do
   files ← rename_operands (operands_of words)
@@ -76,6 +78,7 @@ renaming_of files f = record { name = equal_signs f.name files.output; number = 
 abbrev pub others_name : Machine → List Token → ℕ → Name → Act Stepped
 others_name s words n to = stopping (file_exists s to (mode_shown n (text_at words 6)))
 
+-- the file gets its new name and number, where that name is no other file's
 abbrev pub rename_in : Machine → List Token → ℕ → Name → Renaming → Shelf → Act Stepped
 rename_in s words n from to shelf =
     if is_others from to.name shelf.files then others_name s words n to.name
@@ -89,9 +92,11 @@ rename_file s words n from to = on_step s words 1 (rename_in s words n from to) 
 abbrev pub rename_told : List Token → ℕ → Bool → Machine → Name → Renaming → Act Stepped
 rename_told words n types s from to = bind (rename_file s words n from to) (telling types (file_text n to.name to.number))
 
+-- a file that was taken at the start is renamed, and typed where that is asked
 abbrev pub rename_listed : List Token → RenameLine → Machine → Listed → Act Stepped
 rename_listed words line s f = rename_told words line.files.mode.letter line.types s f.name (renaming_of line.files f)
 
+-- the files that the line means are renamed one after another, until one is refused
 abbrev pub rename_files : Machine → List Token → RenameLine → Act Course
 rename_files s words line =
     updating_taken s words line.files.names line.files.mode (rename_listed words line)

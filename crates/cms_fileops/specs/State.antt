@@ -12,6 +12,7 @@ use Rattle.cms_files.specs.Files.{file_found, on_found}
 use Rattle.cms_files.specs.Identifiers.{file_input}
 use Rattle.cms_files.specs.declared.identifier.FileInput.{FileInput}
 
+-- the file that STATE's operands name
 unfoldable pub state_operands : List Token → Result FileInput Refusal
 state_operands operands = do
   input ← file_input operands 1
@@ -22,6 +23,7 @@ state_operands operands = do
 abbrev pub state_line : List Token → Result FileInput Refusal
 state_line words = without_options words (state_operands (operands_of words))
 
+-- code 0 where the file is found, or 069 or 002
 abbrev pub look_for : Machine → List Token → FileInput → Act Course
 look_for s words input = on_found s words 1 (λ found. Done (Went s (pos 0))) (file_found s input)
 

@@ -40,6 +40,7 @@ type_operands operands = do
   ended operands 6
   Ok (record { input = input; first = first; last = last })
 
+-- HEX, and COL with two columns
 abbrev pub options : List OptionForm
 options = flag (codes "HEX     ") 3 ∷ form (codes "COL     ") 3 takes.Columns ∷ []
 
@@ -55,6 +56,7 @@ style_of chosen = record {
   columns = option_and_then (λ o. columns_in o.setting) (last_among (1 ∷ []) chosen);
 }
 
+-- what TYPE's line says, or the first refusal
 abbrev pub type_line : List Token → Result TypeLine Refusal
 type_line words = do
   range ← type_operands (operands_of words)
@@ -72,6 +74,7 @@ columns_of (Some c) text = drop (c.first - 1) (take c.last text)
 abbrev pub in_digits : List ℕ → List ℕ
 in_digits text = flat_map (λ b. hexadecimal_digit (b / 16) ∷ hexadecimal_digit (b % 16) ∷ []) text
 
+-- what is typed of a record: its columns, as they are or in digits
 abbrev pub record_text : TypeStyle → List ℕ → List ℕ
 record_text style text = if style.hexadecimal then in_digits (columns_of style.columns text) else columns_of style.columns text
 
@@ -94,6 +97,7 @@ abbrev pub type_ended : Machine → TypeLine → ℕ → ℕ → Act Course
 type_ended s line n count =
     if wanted_of line.range count == count then last_consuming s n line.range.input.name else went s
 
+-- the records of a file are typed as they are read; a fault of the device ends it
 abbrev pub type_records : Machine → TypeLine → ℕ → UnitFile → Act Course
 type_records s line n x =
     reading (typing_from line) x.unit x.file (wanted_of line.range (length x.file.records))
@@ -108,6 +112,7 @@ type_found s words line n x =
 abbrev pub type_on : Machine → List Token → TypeLine → ℕ → Act Course
 type_on s words line n = on_found s words 1 (type_found s words line n) (file_on s line.range.input.name (letter_at s n))
 
+-- the records of the file that the line names are typed, or 069 or 002
 abbrev pub type_file : Machine → List Token → TypeLine → Act Course
 type_file s words line = on_found s words 1 (λ found. type_on s words line found.letter) (file_found s line.range.input)
 

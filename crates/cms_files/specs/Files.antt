@@ -56,6 +56,7 @@ search_message words place why.NotFound = missing_file (operands_of words) place
 search_message words place (why.Volume fault) = missing_file (operands_of words) place
 search_message words place why.Memory = missing_file (operands_of words) place
 
+-- the code of a search that isn't answered
 abbrev pub search_code : SearchFault → ℕ
 search_code (why.NotAccessed n) = no_disk
 search_code (why.ReadOnly n) = no_disk
@@ -64,6 +65,7 @@ search_code why.NotFound = no_file_code
 search_code (why.Volume fault) = no_file_code
 search_code why.Memory = no_file_code
 
+-- a search isn't answered: its message is typed, with its code
 abbrev pub search_refused : Machine → List Token → ℕ → SearchFault → Act Course
 search_refused s words place fault = refusal s (search_message words place fault) (search_code fault)
 
@@ -87,10 +89,12 @@ pub record UnitFile : Type 0 where
   pub unit : ℕ
   pub file : File
 
+-- a file with its unit, or it isn't there
 abbrev pub unit_file : ℕ → Option File → Result UnitFile SearchFault
 unit_file u None = Err why.NotFound
 unit_file u (Some f) = Ok (record { unit = u; file = f })
 
+-- the file of a name in a minidisk, with its unit
 abbrev pub file_in : ℕ → Name → Option Minidisk → Result UnitFile SearchFault
 file_in u name None = Err why.NotFound
 file_in u name (Some m) = unit_file u (file_named name m.files)
@@ -111,6 +115,7 @@ abbrev pub writable_shelf : ℕ → Option Shelf → Result Shelf SearchFault
 writable_shelf n None = Err (why.NotAccessed n)
 writable_shelf n (Some shelf) = if shelf.letter.read_only then Err (why.ReadOnly n) else Ok shelf
 
+-- the disk of letter n, where it is accessed and may be written
 abbrev pub writable : Shelves → ℕ → Result Shelf SearchFault
 writable shelves n = writable_shelf n (item_at shelves n)
 
@@ -137,6 +142,7 @@ has_name name files = is_some (position (λ f. same_name name f.name) files)
 abbrev pub with_name : Name → Shelf → Result Shelf SearchFault
 with_name name shelf = if has_name name shelf.files then Ok shelf else Err why.NotFound
 
+-- the same, where it has a file of this name
 abbrev pub shelf_with : Shelves → ℕ → Name → Result Shelf SearchFault
 shelf_with shelves n name = do
   shelf ← writable shelves n

@@ -70,10 +70,12 @@ is_last nth group chosen = option_map_or (λ o. o.nth == nth) (last_among group 
 
 -- ---- which files are meant
 
+-- the name or type is the one that was given; * takes any
 abbrev pub takes_part : Option (List ℕ) → List ℕ → Bool
 takes_part None text = true
 takes_part (Some part) text = bytes_eq part text
 
+-- both parts are taken
 abbrev pub takes_name : NameChoice → Name → Bool
 takes_name names name = takes_part names.file name.file && takes_part names.kind name.kind
 

@@ -39,6 +39,7 @@ abbrev pub places_without : ℕ → List Name → Places → Places
 places_without vdev [] places = places
 places_without vdev (name ∷ names) places = places_without vdev names (remove places (place_key vdev name))
 
+-- no reading place is kept in the files of these names on a device
 abbrev pub forgetting : Machine → ℕ → List Name → Machine
 forgetting s vdev names = record s { places = places_without vdev names s.places }
 
@@ -94,6 +95,7 @@ updating_taken s words names mode update =
 
 -- ---- the calls
 
+-- one update of letter n's disk, on the machine with these units
 abbrev pub updating_tree : State → ℕ → Change → List Slot → Act Stepped
 updating_tree s n change units = updating (machine_of s units) n change
 

@@ -49,6 +49,7 @@ list_operands operands = do
   ended operands 4
   Ok (record { file = file; kind = kind; mode = mode })
 
+-- LISTFILE's options
 abbrev pub options : List OptionForm
 options =
     flag (codes "HEADER  ") 1 ∷ flag (codes "NOHEADER") 3
@@ -94,6 +95,7 @@ delivery_by chosen nth =
 abbrev pub delivery_of : List ChosenOption → Delivery
 delivery_of chosen = option_map_or (λ o. delivery_by chosen o.nth) (last_among (9 ∷ 10 ∷ 11 ∷ 12 ∷ 13 ∷ []) chosen) goes.Typed
 
+-- how the options say that files are listed
 abbrev pub style_of : List ChosenOption → ListStyle
 style_of chosen = record {
   columns = columns_of chosen;
@@ -101,6 +103,7 @@ style_of chosen = record {
   delivery = delivery_of chosen;
 }
 
+-- what LISTFILE's line says, or the first refusal
 abbrev pub list_line : List Token → Result ListLine Refusal
 list_line words = do
   files ← list_operands (operands_of words)
@@ -113,9 +116,11 @@ list_line words = do
 abbrev pub written_name : Name
 written_name = record { file = coded (codes "CMS"); kind = exec_kind }
 
+-- the letter on which CMS EXEC is written
 abbrev pub disk_a : ℕ
 disk_a = 0
 
+-- the record length of a new CMS EXEC
 abbrev pub written_length : ℕ
 written_length = 80
 
@@ -154,6 +159,7 @@ writing s append lines = last_update s disk_a (written_change s append lines (fi
 
 -- ---- the command
 
+-- the lines, below a header where one is wanted
 abbrev pub with_header : ListStyle → List (List ℕ) → List (List ℕ)
 with_header style lines = if style.header then header style.columns ∷ lines else lines
 
@@ -168,6 +174,7 @@ abbrev pub may_write : Result Shelf SearchFault → Result ⊤ SearchFault
 may_write (Ok shelf) = Ok tt
 may_write (Err why) = Err why
 
+-- disk A may be written, where lines are written to it
 abbrev pub has_disk : Machine → Delivery → Result ⊤ SearchFault
 has_disk s goes.Typed = Ok tt
 has_disk s (goes.Stacked end) = Ok tt
@@ -180,6 +187,7 @@ files_listed s line = do
   has_disk s line.style.delivery
   some_found found
 
+-- the files that the line means are listed, and delivered as it says; or 069 or 002
 abbrev pub list_files : Machine → List Token → ListLine → Act Course
 list_files s words line =
     on_found s words 1 (λ found. delivering s line.style line.style.delivery (lines_of s line.style.columns found)) (files_listed s line)

@@ -61,6 +61,7 @@ abbrev pub date_header : Years → List ℕ
 date_header Short = coded (codes "DATE     TIME    ")
 date_header Whole = coded (codes "DATE       TIME    ")
 
+-- the headers of the columns
 abbrev pub header_columns : Years → List (List ℕ)
 header_columns years =
     coded (codes "FILENAME") ∷ coded (codes "FILETYPE") ∷ coded (codes "FM")
@@ -69,11 +70,13 @@ header_columns years =
     ∷ date_header years
     ∷ coded (codes "LABEL ") ∷ []
 
+-- the header up to the last column that is wanted
 abbrev pub header : Columns → List ℕ
 header last = line_to last (header_columns (years_of last))
 
 -- ---- a file's columns
 
+-- how a record format is shown
 abbrev pub format_text : Format → List ℕ
 format_text format.F = coded (codes "F")
 format_text format.V = coded (codes "V")
@@ -118,18 +121,22 @@ told_columns years f =
     ∷ stamp_text years f.info.stamp
     ∷ left_in 6 f.volid ∷ []
 
+-- a file's line up to the last column that is wanted
 abbrev pub file_line : Columns → ℕ → Minidisk → File → List ℕ
 file_line last n m f = line_to last (told_columns (years_of last) (record { letter = n; volid = m.volid; info = info_of m.bsize f }))
 
 -- ---- the lines of files that were found
 
+-- the line of a file that was found, in its minidisk
 abbrev pub lines_in : Columns → Found → Option Minidisk → List (List ℕ)
 lines_in last found None = []
 lines_in last found (Some m) = option_map_or (λ f. file_line last found.letter m f ∷ []) (slice_get m.files found.place) []
 
+-- the same on a letter's disk
 abbrev pub lines_on : Machine → Columns → Found → Option Letter → List (List ℕ)
 lines_on s last found None = []
 lines_on s last found (Some disk) = lines_in last found (minidisk_in (slice_get s.units disk.unit))
 
+-- the lines of all files that were found, in order
 abbrev pub lines_of : Machine → Columns → List Found → List (List ℕ)
 lines_of s last found = flat_map (λ f. lines_on s last f (letter_at s f.letter)) found

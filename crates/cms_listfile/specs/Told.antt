@@ -24,6 +24,7 @@ abbrev pub full_header : Years → List ℕ
 full_header Short = coded (codes "FILENAME FILETYPE FM F LRECL  RECORDS   BLOCKS DATE     TIME     LABEL   ")
 full_header Whole = coded (codes "FILENAME FILETYPE FM F LRECL  RECORDS   BLOCKS DATE       TIME     LABEL ")
 
+-- how many bytes a line has at the most, up to a column
 abbrev pub width : Columns → ℕ
 width to.Name = 8
 width to.Kind = 17
@@ -49,6 +50,7 @@ listed_at t found =
 abbrev pub line_told : Columns → Accesses → Found → List (List ℕ)
 line_told last t found = option_map_or (λ f. line_to last (told_columns (years_of last) f) ∷ []) (listed_at t found) []
 
+-- the lines of files that were found, as a table tells them
 abbrev pub lines_told : Columns → Accesses → List Found → List (List ℕ)
 lines_told last t found = flat_map (λ f. line_told last t f) found
 
