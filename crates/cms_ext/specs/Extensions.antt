@@ -4,6 +4,7 @@ use Rattle.cms_names.specs.declared.name.Format.{Format}
 use Rattle.cms_names.specs.declared.name.Format.TheVariants.{V}
 use Rattle.cms_names.specs.declared.name.Name.{Name}
 use Rattle.cms_fields.specs.Moments.{stamp_of}
+use Rattle.cms_fields.specs.Steps.{◌>>=◌}
 use Rattle.cms_model.specs.Changes.{Change, Put}
 use Rattle.cms_model.specs.Minidisks.{File}
 use Rattle.cms_model.specs.Records.{length_of}
@@ -13,6 +14,7 @@ use Rattle.cms_machine.specs.Objects as object
 use Rattle.cms_line.specs.declared.message.Message.{Message}
 use Rattle.cms_line.specs.declared.message.Message.TheVariants.{M002, M037, M069}
 use Rattle.cms_operands.specs.declared.mode.ReadMode.TheVariants.{Letter}
+use Rattle.cms_files.specs.declared.identifier.FileInput.{FileInput}
 use Rattle.cms_search.specs.Asking.{Asked, Given, Spent, ask}
 use Rattle.cms_search.specs.Machine.{Course, Machine, letter_at, refusal, turned, typing}
 use Rattle.cms_search.specs.Machine as command
@@ -23,7 +25,7 @@ use Rattle.cms_search.specs.Stepping.{Did, Failed, Stepped, reading, silently}
 use Rattle.cms_search.specs.Telling.{letter_text}
 use Rattle.cms_search.specs.declared.fault.SearchFault.{SearchFault}
 use Rattle.cms_search.specs.declared.fault.SearchFault.TheVariants as why
-use Rattle.cms_files.specs.Files.{UnitFile, file_on, file_read, no_file_code, writable}
+use Rattle.cms_files.specs.Files.{UnitFile, file_found, file_on, no_file_code, writable}
 use Rattle.cms_files.specs.Gathering.{record_in}
 use Rattle.cms_files.specs.Updating.{updating}
 
@@ -96,6 +98,12 @@ read_whole d x =
 abbrev pub read_found : Desk → Name → ℕ → Result UnitFile SearchFault → Act Met
 read_found d name n (Ok x) = read_whole d x
 read_found d name n (Err fault) = unfound d name n fault
+
+-- the first file of a name that its mode finds: 069, 002
+abbrev pub file_read : Machine → FileInput → Result UnitFile SearchFault
+file_read s input = do
+  found ← file_found s input
+  file_on s input.name (letter_at s found.letter)
 
 -- the file of a name that TYPE finds by a letter: 069, 002, 105
 abbrev pub getting : Desk → Name → ℕ → Act Met
