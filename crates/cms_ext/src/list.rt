@@ -70,7 +70,8 @@ impl ExtList {
 
     /// How many there are.
     pub fn len(&self) -> usize
-        ensures { result ≡ length (objects_of ⟦<dyn Extension as Extension>⟧ self.now) }
+        ensures length { result ≡ length (objects_of ⟦<dyn Extension as Extension>⟧ self.now) }
+        ensures few { result < 2 ^ 32 }
     {
         self.seats.len()
     }
