@@ -1,9 +1,5 @@
 pub mod ReadWords
-pub mod Stars
 pub mod UnitsAttached
 pub mod Starts
-pub mod Rounds
-pub mod Requests
-pub mod Statements
 pub mod Plays
 pub mod Ends

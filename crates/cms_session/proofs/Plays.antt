@@ -6,22 +6,19 @@ use Rattle.cms_search.specs.declared.state.End.{End}
 use Rattle.cms_search.specs.declared.state.State.{State}
 use Rattle.cms_search.specs.Calls.{Spot, Acts, Comes, machine_of}
 use Rattle.cms_search.proofs.Acts.{comes_then, comes_in, comes_same, acts_done, acts_after, acts_stop}
-use Rattle.cms_session.specs.declared.state.Finish.{Finish}
-use Rattle.cms_session.specs.declared.state.Round as rounds
-use Rattle.cms_session.specs.declared.state.Round.TheVariants as end
+use Rattle.cms_rounds.specs.declared.state.Finish.{Finish}
+use Rattle.cms_rounds.specs.declared.state.Round as rounds
+use Rattle.cms_rounds.specs.declared.state.Round.TheVariants as end
 use Rattle.exec2_run.specs.declared.exec.Exec.{Exec}
-use Rattle.cms_session.specs.Machine.{round_by, rounds as rounds_from, run_lines, then_round, session}
-use Rattle.cms_session.specs.Procedures.{Round, statement}
+use Rattle.cms_session.specs.Machine.{rounds as rounds_from, run_lines, then_round, session}
 use Rattle.cms_search.specs.Turns.{machine_now}
-use Rattle.cms_session.specs.Calls.{access_tree, finished, round_with, session_tree}
-use Rattle.cms_session.proofs.Rounds.{line_round_on}
+use Rattle.cms_rounds.specs.Calls.{round_with}
+use Rattle.cms_session.specs.Calls.{access_tree, finished, session_tree}
+use Rattle.cms_rounds.proofs.Rounds.{round_on}
 
 -- so many rounds at most, on the machine with these units and procedures
 abbrev pub rounds_tree : ℕ → State → List Exec → List Slot → Act Finish
 rounds_tree fuel s ps units = session fuel (record { machine = machine_of s units; procedures = ps })
-
-abbrev pub round_on : State → List Exec → List Slot → Act Round
-round_on s ps units = round_by (machine_of s units) ps
 
 abbrev rounds_in : ℕ → State → List Exec → List Slot → Act Finish
 rounds_in fuel s ps units = bind (round_on s ps units) (then_round (session fuel))
@@ -85,20 +82,6 @@ play_goes old mid new ps qs tree r going less is a = go going.fuel going.enough 
           comes_then old mid new tree (rounds_in fuel mid.state ps) (rounds_tree fuel new.state qs) (opened old mid ps tree fuel g)
           (comes_in mid new (round_on mid.state ps) (then_round (session fuel)) end.Ready (round_with new.state qs) ready);
     }
-
--- ---- a round
-
--- a procedure runs
-pub round_some : (old new : Spot) (ps rest qs : List Exec) (p : Exec) (r : Result rounds.Round End) → ps ≡ p ∷ rest
-    → Acts old new (λ units. statement (machine_of old.state units) rest p) r (round_with new.state qs) → Acts old new (round_on old.state ps) r (round_with new.state qs)
-round_some old new ps rest qs p r is a = subst (λ (l : List Exec). Acts old new (round_on old.state l) r (round_with new.state qs)) (sym is) a
-
--- or none
-pub round_none : (old new : Spot) (ps rest qs : List Exec) (r : Result rounds.Round End) → ps ≡ [] → rest ≡ []
-    → Acts old new (line_round_on old.state rest) r (round_with new.state qs) → Acts old new (round_on old.state ps) r (round_with new.state qs)
-round_none old new ps rest qs r none none' a =
-    subst (λ (l : List Exec). Acts old new (round_on old.state l) r (round_with new.state qs)) (sym none)
-    (subst (λ (l : List Exec). Acts old new (line_round_on old.state l) r (round_with new.state qs)) none' a)
 
 -- ---- the session
 

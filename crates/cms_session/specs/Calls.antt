@@ -1,107 +1,16 @@
 -- What a call of the session does, as a part of the machine's run.
-use Rattle.std.specs.Prelude.{ℕ, ℤ, List, ◌∷◌, length, Option, Some, None}
-use Rattle.cms_line.specs.Tokens.{tokens_of}
+use Rattle.std.specs.Prelude.{List}
 use Rattle.cms_machine.specs.Slots.{Slot}
-use Rattle.cms_machine.specs.Acts.{Act, bind}
-use Rattle.cms_machine.specs.Items as items
-use Rattle.cms_machine.specs.Items.{Item}
-use Rattle.cms_line.specs.declared.message.Message.{Message}
-use Rattle.cms_line.specs.declared.token.Token.{Token}
-use Rattle.cms_search.specs.Calls.{Meaning, course_of, machine_of}
-use Rattle.cms_search.specs.Machine.{Machine, Course, refusal, typing}
-use Rattle.cms_search.specs.Asking.{ask}
+use Rattle.cms_machine.specs.Acts.{Act}
+use Rattle.cms_search.specs.Calls.{Meaning, machine_of}
+use Rattle.cms_search.specs.Machine.{Machine}
 use Rattle.cms_search.specs.declared.state.State.{State}
-use Rattle.cms_exec.specs.declared.started.Started.{Started}
-use Rattle.cms_exec.specs.declared.started.Started.TheVariants as call
-use Rattle.exec2_run.specs.declared.exec.Exec.{Exec}
-use Rattle.exec2_run.specs.declared.want.Side.{Side}
-use Rattle.exec2_run.specs.declared.want.Want.{Want}
-use Rattle.cms_session.specs.Lines.{Issued, Came, Begins, issued, requested, run_command, taken_up}
-use Rattle.cms_session.specs.Procedures as spec
-use Rattle.cms_session.specs.Procedures.{Session, Round, Ends, Ready}
-use Rattle.cms_session.specs.Machine.{access_first, bad_line, line_round, round, rounds, run_item, run_line, started, taking}
-use Rattle.cms_session.specs.declared.command.Command.{Command}
-use Rattle.cms_session.specs.declared.issuing.Issued as declared
-use Rattle.cms_session.specs.declared.issuing.Issued.TheVariants as line
-use Rattle.cms_session.specs.declared.round.Taken.{Taken}
-use Rattle.cms_session.specs.declared.round.Taken.TheVariants as given
-use Rattle.cms_session.specs.declared.state.Round as declared_round
-use Rattle.cms_session.specs.declared.state.Round.TheVariants as end
-use Rattle.cms_session.specs.declared.state.Session as declared_session
-use Rattle.cms_session.specs.declared.state.Finish.{Finish}
-
--- ---- the session of the program, as the machine's
-
--- the procedures that run, the newest first
-abbrev pub procedures_of : declared_session.Session → List Exec
-procedures_of s = s.procedures
-
-abbrev pub session_of : declared_session.Session → List Slot → Session
-session_of s units = record { machine = machine_of s.state units; procedures = procedures_of s }
+use Rattle.cms_rounds.specs.Calls.{session_of}
+use Rattle.cms_rounds.specs.declared.state.Finish.{Finish}
+use Rattle.cms_rounds.specs.declared.state.Session as declared_session
+use Rattle.cms_session.specs.Machine.{access_first, rounds, started}
 
 -- ---- the trees of the parts of a session on the machine with these units
-
-abbrev pub command_tree : State → List ℕ → List Token → List ℕ → Command → List Slot → Act Course
-command_tree s line words word command units = run_command (machine_of s units) line words word command
-
-abbrev pub request_tree : State → ℕ → List ℕ → List Token → List Slot → Act Issued
-request_tree s running line words units = requested (machine_of s units) running line words
-
-abbrev pub issue_tree : State → ℕ → List ℕ → List Slot → Act Issued
-issue_tree s running line units = issued (machine_of s units) running line
-
-abbrev pub take_up_tree : State → ℕ → List ℕ → List Slot → Act Issued
-take_up_tree s running line units = taken_up (machine_of s units) running line (tokens_of line)
-
-abbrev pub ready_tree : declared_session.Session → ℤ → List Slot → Act Round
-ready_tree s code units = spec.readied (session_of s units) code
-
-abbrev pub over_tree : Exec × Want → Act (Option ℤ)
-over_tree x = spec.over x.0 x.1
-
-abbrev pub give_tree : declared_session.Session → ℤ → List Slot → Act Round
-give_tree s code units = spec.giving (procedures_of s) (machine_of s.state units) code
-
-abbrev pub go_on_tree : declared_session.Session → Exec → List Slot → Act Round
-go_on_tree s p units = spec.going_on (machine_of s.state units) (procedures_of s) p
-
-abbrev pub follow_tree : declared_session.Session → Exec → Want → List Slot → Act Round
-follow_tree s p want units = spec.following (machine_of s.state units) (procedures_of s) (p, want)
-
-abbrev pub type_tree : declared_session.Session → Exec → List (List ℕ) → List Slot → Act Round
-type_tree s p lines units = typing lines (spec.going_on (machine_of s.state units) (procedures_of s) p)
-
-abbrev pub stack_tree : declared_session.Session → Exec → List (List ℕ) → Side → List Slot → Act Round
-stack_tree s p lines side units = spec.stacking_for (machine_of s.state units) (procedures_of s) p lines side
-
-abbrev pub read_tree : declared_session.Session → Exec → List Slot → Act Round
-read_tree s p units = bind (ask (machine_of s.state units)) (spec.given (procedures_of s) p)
-
-abbrev pub issued_tree : declared_session.Session → Exec → List ℕ → List Slot → Act Round
-issued_tree s p line units =
-    bind (issued (machine_of s.state units) (length (p ∷ (procedures_of s))) line) (spec.answered (p ∷ (procedures_of s)))
-
-abbrev pub meet_tree : declared_session.Session → Exec → Want → List Slot → Act Round
-meet_tree s p want units = spec.meeting (machine_of s.state units) (procedures_of s) p want
-
-abbrev pub statement_tree : declared_session.Session → Exec → List Slot → Act Round
-statement_tree s p units = spec.statement (machine_of s.state units) (procedures_of s) p
-
--- a line is refused
-abbrev pub refused_tree : declared_session.Session → Message → List Slot → Act Round
-refused_tree s message units = bind (refusal (machine_of s.state units) message bad_line) (spec.ended (procedures_of s))
-
-abbrev pub line_tree : declared_session.Session → List ℕ → List Slot → Act Round
-line_tree s line units = run_line (session_of s units) line
-
-abbrev pub item_tree : declared_session.Session → Item → List Slot → Act Round
-item_tree s item units = run_item (session_of s units) item
-
-abbrev pub line_round_tree : declared_session.Session → List Slot → Act Round
-line_round_tree s units = line_round (session_of s units)
-
-abbrev pub round_tree : declared_session.Session → List Slot → Act Round
-round_tree s units = round (session_of s units)
 
 abbrev pub rounds_tree : declared_session.Session → List Slot → Act Finish
 rounds_tree s units = rounds (session_of s units)
@@ -112,44 +21,7 @@ access_tree s units = access_first (machine_of s units)
 abbrev pub session_tree : State → List Slot → Act Finish
 session_tree s units = started (machine_of s units)
 
--- the item that was taken
-abbrev pub item_in : Taken → Item
-item_in (given.Text text) = items.Text text
-item_in given.Bad = items.Bad
-item_in given.Long = items.Long
-item_in given.Rest = items.Rest
-
--- what is taken, or the script's end
-abbrev pub taking_tree : State → List Slot → Act (Machine × Option Item)
-taking_tree s units = taking (machine_of s units)
-
 -- ---- what their values mean
-
--- what a call of a procedure comes to, as what its line comes to
-abbrev pub issued_started : Started → declared.Issued
-issued_started (call.Begun exec) = line.Begun exec
-issued_started (call.Refused course) = line.Came course
-
--- what a line comes to, with the state that it leaves
-abbrev pub issued_of : State → Meaning declared.Issued Issued
-issued_of s units (line.Came course) = Came (course_of s units course)
-issued_of s units (line.Begun exec) = Begins (machine_of s units) exec
-
-abbrev pub answer_tree : declared_session.Session → declared.Issued → List Slot → Act Round
-answer_tree s x units = spec.answered (procedures_of s) (issued_of s.state units x)
-
--- a procedure waits above the others, but where it has ended with a code
-abbrev pub waiting : Option ℤ → Exec → List Exec → List Exec
-waiting None p ps = p ∷ ps
-waiting (Some code) p ps = ps
-
--- how a round ends, with the state and the procedures that it leaves
-abbrev pub round_with : State → List Exec → Meaning declared_round.Round Round
-round_with s ps units (end.Ended finish) = Ends finish
-round_with s ps units end.Ready = Ready (record { machine = machine_of s units; procedures = ps })
-
-abbrev pub round_of : declared_session.Session → Meaning declared_round.Round Round
-round_of s units r = round_with s.state (procedures_of s) units r
 
 abbrev pub finished : Meaning Finish Finish
 finished units finish = finish

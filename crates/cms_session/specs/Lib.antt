@@ -1,8 +1,5 @@
 pub mod Words
 pub mod Statuses
-pub mod Commands
-pub mod Lines
-pub mod Procedures
 pub mod Machine
 pub mod Calls
 pub mod Headline

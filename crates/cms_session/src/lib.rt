@@ -2,13 +2,8 @@
 #![tactic(auto)]
 
 mod attaching;
-mod command;
-mod issuing;
 mod laws;
-mod round;
 mod session;
-mod state;
-mod statement;
 mod status;
 mod top;
 

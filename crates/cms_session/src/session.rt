@@ -2,11 +2,11 @@
 ghost use Rattle.std.specs.Prelude.{◌≡◌, []};
 ghost use Rattle.cms_search.specs.Calls.{spot, Acts, IsUsable};
 ghost use Rattle.cms_search.specs.Turns.{machine_now};
-ghost use Rattle.cms_session.specs.Calls.{access_tree, finished, procedures_of, rounds_tree, session_tree};
 ghost use Rattle.cms_fields.specs.Offsets.{IsOffset};
+ghost use Rattle.cms_rounds.specs.Calls.{procedures_of};
+ghost use Rattle.cms_session.specs.Calls.{access_tree, finished, rounds_tree, session_tree};
 
-use crate::round::round;
-use crate::state::{Finish, Round, Session};
+use cms_rounds::{Finish, Round, Session, run_round};
 use cms_search::{End, State};
 use cms_world::World;
 use std::alloc::Global;
@@ -35,7 +35,7 @@ fn run_lines<W: World>(alloc: Global, world: &mut W, session: &mut Session) -> R
         (rounds_tree session.old) result finished }
 {
     loop {
-        if let Round::Ended(finish) = round(alloc, world, session)? {
+        if let Round::Ended(finish) = run_round(alloc, world, session)? {
             return Ok(finish);
         }
     }

@@ -12,10 +12,10 @@ ghost use Rattle.cms_session.specs.Words.{AreUnits, Asked, Runs, asked_of, given
 
 use crate::attaching::attach_all;
 use crate::session::play;
-use crate::state::{Finish, Session};
 use crate::status::Status;
 use cms_generator::script;
 use cms_line::Console;
+use cms_rounds::{Finish, Session};
 use cms_search::{End, State, UnitList};
 use cms_words::{WordFault, Words, read_words};
 use cms_world::{Argv, World};

@@ -1,0 +1,4 @@
+pub mod Stars
+pub mod Rounds
+pub mod Requests
+pub mod Statements

@@ -1,0 +1,201 @@
+-- Lines that CMS takes, turns and the ready line.
+use Rattle.std.proofs.Common.{◌≡◌, ℕ, ℤ, ◌≤◌, suc, List, [], ◌∷◌, Option, Some, None, Result, Ok, Err, refl, ap, sym, subst}
+use Rattle.std.specs.FinMap.{empty}
+use Rattle.std.specs.Prelude.{option_map, pos}
+use Rattle.cms_journal.specs.Causes.{Rose}
+use Rattle.cms_machine.specs.Slots.{Slot}
+use Rattle.cms_machine.specs.Items as items
+use Rattle.cms_machine.specs.Items.{Item}
+use Rattle.cms_machine.specs.Acts.{Act, Done, bind, saying, taking as taking_item, typed_line}
+use Rattle.cms_line.specs.Consoles.{Took, Stayed, item_of}
+use Rattle.cms_line.specs.declared.console.ConsoleLine.{ConsoleLine}
+use Rattle.cms_line.specs.Messages.{message_text}
+use Rattle.cms_line.specs.declared.message.Message.{Message}
+use Rattle.cms_search.specs.Calls.{Spot, Meaning, Does, Acts, Comes, beside, itself, said, holds, machine_of, course_of, refusal_tree, spot_at}
+use Rattle.cms_search.specs.Machine.{Machine}
+use Rattle.cms_search.specs.Ready.{ready_line}
+use Rattle.cms_search.specs.declared.state.Course as declared
+use Rattle.cms_search.specs.declared.state.Course.TheVariants as course
+use Rattle.cms_search.specs.declared.state.End.{End}
+use Rattle.cms_search.specs.declared.state.End.TheVariants.{Edge}
+use Rattle.cms_search.specs.declared.state.State.{State}
+use Rattle.cms_search.proofs.Acts.{acts_talks, comes_then, comes_in, comes_same, acts_done, acts_after, acts_same, acts_stop, refused}
+use Rattle.cms_search.proofs.Talking.{Came, came_none, came_to, took, stayed}
+use Rattle.cms_search.proofs.Turns.{cut_talks, done_talks, talks_kept}
+use Rattle.cms_world.specs.Seen.{Seen}
+use Rattle.exec2_run.specs.declared.exec.Exec.{Exec}
+use Rattle.cms_rounds.specs.Rounds.{line_round, on_turn, on_taken, round_by, run_item}
+use Rattle.cms_rounds.specs.Procedures.{Round, Ready, ended, readied, statement}
+use Rattle.cms_search.specs.Turns.{machine_now, turning_tree}
+use Rattle.cms_rounds.specs.Calls.{item_in, taking_tree, round_with}
+use Rattle.cms_rounds.specs.declared.round.Taken.{Taken}
+use Rattle.cms_rounds.specs.declared.round.Taken.TheVariants as given
+use Rattle.cms_rounds.specs.declared.state.Round as rounds
+use Rattle.cms_rounds.specs.declared.state.Round.TheVariants as end
+use Rattle.cms_rounds.specs.declared.state.Finish.TheVariants as finish
+
+-- ---- taking
+
+pub stacked_so : (w : Seen) (s : State) (line : List ℕ) (lines : List (List ℕ)) → s.stack ≡ line ∷ lines
+    → Acts (spot_at w s) (spot_at w (record s { stack = lines })) (taking_tree s) (Ok (Some (given.Text line)))
+    (beside (record s { stack = lines }) (option_map item_in))
+stacked_so w s line lines is =
+    let old : Spot = record { world = w; state = s } in
+    let new : Spot = record { world = w; state = record s { stack = lines } } in
+    acts_talks old new (taking_tree s) (Ok (Some (given.Text line))) (beside new.state (option_map item_in)) refl
+    (λ units. came_to w w s.console s.console (taking_tree s units) (Some (given.Text line)) (beside new.state (option_map item_in) units)
+    (subst (λ (t : Act (Machine × Option Item)). Came w w s.console s.console (taking_tree s units) t) (tree units) (came_none w s.console (taking_tree s units))))
+  where
+    tree : (units : List Slot) → taking_tree s units ≡ Done (record (machine_of s units) { stack = lines }, Some (items.Text line))
+    tree units = rw is refl
+
+-- with no line stacked
+unstacked : (old new : Spot) {T : Type 0} (r : Result T End) (m : Meaning T (Machine × Option Item)) → old.state.stack ≡ []
+    → Acts old new (λ units. bind taking_item (λ i. Done (machine_of old.state units, i))) r m → Acts old new (taking_tree old.state) r m
+unstacked old new r m none acts = acts_same old new (taking_tree old.state) (λ units. bind taking_item (λ i. Done (machine_of old.state units, i))) r m (λ units h. rw none refl) acts
+
+pub taken_so : (old new : Spot) (l : ConsoleLine) (y : Option Taken) → old.state.stack ≡ [] → Took old.world.told new.world.told old.state.console new.state.console l
+    → new.world.faults ≡ old.world.faults → old.world.edges ≤ new.world.edges → new.state ≡ record old.state { console = new.state.console } → option_map item_in y ≡ item_of l
+    → Acts old new (taking_tree old.state) (Ok y) (beside new.state (option_map item_in))
+taken_so old new l y none t faults edges kept item =
+    unstacked old new (Ok y) (beside new.state (option_map item_in)) none
+    (done_talks old new taking_item (λ units i. Done (machine_of old.state units, i)) l item_of y (beside new.state (option_map item_in)) (ap (λ (s : State). s.table) kept)
+    (took old.world new.world old.state.console new.state.console l t faults edges)
+    (λ units. let same : machine_of new.state units ≡ machine_of old.state units = ap (λ (s : State). machine_of s units) kept in rw (same, item) refl))
+
+pub not_taken : (old new : Spot) (e : End) → old.state.stack ≡ [] → Stayed old.world.told new.world.told old.state.console new.state.console → new.world.faults ≡ old.world.faults
+    → old.world.edges ≤ new.world.edges → new.state ≡ record old.state { console = new.state.console } → (e ≡ Edge → Rose old.world.edges new.world.edges)
+    → Acts {T = Option Taken} old new (taking_tree old.state) (Err e) (beside new.state (option_map item_in))
+not_taken old new e none st faults edges kept cause =
+    unstacked old new (Err e) (beside new.state (option_map item_in)) none
+    (cut_talks {T = ConsoleLine} {U = Option Taken} old new taking_item (λ units i. Done (machine_of old.state units, i)) e item_of (beside new.state (option_map item_in))
+    (ap (λ (s : State). s.table) kept) (stayed old.world new.world old.state.console new.state.console e st faults edges cause))
+
+-- ---- the ready line
+
+abbrev pub ready_on : State → List Exec → ℤ → List Slot → Act Round
+ready_on s ps code units = readied (record { machine = machine_of s units; procedures = ps }) code
+
+abbrev ready_behind : State → List Exec → List Slot → Unit {0} → Act Round
+ready_behind s ps units y = Done (Ready (record { machine = record (machine_of s units) { places = empty }; procedures = ps }))
+
+pub readied_so : (old new : Spot) (ps : List Exec) (code : ℤ) (x : Unit {0}) → Does old.world new.world (saying (typed_line (ready_line code))) (Ok x) itself
+    → new.state ≡ record old.state { places = empty } → Acts old new (ready_on old.state ps code) (Ok end.Ready) (round_with new.state ps)
+readied_so old new ps code x does kept =
+    done_talks old new (saying (typed_line (ready_line code))) (ready_behind old.state ps) x itself end.Ready (round_with new.state ps)
+    (ap (λ (s : State). s.table) kept) (talks_kept old new (saying (typed_line (ready_line code))) (Ok x) itself (ap (λ (s : State). s.console) kept) does)
+    (λ units. let machine : machine_of new.state units ≡ record (machine_of old.state units) { places = empty } = ap (λ (s : State). machine_of s units) kept in rw machine refl)
+
+pub ready_stops : (old new : Spot) (ps qs : List Exec) (code : ℤ) (e : End) → Does {T = Unit {0}} old.world new.world (saying (typed_line (ready_line code))) (Err e) itself
+    → new.state ≡ old.state → Acts {T = rounds.Round} old new (ready_on old.state ps code) (Err e) (round_with new.state qs)
+ready_stops old new ps qs code e does kept =
+    cut_talks {T = Unit {0}} {U = rounds.Round} old new (saying (typed_line (ready_line code))) (ready_behind old.state ps) e itself
+    (round_with new.state qs) (ap (λ (s : State). s.table) kept)
+    (talks_kept {T = Unit {0}} old new (saying (typed_line (ready_line code))) (Err e) itself (ap (λ (s : State). s.console) kept) does)
+
+-- where the tree is done already
+pub done_here : {R T : Type 0} (old : Spot) (t : List Slot → Act R) (x : T) (m : Meaning T R) → ((units : List Slot) → holds old units → t units ≡ Done (m units x))
+    → Acts old old t (Ok x) m
+done_here old t x m is = acts_done old old t x m (comes_same old t (λ units. Done (m units x)) is)
+
+-- ---- a round of a line
+
+abbrev pub HasTaken : Spot → Spot → Option Taken → Type 0
+HasTaken old mid item = Acts old mid (taking_tree old.state) (Ok item) (beside mid.state (option_map item_in))
+
+abbrev pub line_round_on : State → List Exec → List Slot → Act Round
+line_round_on s ps units = line_round (record { machine = machine_of s units; procedures = ps })
+
+pub take_stops : (old new : Spot) (ps qs : List Exec) (e : End) → Acts {T = Option Taken} old new (taking_tree old.state) (Err e) (beside new.state (option_map item_in))
+    → Acts {T = rounds.Round} old new (line_round_on old.state ps) (Err e) (round_with new.state qs)
+take_stops old new ps qs e a = acts_stop old new (taking_tree old.state) (on_taken ps) e (beside {T = Option Taken} new.state (option_map item_in)) (round_with new.state qs) a
+
+-- what follows, with the machine that is left
+abbrev taken_tree : State → List Exec → Option Taken → List Slot → Act Round
+taken_tree s ps item units = on_taken ps (machine_of s units, option_map item_in item)
+
+was_taken : (old mid : Spot) (ps : List Exec) (item : Option Taken) → HasTaken old mid item → Comes old mid (line_round_on old.state ps) (taken_tree mid.state ps item)
+was_taken old mid ps item a = comes_in old mid (taking_tree old.state) (on_taken ps) item (beside mid.state (option_map item_in)) a
+
+pub finished_so : (old new : Spot) (ps qs : List Exec) → HasTaken old new None
+    → Acts old new (line_round_on old.state ps) (Ok (end.Ended finish.AtEnd)) (round_with new.state qs)
+finished_so old new ps qs a = acts_done old new (line_round_on old.state ps) (end.Ended finish.AtEnd) (round_with new.state qs) (was_taken old new ps None a)
+
+abbrev turn_tree : State → List Exec → Item → ℕ → List Slot → Act Round
+turn_tree s ps item left units = on_turn (machine_of s units) ps item left
+
+-- with so many turns left
+taken_with : (old mid : Spot) (ps : List Exec) (item : Taken) (n : ℕ) → HasTaken old mid (Some item) → mid.state.left ≡ n
+    → Comes old mid (line_round_on old.state ps) (turn_tree mid.state ps (item_in item) n)
+taken_with old mid ps item n a left =
+    subst (λ (k : ℕ). Comes old mid (line_round_on old.state ps) (turn_tree mid.state ps (item_in item) k)) left (was_taken old mid ps (Some item) a)
+
+pub no_turns : (old new : Spot) (ps qs : List Exec) (item : Taken) → HasTaken old new (Some item) → new.state.left ≡ 0
+    → Acts old new (line_round_on old.state ps) (Ok (end.Ended finish.AtTurns)) (round_with new.state qs)
+no_turns old new ps qs item a none =
+    acts_done old new (line_round_on old.state ps) (end.Ended finish.AtTurns) (round_with new.state qs) (taken_with old new ps item 0 a none)
+
+abbrev then_item : List Exec → Item → Machine → Act Round
+then_item ps item m = run_item (record { machine = m; procedures = ps }) item
+
+abbrev pub item_on : State → List Exec → Item → List Slot → Act Round
+item_on s ps item units = run_item (record { machine = machine_of s units; procedures = ps }) item
+
+pub turn_stops : (old mid new : Spot) (ps qs : List Exec) (n : ℕ) (item : Taken) (e : End) → HasTaken old mid (Some item) → mid.state.left ≡ suc n
+    → Acts {T = Unit {0}} mid new (turning_tree mid.state n) (Err e) (machine_now new.state)
+    → Acts {T = rounds.Round} old new (line_round_on old.state ps) (Err e) (round_with new.state qs)
+turn_stops old mid new ps qs n item e taken some a =
+    acts_after old mid new (line_round_on old.state ps) (turn_tree mid.state ps (item_in item) (suc n)) (Err e) (round_with new.state qs) (taken_with old mid ps item (suc n) taken some)
+    (acts_stop mid new (turning_tree mid.state n) (then_item ps (item_in item)) e (machine_now {T = Unit {0}} new.state) (round_with new.state qs) a)
+
+-- what it asks for was done
+pub item_done : (old mid begun new : Spot) (ps qs : List Exec) (n : ℕ) (item : Taken) (x : Unit {0}) (r : Result rounds.Round End) → HasTaken old mid (Some item)
+    → mid.state.left ≡ suc n → Acts mid begun (turning_tree mid.state n) (Ok x) (machine_now begun.state)
+    → Acts begun new (item_on begun.state ps (item_in item)) r (round_with new.state qs) → Acts old new (line_round_on old.state ps) r (round_with new.state qs)
+item_done old mid begun new ps qs n item x r taken some turn a =
+    acts_after old begun new (line_round_on old.state ps) (item_on begun.state ps (item_in item)) r (round_with new.state qs)
+    (comes_then old mid begun (line_round_on old.state ps) (turn_tree mid.state ps (item_in item) (suc n)) (item_on begun.state ps (item_in item))
+    (taken_with old mid ps item (suc n) taken some)
+    (comes_in mid begun (turning_tree mid.state n) (then_item ps (item_in item)) x (machine_now begun.state) turn))
+    a
+
+-- ---- refusals of what was taken
+
+abbrev message_tree : Message → Act (Unit {0})
+message_tree message = saying (typed_line (message_text message))
+
+abbrev refused_on : State → List Exec → Message → List Slot → Act Round
+refused_on s ps message units = bind (refusal_tree s message (pos 20) units) (ended ps)
+
+abbrev pub ended_on : State → List Exec → declared.Course → List Slot → Act Round
+ended_on s ps c units = ended ps (course_of s units c)
+
+pub refused_course : (old mid new : Spot) (ps qs : List Exec) (message : Message) (c : declared.Course) (r : Result rounds.Round End)
+    → Does old.world mid.world (message_tree message) (Ok c) said → c ≡ course.Went (pos 20) → mid.state ≡ old.state
+    → Acts mid new (ended_on mid.state ps c) r (round_with new.state qs) → Acts old new (refused_on old.state ps message) r (round_with new.state qs)
+refused_course old mid new ps qs message c r does went same acts =
+    acts_after old mid new (refused_on old.state ps message) (ended_on mid.state ps c) r (round_with new.state qs)
+    (comes_in old mid (refusal_tree old.state message (pos 20)) (ended ps) c (course_of mid.state) (refused old mid message (pos 20) (Ok c) does went same)) acts
+
+pub refused_stop : (old new : Spot) (ps qs : List Exec) (message : Message) (e : End) → Does {T = declared.Course} old.world new.world (message_tree message) (Err e) said
+    → new.state ≡ old.state → Acts {T = rounds.Round} old new (refused_on old.state ps message) (Err e) (round_with new.state qs)
+refused_stop old new ps qs message e does same =
+    acts_stop old new (refusal_tree old.state message (pos 20)) (ended ps) e (course_of new.state) (round_with new.state qs)
+    (refused old new message (pos 20) (Err e) does tt same)
+
+-- ---- a round
+
+abbrev pub round_on : State → List Exec → List Slot → Act Round
+round_on s ps units = round_by (machine_of s units) ps
+
+-- a procedure runs
+pub round_some : (old new : Spot) (ps rest qs : List Exec) (p : Exec) (r : Result rounds.Round End) → ps ≡ p ∷ rest
+    → Acts old new (λ units. statement (machine_of old.state units) rest p) r (round_with new.state qs) → Acts old new (round_on old.state ps) r (round_with new.state qs)
+round_some old new ps rest qs p r is a = subst (λ (l : List Exec). Acts old new (round_on old.state l) r (round_with new.state qs)) (sym is) a
+
+-- or none
+pub round_none : (old new : Spot) (ps rest qs : List Exec) (r : Result rounds.Round End) → ps ≡ [] → rest ≡ []
+    → Acts old new (line_round_on old.state rest) r (round_with new.state qs) → Acts old new (round_on old.state ps) r (round_with new.state qs)
+round_none old new ps rest qs r none none' a =
+    subst (λ (l : List Exec). Acts old new (round_on old.state l) r (round_with new.state qs)) (sym none)
+    (subst (λ (l : List Exec). Acts old new (line_round_on old.state l) r (round_with new.state qs)) none' a)
