@@ -86,6 +86,8 @@ def command(chosen):
         lambda: f"RELEASE {chosen.choice(['191', '192', 'A', 'B'])}",
         lambda: "QUERY " + chosen.choice(["DISK", "DISK *", "SEARCH", "DISK A"]),
         lambda: f"LISTFILE {identifier(chosen)} (" + chosen.choice(["ALLOC", "DATE", "LABEL", "STACK", "LIFO", "EXEC", "APPEND", ""]),
+        lambda: "TALLY",
+        lambda: chosen.choice(["NUCXMAP", "NUCXDROP TALLY", "NUCXDROP NONE", "NUCXDROP"]),
         lambda: f"STATE {identifier(chosen)}",
         lambda: f"TYPE {identifier(chosen)} {chosen.choice(['', '1', '2 3', '1 *'])} " + chosen.choice(["", "(HEX", "(COL 1-20"]),
         lambda: f"ERASE {identifier(chosen)} " + chosen.choice(["", "(TYPE"]),

@@ -36,11 +36,13 @@ output, and behind each command its ready line: R; or, with a return code, R(000
   FORMAT v m       makes an empty volume on device v and gives it the letter m, after two questions;
                    with (LABEL it asks for another label alone
   LISTFILE fn ft fm   lists files, by patterns as A%C*
+  NUCXDROP word    drops the extension of a word; NUCXMAP types the words
   QUERY DISK       shows the accessed disks and their room, with a letter that disk alone
   QUERY SEARCH     shows how disks are searched
   RELEASE disk     gives up a disk, by its letter or its device
   RENAME fn ft fm fn ft fm   gives files other names or mode numbers
   STATE fn ft fm   says whether a file is there
+  TALLY            is an extension: it says how often it was called
   TYPE fn ft fm    types the records of a file
   * text           is a comment
 

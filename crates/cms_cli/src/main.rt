@@ -7,10 +7,14 @@ ghost use Rattle.cms_session.specs.Statuses.{code_of};
 mod help;
 mod telling;
 
+use cms_ext::{ExtList, Extension, Tally};
 use cms_host::{FileWorld, Host};
-use cms_session::{Status, WordFault, run};
+use cms_names::Part;
+use cms_session::{Status, WordFault, run_with};
+use cms_text::coded;
 use cms_world::Argv;
 use help::{HELP, VERSION};
+use std::alloc::{AllocError, Global};
 use std::fs::File;
 use std::io::{ErrorKind, IsTerminal};
 use std::process::ExitCode;
@@ -18,6 +22,9 @@ use std::{env, io};
 use telling::{tell_ending, tell_world};
 
 const FOLDER: &str = "/";
+
+/// The word of the extension that the program brings.
+const TALLY: &[u8; 5] = b"TALLY";
 
 /// Why the words can't be had: there is no memory, or one isn't text.
 fn argument_status(error: &io::Error) -> Status {
@@ -55,6 +62,23 @@ fn hold_streams(rt: &HostRuntime) -> io::Result<[File; 3]> {
     ])
 }
 
+/// A session with TALLY under its word.
+fn run_session(
+    alloc: Global,
+    words: &Argv,
+    world: &mut FileWorld<Host<&HostRuntime>>,
+) -> Result<Status, AllocError> {
+    let Ok(word) = Part::read(&coded(TALLY)) else {
+        return Ok(Status::Memory);
+    };
+    let tally: Box<dyn Extension> = Box::new(alloc, Tally::new())?;
+    let mut extensions = ExtList::new(alloc);
+    match extensions.push(word, tally) {
+        Ok(()) => Ok(run_with(alloc, words, world, extensions)),
+        Err(_) => Ok(Status::Memory),
+    }
+}
+
 /// A session over real files. Where the world failed it says on standard error what.
 fn session(rt: &HostRuntime, words: &Argv) -> Ending {
     let Ok(_streams) = hold_streams(rt) else {
@@ -66,7 +90,7 @@ fn session(rt: &HostRuntime, words: &Argv) -> Ending {
     let Ok(mut world) = FileWorld::new(rt.alloc(), host, lines) else {
         return ended(Status::Memory);
     };
-    let status = run(rt.alloc(), words, &mut world);
+    let status = run_session(rt.alloc(), words, &mut world).unwrap_or(Status::Memory);
     let written = world.finish();
     if written && matches!(status, Status::World) {
         tell_world(rt, words, &world);

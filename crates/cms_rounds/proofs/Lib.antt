@@ -1,4 +1,7 @@
 pub mod Stars
+pub mod Alone
+pub mod Places
 pub mod Rounds
 pub mod Requests
 pub mod Statements
+pub mod Dropping

@@ -4,6 +4,7 @@ use Rattle.std.specs.FinMap.{empty}
 use Rattle.std.specs.Prelude.{option_map, pos}
 use Rattle.cms_journal.specs.Causes.{Rose}
 use Rattle.cms_machine.specs.Slots.{Slot}
+use Rattle.cms_machine.specs.Objects.{Object}
 use Rattle.cms_machine.specs.Items as items
 use Rattle.cms_machine.specs.Items.{Item}
 use Rattle.cms_machine.specs.Acts.{Act, Done, bind, saying, taking as taking_item, typed_line}
@@ -11,7 +12,7 @@ use Rattle.cms_line.specs.Consoles.{Took, Stayed, item_of}
 use Rattle.cms_line.specs.declared.console.ConsoleLine.{ConsoleLine}
 use Rattle.cms_line.specs.Messages.{message_text}
 use Rattle.cms_line.specs.declared.message.Message.{Message}
-use Rattle.cms_search.specs.Calls.{Spot, Meaning, Does, Acts, Comes, beside, itself, said, holds, machine_of, course_of, refusal_tree, spot_at}
+use Rattle.cms_search.specs.Calls.{Spot, SpotWith, Meaning, Does, Acts, Comes, beside, itself, said, holds, machine_of, course_of, refusal_tree, spot_at}
 use Rattle.cms_search.specs.Machine.{Machine}
 use Rattle.cms_search.specs.Ready.{ready_line}
 use Rattle.cms_search.specs.declared.state.Course as declared
@@ -23,16 +24,19 @@ use Rattle.cms_search.proofs.Acts.{acts_talks, comes_then, comes_in, comes_same,
 use Rattle.cms_search.proofs.Talking.{Came, came_none, came_to, took, stayed}
 use Rattle.cms_search.proofs.Turns.{cut_talks, done_talks, talks_kept}
 use Rattle.cms_world.specs.Seen.{Seen}
+use Rattle.cms_ext.specs.Calls.{desk_of}
+use Rattle.cms_ext.specs.Extensions.{desk}
 use Rattle.exec2_run.specs.declared.exec.Exec.{Exec}
-use Rattle.cms_rounds.specs.Rounds.{line_round, on_turn, on_taken, round_by, run_item}
-use Rattle.cms_rounds.specs.Procedures.{Round, Ready, ended, readied, statement}
+use Rattle.cms_rounds.specs.Rounds.{line_round, on_turn, on_taken, round, run_item}
+use Rattle.cms_rounds.specs.Procedures.{Passed, Round, Ready, ended, readied, statement}
 use Rattle.cms_search.specs.Turns.{machine_now, turning_tree}
-use Rattle.cms_rounds.specs.Calls.{item_in, taking_tree, round_with}
+use Rattle.cms_rounds.specs.Calls.{item_in, passed_with, taking_tree, round_with}
 use Rattle.cms_rounds.specs.declared.round.Taken.{Taken}
 use Rattle.cms_rounds.specs.declared.round.Taken.TheVariants as given
 use Rattle.cms_rounds.specs.declared.state.Round as rounds
 use Rattle.cms_rounds.specs.declared.state.Round.TheVariants as end
 use Rattle.cms_rounds.specs.declared.state.Finish.TheVariants as finish
+use Rattle.cms_rounds.proofs.Alone.{acts_alone, alone}
 
 -- ---- taking
 
@@ -94,70 +98,82 @@ ready_stops old new ps qs code e does kept =
     (talks_kept {T = Unit {0}} old new (saying (typed_line (ready_line code))) (Err e) itself (ap (λ (s : State). s.console) kept) does)
 
 -- where the tree is done already
-pub done_here : {R T : Type 0} (old : Spot) (t : List Slot → Act R) (x : T) (m : Meaning T R) → ((units : List Slot) → holds old units → t units ≡ Done (m units x))
+pub done_here : {R T : Type 0} {os : List Object} (old : SpotWith os) (t : List Slot → Act R) (x : T) (m : Meaning T R) → ((units : List Slot) → holds old units → t units ≡ Done (m units x))
     → Acts old old t (Ok x) m
 done_here old t x m is = acts_done old old t x m (comes_same old t (λ units. Done (m units x)) is)
 
 -- ---- a round of a line
 
-abbrev pub HasTaken : Spot → Spot → Option Taken → Type 0
-HasTaken old mid item = Acts old mid (taking_tree old.state) (Ok item) (beside mid.state (option_map item_in))
+-- in a session with objects, which are left
+module _ (os : List Object) where
+  abbrev pub HasTaken : SpotWith os → SpotWith os → Option Taken → Type 0
+  HasTaken old mid item = Acts (alone old) (alone mid) (taking_tree old.state) (Ok item) (beside mid.state (option_map item_in))
 
-abbrev pub line_round_on : State → List Exec → List Slot → Act Round
-line_round_on s ps units = line_round (record { machine = machine_of s units; procedures = ps })
+  abbrev pub line_round_on : State → List Exec → List Slot → Act Passed
+  line_round_on s ps units = line_round (desk_of s os units) ps
 
-pub take_stops : (old new : Spot) (ps qs : List Exec) (e : End) → Acts {T = Option Taken} old new (taking_tree old.state) (Err e) (beside new.state (option_map item_in))
-    → Acts {T = rounds.Round} old new (line_round_on old.state ps) (Err e) (round_with new.state qs)
-take_stops old new ps qs e a = acts_stop old new (taking_tree old.state) (on_taken ps) e (beside {T = Option Taken} new.state (option_map item_in)) (round_with new.state qs) a
+  pub take_stops : (old new : SpotWith os) (ps qs : List Exec) (e : End)
+      → Acts {T = Option Taken} (alone old) (alone new) (taking_tree old.state) (Err e) (beside new.state (option_map item_in))
+      → Acts {T = rounds.Round} old new (line_round_on old.state ps) (Err e) (passed_with new.state qs os)
+  take_stops old new ps qs e a =
+      acts_stop old new (taking_tree old.state) (on_taken os ps) e (beside {T = Option Taken} new.state (option_map item_in)) (passed_with new.state qs os)
+      (acts_alone {T = Option Taken} old new (taking_tree old.state) (Err e) (beside new.state (option_map item_in)) a)
 
--- what follows, with the machine that is left
-abbrev taken_tree : State → List Exec → Option Taken → List Slot → Act Round
-taken_tree s ps item units = on_taken ps (machine_of s units, option_map item_in item)
+  -- what follows, with the machine that is left
+  abbrev taken_tree : State → List Exec → Option Taken → List Slot → Act Passed
+  taken_tree s ps item units = on_taken os ps (machine_of s units, option_map item_in item)
 
-was_taken : (old mid : Spot) (ps : List Exec) (item : Option Taken) → HasTaken old mid item → Comes old mid (line_round_on old.state ps) (taken_tree mid.state ps item)
-was_taken old mid ps item a = comes_in old mid (taking_tree old.state) (on_taken ps) item (beside mid.state (option_map item_in)) a
+  was_taken : (old mid : SpotWith os) (ps : List Exec) (item : Option Taken) → HasTaken old mid item
+      → Comes old mid (line_round_on old.state ps) (taken_tree mid.state ps item)
+  was_taken old mid ps item a =
+      comes_in old mid (taking_tree old.state) (on_taken os ps) item (beside mid.state (option_map item_in))
+      (acts_alone old mid (taking_tree old.state) (Ok item) (beside mid.state (option_map item_in)) a)
 
-pub finished_so : (old new : Spot) (ps qs : List Exec) → HasTaken old new None
-    → Acts old new (line_round_on old.state ps) (Ok (end.Ended finish.AtEnd)) (round_with new.state qs)
-finished_so old new ps qs a = acts_done old new (line_round_on old.state ps) (end.Ended finish.AtEnd) (round_with new.state qs) (was_taken old new ps None a)
+  pub finished_so : (old new : SpotWith os) (ps qs : List Exec) → HasTaken old new None
+      → Acts old new (line_round_on old.state ps) (Ok (end.Ended finish.AtEnd)) (passed_with new.state qs os)
+  finished_so old new ps qs a =
+      acts_done old new (line_round_on old.state ps) (end.Ended finish.AtEnd) (passed_with new.state qs os) (was_taken old new ps None a)
 
-abbrev turn_tree : State → List Exec → Item → ℕ → List Slot → Act Round
-turn_tree s ps item left units = on_turn (machine_of s units) ps item left
+  abbrev turn_tree : State → List Exec → Item → ℕ → List Slot → Act Passed
+  turn_tree s ps item left units = on_turn (desk_of s os units) ps item left
 
--- with so many turns left
-taken_with : (old mid : Spot) (ps : List Exec) (item : Taken) (n : ℕ) → HasTaken old mid (Some item) → mid.state.left ≡ n
-    → Comes old mid (line_round_on old.state ps) (turn_tree mid.state ps (item_in item) n)
-taken_with old mid ps item n a left =
-    subst (λ (k : ℕ). Comes old mid (line_round_on old.state ps) (turn_tree mid.state ps (item_in item) k)) left (was_taken old mid ps (Some item) a)
+  -- with so many turns left
+  taken_with : (old mid : SpotWith os) (ps : List Exec) (item : Taken) (n : ℕ) → HasTaken old mid (Some item) → mid.state.left ≡ n
+      → Comes old mid (line_round_on old.state ps) (turn_tree mid.state ps (item_in item) n)
+  taken_with old mid ps item n a left =
+      subst (λ (k : ℕ). Comes old mid (line_round_on old.state ps) (turn_tree mid.state ps (item_in item) k)) left (was_taken old mid ps (Some item) a)
 
-pub no_turns : (old new : Spot) (ps qs : List Exec) (item : Taken) → HasTaken old new (Some item) → new.state.left ≡ 0
-    → Acts old new (line_round_on old.state ps) (Ok (end.Ended finish.AtTurns)) (round_with new.state qs)
-no_turns old new ps qs item a none =
-    acts_done old new (line_round_on old.state ps) (end.Ended finish.AtTurns) (round_with new.state qs) (taken_with old new ps item 0 a none)
+  pub no_turns : (old new : SpotWith os) (ps qs : List Exec) (item : Taken) → HasTaken old new (Some item) → new.state.left ≡ 0
+      → Acts old new (line_round_on old.state ps) (Ok (end.Ended finish.AtTurns)) (passed_with new.state qs os)
+  no_turns old new ps qs item a none =
+      acts_done old new (line_round_on old.state ps) (end.Ended finish.AtTurns) (passed_with new.state qs os) (taken_with old new ps item 0 a none)
 
-abbrev then_item : List Exec → Item → Machine → Act Round
-then_item ps item m = run_item (record { machine = m; procedures = ps }) item
+  abbrev then_item : List Exec → Item → Machine → Act Passed
+  then_item ps item m = run_item (desk m os) ps item
 
-abbrev pub item_on : State → List Exec → Item → List Slot → Act Round
-item_on s ps item units = run_item (record { machine = machine_of s units; procedures = ps }) item
+  abbrev pub item_on : State → List Exec → Item → List Slot → Act Passed
+  item_on s ps item units = run_item (desk_of s os units) ps item
 
-pub turn_stops : (old mid new : Spot) (ps qs : List Exec) (n : ℕ) (item : Taken) (e : End) → HasTaken old mid (Some item) → mid.state.left ≡ suc n
-    → Acts {T = Unit {0}} mid new (turning_tree mid.state n) (Err e) (machine_now new.state)
-    → Acts {T = rounds.Round} old new (line_round_on old.state ps) (Err e) (round_with new.state qs)
-turn_stops old mid new ps qs n item e taken some a =
-    acts_after old mid new (line_round_on old.state ps) (turn_tree mid.state ps (item_in item) (suc n)) (Err e) (round_with new.state qs) (taken_with old mid ps item (suc n) taken some)
-    (acts_stop mid new (turning_tree mid.state n) (then_item ps (item_in item)) e (machine_now {T = Unit {0}} new.state) (round_with new.state qs) a)
+  pub turn_stops : (old mid new : SpotWith os) (ps qs : List Exec) (n : ℕ) (item : Taken) (e : End) → HasTaken old mid (Some item) → mid.state.left ≡ suc n
+      → Acts {T = Unit {0}} (alone mid) (alone new) (turning_tree mid.state n) (Err e) (machine_now new.state)
+      → Acts {T = rounds.Round} old new (line_round_on old.state ps) (Err e) (passed_with new.state qs os)
+  turn_stops old mid new ps qs n item e taken some a =
+      acts_after old mid new (line_round_on old.state ps) (turn_tree mid.state ps (item_in item) (suc n)) (Err e) (passed_with new.state qs os)
+      (taken_with old mid ps item (suc n) taken some)
+      (acts_stop mid new (turning_tree mid.state n) (then_item ps (item_in item)) e (machine_now {T = Unit {0}} new.state) (passed_with new.state qs os)
+      (acts_alone {T = Unit {0}} mid new (turning_tree mid.state n) (Err e) (machine_now new.state) a))
 
--- what it asks for was done
-pub item_done : (old mid begun new : Spot) (ps qs : List Exec) (n : ℕ) (item : Taken) (x : Unit {0}) (r : Result rounds.Round End) → HasTaken old mid (Some item)
-    → mid.state.left ≡ suc n → Acts mid begun (turning_tree mid.state n) (Ok x) (machine_now begun.state)
-    → Acts begun new (item_on begun.state ps (item_in item)) r (round_with new.state qs) → Acts old new (line_round_on old.state ps) r (round_with new.state qs)
-item_done old mid begun new ps qs n item x r taken some turn a =
-    acts_after old begun new (line_round_on old.state ps) (item_on begun.state ps (item_in item)) r (round_with new.state qs)
-    (comes_then old mid begun (line_round_on old.state ps) (turn_tree mid.state ps (item_in item) (suc n)) (item_on begun.state ps (item_in item))
-    (taken_with old mid ps item (suc n) taken some)
-    (comes_in mid begun (turning_tree mid.state n) (then_item ps (item_in item)) x (machine_now begun.state) turn))
-    a
+  -- what it asks for was done
+  pub item_done : (b : List Object) (old mid begun : SpotWith os) (new : SpotWith b) (ps qs : List Exec) (n : ℕ) (item : Taken) (x : Unit {0}) (r : Result rounds.Round End)
+      → HasTaken old mid (Some item) → mid.state.left ≡ suc n → Acts (alone mid) (alone begun) (turning_tree mid.state n) (Ok x) (machine_now begun.state)
+      → Acts begun new (item_on begun.state ps (item_in item)) r (passed_with new.state qs b) → Acts old new (line_round_on old.state ps) r (passed_with new.state qs b)
+  item_done b old mid begun new ps qs n item x r taken some turn a =
+      acts_after old begun new (line_round_on old.state ps) (item_on begun.state ps (item_in item)) r (passed_with new.state qs b)
+      (comes_then old mid begun (line_round_on old.state ps) (turn_tree mid.state ps (item_in item) (suc n)) (item_on begun.state ps (item_in item))
+      (taken_with old mid ps item (suc n) taken some)
+      (comes_in mid begun (turning_tree mid.state n) (then_item ps (item_in item)) x (machine_now begun.state)
+      (acts_alone mid begun (turning_tree mid.state n) (Ok x) (machine_now begun.state) turn)))
+      a
 
 -- ---- refusals of what was taken
 
@@ -185,17 +201,17 @@ refused_stop old new ps qs message e does same =
 
 -- ---- a round
 
-abbrev pub round_on : State → List Exec → List Slot → Act Round
-round_on s ps units = round_by (machine_of s units) ps
+abbrev pub round_on : State → List Object → List Exec → List Slot → Act Passed
+round_on s os ps units = round (desk_of s os units) ps
 
 -- a procedure runs
-pub round_some : (old new : Spot) (ps rest qs : List Exec) (p : Exec) (r : Result rounds.Round End) → ps ≡ p ∷ rest
-    → Acts old new (λ units. statement (machine_of old.state units) rest p) r (round_with new.state qs) → Acts old new (round_on old.state ps) r (round_with new.state qs)
-round_some old new ps rest qs p r is a = subst (λ (l : List Exec). Acts old new (round_on old.state l) r (round_with new.state qs)) (sym is) a
+pub round_some : (a b : List Object) (old : SpotWith a) (new : SpotWith b) (ps rest qs : List Exec) (p : Exec) (r : Result rounds.Round End) → ps ≡ p ∷ rest
+    → Acts old new (λ units. statement (desk_of old.state a units) rest p) r (passed_with new.state qs b) → Acts old new (round_on old.state a ps) r (passed_with new.state qs b)
+round_some a b old new ps rest qs p r is acts = subst (λ (l : List Exec). Acts old new (round_on old.state a l) r (passed_with new.state qs b)) (sym is) acts
 
 -- or none
-pub round_none : (old new : Spot) (ps rest qs : List Exec) (r : Result rounds.Round End) → ps ≡ [] → rest ≡ []
-    → Acts old new (line_round_on old.state rest) r (round_with new.state qs) → Acts old new (round_on old.state ps) r (round_with new.state qs)
-round_none old new ps rest qs r none none' a =
-    subst (λ (l : List Exec). Acts old new (round_on old.state l) r (round_with new.state qs)) (sym none)
-    (subst (λ (l : List Exec). Acts old new (line_round_on old.state l) r (round_with new.state qs)) none' a)
+pub round_none : (a b : List Object) (old : SpotWith a) (new : SpotWith b) (ps rest qs : List Exec) (r : Result rounds.Round End) → ps ≡ [] → rest ≡ []
+    → Acts old new (line_round_on a old.state rest) r (passed_with new.state qs b) → Acts old new (round_on old.state a ps) r (passed_with new.state qs b)
+round_none a b old new ps rest qs r none none' acts =
+    subst (λ (l : List Exec). Acts old new (round_on old.state a l) r (passed_with new.state qs b)) (sym none)
+    (subst (λ (l : List Exec). Acts old new (line_round_on a old.state l) r (passed_with new.state qs b)) none' acts)

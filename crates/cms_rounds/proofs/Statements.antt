@@ -3,12 +3,13 @@ use Rattle.std.proofs.Common.{◌≡◌, ℕ, ℤ, suc, ◌+◌, ◌≤◌, Bool
 use Rattle.std.specs.Prelude.{nat_le}
 use Rattle.std.proofs.lemmas.List.{drop_all}
 use Rattle.cms_fields.specs.declared.time.Moment.{Moment}
+use Rattle.cms_machine.specs.Objects.{Object}
 use Rattle.cms_machine.specs.Slots.{Slot}
 use Rattle.cms_machine.specs.Acts.{Act, Done, Out, bind, saying, typed_line}
 use Rattle.cms_machine.proofs.Join.{broke_here}
 use Rattle.cms_line.specs.Stack.{most_lines}
 use Rattle.cms_search.specs.Asking as asks
-use Rattle.cms_search.specs.Calls.{Spot, Does, Acts, Comes, itself, said, machine_of, course_of}
+use Rattle.cms_search.specs.Calls.{Spot, SpotWith, Does, Acts, Comes, itself, said, machine_of, course_of}
 use Rattle.cms_search.specs.Machine.{Machine, Course, Went, OutOfTurns, typing}
 use Rattle.cms_search.specs.Talks.{ask_tree, asked_of}
 use Rattle.cms_search.specs.declared.asking.Asked.{Asked}
@@ -21,6 +22,8 @@ use Rattle.cms_search.specs.declared.state.State.{State}
 use Rattle.cms_search.proofs.Acts.{comes_in, comes_does, comes_none, comes_same, comes_then, acts_done, acts_after, acts_same, acts_stop, does_stop, no_memory}
 use Rattle.cms_search.proofs.Lined.{Reached, nothing, reached_none, reached_on, reached_off, reached_to, typing_first, typing_none, typing_then}
 use Rattle.cms_world.specs.Seen.{Seen}
+use Rattle.cms_ext.specs.Calls.{desk_of}
+use Rattle.cms_ext.specs.Extensions.{desk}
 use Rattle.cms_files.specs.Stacking.{stacking}
 use Rattle.exec2_run.specs.Relation.{Moved}
 use Rattle.exec2_run.specs.Steps.{Takes, code_taken}
@@ -32,13 +35,15 @@ use Rattle.exec2_run.proofs.Places.{from_place}
 use Rattle.cms_rounds.specs.Commands.{is_comment}
 use Rattle.cms_rounds.specs.Lines.{Issued, issued}
 use Rattle.cms_rounds.specs.Rounds.{run_line}
-use Rattle.cms_rounds.specs.Procedures.{Round, Ends, Ready, answered, came_to, end_of, finding, following, given, giving, going_on, idle, meeting, met, over, readied, settled, stacking_for, statement, statement_with, stepped, unless_over}
+use Rattle.cms_rounds.specs.Procedures.{Passed, Round, Ends, Ready, answered, came_to, end_of, finding, following, given, giving, going_on, idle, leaving, meeting, met, over, readied, settled, stacking_for, statement, statement_with, stepped, unless_over}
 use Rattle.cms_search.specs.Turns.{machine_now, turning_tree}
-use Rattle.cms_rounds.specs.Calls.{issued_of, round_with, take_up_tree}
+use Rattle.cms_rounds.specs.Calls.{answering, issued_of, passed_with, round_with, take_up_tree}
 use Rattle.cms_rounds.specs.declared.issuing.Issued as declared_issued
+use Rattle.cms_rounds.specs.declared.issuing.Issued.TheVariants as issue
 use Rattle.cms_rounds.specs.declared.state.Round as rounds
 use Rattle.cms_rounds.specs.declared.state.Round.TheVariants as end
 use Rattle.cms_rounds.specs.declared.state.Finish.TheVariants as finish
+use Rattle.cms_rounds.proofs.Alone.{acts_alone, alone, left}
 use Rattle.cms_rounds.proofs.Rounds.{done_here, ready_on}
 
 -- ---- calls of a procedure, and of the console
@@ -368,114 +373,133 @@ module _ (old mid : Spot) (ps : List Exec) (p : Exec) where
 
 -- ---- what a line comes to
 
-abbrev pub issuing_on : State → ℕ → List ℕ → List Slot → Act Issued
-issuing_on s running line units = issued (machine_of s units) running line
+abbrev pub issuing_on : State → List Object → ℕ → List ℕ → List Slot → Act Issued
+issuing_on s os running line units = issued (desk_of s os units) running line
 
-abbrev pub answering_on : State → List Exec → declared_issued.Issued → List Slot → Act Round
-answering_on s ps x units = answered ps (issued_of s units x)
+answered_beside : (s : State) (os : List Object) (ps : List Exec) (x : declared_issued.Issued) (units : List Slot)
+    → answered ps (issued_of s os units x) ≡ leaving os (answering s ps x units)
+answered_beside s os ps (issue.Came (course.Went code)) units = refl
+answered_beside s os ps (issue.Came course.OutOfTurns) units = refl
+answered_beside s os ps (issue.Begun p) units = refl
 
 -- with the tree of what it comes to
-module _ (old mid : Spot) (ps : List Exec) (tree : List Slot → Act Issued) where
-  pub issue_off : (e : End) (qs : List Exec) → Acts {T = declared_issued.Issued} old mid tree (Err e) (issued_of mid.state)
-      → Acts {T = rounds.Round} old mid (λ units. bind (tree units) (answered ps)) (Err e) (round_with mid.state qs)
-  issue_off e qs a = acts_stop old mid tree (answered ps) e (issued_of mid.state) (round_with mid.state qs) a
+module _ (a b : List Object) (old : SpotWith a) (mid : SpotWith b) (ps : List Exec) (tree : List Slot → Act Issued) where
+  pub issue_off : (e : End) (qs : List Exec) → Acts {T = declared_issued.Issued} old mid tree (Err e) (issued_of mid.state b)
+      → Acts {T = rounds.Round} old mid (λ units. bind (tree units) (answered ps)) (Err e) (passed_with mid.state qs b)
+  issue_off e qs acts = acts_stop old mid tree (answered ps) e (issued_of mid.state b) (passed_with mid.state qs b) acts
 
-  pub issue_answered : (new : Spot) (x : declared_issued.Issued) (r : Result rounds.Round End) (qs : List Exec) → Acts old mid tree (Ok x) (issued_of mid.state)
-      → Acts mid new (answering_on mid.state ps x) r (round_with new.state qs) → Acts old new (λ units. bind (tree units) (answered ps)) r (round_with new.state qs)
-  issue_answered new x r qs a b =
-      acts_after old mid new (λ units. bind (tree units) (answered ps)) (answering_on mid.state ps x) r (round_with new.state qs)
-      (comes_in old mid tree (answered ps) x (issued_of mid.state) a) b
+  pub issue_answered : (new : SpotWith b) (x : declared_issued.Issued) (r : Result rounds.Round End) (qs : List Exec) → Acts old mid tree (Ok x) (issued_of mid.state b)
+      → Acts (alone mid) (alone new) (answering mid.state ps x) r (round_with new.state qs)
+      → Acts old new (λ units. bind (tree units) (answered ps)) r (passed_with new.state qs b)
+  issue_answered new x r qs acts next =
+      acts_after old mid new (λ units. bind (tree units) (answered ps)) (λ units. answered ps (issued_of mid.state b units x)) r (passed_with new.state qs b)
+      (comes_in old mid tree (answered ps) x (issued_of mid.state b) acts)
+      (acts_same mid new (λ units. answered ps (issued_of mid.state b units x)) (λ units. leaving b (answering mid.state ps x units)) r
+      (passed_with new.state qs b) (λ units h. answered_beside mid.state b ps x units)
+      (left mid new (answering mid.state ps x) r qs next))
 
-abbrev issuing_for : State → List Exec → Exec → List ℕ → List Slot → Act Round
-issuing_for s ps p text units = bind (issued (machine_of s units) (length (p ∷ ps)) text) (answered (p ∷ ps))
+abbrev issuing_for : State → List Object → List Exec → Exec → List ℕ → List Slot → Act Passed
+issuing_for s os ps p text units = bind (issued (desk_of s os units) (length (p ∷ ps)) text) (answered (p ∷ ps))
 
 -- a line that the newest procedure issues, once it is back among the others
-pub issues_off : (old mid : Spot) (ps rest : List Exec) (p : Exec) (text : List ℕ) (running : ℕ) (e : End) (qs : List Exec) → rest ≡ p ∷ ps → running ≡ length rest
-    → Acts {T = declared_issued.Issued} old mid (issuing_on old.state running text) (Err e) (issued_of mid.state)
-    → Acts {T = rounds.Round} old mid (issuing_for old.state ps p text) (Err e) (round_with mid.state qs)
-issues_off old mid ps rest p text running e qs is many a =
-    issue_off old mid (p ∷ ps) (issuing_on old.state (length (p ∷ ps)) text) e qs
-    (subst (λ (n : ℕ). Acts {T = declared_issued.Issued} old mid (issuing_on old.state n text) (Err e) (issued_of mid.state))
-    (many ∙ ap (λ (l : List Exec). length l) is) a)
+pub issues_off : (a b : List Object) (old : SpotWith a) (mid : SpotWith b) (ps rest : List Exec) (p : Exec) (text : List ℕ) (running : ℕ) (e : End) (qs : List Exec)
+    → rest ≡ p ∷ ps → running ≡ length rest → Acts {T = declared_issued.Issued} old mid (issuing_on old.state a running text) (Err e) (issued_of mid.state b)
+    → Acts {T = rounds.Round} old mid (issuing_for old.state a ps p text) (Err e) (passed_with mid.state qs b)
+issues_off a b old mid ps rest p text running e qs is many acts =
+    issue_off a b old mid (p ∷ ps) (issuing_on old.state a (length (p ∷ ps)) text) e qs
+    (subst (λ (n : ℕ). Acts {T = declared_issued.Issued} old mid (issuing_on old.state a n text) (Err e) (issued_of mid.state b))
+    (many ∙ ap (λ (l : List Exec). length l) is) acts)
 
-pub issues_so : (old mid new : Spot) (ps rest qs : List Exec) (p : Exec) (text : List ℕ) (running : ℕ) (x : declared_issued.Issued) (r : Result rounds.Round End) → rest ≡ p ∷ ps
-    → running ≡ length rest → Acts old mid (issuing_on old.state running text) (Ok x) (issued_of mid.state) → Acts mid new (answering_on mid.state rest x) r (round_with new.state qs)
-    → Acts old new (issuing_for old.state ps p text) r (round_with new.state qs)
-issues_so old mid new ps rest qs p text running x r is many a b =
-    issue_answered old mid (p ∷ ps) (issuing_on old.state (length (p ∷ ps)) text) new x r qs
-    (subst (λ (n : ℕ). Acts old mid (issuing_on old.state n text) (Ok x) (issued_of mid.state)) (many ∙ ap (λ (l : List Exec). length l) is) a)
-    (subst (λ (l : List Exec). Acts mid new (answering_on mid.state l x) r (round_with new.state qs)) is b)
+pub issues_so : (a b : List Object) (old : SpotWith a) (mid new : SpotWith b) (ps rest qs : List Exec) (p : Exec) (text : List ℕ) (running : ℕ) (x : declared_issued.Issued)
+    (r : Result rounds.Round End) → rest ≡ p ∷ ps → running ≡ length rest → Acts old mid (issuing_on old.state a running text) (Ok x) (issued_of mid.state b)
+    → Acts (alone mid) (alone new) (answering mid.state rest x) r (round_with new.state qs)
+    → Acts old new (issuing_for old.state a ps p text) r (passed_with new.state qs b)
+issues_so a b old mid new ps rest qs p text running x r is many acts next =
+    issue_answered a b old mid (p ∷ ps) (issuing_on old.state a (length (p ∷ ps)) text) new x r qs
+    (subst (λ (n : ℕ). Acts old mid (issuing_on old.state a n text) (Ok x) (issued_of mid.state b)) (many ∙ ap (λ (l : List Exec). length l) is) acts)
+    (subst (λ (l : List Exec). Acts (alone mid) (alone new) (answering mid.state l x) r (round_with new.state qs)) is next)
 
 -- ---- a statement
 
-abbrev pub statement_on : State → List Exec → Exec → List Slot → Act Round
-statement_on s ps p units = statement (machine_of s units) ps p
+abbrev pub statement_on : State → List Object → List Exec → Exec → List Slot → Act Passed
+statement_on s os ps p units = statement (desk_of s os units) ps p
 
-abbrev with_turns : State → List Exec → Exec → ℕ → List Slot → Act Round
-with_turns s ps p n units = statement_with (machine_of s units) ps p n
+abbrev with_turns : State → List Object → List Exec → Exec → ℕ → List Slot → Act Passed
+with_turns s os ps p n units = statement_with (desk_of s os units) ps p n
 
-abbrev pub meeting_on : State → List Exec → Exec → Want → List Slot → Act Round
-meeting_on s ps p want units = meeting (machine_of s units) ps p want
+abbrev pub meeting_on : State → List Object → List Exec → Exec → Want → List Slot → Act Passed
+meeting_on s os ps p want units = meeting (desk_of s os units) ps p want
 
-abbrev then_stepped : List Exec → Exec → Machine → Act Round
-then_stepped ps p m = stepped m ps p
+abbrev then_stepped : List Object → List Exec → Exec → Machine → Act Passed
+then_stepped os ps p m = stepped (desk m os) ps p
 
-abbrev stepped_on : State → List Exec → Exec → List Slot → Act Round
-stepped_on s ps p units = stepped (machine_of s units) ps p
+abbrev stepped_on : State → List Object → List Exec → Exec → List Slot → Act Passed
+stepped_on s os ps p units = stepped (desk_of s os units) ps p
 
-module _ (old : Spot) (ps : List Exec) (p : Exec) where
-  has_turns : (n : ℕ) → old.state.left ≡ n → Comes old old (statement_on old.state ps p) (with_turns old.state ps p n)
-  has_turns n left = subst (λ (k : ℕ). Comes old old (statement_on old.state ps p) (with_turns old.state ps p k)) left (comes_none old (statement_on old.state ps p))
+module _ (os : List Object) (old : SpotWith os) (ps : List Exec) (p : Exec) where
+  has_turns : (n : ℕ) → old.state.left ≡ n → Comes old old (statement_on old.state os ps p) (with_turns old.state os ps p n)
+  has_turns n left =
+      subst (λ (k : ℕ). Comes old old (statement_on old.state os ps p) (with_turns old.state os ps p k)) left (comes_none old (statement_on old.state os ps p))
 
-  pub no_turn_left : (qs : List Exec) → old.state.left ≡ 0 → Acts old old (statement_on old.state ps p) (Ok (end.Ended finish.AtTurns)) (round_with old.state qs)
-  no_turn_left qs none = acts_done old old (statement_on old.state ps p) (end.Ended finish.AtTurns) (round_with old.state qs) (has_turns 0 none)
+  pub no_turn_left : (qs : List Exec) → old.state.left ≡ 0
+      → Acts old old (statement_on old.state os ps p) (Ok (end.Ended finish.AtTurns)) (passed_with old.state qs os)
+  no_turn_left qs none =
+      acts_done old old (statement_on old.state os ps p) (end.Ended finish.AtTurns) (passed_with old.state qs os) (has_turns 0 none)
 
-  pub statement_off : (new : Spot) (n : ℕ) (e : End) (qs : List Exec) → old.state.left ≡ suc n
-      → Acts {T = Unit {0}} old new (turning_tree old.state n) (Err e) (machine_now new.state) → Acts {T = rounds.Round} old new (statement_on old.state ps p) (Err e) (round_with new.state qs)
+  pub statement_off : (new : SpotWith os) (n : ℕ) (e : End) (qs : List Exec) → old.state.left ≡ suc n
+      → Acts {T = Unit {0}} (alone old) (alone new) (turning_tree old.state n) (Err e) (machine_now new.state)
+      → Acts {T = rounds.Round} old new (statement_on old.state os ps p) (Err e) (passed_with new.state qs os)
   statement_off new n e qs some a =
-      acts_after old old new (statement_on old.state ps p) (with_turns old.state ps p (suc n)) (Err e) (round_with new.state qs) (has_turns (suc n) some)
-      (acts_stop old new (turning_tree old.state n) (then_stepped ps p) e (machine_now {T = Unit {0}} new.state) (round_with new.state qs) a)
+      acts_after old old new (statement_on old.state os ps p) (with_turns old.state os ps p (suc n)) (Err e) (passed_with new.state qs os) (has_turns (suc n) some)
+      (acts_stop old new (turning_tree old.state n) (then_stepped os ps p) e (machine_now {T = Unit {0}} new.state) (passed_with new.state qs os)
+      (acts_alone {T = Unit {0}} old new (turning_tree old.state n) (Err e) (machine_now new.state) a))
 
-  turn_spent : (mid : Spot) (n : ℕ) (x : Unit {0}) → old.state.left ≡ suc n → Acts old mid (turning_tree old.state n) (Ok x) (machine_now mid.state)
-      → Comes old mid (statement_on old.state ps p) (stepped_on mid.state ps p)
+  turn_spent : (mid : SpotWith os) (n : ℕ) (x : Unit {0}) → old.state.left ≡ suc n
+      → Acts (alone old) (alone mid) (turning_tree old.state n) (Ok x) (machine_now mid.state)
+      → Comes old mid (statement_on old.state os ps p) (stepped_on mid.state os ps p)
   turn_spent mid n x some a =
-      comes_then old old mid (statement_on old.state ps p) (with_turns old.state ps p (suc n)) (stepped_on mid.state ps p) (has_turns (suc n) some)
-      (comes_in old mid (turning_tree old.state n) (then_stepped ps p) x (machine_now mid.state) a)
+      comes_then old old mid (statement_on old.state os ps p) (with_turns old.state os ps p (suc n)) (stepped_on mid.state os ps p) (has_turns (suc n) some)
+      (comes_in old mid (turning_tree old.state n) (then_stepped os ps p) x (machine_now mid.state)
+      (acts_alone old mid (turning_tree old.state n) (Ok x) (machine_now mid.state) a))
 
-  pub statement_no_memory : (mid : Spot) (n : ℕ) (x : Unit {0}) (qs : List Exec) → old.state.left ≡ suc n → Acts old mid (turning_tree old.state n) (Ok x) (machine_now mid.state)
-      → Acts {T = rounds.Round} old mid (statement_on old.state ps p) (Err Memory) (round_with mid.state qs)
+  pub statement_no_memory : (mid : SpotWith os) (n : ℕ) (x : Unit {0}) (qs : List Exec) → old.state.left ≡ suc n
+      → Acts (alone old) (alone mid) (turning_tree old.state n) (Ok x) (machine_now mid.state)
+      → Acts {T = rounds.Round} old mid (statement_on old.state os ps p) (Err Memory) (passed_with mid.state qs os)
   statement_no_memory mid n x qs some a =
-      no_memory old mid (statement_on old.state ps p) (stepped_on mid.state ps p) (round_with mid.state qs) (turn_spent mid n x some a)
+      no_memory old mid (statement_on old.state os ps p) (stepped_on mid.state os ps p) (passed_with mid.state qs os) (turn_spent mid n x some a)
 
-  pub statement_so : (mid new : Spot) (n : ℕ) (x : Unit {0}) (q : Exec) (want : Want) (r : Result rounds.Round End) (qs : List Exec) → old.state.left ≡ suc n
-      → Acts old mid (turning_tree old.state n) (Ok x) (machine_now mid.state) → Takes (exec.turned mid.state.moment p) p q want
-      → Acts mid new (meeting_on mid.state ps q want) r (round_with new.state qs) → Acts old new (statement_on old.state ps p) r (round_with new.state qs)
-  statement_so mid new n x q want r qs some a t b =
+  pub statement_so : (b : List Object) (mid : SpotWith os) (new : SpotWith b) (n : ℕ) (x : Unit {0}) (q : Exec) (want : Want) (r : Result rounds.Round End) (qs : List Exec)
+      → old.state.left ≡ suc n → Acts (alone old) (alone mid) (turning_tree old.state n) (Ok x) (machine_now mid.state) → Takes (exec.turned mid.state.moment p) p q want
+      → Acts mid new (meeting_on mid.state os ps q want) r (passed_with new.state qs b) → Acts old new (statement_on old.state os ps p) r (passed_with new.state qs b)
+  statement_so b mid new n x q want r qs some a t acts =
       let m : Moved = exec.turned mid.state.moment p in
-      acts_after old mid new (statement_on old.state ps p) (stepped_on mid.state ps p) r (round_with new.state qs) (turn_spent mid n x some a)
-      (subst (λ (y : Exec × Want). Acts mid new (λ units. met (machine_of mid.state units) ps y) r (round_with new.state qs)) (sym (called_so p q want m t)) b)
+      acts_after old mid new (statement_on old.state os ps p) (stepped_on mid.state os ps p) r (passed_with new.state qs b) (turn_spent mid n x some a)
+      (subst (λ (y : Exec × Want). Acts mid new (λ units. met (desk_of mid.state os units) ps y) r (passed_with new.state qs b)) (sym (called_so p q want m t)) acts)
 
 -- ---- a line of CMS
 
-abbrev pub line_on : State → List Exec → List ℕ → List Slot → Act Round
-line_on s ps text units = run_line (record { machine = machine_of s units; procedures = ps }) text
+abbrev pub line_on : State → List Object → List Exec → List ℕ → List Slot → Act Passed
+line_on s os ps text units = run_line (desk_of s os units) ps text
 
-pub comment_so : (old : Spot) (ps : List Exec) (text : List ℕ) → is_comment text ≡ true → Acts old old (line_on old.state ps text) (Ok end.Ready) (round_with old.state ps)
-comment_so old ps text is = done_here old (line_on old.state ps text) end.Ready (round_with old.state ps) (λ units h. rw is refl)
+pub comment_so : (os : List Object) (old : SpotWith os) (ps : List Exec) (text : List ℕ) → is_comment text ≡ true
+    → Acts old old (line_on old.state os ps text) (Ok end.Ready) (passed_with old.state ps os)
+comment_so os old ps text is = done_here old (line_on old.state os ps text) end.Ready (passed_with old.state ps os) (λ units h. rw is refl)
 
-abbrev taken_up_on : State → List Exec → List ℕ → List Slot → Act Round
-taken_up_on s ps text units = bind (take_up_tree s (length ps) text units) (answered ps)
+abbrev taken_up_on : State → List Object → List Exec → List ℕ → List Slot → Act Passed
+taken_up_on s os ps text units = bind (take_up_tree s os (length ps) text units) (answered ps)
 
-module _ (old : Spot) (ps : List Exec) (text : List ℕ) (other : is_comment text ≡ false) where
-  pub line_off : (new : Spot) (e : End) (qs : List Exec) → Acts {T = declared_issued.Issued} old new (take_up_tree old.state (length ps) text) (Err e) (issued_of new.state)
-      → Acts {T = rounds.Round} old new (line_on old.state ps text) (Err e) (round_with new.state qs)
-  line_off new e qs a =
-      acts_same old new (line_on old.state ps text) (taken_up_on old.state ps text) (Err e) (round_with new.state qs) (λ units h. rw other refl)
-      (issue_off old new ps (take_up_tree old.state (length ps) text) e qs a)
+module _ (a b : List Object) (old : SpotWith a) (ps : List Exec) (text : List ℕ) (other : is_comment text ≡ false) where
+  pub line_off : (new : SpotWith b) (e : End) (qs : List Exec)
+      → Acts {T = declared_issued.Issued} old new (take_up_tree old.state a (length ps) text) (Err e) (issued_of new.state b)
+      → Acts {T = rounds.Round} old new (line_on old.state a ps text) (Err e) (passed_with new.state qs b)
+  line_off new e qs acts =
+      acts_same old new (line_on old.state a ps text) (taken_up_on old.state a ps text) (Err e) (passed_with new.state qs b) (λ units h. rw other refl)
+      (issue_off a b old new ps (take_up_tree old.state a (length ps) text) e qs acts)
 
-  pub line_so : (mid new : Spot) (x : declared_issued.Issued) (r : Result rounds.Round End) (qs : List Exec)
-      → Acts old mid (take_up_tree old.state (length ps) text) (Ok x) (issued_of mid.state) → Acts mid new (answering_on mid.state ps x) r (round_with new.state qs)
-      → Acts old new (line_on old.state ps text) r (round_with new.state qs)
-  line_so mid new x r qs a b =
-      acts_same old new (line_on old.state ps text) (taken_up_on old.state ps text) r (round_with new.state qs) (λ units h. rw other refl)
-      (issue_answered old mid ps (take_up_tree old.state (length ps) text) new x r qs a b)
+  pub line_so : (mid new : SpotWith b) (x : declared_issued.Issued) (r : Result rounds.Round End) (qs : List Exec)
+      → Acts old mid (take_up_tree old.state a (length ps) text) (Ok x) (issued_of mid.state b)
+      → Acts (alone mid) (alone new) (answering mid.state ps x) r (round_with new.state qs)
+      → Acts old new (line_on old.state a ps text) r (passed_with new.state qs b)
+  line_so mid new x r qs acts next =
+      acts_same old new (line_on old.state a ps text) (taken_up_on old.state a ps text) r (passed_with new.state qs b) (λ units h. rw other refl)
+      (issue_answered a b old mid ps (take_up_tree old.state a (length ps) text) new x r qs acts next)

@@ -1,8 +1,9 @@
--- What a call of the session does, as a part of the machine's run.
+-- What a call of a round does, as a part of the machine's run.
 use Rattle.std.specs.Prelude.{ℕ, ℤ, List, ◌∷◌, length, Option, Some, None}
 use Rattle.cms_line.specs.Tokens.{tokens_of}
 use Rattle.cms_machine.specs.Slots.{Slot}
 use Rattle.cms_machine.specs.Acts.{Act, bind}
+use Rattle.cms_machine.specs.Objects.{Object}
 use Rattle.cms_machine.specs.Items as items
 use Rattle.cms_machine.specs.Items.{Item}
 use Rattle.cms_line.specs.declared.message.Message.{Message}
@@ -11,14 +12,17 @@ use Rattle.cms_search.specs.Calls.{Meaning, course_of, machine_of}
 use Rattle.cms_search.specs.Machine.{Machine, Course, refusal, typing}
 use Rattle.cms_search.specs.Asking.{ask}
 use Rattle.cms_search.specs.declared.state.State.{State}
+use Rattle.cms_ext.specs.Calls.{desk_of, ended_of}
+use Rattle.cms_ext.specs.Extensions.{Ended}
 use Rattle.cms_exec.specs.declared.started.Started.{Started}
 use Rattle.cms_exec.specs.declared.started.Started.TheVariants as call
 use Rattle.exec2_run.specs.declared.exec.Exec.{Exec}
 use Rattle.exec2_run.specs.declared.want.Side.{Side}
 use Rattle.exec2_run.specs.declared.want.Want.{Want}
-use Rattle.cms_rounds.specs.Lines.{Issued, Came, Begins, issued, requested, run_command, taken_up}
+use Rattle.cms_rounds.specs.Lines.{Issued, Came, Begins, issued, obeyed, requested, run_command, taken_up}
+use Rattle.cms_rounds.specs.Nucleus.{nucxdrop, nucxmap}
 use Rattle.cms_rounds.specs.Procedures as spec
-use Rattle.cms_rounds.specs.Procedures.{Session, Round, Ends, Ready}
+use Rattle.cms_rounds.specs.Procedures.{Session, Round, Ends, Ready, Passed, passed}
 use Rattle.cms_rounds.specs.Rounds.{bad_line, line_round, round, run_item, run_line, taking}
 use Rattle.cms_rounds.specs.declared.command.Command.{Command}
 use Rattle.cms_rounds.specs.declared.issuing.Issued as declared
@@ -44,14 +48,23 @@ session_of s units = record { machine = machine_of s.state units; procedures = p
 abbrev pub command_tree : State → List ℕ → List Token → List ℕ → Command → List Slot → Act Course
 command_tree s line words word command units = run_command (machine_of s units) line words word command
 
-abbrev pub request_tree : State → ℕ → List ℕ → List Token → List Slot → Act Issued
-request_tree s running line words units = requested (machine_of s units) running line words
+abbrev pub nucxdrop_tree : State → List Object → List Token → List Slot → Act Ended
+nucxdrop_tree s objects words units = nucxdrop (desk_of s objects units) words
 
-abbrev pub issue_tree : State → ℕ → List ℕ → List Slot → Act Issued
-issue_tree s running line units = issued (machine_of s units) running line
+abbrev pub nucxmap_tree : State → List (List ℕ) → List Token → List Slot → Act Course
+nucxmap_tree s under words units = nucxmap (machine_of s units) under words
 
-abbrev pub take_up_tree : State → ℕ → List ℕ → List Slot → Act Issued
-take_up_tree s running line units = taken_up (machine_of s units) running line (tokens_of line)
+abbrev pub request_tree : State → List Object → ℕ → List ℕ → List Token → List Slot → Act Issued
+request_tree s objects running line words units = requested (desk_of s objects units) running line words
+
+abbrev pub obey_tree : State → List Object → ℕ → List ℕ → List Token → List Slot → Act Issued
+obey_tree s objects running line words units = obeyed (desk_of s objects units) running line words
+
+abbrev pub issue_tree : State → List Object → ℕ → List ℕ → List Slot → Act Issued
+issue_tree s objects running line units = issued (desk_of s objects units) running line
+
+abbrev pub take_up_tree : State → List Object → ℕ → List ℕ → List Slot → Act Issued
+take_up_tree s objects running line units = taken_up (desk_of s objects units) running line (tokens_of line)
 
 abbrev pub ready_tree : declared_session.Session → ℤ → List Slot → Act Round
 ready_tree s code units = spec.readied (session_of s units) code
@@ -77,31 +90,31 @@ stack_tree s p lines side units = spec.stacking_for (machine_of s.state units) (
 abbrev pub read_tree : declared_session.Session → Exec → List Slot → Act Round
 read_tree s p units = bind (ask (machine_of s.state units)) (spec.given (procedures_of s) p)
 
-abbrev pub issued_tree : declared_session.Session → Exec → List ℕ → List Slot → Act Round
-issued_tree s p line units =
-    bind (issued (machine_of s.state units) (length (p ∷ (procedures_of s))) line) (spec.answered (p ∷ (procedures_of s)))
+abbrev pub issued_tree : declared_session.Session → List Object → Exec → List ℕ → List Slot → Act Passed
+issued_tree s objects p line units =
+    bind (issued (desk_of s.state objects units) (length (p ∷ (procedures_of s))) line) (spec.answered (p ∷ (procedures_of s)))
 
-abbrev pub meet_tree : declared_session.Session → Exec → Want → List Slot → Act Round
-meet_tree s p want units = spec.meeting (machine_of s.state units) (procedures_of s) p want
+abbrev pub meet_tree : declared_session.Session → List Object → Exec → Want → List Slot → Act Passed
+meet_tree s objects p want units = spec.meeting (desk_of s.state objects units) (procedures_of s) p want
 
-abbrev pub statement_tree : declared_session.Session → Exec → List Slot → Act Round
-statement_tree s p units = spec.statement (machine_of s.state units) (procedures_of s) p
+abbrev pub statement_tree : declared_session.Session → List Object → Exec → List Slot → Act Passed
+statement_tree s objects p units = spec.statement (desk_of s.state objects units) (procedures_of s) p
 
 -- a line is refused
 abbrev pub refused_tree : declared_session.Session → Message → List Slot → Act Round
 refused_tree s message units = bind (refusal (machine_of s.state units) message bad_line) (spec.ended (procedures_of s))
 
-abbrev pub line_tree : declared_session.Session → List ℕ → List Slot → Act Round
-line_tree s line units = run_line (session_of s units) line
+abbrev pub line_tree : declared_session.Session → List Object → List ℕ → List Slot → Act Passed
+line_tree s objects line units = run_line (desk_of s.state objects units) (procedures_of s) line
 
-abbrev pub item_tree : declared_session.Session → Item → List Slot → Act Round
-item_tree s item units = run_item (session_of s units) item
+abbrev pub item_tree : declared_session.Session → List Object → Item → List Slot → Act Passed
+item_tree s objects item units = run_item (desk_of s.state objects units) (procedures_of s) item
 
-abbrev pub line_round_tree : declared_session.Session → List Slot → Act Round
-line_round_tree s units = line_round (session_of s units)
+abbrev pub line_round_tree : declared_session.Session → List Object → List Slot → Act Passed
+line_round_tree s objects units = line_round (desk_of s.state objects units) (procedures_of s)
 
-abbrev pub round_tree : declared_session.Session → List Slot → Act Round
-round_tree s units = round (session_of s units)
+abbrev pub round_tree : declared_session.Session → List Object → List Slot → Act Passed
+round_tree s objects units = round (desk_of s.state objects units) (procedures_of s)
 
 -- the item that was taken
 abbrev pub item_in : Taken → Item
@@ -121,13 +134,18 @@ abbrev pub issued_started : Started → declared.Issued
 issued_started (call.Begun exec) = line.Begun exec
 issued_started (call.Refused course) = line.Came course
 
--- what a line comes to, with the state that it leaves
-abbrev pub issued_of : State → Meaning declared.Issued Issued
-issued_of s units (line.Came course) = Came (course_of s units course)
-issued_of s units (line.Begun exec) = Begins (machine_of s units) exec
+-- what a line comes to, with the state and the objects that it leaves
+abbrev pub issued_of : State → List Object → Meaning declared.Issued Issued
+issued_of s objects units (line.Came course) = Came (ended_of s objects units course)
+issued_of s objects units (line.Begun exec) = Begins (desk_of s objects units) exec
+
+-- what follows what a line came to, which asks and drops no object
+abbrev pub answering : State → List Exec → declared.Issued → List Slot → Act Round
+answering s ps (line.Came course) units = spec.ended ps (course_of s units course)
+answering s ps (line.Begun exec) units = spec.going_on (machine_of s units) ps exec
 
 abbrev pub answer_tree : declared_session.Session → declared.Issued → List Slot → Act Round
-answer_tree s x units = spec.answered (procedures_of s) (issued_of s.state units x)
+answer_tree s x units = answering s.state (procedures_of s) x units
 
 -- a procedure waits above the others, but where it has ended with a code
 abbrev pub waiting : Option ℤ → Exec → List Exec → List Exec
@@ -141,3 +159,10 @@ round_with s ps units end.Ready = Ready (record { machine = machine_of s units; 
 
 abbrev pub round_of : declared_session.Session → Meaning declared_round.Round Round
 round_of s units r = round_with s.state (procedures_of s) units r
+
+-- so for one that may have asked or dropped objects
+abbrev pub passed_with : State → List Exec → List Object → Meaning declared_round.Round Passed
+passed_with s ps objects units r = passed objects (round_with s ps units r)
+
+abbrev pub passed_of : declared_session.Session → List Object → Meaning declared_round.Round Passed
+passed_of s objects units r = passed_with s.state (procedures_of s) objects units r

@@ -6,7 +6,7 @@ use Rattle.cms_operands.specs.declared.spelling.CommandName.{CommandName}
 use Rattle.cms_operands.specs.declared.spelling.CommandName.TheVariants as named
 use Rattle.cms_rounds.specs.declared.command.Command.TheVariants.{Access, Release, Format, Query, Listfile, Rename, Erase, TypeFile, State, Copyfile, Execio, Unknown}
 use Rattle.cms_rounds.specs.declared.command.Request.{Request}
-use Rattle.cms_rounds.specs.declared.command.Request.TheVariants.{Exec, Command}
+use Rattle.cms_rounds.specs.declared.command.Request.TheVariants.{Exec, Nucxdrop, Nucxmap, Command}
 
 -- a line of blanks, or one that begins with an asterisk
 unfoldable pub is_comment : List ℕ → Bool
@@ -27,8 +27,8 @@ request_by (Some named.State) = Command State
 request_by (Some named.Exec) = Exec
 request_by (Some named.Copyfile) = Command Copyfile
 request_by (Some named.Execio) = Command Execio
-request_by (Some named.Nucxdrop) = Command Unknown
-request_by (Some named.Nucxmap) = Command Unknown
+request_by (Some named.Nucxdrop) = Nucxdrop
+request_by (Some named.Nucxmap) = Nucxmap
 request_by None = Command Unknown
 
 -- what a line with this first word asks for

@@ -1,4 +1,5 @@
 pub mod Commands
+pub mod Nucleus
 pub mod Lines
 pub mod Procedures
 pub mod Rounds

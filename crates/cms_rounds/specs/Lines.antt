@@ -1,12 +1,15 @@
--- What a line comes to: a command is run, or a procedure begins.
+-- What a line comes to: an extension answers it, a command is run, or a procedure begins.
 use Rattle.std.specs.Prelude.{ℕ, pos, negsuc, if◌then◌else◌, List, [], ◌∷◌, Option, Some, None}
 use Rattle.std.specs.Global.{Global}
+use Rattle.std.specs.Option.{option_and_then}
 use Rattle.cms_machine.specs.Acts.{Act, Done, Out, bind, typed_line}
+use Rattle.cms_machine.specs.Objects.{Object, Start}
 use Rattle.cms_line.specs.Messages.{message_text}
 use Rattle.cms_line.specs.Tokens.{tokens_of}
 use Rattle.cms_line.specs.declared.message.Message.TheVariants.{M001}
 use Rattle.cms_line.specs.declared.token.Token.{Token}
-use Rattle.cms_search.specs.Machine.{Machine, Course, Went}
+use Rattle.cms_search.specs.Machine.{Machine, Course}
+use Rattle.cms_search.specs.Machine as course
 use Rattle.cms_access.specs.Access.{access}
 use Rattle.cms_access.specs.Format.{format}
 use Rattle.cms_access.specs.Query.{query}
@@ -18,11 +21,14 @@ use Rattle.cms_fileops.specs.State.{state}
 use Rattle.cms_fileops.specs.Typing.{type_command}
 use Rattle.cms_listfile.specs.Listfile.{listfile}
 use Rattle.cms_exec.specs.Exec.{Starting, HasBegun, IsRefused, call_command, exec_command}
-use Rattle.cms_exec.specs.Finding.{called_by}
+use Rattle.cms_exec.specs.Finding.{called_by, first_name}
 use Rattle.cms_execio.specs.Execio.{execio}
+use Rattle.cms_ext.specs.Extensions.{Desk, Ended, Went, desk, run_extension}
+use Rattle.cms_ext.specs.Objects.{place_of, words_of}
 use Rattle.exec2_run.specs.declared.exec.Exec.{Exec}
 use Rattle.exec2_run.specs.declared.exec.FileName.{FileName}
 use Rattle.cms_rounds.specs.Commands.{is_comment, request_of}
+use Rattle.cms_rounds.specs.Nucleus.{ended_with, nucxdrop, nucxmap}
 use Rattle.cms_rounds.specs.declared.command.Command.{Command}
 use Rattle.cms_rounds.specs.declared.command.Command.TheVariants as command
 use Rattle.cms_rounds.specs.declared.command.Request.{Request}
@@ -32,7 +38,7 @@ use Rattle.cms_rounds.specs.declared.command.Request.TheVariants as ask
 
 -- no command has this word
 abbrev pub unknown : Machine → List ℕ → Act Course
-unknown s word = Out (typed_line (message_text (M001 word))) (Done (Went s (negsuc 2)))
+unknown s word = Out (typed_line (message_text (M001 word))) (Done (course.Went s (negsuc 2)))
 
 -- the command that a line with these words asks for, the first of which is this
 abbrev pub run_command : Machine → List ℕ → List Token → List ℕ → Command → Act Course
@@ -51,45 +57,63 @@ run_command s line words word command.Unknown = unknown s word
 
 -- ---- what a line comes to
 
--- its command has ended so, or a procedure has begun
+-- its extension or its command has ended so, or a procedure has begun
 pub data Issued : Type 0 where
-  Came : Course → Issued
-  Begins : Machine → Exec → Issued
+  Came : Ended → Issued
+  Begins : Desk → Exec → Issued
 
 -- nothing was done, with code 0
-abbrev pub nothing_done : Machine → Act Issued
-nothing_done s = Done (Came (Went s (pos 0)))
+abbrev pub nothing_done : Desk → Act Issued
+nothing_done d = Done (Came (Went d (pos 0)))
 
--- a command has ended
-abbrev pub came : Course → Act Issued
-came course = Done (Came course)
+-- what asks or drops objects has ended
+abbrev pub came : Ended → Act Issued
+came ended = Done (Came ended)
+
+-- a command has ended, which leaves the objects
+abbrev pub came_with : List Object → Course → Act Issued
+came_with objects c = Done (Came (ended_with objects c))
 
 -- a procedure was called
-abbrev pub started : Starting → Act Issued
-started (HasBegun s exec) = Done (Begins s exec)
-started (IsRefused course) = Done (Came course)
+abbrev pub started : List Object → Starting → Act Issued
+started objects (HasBegun s exec) = Done (Begins (desk s objects) exec)
+started objects (IsRefused c) = came_with objects c
 
 -- what procedures take their memory from; there is one
 abbrev pub memory : Global
 memory = record { memory = record { seal = tt } }
 
 -- what a line with these words asks for, where so many procedures run
-abbrev pub request : Machine → ℕ → List ℕ → List Token → List ℕ → Request → Act Issued
-request s running line words word ask.Exec = bind (exec_command memory running s line words) started
-request s running line words word (ask.Command command) = bind (run_command s line words word command) came
+abbrev pub request : Desk → ℕ → List ℕ → List Token → List ℕ → Request → Act Issued
+request d running line words word ask.Exec = bind (exec_command memory running d.machine line words) (started d.objects)
+request d running line words word ask.Nucxdrop = bind (nucxdrop d words) came
+request d running line words word ask.Nucxmap = bind (nucxmap d.machine (words_of d.objects) words) (came_with d.objects)
+request d running line words word (ask.Command command) = bind (run_command d.machine line words word command) (came_with d.objects)
 
-abbrev pub requested : Machine → ℕ → List ℕ → List Token → Act Issued
-requested s running line [] = nothing_done s
-requested s running line (first ∷ words) = request s running line (first ∷ words) first.text (request_of first.text)
+abbrev pub requested : Desk → ℕ → List ℕ → List Token → Act Issued
+requested d running line [] = nothing_done d
+requested d running line (first ∷ words) = request d running line (first ∷ words) first.text (request_of first.text)
+
+-- the place of the extension whose word is the first, which is a valid name then
+abbrev pub extension_of : List Object → List Token → Option ℕ
+extension_of objects words = option_and_then (λ word. place_of word objects) (first_name words)
+
+-- an extension comes before a command of its word: it answers the line, which it is told whole
+abbrev pub extended_or_requested : Desk → ℕ → List ℕ → List Token → Option ℕ → Act Issued
+extended_or_requested d running line words (Some place) = bind (run_extension place d (Start line)) came
+extended_or_requested d running line words None = requested d running line words
+
+abbrev pub obeyed : Desk → ℕ → List ℕ → List Token → Act Issued
+obeyed d running line words = extended_or_requested d running line words (extension_of d.objects words)
 
 -- a line that a procedure issues; no procedure begins by its name alone
-abbrev pub issued : Machine → ℕ → List ℕ → Act Issued
-issued s running line = if is_comment line then nothing_done s else requested s running line (tokens_of line)
+abbrev pub issued : Desk → ℕ → List ℕ → Act Issued
+issued d running line = if is_comment line then nothing_done d else obeyed d running line (tokens_of line)
 
--- a line that CMS took: the procedure that its first word names comes before a command
-abbrev pub called_or_requested : Machine → ℕ → List ℕ → List Token → Option FileName → Act Issued
-called_or_requested s running line words (Some f) = bind (call_command memory running s line words f) started
-called_or_requested s running line words None = requested s running line words
+-- a line that CMS took: the procedure that its first word names comes before an extension
+abbrev pub called_or_obeyed : Desk → ℕ → List ℕ → List Token → Option FileName → Act Issued
+called_or_obeyed d running line words (Some f) = bind (call_command memory running d.machine line words f) (started d.objects)
+called_or_obeyed d running line words None = obeyed d running line words
 
-abbrev pub taken_up : Machine → ℕ → List ℕ → List Token → Act Issued
-taken_up s running line words = called_or_requested s running line words (called_by s words)
+abbrev pub taken_up : Desk → ℕ → List ℕ → List Token → Act Issued
+taken_up d running line words = called_or_obeyed d running line words (called_by d.machine words)

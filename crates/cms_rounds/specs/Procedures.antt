@@ -3,6 +3,7 @@ use Rattle.std.specs.Prelude.{ℕ, zero, suc, ℤ, pos, ◌+◌, nat_le, if◌th
 use Rattle.std.specs.FinMap.{empty}
 use Rattle.cms_text.specs.Numbers.{decimal_of}
 use Rattle.cms_machine.specs.Acts.{Act, Done, Out, Turn, bind, typed_line}
+use Rattle.cms_machine.specs.Objects.{Object}
 use Rattle.cms_line.specs.Messages.{message_text}
 use Rattle.cms_line.specs.Stack.{most_lines}
 use Rattle.cms_line.specs.declared.message.Message.TheVariants.{M085}
@@ -21,6 +22,8 @@ use Rattle.exec2_run.specs.declared.want.Side.{Side}
 use Rattle.exec2_run.specs.declared.want.Side.TheVariants.{Front, Back}
 use Rattle.exec2_run.specs.declared.want.Want.{Want}
 use Rattle.exec2_run.specs.declared.want.Want.TheVariants.{Next, Say, Stack, Read, Command, Ended, Faulted}
+use Rattle.cms_ext.specs.Extensions.{Desk, desk}
+use Rattle.cms_ext.specs.Extensions as extension
 use Rattle.cms_rounds.specs.Lines.{Issued, Came, Begins, issued}
 use Rattle.cms_rounds.specs.declared.state.Finish.{Finish}
 use Rattle.cms_rounds.specs.declared.state.Finish.TheVariants as finish
@@ -99,9 +102,26 @@ abbrev pub ended : List Exec → Course → Act Round
 ended ps (Went m code) = giving ps m code
 ended ps OutOfTurns = Done (Ends finish.AtTurns)
 
-abbrev pub answered : List Exec → Issued → Act Round
-answered ps (Came course) = ended ps course
-answered ps (Begins m p) = going_on m ps p
+-- ---- beside the objects
+
+-- how a round ends that may have asked or dropped objects: so that the session ends, or another may follow
+pub data Passed : Type 0 where
+  Stops : Finish → Passed
+  Goes : Desk → List Exec → Passed
+
+abbrev pub passed : List Object → Round → Passed
+passed objects (Ends end) = Stops end
+passed objects (Ready s) = Goes (desk s.machine objects) s.procedures
+
+-- what procedures do by themselves asks and drops no object, so it leaves them
+abbrev pub leaving : List Object → Act Round → Act Passed
+leaving objects t = bind t (λ r. Done (passed objects r))
+
+-- what a line came to: its code goes to the newest procedure, or to CMS; or no turn was left; or a procedure goes on that has begun
+abbrev pub answered : List Exec → Issued → Act Passed
+answered ps (Came (extension.Went d code)) = leaving d.objects (giving ps d.machine code)
+answered ps (Came extension.OutOfTurns) = Done (Stops finish.AtTurns)
+answered ps (Begins d p) = leaving d.objects (going_on d.machine ps p)
 
 -- ---- what a statement wants
 
@@ -122,28 +142,28 @@ abbrev pub given : List Exec → Exec → Asked → Act Round
 given ps p (Given m line) = following m ps (came_to p (exec.line_taken p line))
 given ps p Spent = Done (Ends finish.AtTurns)
 
-abbrev pub meeting : Machine → List Exec → Exec → Want → Act Round
-meeting m ps p Next = following m ps (p, Next)
-meeting m ps p (Say lines) = typing lines (going_on m ps p)
-meeting m ps p (Stack lines side) = stacking_for m ps p lines side
-meeting m ps p Read = bind (ask m) (given ps p)
-meeting m ps p (Command line) = bind (issued m (length (p ∷ ps)) line) (answered (p ∷ ps))
-meeting m ps p (Ended code) = following m ps (p, Ended code)
-meeting m ps p (Faulted number line) = following m ps (p, Faulted number line)
+abbrev pub meeting : Desk → List Exec → Exec → Want → Act Passed
+meeting d ps p Next = leaving d.objects (following d.machine ps (p, Next))
+meeting d ps p (Say lines) = leaving d.objects (typing lines (going_on d.machine ps p))
+meeting d ps p (Stack lines side) = leaving d.objects (stacking_for d.machine ps p lines side)
+meeting d ps p Read = leaving d.objects (bind (ask d.machine) (given ps p))
+meeting d ps p (Command line) = bind (issued d (length (p ∷ ps)) line) (answered (p ∷ ps))
+meeting d ps p (Ended code) = leaving d.objects (following d.machine ps (p, Ended code))
+meeting d ps p (Faulted number line) = leaving d.objects (following d.machine ps (p, Faulted number line))
 
-abbrev pub met : Machine → List Exec → Exec × Want → Act Round
-met m ps x = meeting m ps x.0 x.1
+abbrev pub met : Desk → List Exec → Exec × Want → Act Passed
+met d ps x = meeting d ps x.0 x.1
 
 -- ---- a statement
 
 -- with the turn spent, at its moment
-abbrev pub stepped : Machine → List Exec → Exec → Act Round
-stepped m ps p = met m ps (came_to p (exec.turned m.moment p))
+abbrev pub stepped : Desk → List Exec → Exec → Act Passed
+stepped d ps p = met d ps (came_to p (exec.turned d.machine.moment p))
 
 -- a turn is spent, and the statement of the newest procedure that is due is run
-abbrev pub statement_with : Machine → List Exec → Exec → ℕ → Act Round
-statement_with m ps p zero = Done (Ends finish.AtTurns)
-statement_with m ps p (suc left) = Turn (λ seconds. stepped (turned m left seconds) ps p)
+abbrev pub statement_with : Desk → List Exec → Exec → ℕ → Act Passed
+statement_with d ps p zero = Done (Stops finish.AtTurns)
+statement_with d ps p (suc left) = Turn (λ seconds. stepped (desk (turned d.machine left seconds) d.objects) ps p)
 
-abbrev pub statement : Machine → List Exec → Exec → Act Round
-statement m ps p = statement_with m ps p m.left
+abbrev pub statement : Desk → List Exec → Exec → Act Passed
+statement d ps p = statement_with d ps p d.machine.left

@@ -6,7 +6,7 @@ ghost use Rattle.cms_rounds.specs.Commands.{is_comment, request_of};
 use cms_operands::{CommandName, command_named};
 use cms_text::BLANK;
 
-/// A command, but EXEC.
+/// A command that knows of no procedure and of no extension.
 #[derive(Clone, Copy)]
 pub enum Command {
     /// that a volume is accessed as a letter
@@ -40,6 +40,10 @@ pub enum Command {
 pub enum Request {
     /// that a procedure is run
     Exec,
+    /// that an extension is dropped
+    Nucxdrop,
+    /// that the words of the extensions are typed
+    Nucxmap,
     /// what another command does
     Command(Command),
 }
@@ -82,8 +86,8 @@ pub fn request_of(word: &[u8]) -> Request
         Some(CommandName::Exec) => Request::Exec,
         Some(CommandName::Copyfile) => Request::Command(Command::Copyfile),
         Some(CommandName::Execio) => Request::Command(Command::Execio),
-        Some(CommandName::Nucxdrop) => Request::Command(Command::Unknown),
-        Some(CommandName::Nucxmap) => Request::Command(Command::Unknown),
+        Some(CommandName::Nucxdrop) => Request::Nucxdrop,
+        Some(CommandName::Nucxmap) => Request::Nucxmap,
         None => Request::Command(Command::Unknown),
     }
 }

@@ -1,23 +1,32 @@
-// What a line comes to: a command is run, or a procedure begins.
+// What a line comes to: an extension answers it, a command is run, or a procedure begins.
 ghost use Rattle.std.specs.Prelude.{◌≡◌, ◌≤◌, length, negsuc, true, IfOk};
 ghost use Rattle.cms_fields.specs.Moments.{is_moment};
+ghost use Rattle.cms_fields.specs.Offsets.{IsOffset};
 ghost use Rattle.cms_line.specs.Messages.{message_text};
 ghost use Rattle.cms_line.specs.Tokens.{tokens_of};
 ghost use Rattle.cms_line.specs.declared.message.Message.TheVariants.{M001};
 ghost use Rattle.cms_machine.specs.Acts.{saying, typed_line};
-ghost use Rattle.cms_search.specs.Calls.{spot, Acts, Does, IsUsable, course_of, said};
+ghost use Rattle.cms_search.specs.Calls.{spot, spot_with, Acts, Does, IsUsable, course_of, said};
 ghost use Rattle.cms_search.specs.declared.state.Course.TheVariants.{Went};
 ghost use Rattle.cms_world.specs.Seen.{seen};
-ghost use Rattle.cms_rounds.specs.Calls.{command_tree, issue_tree, issued_of, issued_started, request_tree, take_up_tree};
+ghost use Rattle.cms_ext.specs.Calls.{ended_of, run_tree};
+ghost use Rattle.cms_ext.specs.Objects.{HasPlace, objects_of};
+ghost use Rattle.cms_machine.specs.Objects.{Start};
+ghost use Rattle.cms_rounds.specs.Calls.{command_tree, issue_tree, issued_of, issued_started, obey_tree, request_tree, take_up_tree};
+ghost use Rattle.cms_rounds.specs.Lines as spec;
 
 use crate::command::{Command, Request, is_comment, request_of};
+use crate::nucleus::{run_nucxdrop, run_nucxmap};
 use cms_access::{run_access, run_format, run_query, run_release};
 use cms_copyfile::run_copyfile;
 use cms_exec::{Started, find_called, run_called, run_exec};
 use cms_execio::run_execio;
+use cms_ext::{ExtList, ExtReply, Extension, run};
 use cms_fileops::{run_erase, run_rename, run_state, run_type};
-use cms_line::{Line, Message, Tokens, Word, tokens};
+use cms_line::{Line, Message, Token, Tokens, Word, tokens};
 use cms_listfile::run_listfile;
+use cms_names::Part;
+use cms_operands::given;
 use cms_search::{Course, End, State, refuse};
 use cms_world::World;
 use exec2_run::Exec;
@@ -29,7 +38,7 @@ const UNKNOWN: i32 = -3;
 /// What a line comes to.
 #[derive(Drop)]
 pub enum Issued {
-    /// its command has ended so
+    /// its extension or its command has ended so
     Came(Course),
     /// a procedure has begun, before its first statement
     Begun(Exec),
@@ -88,19 +97,23 @@ fn called(started: Started) -> Issued
     }
 }
 
-// Does what a line with these words asks for, where so many procedures run.
+// Does what the first of these words asks for, where so many procedures run; no extension has it.
 fn request<W: World>(
     alloc: Global,
     world: &mut W,
     state: &mut State,
+    extensions: &mut ExtList,
     running: usize,
     line: &Line,
     words: &Tokens,
 ) -> Result<Issued, End>
     requires usable { IsUsable (spot W.World world.old state.old) }
     requires moment { is_moment state.old.moment ≡ true }
-    ensures acts { Acts (spot W.World world.old state.old) (spot W.World world.new state.new)
-        (request_tree state.old running line.now words.now) result (issued_of state.new) }
+    requires offset { IsOffset state.old.offset }
+    ensures acts { Acts (spot_with W.World world.old state.old (objects_of ⟦<dyn Extension as Extension>⟧ extensions.old))
+        (spot_with W.World world.new state.new (objects_of ⟦<dyn Extension as Extension>⟧ extensions.new))
+        (request_tree state.old (objects_of ⟦<dyn Extension as Extension>⟧ extensions.old) running line.now words.now)
+        result (issued_of state.new (objects_of ⟦<dyn Extension as Extension>⟧ extensions.new)) }
     ensures offset { state.new.offset ≡ state.old.offset }
     ensures left { state.new.left ≤ state.old.left }
 {
@@ -112,10 +125,91 @@ fn request<W: World>(
             let started = run_exec(alloc, world, state, line, words, running)?;
             Ok(called(started))
         }
+        Request::Nucxdrop => {
+            let course = run_nucxdrop(alloc, world, state, extensions, words)?;
+            Ok(Issued::Came(course))
+        }
+        Request::Nucxmap => {
+            let course = run_nucxmap(alloc, world, state, extensions, words)?;
+            Ok(Issued::Came(course))
+        }
         Request::Command(command) => {
             let course = run_command(alloc, world, state, line, words, &first.text, command)?;
             Ok(Issued::Came(course))
         }
+    }
+}
+
+// The place of the extension whose word is the first; none exactly where that is no valid name, or no extension has it.
+fn extension_of(extensions: &ExtList, words: &[Token]) -> Option<u32>
+    ensures { result ≡ spec.extension_of (objects_of ⟦<dyn Extension as Extension>⟧ extensions.now) words.now }
+{
+    match given(words, 0) {
+        Some(text) => match Part::read(text) {
+            Ok(word) => extensions.find(&word),
+            Err(_) => None,
+        },
+        None => None,
+    }
+}
+
+// The extension in a place answers a line.
+fn run_extension<W: World>(
+    alloc: Global,
+    world: &mut W,
+    state: &mut State,
+    extensions: &mut ExtList,
+    place: u32,
+    line: &Line,
+) -> Result<Course, End>
+    requires usable { IsUsable (spot W.World world.old state.old) }
+    requires moment { is_moment state.old.moment ≡ true }
+    requires offset { IsOffset state.old.offset }
+    requires there { HasPlace place (objects_of ⟦<dyn Extension as Extension>⟧ extensions.old) }
+    ensures acts { Acts (spot_with W.World world.old state.old (objects_of ⟦<dyn Extension as Extension>⟧ extensions.old))
+        (spot_with W.World world.new state.new (objects_of ⟦<dyn Extension as Extension>⟧ extensions.new))
+        (run_tree state.old (objects_of ⟦<dyn Extension as Extension>⟧ extensions.old) place (Start line.now))
+        result (ended_of state.new (objects_of ⟦<dyn Extension as Extension>⟧ extensions.new)) }
+    ensures offset { state.new.offset ≡ state.old.offset }
+    ensures left { state.new.left ≤ state.old.left }
+{
+    let line = Line::of(alloc, line.bytes())?;
+    run(
+        alloc,
+        world,
+        state,
+        extensions,
+        place,
+        ExtReply::Start(line),
+    )
+}
+
+// Does what a line with these words asks for: an extension answers it, or without one its command is run.
+fn obey<W: World>(
+    alloc: Global,
+    world: &mut W,
+    state: &mut State,
+    extensions: &mut ExtList,
+    running: usize,
+    line: &Line,
+    words: &Tokens,
+) -> Result<Issued, End>
+    requires usable { IsUsable (spot W.World world.old state.old) }
+    requires moment { is_moment state.old.moment ≡ true }
+    requires offset { IsOffset state.old.offset }
+    ensures acts { Acts (spot_with W.World world.old state.old (objects_of ⟦<dyn Extension as Extension>⟧ extensions.old))
+        (spot_with W.World world.new state.new (objects_of ⟦<dyn Extension as Extension>⟧ extensions.new))
+        (obey_tree state.old (objects_of ⟦<dyn Extension as Extension>⟧ extensions.old) running line.now words.now)
+        result (issued_of state.new (objects_of ⟦<dyn Extension as Extension>⟧ extensions.new)) }
+    ensures offset { state.new.offset ≡ state.old.offset }
+    ensures left { state.new.left ≤ state.old.left }
+{
+    match extension_of(extensions, words.as_slice()) {
+        Some(place) => {
+            let course = run_extension(alloc, world, state, extensions, place, line)?;
+            Ok(Issued::Came(course))
+        }
+        None => request(alloc, world, state, extensions, running, line, words),
     }
 }
 
@@ -125,13 +219,17 @@ pub fn issue<W: World>(
     alloc: Global,
     world: &mut W,
     state: &mut State,
+    extensions: &mut ExtList,
     running: usize,
     line: &Line,
 ) -> Result<Issued, End>
     requires usable { IsUsable (spot W.World world.old state.old) }
     requires moment { is_moment state.old.moment ≡ true }
-    ensures acts { Acts (spot W.World world.old state.old) (spot W.World world.new state.new)
-        (issue_tree state.old running line.now) result (issued_of state.new) }
+    requires offset { IsOffset state.old.offset }
+    ensures acts { Acts (spot_with W.World world.old state.old (objects_of ⟦<dyn Extension as Extension>⟧ extensions.old))
+        (spot_with W.World world.new state.new (objects_of ⟦<dyn Extension as Extension>⟧ extensions.new))
+        (issue_tree state.old (objects_of ⟦<dyn Extension as Extension>⟧ extensions.old) running line.now)
+        result (issued_of state.new (objects_of ⟦<dyn Extension as Extension>⟧ extensions.new)) }
     ensures offset { state.new.offset ≡ state.old.offset }
     ensures left { state.new.left ≤ state.old.left }
 {
@@ -139,22 +237,26 @@ pub fn issue<W: World>(
         return Ok(Issued::Came(Course::Went(0)));
     }
     let words = tokens(alloc, line)?;
-    request(alloc, world, state, running, line, &words)
+    obey(alloc, world, state, extensions, running, line, &words)
 }
 
 /// Does what a line of CMS asks for that is neither blank nor a comment, where so many procedures run: the procedure that its first word
-/// names begins, and without one its command is run.
+/// names begins, and without one its extension or its command is run.
 pub fn take_up<W: World>(
     alloc: Global,
     world: &mut W,
     state: &mut State,
+    extensions: &mut ExtList,
     running: usize,
     line: &Line,
 ) -> Result<Issued, End>
     requires usable { IsUsable (spot W.World world.old state.old) }
     requires moment { is_moment state.old.moment ≡ true }
-    ensures acts { Acts (spot W.World world.old state.old) (spot W.World world.new state.new)
-        (take_up_tree state.old running line.now) result (issued_of state.new) }
+    requires offset { IsOffset state.old.offset }
+    ensures acts { Acts (spot_with W.World world.old state.old (objects_of ⟦<dyn Extension as Extension>⟧ extensions.old))
+        (spot_with W.World world.new state.new (objects_of ⟦<dyn Extension as Extension>⟧ extensions.new))
+        (take_up_tree state.old (objects_of ⟦<dyn Extension as Extension>⟧ extensions.old) running line.now)
+        result (issued_of state.new (objects_of ⟦<dyn Extension as Extension>⟧ extensions.new)) }
     ensures offset { state.new.offset ≡ state.old.offset }
     ensures left { state.new.left ≤ state.old.left }
 {
@@ -164,6 +266,6 @@ pub fn take_up<W: World>(
             let started = run_called(alloc, world, state, line, &words, &found, running)?;
             Ok(called(started))
         }
-        None => request(alloc, world, state, running, line, &words),
+        None => obey(alloc, world, state, extensions, running, line, &words),
     }
 }

@@ -3,6 +3,7 @@
 
 mod command;
 mod issuing;
+mod nucleus;
 mod round;
 mod state;
 mod statement;

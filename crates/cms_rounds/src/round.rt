@@ -3,15 +3,17 @@ ghost use Rattle.std.specs.Prelude.{◌≡◌, ◌<◌, ◌≤◌, true, IfOk, o
 ghost use Rattle.cms_fields.specs.Moments.{is_moment};
 ghost use Rattle.cms_fields.specs.Offsets.{IsOffset};
 ghost use Rattle.cms_line.specs.Consoles.{item_of};
-ghost use Rattle.cms_search.specs.Calls.{spot, Acts, IsUsable, beside};
+ghost use Rattle.cms_search.specs.Calls.{spot, spot_with, Acts, IsUsable, beside};
+ghost use Rattle.cms_ext.specs.Objects.{objects_of};
 ghost use Rattle.cms_world.specs.Seen.{seen};
-ghost use Rattle.cms_rounds.specs.Calls.{round_of, item_in, taking_tree, line_tree, item_tree, line_round_tree, refused_tree, round_tree};
+ghost use Rattle.cms_rounds.specs.Calls.{passed_of, round_of, item_in, taking_tree, line_tree, item_tree, line_round_tree, refused_tree, round_tree};
 ghost use Rattle.cms_rounds.specs.declared.state.Round.TheVariants.{Ready};
 
 use crate::command::is_comment;
 use crate::issuing::{Issued, take_up};
 use crate::state::{Finish, Round, Session};
 use crate::statement::{answer, statement};
+use cms_ext::{ExtList, Extension};
 use cms_line::{ConsoleLine, Line, LineFault, Message};
 use cms_search::{End, State, refuse, turn};
 use cms_world::World;
@@ -67,12 +69,16 @@ fn run_line<W: World>(
     alloc: Global,
     world: &mut W,
     session: &mut Session,
+    extensions: &mut ExtList,
     line: &Line,
 ) -> Result<Round, End>
     requires usable { IsUsable (spot W.World world.old session.old.state) }
     requires moment { is_moment session.old.state.moment ≡ true }
-    ensures acts { Acts (spot W.World world.old session.old.state) (spot W.World world.new session.new.state)
-        (line_tree session.old line.now) result (round_of session.new) }
+    requires offset { IsOffset session.old.state.offset }
+    ensures acts { Acts (spot_with W.World world.old session.old.state (objects_of ⟦<dyn Extension as Extension>⟧ extensions.old))
+        (spot_with W.World world.new session.new.state (objects_of ⟦<dyn Extension as Extension>⟧ extensions.new))
+        (line_tree session.old (objects_of ⟦<dyn Extension as Extension>⟧ extensions.old) line.now)
+        result (passed_of session.new (objects_of ⟦<dyn Extension as Extension>⟧ extensions.new)) }
     ensures offset { session.new.state.offset ≡ session.old.state.offset }
     ensures left { session.new.state.left ≤ session.old.state.left }
 {
@@ -80,7 +86,7 @@ fn run_line<W: World>(
         return Ok(Round::Ready);
     }
     let running = session.procedures.len();
-    let issued = take_up(alloc, world, &mut session.state, running, line)?;
+    let issued = take_up(alloc, world, &mut session.state, extensions, running, line)?;
     answer(alloc, world, session, issued)
 }
 
@@ -105,17 +111,21 @@ fn run_taken<W: World>(
     alloc: Global,
     world: &mut W,
     session: &mut Session,
+    extensions: &mut ExtList,
     item: Taken,
 ) -> Result<Round, End>
     requires usable { IsUsable (spot W.World world.old session.old.state) }
     requires moment { is_moment session.old.state.moment ≡ true }
-    ensures acts { Acts (spot W.World world.old session.old.state) (spot W.World world.new session.new.state)
-        (item_tree session.old (item_in item)) result (round_of session.new) }
+    requires offset { IsOffset session.old.state.offset }
+    ensures acts { Acts (spot_with W.World world.old session.old.state (objects_of ⟦<dyn Extension as Extension>⟧ extensions.old))
+        (spot_with W.World world.new session.new.state (objects_of ⟦<dyn Extension as Extension>⟧ extensions.new))
+        (item_tree session.old (objects_of ⟦<dyn Extension as Extension>⟧ extensions.old) (item_in item))
+        result (passed_of session.new (objects_of ⟦<dyn Extension as Extension>⟧ extensions.new)) }
     ensures offset { session.new.state.offset ≡ session.old.state.offset }
     ensures left { session.new.state.left ≤ session.old.state.left }
 {
     match item {
-        Taken::Text(line) => run_line(alloc, world, session, &line),
+        Taken::Text(line) => run_line(alloc, world, session, extensions, &line),
         Taken::Bad => refuse_taken(alloc, world, session, Message::M010),
         Taken::Long => refuse_taken(alloc, world, session, Message::M011),
         Taken::Rest => Ok(Round::Ready),
@@ -123,11 +133,18 @@ fn run_taken<W: World>(
 }
 
 // Takes a line, spends a turn and does what the line asks for.
-fn line_round<W: World>(alloc: Global, world: &mut W, session: &mut Session) -> Result<Round, End>
+fn line_round<W: World>(
+    alloc: Global,
+    world: &mut W,
+    session: &mut Session,
+    extensions: &mut ExtList,
+) -> Result<Round, End>
     requires usable { IsUsable (spot W.World world.old session.old.state) }
     requires offset { IsOffset session.old.state.offset }
-    ensures acts { Acts (spot W.World world.old session.old.state) (spot W.World world.new session.new.state)
-        (line_round_tree session.old) result (round_of session.new) }
+    ensures acts { Acts (spot_with W.World world.old session.old.state (objects_of ⟦<dyn Extension as Extension>⟧ extensions.old))
+        (spot_with W.World world.new session.new.state (objects_of ⟦<dyn Extension as Extension>⟧ extensions.new))
+        (line_round_tree session.old (objects_of ⟦<dyn Extension as Extension>⟧ extensions.old))
+        result (passed_of session.new (objects_of ⟦<dyn Extension as Extension>⟧ extensions.new)) }
     ensures offset { session.new.state.offset ≡ session.old.state.offset }
     ensures falls { IfOk result (λ round. round ≡ Ready → session.new.state.left < session.old.state.left) }
 {
@@ -138,20 +155,27 @@ fn line_round<W: World>(alloc: Global, world: &mut W, session: &mut Session) -> 
         return Ok(Round::Ended(Finish::AtTurns));
     }
     turn(world, &mut session.state)?;
-    run_taken(alloc, world, session, item)
+    run_taken(alloc, world, session, extensions, item)
 }
 
 /// A line of CMS, or where a procedure runs a statement of the newest.
-pub fn run_round<W: World>(alloc: Global, world: &mut W, session: &mut Session) -> Result<Round, End>
+pub fn run_round<W: World>(
+    alloc: Global,
+    world: &mut W,
+    session: &mut Session,
+    extensions: &mut ExtList,
+) -> Result<Round, End>
     requires usable { IsUsable (spot W.World world.old session.old.state) }
     requires offset { IsOffset session.old.state.offset }
-    ensures acts { Acts (spot W.World world.old session.old.state) (spot W.World world.new session.new.state)
-        (round_tree session.old) result (round_of session.new) }
+    ensures acts { Acts (spot_with W.World world.old session.old.state (objects_of ⟦<dyn Extension as Extension>⟧ extensions.old))
+        (spot_with W.World world.new session.new.state (objects_of ⟦<dyn Extension as Extension>⟧ extensions.new))
+        (round_tree session.old (objects_of ⟦<dyn Extension as Extension>⟧ extensions.old))
+        result (passed_of session.new (objects_of ⟦<dyn Extension as Extension>⟧ extensions.new)) }
     ensures offset { session.new.state.offset ≡ session.old.state.offset }
     ensures falls { IfOk result (λ round. round ≡ Ready → session.new.state.left < session.old.state.left) }
 {
     match session.procedures.pop() {
-        Some(newest) => statement(alloc, world, session, newest),
-        None => line_round(alloc, world, session),
+        Some(newest) => statement(alloc, world, session, extensions, newest),
+        None => line_round(alloc, world, session, extensions),
     }
 }

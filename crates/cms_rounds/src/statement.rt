@@ -5,18 +5,20 @@ ghost use Rattle.cms_fields.specs.Offsets.{IsOffset};
 ghost use Rattle.cms_line.specs.Messages.{message_text};
 ghost use Rattle.cms_line.specs.declared.message.Message.TheVariants.{M085};
 ghost use Rattle.cms_machine.specs.Acts.{Done, saying, typed_line};
-ghost use Rattle.cms_search.specs.Calls.{spot, Acts, Does, IsUsable, itself, said};
+ghost use Rattle.cms_search.specs.Calls.{spot, spot_with, Acts, Does, IsUsable, itself, said};
 ghost use Rattle.cms_exec.specs.Exec.{stopped_code};
+ghost use Rattle.cms_ext.specs.Objects.{objects_of};
 ghost use Rattle.cms_search.specs.Machine.{typing};
 ghost use Rattle.cms_text.specs.Numbers.{decimal_of};
 ghost use Rattle.cms_world.specs.Seen.{seen};
 ghost use Rattle.cms_rounds.specs.Calls as tree;
-ghost use Rattle.cms_rounds.specs.Calls.{round_of, waiting};
+ghost use Rattle.cms_rounds.specs.Calls.{passed_of, round_of, waiting};
 ghost use Rattle.cms_rounds.specs.Procedures as spec;
 ghost use Rattle.cms_rounds.specs.declared.state.Round.TheVariants.{Ready};
 
 use crate::issuing::{Issued, issue};
 use crate::state::{Finish, Round, Session};
+use cms_ext::{ExtList, Extension};
 use cms_files::{StackEnd, has_room, stack_lines};
 use cms_line::{Line, Lines, Message, Word};
 use cms_search::{Asked, Course, End, State, say, say_message, say_ready, turn};
@@ -294,13 +296,17 @@ fn command<W: World>(
     alloc: Global,
     world: &mut W,
     session: &mut Session,
+    extensions: &mut ExtList,
     procedure: Exec,
     line: &Line,
 ) -> Result<Round, End>
     requires usable { IsUsable (spot W.World world.old session.old.state) }
     requires moment { is_moment session.old.state.moment ≡ true }
-    ensures acts { Acts (spot W.World world.old session.old.state) (spot W.World world.new session.new.state)
-        (tree.issued_tree session.old procedure line.now) result (round_of session.new) }
+    requires offset { IsOffset session.old.state.offset }
+    ensures acts { Acts (spot_with W.World world.old session.old.state (objects_of ⟦<dyn Extension as Extension>⟧ extensions.old))
+        (spot_with W.World world.new session.new.state (objects_of ⟦<dyn Extension as Extension>⟧ extensions.new))
+        (tree.issued_tree session.old (objects_of ⟦<dyn Extension as Extension>⟧ extensions.old) procedure line.now)
+        result (passed_of session.new (objects_of ⟦<dyn Extension as Extension>⟧ extensions.new)) }
     ensures offset { session.new.state.offset ≡ session.old.state.offset }
     ensures left { session.new.state.left ≤ session.old.state.left }
 {
@@ -308,7 +314,7 @@ fn command<W: World>(
         return Err(End::Memory);
     };
     let running = session.procedures.len();
-    let issued = issue(alloc, world, &mut session.state, running, line)?;
+    let issued = issue(alloc, world, &mut session.state, extensions, running, line)?;
     answer(alloc, world, session, issued)
 }
 
@@ -317,13 +323,17 @@ fn meet<W: World>(
     alloc: Global,
     world: &mut W,
     session: &mut Session,
+    extensions: &mut ExtList,
     procedure: Exec,
     want: Want,
 ) -> Result<Round, End>
     requires usable { IsUsable (spot W.World world.old session.old.state) }
     requires moment { is_moment session.old.state.moment ≡ true }
-    ensures acts { Acts (spot W.World world.old session.old.state) (spot W.World world.new session.new.state)
-        (tree.meet_tree session.old procedure want) result (round_of session.new) }
+    requires offset { IsOffset session.old.state.offset }
+    ensures acts { Acts (spot_with W.World world.old session.old.state (objects_of ⟦<dyn Extension as Extension>⟧ extensions.old))
+        (spot_with W.World world.new session.new.state (objects_of ⟦<dyn Extension as Extension>⟧ extensions.new))
+        (tree.meet_tree session.old (objects_of ⟦<dyn Extension as Extension>⟧ extensions.old) procedure want)
+        result (passed_of session.new (objects_of ⟦<dyn Extension as Extension>⟧ extensions.new)) }
     ensures offset { session.new.state.offset ≡ session.old.state.offset }
     ensures left { session.new.state.left ≤ session.old.state.left }
 {
@@ -331,8 +341,18 @@ fn meet<W: World>(
         Want::Say(lines) => type_lines(alloc, world, session, procedure, &lines),
         Want::Stack(lines, side) => stack(alloc, world, session, procedure, &lines, side),
         Want::Read => read(alloc, world, session, procedure),
-        Want::Command(line) => command(alloc, world, session, procedure, &line),
-        over => follow(alloc, world, session, procedure, &over),
+        Want::Command(line) => command(alloc, world, session, extensions, procedure, &line),
+        Want::Next => follow(alloc, world, session, procedure, &Want::Next),
+        Want::Ended(code) => follow(alloc, world, session, procedure, &Want::Ended(code)),
+        Want::Faulted { number, line } => {
+            follow(
+                alloc,
+                world,
+                session,
+                procedure,
+                &Want::Faulted { number, line },
+            )
+        }
     }
 }
 
@@ -341,12 +361,15 @@ pub fn statement<W: World>(
     alloc: Global,
     world: &mut W,
     session: &mut Session,
+    extensions: &mut ExtList,
     procedure: Exec,
 ) -> Result<Round, End>
     requires usable { IsUsable (spot W.World world.old session.old.state) }
     requires offset { IsOffset session.old.state.offset }
-    ensures acts { Acts (spot W.World world.old session.old.state) (spot W.World world.new session.new.state)
-        (tree.statement_tree session.old procedure) result (round_of session.new) }
+    ensures acts { Acts (spot_with W.World world.old session.old.state (objects_of ⟦<dyn Extension as Extension>⟧ extensions.old))
+        (spot_with W.World world.new session.new.state (objects_of ⟦<dyn Extension as Extension>⟧ extensions.new))
+        (tree.statement_tree session.old (objects_of ⟦<dyn Extension as Extension>⟧ extensions.old) procedure)
+        result (passed_of session.new (objects_of ⟦<dyn Extension as Extension>⟧ extensions.new)) }
     ensures offset { session.new.state.offset ≡ session.old.state.offset }
     ensures falls { IfOk result (λ round. round ≡ Ready → session.new.state.left < session.old.state.left) }
 {
@@ -356,5 +379,5 @@ pub fn statement<W: World>(
     }
     turn(world, &mut session.state)?;
     let want = procedure.turn(&session.state.moment)?;
-    meet(alloc, world, session, procedure, want)
+    meet(alloc, world, session, extensions, procedure, want)
 }

@@ -12,17 +12,18 @@ use Rattle.cms_machine.specs.Slots.{Slot, Settled, state_in, set_of, unit_set, u
 use Rattle.cms_machine.specs.Steps.{faults_in}
 use Rattle.cms_machine.specs.Acts.{Act}
 use Rattle.cms_machine.specs.Acts as acts
+use Rattle.cms_machine.specs.LawsObjects.{AreDistinct}
+use Rattle.cms_machine.specs.Objects.{Back, Object}
+use Rattle.cms_machine.specs.Steps.{Outcome}
 use Rattle.cms_machine.specs.Feeds.{Fed}
 use Rattle.cms_machine.specs.Points.{LeavesIn, Leaves, HasNowIn, HasNow, Point, Sound}
 use Rattle.cms_machine.specs.Beats.{pieces, outcomes, backs}
-use Rattle.cms_machine.specs.Laws.{FollowsTree, ComesTo}
 use Rattle.cms_machine.specs.Runs.{Ran, Broke, events_of}
 use Rattle.cms_machine.proofs.Law.{at_of_within}
-use Rattle.cms_machine.proofs.Asking.{none_asked}
 use Rattle.cms_machine.proofs.Single.{broke_before}
 use Rattle.cms_machine.proofs.Whole.{follows_tree, comes_to, whole}
 use Rattle.cms_disk.specs.declared.unit.UnitInfo.{UnitInfo}
-use Rattle.cms_search.specs.Calls.{Spot, Holds, Acts, at, first_state, machine_of, spot_at}
+use Rattle.cms_search.specs.Calls.{SpotWith, Holds, Acts, at, first_state, machine_of}
 use Rattle.cms_search.specs.Machine.{Letter, Machine}
 use Rattle.cms_search.specs.Shows.{devices_of}
 use Rattle.cms_search.specs.Tables.{HaveDistinctDevices, Seated, new_table}
@@ -30,11 +31,13 @@ use Rattle.cms_search.specs.declared.state.Device.{Device}
 use Rattle.cms_search.specs.declared.state.End.{End}
 use Rattle.cms_search.specs.declared.state.End.TheVariants as cut
 use Rattle.cms_search.specs.declared.state.State as declared
+use Rattle.cms_ext.specs.Extensions.{desk}
+use Rattle.cms_rounds.proofs.Alone.{standing}
 use Rattle.cms_words.specs.declared.reading.Words.{Words}
 use Rattle.cms_world.specs.Seen.{Seen}
 use Rattle.cms_session.specs.Machine.{machine, started}
 use Rattle.cms_session.specs.Calls.{session_tree, finished}
-use Rattle.cms_session.specs.Headline.{Start, Headline, Came, Begins, EndsAs, IsAs, fresh, settled, first_console, first_machine, first_point, start_point, start_tree, run_on}
+use Rattle.cms_session.specs.Headline.{Start, Headline, Came, Begins, EndsAs, IsAs, fresh, settled, first_console, first_machine, first_point, start_desk, start_point, start_tree, run_on}
 use Rattle.cms_session.specs.Sessions.{AttachesAll, HaveSizes, IsAsSeen, CameTo, WasCut, EndedAs, OnUnits, RunsOn, start_on, status_at, status_of}
 use Rattle.cms_session.specs.Words.{asked_of, given_by}
 use Rattle.cms_rounds.specs.declared.state.Finish.{Finish}
@@ -48,69 +51,67 @@ use Rattle.cms_session.proofs.Starts.{first_state_of, none_lettered, settled_at,
 -- nothing was done
 pub cut_before : (p : Point) (now : Seen) (t : Act Finish) → now.told ≡ p.journal → p.faults ≤ now.faults → WasCut p now t
 cut_before p now t told later =
-    let q : Point = record { journal = now.told; faults = now.faults; units = p.units; unread = p.unread; ended = p.ended; objects = [] } in
+    let q : Point = record { journal = now.told; faults = now.faults; units = p.units; unread = p.unread; ended = p.ended; objects = p.objects } in
     record { point = q; shown = record { told = refl; faults = refl }; broke = broke_before p q t told later refl }
 
 -- the state of a session at its start, where it stands then, and the machine that it is
 abbrev pub start_state : Words → List UnitInfo → declared.State
 start_state words infos = record (first_state words infos) { console = first_console (given_by words.seed) }
 
-abbrev start_spot : Seen → Words → List UnitInfo → Spot
-start_spot before words infos = record { world = before; state = start_state words infos }
-
 machine_first : (words : Words) (infos : List UnitInfo) (units : List Slot)
     → machine_of (start_state words infos) units ≡ first_machine units (devices_of (new_table infos)) words.offset words.turns
 machine_first words infos units =
     ap (λ (l : List (Option Letter)). record (first_machine units (devices_of (new_table infos)) words.offset words.turns) { letters = l }) (none_lettered (λ (s : Seated). s.letter) 26)
 
-abbrev tree_first : Words → List UnitInfo → List Slot → Act Finish
-tree_first words infos units = started (first_machine units (devices_of (new_table infos)) words.offset words.turns)
+abbrev tree_first : Words → List UnitInfo → List Object → List Slot → Act Finish
+tree_first words infos os units = started (desk (first_machine units (devices_of (new_table infos)) words.offset words.turns) os)
 
-abbrev point_first : Seen → Words → List Slot → Point
-point_first before words units = first_point before.told before.faults units (given_by words.seed)
+abbrev point_first : Seen → Words → List Object → List Slot → Point
+point_first before words os units = first_point before.told before.faults units (given_by words.seed) os
 
--- what a session did from there
-abbrev Did : Seen → Seen → declared.State → declared.State → Result Finish End → Type 0
-Did before now s new r = Acts (spot_at before s) (spot_at now new) (session_tree s) r finished
-
--- it was cut off
-was_cut : (before now : Seen) (words : Words) (infos : List UnitInfo) (s new : declared.State) (e : End) (units : List Slot) → s ≡ start_state words infos → Did before now s new (Err e)
-    → Holds before.told (new_table infos) units → WasCut (point_first before words units) now (tree_first words infos units)
-was_cut before now words infos s new e units is did h =
-    let there = subst (λ (x : declared.State). Did before now x new (Err e)) is did in
-    let x = there.each units h in
-    let q = at (spot_at now new) x.0 in
-    record {
-      point = q;
-      shown = record { told = refl; faults = refl };
-      broke = subst (λ (m : Machine). Broke (point_first before words units) q (started m)) (machine_first words infos units) x.1;
-    }
-
-pub runs_cut : (before now : Seen) (words : Words) (infos : List UnitInfo) (s new : declared.State) (e : End) → s ≡ start_state words infos → Did before now s new (Err e)
-    → RunsOn infos words before now (status_at e)
-runs_cut before now words infos s new cut.Memory is did units h = was_cut before now words infos s new cut.Memory units is did h
-runs_cut before now words infos s new cut.Edge is did units h = (was_cut before now words infos s new cut.Edge units is did h, did.cause refl)
-
--- or came to an end
 ended_as : (p : Point) (edges : ℕ) (now : Seen) (t : Act Finish) (end : Finish) → CameTo p now t end → EndedAs p edges now t (status_of end)
 ended_as p edges now t finish.AtEnd came = came
 ended_as p edges now t finish.AtTurns came = came
 
-pub runs_whole : (before now : Seen) (words : Words) (infos : List UnitInfo) (s new : declared.State) (end : Finish) → s ≡ start_state words infos → Did before now s new (Ok end)
-    → RunsOn infos words before now (status_of end)
-runs_whole before now words infos s new end is did units h =
-    let there = subst (λ (x : declared.State). Did before now x new (Ok end)) is did in
-    let x = there.each units h in
-    let q = at (spot_at now new) x.0 in
-    ended_as (point_first before words units) before.edges now (tree_first words infos units) end (record {
-      point = q;
-      shown = record { told = refl; faults = refl };
-      ran = subst (λ (m : Machine). Ran (point_first before words units) q (started m) (acts.Done end)) (machine_first words infos units) x.1.1;
-    })
+-- what a session did from there, with these objects before and after it
+abbrev Did : List Object → List Object → Seen → Seen → declared.State → declared.State → Result Finish End → Type 0
+Did os left before now s new r = Acts (standing os before s) (standing left now new) (session_tree s os) r finished
+
+module _ (os left : List Object) (before now : Seen) (words : Words) (infos : List UnitInfo) (s new : declared.State) (is : s ≡ start_state words infos) where
+  -- it was cut off
+  was_cut : (e : End) (units : List Slot) → Did os left before now s new (Err e) → Holds before.told (new_table infos) units
+      → WasCut (point_first before words os units) now (tree_first words infos os units)
+  was_cut e units did h =
+      let there = subst (λ (x : declared.State). Did os left before now x new (Err e)) is did in
+      let x = there.each units h in
+      let q = at (standing left now new) x.0 in
+      record {
+        point = q;
+        shown = record { told = refl; faults = refl };
+        broke = subst (λ (m : Machine). Broke (point_first before words os units) q (started (desk m os))) (machine_first words infos units) x.1;
+      }
+
+  pub runs_cut : (e : End) → Did os left before now s new (Err e) → RunsOn infos words os before now (status_at e)
+  runs_cut cut.Memory did units h = was_cut cut.Memory units did h
+  runs_cut cut.Edge did units h = (was_cut cut.Edge units did h, did.cause refl)
+
+  -- or came to an end
+  pub runs_whole : (end : Finish) → Did os left before now s new (Ok end) → RunsOn infos words os before now (status_of end)
+  runs_whole end did units h =
+      let there = subst (λ (x : declared.State). Did os left before now x new (Ok end)) is did in
+      let x = there.each units h in
+      let q = at (standing left now new) x.0 in
+      ended_as (point_first before words os units) before.edges now (tree_first words infos os units) end (record {
+        point = q;
+        shown = record { told = refl; faults = refl };
+        ran =
+            subst (λ (m : Machine). Ran (point_first before words os units) q (started (desk m os)) (acts.Done end)) (machine_first words infos units) x.1.1;
+      })
 
 -- there was no memory for the state
-pub runs_not : (before : Seen) (words : Words) (infos : List UnitInfo) → RunsOn infos words before before Memory
-runs_not before words infos units h = cut_before (point_first before words units) before (tree_first words infos units) refl (omega arith)
+pub runs_not : (os : List Object) (before : Seen) (words : Words) (infos : List UnitInfo) → RunsOn infos words os before before Memory
+runs_not os before words infos units h =
+    cut_before (point_first before words os units) before (tree_first words infos os units) refl (omega arith)
 
 -- the count of the edges may be an earlier one
 ended_earlier : (p : Point) (edges mid : ℕ) (now : Seen) (t : Act Finish) (status : Status) → edges ≤ mid → EndedAs p mid now t status → EndedAs p edges now t status
@@ -152,97 +153,99 @@ not_given : (given : Option (List ℕ)) → (is_some given ≡ true → ⊥) →
 not_given None none = refl
 not_given (Some bytes) none = absurd (none refl)
 
--- no object comes back, since there are none
-no_backs : (s : Start) (q : Point) (u : Act Finish) (r : Ran (start_point s) q (start_tree s) u) → backs r.beats ≡ []
-no_backs s q u r = (none_asked (start_point s) q r.beats r.chain refl).0
+module _ (s : Start) (before now : Seen) (faults : before.faults ≡ s.faults) (distinct : AreDistinct s.objects) where
+  headline_of : (status : Status) (q : Point) (b : Broke (start_point s) q (start_tree s)) → IsAsSeen q now
+      → EndsAs s (events_of b) (outcomes b.ran.beats) (backs b.ran.beats) q.units before.edges now.edges status → Headline s before now status
+  unfolding machine
+  headline_of status q b is ends =
+      let follows = follows_tree (start_point s) q (start_tree s) b in
+      let many = faults_in (outcomes b.ran.beats) in
+      record {
+        events = events_of b;
+        told = sym is.told ∙ follows.journal;
+        outcomes = outcomes b.ran.beats;
+        backs = backs b.ran.beats;
+        counted = subst (λ (n : ℕ). Counted n many now.faults) (sym faults) (subst (λ (n : ℕ). Counted s.faults many n) is.faults follows.faults);
+        units = q.units;
+        agrees = record { last = q; beats = b; events_are = refl; outcomes_are = refl; backs_are = refl; units_are = refl };
+        units_there = follows.as_many ∙ length-map s.units (λ (unit : Attached). Settled (first_state_of unit));
+        stands = λ u slot there. as_its_slot q now.told u slot is.told (follows.sound (sound_start s)) there;
+        ends = ends;
+        distinct = distinct;
+        crash = λ front rest e u x leaves. follows.crash (sound_start s) front rest e u x leaves;
+        between = λ front rest e u x leaves.
+            at_of_within (run_on s (events_of b) (outcomes b.ran.beats) (backs b.ran.beats)).trace (length (typed front)) (length (moments front)) u
+            (unit_set (settled s.units) u) x (follows.crash (sound_start s) front rest e u x leaves);
+        waits = λ front rest bytes e. follows.waits front rest bytes e;
+        given = λ front rest bytes e. not_given s.given (λ ended. follows.given ended front rest bytes e);
+        waits_before = λ front rest bytes e early later cut. follows.waits_before front rest bytes e early later cut;
+      }
 
-follows_alone : (s : Start) (q : Point) (b : Broke (start_point s) q (start_tree s)) → FollowsTree (start_point s) q (start_tree s) b []
-follows_alone s q b =
-    subst (FollowsTree (start_point s) q (start_tree s) b) (no_backs s b.mid b.rest b.ran) (follows_tree (start_point s) q (start_tree s) b)
+  begins_of : (q : Point) (b : Broke (start_point s) q (start_tree s))
+      → Begins (events_of b) (run_on s (events_of b) (outcomes b.ran.beats) (backs b.ran.beats))
+  unfolding machine
+  begins_of q b = (follows_tree (start_point s) q (start_tree s) b).bytes
 
-comes_alone : (s : Start) (q : Point) (end : Finish) (r : Ran (start_point s) q (start_tree s) (acts.Done end))
-    → ComesTo (start_point s) q (start_tree s) end r []
-comes_alone s q end r =
-    subst (ComesTo (start_point s) q (start_tree s) end r) (no_backs s q (acts.Done end) r) (comes_to (start_point s) q (start_tree s) end r)
+  came_of : (q : Point) (end : Finish) (r : Ran (start_point s) q (start_tree s) (acts.Done end))
+      → Came s (pieces r.beats) (outcomes r.beats) (backs r.beats) q.units end
+  unfolding machine
+  came_of q end r =
+      let comes = comes_to (start_point s) q (start_tree s) end r in
+      record {
+        last = q;
+        ran = r;
+        events_are = refl;
+        outcomes_are = refl;
+        backs_are = refl;
+        units_are = refl;
+        close = comes.close;
+        bytes = comes.bytes;
+        turns = comes.turns;
+        sets = comes.sets;
+        states = comes.states (sound_start s);
+      }
 
-headline_of : (s : Start) (before now : Seen) (status : Status) (q : Point) (b : Broke (start_point s) q (start_tree s)) → before.faults ≡ s.faults
-    → IsAsSeen q now → EndsAs s (events_of b) (run_on s (events_of b) (outcomes b.ran.beats)) q.units before.edges now.edges status
-    → Headline s before now status
-unfolding machine
-headline_of s before now status q b faults is ends =
-    let follows = follows_alone s q b in
-    let many = faults_in (outcomes b.ran.beats) in
-    record {
-      events = events_of b;
-      told = sym is.told ∙ follows.journal;
-      outcomes = outcomes b.ran.beats;
-      counted = subst (λ (n : ℕ). Counted n many now.faults) (sym faults) (subst (λ (n : ℕ). Counted s.faults many n) is.faults follows.faults);
-      units = q.units;
-      agrees = record { last = q; beats = b; events_are = refl; outcomes_are = refl; units_are = refl };
-      units_there = follows.as_many ∙ length-map s.units (λ (unit : Attached). Settled (first_state_of unit));
-      stands = λ u slot there. as_its_slot q now.told u slot is.told (follows.sound (sound_start s)) there;
-      ends = ends;
-      crash = λ front rest e u x leaves. follows.crash (sound_start s) front rest e u x leaves;
-      between = λ front rest e u x leaves.
-          at_of_within (run_on s (events_of b) (outcomes b.ran.beats)).trace (length (typed front)) (length (moments front)) u
-          (unit_set (settled s.units) u) x (follows.crash (sound_start s) front rest e u x leaves);
-      waits = λ front rest bytes e. follows.waits front rest bytes e;
-      given = λ front rest bytes e. not_given s.given (λ ended. follows.given ended front rest bytes e);
-      waits_before = λ front rest bytes e early later cut. follows.waits_before front rest bytes e early later cut;
-    }
+  came_whole : (q : Point) (end : Finish) (r : Ran (start_point s) q (start_tree s) (acts.Done end))
+      → Came s (pieces r.beats ++ []) (outcomes r.beats) (backs r.beats) q.units end
+  came_whole q end r =
+      subst (λ (es : List Event). Came s es (outcomes r.beats) (backs r.beats) q.units end) (sym (append-nil (pieces r.beats))) (came_of q end r)
 
-begins_of : (s : Start) (q : Point) (b : Broke (start_point s) q (start_tree s))
-    → Begins (events_of b) (run_on s (events_of b) (outcomes b.ran.beats))
-unfolding machine
-begins_of s q b = (follows_alone s q b).bytes
+  -- a session that came to an end, whose status is that end's
+  of_end : (status : Status) (end : Finish)
+      → ((events : List Event) (os : List Outcome) (bs : List Back) (units : List Slot) → Came s events os bs units end
+      → EndsAs s events os bs units before.edges now.edges status)
+      → CameTo (start_point s) now (start_tree s) end → Headline s before now status
+  of_end status end ends e =
+      let b = whole (start_point s) e.point (start_tree s) end e.ran in
+      headline_of status e.point b e.shown
+      (ends (events_of b) (outcomes b.ran.beats) (backs b.ran.beats) e.point.units (came_whole e.point end e.ran))
 
-came_of : (s : Start) (q : Point) (end : Finish) (r : Ran (start_point s) q (start_tree s) (acts.Done end))
-    → Came s (pieces r.beats) (run_on s (pieces r.beats) (outcomes r.beats)) q.units end
-unfolding machine
-came_of s q end r =
-    let comes = comes_alone s q end r in
-    record { close = comes.close; bytes = comes.bytes; turns = comes.turns; sets = comes.sets; states = comes.states (sound_start s) }
-
-came_whole : (s : Start) (q : Point) (end : Finish) (r : Ran (start_point s) q (start_tree s) (acts.Done end))
-    → Came s (pieces r.beats ++ []) (run_on s (pieces r.beats ++ []) (outcomes r.beats)) q.units end
-came_whole s q end r =
-    subst (λ (es : List Event). Came s es (run_on s es (outcomes r.beats)) q.units end) (sym (append-nil (pieces r.beats))) (came_of s q end r)
-
--- a session that came to an end, whose status is that end's
-of_end : (s : Start) (before now : Seen) (status : Status) (end : Finish) → before.faults ≡ s.faults
-    → ((events : List Event) (f : Fed Finish) (units : List Slot) → Came s events f units end → EndsAs s events f units before.edges now.edges status)
-    → CameTo (start_point s) now (start_tree s) end → Headline s before now status
-of_end s before now status end faults ends e =
-    let b = whole (start_point s) e.point (start_tree s) end e.ran in
-    headline_of s before now status e.point b faults e.shown
-    (ends (events_of b) (run_on s (events_of b) (outcomes b.ran.beats)) e.point.units (came_whole s e.point end e.ran))
-
-pub headline : (s : Start) (before now : Seen) (status : Status) → before.faults ≡ s.faults
-    → EndedAs (start_point s) before.edges now (start_tree s) status → Headline s before now status
-headline s before now Done faults e = of_end s before now Done finish.AtEnd faults (λ events f units came. came) e
-headline s before now Turns faults e = of_end s before now Turns finish.AtTurns faults (λ events f units came. came) e
-headline s before now World faults e = headline_of s before now World e.0.point e.0.broke faults e.0.shown (begins_of s e.0.point e.0.broke, e.1)
-headline s before now Memory faults e = headline_of s before now Memory e.point e.broke faults e.shown (begins_of s e.point e.broke)
-headline s before now (Usage fault) faults e = absurd e
+  pub headline : (status : Status) → EndedAs (start_point s) before.edges now (start_tree s) status → Headline s before now status
+  headline Done e = of_end Done finish.AtEnd (λ events os bs units came. came) e
+  headline Turns e = of_end Turns finish.AtTurns (λ events os bs units came. came) e
+  headline World e = headline_of World e.0.point e.0.broke e.0.shown (begins_of e.0.point e.0.broke, e.1)
+  headline Memory e = headline_of Memory e.point e.broke e.shown (begins_of e.point e.broke)
+  headline (Usage fault) e = absurd e
 
 -- ---- on units
 
 -- all units were attached, and the session ran on them
-pub on_units : (words : Words) (before mid now : Seen) (infos : List UnitInfo) (status : Status) → AttachesAll mid.told words.units infos → HaveDistinctDevices infos → HaveSizes infos
-    → mid.faults ≡ before.faults → before.edges ≤ mid.edges → RunsOn infos words mid now status → OnUnits (asked_of words) before now status
-on_units words before mid now infos status all distinct sizes faults earlier ran =
-    let s = start_on (asked_of words) all.units before.faults in
+pub on_units : (words : Words) (os : List Object) (before mid now : Seen) (infos : List UnitInfo) (status : Status) → AreDistinct os → AttachesAll mid.told words.units infos
+    → HaveDistinctDevices infos → HaveSizes infos → mid.faults ≡ before.faults → before.edges ≤ mid.edges → RunsOn infos words os mid now status
+    → OnUnits (asked_of words) os before now status
+on_units words os before mid now infos status differ all distinct sizes faults earlier ran =
+    let s = start_on (asked_of words) all.units before.faults os in
     let held = holds_start mid.told words.units infos all distinct sizes in
-    let tree : (devices : List Device) → Act Finish = λ devices. started (first_machine (settled all.units) devices words.offset words.turns) in
+    let tree : (devices : List Device) → Act Finish = λ devices. started (desk (first_machine (settled all.units) devices words.offset words.turns) os) in
     let ended = ran (settled all.units) held in
-    let told : EndedAs (first_point (Some (fresh all.units)) mid.faults (settled all.units) (given_by words.seed)) mid.edges now (tree (devices_of (new_table infos))) status =
-    subst (λ (t : Told). EndedAs (first_point t mid.faults (settled all.units) (given_by words.seed)) mid.edges now (tree (devices_of (new_table infos))) status) all.told ended in
+    let told : EndedAs (first_point (Some (fresh all.units)) mid.faults (settled all.units) (given_by words.seed) os) mid.edges now (tree (devices_of (new_table infos))) status =
+    subst (λ (t : Told). EndedAs (first_point t mid.faults (settled all.units) (given_by words.seed) os) mid.edges now (tree (devices_of (new_table infos))) status) all.told ended in
     let counted : EndedAs (start_point s) mid.edges now (tree (devices_of (new_table infos))) status =
-    subst (λ (n : ℕ). EndedAs (first_point (Some (fresh all.units)) n (settled all.units) (given_by words.seed)) mid.edges now (tree (devices_of (new_table infos))) status) faults told in
+    subst (λ (n : ℕ). EndedAs (first_point (Some (fresh all.units)) n (settled all.units) (given_by words.seed) os) mid.edges now (tree (devices_of (new_table infos))) status) faults told in
     let there : EndedAs (start_point s) mid.edges now (start_tree s) status =
     subst (λ (ds : List Device). EndedAs (start_point s) mid.edges now (tree ds) status) (devices_start mid.told words.units infos all) counted in
     record {
       units = all.units;
       attached = all.attached;
-      ran = headline s before now status refl (ended_earlier (start_point s) before.edges mid.edges now (start_tree s) status earlier there);
+      ran = headline s before now refl differ status (ended_earlier (start_point s) before.edges mid.edges now (start_tree s) status earlier there);
     }

@@ -3,3 +3,4 @@ pub mod UnitsAttached
 pub mod Starts
 pub mod Plays
 pub mod Ends
+pub mod Handed

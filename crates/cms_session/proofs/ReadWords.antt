@@ -2,6 +2,7 @@
 use Rattle.std.proofs.Common.{◌≡◌, inl, inr, ℕ, ℤ, ◌+◌, ◌<◌, ◌≤◌, Bool, true, false, List, [], ◌∷◌, length, Option, Some, None, Ok, Err, codes, refl, ap, sym, subst, ◌∙◌, arith}
 use Rattle.std.specs.Prelude.{◌≢◌, ⊤, Result, nat_le, ok_or, if◌then◌else◌}
 use Rattle.std.proofs.lemmas.Bool.{leb-false}
+use Rattle.cms_machine.specs.Objects.{Object}
 use Rattle.cms_words.specs.Readings.{IsAnswer}
 use Rattle.cms_words.specs.Command.{are_taken, rows_in, units_in, value_in}
 use Rattle.cms_words.specs.UnitWords.{unit_word_of}
@@ -59,9 +60,10 @@ no_usage_of_memory (fault.Twice vdev) = λ e. absurd (cc)
 no_usage_of_memory fault.Seed = λ e. absurd (cc)
 
 -- there was no memory to read the words of a session
-pub unbegun : (words : List (List ℕ)) (why : WordFault) (spec : Asked) (now : Seen) → IsAnswer (Err why) (words_of words) → read_words words ≡ Runs spec → SessionIn spec now now (refusal_of why)
-unbegun words why spec now (inl e) runs = let other : Refused why ≡ Runs spec = sym (read_refused words why e) ∙ runs in absurd (cc)
-unbegun words why spec now (inr e) runs = rw (memory_of why e) (inl (record { status_is = refl; same = refl }))
+pub unbegun : (words : List (List ℕ)) (why : WordFault) (spec : Asked) (os : List Object) (now : Seen) → IsAnswer (Err why) (words_of words) → read_words words ≡ Runs spec
+    → SessionIn spec os now now (refusal_of why)
+unbegun words why spec os now (inl e) runs = let other : Refused why ≡ Runs spec = sym (read_refused words why e) ∙ runs in absurd (cc)
+unbegun words why spec os now (inr e) runs = rw (memory_of why e) (inl (record { status_is = refl; same = refl }))
 
 -- ---- the units of the words
 
@@ -133,9 +135,9 @@ taken_fits words read status answer none = let is = read_taken words read answer
 pub taken_none : (words : List (List ℕ)) (read : Words) → IsAnswer (Ok read) (words_of words) → RunsNone (read_words words) → ⊥
 taken_none words read answer none = subst RunsNone (read_taken words read answer) none
 
-pub taken_spec : (words : List (List ℕ)) (read : Words) (spec : Asked) (before now : Seen) (status : Status) → IsAnswer (Ok read) (words_of words) → read_words words ≡ Runs spec
-    → SessionIn (asked_of read) before now status → SessionIn spec before now status
-taken_spec words read spec before now status answer runs session =
+pub taken_spec : (words : List (List ℕ)) (read : Words) (spec : Asked) (os : List Object) (before now : Seen) (status : Status) → IsAnswer (Ok read) (words_of words) → read_words words ≡ Runs spec
+    → SessionIn (asked_of read) os before now status → SessionIn spec os before now status
+taken_spec words read spec os before now status answer runs session =
     let both : Runs (asked_of read) ≡ Runs spec = sym (read_taken words read answer) ∙ runs in
     let same : asked_of read ≡ spec = cc both in
-    subst (λ (s : Asked). SessionIn s before now status) same session
+    subst (λ (s : Asked). SessionIn s os before now status) same session

@@ -2,24 +2,26 @@
 use Rattle.std.specs.Prelude.{List}
 use Rattle.cms_machine.specs.Slots.{Slot}
 use Rattle.cms_machine.specs.Acts.{Act}
+use Rattle.cms_machine.specs.Objects.{Object}
 use Rattle.cms_search.specs.Calls.{Meaning, machine_of}
 use Rattle.cms_search.specs.Machine.{Machine}
 use Rattle.cms_search.specs.declared.state.State.{State}
-use Rattle.cms_rounds.specs.Calls.{session_of}
+use Rattle.cms_ext.specs.Calls.{desk_of}
+use Rattle.cms_rounds.specs.Calls.{procedures_of}
 use Rattle.cms_rounds.specs.declared.state.Finish.{Finish}
 use Rattle.cms_rounds.specs.declared.state.Session as declared_session
 use Rattle.cms_session.specs.Machine.{access_first, rounds, started}
 
 -- ---- the trees of the parts of a session on the machine with these units
 
-abbrev pub rounds_tree : declared_session.Session → List Slot → Act Finish
-rounds_tree s units = rounds (session_of s units)
+abbrev pub rounds_tree : declared_session.Session → List Object → List Slot → Act Finish
+rounds_tree s objects units = rounds (desk_of s.state objects units) (procedures_of s)
 
 abbrev pub access_tree : State → List Slot → Act Machine
 access_tree s units = access_first (machine_of s units)
 
-abbrev pub session_tree : State → List Slot → Act Finish
-session_tree s units = started (machine_of s units)
+abbrev pub session_tree : State → List Object → List Slot → Act Finish
+session_tree s objects units = started (desk_of s objects units)
 
 -- ---- what their values mean
 

@@ -14,15 +14,19 @@ use Rattle.cms_model.specs.Volumes.{disk_of, state_of}
 use Rattle.cms_machine.specs.Slots.{Slot, Settled, state_in, set_of, unit_set, IsAmong}
 use Rattle.cms_machine.specs.Steps.{Outcome, faults_in}
 use Rattle.cms_machine.specs.Acts.{Act}
+use Rattle.cms_machine.specs.Acts as acts
+use Rattle.cms_machine.specs.LawsObjects.{AreDistinct}
+use Rattle.cms_machine.specs.Objects.{Back, Object}
 use Rattle.cms_machine.specs.Traces.{bytes_of, turns_of, last_set, At, Within}
 use Rattle.cms_machine.specs.Feeds.{Fed, Over, Waits, WaitsBehind}
 use Rattle.cms_machine.specs.Points.{Leaves, HasNow, Point}
-use Rattle.cms_machine.specs.Beats.{outcomes}
-use Rattle.cms_machine.specs.Runs.{Broke, events_of}
+use Rattle.cms_machine.specs.Beats.{backs, outcomes, pieces}
+use Rattle.cms_machine.specs.Runs.{Broke, Ran, events_of}
 use Rattle.cms_search.specs.Machine.{Machine}
 use Rattle.cms_line.specs.ConsoleState.{ConsoleState}
 use Rattle.cms_world.specs.Seen.{Seen}
 use Rattle.cms_search.specs.declared.state.Device.{Device}
+use Rattle.cms_ext.specs.Extensions.{Desk, desk}
 use Rattle.cms_session.specs.Machine.{machine, started}
 use Rattle.cms_rounds.specs.declared.state.Finish.{Finish}
 use Rattle.cms_rounds.specs.declared.state.Finish.TheVariants as finish
@@ -40,7 +44,7 @@ abbrev pub settled : List Attached → List Slot
 settled units = map (λ unit. Settled (state_of (disk_of unit) (image_of unit.start))) units
 
 -- how a session starts: its units and their devices, the turns, by how many seconds civil time is ahead of UTC, a script that is given
--- in place of the world's, and the count of device faults
+-- in place of the world's, the count of device faults, and the objects that it was handed
 pub record Start : Type 0 where
   pub units : List Attached
   pub devices : List Device
@@ -48,6 +52,7 @@ pub record Start : Type 0 where
   pub offset : ℤ
   pub given : Option (List ℕ)
   pub faults : ℕ
+  pub objects : List Object
 
 -- the bytes of a script that is given
 abbrev pub given_bytes : Option (List ℕ) → List ℕ
@@ -58,14 +63,14 @@ given_bytes (Some bytes) = bytes
 abbrev pub first_console : Option (List ℕ) → ConsoleState
 first_console given = record { unread = record { within = 0; bytes = given_bytes given }; ended = is_some given }
 
-abbrev pub first_point : Told → ℕ → List Slot → Option (List ℕ) → Point
-first_point told faults units given = record {
+abbrev pub first_point : Told → ℕ → List Slot → Option (List ℕ) → List Object → Point
+first_point told faults units given objects = record {
   journal = told;
   faults = faults;
   units = units;
   unread = (first_console given).unread;
   ended = (first_console given).ended;
-  objects = [];
+  objects = objects;
 }
 
 -- the machine with no turn spent, no disk accessed, no line stacked and no place kept
@@ -82,46 +87,53 @@ first_machine units devices offset turns = record {
 }
 
 abbrev pub start_point : Start → Point
-start_point s = first_point (Some (fresh s.units)) s.faults (settled s.units) s.given
+start_point s = first_point (Some (fresh s.units)) s.faults (settled s.units) s.given s.objects
 
-abbrev pub start_machine : Start → Machine
-start_machine s = first_machine (settled s.units) s.devices s.offset s.turns
+abbrev pub start_desk : Start → Desk
+start_desk s = desk (first_machine (settled s.units) s.devices s.offset s.turns) s.objects
 
 abbrev pub start_tree : Start → Act Finish
-start_tree s = started (start_machine s)
+start_tree s = started (start_desk s)
 
 -- the machine on what these events told
-abbrev pub run_on : Start → List Event → List Outcome → Fed Finish
-run_on s events os = machine (start_machine s) (given_bytes s.given ++ script events) (is_some s.given || is_over events)
-    (moments events) os
+abbrev pub run_on : Start → List Event → List Outcome → List Back → Fed Finish
+run_on s events os bs = machine (start_desk s) (given_bytes s.given ++ script events) (is_some s.given || is_over events)
+    (moments events) os bs
 
 -- the machine where the script goes on behind these bytes
-abbrev pub run_before : Start → List ℕ → List Event → List Outcome → Fed Finish
-run_before s bytes events os = machine (start_machine s) (given_bytes s.given ++ bytes) false (moments events) os
+abbrev pub run_before : Start → List ℕ → List Event → List Outcome → List Back → Fed Finish
+run_before s bytes events os bs = machine (start_desk s) (given_bytes s.given ++ bytes) false (moments events) os bs
 
 -- ---- the end
 
--- the machine came to this end, with these units: all bytes of its trace are typed, each of its turns has a moment, the sets of its
--- units are the last of the trace, and a crash leaves each unit in a state of its set
-pub record Came (s : Start) (events : List Event) (fed : Fed Finish) (units : List Slot) (end : Finish) : Type 0 where
-  pub close : fed.close ≡ Over end
-  pub bytes : bytes_of fed.trace ≡ typed events
-  pub turns : turns_of fed.trace ≡ length (moments events)
-  pub sets : (u : ℕ) → unit_set units u ≡ last_set u (unit_set (settled s.units) u) fed.trace
+-- the machine came to this end with these units: beats of its whole run have these events as their pieces, these outcomes, and this came
+-- back in them; all bytes of its trace are typed, each of its turns has a moment, the sets of its units are the last of the trace, and a
+-- crash leaves each unit in a state of its set
+pub record Came (s : Start) (events : List Event) (os : List Outcome) (bs : List Back) (units : List Slot) (end : Finish) : Type 0 where
+  pub last : Point
+  pub ran : Ran (start_point s) last (start_tree s) (acts.Done end)
+  pub events_are : pieces ran.beats ≡ events
+  pub outcomes_are : outcomes ran.beats ≡ os
+  pub backs_are : backs ran.beats ≡ bs
+  pub units_are : last.units ≡ units
+  pub close : (run_on s events os bs).close ≡ Over end
+  pub bytes : bytes_of (run_on s events os bs).trace ≡ typed events
+  pub turns : turns_of (run_on s events os bs).trace ≡ length (moments events)
+  pub sets : (u : ℕ) → unit_set units u ≡ last_set u (unit_set (settled s.units) u) (run_on s events os bs).trace
   pub states : (u : ℕ) (x : State) → Leaves (plus (Some (fresh s.units)) events) u x
-      → IsAmong x (last_set u (unit_set (settled s.units) u) fed.trace)
+      → IsAmong x (last_set u (unit_set (settled s.units) u) (run_on s events os bs).trace)
 
 -- the bytes typed are the first of the machine's
 abbrev pub Begins : List Event → Fed Finish → Type 0
 Begins events fed = (more : List ℕ) × (typed events ++ more ≡ bytes_of fed.trace)
 
 -- the status tells the machine's end, or where the session was cut off; edges are the counts before and now
-abbrev pub EndsAs : Start → List Event → Fed Finish → List Slot → ℕ → ℕ → Status → Type 0
-EndsAs s events fed units before now Done = Came s events fed units finish.AtEnd
-EndsAs s events fed units before now Turns = Came s events fed units finish.AtTurns
-EndsAs s events fed units before now World = Begins events fed × Rose before now
-EndsAs s events fed units before now Memory = Begins events fed
-EndsAs s events fed units before now (Usage fault) = ⊥
+abbrev pub EndsAs : Start → List Event → List Outcome → List Back → List Slot → ℕ → ℕ → Status → Type 0
+EndsAs s events os bs units before now Done = Came s events os bs units finish.AtEnd
+EndsAs s events os bs units before now Turns = Came s events os bs units finish.AtTurns
+EndsAs s events os bs units before now World = Begins events (run_on s events os bs) × Rose before now
+EndsAs s events os bs units before now Memory = Begins events (run_on s events os bs)
+EndsAs s events os bs units before now (Usage fault) = ⊥
 
 -- in the end a unit is as its slot says: a crash leaves it in the state at which it is settled, or in one of the two of its doubt, and
 -- its contents have that state, or that of the doubt's side
@@ -131,12 +143,14 @@ pub record IsAs (told : Told) (u : ℕ) (slot : Slot) : Type 0 where
 
 -- ---- all of it
 
--- beats of the machine, with these events as their pieces, in which its steps have these outcomes, and behind which it has these units
-pub record Agrees (s : Start) (events : List Event) (os : List Outcome) (units : List Slot) : Type 0 where
+-- beats of the machine, with these events as their pieces, in which its steps have these outcomes and this comes back from the objects, each
+-- by the test of the very object that was asked, and behind which it has these units
+pub record Agrees (s : Start) (events : List Event) (os : List Outcome) (bs : List Back) (units : List Slot) : Type 0 where
   pub last : Point
   pub beats : Broke (start_point s) last (start_tree s)
   pub events_are : events_of beats ≡ events
   pub outcomes_are : outcomes beats.ran.beats ≡ os
+  pub backs_are : backs beats.ran.beats ≡ bs
   pub units_are : last.units ≡ units
 
 -- a session from a start is a run of the machine on the script and the moments told
@@ -144,30 +158,33 @@ pub record Headline (s : Start) (before now : Seen) (status : Status) : Type 0 w
   -- what happened, the oldest event first
   pub events : List Event
   pub told : now.told ≡ plus (Some (fresh s.units)) events
-  -- the places and kinds of the faults are all that is left open
+  -- the places and kinds of the faults, and what came back from the objects, are all that is left open
   pub outcomes : List Outcome
+  pub backs : List Back
   pub counted : Counted before.faults (faults_in outcomes) now.faults
   -- what the machine knows of the units in the end, also where the session was cut off
   pub units : List Slot
-  pub agrees : Agrees s events outcomes units
-  pub ends : EndsAs s events (run_on s events outcomes) units before.edges now.edges status
+  pub agrees : Agrees s events outcomes backs units
+  pub ends : EndsAs s events outcomes backs units before.edges now.edges status
+  -- no two objects were handed in under one word
+  pub distinct : AreDistinct s.objects
   pub units_there : length units ≡ length s.units
   pub stands : (u : ℕ) (slot : Slot) → slice_get units u ≡ Some slot → IsAs now.told u slot
   -- a crash at any moment leaves a state that the machine has there, after the bytes typed and the turns spent by then
   pub crash :
       (front rest : List Event) → front ++ rest ≡ events → (u : ℕ) (x : State) → Leaves (plus (Some (fresh s.units)) front) u x
-      → Within (run_on s events outcomes).trace (length (typed front)) (length (moments front)) u (unit_set (settled s.units) u) x
+      → Within (run_on s events outcomes backs).trace (length (typed front)) (length (moments front)) u (unit_set (settled s.units) u) x
   -- so it is between the last byte typed by then and the next
   pub between :
       (front rest : List Event) → front ++ rest ≡ events → (u : ℕ) (x : State) → Leaves (plus (Some (fresh s.units)) front) u x
-      → At (run_on s events outcomes).trace (length (typed front)) u (unit_set (settled s.units) u) x
+      → At (run_on s events outcomes backs).trace (length (typed front)) u (unit_set (settled s.units) u) x
   -- at each read the machine waits for the script, and all its bytes are typed
   pub waits : (front rest : List Event) (bytes : List ℕ) → front ++ Read bytes ∷ rest ≡ events
-      → Waits (run_before s (script front) front outcomes) (typed front)
+      → Waits (run_before s (script front) front outcomes backs) (typed front)
   -- no read comes where the script is given
   pub given : (front rest : List Event) (bytes : List ℕ) → front ++ Read bytes ∷ rest ≡ events → s.given ≡ None
   -- so it does on a front of the script told by then, as that up to its last line feed
   pub waits_before :
       (front rest : List Event) (bytes : List ℕ) → front ++ Read bytes ∷ rest ≡ events → (early later : List ℕ)
       → early ++ later ≡ script front
-      → WaitsBehind (run_before s early front outcomes) (typed front)
+      → WaitsBehind (run_before s early front outcomes backs) (typed front)

@@ -1,13 +1,17 @@
 -- What follows for every session.
-use Rattle.std.specs.Prelude.{◌≡◌, ◌⊎◌, ℕ, Some, slice_get}
+use Rattle.std.specs.Prelude.{◌≡◌, ◌⊎◌, ℕ, List, ◌∷◌, ◌++◌, Some, slice_get}
 use Rattle.cms_journal.specs.Causes.{Rose}
+use Rattle.cms_journal.specs.declared.event.Event.{Event}
 use Rattle.cms_machine.specs.Steps.{faults_in}
 use Rattle.cms_model.specs.Minidisks.{State}
 use Rattle.cms_machine.specs.Slots.{Settled}
-use Rattle.cms_machine.specs.Points.{Leaves}
+use Rattle.cms_machine.specs.Beats.{Asked, Beat, Beats, Chain, Dropped}
+use Rattle.cms_machine.specs.LawsObjects.{Answers, AskNot, IsGone}
+use Rattle.cms_machine.specs.Objects.{Back, Object, Reply}
+use Rattle.cms_machine.specs.Points.{Leaves, Point}
 use Rattle.cms_machine.specs.Feeds.{Over}
 use Rattle.cms_world.specs.Seen.{Seen}
-use Rattle.cms_session.specs.Headline.{Start, Came, Headline, run_on}
+use Rattle.cms_session.specs.Headline.{Start, Came, Headline, run_on, start_point}
 use Rattle.cms_session.specs.Sessions.{status_of}
 use Rattle.cms_rounds.specs.declared.state.Finish.{Finish}
 use Rattle.cms_rounds.specs.declared.state.Finish.TheVariants as finish
@@ -18,7 +22,7 @@ use Rattle.cms_session.specs.declared.status.Status.TheVariants.{Done, Memory}
 abbrev pub EndsLikeMachine : Type 0
 EndsLikeMachine =
     (s : Start) (before now : Seen) (status : Status) (h : Headline s before now status) → (Rose before.edges now.edges → ⊥)
-    → (finish : Finish) → (run_on s h.events h.outcomes).close ≡ Over finish → (status ≡ status_of finish) ⊎ (status ≡ Memory)
+    → (finish : Finish) → (run_on s h.events h.outcomes h.backs).close ≡ Over finish → (status ≡ status_of finish) ⊎ (status ≡ Memory)
 
 -- where no call on a unit failed every outcome is good
 abbrev pub FaultsAreCounted : Type 0
@@ -31,12 +35,49 @@ FaultsAreCounted =
 abbrev pub Completes : Type 0
 Completes =
     (s : Start) (before now : Seen) (status : Status) (h : Headline s before now status) → (Rose before.edges now.edges → ⊥)
-    → (Rose before.faults now.faults → ⊥) → (run_on s h.events h.outcomes).close ≡ Over finish.AtEnd
+    → (Rose before.faults now.faults → ⊥) → (run_on s h.events h.outcomes h.backs).close ≡ Over finish.AtEnd
     → (faults_in h.outcomes ≡ 0)
-    × (((status ≡ Done) × Came s h.events (run_on s h.events h.outcomes) h.units finish.AtEnd) ⊎ (status ≡ Memory))
+    × (((status ≡ Done) × Came s h.events h.outcomes h.backs h.units finish.AtEnd) ⊎ (status ≡ Memory))
 
 -- at every status a crash leaves each unit that isn't in doubt in one state
 abbrev pub SettledIsOne : Type 0
 SettledIsOne =
     (s : Start) (before now : Seen) (status : Status) (h : Headline s before now status) (u : ℕ) (state : State)
     → slice_get h.units u ≡ Some (Settled state) → (x : State) → Leaves now.told u x → x ≡ state
+
+-- the beats of a session, and those in front of one of them and behind it
+abbrev pub BeatsOf : {s : Start} {before now : Seen} {status : Status} → Headline s before now status → List Beat
+BeatsOf h = h.agrees.beats.ran.beats
+
+abbrev pub SplitAt : {s : Start} {before now : Seen} {status : Status} → Headline s before now status → List Beat → Beat → List Beat → Type 0
+SplitAt h front b rest = front ++ b ∷ rest ≡ BeatsOf h
+
+-- the object that stood in a place behind these beats, where it is dropped: in the beats behind that none is asked under its word, and in
+-- the end none stands there
+pub record IsLost (s : Start) (front : List Beat) (n : ℕ) (rest : List Beat) (last : Point) : Type 0 where
+  pub before : Point
+  pub ran : Chain (start_point s) front before
+  pub object : Object
+  pub there : slice_get before.objects n ≡ Some object
+  pub asked_no_more : AskNot object.word rest
+  pub gone : IsGone object.word last.objects
+
+abbrev pub DroppedIsLost : Type 0
+DroppedIsLost =
+    (s : Start) (before now : Seen) (status : Status) (h : Headline s before now status)
+    → (front rest : List Beat) (n : ℕ) (piece : List Event) → SplitAt h front (record { deed = Dropped n; piece = piece }) rest
+    → IsLost s front n rest h.agrees.beats.mid
+
+-- an object that is asked stands in its place behind the beats in front; its own test holds of what it held there, what it was told, what came
+-- back, and what it holds from then on
+pub record IsItself (s : Start) (front : List Beat) (n : ℕ) (o : Object) (reply : Reply) (back : Back) : Type 0 where
+  pub before : Point
+  pub ran : Chain (start_point s) front before
+  pub after : Point
+  pub answers : Answers before after n o reply back
+
+abbrev pub AskedIsItself : Type 0
+AskedIsItself =
+    (s : Start) (before now : Seen) (status : Status) (h : Headline s before now status)
+    → (front rest : List Beat) (n : ℕ) (o : Object) (reply : Reply) (back : Back) (piece : List Event)
+    → SplitAt h front (record { deed = Asked n o reply back; piece = piece }) rest → IsItself s front n o reply back

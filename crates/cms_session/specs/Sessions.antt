@@ -8,12 +8,14 @@ use Rattle.cms_journal.specs.Limits.{most_blocks}
 use Rattle.cms_journal.specs.Journal.{IsAttached, IsBlockSize, MayAdd, may_write}
 use Rattle.cms_journal.specs.Told.{Told}
 use Rattle.cms_model.specs.Volumes.{disk_of}
+use Rattle.cms_machine.specs.Objects.{Object}
 use Rattle.cms_machine.specs.Acts.{Act}
 use Rattle.cms_machine.specs.Acts as acts
 use Rattle.cms_machine.specs.Points.{Point}
 use Rattle.cms_machine.specs.Runs.{Ran, Broke}
 use Rattle.cms_machine.specs.Slots.{Slot}
 use Rattle.cms_disk.specs.declared.unit.UnitInfo.{UnitInfo}
+use Rattle.cms_ext.specs.Extensions.{desk}
 use Rattle.cms_search.specs.Calls.{Holds}
 use Rattle.cms_search.specs.Shows.{devices_of}
 use Rattle.cms_search.specs.Tables.{new_table}
@@ -83,14 +85,15 @@ devices_on (word ∷ words) (unit ∷ units) = device_of word (disk_of unit).cou
 devices_on _ _ = []
 
 -- how a session on units starts
-abbrev pub start_on : Asked → List Attached → ℕ → Start
-start_on spec units faults = record {
+abbrev pub start_on : Asked → List Attached → ℕ → List Object → Start
+start_on spec units faults objects = record {
   units = units;
   devices = devices_on spec.units units;
   turns = spec.turns;
   offset = spec.offset;
   given = spec.given;
   faults = faults;
+  objects = objects;
 }
 
 -- why the next unit wasn't attached: there was no memory; or the world missed it
@@ -110,19 +113,20 @@ pub record StopsAfter (words : List UnitWord) (before now : Seen) (status : Stat
   pub stops : StopsAt rest units before now status
 
 -- all units were attached, as their words say
-pub record OnUnits (spec : Asked) (before now : Seen) (status : Status) : Type 0 where
+pub record OnUnits (spec : Asked) (objects : List Object) (before now : Seen) (status : Status) : Type 0 where
   pub units : List Attached
   pub attached : AreAttached [] spec.units units
-  pub ran : Headline (start_on spec units before.faults) before now status
+  pub ran : Headline (start_on spec units before.faults objects) before now status
 
 -- there was no memory before a unit was attached: nothing happened
 pub record Unbegun (before now : Seen) (status : Status) : Type 0 where
   pub status_is : status ≡ Memory
   pub same : now ≡ before
 
--- a session that the words ask for, from a world with no unit and no event
-abbrev pub SessionIn : Asked → Seen → Seen → Status → Type 0
-SessionIn spec before now status = Unbegun before now status ⊎ (StopsAfter spec.units before now status ⊎ OnUnits spec before now status)
+-- a session that the words ask for with these objects, from a world with no unit and no event
+abbrev pub SessionIn : Asked → List Object → Seen → Seen → Status → Type 0
+SessionIn spec objects before now status =
+    Unbegun before now status ⊎ (StopsAfter spec.units before now status ⊎ OnUnits spec objects before now status)
 
 -- no count has fallen, and World comes only where that of the edges rose
 pub record WorldCause (before now : Seen) (status : Status) : Type 0 where
@@ -197,9 +201,9 @@ pub record AttachesAll (now : Told) (words : List UnitWord) (infos : List UnitIn
 abbrev pub HaveSizes : List UnitInfo → Type 0
 HaveSizes infos = (u : ℕ) (info : UnitInfo) → slice_get infos u ≡ Some info → IsBlockSize info.bsize
 
--- how a session on these units, with these words, ended from whatever they hold
-abbrev pub RunsOn : List UnitInfo → Words → Seen → Seen → Status → Type 0
-RunsOn infos words before now status =
+-- how a session on these units, with these words and objects, ended from whatever the units hold
+abbrev pub RunsOn : List UnitInfo → Words → List Object → Seen → Seen → Status → Type 0
+RunsOn infos words objects before now status =
     (units : List Slot) → Holds before.told (new_table infos) units
-    → EndedAs (first_point before.told before.faults units (given_by words.seed)) before.edges now
-    (started (first_machine units (devices_of (new_table infos)) words.offset words.turns)) status
+    → EndedAs (first_point before.told before.faults units (given_by words.seed) objects) before.edges now
+    (started (desk (first_machine units (devices_of (new_table infos)) words.offset words.turns) objects)) status

@@ -10,4 +10,4 @@ mod top;
 pub use cms_words::WordFault;
 pub use laws::laws_of_sessions;
 pub use status::Status;
-pub use top::run;
+pub use top::{run, run_with};

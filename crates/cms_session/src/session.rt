@@ -1,11 +1,13 @@
 // The session: device 191 is accessed, and rounds follow until it ends.
 ghost use Rattle.std.specs.Prelude.{◌≡◌, []};
-ghost use Rattle.cms_search.specs.Calls.{spot, Acts, IsUsable};
+ghost use Rattle.cms_search.specs.Calls.{spot, spot_with, Acts, IsUsable};
+ghost use Rattle.cms_ext.specs.Objects.{objects_of};
 ghost use Rattle.cms_search.specs.Turns.{machine_now};
 ghost use Rattle.cms_fields.specs.Offsets.{IsOffset};
 ghost use Rattle.cms_rounds.specs.Calls.{procedures_of};
 ghost use Rattle.cms_session.specs.Calls.{access_tree, finished, rounds_tree, session_tree};
 
+use cms_ext::{ExtList, Extension};
 use cms_rounds::{Finish, Round, Session, run_round};
 use cms_search::{End, State};
 use cms_world::World;
@@ -28,27 +30,39 @@ fn access_first<W: World>(alloc: Global, world: &mut W, state: &mut State) -> Re
 }
 
 // Runs lines and statements until the session ends.
-fn run_lines<W: World>(alloc: Global, world: &mut W, session: &mut Session) -> Result<Finish, End>
+fn run_lines<W: World>(
+    alloc: Global,
+    world: &mut W,
+    session: &mut Session,
+    extensions: &mut ExtList,
+) -> Result<Finish, End>
     requires usable { IsUsable (spot W.World world.old session.old.state) }
     requires offset { IsOffset session.old.state.offset }
-    ensures { Acts (spot W.World world.old session.old.state) (spot W.World world.new session.new.state)
-        (rounds_tree session.old) result finished }
+    ensures { Acts (spot_with W.World world.old session.old.state (objects_of ⟦<dyn Extension as Extension>⟧ extensions.old))
+        (spot_with W.World world.new session.new.state (objects_of ⟦<dyn Extension as Extension>⟧ extensions.new))
+        (rounds_tree session.old (objects_of ⟦<dyn Extension as Extension>⟧ extensions.old)) result finished }
 {
     loop {
-        if let Round::Ended(finish) = run_round(alloc, world, session)? {
+        if let Round::Ended(finish) = run_round(alloc, world, session, extensions)? {
             return Ok(finish);
         }
     }
 }
 
 /// Runs a session in which no procedure runs yet: the first device is accessed, and lines are run.
-pub fn play<W: World>(alloc: Global, world: &mut W, session: &mut Session) -> Result<Finish, End>
+pub fn play<W: World>(
+    alloc: Global,
+    world: &mut W,
+    session: &mut Session,
+    extensions: &mut ExtList,
+) -> Result<Finish, End>
     requires usable { IsUsable (spot W.World world.old session.old.state) }
     requires offset { IsOffset session.old.state.offset }
     requires idle { procedures_of session.old ≡ [] }
-    ensures { Acts (spot W.World world.old session.old.state) (spot W.World world.new session.new.state)
-        (session_tree session.old.state) result finished }
+    ensures { Acts (spot_with W.World world.old session.old.state (objects_of ⟦<dyn Extension as Extension>⟧ extensions.old))
+        (spot_with W.World world.new session.new.state (objects_of ⟦<dyn Extension as Extension>⟧ extensions.new))
+        (session_tree session.old.state (objects_of ⟦<dyn Extension as Extension>⟧ extensions.old)) result finished }
 {
     access_first(alloc, world, &mut session.state)?;
-    run_lines(alloc, world, session)
+    run_lines(alloc, world, session, extensions)
 }

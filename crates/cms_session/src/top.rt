@@ -4,6 +4,7 @@ ghost use Rattle.cms_fields.specs.Offsets.{IsOffset};
 ghost use Rattle.cms_search.specs.Calls.{Usable, first_state};
 ghost use Rattle.cms_search.specs.Tables.{HaveDistinctDevices, new_table};
 ghost use Rattle.cms_world.specs.Seen.{seen};
+ghost use Rattle.cms_ext.specs.Objects.{objects_of};
 ghost use Rattle.cms_session.specs.Headline.{first_console, fresh};
 ghost use Rattle.cms_session.specs.Sessions.{FitsWords, HasRoom, RunsNone, RunsOn, SessionIn, WorldCause, refusal_of, status_at, status_of};
 ghost use Rattle.cms_words.specs.declared.fault.WordFault.{WordFault};
@@ -13,6 +14,7 @@ ghost use Rattle.cms_session.specs.Words.{AreUnits, Asked, Runs, asked_of, given
 use crate::attaching::attach_all;
 use crate::session::play;
 use crate::status::Status;
+use cms_ext::{ExtList, Extension};
 use cms_generator::script;
 use cms_line::Console;
 use cms_rounds::{Finish, Session};
@@ -70,11 +72,17 @@ fn first_state(alloc: Global, words: &Words, units: UnitList) -> Result<State, A
 }
 
 // A session on units that were attached.
-fn run_on<W: World>(alloc: Global, world: &mut W, words: &Words, units: UnitList) -> Status
+fn run_on<W: World>(
+    alloc: Global,
+    world: &mut W,
+    words: &Words,
+    units: UnitList,
+    extensions: ExtList,
+) -> Status
     requires usable { Usable (W.told world.old) (new_table units) }
     requires distinct { HaveDistinctDevices units }
     requires offset { IsOffset words.now.offset }
-    ensures ran { RunsOn units words.now (seen W.World world.old) (seen W.World world.new) result }
+    ensures ran { RunsOn units words.now (objects_of ⟦<dyn Extension as Extension>⟧ extensions) (seen W.World world.old) (seen W.World world.new) result }
     ensures no_usage { (fault : WordFault) → result ≢ Status.Usage fault }
     ensures cause { WorldCause (seen W.World world.old) (seen W.World world.new) result }
 {
@@ -85,24 +93,25 @@ fn run_on<W: World>(alloc: Global, world: &mut W, words: &Words, units: UnitList
         state,
         procedures: Stack::new(alloc),
     };
-    match play(alloc, world, &mut session) {
+    let mut extensions = extensions;
+    match play(alloc, world, &mut session, &mut extensions) {
         Ok(finish) => status_of(finish),
         Err(end) => status_at(end),
     }
 }
 
 // The session that the words ask for.
-fn run_words<W: World>(alloc: Global, world: &mut W, words: &Words) -> Status
+fn run_words<W: World>(alloc: Global, world: &mut W, words: &Words, extensions: ExtList) -> Status
     requires units { AreUnits words.now.units }
     requires offset { IsOffset words.now.offset }
     requires room { HasRoom (W.told world.old) }
     ensures headline { W.told world.old ≡ Some (fresh [])
-        → SessionIn (asked_of words.now) (seen W.World world.old) (seen W.World world.new) result }
+        → SessionIn (asked_of words.now) (objects_of ⟦<dyn Extension as Extension>⟧ extensions) (seen W.World world.old) (seen W.World world.new) result }
     ensures no_usage { (fault : WordFault) → result ≢ Status.Usage fault }
     ensures cause { WorldCause (seen W.World world.old) (seen W.World world.new) result }
 {
     match attach_all(alloc, world, words.units.as_slice()) {
-        Ok(units) => run_on(alloc, world, words, units),
+        Ok(units) => run_on(alloc, world, words, units, extensions),
         Err(end) => status_at(end),
     }
 }
@@ -113,14 +122,37 @@ fn run_words<W: World>(alloc: Global, world: &mut W, words: &Words) -> Status
 /// isn't touched; else the units are attached in their order, 1 to 16, and where one is device 191 and has a volume this is accessed as
 /// disk A, without a message. Then lines are run, and the statements of the procedures that they begin, each for a turn, as many as `-t`
 /// says and else 1,000,000. Lines of the program stack come first, then those of the script. A line whose first word has a procedure runs
-/// it, as `EXEC` does, and up to 50 run one in another. Else the commands are `ACCESS`, `RELEASE`, `FORMAT`, `QUERY`, `LISTFILE`, `STATE`,
-/// `TYPE`, `ERASE`, `RENAME`, `COPYFILE` and `EXECIO`; where a device fails in them, message 105 says so. `FORMAT`, `ERASE`, `RENAME`,
-/// `COPYFILE`, `EXECIO` with `DISKW` and `LISTFILE` with `EXEC` write to the unit where it is attached so that it may be written, with the
-/// stamp of their turn in the zone of `-z`. With `-g` the script is the generated one of that number, and the world isn't read. A told
-/// journal must have at most 240 units.
+/// it, as `EXEC` does, and up to 50 run one in another. Else the extension of that word answers the line, which may be a command's word
+/// too. Else the commands are `ACCESS`, `RELEASE`, `FORMAT`, `QUERY`, `LISTFILE`, `STATE`, `TYPE`, `ERASE`, `RENAME`, `COPYFILE`,
+/// `EXECIO`, `NUCXDROP` and `NUCXMAP`; where a device fails in them, message 105 says so. `FORMAT`, `ERASE`, `RENAME`, `COPYFILE`,
+/// `EXECIO` with `DISKW`, `LISTFILE` with `EXEC` and an extension write to the unit where it is attached so that it may be written, with
+/// the stamp of their turn in the zone of `-z`. With `-g` the script is the generated one of that number, and the world isn't read. A
+/// told journal must have at most 240 units.
 ///
 /// - In a world that tells its journal, with no unit and no event yet, the session is a run of the machine of minidisks as lists
-///   of named record lists, and a crash at any moment leaves a state that the machine has there.
+///   of named record lists, in which each extension is asked as an object that holds what it held and may do what its `does` allows; a
+///   crash at any moment leaves a state that the machine has there.
+/// - `Usage` comes exactly where the words are refused, but for want of memory.
+/// - `World` comes only where the count of the console, the clock and the attaching rose in this call.
+pub fn run_with<W: World>(alloc: Global, words: &Argv, world: &mut W, extensions: ExtList) -> Status
+    requires room { HasRoom (W.told world.old) }
+    ensures words { FitsWords (read_words words.now) result }
+    ensures no_memory { result ≢ Status.Usage Memory }
+    ensures refused { RunsNone (read_words words.now)
+        → seen W.World world.new ≡ seen W.World world.old }
+    ensures headline { (spec : Asked) → read_words words.now ≡ Runs spec → W.told world.old ≡ Some (fresh [])
+        → SessionIn spec (objects_of ⟦<dyn Extension as Extension>⟧ extensions) (seen W.World world.old) (seen W.World world.new) result }
+    ensures cause { WorldCause (seen W.World world.old) (seen W.World world.new) result }
+{
+    match read_words(alloc, words) {
+        Ok(words) => run_words(alloc, world, &words, extensions),
+        Err(fault) => refusal(fault),
+    }
+}
+
+/// Runs a session without extensions, as `run_with` of none.
+///
+/// - In a world that tells its journal, with no unit and no event yet, the session is a run of the machine without objects.
 /// - `Usage` comes exactly where the words are refused, but for want of memory.
 /// - `World` comes only where the count of the console, the clock and the attaching rose in this call.
 pub fn run<W: World>(alloc: Global, words: &Argv, world: &mut W) -> Status
@@ -130,11 +162,8 @@ pub fn run<W: World>(alloc: Global, words: &Argv, world: &mut W) -> Status
     ensures refused { RunsNone (read_words words.now)
         → seen W.World world.new ≡ seen W.World world.old }
     ensures headline { (spec : Asked) → read_words words.now ≡ Runs spec → W.told world.old ≡ Some (fresh [])
-        → SessionIn spec (seen W.World world.old) (seen W.World world.new) result }
+        → SessionIn spec [] (seen W.World world.old) (seen W.World world.new) result }
     ensures cause { WorldCause (seen W.World world.old) (seen W.World world.new) result }
 {
-    match read_words(alloc, words) {
-        Ok(words) => run_words(alloc, world, &words),
-        Err(fault) => refusal(fault),
-    }
+    run_with(alloc, words, world, ExtList::new(alloc))
 }

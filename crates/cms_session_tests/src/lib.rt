@@ -13,6 +13,10 @@ mod erase_tests;
 #[cfg(test)]
 mod execio_tests;
 #[cfg(test)]
+mod extension_tests;
+#[cfg(test)]
+mod extensions;
+#[cfg(test)]
 mod fault_tests;
 #[cfg(test)]
 mod file_tests;

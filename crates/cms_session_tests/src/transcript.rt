@@ -1,5 +1,5 @@
 // Transcripts, and whether sessions are as these say.
-use crate::session::ended;
+use crate::session::ended_with;
 use crate::volumes::{WORDS, YEAR_2000, image, world_at};
 use cms_cases::written_out;
 use cms_images::image_left;
@@ -7,11 +7,12 @@ use cms_world::MemWorld;
 use std::alloc::{AllocError, Global};
 use std::test::Fail;
 
-/// A session as it should be: the script, and what is typed.
+/// A session as it should be: the script, what is typed, and the words under which it is handed extensions.
 #[derive(Drop)]
 pub struct Transcript {
     pub script: String,
     pub typed: String,
+    pub handed: String,
 }
 
 // A text with a line behind it.
@@ -23,10 +24,12 @@ fn push_line(text: &mut String, line: &str) -> Result<(), AllocError> {
 impl Transcript {
     /// What a text says: a line behind a sign for more is one of the script, and behind two of them the script's end, which no line feed
     /// ends. Behind an at sign stands the name of a procedure, and behind a bar each of its lines, which a line of the script writes, with
-    /// its ready line. The others are typed, but for those that tell of the session itself.
+    /// its ready line. Behind a plus sign stand the words of extensions. The others are typed, but for those that tell of the session
+    /// itself.
     pub fn of(alloc: Global, text: &str) -> Result<Transcript, AllocError> {
         let mut script = String::new(alloc);
         let mut typed = String::new(alloc);
+        let mut handed = String::new(alloc);
         let mut procedure = "";
         for line in text.lines() {
             if let Some(name) = line.strip_prefix("@ ") {
@@ -37,6 +40,8 @@ impl Transcript {
                 }
                 push_line(&mut script, text)?;
                 push_line(&mut typed, "R;")?;
+            } else if let Some(words) = line.strip_prefix("+ ") {
+                handed.push_str(words)?;
             } else if let Some(asked) = line.strip_prefix("> ") {
                 push_line(&mut script, asked)?;
             } else if let Some(last) = line.strip_prefix(">> ") {
@@ -45,7 +50,11 @@ impl Transcript {
                 push_line(&mut typed, line)?;
             }
         }
-        Ok(Transcript { script, typed })
+        Ok(Transcript {
+            script,
+            typed,
+            handed,
+        })
     }
 }
 
@@ -124,7 +133,7 @@ pub fn differs(
     transcript: &Transcript,
     ending: &str,
 ) -> Result<String, AllocError> {
-    let status = ended(alloc, words, world)?;
+    let status = ended_with(alloc, words, &transcript.handed, world)?;
     let calls = text_of(world.calls());
     let told = format!(in alloc; "{status:?} {calls} {} {} ", world.units(), world.events())?;
     if ends_as(&told, ending) && world.typed() == transcript.typed.as_bytes() {

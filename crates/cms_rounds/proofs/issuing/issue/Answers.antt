@@ -1,8 +1,8 @@
 use Rattle.std.proofs.Common.{sym, ◌∙◌}
 use Rattle.std.proofs.lemmas.Result.{err_from_is_err_and}
-use Rattle.cms_search.specs.Calls.{spot}
 use Rattle.cms_search.proofs.Acts.{comes_none, no_memory}
-use Rattle.cms_rounds.specs.Calls.{issue_tree, issued_of}
+use Rattle.cms_world.specs.Seen.{seen}
+use Rattle.cms_rounds.proofs.Alone.{standing}
 use Rattle.cms_rounds.proofs.Requests.{comment_issued, words_issued}
 use Rattle.cms_rounds.proofs.issuing.issue.Goals as goal
 
@@ -10,17 +10,16 @@ pub returns-then-is_comment-clause-acts : goal.returns-then-is_comment-clause-ac
 returns-then-is_comment-clause-acts g c =
     let value = c.bytes.ensures.bytes in
     let told = rw value at c.is_comment.ensures in
-    comment_issued (spot g.W.World c.args.world.now c.args.state.now) c.args.running c.args.line.now (sym told ∙ c.if-is_comment.true)
+    comment_issued _ (standing _ (seen g.W.World c.args.world.now) c.args.state.now) c.args.running c.args.line.now (sym told ∙ c.if-is_comment.true)
 
 pub returns-in_err-words-clause-acts : goal.returns-in_err-words-clause-acts
 returns-in_err-words-clause-acts g c =
     let p = err_from_is_err_and c.from_residual.result c.from_residual.ensures.1 in
-    let tree = issue_tree c.args.state.now c.args.running c.args.line.now in
-    rw (p.1, p.2) (no_memory _ _ tree tree (issued_of c.args.state.now) (comes_none _ tree))
+    rw (p.1, p.2) (no_memory _ _ _ _ _ (comes_none _ _))
 
 pub returns-clause-acts : goal.returns-clause-acts
 returns-clause-acts g c =
     let value = c.bytes.ensures.bytes in
     let told = rw value at c.is_comment.ensures in
-    words_issued (spot g.W.World c.args.world.now c.args.state.now) _ c.args.running c.args.line.now c.in_ok-words.words _ (sym told ∙ c.if-is_comment.false) c.in_ok-words.ensures
-    c.request.ensures.acts
+    words_issued _ _ (standing _ (seen g.W.World c.args.world.now) c.args.state.now) _ c.args.running c.args.line.now c.in_ok-words.words _
+    (sym told ∙ c.if-is_comment.false) c.in_ok-words.ensures c.obey.ensures.acts

@@ -1,6 +1,7 @@
 use Rattle.std.proofs.Common.{◌∙◌, sym}
 use Rattle.std.proofs.lemmas.Result.{err_from_is_err_and}
-use Rattle.cms_search.specs.Calls.{spot}
+use Rattle.cms_world.specs.Seen.{seen}
+use Rattle.cms_rounds.proofs.Alone.{standing}
 use Rattle.cms_rounds.proofs.Statements.{comment_so, line_off, line_so}
 use Rattle.cms_rounds.proofs.round.run_line.Goals as goal
 
@@ -8,7 +9,7 @@ pub returns-then-is_comment-clause-acts : goal.returns-then-is_comment-clause-ac
 returns-then-is_comment-clause-acts g c =
     let value = c.bytes.ensures.bytes in
     let told = rw value at c.is_comment.ensures in
-    comment_so (spot g.W.World c.args.world.now c.args.session.now.state) c.args.session.now.procedures c.args.line.now (sym told ∙ c.if-is_comment.true)
+    comment_so _ (standing _ (seen g.W.World c.args.world.now) c.args.session.now.state) c.args.session.now.procedures c.args.line.now (sym told ∙ c.if-is_comment.true)
 
 pub returns-in_err-issued-clause-acts : goal.returns-in_err-issued-clause-acts
 returns-in_err-issued-clause-acts g c =
@@ -18,7 +19,7 @@ returns-in_err-issued-clause-acts g c =
     let s = c.args.session.now in
     let running = c.len-running.ensures in
     let acts = rw running at c.in_err-issued.ensures.acts in
-    rw (p.1, p.2) (line_off (spot g.W.World c.args.world.now s.state) s.procedures c.args.line.now (sym told ∙ c.if-is_comment.false) _ _ s.procedures acts)
+    rw (p.1, p.2) (line_off _ _ (standing _ (seen g.W.World c.args.world.now) s.state) s.procedures c.args.line.now (sym told ∙ c.if-is_comment.false) _ _ s.procedures acts)
 
 pub returns-clause-acts : goal.returns-clause-acts
 returns-clause-acts g c =
@@ -27,4 +28,4 @@ returns-clause-acts g c =
     let s = c.args.session.now in
     let running = c.len-running.ensures in
     let acts = rw running at c.in_ok-issued.ensures.acts in
-    line_so (spot g.W.World c.args.world.now s.state) s.procedures c.args.line.now (sym told ∙ c.if-is_comment.false) _ _ c.in_ok-issued.issued _ _ acts c.answer.ensures.acts
+    line_so _ _ (standing _ (seen g.W.World c.args.world.now) s.state) s.procedures c.args.line.now (sym told ∙ c.if-is_comment.false) _ _ c.in_ok-issued.issued _ _ acts c.answer.ensures.acts

@@ -1,0 +1,194 @@
+// Sessions with extensions, as transcripts.
+use crate::extensions::push;
+use crate::transcript::{check_sessions, passed};
+use cms_ext::ExtList;
+use std::alloc::{AllocError, Global};
+use std::test::Fail;
+
+const TALLIES: &str = "# a tally is asked and dropped
++ TALLY
+> TALLY
+TALLY 1
+R;
+> tally again
+TALLY 2
+R;
+> NUCXMAP
+TALLY
+R;
+> NUCXDROP TALLY
+R;
+> TALLY
+CMS001E Unknown command TALLY
+R(-0003);
+> NUCXMAP
+R;
+> NUCXDROP TALLY
+CMS122E Extension TALLY does not exist
+R(00028);
+# operands
++ TALLY TYPE
+> NUCXDROP NONE
+CMS122E Extension NONE does not exist
+R(00028);
+> NUCXDROP
+CMS054E Operand is missing
+R(00024);
+> NUCXDROP TALLY TALLY
+CMS070E Operand TALLY is not valid
+R(00024);
+> NUCXDROP A!
+CMS062E Name A! is not valid
+R(00020);
+> NUCXDROP TALLY (ALL
+CMS003E Option ALL is not valid
+R(00024);
+> NUCXMAP X
+CMS070E Operand X is not valid
+R(00024);
+> NUCXMA
+CMS001E Unknown command NUCXMA
+R(-0003);
+> nucxmap
+TALLY
+TYPE
+R;
+# a command is hidden by an extension, also NUCXDROP
++ TYPE NUCXDROP
+> TYPE HELLO TEXT
+TALLY 1
+R;
+> NUCXDROP TYPE
+TALLY 1
+R;
+# each has a count of its own, also behind one that was dropped
++ A B C
+> B
+TALLY 1
+R;
+> NUCXDROP A
+R;
+> C
+TALLY 1
+R;
+> B
+TALLY 2
+R;
+> NUCXMAP
+B
+C
+R;
+# a procedure drops it
++ TALLY
+@ P
+| &TRACE OFF
+| TALLY
+| NUCXDROP TALLY
+| TALLY
+| &EXIT &RC
+> P
+TALLY 1
+CMS001E Unknown command TALLY
+R(-0003);
+# a procedure comes first where CMS takes the line
++ TALLY
+@ TALLY
+| &TRACE OFF
+| &TYPE THE PROCEDURE
+| TALLY
+> TALLY
+THE PROCEDURE
+TALLY 1
+R;
+";
+
+const ASKING: &str = "# lines are asked for
++ NOTE
+> NOTE
+> One
+One
+> Two
+Two
+> END
+R(00007);
+> NOTE
+> Three
+Three
+R(00007);
+# hello
++ NOTE
+@ P
+| &TRACE OFF
+| EXECIO 1 DISKR HELLO TEXT A
+| NOTE
+| &TYPE &RC
+> P
+HELLO
+> END
+7
+R;
+# no turn is left for the third reply: -t 3 191,512,rw,A
++ NOTE
+> NOTE
+> One
+One
+> Two
+! Turns
+";
+
+const FILES: &str = "# hello
++ CARRY
+> CARRY HELLO TEXT A COPY TEXT A
+R;
+> TYPE COPY TEXT A
+HELLO
+WORLD
+R;
+> CARRY HELLO TEXT A COPY TEXT A
+R;
+> CARRY NONE TEXT A COPY TEXT A
+CMS002E File NONE TEXT A not found
+R(00028);
+> CARRY HELLO TEXT C COPY TEXT A
+CMS069E Disk C is not accessed
+R(00036);
+> CARRY HELLO TEXT A COPY TEXT C
+CMS069E Disk C is not accessed
+R(00036);
+# hello: 191,512,ro,A
++ CARRY
+> CARRY HELLO TEXT A COPY TEXT A
+CMS037E Disk A is read-only
+R(00036);
+# full + hello
++ CARRY
+> ACCESS 192 B
+R;
+> CARRY HELLO TEXT B COPY TEXT A
+R(00100);
+";
+
+#[test]
+fn extensions_answer_their_lines(rt: HostRuntime) -> Result<(), Fail> {
+    check_sessions(rt.alloc(), TALLIES)?;
+    check_sessions(rt.alloc(), ASKING)?;
+    check_sessions(rt.alloc(), FILES)
+}
+
+// Whether a word is taken once.
+fn taken_once(alloc: Global) -> Result<bool, AllocError> {
+    let mut extensions = ExtList::new(alloc);
+    let first = push(alloc, &mut extensions, "TALLY")?;
+    let second = push(alloc, &mut extensions, "TALLY")?;
+    Ok(first && !second && extensions.len() == 1)
+}
+
+#[test]
+fn a_second_tally_comes_back(rt: HostRuntime) -> Result<(), Fail> {
+    let told = if taken_once(rt.alloc())? {
+        ""
+    } else {
+        "taken twice"
+    };
+    passed(String::from_str(rt.alloc(), told)?)
+}
