@@ -12,21 +12,25 @@ const ROWS: &[(Lists, &str)] = &[(
     Lists,
     "ABabc => ..01- AB
 ABCA1acA0c => ...!.01!.0 C
-a => - ",
+aA => -. A",
 )];
 
 // The lists that rows are of.
 #[derive(Clone, Copy)]
 struct Lists;
 
-// Hands a Tally in.
-fn push(alloc: Global, list: &mut ExtList, word: Part) -> Result<char, AllocError> {
-    let tally: Box<dyn Extension> = Box::new(alloc, Tally::new())?;
-    match list.push(word, tally) {
-        Ok(()) => Ok('.'),
-        Err(PushExt::Twice(_)) => Ok('!'),
-        Err(PushExt::Memory(_)) => Ok('?'),
+// What comes of handing an object in.
+fn pushed(came: &Result<(), PushExt>) -> char {
+    match came {
+        Ok(()) => '.',
+        Err(PushExt::Twice(_)) => '!',
+        Err(PushExt::Memory(_)) => '?',
     }
+}
+
+// The word of a letter.
+fn word_of(letter: u8) -> Option<Part> {
+    Part::read(&coded(&[letter.to_ascii_uppercase()])).ok()
 }
 
 // Asks for the place of a word, below 10.
@@ -47,21 +51,6 @@ fn drop_at(list: &mut ExtList, place: u32) -> char {
     }
 }
 
-// What comes of a step.
-fn step(alloc: Global, list: &mut ExtList, step: u8) -> Result<char, AllocError> {
-    if step.is_ascii_digit() {
-        return Ok(drop_at(list, u32::from(step - b'0')));
-    }
-    let Ok(word) = Part::read(&coded(&[step.to_ascii_uppercase()])) else {
-        return Ok('?');
-    };
-    if step.is_ascii_uppercase() {
-        push(alloc, list, word)
-    } else {
-        Ok(find(list, &word))
-    }
-}
-
 // Adds the words in their order.
 fn push_words(into: &mut String, list: &ExtList) -> Result<(), AllocError> {
     for place in 0..list.len() as u32 {
@@ -71,11 +60,20 @@ fn push_words(into: &mut String, list: &ExtList) -> Result<(), AllocError> {
 }
 
 impl Subject for Lists {
+    // Objects are boxed and handed in here, where neither a list nor a box comes from the caller.
     fn answer(&self, alloc: Global, case: &str) -> Result<String, AllocError> {
         let mut list = ExtList::new(alloc);
         let mut found = String::new(alloc);
         for byte in case.as_bytes() {
-            found.push(step(alloc, &mut list, *byte)?)?;
+            let came = match word_of(*byte) {
+                Some(word) if byte.is_ascii_uppercase() => {
+                    let tally: Box<dyn Extension> = Box::new(alloc, Tally::new())?;
+                    pushed(&list.push(word, tally))
+                }
+                Some(word) if byte.is_ascii_lowercase() => find(&list, &word),
+                _ => drop_at(&mut list, u32::from(byte.saturating_sub(b'0'))),
+            };
+            found.push(came)?;
         }
         found.push(' ')?;
         push_words(&mut found, &list)?;
