@@ -194,7 +194,7 @@ R;
 
 // The first write of the erasure fails: the volume is as it was.
 const FAILED: &str = "# once: 191,512,rw,A
-^ 10
+^ 12
 > TYPE P FILE A
 X
 Y
