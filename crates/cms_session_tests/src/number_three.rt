@@ -34,11 +34,11 @@ K        FILE     A4
 W        FILE     A3
 R;
 > TYPE W FILE A 1 2
-ONE
-TWO
+ONE{ *2}
+TWO{ *2}
 R;
 > TYPE W FILE A 2 3
-TWO
+TWO{ *2}
 THREE
 R;
 > LISTFILE * * A
