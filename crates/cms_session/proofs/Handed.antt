@@ -38,7 +38,7 @@ splits_at : (p q : Point) (front : List Beat) (b : Beat) (rest : List Beat) → 
 splits_at p q [] b rest chain = record { before = p; after = chain.0; ahead = refl; beat = chain.1; behind = chain.2 }
 splits_at p q (a ∷ front) b rest chain =
     let x = splits_at chain.0 q front b rest chain.2 in
-    record { before = x.before; after = x.after; ahead = (chain.0, (chain.1, x.ahead)); beat = x.beat; behind = x.behind }
+    record { before = x.before; after = x.after; ahead = (chain.0, chain.1, x.ahead); beat = x.beat; behind = x.behind }
 
 at_place : (os : List Object) (n : ℕ) → n < length os → (o : Object) × (slice_get os n ≡ Some o)
 at_place [] n less = absurd (omega (arith, less))
