@@ -115,11 +115,11 @@ R(00007);
 > Three
 Three
 R(00007);
-# hello
+# a stacked line comes before the console's
 + NOTE
 @ P
 | &TRACE OFF
-| EXECIO 1 DISKR HELLO TEXT A
+| &STACK HELLO
 | NOTE
 | &TYPE &RC
 > P

@@ -20,4 +20,4 @@ returns-in_err-say g c =
     rw (p.1, p.2) (one_off _ _ _ _ c.loop-place.place _ _ c.word.ensures c.loop-place.invariant said)
 
 pub returns : goal.returns
-returns g c = all_said _ _ _ c.loop-place.place tt (words_typed _ c.len-place-end.result c.loop-place.place c.len-place-end.ensures c.loop-place-test.false) c.loop-place.invariant
+returns g c = all_said _ _ _ c.loop-place.place tt (words_typed _ c.len-place-end.result c.loop-place.place c.len-place-end.ensures.length c.loop-place-test.false) c.loop-place.invariant
