@@ -126,8 +126,8 @@ fn run_words<W: World>(alloc: Global, world: &mut W, words: &Words, extensions: 
 /// too. Else the commands are `ACCESS`, `RELEASE`, `FORMAT`, `QUERY`, `LISTFILE`, `STATE`, `TYPE`, `ERASE`, `RENAME`, `COPYFILE`,
 /// `EXECIO`, `NUCXDROP` and `NUCXMAP`; where a device fails in them, message 105 says so. `FORMAT`, `ERASE`, `RENAME`, `COPYFILE`,
 /// `EXECIO` with `DISKW`, `LISTFILE` with `EXEC` and an extension write to the unit where it is attached so that it may be written, with
-/// the stamp of their turn in the zone of `-z`. With `-g` the script is the generated one of that number, and the world isn't read. A
-/// told journal must have at most 240 units.
+/// the stamp of their turn in the zone of `-z`; so do `TYPE` and `EXECIO` with `DISKR` where they erase a file of mode number 3. With
+/// `-g` the script is the generated one of that number, and the world isn't read. A told journal must have at most 240 units.
 ///
 /// - In a world that tells its journal, with no unit and no event yet, the session is a run of the machine of minidisks as lists
 ///   of named record lists, in which each extension is asked as an object that holds what it held and may do what its `does` allows; a
