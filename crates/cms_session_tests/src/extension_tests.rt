@@ -187,6 +187,14 @@ R(00100);
 > STATE COPY TEXT A
 CMS002E File COPY TEXT A not found
 R(00028);
+# hello
++ HEAP
+> HEAP LONG TEXT A
+CMS120E Limit 3 reached
+R(00040);
+> STATE LONG TEXT A
+CMS002E File LONG TEXT A not found
+R(00028);
 ";
 
 #[test]

@@ -1,5 +1,5 @@
-// Extensions for tests. NOTE asks for lines and types them, up to END or an empty one. CARRY copies a file, as in `CARRY A TEXT A B TEXT A`. Any other word
-// has a tally of its own.
+// Extensions for tests. NOTE asks for lines and types them, up to END or an empty one. CARRY copies a file, as in `CARRY A TEXT A B TEXT A`. HEAP writes
+// one that is too long. Any other word has a tally of its own.
 ghost use Rattle.std.specs.Prelude.{◌≡◌, ◌<◌, IfOk, IfSome};
 ghost use Rattle.cms_ext.specs.Replies.{MayBe};
 
@@ -134,11 +134,56 @@ impl Extension for Carry {
     }
 }
 
+/// Writes a file of more bytes than a file may have, as in `HEAP A TEXT A`.
+#[derive(Drop)]
+struct Heap {}
+
+// So many of the longest records are more than a file holds.
+const TOO_MANY: usize = 1025;
+
+const LONGEST: usize = 65_535;
+
+impl Heap {
+    // The file that a line names gets them.
+    fn start(&self, alloc: Global, line: &Line) -> Result<ExtWant, AllocError>
+        ensures { IfOk result MayBe }
+    {
+        let words = tokens(alloc, line)?;
+        let Some(to) = place_at(&words, 1) else {
+            return Ok(ExtWant::Done(UNKNOWN));
+        };
+        let blanks = vec![in alloc; 0x40; LONGEST]?;
+        let mut records = Records::new(alloc);
+        for _ in 0..TOO_MANY {
+            records.push(Record::of(alloc, &blanks)?)?;
+        }
+        if records.len() == 0 {
+            return Ok(ExtWant::Done(UNKNOWN));
+        }
+        Ok(ExtWant::Put(to.name, to.letter, records))
+    }
+}
+
+impl Extension for Heap {
+    ghost content = { λ h. Rattle.std.specs.Prelude.[] };
+
+    ghost does = { λ before reply want after. Rattle.std.specs.Prelude.true };
+
+    fn turn(&mut self, alloc: Global, reply: &ExtReply) -> Result<ExtWant, AllocError> {
+        match reply {
+            ExtReply::Start(line) => self.start(alloc, line),
+            ExtReply::Refused(40) => Ok(ExtWant::Done(40)),
+            _ => Ok(ExtWant::Done(UNKNOWN)),
+        }
+    }
+}
+
 /// Hands an extension in under a word; false where it comes back.
 pub fn push(alloc: Global, extensions: &mut ExtList, word: &str) -> Result<bool, AllocError> {
     let object: Box<dyn Extension> = match word {
         "NOTE" => Box::new(alloc, Note {})?,
         "CARRY" => Box::new(alloc, Carry { to: None })?,
+        "HEAP" => Box::new(alloc, Heap {})?,
         _ => Box::new(alloc, Tally::new())?,
     };
     match Part::read(&ebcdic(alloc, word)?) {
