@@ -10,5 +10,7 @@ pub mod Lifting
 pub mod Stepping
 pub mod Totals
 pub mod Own
+pub mod Resuming
 pub mod Pathing
 mod PathRows
+mod ResumeRows

@@ -1,7 +1,7 @@
 -- All leaves of a climb: each pointer block is complete with one of them.
-use Rattle.std.proofs.Common.{Bool, ◌≡◌, ◌⊎◌, inl, inr, ⊎_elim, ℕ, zero, suc, ◌+◌, ◌-◌, ◌*◌, ◌/◌, ◌%◌, ◌<◌, ◌≤◌, cond, eqb, true, false, List, [], ◌∷◌, ◌++◌, length, get_or, map, All, refl, sym, ◌∙◌, ap, subst, arith, div-add-mod', mod-lt, append-nil}
+use Rattle.std.proofs.Common.{Bool, ◌≡◌, ◌⊎◌, inl, inr, ⊎_elim, ℕ, zero, suc, ◌+◌, ◌/◌, ◌%◌, ◌<◌, ◌≤◌, cond, eqb, true, false, List, [], ◌∷◌, ◌++◌, length, get_or, map, All, refl, sym, ◌∙◌, ap, subst, arith, div-add-mod', mod-lt}
 use Rattle.std.proofs.Math.Nat.{zero-div}
-use Rattle.std.proofs.lemmas.Bool.{cases_lt, cases_eq, cases_Bool, cond-true, cond-false, eq-eqb, ne_eqb}
+use Rattle.std.proofs.lemmas.Bool.{cases_eq, cases_Bool, cond-true, cond-false, eq-eqb, ne_eqb}
 use Rattle.std.proofs.lemmas.List.{map-append}
 use Rattle.std.proofs.lemmas.List.Elements.{All-nil, All-cons, All-append, All-head, All-tail, All-weaker}
 use Rattle.cms_fields.specs.Numbers.{up}
@@ -13,10 +13,9 @@ use Rattle.cms_model.specs.LawsUpdates.{put_block, put_blocks}
 use Rattle.cms_model.proofs.Quotients.{up_unique, up_some}
 use Rattle.cms_model.proofs.Repeats.{times_append}
 use Rattle.cms_tree.specs.declared.types.Mark.{Mark}
-use Rattle.cms_tree.specs.Builds.{IsBuildable, HasNodes, node_at}
 use Rattle.cms_tree.specs.Levels.{over_count}
 use Rattle.cms_tree.specs.Tiers.{complete_from, ends_group, node_write}
-use Rattle.cms_tree.specs.Climbs.{climb_writes, climbed, IsClimbed, ClimbsAll}
+use Rattle.cms_tree.specs.Climbs.{climb_writes, climbed, ClimbsAll}
 use Rattle.cms_tree.proofs.Lifting.{Ends, ends_is, ends_begins, Goes, goes_is, next_within, group_within, some_fan}
 use Rattle.cms_tree.proofs.Stepping.{over_all}
 

@@ -1,12 +1,12 @@
 -- A tree whose pointer blocks are written while its leaves are.
-use Rattle.std.specs.Prelude.{◌≡◌, ◌⊎◌, ℕ, zero, suc, ◌+◌, ◌/◌, ◌^◌, ◌<◌, ◌≤◌, List, [], ◌∷◌, ◌++◌, length, slice_index, map, All, Result, Ok, Err, ⊤}
+use Rattle.std.specs.Prelude.{◌≡◌, ◌⊎◌, ℕ, zero, suc, ◌/◌, ◌^◌, ◌<◌, ◌≤◌, List, [], ◌∷◌, ◌++◌, length, slice_index, map, All, Result, Ok, Err, ⊤}
 use Rattle.cms_journal.specs.Journal.{HasBlock, IsBlockSize}
 use Rattle.cms_journal.specs.Told.{Told, plus}
 use Rattle.cms_journal.specs.declared.event.Attached.{Attached}
 use Rattle.cms_journal.specs.declared.event.Failed.{Failed}
 use Rattle.cms_model.specs.Lists.{In, times}
 use Rattle.cms_model.specs.Trees.{Image}
-use Rattle.cms_model.specs.Sizes.{levels, pointer_count}
+use Rattle.cms_model.specs.Sizes.{levels}
 use Rattle.cms_model.specs.Settled.{Write, writes}
 use Rattle.cms_model.specs.LawsUpdates.{AddsFront, put_blocks}
 use Rattle.cms_tree.specs.declared.types.Mark.{Mark}

@@ -6,3 +6,4 @@ pub mod Kept
 pub mod Tiers
 pub mod Climbs
 pub mod Paths
+pub mod Resumes

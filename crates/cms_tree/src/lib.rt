@@ -13,4 +13,4 @@ pub use node::{build, build_laws};
 pub use read::{leaves, walk};
 pub use sharing::{left_out, path, path_laws};
 pub use sizes::shape;
-pub use types::{Mark, Shape, TreeAt, TreeFault, Walked};
+pub use types::{Mark, ResumeFault, Shape, TreeAt, TreeFault, Walked};

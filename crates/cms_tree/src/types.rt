@@ -1,6 +1,7 @@
 // What the calls take and give.
 ghost use Rattle.std.specs.Prelude.{◌≡◌};
 ghost use Rattle.cms_tree.specs.declared.types.TreeFault.TheVariants.{Memory};
+ghost use Rattle.cms_tree.specs.declared.types.ResumeFault.TheVariants as resume;
 
 use cms_journal::BlockSize;
 use std::alloc::{AllocError, AllocFailed};
@@ -59,6 +60,23 @@ impl<T: Drop> From<AllocFailed<T>> for TreeFault {
 
     fn from(_: AllocFailed<T>) -> Self {
         TreeFault::Memory
+    }
+}
+
+/// Why a climb was not resumed.
+#[derive(Clone, Copy, Debug)]
+pub enum ResumeFault {
+    /// the device failed
+    Device,
+    /// there is no memory
+    Memory,
+}
+
+impl From<AllocError> for ResumeFault {
+    ghost from_gives = { λ _ e. e ≡ resume.Memory };
+
+    fn from(_: AllocError) -> Self {
+        ResumeFault::Memory
     }
 }
 

@@ -1,16 +1,14 @@
-use Rattle.std.proofs.Common.{◌≡◌, inl, inr, ℕ, zero, suc, ◌+◌, ◌-◌, ◌/◌, ◌≤◌, List, [], ◌∷◌, length, take, drop, Option, IfSome, Some, None, Ok, Err, All, refl, sym, ◌∙◌, ap, subst, arith}
+use Rattle.std.proofs.Common.{◌≡◌, ℕ, suc, ◌+◌, ◌-◌, ◌/◌, ◌≤◌, List, [], ◌∷◌, length, take, drop, Option, IfSome, Some, None, Ok, Err, All, refl, sym, ◌∙◌, ap, subst, arith}
 use Rattle.std.proofs.lemmas.Result.{err_from_is_err_and}
 use Rattle.std.proofs.lemmas.List.{drop-drop, length-drop, length-take, take_all}
 use Rattle.std.proofs.lemmas.List.Elements.{All-head, All-tail, All-cons, All-take, All-drop}
 use Rattle.cms_journal.specs.Journal.{HasBlock, IsWritable}
-use Rattle.cms_journal.specs.declared.event.Attached.{Attached}
 use Rattle.cms_fields.specs.Numbers.{up}
-use Rattle.cms_tree.specs.declared.types.Mark.{Mark}
 use Rattle.cms_tree.specs.declared.climb.Level.{Level}
 use Rattle.cms_tree.specs.declared.climb.Child.{Child}
 use Rattle.cms_tree.specs.Levels.{over_count}
 use Rattle.cms_tree.specs.Kept.{kept_here, kept_above}
-use Rattle.cms_tree.specs.Tiers.{Tier, tier_above, IsTier, IsParent, Stand, Lifts, Rises}
+use Rattle.cms_tree.specs.Tiers.{tier_above, IsTier, IsParent, Stand, Lifts, Rises}
 use Rattle.cms_tree.specs.Climbs.{HasSize, HasEach}
 use Rattle.cms_tree.proofs.Lifting.{some_fan, tier_next}
 use Rattle.cms_tree.proofs.Stepping.{rises_nothing, rises_no_more, rises_on, rises_failed, units_kept}

@@ -1,11 +1,11 @@
-use Rattle.std.proofs.Common.{◌≡◌, inr, ◌≤◌, ℕ, ◌+◌, ◌*◌, ◌/◌, ◌%◌, ◌<◌, List, [], length, get_or, false, true, refl, sym, ◌∙◌, ap, subst, arith}
+use Rattle.std.proofs.Common.{◌≡◌, inr, ◌≤◌, ℕ, ◌/◌, ◌<◌, List, length, get_or, true, refl, sym, ◌∙◌, ap, subst, arith}
 use Rattle.std.specs.Prelude.{replicate}
 use Rattle.std.proofs.lemmas.Result.{err_from_is_err_and}
 use Rattle.std.proofs.lemmas.List.Elements.{All-get_or}
-use Rattle.cms_journal.specs.Journal.{HasBlock, MayAdd}
-use Rattle.cms_journal.specs.Told.{plus, Grown}
+use Rattle.cms_journal.specs.Journal.{HasBlock}
+use Rattle.cms_journal.specs.Told.{plus}
 use Rattle.cms_fields.specs.Numbers.{up}
-use Rattle.cms_tree.specs.Tiers.{Tier, IsTier, ends_group}
+use Rattle.cms_tree.specs.Tiers.{ends_group}
 use Rattle.cms_tree.proofs.Lifting.{Pointed, Stands, some_fan, stands_on, stands_whole, stands_parent, stands_next, stands_ends, may_add_front, group_within}
 use Rattle.cms_tree.proofs.Own.{may_add_own, own_none, in_at}
 use Rattle.cms_tree.proofs.Sums.{div_ceil_is}
