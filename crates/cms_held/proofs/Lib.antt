@@ -28,3 +28,8 @@ pub mod PutSmall
 pub mod DraftOwn
 pub mod NewMap
 pub mod Made
+pub mod BlockBytes
+pub mod SharedBlocks
+pub mod EntryPlaces
+pub mod DirectoryNeed
+mod DirectoryRows

@@ -11,3 +11,6 @@ pub mod LawsEdits
 pub mod Carrying
 pub mod Putting
 pub mod Making
+pub mod SharedBlocks
+pub mod EntryPlaces
+pub mod DirectoryNeed

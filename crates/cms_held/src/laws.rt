@@ -8,6 +8,9 @@ ghost use Rattle.cms_held.specs.Putting.{DraftGoesOn, FreeIsAside, PutIsAnswered
 ghost use Rattle.cms_held.specs.LawsRenewing.{FrontKeepsHeld, UpdateRenews};
 ghost use Rattle.cms_held.specs.Making.{EmptyIsMade, EmptyIsPlaced};
 ghost use Rattle.cms_held.specs.Systems.{MapIsRead, WrittenIsRead};
+ghost use Rattle.cms_held.specs.DirectoryNeed.{DirectoryIsNeeded, PlaceIsNamed};
+ghost use Rattle.cms_held.specs.EntryPlaces.{EditsHavePlaces, EntriesByPlace, PlacesAreEnough};
+ghost use Rattle.cms_held.specs.SharedBlocks.{FreshIsCounted};
 
 /// What opens is held with its trees, and what is held so is the minidisk that it is, with its files and their records in their order;
 /// where each block of its image has its size, it has as many free blocks, and its files are stored so. A name is found in the place
@@ -73,4 +76,20 @@ pub fn put_laws()
 pub fn making_laws()
     ensures placed { EmptyIsPlaced }
     ensures made { EmptyIsMade }
+{}
+
+/// An update that writes a part of the directory and of the map, and shares their other blocks with the volume before. No update does so
+/// yet.
+///
+/// - An entry of the directory is spelled by the 64 bytes at its place in its data block. Where a file goes, is replaced or is added, the
+///   entries outside the data block of its place are those that were there; a new data block is that of the new entry.
+/// - What the directory needs is counted from the minidisk's values alone. It is never more than for a whole directory, and as many blocks
+///   are taken for a tree as the numbers of its data blocks tell.
+pub fn shared_systems_laws()
+    ensures entries { EntriesByPlace }
+    ensures places { EditsHavePlaces }
+    ensures enough { PlacesAreEnough }
+    ensures named { PlaceIsNamed }
+    ensures needed { DirectoryIsNeeded }
+    ensures counted { FreshIsCounted }
 {}

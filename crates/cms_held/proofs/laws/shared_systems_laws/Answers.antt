@@ -1,0 +1,22 @@
+use Rattle.cms_held.proofs.DirectoryNeed.{directory_is_needed, place_is_named}
+use Rattle.cms_held.proofs.EntryPlaces.{edits_have_places, entries_by_place, places_are_enough}
+use Rattle.cms_held.proofs.SharedBlocks.{fresh_is_counted}
+use Rattle.cms_held.proofs.laws.shared_systems_laws.Goals as goal
+
+pub returns-clause-entries : goal.returns-clause-entries
+returns-clause-entries c = entries_by_place
+
+pub returns-clause-places : goal.returns-clause-places
+returns-clause-places c = edits_have_places
+
+pub returns-clause-enough : goal.returns-clause-enough
+returns-clause-enough c = places_are_enough
+
+pub returns-clause-named : goal.returns-clause-named
+returns-clause-named c = place_is_named
+
+pub returns-clause-needed : goal.returns-clause-needed
+returns-clause-needed c = directory_is_needed
+
+pub returns-clause-counted : goal.returns-clause-counted
+returns-clause-counted c = fresh_is_counted

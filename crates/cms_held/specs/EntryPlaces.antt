@@ -1,0 +1,96 @@
+-- The entries of a directory by their places in its data blocks, and the data blocks that an update
+-- of one file writes.
+use Rattle.std.specs.Prelude.{◌≡◌, ◌⊎◌, ◌↔◌, ℕ, suc, ◌+◌, ◌*◌, ◌/◌, ◌%◌, ◌<◌, ◌≤◌, List, ◌∷◌, length, map, take, drop, slice_set, slice_index_or, Ok}
+use Rattle.std.specs.List.{filter, range_with_len}
+use Rattle.cms_journal.specs.Journal.{IsBlockSize}
+use Rattle.cms_fields.specs.Entries.{entry_of}
+use Rattle.cms_fields.specs.Numbers.{up}
+use Rattle.cms_fields.specs.declared.entry.Entry.{Entry}
+use Rattle.cms_model.specs.Lists.{In, cut, holds}
+use Rattle.cms_model.specs.Trees.{Image, bytes_at}
+use Rattle.cms_model.specs.Volumes.{entries_of, holder_of}
+use Rattle.cms_held.specs.Opening.{HeldFile}
+use Rattle.cms_held.specs.Putting.{adding}
+use Rattle.cms_held.specs.Renewing.{dropping, entries_held}
+use Rattle.cms_held.specs.SharedBlocks.{AreLong, MayBeWritten}
+
+-- ---- entries by their places
+
+-- the data block in which the entry of a number stands, from 0; that of the first file has number 2
+abbrev pub entry_block : ℕ → ℕ → ℕ
+entry_block bsize number = number / (bsize / 64)
+
+-- its 64 bytes
+abbrev pub entry_at : ℕ → Image → List ℕ → ℕ → List ℕ
+entry_at bsize image leaves number =
+    take 64 (drop (number % (bsize / 64) * 64) (image (holder_of bsize leaves number)))
+
+-- each entry is spelled by the bytes at its place
+abbrev pub AreSpelled : ℕ → Image → List ℕ → List Entry → Type 0
+AreSpelled bsize image leaves entries = (k : ℕ) (d : Entry) → k < length entries
+    → entry_of bsize (entry_at bsize image leaves (k + 2)) ≡ Ok (slice_index_or entries k d)
+
+-- the data blocks of a directory have these entries of files
+abbrev pub HasEntries : ℕ → Image → List ℕ → List Entry → Type 0
+HasEntries bsize image leaves entries =
+    entries_of bsize 2 (cut (length entries) 64 (drop 128 (bytes_at image leaves))) ≡ Ok entries
+
+-- the entries that are read are those that are spelled so
+abbrev pub EntriesByPlace : Type 0
+EntriesByPlace =
+    (bsize : ℕ) (image : Image) (leaves : List ℕ) (entries : List Entry) → IsBlockSize bsize
+    → AreLong bsize image leaves → 64 * (length entries + 2) ≤ length leaves * bsize
+    → HasEntries bsize image leaves entries ↔ AreSpelled bsize image leaves entries
+
+-- ---- what an update of one file writes
+
+-- the data blocks of a directory of so many files
+abbrev pub directory_count : ℕ → ℕ → ℕ
+directory_count bsize files = up (64 * (files + 2)) bsize
+
+-- of so many data blocks those in which the entries of these numbers stand, ascending and each once
+unfoldable pub blocks_with : ℕ → ℕ → List ℕ → List ℕ
+blocks_with bsize count numbers =
+    filter (holds (map (entry_block bsize) numbers)) (range_with_len 0 count)
+
+-- a list of entries has them where they were but for one place; where it is longer, this is a new
+-- one at its end
+pub record IsChangedAt (olds news : List Entry) (place : ℕ) : Type 0 where
+  pub others : (k : ℕ) (d : Entry) → k < length news → (k ≡ place → ⊥)
+      → slice_index_or news k d ≡ slice_index_or olds k d
+  pub long : (length news ≤ length olds)
+      ⊎ ((length news ≡ suc (length olds)) × (place ≡ length olds))
+
+-- so it is where a file goes, where one takes its place, and where one is added
+pub record EditsAt (files : List HeldFile) (place : ℕ) (old new : HeldFile) : Type 0 where
+  pub gone : IsChangedAt (entries_held files) (entries_held (dropping files place old).files) place
+  pub other : IsChangedAt (entries_held files) (entries_held (slice_set files place new)) place
+  pub added : IsChangedAt (entries_held files) (entries_held (adding files new).files)
+      (length files)
+
+abbrev pub EditsHavePlaces : Type 0
+EditsHavePlaces =
+    (files : List HeldFile) (place : ℕ) (old new : HeldFile) → place < length files
+    → EditsAt files place old new
+
+-- the entries in other data blocks are those that were there
+abbrev pub EntriesStay : ℕ → List ℕ → List Entry → List Entry → Type 0
+EntriesStay bsize written olds news = (k : ℕ) (d : Entry) → k < length news
+    → (In (entry_block bsize (k + 2)) written → ⊥)
+    → (k < length olds) × (slice_index_or news k d ≡ slice_index_or olds k d)
+
+-- these data blocks are enough to be written: they may be, the first is one of them, and the
+-- entries in the others are those that were there
+pub record IsEnoughFor (bsize : ℕ) (olds news : List Entry) (written : List ℕ) : Type 0 where
+  pub may : MayBeWritten (directory_count bsize (length olds)) (directory_count bsize (length news))
+      written
+  pub first : In 0 written
+  pub stay : EntriesStay bsize written olds news
+
+-- so are the first and that of the entry that changes, and any more
+abbrev pub PlacesAreEnough : Type 0
+PlacesAreEnough =
+    (bsize : ℕ) (olds news : List Entry) (place : ℕ) (more : List ℕ) → IsBlockSize bsize
+    → IsChangedAt olds news place
+    → IsEnoughFor bsize olds news
+    (blocks_with bsize (directory_count bsize (length news)) (0 ∷ (place + 2) ∷ more))
