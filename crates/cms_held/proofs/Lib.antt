@@ -30,6 +30,8 @@ pub mod NewMap
 pub mod Made
 pub mod BlockBytes
 pub mod SharedBlocks
+pub mod MapPlaces
 pub mod EntryPlaces
 pub mod DirectoryNeed
 mod DirectoryRows
+pub mod MapShares

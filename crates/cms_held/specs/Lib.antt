@@ -12,5 +12,7 @@ pub mod Carrying
 pub mod Putting
 pub mod Making
 pub mod SharedBlocks
+pub mod MapPlaces
 pub mod EntryPlaces
 pub mod DirectoryNeed
+pub mod MapShares

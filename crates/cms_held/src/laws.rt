@@ -10,6 +10,8 @@ ghost use Rattle.cms_held.specs.Making.{EmptyIsMade, EmptyIsPlaced};
 ghost use Rattle.cms_held.specs.Systems.{MapIsRead, WrittenIsRead};
 ghost use Rattle.cms_held.specs.DirectoryNeed.{DirectoryIsNeeded, PlaceIsNamed};
 ghost use Rattle.cms_held.specs.EntryPlaces.{EditsHavePlaces, EntriesByPlace, PlacesAreEnough};
+ghost use Rattle.cms_held.specs.MapPlaces.{MapByPlace, MapIsShared};
+ghost use Rattle.cms_held.specs.MapShares.{TurnedIsEnough};
 ghost use Rattle.cms_held.specs.SharedBlocks.{FreshIsCounted};
 
 /// What opens is held with its trees, and what is held so is the minidisk that it is, with its files and their records in their order;
@@ -85,6 +87,8 @@ pub fn making_laws()
 ///   entries outside the data block of its place are those that were there; a new data block is that of the new entry.
 /// - What the directory needs is counted from the minidisk's values alone. It is never more than for a whole directory, and as many blocks
 ///   are taken for a tree as the numbers of its data blocks tell.
+/// - The bit of a block stands in one data block of the map. Where those data blocks are written in which the bits of the lowest free
+///   blocks, of the blocks that are given back and of the old map's stand, no bit outside them changes.
 pub fn shared_systems_laws()
     ensures entries { EntriesByPlace }
     ensures places { EditsHavePlaces }
@@ -92,4 +96,7 @@ pub fn shared_systems_laws()
     ensures named { PlaceIsNamed }
     ensures needed { DirectoryIsNeeded }
     ensures counted { FreshIsCounted }
+    ensures bits { MapByPlace }
+    ensures map { MapIsShared }
+    ensures turned { TurnedIsEnough }
 {}

@@ -1,5 +1,7 @@
 use Rattle.cms_held.proofs.DirectoryNeed.{directory_is_needed, place_is_named}
 use Rattle.cms_held.proofs.EntryPlaces.{edits_have_places, entries_by_place, places_are_enough}
+use Rattle.cms_held.proofs.MapPlaces.{map_by_place, map_is_shared}
+use Rattle.cms_held.proofs.MapShares.{turned_is_enough}
 use Rattle.cms_held.proofs.SharedBlocks.{fresh_is_counted}
 use Rattle.cms_held.proofs.laws.shared_systems_laws.Goals as goal
 
@@ -20,3 +22,12 @@ returns-clause-needed c = directory_is_needed
 
 pub returns-clause-counted : goal.returns-clause-counted
 returns-clause-counted c = fresh_is_counted
+
+pub returns-clause-bits : goal.returns-clause-bits
+returns-clause-bits c = map_by_place
+
+pub returns-clause-map : goal.returns-clause-map
+returns-clause-map c = map_is_shared
+
+pub returns-clause-turned : goal.returns-clause-turned
+returns-clause-turned c = turned_is_enough
