@@ -35,3 +35,5 @@ pub mod EntryPlaces
 pub mod DirectoryNeed
 mod DirectoryRows
 pub mod MapShares
+pub mod SharedSystems
+pub mod SystemsHeld

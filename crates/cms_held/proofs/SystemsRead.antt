@@ -41,7 +41,7 @@ use Rattle.cms_held.proofs.PiecesWritten.{has_front, has_behind, pieces_joined, 
 
 -- ---- the entries of files
 
-entries_back : (bsize number : ℕ) (es : List Entry) (zeros : List ℕ) → All (λ e. passes bsize e ≡ true) es → All ReadsBack es
+pub entries_back : (bsize number : ℕ) (es : List Entry) (zeros : List ℕ) → All (λ e. passes bsize e ≡ true) es → All ReadsBack es
     → entries_of bsize number (cut (length es) 64 (file_entries es ++ zeros)) ≡ Ok es
 unfolding entries_of cut file_entries
 entries_back bsize number [] zeros each back = refl
@@ -59,7 +59,7 @@ entries_back bsize number (e ∷ es) zeros each back =
 -- ---- the entries of the directory and of the map
 
 -- what bytes say of a system file
-record Says (size : ℕ) (file : SystemFile) (bytes : List ℕ) : Type 0 where
+pub record Says (size : ℕ) (file : SystemFile) (bytes : List ℕ) : Type 0 where
   form : byte bytes 30 ≡ 0xC6
   size_is : word bytes 32 ≡ size
   root_is : word bytes 40 ≡ file.root
@@ -68,10 +68,10 @@ record Says (size : ℕ) (file : SystemFile) (bytes : List ℕ) : Type 0 where
   levels_is : byte bytes 52 ≡ file.levels
 
 -- its numbers fit in a word
-record Fits (file : SystemFile) : Type 0 where
-  root : file.root < 2 ^ 32
-  blocks : file.blocks < 2 ^ 32
-  count : file.count < 2 ^ 32
+pub record Fits (file : SystemFile) : Type 0 where
+  pub root : file.root < 2 ^ 32
+  pub blocks : file.blocks < 2 ^ 32
+  pub count : file.count < 2 ^ 32
 
 -- the first eight of these letters
 abbrev eight : List ℕ → List ℕ
@@ -81,7 +81,7 @@ eight xs = get_or xs 0 0 ∷ get_or xs 1 0 ∷ get_or xs 2 0 ∷ get_or xs 3 0 �
 abbrev entry_with : ℕ → List ℕ → ℕ → SystemFile → Stamp → List ℕ
 entry_with number letters size file stamp = system_entry (system_name number (eight letters)) size file stamp
 
-entry_says : (number : ℕ) (letters : List ℕ) (size : ℕ) (file : SystemFile) (stamp : Stamp) (rest : List ℕ) → size < 2 ^ 32 → Fits file
+pub entry_says : (number : ℕ) (letters : List ℕ) (size : ℕ) (file : SystemFile) (stamp : Stamp) (rest : List ℕ) → size < 2 ^ 32 → Fits file
     → Says size file (entry_with number letters size file stamp ++ rest)
 unfolding system_entry stamp_bytes word
 entry_says number letters size file stamp rest small fits = record {
@@ -93,7 +93,7 @@ entry_says number letters size file stamp rest small fits = record {
   levels_is = refl;
 }
 
-entry_long : (number : ℕ) (letters : List ℕ) (size : ℕ) (file : SystemFile) (stamp : Stamp) → length (entry_with number letters size file stamp) ≡ 64
+pub entry_long : (number : ℕ) (letters : List ℕ) (size : ℕ) (file : SystemFile) (stamp : Stamp) → length (entry_with number letters size file stamp) ≡ 64
 unfolding system_entry stamp_bytes
 entry_long number letters size file stamp = refl
 
@@ -111,7 +111,7 @@ is_system_from bsize size file bytes says blocks shape =
     (eq-eqb file.blocks (up (file.count * size) bsize) blocks))
     shape)
 
-is_directory_from : (bsize origin : ℕ) (file : SystemFile) (bytes : List ℕ) → Says 64 file bytes → file.blocks ≡ up (file.count * 64) bsize → is_shape (bsize / 4) file.blocks file.levels ≡ true
+pub is_directory_from : (bsize origin : ℕ) (file : SystemFile) (bytes : List ℕ) → Says 64 file bytes → file.blocks ≡ up (file.count * 64) bsize → is_shape (bsize / 4) file.blocks file.levels ≡ true
     → 2 ≤ file.count → file.count ≤ 16386 → (nat_le 1 file.levels || (file.root == origin)) ≡ true → directory_of bsize origin bytes ≡ Ok file
 unfolding directory_of is_directory
 is_directory_from bsize origin file bytes says blocks shape low high rooted =
@@ -119,7 +119,7 @@ is_directory_from bsize origin file bytes says blocks shape low high rooted =
     rw (is_system_from bsize 64 file bytes says blocks shape, says.count_is, says.levels_is, says.root_is, le-leb 2 file.count low, le-leb file.count 16386 high, rooted) refl in
     rw (is, fields_are 64 file bytes says) refl
 
-is_map_from : (bsize total : ℕ) (file : SystemFile) (bytes : List ℕ) → Says bsize file bytes → file.blocks ≡ up (file.count * bsize) bsize → is_shape (bsize / 4) file.blocks file.levels ≡ true
+pub is_map_from : (bsize total : ℕ) (file : SystemFile) (bytes : List ℕ) → Says bsize file bytes → file.blocks ≡ up (file.count * bsize) bsize → is_shape (bsize / 4) file.blocks file.levels ≡ true
     → file.count ≡ up (up total 8) bsize → map_of bsize total bytes ≡ Ok file
 unfolding map_of is_map
 is_map_from bsize total file bytes says blocks shape count =
@@ -129,14 +129,14 @@ is_map_from bsize total file bytes says blocks shape count =
 
 -- ---- trees
 
-abbrev Word : ℕ → Type 0
+abbrev pub Word : ℕ → Type 0
 Word n = n < 2 ^ 32
 
 -- from block 6 to the last
-abbrev Lies : ℕ → ℕ → Type 0
+abbrev pub Lies : ℕ → ℕ → Type 0
 Lies last n = (6 ≤ n) × (n ≤ last)
 
-lies_words : (last : ℕ) (ns : List ℕ) → last < 2 ^ 32 → All (Lies last) ns → All Word ns
+pub lies_words : (last : ℕ) (ns : List ℕ) → last < 2 ^ 32 → All (Lies last) ns → All Word ns
 lies_words last ns few lie = All-weaker (Lies last) Word (λ n within. let high = within.1 in omega arith) ns lie
 
 lies_allowed : (last : ℕ) (ns : List ℕ) → All (Lies last) ns → AllAllowed last None ns
@@ -161,13 +161,13 @@ tree_read bsize last first holder t image size some few least numbers words allo
     (record { size = size; pointer = inl refl; some = omega arith; few = few; each = λ (e : 4 ≡ 12). absurd (omega arith); numbers = numbers })
     (omega arith) words allowed (lies_allowed last t.pointers lie) (nodes_written image bsize t (omega arith) numbers has)
 
-root_word : (leaves fresh : List ℕ) → 1 ≤ length leaves → All Word leaves → All Word fresh → root_of leaves fresh < 2 ^ 32
+pub root_word : (leaves fresh : List ℕ) → 1 ≤ length leaves → All Word leaves → All Word fresh → root_of leaves fresh < 2 ^ 32
 root_word leaves fresh some words words' =
     let long = length-append leaves fresh in
     All-get_or Word (leaves ++ fresh) (length (leaves ++ fresh) - 1) 0 (omega arith) (All-append Word leaves fresh words words')
 
 -- one data block is its own root
-root_first : (bsize origin : ℕ) (t : HeldTree) (more : List ℕ) → IsBlockSize bsize → t.leaves ≡ origin ∷ more → length t.leaves < 2 ^ 32
+pub root_first : (bsize origin : ℕ) (t : HeldTree) (more : List ℕ) → IsBlockSize bsize → t.leaves ≡ origin ∷ more → length t.leaves < 2 ^ 32
     → length t.pointers ≡ pointer_count (bsize / 4) (length t.leaves) → (nat_le 1 (levels (bsize / 4) (length t.leaves)) || (root_of t.leaves t.pointers == origin)) ≡ true
 unfolding pointer_count pointers_to
 root_first bsize origin t more size is few numbers =
@@ -204,22 +204,22 @@ pieces_whole image (n ∷ ns) [] behind first = tt
 pieces_whole image (n ∷ ns) (p ∷ pieces) behind first = (first.0, behind)
 
 -- the first block has the first two entries
-first_block : (bsize : ℕ) (own map' tail : List ℕ) → 512 ≤ bsize → length own ≡ 64 → length map' ≡ 64 → take bsize (own ++ (map' ++ tail)) ≡ own ++ (map' ++ take (bsize - 128) tail)
+pub first_block : (bsize : ℕ) (own map' tail : List ℕ) → 512 ≤ bsize → length own ≡ 64 → length map' ≡ 64 → take bsize (own ++ (map' ++ tail)) ≡ own ++ (map' ++ take (bsize - 128) tail)
 first_block bsize own map' tail low own_long map_long =
     let m = bsize - 128 in
     let e : length own + (length map' + m) ≡ bsize = omega arith in
     subst (λ (n : ℕ). take n (own ++ (map' ++ tail)) ≡ own ++ (map' ++ take m tail)) e
     (take-append-add own (map' ++ tail) (length map' + m) ∙ ap (λ (l : List ℕ). own ++ l) (take-append-add map' tail m))
 
-behind_one : (own rest : List ℕ) → length own ≡ 64 → drop 64 (own ++ rest) ≡ rest
+pub behind_one : (own rest : List ℕ) → length own ≡ 64 → drop 64 (own ++ rest) ≡ rest
 behind_one own rest long = subst (λ (n : ℕ). drop n (own ++ rest) ≡ rest) long (drop-append_seam own rest)
 
-behind_two : (own map' tail : List ℕ) → length own ≡ 64 → length map' ≡ 64 → drop 128 (own ++ (map' ++ tail)) ≡ tail
+pub behind_two : (own map' tail : List ℕ) → length own ≡ 64 → length map' ≡ 64 → drop 128 (own ++ (map' ++ tail)) ≡ tail
 behind_two own map' tail own_long map_long =
     sym (drop-drop 64 64 (own ++ (map' ++ tail))) ∙ ap (drop 64) (behind_one own (map' ++ tail) own_long) ∙ behind_one map' tail map_long
 
 -- the bytes of a directory fill its blocks
-directory_long : (own map' files : List ℕ) (count whole : ℕ) → length own ≡ 64 → length map' ≡ 64 → length files ≡ 64 * count → 64 * (count + 2) ≤ whole
+pub directory_long : (own map' files : List ℕ) (count whole : ℕ) → length own ≡ 64 → length map' ≡ 64 → length files ≡ 64 * count → 64 * (count + 2) ≤ whole
     → length (own ++ (map' ++ (files ++ replicate (whole - 64 * (count + 2)) 0))) ≡ whole
 directory_long own map' files count whole own_long map_long files_long room =
     let zeros : List ℕ = replicate (whole - 64 * (count + 2)) 0 in
@@ -235,7 +235,7 @@ unfolding block_writes cut
 first_read image [] more origin size bytes is has = absurd (let e = ap length is in omega arith)
 first_read image (n ∷ ns) more origin size bytes is has = ap image (ap (λ (l : List ℕ). get_or l 0 0) (sym is)) ∙ has.0
 
-all_parts : (last : ℕ) (xs ys : List ℕ) → All (Lies last) (xs ++ ys) → All (Lies last) xs × All (Lies last) ys
+pub all_parts : (last : ℕ) (xs ys : List ℕ) → All (Lies last) (xs ++ ys) → All (Lies last) xs × All (Lies last) ys
 all_parts last [] ys all = (All-nil (Lies last), all)
 all_parts last (x ∷ xs) ys all =
     let rest = all_parts last xs ys (All-tail (Lies last) x (xs ++ ys) all) in

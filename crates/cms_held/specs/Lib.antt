@@ -16,3 +16,4 @@ pub mod MapPlaces
 pub mod EntryPlaces
 pub mod DirectoryNeed
 pub mod MapShares
+pub mod SharedSystems

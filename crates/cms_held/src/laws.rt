@@ -13,6 +13,7 @@ ghost use Rattle.cms_held.specs.EntryPlaces.{EditsHavePlaces, EntriesByPlace, Pl
 ghost use Rattle.cms_held.specs.MapPlaces.{MapByPlace, MapIsShared};
 ghost use Rattle.cms_held.specs.MapShares.{TurnedIsEnough};
 ghost use Rattle.cms_held.specs.SharedBlocks.{FreshIsCounted};
+ghost use Rattle.cms_held.specs.SharedSystems.{HeldHasSystems, ShareIsRead};
 
 /// What opens is held with its trees, and what is held so is the minidisk that it is, with its files and their records in their order;
 /// where each block of its image has its size, it has as many free blocks, and its files are stored so. A name is found in the place
@@ -89,6 +90,8 @@ pub fn making_laws()
 ///   are taken for a tree as the numbers of its data blocks tell.
 /// - The bit of a block stands in one data block of the map. Where those data blocks are written in which the bits of the lowest free
 ///   blocks, of the blocks that are given back and of the old map's stand, no bit outside them changes.
+/// - A unit that is settled at a volume has the directory and the map that are held of it. What was written of them and what was kept are
+///   read together as the new directory and map.
 pub fn shared_systems_laws()
     ensures entries { EntriesByPlace }
     ensures places { EditsHavePlaces }
@@ -99,4 +102,6 @@ pub fn shared_systems_laws()
     ensures bits { MapByPlace }
     ensures map { MapIsShared }
     ensures turned { TurnedIsEnough }
+    ensures held { HeldHasSystems }
+    ensures read { ShareIsRead }
 {}

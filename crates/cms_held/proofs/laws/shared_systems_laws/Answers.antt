@@ -3,6 +3,8 @@ use Rattle.cms_held.proofs.EntryPlaces.{edits_have_places, entries_by_place, pla
 use Rattle.cms_held.proofs.MapPlaces.{map_by_place, map_is_shared}
 use Rattle.cms_held.proofs.MapShares.{turned_is_enough}
 use Rattle.cms_held.proofs.SharedBlocks.{fresh_is_counted}
+use Rattle.cms_held.proofs.SharedSystems.{share_is_read}
+use Rattle.cms_held.proofs.SystemsHeld.{held_has_systems}
 use Rattle.cms_held.proofs.laws.shared_systems_laws.Goals as goal
 
 pub returns-clause-entries : goal.returns-clause-entries
@@ -31,3 +33,9 @@ returns-clause-map c = map_is_shared
 
 pub returns-clause-turned : goal.returns-clause-turned
 returns-clause-turned c = turned_is_enough
+
+pub returns-clause-held : goal.returns-clause-held
+returns-clause-held c = held_has_systems
+
+pub returns-clause-read : goal.returns-clause-read
+returns-clause-read c = share_is_read
