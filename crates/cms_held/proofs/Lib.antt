@@ -36,4 +36,5 @@ pub mod DirectoryNeed
 mod DirectoryRows
 pub mod MapShares
 pub mod SharedSystems
+pub mod SharedTrees
 pub mod SystemsHeld

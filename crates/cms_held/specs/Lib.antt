@@ -17,3 +17,4 @@ pub mod EntryPlaces
 pub mod DirectoryNeed
 pub mod MapShares
 pub mod SharedSystems
+pub mod SharedTrees

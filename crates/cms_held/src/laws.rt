@@ -14,6 +14,7 @@ ghost use Rattle.cms_held.specs.MapPlaces.{MapByPlace, MapIsShared};
 ghost use Rattle.cms_held.specs.MapShares.{TurnedIsEnough};
 ghost use Rattle.cms_held.specs.SharedBlocks.{FreshIsCounted};
 ghost use Rattle.cms_held.specs.SharedSystems.{HeldHasSystems, ShareIsRead};
+ghost use Rattle.cms_held.specs.SharedTrees.{LevelsAreRead, ReadStandsByLevels, SharedTreeStands};
 
 /// What opens is held with its trees, and what is held so is the minidisk that it is, with its files and their records in their order;
 /// where each block of its image has its size, it has as many free blocks, and its files are stored so. A name is found in the place
@@ -104,4 +105,12 @@ pub fn shared_systems_laws()
     ensures turned { TurnedIsEnough }
     ensures held { HeldHasSystems }
     ensures read { ShareIsRead }
+{}
+
+/// Trees that share blocks with those before, as they are held. A tree that is read stands level by level, one that shares blocks with it
+/// stands in the image behind the update, and what stands so is read.
+pub fn shared_tree_laws()
+    ensures levels { ReadStandsByLevels }
+    ensures stands { SharedTreeStands }
+    ensures read { LevelsAreRead }
 {}
