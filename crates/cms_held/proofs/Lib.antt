@@ -37,4 +37,5 @@ mod DirectoryRows
 pub mod MapShares
 pub mod SharedSystems
 pub mod SharedTrees
+pub mod SharedWrites
 pub mod SystemsHeld

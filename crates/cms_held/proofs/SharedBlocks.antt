@@ -44,11 +44,11 @@ leaf_written before count j written less there =
 
 -- ---- ascending numbers stand once
 
-rest_ascends : (x : ℕ) (xs : List ℕ) → IsStrictlyIncreasing (x ∷ xs) → IsStrictlyIncreasing xs
+pub rest_ascends : (x : ℕ) (xs : List ℕ) → IsStrictlyIncreasing (x ∷ xs) → IsStrictlyIncreasing xs
 rest_ascends x xs ascends k less = rw (add-one k) (rw (add-one (suc k)) at (ascends (suc k) (omega arith)))
 
 -- those behind are higher
-behind_higher : (x : ℕ) (xs : List ℕ) → IsStrictlyIncreasing (x ∷ xs) → (n : ℕ) → In n xs → x < n
+pub behind_higher : (x : ℕ) (xs : List ℕ) → IsStrictlyIncreasing (x ∷ xs) → (n : ℕ) → In n xs → x < n
 behind_higher x [] ascends n there = absurd there
 behind_higher x (y ∷ ys) ascends n (inl is) = let next : x < y = ascends 0 (omega arith) in omega arith
 behind_higher x (y ∷ ys) ascends n (inr more) =

@@ -18,3 +18,4 @@ pub mod DirectoryNeed
 pub mod MapShares
 pub mod SharedSystems
 pub mod SharedTrees
+pub mod SharedWrites

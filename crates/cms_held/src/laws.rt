@@ -15,6 +15,7 @@ ghost use Rattle.cms_held.specs.MapShares.{TurnedIsEnough};
 ghost use Rattle.cms_held.specs.SharedBlocks.{FreshIsCounted};
 ghost use Rattle.cms_held.specs.SharedSystems.{HeldHasSystems, ShareIsRead};
 ghost use Rattle.cms_held.specs.SharedTrees.{LevelsAreRead, ReadStandsByLevels, SharedTreeStands};
+ghost use Rattle.cms_held.specs.SharedWrites.{FreshAreWritten, WrittenIsShared};
 
 /// What opens is held with its trees, and what is held so is the minidisk that it is, with its files and their records in their order;
 /// where each block of its image has its size, it has as many free blocks, and its files are stored so. A name is found in the place
@@ -107,9 +108,12 @@ pub fn shared_systems_laws()
     ensures read { ShareIsRead }
 {}
 
-/// Trees that share blocks with those before, as they are held. A tree that is read stands level by level, one that shares blocks with it
-/// stands in the image behind the update, and what stands so is read.
+/// Trees that share blocks with those before, as they are held. What is written of such a tree are the blocks that are taken for it; where
+/// that stands and the old blocks are as they were, the tree shares them. A tree that is read stands level by level, one that shares blocks
+/// with it stands in the image behind the update, and what stands so is read.
 pub fn shared_tree_laws()
+    ensures written { FreshAreWritten }
+    ensures shared { WrittenIsShared }
     ensures levels { ReadStandsByLevels }
     ensures stands { SharedTreeStands }
     ensures read { LevelsAreRead }
