@@ -38,4 +38,6 @@ pub mod MapShares
 pub mod SharedSystems
 pub mod SharedTrees
 pub mod SharedWrites
+pub mod KeptTrees
+pub mod SharedRenewals
 pub mod SystemsHeld

@@ -87,7 +87,7 @@ bytes_behind at count bits =
     ∙ (ap (λ (l : List Bool). number_of 8 l) (sym (drop-drop (8 * k) (8 * at) bits ∙ ap (λ (n : ℕ). drop n bits) e))
     ∙ sym (get_or-map-range_with_len (byte_at (drop (8 * at) bits)) 0 count k k d within (omega arith))))
 
-bytes_long : (at size : ℕ) (bits : List Bool) → length (bytes_from at size bits) ≡ size
+pub bytes_long : (at size : ℕ) (bits : List Bool) → length (bytes_from at size bits) ≡ size
 bytes_long at size bits = ap length (bytes_behind at size bits) ∙ bytes_count (drop (8 * at) bits) size
 
 marked_there : (bsize n : ℕ) (bits : List Bool) → 1 ≤ bsize → 1 ≤ n

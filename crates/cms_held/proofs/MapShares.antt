@@ -25,7 +25,7 @@ use Rattle.cms_held.proofs.MapPlaces.{block_within}
 
 -- ---- members of lists
 
-in_take : (k : ℕ) (xs : List ℕ) (n : ℕ) → In n (take k xs) → In n xs
+pub in_take : (k : ℕ) (xs : List ℕ) (n : ℕ) → In n (take k xs) → In n xs
 in_take zero xs n there = absurd there
 in_take (suc k) [] n there = absurd there
 in_take (suc k) (x ∷ xs) n (inl is) = inl is
@@ -38,7 +38,7 @@ in_longer (suc k) zero (x ∷ xs) n le there = absurd (omega arith)
 in_longer (suc k) (suc m) (x ∷ xs) n le (inl is) = inl is
 in_longer (suc k) (suc m) (x ∷ xs) n le (inr more) = inr (in_longer k m xs n (omega arith) more)
 
-in_drop : (k : ℕ) (xs : List ℕ) (n : ℕ) → In n (drop k xs) → In n xs
+pub in_drop : (k : ℕ) (xs : List ℕ) (n : ℕ) → In n (drop k xs) → In n xs
 in_drop zero xs n there = there
 in_drop (suc k) [] n there = there
 in_drop (suc k) (x ∷ xs) n there = inr (in_drop k xs n there)
@@ -80,7 +80,7 @@ without_few test k (x ∷ xs) = go (test k) (without_few test (suc k) xs)
 
 -- ---- the blocks of levels
 
-in_levels : (fan size count k : ℕ) (numbers : List ℕ) (n : ℕ) → In n (concat (levels_of fan size count k numbers)) → In n numbers
+pub in_levels : (fan size count k : ℕ) (numbers : List ℕ) (n : ℕ) → In n (concat (levels_of fan size count k numbers)) → In n numbers
 unfolding levels_of
 in_levels fan size count zero numbers n there = absurd there
 in_levels fan size count (suc k) numbers n there = ⊎_elim

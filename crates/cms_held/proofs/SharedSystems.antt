@@ -33,7 +33,7 @@ clash e = cc
 -- ---- the directory's data blocks
 
 -- a piece of bytes that fill so many blocks
-piece_long : (bytes : List ℕ) (count bsize j : ℕ) → length bytes ≡ count * bsize → j < count → length (take bsize (drop (j * bsize) bytes)) ≡ bsize
+pub piece_long : (bytes : List ℕ) (count bsize j : ℕ) → length bytes ≡ count * bsize → j < count → length (take bsize (drop (j * bsize) bytes)) ≡ bsize
 piece_long bytes count bsize j long less =
     let room : suc j * bsize ≤ count * bsize = mul-le-mul_right bsize less in
     omega (arith, length-take bsize (drop (j * bsize) bytes), length-drop (j * bsize) bytes)

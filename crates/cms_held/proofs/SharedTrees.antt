@@ -134,7 +134,7 @@ built_up form image below (t ∷ ts) root some heaped allowed needs =
           (cases_lt (form.fan ^ j) (length t))),
     )
 
-nodes_joined : (fan : ℕ) (t : HeldTree) → HasShape fan t → concat (levels_in fan t) ≡ t.pointers
+pub nodes_joined : (fan : ℕ) (t : HeldTree) → HasShape fan t → concat (levels_in fan t) ≡ t.pointers
 unfolding pointer_count
 nodes_joined fan t shape =
     levels_joined fan 1 (length t.leaves) (levels fan (length t.leaves)) t.pointers (shape.nodes ∙ sym (count_first fan (length t.leaves) (levels fan (length t.leaves))))

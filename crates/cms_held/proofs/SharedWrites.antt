@@ -236,7 +236,7 @@ level_back fan size count k tier rest long deeper =
     let behind : drop m (tier ++ concat rest) ≡ concat rest = subst (λ (n : ℕ). drop n (tier ++ concat rest) ≡ concat rest) long (drop-append_seam tier (concat rest)) in
     rw (front, behind) (ap (λ (l : List (List ℕ)). tier ∷ l) deeper)
 
-paths_back : (fan size before count : ℕ) (written : List ℕ) (olds : List (List ℕ)) (k : ℕ) (fresh : List ℕ)
+pub paths_back : (fan size before count : ℕ) (written : List ℕ) (olds : List (List ℕ)) (k : ℕ) (fresh : List ℕ)
     → levels_of fan size count k (concat (paths fan size before count written olds k fresh)) ≡ paths fan size before count written olds k fresh
 unfolding levels_of paths
 paths_back fan size before count written [] zero fresh = refl

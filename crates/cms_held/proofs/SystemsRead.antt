@@ -139,14 +139,14 @@ Lies last n = (6 ≤ n) × (n ≤ last)
 pub lies_words : (last : ℕ) (ns : List ℕ) → last < 2 ^ 32 → All (Lies last) ns → All Word ns
 lies_words last ns few lie = All-weaker (Lies last) Word (λ n within. let high = within.1 in omega arith) ns lie
 
-lies_allowed : (last : ℕ) (ns : List ℕ) → All (Lies last) ns → AllAllowed last None ns
+pub lies_allowed : (last : ℕ) (ns : List ℕ) → All (Lies last) ns → AllAllowed last None ns
 unfolding is_allowed
 lies_allowed last [] lie = tt
 lies_allowed last (n ∷ ns) lie =
     let within = All-head (Lies last) n ns lie in
     (and_from (nat_le 6 n) (nat_le n last) (le-leb 6 n within.0) (le-leb n last within.1), lies_allowed last ns (All-tail (Lies last) n ns lie))
 
-first_allowed : (last origin : ℕ) (leaves more : List ℕ) → leaves ≡ origin ∷ more → All (Lies last) more → AllAllowed last (Some origin) leaves
+pub first_allowed : (last origin : ℕ) (leaves more : List ℕ) → leaves ≡ origin ∷ more → All (Lies last) more → AllAllowed last (Some origin) leaves
 unfolding is_allowed
 first_allowed last origin leaves more is lie = rw is (eq-eqb origin origin refl, lies_allowed last more lie)
 

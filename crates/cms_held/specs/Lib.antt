@@ -19,3 +19,4 @@ pub mod MapShares
 pub mod SharedSystems
 pub mod SharedTrees
 pub mod SharedWrites
+pub mod SharedRenewing
