@@ -116,7 +116,7 @@ entries_by_place bsize image leaves entries size long room = (
 -- ---- the places that an update changes
 
 pub edits_have_places : EditsHavePlaces
-edits_have_places files place old new within = record {
+edits_have_places files place old new = record {
   gone = subst (λ (l : List Entry). IsChangedAt (entries_held files) l place) (sym gone_entries) (record {
     others = λ k d less isnt. get_or-take last (set (entries_held files) place moved.entry) k d (short k less) ∙ get_or-set_other (entries_held files) place k moved.entry d isnt;
     long = inl (omega (arith, length-take last (set (entries_held files) place moved.entry), length-set (entries_held files) place moved.entry));

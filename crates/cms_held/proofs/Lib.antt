@@ -40,4 +40,5 @@ pub mod SharedTrees
 pub mod SharedWrites
 pub mod KeptTrees
 pub mod SharedRenewals
+pub mod SharedNeed
 pub mod SystemsHeld

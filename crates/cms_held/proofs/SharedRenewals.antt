@@ -71,16 +71,16 @@ clash : true ≡ false → ⊥
 clash e = cc
 
 -- an update that is to be carried out
-record Case : Type 0 where
-  j : Journal
-  v : HeldVolume
-  edit : Edit
-  stamp : Stamp
-  s : Systems
-  parts : Parts
-  old : Layout
-  files : List Kept
-  x : IsPartRenewal j v edit stamp s parts old files
+pub record Case : Type 0 where
+  pub j : Journal
+  pub v : HeldVolume
+  pub edit : Edit
+  pub stamp : Stamp
+  pub s : Systems
+  pub parts : Parts
+  pub old : Layout
+  pub files : List Kept
+  pub x : IsPartRenewal j v edit stamp s parts old files
 
 abbrev before_of : Case → Image
 before_of c = now c.j c.v.unit
@@ -103,7 +103,7 @@ released c = part_released c.v c.edit c.s c.parts
 abbrev writes : Case → List Write
 writes c = part_writes c.v c.edit c.stamp c.s c.parts
 
-abbrev directory_fresh : Case → List ℕ
+abbrev pub directory_fresh : Case → List ℕ
 directory_fresh c = fresh_of (c.v.disk.bsize / 4) c.parts.directory c.v.directory c.s.directory
 
 abbrev directory_released : Case → List ℕ
@@ -197,7 +197,7 @@ first_stays : (test : ℕ → Bool) (xs more : List ℕ) (o : ℕ) → xs ≡ o 
 unfolding without
 first_stays test xs more o is off = rw (is, off) refl
 
-fresh_begins : (c : Case) → directory_fresh c ≡ (9 - c.v.label.origin) ∷ drop 1 (directory_fresh c)
+pub fresh_begins : (c : Case) → directory_fresh c ≡ (9 - c.v.label.origin) ∷ drop 1 (directory_fresh c)
 fresh_begins c =
     let b = c.x.planned.blocks in
     let count = length c.s.directory.leaves in
@@ -279,11 +279,11 @@ map_may c = record {
 }
 
 -- the directory's, by the files that there are
-held_count : (hs : List HeldFile) → length (entries_held hs) ≡ length hs
+pub held_count : (hs : List HeldFile) → length (entries_held hs) ≡ length hs
 held_count [] = refl
 held_count (h ∷ hs) = ap suc (held_count hs)
 
-directory_may : (c : Case) → MayBeWritten (length c.v.directory.leaves) (length c.s.directory.leaves) c.parts.directory
+pub directory_may : (c : Case) → MayBeWritten (length c.v.directory.leaves) (length c.s.directory.leaves) c.parts.directory
 directory_may c =
     let b = c.x.planned.blocks in
     let old_is = (held_has_systems c.j c.v c.old c.x.at).directory_is in
@@ -655,7 +655,7 @@ node_words fan written old new some k olds fresh' = all_from Word new.pointers (
     (node_comes fan written old new some k n there))
 
 -- the shapes
-directory_shape : (c : Case) → HasShape (c.v.disk.bsize / 4) c.s.directory
+pub directory_shape : (c : Case) → HasShape (c.v.disk.bsize / 4) c.s.directory
 directory_shape c =
     let b = c.x.planned.blocks in
     let w = wide c in

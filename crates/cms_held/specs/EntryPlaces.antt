@@ -70,8 +70,7 @@ pub record EditsAt (files : List HeldFile) (place : ℕ) (old new : HeldFile) : 
 
 abbrev pub EditsHavePlaces : Type 0
 EditsHavePlaces =
-    (files : List HeldFile) (place : ℕ) (old new : HeldFile) → place < length files
-    → EditsAt files place old new
+    (files : List HeldFile) (place : ℕ) (old new : HeldFile) → EditsAt files place old new
 
 -- the entries in other data blocks are those that were there
 abbrev pub EntriesStay : ℕ → List ℕ → List Entry → List Entry → Type 0

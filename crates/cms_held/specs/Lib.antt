@@ -20,3 +20,4 @@ pub mod SharedSystems
 pub mod SharedTrees
 pub mod SharedWrites
 pub mod SharedRenewing
+pub mod SharedNeed

@@ -13,6 +13,7 @@ ghost use Rattle.cms_held.specs.EntryPlaces.{EditsHavePlaces, EntriesByPlace, Pl
 ghost use Rattle.cms_held.specs.MapPlaces.{MapByPlace, MapIsShared};
 ghost use Rattle.cms_held.specs.MapShares.{TurnedIsEnough};
 ghost use Rattle.cms_held.specs.SharedBlocks.{FreshIsCounted};
+ghost use Rattle.cms_held.specs.SharedNeed.{TakesTheNeed, WrittenIsEnough};
 ghost use Rattle.cms_held.specs.SharedRenewing.{PartUpdateIsSmall, PartUpdateRenews};
 ghost use Rattle.cms_held.specs.SharedSystems.{HeldHasSystems, ShareIsRead};
 ghost use Rattle.cms_held.specs.SharedTrees.{LevelsAreRead, ReadStandsByLevels, SharedTreeStands};
@@ -123,7 +124,11 @@ pub fn shared_tree_laws()
 /// An update of a volume as it is held that writes a part of its directory and of its map, in place of one that writes both whole: a crash
 /// leaves the old volume or the new one at every moment, and in the end the new one, which is held as the renewed one, with trees that
 /// stand level by level as they did. With what is written for a file it writes at most one block more than it needs, before its label.
+/// The data blocks of the directory that a change writes are enough for its edit, and with these it takes for the directory what the
+/// change needs.
 pub fn shared_renewal_laws()
     ensures renews { PartUpdateRenews }
     ensures small { PartUpdateIsSmall }
+    ensures enough { WrittenIsEnough }
+    ensures needed { TakesTheNeed }
 {}

@@ -1,0 +1,51 @@
+-- What a change needs for the directory is what an update that writes a part of it takes.
+use Rattle.std.specs.Prelude.{◌≡◌, ℕ, ◌+◌, List, length, map, position, slice_get, Some, None}
+use Rattle.cms_journal.specs.Journal.{Journal}
+use Rattle.cms_names.specs.declared.name.Name.{Name}
+use Rattle.cms_fields.specs.declared.time.Stamp.{Stamp}
+use Rattle.cms_model.specs.Changes.{Change, Put, Add, Drop, Rename, changed_files}
+use Rattle.cms_model.specs.Minidisks.{File, same_name}
+use Rattle.cms_model.specs.Stands.{Kept, Layout, file_of, minidisk_in}
+use Rattle.cms_held.specs.DirectoryNeed.{directory_fresh, directory_written}
+use Rattle.cms_held.specs.EntryPlaces.{IsEnoughFor}
+use Rattle.cms_held.specs.LawsRenewing.{IsHeldAt}
+use Rattle.cms_held.specs.Opening.{HeldFile, HeldVolume, names_in}
+use Rattle.cms_held.specs.Putting.{adding, replacing}
+use Rattle.cms_held.specs.Renewing.{Edit, dropping, entries_held, renaming}
+use Rattle.cms_held.specs.SharedRenewing.{IsPartRenewal, Parts, files_fresh}
+use Rattle.cms_held.specs.Systems.{Systems}
+
+-- the data blocks of the directory that a change writes are enough for these files
+abbrev pub AreEnough : HeldVolume → Layout → List HeldFile → Change → Type 0
+AreEnough v old files change = IsEnoughFor v.disk.bsize (entries_held v.files) (entries_held files)
+    (directory_written (minidisk_in v.disk old) change)
+
+-- so they are where a file goes, has another name, is put or added to in its place, or is put last
+pub record WritesEnough (v : HeldVolume) (old : Layout) : Type 0 where
+  pub dropped : (place : ℕ) (f : HeldFile) → slice_get v.files place ≡ Some f
+      → AreEnough v old (dropping v.files place f).files (Drop f.entry.name)
+  pub renamed : (place : ℕ) (f : HeldFile) (to : Name) (number : ℕ)
+      → slice_get v.files place ≡ Some f
+      → AreEnough v old (renaming v.files place f to number).files (Rename f.entry.name to number)
+  pub replaced : (place : ℕ) (f g : HeldFile) (new : File) → slice_get v.files place ≡ Some f
+      → f.entry.name ≡ new.name → AreEnough v old (replacing v.files place f g).files (Put new)
+  pub grown : (place : ℕ) (f g : HeldFile) (more : List (List ℕ)) (stamp : Stamp)
+      → slice_get v.files place ≡ Some f
+      → AreEnough v old (replacing v.files place f g).files (Add f.entry.name more stamp)
+  pub added : (g : HeldFile) (new : File) → position (same_name new.name) (names_in v.files) ≡ None
+      → AreEnough v old (adding v.files g).files (Put new)
+
+abbrev pub WrittenIsEnough : Type 0
+WrittenIsEnough =
+    (j : Journal) (v : HeldVolume) (old : Layout) → IsHeldAt j v old → WritesEnough v old
+
+-- with these data blocks the update takes for the directory what the change needs
+abbrev pub TakesTheNeed : Type 0
+TakesTheNeed =
+    (j : Journal) (v : HeldVolume) (edit : Edit) (stamp : Stamp) (s : Systems) (parts : Parts)
+    (old : Layout) (files : List Kept) (change : Change)
+    → IsPartRenewal j v edit stamp s parts old files
+    → map file_of files ≡ changed_files (map file_of old.files) change
+    → parts.directory ≡ directory_written (minidisk_in v.disk old) change
+    → length (files_fresh v edit s parts)
+    ≡ length edit.taken + directory_fresh (minidisk_in v.disk old) change
