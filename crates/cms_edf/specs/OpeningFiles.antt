@@ -36,7 +36,7 @@ file_at place holder e = record {
 abbrev pub file_tree : Place → Image → ℕ → Entry → Result Met OpenFault
 file_tree place image holder e = tree (form_of place.bsize place.total e.format) image e.levels None holder e.root e.blocks
 
--- its pointer blocks in preorder
+-- its pointer blocks, bottom level first and each from left to right
 abbrev pub file_nodes : Place → Image → Entry → List ℕ
 file_nodes place image e = nodes (form_of place.bsize place.total e.format) image e.levels e.root e.blocks
 

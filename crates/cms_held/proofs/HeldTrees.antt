@@ -1,7 +1,10 @@
 -- What opens is held with its trees.
-use Rattle.std.proofs.Common.{◌≡◌, ℕ, zero, suc, ◌+◌, ◌-◌, ◌^◌, List, [], ◌∷◌, ◌++◌, min, Option, None, Ok, refl, sym, subst, arith}
+use Rattle.std.proofs.Common.{◌≡◌, ℕ, zero, suc, ◌+◌, ◌-◌, ◌^◌, List, [], ◌∷◌, ◌++◌, min, Option, None, Ok, refl, sym, ◌∙◌, ap, subst, arith}
+use Rattle.std.specs.List.{concat}
+use Rattle.std.proofs.lemmas.List.Folds.{concat-append}
 use Rattle.cms_fields.specs.declared.entry.Entry.{Entry}
 use Rattle.cms_model.specs.Lists.{times}
+use Rattle.cms_model.specs.ByLevels.{beside, tiers_below, tiers}
 use Rattle.cms_model.specs.Records.{records_of}
 use Rattle.cms_model.specs.Trees.{Image, Form, Met, none_met, joined, tree, children, pointers, form_of, bytes_at}
 use Rattle.cms_model.specs.Volumes.{blamed, file_trees, contents_in, holder_of}
@@ -10,7 +13,7 @@ use Rattle.cms_model.proofs.Opening.{open_ok}
 use Rattle.cms_model.proofs.Repeats.{times_append}
 use Rattle.cms_model.proofs.Results.{ok_same, bind_then}
 use Rattle.cms_model.proofs.TreeFrame.{Walk, leaf_met, under, leaf_then, node_then}
-use Rattle.cms_tree.specs.Walks.{nodes, nodes_below}
+use Rattle.cms_tree.specs.Walks.{nodes}
 use Rattle.cms_held.specs.Opening.{held_files, held_of}
 use Rattle.cms_held.specs.HeldAs.{AreHeld, OpenedHasHeld}
 
@@ -18,43 +21,64 @@ use Rattle.cms_held.specs.HeldAs.{AreHeld, OpenedHasHeld}
 abbrev Counts : List ℕ → Met → Type 0
 Counts ns m = (n : ℕ) → times n m.blocks ≡ times n ns + times n m.leaves
 
-abbrev Counted : Walk → (ℕ → ℕ → List ℕ) → Type 0
-Counted f g = (first : Option ℕ) (holder root count : ℕ) (m : Met) → f first holder root count ≡ Ok m → Counts (g root count) m
+-- the same of pointer blocks level by level
+abbrev CountsTiers : List (List ℕ) → Met → Type 0
+CountsTiers ts m = Counts (concat ts) m
 
-counts_none : Counts [] none_met
+abbrev Counted : Walk → (ℕ → ℕ → List (List ℕ)) → Type 0
+Counted f g = (first : Option ℕ) (holder root count : ℕ) (m : Met) → f first holder root count ≡ Ok m → CountsTiers (g root count) m
+
+counts_none : CountsTiers [] none_met
 unfolding times
 counts_none n = refl
 
-counts_leaf : (root : ℕ) → Counts [] (leaf_met root)
+counts_leaf : (root : ℕ) → CountsTiers [] (leaf_met root)
 unfolding times
 counts_leaf root n = omega arith
 
-counts_under : (root : ℕ) (ns : List ℕ) (a : Met) → Counts ns a → Counts (root ∷ ns) (under root a)
+times_beside : (n : ℕ) (xs ys : List (List ℕ)) → times n (concat (beside xs ys)) ≡ times n (concat xs) + times n (concat ys)
 unfolding times
-counts_under root ns a c n = let e = c n in omega arith
+times_beside n [] ys = omega arith
+times_beside n (x ∷ xs) [] = omega arith
+times_beside n (x ∷ xs) (y ∷ ys) =
+    let below = times_beside n xs ys in
+    omega (arith, times_append n (x ++ y) (concat (beside xs ys)), times_append n x y, times_append n x (concat xs), times_append n y (concat ys))
 
-counts_joined : (ns ms : List ℕ) (a b : Met) → Counts ns a → Counts ms b → Counts (ns ++ ms) (joined a b)
-counts_joined ns ms a b c d n = let e = c n in let f = d n in omega (arith, times_append n a.blocks b.blocks, times_append n a.leaves b.leaves, times_append n ns ms)
+counts_joined : (xs ys : List (List ℕ)) (a b : Met) → CountsTiers xs a → CountsTiers ys b → CountsTiers (beside xs ys) (joined a b)
+counts_joined xs ys a b c d n = let e = c n in let f = d n in omega (arith, times_append n a.blocks b.blocks, times_append n a.leaves b.leaves, times_beside n xs ys)
 
-below_counted : (f : Walk) (g : ℕ → ℕ → List ℕ) → Counted f g → (size holder : ℕ) (ps : List ℕ) (count : ℕ) (first : Option ℕ) (m : Met)
-    → children f size holder ps count first ≡ Ok m → Counts (nodes_below g size ps count) m
-below_counted f g each size holder [] count first m e = subst (Counts []) (ok_same none_met m e) counts_none
-below_counted f g each size holder (p ∷ ps) zero first m e = subst (Counts []) (ok_same none_met m e) counts_none
+counts_under : (root : ℕ) (ts : List (List ℕ)) (a : Met) → CountsTiers ts a → CountsTiers (ts ++ (root ∷ []) ∷ []) (under root a)
+unfolding times
+counts_under root ts a c n =
+    let e = c n in
+    let whole : times n (concat (ts ++ (root ∷ []) ∷ [])) ≡ times n (concat ts) + times n (root ∷ []) =
+    ap (times n) (concat-append ts ((root ∷ []) ∷ [])) ∙ times_append n (concat ts) (root ∷ []) in
+    omega arith
+
+below_counted : (f : Walk) (g : ℕ → ℕ → List (List ℕ)) → Counted f g → (size holder : ℕ) (ps : List ℕ) (count : ℕ) (first : Option ℕ) (m : Met)
+    → children f size holder ps count first ≡ Ok m → CountsTiers (tiers_below g size ps count) m
+below_counted f g each size holder [] count first m e = subst (CountsTiers []) (ok_same none_met m e) counts_none
+below_counted f g each size holder (p ∷ ps) zero first m e = subst (CountsTiers []) (ok_same none_met m e) counts_none
 below_counted f g each size holder (p ∷ ps) (suc k) first m e =
     bind_then (f first holder p (min (suc k) size)) _ m e (λ a is_a e1.
     bind_then (children f size holder ps (suc k - size) None) _ m e1 (λ b is_b e2.
-    subst (Counts (g p (min (suc k) size) ++ nodes_below g size ps (suc k - size))) (ok_same (joined a b) m e2)
-    (counts_joined (g p (min (suc k) size)) (nodes_below g size ps (suc k - size)) a b (each first holder p (min (suc k) size) a is_a)
+    subst (CountsTiers (beside (g p (min (suc k) size)) (tiers_below g size ps (suc k - size)))) (ok_same (joined a b) m e2)
+    (counts_joined (g p (min (suc k) size)) (tiers_below g size ps (suc k - size)) a b (each first holder p (min (suc k) size) a is_a)
     (below_counted f g each size holder ps (suc k - size) None b is_b))))
 
-pub tree_counted : (form : Form) (image : Image) (k : ℕ) → Counted (tree form image k) (nodes form image k)
-unfolding nodes
-tree_counted form image zero first holder root count m e = leaf_then form image first holder root count m e (λ allowed is. subst (Counts []) is (counts_leaf root))
-tree_counted form image (suc k) first holder root count m e =
+tiers_counted : (form : Form) (image : Image) (k : ℕ) → Counted (tree form image k) (tiers form image k)
+unfolding tiers
+tiers_counted form image zero first holder root count m e = leaf_then form image first holder root count m e (λ allowed is. subst (CountsTiers []) is (counts_leaf root))
+tiers_counted form image (suc k) first holder root count m e =
     node_then form image k first holder root count m e (λ allowed a is_a is.
     let ps = pointers form.fan form.stride (image root) in
-    let ns = nodes_below (nodes form image k) (form.fan ^ k) ps count in
-    subst (Counts (root ∷ ns)) is (counts_under root ns a (below_counted (tree form image k) (nodes form image k) (tree_counted form image k) (form.fan ^ k) root ps count first a is_a)))
+    let ts = tiers_below (tiers form image k) (form.fan ^ k) ps count in
+    subst (CountsTiers (ts ++ (root ∷ []) ∷ [])) is
+    (counts_under root ts a (below_counted (tree form image k) (tiers form image k) (tiers_counted form image k) (form.fan ^ k) root ps count first a is_a)))
+
+pub tree_counted : (form : Form) (image : Image) (k : ℕ) (first : Option ℕ) (holder root count : ℕ) (m : Met) → tree form image k first holder root count ≡ Ok m → Counts (nodes form image k root count) m
+unfolding nodes
+tree_counted form image k first holder root count m e = tiers_counted form image k first holder root count m e
 
 files_held : (bsize total : ℕ) (image : Image) (dirs : List ℕ) (number : ℕ) (es : List Entry) (ms : List Met) (cs : List (List (List ℕ)))
     → file_trees bsize total image dirs number es ≡ Ok ms → contents_in bsize image number es ms ≡ Ok cs → AreHeld es ms cs (held_files bsize total image es ms cs)

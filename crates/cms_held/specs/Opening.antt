@@ -16,7 +16,7 @@ use Rattle.cms_tree.specs.Walks.{nodes}
 
 -- ---- a volume as it is held: all of it but the files' data
 
--- a tree: its data blocks in order, and its pointer blocks in preorder
+-- a tree: its data blocks in order, and its pointer blocks, bottom level first and each from left to right
 pub record HeldTree : Type 0 where
   pub leaves : List ℕ
   pub pointers : List ℕ

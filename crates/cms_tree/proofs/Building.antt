@@ -159,12 +159,12 @@ one_block (c ∷ []) is = refl
 one_block (c ∷ d ∷ cs) is = absurd (omega arith)
 
 -- so many levels are needed over so many blocks, and have room
-record Fits (fan k m : ℕ) : Type 0 where
-  some : 1 ≤ m
-  room : m ≤ fan ^ k
-  fewer : (j : ℕ) → j < k → fan ^ j < m
+pub record Fits (fan k m : ℕ) : Type 0 where
+  pub some : 1 ≤ m
+  pub room : m ≤ fan ^ k
+  pub fewer : (j : ℕ) → j < k → fan ^ j < m
 
-fits_above : (fan k m : ℕ) → 1 ≤ fan → Fits fan (suc k) m → Fits fan k (up m fan)
+pub fits_above : (fan k m : ℕ) → 1 ≤ fan → Fits fan (suc k) m → Fits fan k (up m fan)
 fits_above fan k m some f =
     let s = up_spec m fan some in
     let low = s.0 in let high = s.1 in

@@ -11,6 +11,7 @@ pub mod Stepping
 pub mod Totals
 pub mod Own
 pub mod Resuming
+pub mod Heaps
 pub mod Pathing
 mod PathRows
 mod ResumeRows

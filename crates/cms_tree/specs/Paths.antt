@@ -1,10 +1,12 @@
 -- The pointer blocks of a tree that keeps some of those of the tree before.
-use Rattle.std.specs.Prelude.{◌≡◌, ℕ, zero, suc, ◌*◌, ◌<◌, ◌≤◌, Bool, true, false, if◌then◌else◌, List, [], ◌∷◌, ◌++◌, length, take, drop, slice_index, ⊤}
+use Rattle.std.specs.Prelude.{◌≡◌, ℕ, zero, suc, ◌*◌, ◌^◌, ◌<◌, ◌≤◌, Bool, true, false, if◌then◌else◌, List, [], ◌∷◌, ◌++◌, length, take, drop, slice_index, Option, None, ⊤}
 use Rattle.std.specs.List.{concat}
 use Rattle.std.specs.List.Sorted.{IsStrictlyIncreasing}
 use Rattle.cms_fields.specs.Numbers.{up}
 use Rattle.cms_model.specs.Lists.{In}
 use Rattle.cms_model.specs.Trees.{Image, Form}
+use Rattle.cms_model.specs.Built.{AllAllowed, ReadsAs}
+use Rattle.cms_model.specs.ByLevels.{Heaped}
 use Rattle.cms_model.specs.Sizes.{levels, pointer_count}
 use Rattle.cms_model.specs.Sharing.{any_within, is_kept, fresh_on, fresh_to}
 use Rattle.cms_model.specs.SharedTiers.{Names, Shared, group}
@@ -100,3 +102,12 @@ PathIsWhole = (fan before count : ℕ) (olds written fresh : List ℕ) → 1 ≤
 abbrev pub PathTakesNoMore : Type 0
 PathTakesNoMore = (fan before count : ℕ) (written : List ℕ)
     → fresh_to fan before count written (levels fan count) ≤ pointer_count fan count
+
+-- a tree that stands level by level, as high as its shape and each of its blocks allowed, is read so
+abbrev pub HeapedIsRead : Type 0
+HeapedIsRead =
+    (form : Form) (image : Image) (first : Option ℕ) (holder root : ℕ) (leaves : List ℕ)
+    (tiers : List (List ℕ)) → 2 ≤ form.fan → 1 ≤ length leaves → length leaves < 2 ^ 32
+    → length tiers ≡ levels form.fan (length leaves) → Heaped form image leaves tiers (root ∷ [])
+    → AllAllowed form.last first leaves → AllAllowed form.last None (concat tiers)
+    → ReadsAs form image (levels form.fan (length leaves)) first holder root leaves (concat tiers)

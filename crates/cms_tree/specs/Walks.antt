@@ -1,8 +1,10 @@
 -- Trees as they are read from a unit.
 use Rattle.std.specs.Prelude.{◌≡◌, ◌⊎◌, ℕ, zero, suc, ◌-◌, ◌/◌, ◌^◌, ◌≤◌, min, List, [], ◌∷◌, ◌++◌, Option, Some, None, Result, Ok, Err, ⊤}
+use Rattle.std.specs.List.{concat}
 use Rattle.cms_journal.specs.Journal.{Journal, contents_of}
 use Rattle.cms_model.specs.Lists.{In}
-use Rattle.cms_model.specs.Trees.{Image, Form, Met, image_of, pointers, tree}
+use Rattle.cms_model.specs.Trees.{Image, Form, Met, image_of, tree}
+use Rattle.cms_model.specs.ByLevels.{tiers}
 use Rattle.cms_model.specs.Sizes.{levels}
 use Rattle.cms_model.specs.declared.fault.OpenFault.{OpenFault}
 use Rattle.cms_model.specs.declared.fault.OpenFault.TheVariants as fault
@@ -23,17 +25,9 @@ levels_at at = levels (at.bsize / at.psize) at.count
 abbrev pub tree_at : Image → TreeAt → Result Met OpenFault
 tree_at image at = tree (form_at at) image (levels_at at) at.first at.holder at.root at.count
 
--- the pointer blocks below the pointers of a block, each but the last pointer with `size` data blocks: below pointer leaves
-abbrev pub nodes_below : (ℕ → ℕ → List ℕ) → ℕ → List ℕ → ℕ → List ℕ
-nodes_below below size [] count = []
-nodes_below below size (p ∷ ps) zero = []
-nodes_below below size (p ∷ ps) (suc n) = below p (min (suc n) size) ++ nodes_below below size ps (suc n - size)
-
--- the pointer blocks, in preorder, of a tree of so many levels over so many data blocks
+-- the pointer blocks, bottom level first and each from left to right, of a tree of so many levels over so many data blocks
 unfoldable pub nodes : Form → Image → ℕ → ℕ → ℕ → List ℕ
-nodes form image zero root count = []
-nodes form image (suc k) root count = root ∷ nodes_below (nodes form image k) (form.fan ^ k)
-    (pointers form.fan form.stride (image root)) count
+nodes form image k root count = concat (tiers form image k root count)
 
 abbrev pub nodes_at : Image → TreeAt → List ℕ
 nodes_at image at = nodes (form_at at) image (levels_at at) at.root at.count

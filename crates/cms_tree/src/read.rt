@@ -1,17 +1,19 @@
 // Trees read from a unit.
-ghost use Rattle.std.specs.Prelude.{◌≡◌, ◌⊎◌, ℕ, ◌+◌, ◌-◌, ◌*◌, ◌/◌, ◌^◌, ◌<◌, ◌≤◌, ◌++◌, true, [], min, length, vec_len, None, Err, IfOk, IfErr, OnOk, OnErr, IsErrOf};
+ghost use Rattle.std.specs.Prelude.{◌≡◌, ◌⊎◌, ℕ, ◌+◌, ◌-◌, ◌*◌, ◌/◌, ◌^◌, ◌<◌, ◌≤◌, ◌++◌, true, [], min, length, replicate, vec_len, None, Err, IfOk, IfErr, OnOk, OnErr, IsErrOf};
+ghost use Rattle.std.specs.List.{concat};
 ghost use Rattle.std.specs.Option.{ForSome};
 ghost use Rattle.cms_journal.specs.Journal.{HasBlock, HasBlocks, contents_of};
+ghost use Rattle.cms_model.specs.Sizes.{pointer_count};
 ghost use Rattle.cms_model.specs.Trees.{Image, image_of, is_allowed, tree};
 ghost use Rattle.cms_tree.specs.Walks.{Reads, Appends, IsWithin, AppendsWithin, form_at, image_at};
-ghost use Rattle.cms_tree.specs.Parts.{form_of, Joins, JoinsPart, IsPlain, IsRefusal, IsTaken, StaysWithin};
+ghost use Rattle.cms_tree.specs.Parts.{form_of, blocks_in, Grows, JoinsLeaf, JoinsPart, IsPlain, IsRefusal, IsTaken, StaysWithin};
 ghost use Rattle.cms_tree.specs.declared.types.TreeFault.TheVariants.{Device};
 ghost use Rattle.cms_world.specs.Seen.{OnlyReads, seen};
 
 use crate::{TreeAt, TreeFault, Walked, shape};
 use cms_text::bytes::word_at;
 use cms_world::{ReadFault, World};
-use std::alloc::Global;
+use std::alloc::{AllocError, Global};
 
 // How the trees of a volume stand on their unit.
 #[derive(Clone, Copy)]
@@ -32,6 +34,19 @@ struct Subtree {
     root: u32,
     count: u32,
     first: Option<u32>,
+}
+
+// The blocks that a walk has met: all in preorder, and the data blocks in order.
+#[derive(Drop)]
+struct MetBlocks {
+    blocks: Vec<u32>,
+    leaves: Vec<u32>,
+}
+
+// The pointer blocks of a level that a walk has met, from left to right.
+#[derive(Drop)]
+struct Tier {
+    blocks: Vec<u32>,
 }
 
 #[tactic(auto, unfolding(cms_model::specs::Trees::is_allowed))]
@@ -87,9 +102,9 @@ fn size_below(fan: u32, levels: u8) -> u64
 }
 
 // Appends a data block.
-fn take_leaf(layout: &Layout, part: &Subtree, into: &mut Walked) -> Result<(), TreeFault>
-    ensures read { (image : Image) (count : ℕ) → Joins into.old into.new result
-        (tree (form_of layout.now) image 0 part.now.first part.now.holder part.now.root count) [] }
+fn take_leaf(layout: &Layout, part: &Subtree, into: &mut MetBlocks) -> Result<(), TreeFault>
+    ensures read { (image : Image) (count : ℕ) → JoinsLeaf into.old into.new result
+        (tree (form_of layout.now) image 0 part.now.first part.now.holder part.now.root count) }
     ensures count { OnOk result (vec_len into.new.leaves ≡ vec_len into.old.leaves + 1) }
     ensures within { OnOk result (StaysWithin layout.now.last part.now.first into.old into.new) }
     ensures device { result ≡ Err Device → ⊥ }
@@ -105,11 +120,16 @@ fn take_leaf(layout: &Layout, part: &Subtree, into: &mut Walked) -> Result<(), T
     Ok(())
 }
 
-// Appends a pointer block.
-fn take_node(layout: &Layout, part: &Subtree, into: &mut Walked) -> Result<(), TreeFault>
+// Appends a pointer block to those of its level.
+fn take_node(
+    layout: &Layout,
+    part: &Subtree,
+    tier: &mut Tier,
+    into: &mut MetBlocks,
+) -> Result<(), TreeFault>
     ensures refused { IfErr result (λ fault. IsRefusal fault part.now.holder part.now.root
         (is_allowed layout.now.last None part.now.root)) }
-    ensures ok { OnOk result (IsTaken layout.now.last part.now.root into.old into.new) }
+    ensures ok { OnOk result (IsTaken layout.now.last part.now.root tier.old tier.new into.old into.new) }
     ensures device { result ≡ Err Device → ⊥ }
 {
     if !is_allowed(layout.last, None, part.root) {
@@ -119,7 +139,7 @@ fn take_node(layout: &Layout, part: &Subtree, into: &mut Walked) -> Result<(), T
         });
     }
     into.blocks.push(part.root)?;
-    into.pointers.push(part.root)?;
+    tier.blocks.push(part.root)?;
     Ok(())
 }
 
@@ -143,7 +163,32 @@ fn layout_of(at: &TreeAt) -> Layout
     }
 }
 
-/// Reads a tree: all its blocks in preorder, its pointer blocks in preorder and its data blocks in order.
+// So many levels, none of whose pointer blocks is met.
+fn empty_tiers(alloc: Global, levels: u8) -> Result<Vec<Tier>, AllocError>
+    ensures { IfOk result (λ tiers. blocks_in tiers.items ≡ replicate levels []) }
+{
+    let mut tiers = Vec::with_capacity(alloc, usize::from(levels))?;
+    for _ in 0..levels {
+        tiers.push(Tier {
+            blocks: Vec::new(alloc),
+        })?;
+    }
+    Ok(tiers)
+}
+
+// The pointer blocks of all levels, the bottom level first.
+fn joined(alloc: Global, tiers: &[Tier]) -> Result<Vec<u32>, AllocError>
+    ensures { IfOk result (λ pointers. pointers.items ≡ concat (blocks_in tiers.now)) }
+{
+    let mut pointers = Vec::new(alloc);
+    for tier in tiers {
+        pointers.extend_from_slice(&tier.blocks)?;
+    }
+    Ok(pointers)
+}
+
+/// Reads a tree: all its blocks in preorder, its pointer blocks level by level, bottom level first and each from left to right,
+/// and its data blocks in order.
 ///
 /// The tree has as many levels of pointer blocks as its shape; each is read once, and of it only the pointers that the data
 /// blocks below it need. A pointer is allowed from block 6 to the last of the volume, but that to the first data block where
@@ -156,6 +201,7 @@ pub fn walk<W: World>(alloc: Global, world: &mut W, at: &TreeAt) -> Result<Walke
 
     // What holds of it in each world.
     ensures count { IfOk result (λ walked. vec_len walked.leaves ≡ at.now.count) }
+    ensures pointers { IfOk result (λ walked. length walked.pointers.items ≡ pointer_count (at.now.bsize / at.now.psize) at.now.count) }
     ensures within { IfOk result (IsWithin at.now.volume at.now.first) }
     ensures reads { OnlyReads (seen W.World world.old) (seen W.World world.new) Device result }
 {
@@ -167,16 +213,20 @@ pub fn walk<W: World>(alloc: Global, world: &mut W, at: &TreeAt) -> Result<Walke
         count: at.count,
         first: at.first,
     };
-    let mut walked = Walked {
+    let mut tiers = empty_tiers(alloc, levels)?;
+    let mut met = MetBlocks {
         blocks: Vec::new(alloc),
-        pointers: Vec::new(alloc),
         leaves: Vec::new(alloc),
     };
-    walk_from(alloc, world, &layout, levels, &whole, &mut walked)?;
-    Ok(walked)
+    walk_from(alloc, world, &layout, levels, &whole, &mut tiers, &mut met)?;
+    Ok(Walked {
+        blocks: met.blocks,
+        pointers: joined(alloc, &tiers)?,
+        leaves: met.leaves,
+    })
 }
 
-/// Reads a tree as `walk` does, and appends its pointer blocks in preorder and its data blocks in order. After a refusal both
+/// Reads a tree as `walk` does, and appends its pointer blocks, level by level, and its data blocks in order. After a refusal both
 /// vectors hold what they held before.
 pub fn leaves<W: World>(
     alloc: Global,
@@ -194,6 +244,8 @@ pub fn leaves<W: World>(
 
     // What holds of it in each world.
     ensures count { OnOk result (vec_len leaves.new ≡ vec_len leaves.old + at.now.count) }
+    ensures pointers { OnOk result (length pointers.new.items ≡ length pointers.old.items
+        + pointer_count (at.now.bsize / at.now.psize) at.now.count) }
     ensures pointers_within { OnOk result (AppendsWithin at.now.volume None pointers.old.items pointers.new.items) }
     ensures leaves_within { OnOk result (AppendsWithin at.now.volume at.now.first leaves.old.items leaves.new.items) }
     ensures reads { OnlyReads (seen W.World world.old) (seen W.World world.new) Device result }
@@ -212,7 +264,8 @@ fn walk_from<W: World>(
     layout: &Layout,
     levels: u8,
     part: &Subtree,
-    into: &mut Walked,
+    tiers: &mut [Tier],
+    into: &mut MetBlocks,
 ) -> Result<(), TreeFault>
     requires fan { 2 ≤ layout.now.fan }
     requires stride { 4 ≤ layout.now.stride }
@@ -220,17 +273,19 @@ fn walk_from<W: World>(
     requires small { layout.now.fan ^ levels < 2 ^ 64 }
     requires some { 1 ≤ part.now.count }
     requires room { part.now.count ≤ layout.now.fan ^ levels }
+    requires tiers { length tiers.old ≡ levels }
     requires blocks { ForSome (W.told world.old) (λ j. HasBlocks j.units layout.now.unit layout.now.last layout.now.bsize) }
     ensures read { ForSome (W.told world.old) (λ j. JoinsPart (image_of
-        (contents_of j layout.now.unit)) layout.now levels part.now into.old into.new result) }
+        (contents_of j layout.now.unit)) layout.now levels part.now tiers.old tiers.new into.old into.new result) }
+    ensures grows { OnOk result (Grows layout.now.fan layout.now.last part.now.count tiers.old tiers.new) }
     ensures count { OnOk result (vec_len into.new.leaves ≡ vec_len into.old.leaves + part.now.count) }
     ensures within { OnOk result (StaysWithin layout.now.last part.now.first into.old into.new) }
     ensures reads { OnlyReads (seen W.World world.old) (seen W.World world.new) Device result }
 {
-    if levels == 0 {
+    let Some((top, below)) = tiers.split_last_mut() else {
         return take_leaf(layout, part, into);
-    }
-    take_node(layout, part, into)?;
+    };
+    take_node(layout, part, top, into)?;
     let block = read_block(alloc, world, layout, part.root)?;
     let size = size_below(layout.fan, levels);
     let mut left = part.count;
@@ -245,7 +300,7 @@ fn walk_from<W: World>(
             count: part_of(left, size),
             first,
         };
-        walk_from(alloc, world, layout, levels - 1, &child, into)?;
+        walk_from(alloc, world, layout, levels - 1, &child, below, into)?;
         left -= child.count;
         first = None;
     }

@@ -6,7 +6,7 @@ ghost use Rattle.cms_fields.specs.Numbers.{up};
 ghost use Rattle.cms_model.specs.Sizes.{levels, pointer_count};
 ghost use Rattle.cms_model.specs.Sharing.{any_within, is_kept, fresh_on, fresh_to};
 ghost use Rattle.cms_model.specs.SharedTimes.{without, gone};
-ghost use Rattle.cms_tree.specs.Paths.{IsRest, PathIsShared, PathIsWhole, PathTakesFirst, PathTakesNoMore, numbered, path_levels, tree_levels};
+ghost use Rattle.cms_tree.specs.Paths.{HeapedIsRead, IsRest, PathIsShared, PathIsWhole, PathTakesFirst, PathTakesNoMore, numbered, path_levels, tree_levels};
 
 use crate::shape;
 
@@ -246,10 +246,11 @@ pub fn left_out(
 }
 
 /// The tree of `path` shares its pointer blocks with the tree before, takes the first of the fresh numbers, as many as are counted and
-/// no more than it has pointer blocks, and has as many of these as its shape.
+/// no more than it has pointer blocks, and has as many of these as its shape. Where its levels stand, it is read so.
 pub fn path_laws()
     ensures shared { PathIsShared }
     ensures taken { PathTakesFirst }
     ensures whole { PathIsWhole }
     ensures few { PathTakesNoMore }
+    ensures read { HeapedIsRead }
 {}

@@ -85,7 +85,7 @@ impl From<AllocError> for ResumeFault {
 pub struct Walked {
     /// all its blocks in preorder
     pub blocks: Vec<u32>,
-    /// its pointer blocks in preorder
+    /// its pointer blocks, bottom level first and each from left to right
     pub pointers: Vec<u32>,
     /// its data blocks in order
     pub leaves: Vec<u32>,

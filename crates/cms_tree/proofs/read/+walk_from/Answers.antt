@@ -1,28 +1,49 @@
-use Rattle.std.proofs.Common.{◌≡◌, inl, inr, ℕ, ◌+◌, ◌-◌, ◌*◌, ◌^◌, ◌≤◌, min, List, ◌++◌, Ok, refl, sym, ◌∙◌, ap, subst, arith, Vec, Global, vec_len}
+use Rattle.std.proofs.Common.{◌≡◌, inl, inr, ℕ, ◌+◌, ◌-◌, ◌*◌, ◌^◌, ◌≤◌, min, List, [], ◌∷◌, ◌++◌, length, Result, Ok, Err, refl, sym, ◌∙◌, ap, subst, arith, Vec, Global, vec_len}
+use Rattle.std.specs.Prelude.{⊤}
+use Rattle.std.specs.Result.{OnOk}
 use Rattle.std.proofs.Math.Nat.{one-le-pow}
 use Rattle.std.proofs.lemmas.Result.{err_from_is_err_and}
 use Rattle.cms_journal.specs.Journal.{contents_of}
 use Rattle.cms_text.specs.Bytes.{word}
 use Rattle.cms_model.specs.Trees.{image_of, tree}
-use Rattle.cms_tree.specs.Parts.{form_of, met_of, onto, IsFaultOf}
-use Rattle.cms_tree.specs.Walks.{nodes}
+use Rattle.cms_model.specs.ByLevels.{beside, tiers}
+use Rattle.cms_tree.specs.declared.read.Tier.{Tier}
+use Rattle.cms_tree.specs.declared.types.TreeFault.{TreeFault}
+use Rattle.cms_tree.specs.Parts.{form_of, met_of, onto, blocks_in, Grows, IsFaultOf}
 use Rattle.cms_tree.proofs.Sums.{power_below, room_first, room_left, no_room}
 use Rattle.cms_tree.proofs.Blocks.{has_block, allowed_lies}
-use Rattle.cms_tree.proofs.Rest.{leaf_joins, node_refusal, node_plain, starts, goes_on, refusal_passes, ends}
-use Rattle.cms_tree.proofs.Within.{taken_within, part_within}
+use Rattle.cms_tree.proofs.Rest.{leaf_joins, node_refusal, node_plain, starts, goes_on, refusal_passes, node_joins}
+use Rattle.cms_tree.proofs.Within.{taken_within, part_within, node_grows, grows_both, grows_none}
 use Rattle.cms_tree.proofs.read.+walk_from.Goals as goal
 
-pub returns-then-levels-eq0-clause-read : goal.returns-then-levels-eq0-clause-read
-returns-then-levels-eq0-clause-read g t c = λ j told.
+-- where there is no level
+no_tiers : (ts : List Tier) → length ts ≡ 0 → ts ≡ []
+no_tiers [] is = refl
+no_tiers (t ∷ ts) is = absurd (omega arith)
+
+pub returns-in_default-clause-read : goal.returns-in_default-clause-read
+returns-in_default-clause-read g t c = λ j told.
     let a = c.args in
     let image = image_of (contents_of j a.layout.now.unit) in
-    leaf_joins image a.layout.now a.levels a.part.now a.into.now c.take_leaf.new.into c.take_leaf.result c.if-levels-eq0.true (c.take_leaf.ensures.read image a.part.now.count)
+    let none : a.levels ≡ 0 = sym c.requires.tiers ∙ c.in_default.ensures.cases in
+    leaf_joins image a.layout.now a.levels a.part.now a.tiers.now a.into.now c.take_leaf.new.into c.take_leaf.result none (c.take_leaf.ensures.read image a.part.now.count)
+
+pub returns-in_default-clause-grows : goal.returns-in_default-clause-grows
+returns-in_default-clause-grows g t c =
+    let a = c.args in
+    let none : a.tiers.now ≡ [] = no_tiers a.tiers.now c.in_default.ensures.cases in
+    always c.take_leaf.result (subst (λ (ts : List Tier). Grows a.layout.now.fan a.layout.now.last a.part.now.count ts ts) (sym none) (record { more = tt; within = λ all. all }))
+  where
+    always : (r : Result ⊤ TreeFault) → {P : Type 0} → P → OnOk r P
+    always (Ok x) p = p
+    always (Err e) p = tt
 
 pub returns-in_err-take_node-clause-read : goal.returns-in_err-take_node-clause-read
 returns-in_err-take_node-clause-read g t c = λ j told.
     let a = c.args in
     let image = image_of (contents_of j a.layout.now.unit) in
     let p = err_from_is_err_and c.from_residual.result c.from_residual.ensures.1 in
+    let deep = c.in-Some.ensures.cases.1 in
     rw (p.1, p.2) (node_refusal (form_of a.layout.now) image a.levels a.part.now.first a.part.now.holder a.part.now.root a.part.now.count c.in_err-take_node.field-0.0
     (omega arith) c.in_err-take_node.ensures.refused)
 
@@ -41,12 +62,16 @@ returns-in_err-block-clause-read g t c = λ j told.
 pub loop-place-init : goal.loop-place-init
 loop-place-init g t c =
     let a = c.args in
+    let deep = c.in-Some.ensures.cases.1 in
     record {
       comes = λ j told. starts (form_of a.layout.now) (image_of (contents_of j a.layout.now.unit)) a.levels a.part.now.first a.part.now.holder a.part.now.root a.part.now.count
-          c.in_ok-block.block.items a.into.now c.take_node.new.into (omega arith) c.in_ok-take_node.ensures.ok (c.in_ok-block.ensures.bytes j told);
+          c.in_ok-block.block.items c.in-Some.top.now c.take_node.new.tier c.in-Some.below.now a.into.now c.take_node.new.into (omega arith) c.in_ok-take_node.ensures.ok (c.in_ok-block.ensures.bytes j told);
+      grows = subst (λ (n : ℕ). Grows a.layout.now.fan a.layout.now.last n c.in-Some.below.now c.in-Some.below.now) (let none : 0 ≡ a.part.now.count - a.part.now.count = omega arith in none)
+          (grows_none a.layout.now.fan a.layout.now.last c.in-Some.below.now (omega arith));
+      whole = λ some. omega arith;
       count = ap (λ (v : Vec ℕ Global). vec_len v + a.part.now.count) c.in_ok-take_node.ensures.ok.leaves;
       room = room_first a.part.now.count a.layout.now.fan a.levels c.size_below-size.result (omega arith) c.requires.room c.size_below-size.ensures;
-      within = taken_within a.layout.now.last a.part.now.first a.part.now.root a.into.now c.take_node.new.into c.in_ok-take_node.ensures.ok;
+      within = taken_within a.layout.now.last a.part.now.first a.part.now.root c.in-Some.top.now c.take_node.new.tier a.into.now c.take_node.new.into c.in_ok-take_node.ensures.ok;
       next = inr refl;
       told = c.in_ok-block.ensures.reads.told;
       later = omega arith;
@@ -56,9 +81,20 @@ loop-place-init g t c =
 pub returns-then-left-eq0-clause-read : goal.returns-then-left-eq0-clause-read
 returns-then-left-eq0-clause-read g t c = λ j told.
     let a = c.args in
+    let deep = c.in-Some.ensures.cases.1 in
     let l = c.loop-place in
-    ends (form_of a.layout.now) (image_of (contents_of j a.layout.now.unit)) (a.levels - 1) a.part.now.root c.in_ok-block.block.items l.place l.left l.first a.into.now l.into _ _
-    (l.invariant.comes j told) c.if-left-eq0.true
+    node_joins (image_of (contents_of j a.layout.now.unit)) a.layout.now a.levels a.part.now c.in_ok-block.block.items l.place l.left l.first a.into.now l.into c.in-Some.below.now l.below
+    c.in-Some.top.now c.take_node.new.tier a.tiers.now (l.below ++ c.take_node.new.tier ∷ []) (omega arith) (omega arith) c.requires.some c.requires.tiers c.in-Some.ensures.cases.0 refl
+    c.in_ok-take_node.ensures.ok.of_tier (l.invariant.comes j told) c.if-left-eq0.true
+
+pub returns-then-left-eq0-clause-grows : goal.returns-then-left-eq0-clause-grows
+returns-then-left-eq0-clause-grows g t c =
+    let a = c.args in
+    let l = c.loop-place in
+    let all : a.part.now.count - l.left ≡ a.part.now.count = (let none = c.if-left-eq0.true in omega arith) in
+    node_grows a.layout.now.fan a.layout.now.last a.part.now.root a.part.now.count a.levels c.in-Some.below.now l.below c.in-Some.top.now c.take_node.new.tier a.into.now c.take_node.new.into
+    a.tiers.now (l.below ++ c.take_node.new.tier ∷ []) (omega arith) c.requires.some c.requires.room c.requires.tiers c.in_ok-take_node.ensures.ok c.in-Some.ensures.cases.0 refl
+    (subst (λ (n : ℕ). Grows a.layout.now.fan a.layout.now.last n c.in-Some.below.now l.below) all l.invariant.grows)
 
 pub walk_from-requires : goal.walk_from-requires
 walk_from-requires g t c κs within =
@@ -66,7 +102,9 @@ walk_from-requires g t c κs within =
     let l = c.loop-place in
     let size : c.size_below-size.result ≡ a.layout.now.fan ^ (a.levels - 1) = c.size_below-size.ensures in
     let some : 1 ≤ a.layout.now.fan ^ (a.levels - 1) = one-le-pow (a.levels - 1) a.layout.now.fan (omega arith) in
-    let small = power_below a.layout.now.fan a.levels (omega arith) in (
+    let small = power_below a.layout.now.fan a.levels (omega arith) in
+    let deep = c.in-Some.ensures.cases.1 in
+    let same = l.auto.below in (
       omega arith,
       (
         within,
@@ -76,7 +114,7 @@ walk_from-requires g t c κs within =
             c.requires.stride,
             (
               c.requires.fits,
-              (omega arith, (omega (arith, c.part_of.ensures), (omega (arith, c.part_of.ensures), λ j told. c.requires.blocks j (sym l.invariant.told ∙ told)))),
+              (omega arith, (omega (arith, c.part_of.ensures), (omega (arith, c.part_of.ensures), (omega arith, λ j told. c.requires.blocks j (sym l.invariant.told ∙ told))))),
             ),
           ),
         ),
@@ -95,7 +133,7 @@ returns-in_err-walk_from-clause-read g t c = λ j told.
     let part : c.part_of.result ≡ min l.left (a.layout.now.fan ^ (a.levels - 1)) = c.part_of.ensures ∙ ap (λ (n : ℕ). min l.left n) c.size_below-size.ensures in
     let read = c.in_err-walk_from.ensures.read j (l.invariant.told ∙ told) in
     rw (p.1, p.2)
-    (refusal_passes form image (a.levels - 1) a.part.now.root c.in_ok-block.block.items l.place l.left c.part_of.result l.first a.into.now l.into _ _ c.in_err-walk_from.field-0.0
+    (refusal_passes form image (a.levels - 1) a.part.now.root c.in_ok-block.block.items l.place l.left c.part_of.result l.first a.into.now l.into _ _ _ _ c.in_err-walk_from.field-0.0
     (l.invariant.comes j told) (omega arith) (omega arith) part
     (subst (λ (n : ℕ). IsFaultOf c.in_err-walk_from.field-0.0 (tree form image (a.levels - 1) l.first a.part.now.root n c.part_of.result)) child read))
 
@@ -103,6 +141,9 @@ pub loop-place-preserved : goal.loop-place-preserved
 loop-place-preserved g t c =
     let a = c.args in
     let l = c.loop-place in
+    let deep = c.in-Some.ensures.cases.1 in
+    let least : c.part_of.result ≡ min l.left c.size_below-size.result = c.part_of.ensures in
+    let all : a.part.now.count ≡ l.place * c.size_below-size.result + l.left = l.invariant.whole (let some = c.if-left-eq0.false in omega arith) in
     record {
       comes = λ j told.
           let image = image_of (contents_of j a.layout.now.unit) in
@@ -111,10 +152,20 @@ loop-place-preserved g t c =
           c.word_at.ensures ∙ ap (λ (bytes : List ℕ). word bytes (l.place * a.layout.now.stride)) c.deref.ensures.value in
           let part : c.part_of.result ≡ min l.left (a.layout.now.fan ^ (a.levels - 1)) = c.part_of.ensures ∙ ap (λ (n : ℕ). min l.left n) c.size_below-size.ensures in
           let read = c.in_ok-walk_from.ensures.read j (l.invariant.told ∙ told) in
-          goes_on form image (a.levels - 1) a.part.now.root c.in_ok-block.block.items l.place l.left c.part_of.result l.first a.into.now l.into c.walk_from.new.into _ _ (omega arith)
-          (omega arith) part (l.invariant.comes j told)
+          goes_on form image (a.levels - 1) a.part.now.root c.in_ok-block.block.items l.place l.left c.part_of.result l.first a.into.now l.into c.walk_from.new.into c.in-Some.below.now l.below c.walk_from.new.tiers
+          _ _ (omega arith) (omega arith) part (l.invariant.comes j told)
           (subst (λ (n : ℕ). onto (met_of l.into) (tree form image (a.levels - 1) l.first a.part.now.root n c.part_of.result) ≡ Ok (met_of c.walk_from.new.into)) child read.0)
-          (subst (λ (n : ℕ). c.walk_from.new.into.pointers.items ≡ l.into.pointers.items ++ nodes form image (a.levels - 1) n c.part_of.result) child read.1);
+          (subst (λ (n : ℕ). blocks_in c.walk_from.new.tiers ≡ beside (blocks_in l.below) (tiers form image (a.levels - 1) n c.part_of.result)) child read.1);
+      grows =
+          let down : length c.in-Some.below.now ≡ a.levels - 1 = omega arith in
+          let done : a.part.now.count - l.left ≡ l.place * a.layout.now.fan ^ length c.in-Some.below.now =
+          (let e : a.part.now.count - l.left ≡ l.place * c.size_below-size.result = omega arith in e)
+          ∙ ap (λ (n : ℕ). l.place * n) (c.size_below-size.ensures ∙ ap (λ (n : ℕ). a.layout.now.fan ^ n) (sym down)) in
+          let sum : (a.part.now.count - l.left) + c.part_of.result ≡ a.part.now.count - (l.left - c.part_of.result) = omega arith in
+          subst (λ (n : ℕ). Grows a.layout.now.fan a.layout.now.last n c.in-Some.below.now c.walk_from.new.tiers) sum
+          (grows_both a.layout.now.fan a.layout.now.last (a.part.now.count - l.left) c.part_of.result l.place c.in-Some.below.now l.below c.walk_from.new.tiers (omega arith) done l.invariant.grows
+          c.in_ok-walk_from.ensures.grows);
+      whole = λ some. omega arith;
       count = omega (arith, c.in_ok-walk_from.ensures.count, l.invariant.count, c.part_of.ensures);
       room = room_left l.left c.part_of.result a.layout.now.fan l.place c.size_below-size.result l.invariant.room (omega arith) c.part_of.ensures;
       within = part_within a.layout.now.last a.part.now.first l.first a.into.now l.into c.walk_from.new.into l.invariant.next l.invariant.within c.in_ok-walk_from.ensures.within;
@@ -127,7 +178,19 @@ loop-place-preserved g t c =
 pub returns-clause-read : goal.returns-clause-read
 returns-clause-read g t c = λ j told.
     let a = c.args in
+    let deep = c.in-Some.ensures.cases.1 in
     let l = c.loop-place in
     let none = no_room l.left a.layout.now.fan l.place c.size_below-size.result l.invariant.room (omega arith) in
-    ends (form_of a.layout.now) (image_of (contents_of j a.layout.now.unit)) (a.levels - 1) a.part.now.root c.in_ok-block.block.items l.place l.left l.first a.into.now l.into _ _
-    (l.invariant.comes j told) none
+    node_joins (image_of (contents_of j a.layout.now.unit)) a.layout.now a.levels a.part.now c.in_ok-block.block.items l.place l.left l.first a.into.now l.into c.in-Some.below.now l.below
+    c.in-Some.top.now c.take_node.new.tier a.tiers.now (l.below ++ c.take_node.new.tier ∷ []) (omega arith) (omega arith) c.requires.some c.requires.tiers c.in-Some.ensures.cases.0 refl
+    c.in_ok-take_node.ensures.ok.of_tier (l.invariant.comes j told) none
+
+pub returns-clause-grows : goal.returns-clause-grows
+returns-clause-grows g t c =
+    let a = c.args in
+    let l = c.loop-place in
+    let none = no_room l.left a.layout.now.fan l.place c.size_below-size.result l.invariant.room (omega arith) in
+    let all : a.part.now.count - l.left ≡ a.part.now.count = omega arith in
+    node_grows a.layout.now.fan a.layout.now.last a.part.now.root a.part.now.count a.levels c.in-Some.below.now l.below c.in-Some.top.now c.take_node.new.tier a.into.now c.take_node.new.into
+    a.tiers.now (l.below ++ c.take_node.new.tier ∷ []) (omega arith) c.requires.some c.requires.room c.requires.tiers c.in_ok-take_node.ensures.ok c.in-Some.ensures.cases.0 refl
+    (subst (λ (n : ℕ). Grows a.layout.now.fan a.layout.now.last n c.in-Some.below.now l.below) all l.invariant.grows)

@@ -1,11 +1,26 @@
-use Rattle.std.proofs.Common.{◌≡◌, ℕ, inr, refl, subst, ap, arith}
+use Rattle.std.proofs.Common.{◌≡◌, ℕ, zero, suc, ◌/◌, ◌≤◌, inr, List, [], length, None, Ok, refl, sym, ◌∙◌, subst, ap, arith}
+use Rattle.std.specs.Prelude.{replicate}
+use Rattle.std.specs.List.{concat}
+use Rattle.std.specs.Vec.{with_items}
+use Rattle.std.proofs.lemmas.List.{length-replicate, with_items_is}
+use Rattle.cms_journal.specs.Journal.{contents_of}
+use Rattle.cms_model.specs.Lists.{In}
+use Rattle.cms_model.specs.Sizes.{levels, pointer_count}
+use Rattle.cms_model.specs.Trees.{none_met, image_of, tree}
 use Rattle.cms_model.proofs.Shapes.{levels_needs}
 use Rattle.cms_tree.proofs.Sums.{levels_room}
 use Rattle.cms_tree.proofs.Within.{none_within}
 use Rattle.cms_model.specs.Trees.{Form}
-use Rattle.cms_tree.specs.declared.types.Walked.{Walked}
-use Rattle.cms_tree.specs.Walks.{IsWithin}
+use Rattle.cms_tree.specs.declared.read.MetBlocks.{MetBlocks}
+use Rattle.cms_tree.specs.declared.read.Tier.{Tier}
+use Rattle.cms_tree.specs.Levels.{over_count}
+use Rattle.cms_tree.specs.Parts.{form_of, met_of, blocks_in}
+use Rattle.cms_tree.specs.Walks.{AreWithin, form_at, levels_at, nodes, nodes_at, tree_at}
+use Rattle.cms_tree.proofs.Rest.{length-blocks_in, more_sum, walk_read}
+use Rattle.cms_tree.proofs.Stepping.{over_all}
+use Rattle.cms_tree.proofs.read.walk.Given as given
 use Rattle.cms_tree.proofs.read.walk.Goals as goal
+use Rattle.cms_tree.proofs.read.walk.Goals.{After-drop-tiers-2}
 
 pub walk_from-requires-clause-small : goal.walk_from-requires-clause-small
 walk_from-requires-clause-small g c =
@@ -18,10 +33,71 @@ walk_from-requires-clause-room g c =
     let fan = c.layout_of-layout.result.fan in
     rw c.shape-levels.ensures.levels (levels_needs fan c.args.at.now.count c.layout_of-layout.ensures.fan.0 (omega arith)).fits
 
+-- how the tree stands, as its form and its levels say
+form_is : (g : given.Over) (c : After-drop-tiers-2 g) → (c.layout_of-layout.result.fan ≡ c.args.at.now.bsize / c.args.at.now.psize) × (c.layout_of-layout.result.last ≡ c.args.at.now.volume)
+form_is g c = (ap (λ (f : Form). f.fan) c.layout_of-layout.ensures.form, ap (λ (f : Form). f.last) c.layout_of-layout.ensures.form)
+
+-- the levels behind the walk
+tiers_after : (g : given.Over) (c : After-drop-tiers-2 g) → c.in_ok-joined.field-0.items ≡ concat (blocks_in c.walk_from.new.tiers)
+tiers_after g c =
+    let kept : (with_items c.in_ok-tiers.tiers c.walk_from.new.tiers).items ≡ c.walk_from.new.tiers = with_items_is c.in_ok-tiers.tiers c.walk_from.new.tiers (c.walk_from.auto.tiers ∙ c.deref_mut.ensures.len) in
+    c.in_ok-joined.ensures ∙ ap (λ (ts : List Tier). concat (blocks_in ts)) (c.deref.ensures.value ∙ kept)
+
+-- and before it
+tiers_before : (g : given.Over) (c : After-drop-tiers-2 g) → blocks_in c.deref_mut.result.now ≡ replicate c.shape-levels.result.levels []
+tiers_before g c = ap (λ (ts : List Tier). blocks_in ts) c.deref_mut.ensures.value ∙ c.in_ok-tiers.ensures
+
+pub walk_from-requires-clause-tiers : goal.walk_from-requires-clause-tiers
+walk_from-requires-clause-tiers g c =
+    let ts = c.deref_mut.result.now in
+    let empty : blocks_in ts ≡ replicate c.shape-levels.result.levels [] = ap (λ (l : List Tier). blocks_in l) c.deref_mut.ensures.value ∙ c.in_ok-tiers.ensures in
+    sym (length-blocks_in ts) ∙ ap (λ (ls : List (List ℕ)). length ls) empty ∙ length-replicate {A = List ℕ} c.shape-levels.result.levels []
+
 pub returns-clause-within : goal.returns-clause-within
 returns-clause-within g c =
     let at = c.args.at.now in
-    let old : Walked = record { blocks = c.new.result; pointers = c.new-2.result; leaves = c.new-3.result } in
-    let last : c.layout_of-layout.result.last ≡ at.volume = ap (λ (f : Form). f.last) c.layout_of-layout.ensures.form in
-    let stays = c.in_ok-walk_from.ensures.within at.first (inr refl) (none_within c.layout_of-layout.result.last at.first old c.new.ensures.items c.new-2.ensures.items c.new-3.ensures.items) in
-    subst (λ (n : ℕ). IsWithin n at.first c.walk_from.new.into) last stays
+    let here = (goal.at.returns-clause-within g c).After-drop-tiers-2 in
+    let old : MetBlocks = record { blocks = c.new.result; leaves = c.new-2.result } in
+    let last = (form_is g here).1 in
+    let stays = c.in_ok-walk_from.ensures.within at.first (inr refl) (none_within c.layout_of-layout.result.last at.first old c.new.ensures.items c.new-2.ensures.items) in
+    let all : AreWithin c.layout_of-layout.result.last None c.in_ok-joined.field-0.items = subst (AreWithin c.layout_of-layout.result.last None) (sym (tiers_after g here))
+    (c.in_ok-walk_from.ensures.grows.within (λ n is_in. absurd (none_in c.shape-levels.result.levels n (subst (λ (ls : List (List ℕ)). In n (concat ls)) (tiers_before g here) is_in)))) in
+    record {
+      blocks = subst (λ (n : ℕ). AreWithin n at.first c.walk_from.new.into.blocks.items) last stays.blocks;
+      pointers = subst (λ (n : ℕ). AreWithin n None c.in_ok-joined.field-0.items) last all;
+      leaves = subst (λ (n : ℕ). AreWithin n at.first c.walk_from.new.into.leaves.items) last stays.leaves;
+    }
+  where
+    none_in : (k n : ℕ) → In n (concat (replicate {A = List ℕ} k [])) → ⊥
+    none_in zero n is_in = is_in
+    none_in (suc k) n is_in = none_in k n is_in
+
+pub returns-clause-read : goal.returns-clause-read
+returns-clause-read g c = λ j told.
+    let at = c.args.at.now in
+    let here = (goal.at.returns-clause-read g c).After-drop-tiers-2 in
+    let layout = c.layout_of-layout.result in
+    let k = c.shape-levels.result.levels in
+    let old : MetBlocks = record { blocks = c.new.result; leaves = c.new-2.result } in
+    let none : met_of old ≡ none_met = rw (c.new.ensures.items, c.new-2.ensures.items) refl in
+    let read = c.in_ok-walk_from.ensures.read j told in
+    let image = image_of (contents_of j layout.unit) in
+    let some : 1 ≤ layout.fan = (let wide = c.layout_of-layout.ensures.fan.0 in omega arith) in
+    let whole = walk_read (form_of layout) image k at.first at.holder at.root at.count old c.walk_from.new.into c.deref_mut.result.now c.walk_from.new.tiers c.in_ok-joined.field-0.items some c.requires.some none
+    (tiers_before g here) read.0 read.1 (tiers_after g here) in
+    let levels_are : k ≡ levels_at at = c.shape-levels.ensures.levels ∙ ap (λ (fan : ℕ). levels fan at.count) (form_is g here).0 in
+    let met = met_of c.walk_from.new.into in
+    let pointers = c.in_ok-joined.field-0.items in
+    subst (λ (n : ℕ). (tree_at (image_of (contents_of j n)) at ≡ Ok met) × (pointers ≡ nodes_at (image_of (contents_of j n)) at)) c.layout_of-layout.ensures.unit
+    (subst (λ (n : ℕ). (tree (form_at at) image n at.first at.holder at.root at.count ≡ Ok met) × (pointers ≡ nodes (form_at at) image n at.root at.count)) levels_are
+    (subst (λ (f : Form). (tree f image k at.first at.holder at.root at.count ≡ Ok met) × (pointers ≡ nodes f image k at.root at.count)) c.layout_of-layout.ensures.form whole))
+
+pub returns-clause-pointers : goal.returns-clause-pointers
+returns-clause-pointers g c =
+    let at = c.args.at.now in
+    let here = (goal.at.returns-clause-pointers g c).After-drop-tiers-2 in
+    let fan = c.layout_of-layout.result.fan in
+    let k = c.shape-levels.result.levels in
+    let wide = c.layout_of-layout.ensures.fan.0 in
+    ap length (tiers_after g here) ∙ more_sum fan at.count k (blocks_in c.deref_mut.result.now) (blocks_in c.walk_from.new.tiers) (tiers_before g here) c.in_ok-walk_from.ensures.grows.more
+    ∙ ap (λ (n : ℕ). over_count fan n at.count) c.shape-levels.ensures.levels ∙ over_all fan at.count (omega arith) ∙ ap (λ (n : ℕ). pointer_count n at.count) (form_is g here).0

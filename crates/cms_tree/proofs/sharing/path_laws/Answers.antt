@@ -1,3 +1,4 @@
+use Rattle.cms_tree.proofs.Heaps.{heaped_is_read}
 use Rattle.cms_tree.proofs.Pathing.{path_is_shared, path_is_whole, path_takes_first, path_takes_no_more}
 use Rattle.cms_tree.proofs.sharing.path_laws.Goals as goal
 
@@ -12,3 +13,6 @@ returns-clause-whole c = path_is_whole
 
 pub returns-clause-few : goal.returns-clause-few
 returns-clause-few c = path_takes_no_more
+
+pub returns-clause-read : goal.returns-clause-read
+returns-clause-read c = heaped_is_read
