@@ -48,6 +48,7 @@ answered s vdev n ends.Failed = device_fault s vdev
 answered s vdev n (ends.NoVolume k) = refusal s (M112 (device_text vdev) (decimal_of k)) no_disk
 answered s vdev n (ends.Done read_only) = told s vdev n read_only
 
+-- the volume of the line's device is accessed as its letter, and what that came to is typed
 abbrev pub access_disk : Machine → AccessLine → Act Course
 access_disk s line = bind (accessing s line.vdev line.mode.letter line.mode.ext) (λ x. answered x.0 line.vdev line.mode.letter x.1)
 

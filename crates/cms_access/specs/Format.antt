@@ -51,6 +51,7 @@ abbrev pub block_size : Option ℕ → Parameter
 block_size None = takes.Number 0 largest
 block_size (Some bsize) = takes.Number bsize bsize
 
+-- LABEL, and BLKSIZE with the device's block size
 abbrev pub options : Option ℕ → List OptionForm
 options bsize = flag (codes "LABEL   ") 5 ∷ form (codes "BLKSIZE ") 7 (block_size bsize) ∷ []
 
@@ -64,6 +65,7 @@ relabels bsize words = do
 abbrev pub size_of : List Device → ℕ → Option ℕ
 size_of devices vdev = option_map (λ d. d.bsize) (option_and_then (λ u. slice_get devices u) (unit_with vdev devices))
 
+-- what FORMAT's line says, or the first refusal
 abbrev pub format_line : List Device → List Token → Result Formatting Refusal
 format_line devices words = do
   line ← format_operands (operands_of words)
@@ -76,6 +78,7 @@ format_line devices words = do
 abbrev pub reply : List ℕ → List ℕ
 reply line = without_leading_blanks (without_trailing_blanks (map upper_of line))
 
+-- the reply to the first question is YES or 1
 unfoldable pub goes_on : List ℕ → Bool
 goes_on text = is_keyword (codes "YES") text || is_keyword (codes "1") text
 
@@ -88,11 +91,14 @@ pub data Labelling : Type 0 where
   Labelled : Machine → List ℕ → Labelling
   Ended : Course → Labelling
 
+-- the reply to the second question is a label, in six columns; or it is refused, and the command
+-- ends
 abbrev pub labelled : Machine → List ℕ → Act Labelling
 labelled s text =
     if is_label text then Done (Labelled s (left_in 6 text))
     else bind (refusal s (M062 text) 20) (λ course. Done (Ended course))
 
+-- the line that was asked for is taken as the label; or no turn was left for it
 abbrev pub on_label : Asked → Act Labelling
 on_label (Given s line) = labelled s (reply line)
 on_label Spent = Done (Ended OutOfTurns)
@@ -101,10 +107,12 @@ on_label Spent = Done (Ended OutOfTurns)
 abbrev pub asking_label : Machine → Act Labelling
 asking_label s = Out (typed_line (message_text M605)) (bind (ask s) on_label)
 
+-- goes on with the label, or the command has ended
 abbrev pub with_label : (Machine → List ℕ → Act Course) → Labelling → Act Course
 with_label next (Labelled s volid) = next s volid
 with_label next (Ended course) = Done course
 
+-- goes on where the first reply says so, else the command ends with code 8; or no turn was left
 abbrev pub on_reply : (Machine → Act Course) → Asked → Act Course
 on_reply next (Given s line) = if goes_on (reply line) then next s else Done (Went s (pos 8))
 on_reply next Spent = Done OutOfTurns
@@ -116,11 +124,13 @@ asking_first s line next =
 
 -- ---- the unit of a device
 
+-- goes on with the unit, its device and what is known of it; or no unit has the device
 abbrev pub in_slot : Machine → ℕ → (ℕ → Device → Slot → Act Course) → ℕ → Option Device → Option Slot → Act Course
 in_slot s vdev next u (Some d) (Some slot) = next u d slot
 in_slot s vdev next u (Some d) None = no_device s vdev
 in_slot s vdev next u None slot = no_device s vdev
 
+-- the same by the unit's place
 abbrev pub in_place : Machine → ℕ → (ℕ → Device → Slot → Act Course) → Option ℕ → Act Course
 in_place s vdev next None = no_device s vdev
 in_place s vdev next (Some u) = in_slot s vdev next u (slice_get s.devices u) (slice_get s.units u)
@@ -135,14 +145,17 @@ on_device s vdev next = in_place s vdev next (unit_with vdev s.devices)
 abbrev pub accessed : ℕ → ℕ → Machine → Machine
 accessed u n s = record s { letters = slice_set s.letters n (Some (letter_for u true n None)) }
 
+-- the volume is accessed as the letter, and its blocks are typed
 abbrev pub finished : Machine → ℕ → FormatLine → ℕ → Act Course
 finished s u line blocks =
     Out (typed_line (message_text (M733 (decimal_of blocks) (letter_text line.letter) (device_text line.vdev))))
     (Done (Went (accessed u line.letter s) (pos 0)))
 
+-- the making's outcome: the volume is there, or its device failed
 abbrev pub made : Machine → ℕ → FormatLine → ℕ → Outcome → Act Course
 made s u line blocks o = unless_fault s line.letter line.vdev o (finished s u line blocks)
 
+-- the empty minidisk is made as a step of the unit
 abbrev pub making : Machine → ℕ → FormatLine → Minidisk → Step → Act Course
 making s u line m step = Does step (λ o. made (after_step s step o) u line m.total o)
 
@@ -150,6 +163,7 @@ making s u line m step = Does step (λ o. made (after_step s step o) u line m.to
 abbrev pub wiped : Machine → ℕ → FormatLine → Minidisk → Outcome → Act Course
 wiped s u line m o = unless_fault s line.letter line.vdev o (making s u line m (Make u (Not 2) m (stamp_of s.moment)))
 
+-- the unit is wiped as a step, and the making follows
 abbrev pub wiping : Machine → ℕ → FormatLine → Minidisk → Step → Act Course
 wiping s u line m step = Does step (λ o. wiped (after_step s step o) u line m o)
 
@@ -157,10 +171,12 @@ wiping s u line m step = Does step (λ o. wiped (after_step s step o) u line m o
 abbrev pub vacated : ℕ → ℕ → Machine → Machine
 vacated u n s = left_by u (released n s)
 
+-- the unit and the letter are released, and an empty minidisk of all its blocks is made on it
 abbrev pub remaking_in : Machine → FormatLine → List ℕ → ℕ → Device → Slot → Act Course
 remaking_in s line volid u d slot =
     wiping (vacated u line.letter s) u line (empty_minidisk volid d.bsize d.blocks) (Wipe u (state_in slot))
 
+-- the same for the device of the line
 abbrev pub remaking : FormatLine → Machine → List ℕ → Act Course
 remaking line s volid = on_device s line.vdev (remaking_in s line volid)
 
@@ -168,6 +184,7 @@ remaking line s volid = on_device s line.vdev (remaking_in s line volid)
 abbrev pub erasing : FormatLine → Machine → Act Course
 erasing line s = bind (asking_label s) (with_label (remaking line))
 
+-- the unit has fewer than 8 blocks
 abbrev pub too_small : Machine → ℕ → Act Course
 too_small s vdev = refusal s (M114 (device_text vdev)) no_disk
 
@@ -179,12 +196,15 @@ formatting s line d =
 
 -- ---- the volume id is changed
 
+-- the volume id of letter n is changed, and what that came to is typed
 abbrev pub relabelling : ℕ → Machine → List ℕ → Act Course
 relabelling n s volid = bind (changing s n (Relabel volid)) (change_told n)
 
+-- a label is asked for, and the volume id changed
 abbrev pub asking_relabel : ℕ → Machine → Act Course
 asking_relabel n s = bind (asking_label s) (with_label (relabelling n))
 
+-- the same for the letter of the line, where it may be written
 abbrev pub relabel_disk : Machine → FormatLine → Letter → Act Course
 relabel_disk s line disk = if disk.read_only then read_only s line.letter else asking_relabel line.letter s
 
@@ -195,6 +215,7 @@ relabel s line (Some disk) = if vdev_of s disk.unit == line.vdev then relabel_di
 
 -- ---- the command
 
+-- the unit is in doubt
 abbrev pub in_doubt : Machine → ℕ → Act Course
 in_doubt s vdev = refusal s (M115 (device_text vdev)) no_disk
 
@@ -204,6 +225,7 @@ format_unit s f u d slot =
     if is_doubt slot then in_doubt s f.line.vdev
     else (if f.relabels then relabel s f.line (letter_at s f.line.letter) else formatting s f.line d)
 
+-- what the line says is done to its device
 abbrev pub format_disk : Machine → Formatting → Act Course
 format_disk s f = on_device s f.line.vdev (format_unit s f)
 

@@ -44,6 +44,7 @@ query_of operands text =
     else (if is_keyword (codes "SEARCH") text then search_operands operands
     else Err (BadOperand 1))
 
+-- what is asked for: DISK with a letter or *, or SEARCH
 unfoldable pub query_operands : List Token → Result Question Refusal
 query_operands operands = do
   text ← needed operands 1
@@ -55,9 +56,11 @@ query_line words = without_options words (query_operands (operands_of words))
 
 -- ---- QUERY DISK
 
+-- the header of QUERY DISK
 abbrev pub header : List ℕ
 header = coded (codes "LABEL  VDV M STA BLKSZ  FILES     USED     FREE    TOTAL")
 
+-- how a disk is shown that may only be read, and one that may be written
 abbrev pub status : Bool → List ℕ
 status read_only = ebcdic (if read_only then codes "R/O" else codes "R/W")
 
@@ -78,6 +81,7 @@ disk_text n vdev read_only volid bsize files free total = spaced (
 abbrev pub seen_count : Letter → Minidisk → ℕ
 seen_count disk m = count_by (λ f. is_seen disk f) m.files
 
+-- the line of a letter's disk in QUERY DISK, by its minidisk
 abbrev pub disk_line : Machine → ℕ → Letter → Minidisk → List ℕ
 disk_line s n disk m = disk_text n (vdev_of s disk.unit) disk.read_only m.volid m.bsize (seen_count disk m) (free_count m) m.total
 
@@ -93,6 +97,7 @@ search_text n vdev parent read_only volid = spaced (
     ∷ left_in 3 (with_parent n parent)
     ∷ status read_only ∷ [])
 
+-- the line of a letter's disk in QUERY SEARCH
 abbrev pub search_line : Machine → ℕ → Letter → Minidisk → List ℕ
 search_line s n disk m = search_text n (vdev_of s disk.unit) disk.parent disk.read_only m.volid
 
@@ -105,9 +110,11 @@ line_of shown s n =
 abbrev pub all_lines : (Machine → ℕ → Letter → Minidisk → List ℕ) → Machine → List (List ℕ)
 all_lines shown s = flat_map (line_of shown s) (places_where is_some s.letters)
 
+-- lines are typed, and the code is 0
 abbrev pub typed : Machine → List (List ℕ) → Act Course
 typed s lines = typing lines (Done (Went s (pos 0)))
 
+-- the line of one letter's disk, below the header; or the letter isn't accessed
 abbrev pub query_letter : Machine → ℕ → Option Letter → Act Course
 query_letter s n None = not_accessed s n
 query_letter s n (Some disk) = typed s (header ∷ line_of disk_line s n)

@@ -16,6 +16,7 @@ use Rattle.cms_access.specs.declared.questions.Label.TheVariants as label
 abbrev pub question_tree : State → Message → List Slot → Act Asked
 question_tree s message units = Out (typed_line (message_text message)) (ask_tree s units)
 
+-- the label is asked for, on the machine with these units
 abbrev pub label_tree : State → List Slot → Act Labelling
 label_tree s units = asking_label (machine_of s units)
 

@@ -30,6 +30,7 @@ release_line words = without_options words (release_operands (operands_of words)
 abbrev pub releasing : Machine → ℕ → Act Course
 releasing s n = Done (Went (released n s) (pos 0))
 
+-- the letter's disk is released; or no disk has the letter
 abbrev pub release_letter : Machine → ℕ → Option Letter → Act Course
 release_letter s n None = not_accessed s n
 release_letter s n (Some disk) = releasing s n
@@ -39,10 +40,12 @@ abbrev pub release_unit : Machine → ℕ → Option ℕ → Act Course
 release_unit s vdev None = refusal s (M069 (device_text vdev)) no_disk
 release_unit s vdev (Some n) = releasing s n
 
+-- the disk of the device is released; or no unit has the device
 abbrev pub release_device : Machine → ℕ → Option ℕ → Act Course
 release_device s vdev None = no_device s vdev
 release_device s vdev (Some u) = release_unit s vdev (letter_with u s.letters)
 
+-- the same for what the line names, a device or a letter
 abbrev pub release_disk : Machine → Target → Act Course
 release_disk s (target.Device vdev) = release_device s vdev (unit_with vdev s.devices)
 release_disk s (target.Letter n) = release_letter s n (letter_at s n)

@@ -20,6 +20,7 @@ seat_text Disk n vdev s = disk_text n vdev s.letter.read_only s.disk.volume.labe
     (count_seen s.letter.read_only s.disk.volume) (length (free_blocks s.disk.volume.bits)) s.disk.volume.label.blocks
 seat_text Search n vdev s = search_text n vdev s.letter.parent s.letter.read_only s.disk.volume.label.volid
 
+-- the device of a seated disk
 abbrev pub device_in : Accesses → Seated → ℕ
 device_in t s = option_map_or (λ unit. unit.vdev) (slice_get t.units s.letter.unit) 0
 

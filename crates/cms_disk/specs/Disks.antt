@@ -136,6 +136,8 @@ pub record StartsAt (name : Name) (v : HeldVolume) (c : Reading) : Type 0 where
 abbrev pub OpensFile : Image → Name → Minidisk → Reading → Type 0
 OpensFile image name m c = (f : File) × (file_named name m.files ≡ Some f) × HasLeft image c f.records
 
+-- the cursor stands before the file of this name, in each image of which the disk holds the
+-- minidisk
 abbrev pub OpensIn : Accessed → Name → Reading → Type 0
 OpensIn d name c = (image : Image) (m : Minidisk) → StandsIn image d m → OpensFile image name m c
 

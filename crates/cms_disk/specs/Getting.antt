@@ -49,6 +49,7 @@ GetsFile name m (Err failed.Altered) = ⊥
 GetsFile name m (Err (failed.Limit which)) = ⊥
 GetsFile name m (Err (failed.Full need free)) = ⊥
 
+-- what was read whole is the file of this name, in each image of which the disk holds the minidisk
 abbrev pub GetsIn : Image → Accessed → Name → Result FileData DiskFault → Type 0
 GetsIn image d name result = (m : Minidisk) → StandsIn image d m → GetsFile name m result
 

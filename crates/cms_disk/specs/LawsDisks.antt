@@ -17,6 +17,7 @@ pub record Tells (image : Image) (d : Accessed) (m : Minidisk) : Type 0 where
   pub held : IsMinidiskOf image d.volume m
   pub found : (name : Name) → IsFound name m.files (place_of name d.volume)
 
+-- a disk that stands for a minidisk tells its files and its room
 abbrev pub StandsTells : Type 0
 StandsTells = (image : Image) (d : Accessed) (m : Minidisk) → StandsIn image d m → Tells image d m
 
@@ -25,6 +26,7 @@ pub record Rests (disk : Disk) (j : Journal) (u : ℕ) : Type 0 where
   pub settled : (v : Opened) → open_of disk (now j u) ≡ Ok v → IsSettled disk j u v
   pub refused : (why : OpenFault) → open_of disk (now j u) ≡ Err why → IsFirm disk j u (Not (reason why))
 
+-- a quiet unit has one state in every crash image, and its contents have it
 abbrev pub QuietRests : Type 0
 QuietRests = (disk : Disk) (j : Journal) (u : ℕ) → IsQuiet disk j u → Rests disk j u
 

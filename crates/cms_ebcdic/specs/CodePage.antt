@@ -40,6 +40,7 @@ upper_of x = unwrap_or (option_and_then (λ c. code_of (capital_of c)) (characte
 unfoldable pub lower_of : ℕ → ℕ
 lower_of x = unwrap_or (option_and_then (λ c. code_of (small_of c)) (character_of x)) x
 
+-- a number is from low to high
 abbrev pub is_within : ℕ → ℕ → ℕ → Bool
 is_within low high x = nat_le low x && nat_le x high
 

@@ -17,6 +17,7 @@ info_of f = record {
   stamp = f.entry.stamp;
 }
 
+-- what is told of each file, in order
 abbrev pub infos_in : HeldVolume → List FileInfo
 infos_in v = map info_of v.files
 

@@ -53,9 +53,11 @@ target_of unit s = record { unit = unit; total = s.label.blocks; bsize = length 
 abbrev pub directory_writes : ℕ → HeldTree → List ℕ → List Write
 directory_writes bsize t bytes = block_writes (drop 1 t.leaves) (drop 1 (cut (length t.leaves) bsize bytes)) ++ node_writes bsize t
 
+-- the writes of a map: its data blocks, then its pointer blocks
 abbrev pub map_writes : ℕ → HeldTree → List Bool → List Write
 map_writes bsize t bits = block_writes t.leaves (cut (length t.leaves) bsize (bytes_from 0 (length t.leaves * bsize) bits))
     ++ node_writes bsize t
 
+-- the write of the directory's first block
 abbrev pub first_writes : ℕ → HeldTree → List ℕ → List Write
 first_writes bsize t bytes = block_writes (take 1 t.leaves) (take 1 (cut (length t.leaves) bsize bytes))

@@ -46,6 +46,7 @@ ReadsFile place image holder e (Ok walked) = (file_tree place image holder e ≡
     × (walked.pointers.items ≡ file_nodes place image e)
 ReadsFile place image holder e (Err why) = IsFaultOf (file_tree place image holder e) why
 
+-- the pointer blocks of a tree that was read
 abbrev pub pointers_in : Walked → List ℕ
 pointers_in walked = walked.pointers.items
 

@@ -78,6 +78,7 @@ system_at place system first = record {
   first = first;
 }
 
+-- the directory that was read, with its entries, as the definition of an opening has it
 abbrev pub listed : Listing → Listed
 listed l = record { directory = l.directory; directory_met = met_in l.walked; map = l.map; entries = l.entries.items }
 
@@ -92,6 +93,7 @@ pub record Treed : Type 0 where
   pub map_met : Met
   pub mets : List Met
 
+-- the trees of the map and of the files, or the first pointer that isn't allowed
 unfoldable pub trees_in : ℕ → ℕ → ℕ → Image → Listed → Result Treed OpenFault
 trees_in bsize total origin image l = do
   map_met ← tree (form_of bsize total F) image l.map.levels None origin l.map.root l.map.blocks

@@ -28,6 +28,7 @@ use Rattle.cms_edf.specs.declared.change.FileEdit.TheVariants as does
 
 -- ---- what is asked for
 
+-- the change of a minidisk that is asked for
 abbrev pub change_of : asked.Change → Change
 change_of (ask.Drop name) = model.Drop name.now
 change_of (ask.Rename from to number) = model.Rename from.now to.now number
@@ -46,6 +47,7 @@ CanChange files (ask.Relabel volid) = ⊤
 
 -- ---- the edit of files, by their places
 
+-- the place of the file that is edited
 abbrev pub place_of : FileEdit → ℕ
 place_of (does.Drop place) = place
 place_of (does.Rename place to number) = place
@@ -118,6 +120,7 @@ pub record IsReadyLabel (v : HeldVolume) (volid : List ℕ) (label : Label) (byt
   pub long : length volid ≡ 6
   pub small : v.label.in_use < 2 ^ 32
 
+-- the step writes the label with this volume id
 abbrev pub IsRelabelOf : HeldVolume → List ℕ → Step → Type 0
 IsRelabelOf v volid (step.Edit e s) = ⊥
 IsRelabelOf v volid (step.Relabel label bytes) = IsReadyLabel v volid label bytes.items

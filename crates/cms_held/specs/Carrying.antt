@@ -49,6 +49,7 @@ pub record Carries (j : Journal) (v : HeldVolume) (edit : Edit) (s : Systems) (m
   pub before : (p : List Event) → IsFront p (to_label v.unit (writes_of v s)) → IsHeldMinidisk (after j p) v m
   pub done : IsHeldMinidisk (later_of j v s) (renewed v edit s) (changed m change)
 
+-- a planned edit, carried out, is the change of the minidisk, whole or absent at every moment
 abbrev pub PlannedIsCarried : Type 0
 PlannedIsCarried =
     (j : Journal) (v : HeldVolume) (edit : Edit) (stamp : Stamp) (s : Systems) (m : Minidisk) (change : Change) → IsHeldMinidisk j v m

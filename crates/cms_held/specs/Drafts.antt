@@ -104,6 +104,8 @@ pub record HasAll (image : Image) (bsize psize : ℕ) (leaves : List ℕ) (marks
   pub has_data : HasData image bsize leaves bytes
   pub nodes : HasNodes image bsize psize leaves marks fresh
 
+-- where a draft's blocks stand in an image, the file's tree is there with these data blocks and
+-- bytes
 abbrev pub DraftHasAll : Type 0
 DraftHasAll =
     (image : Image) (bsize psize : ℕ) (leaves : List ℕ) (marks : List Mark) (fresh bytes : List ℕ)

@@ -31,5 +31,6 @@ pub record IsKept (bsize count : ℕ) (label : Label) (long : ℕ) (bits : List 
   pub few : length files ≤ most_files
   pub each : All (IsKeptFile bsize label.blocks) files
 
+-- the same of a held volume
 abbrev pub Keeps : HeldVolume → Type 0
 Keeps v = IsKept v.disk.bsize v.disk.count v.label (length v.label_bytes) v.bits v.files

@@ -88,6 +88,7 @@ pub record RelabelsHeld (j : Journal) (v : HeldVolume) (old : Layout) (volid : L
   pub answered : answer_of (minidisk_in v.disk old) (Relabel volid)
       ≡ Changed (minidisk_in v.disk (record old { label = with_volid v.label volid }))
 
+-- with a new volume id written the volume is held as before but for its label
 abbrev pub RelabelIsHeld : Type 0
 RelabelIsHeld = (j : Journal) (v : HeldVolume) (old : Layout) (volid : List ℕ) → IsHeldAt j v old → Keeps v → length volid ≡ 6
     → v.label.in_use < 2 ^ 32 → RelabelsHeld j v old volid

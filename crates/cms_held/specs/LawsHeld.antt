@@ -65,5 +65,6 @@ abbrev pub IsFound : Name → List File → Option ℕ → Type 0
 IsFound name files None = NoneNamed name files
 IsFound name files (Some k) = IsPlace name files k
 
+-- a name's place is that of its file, and none exactly where no file has it
 abbrev pub PlaceIsTold : Type 0
 PlaceIsTold = (name : Name) (files : List File) → IsFound name files (position (same_name name) (map (λ f. f.name) files))

@@ -97,6 +97,7 @@ pub record MakesEmpty (j : Journal) (m : Making) (made : Minidisk) : Type 0 wher
   pub labelled : state_of m.disk (now (after j (with_label m.unit (made_writes m) m.systems.label_bytes)) m.unit) ≡ Volume made
   pub done : IsHeldMinidisk (after j (update m.unit (made_writes m) m.systems.label_bytes)) (made_volume m) made
 
+-- the empty volume, written on a wiped unit, is made at once and is the empty minidisk
 abbrev pub EmptyIsMade : Type 0
 EmptyIsMade =
     (j : Journal) (m : Making) (volid : List ℕ) (stamp : Stamp) → IsEmptyVolume m volid stamp → IsReadyUnit j m

@@ -28,6 +28,7 @@ pub record HeldFile : Type 0 where
   pub length : ℕ
   pub size : ℕ
 
+-- a volume as it is held: all but its files' data
 pub record HeldVolume : Type 0 where
   pub unit : ℕ
   pub disk : Disk
@@ -58,6 +59,7 @@ by_name files = map (λ f. (f.entry.name, f)) files
 abbrev pub held_tree : Form → Image → ℕ → ℕ → ℕ → Met → HeldTree
 held_tree form image levels root count met = record { leaves = met.leaves; pointers = nodes form image levels root count }
 
+-- the tree of the directory or the map, as it is held
 abbrev pub held_system : ℕ → ℕ → Image → SystemFile → Met → HeldTree
 held_system bsize total image file met = held_tree (form_of bsize total F) image file.levels file.root file.blocks met
 
@@ -66,6 +68,7 @@ abbrev pub size_of : Format → ℕ → ℕ → List (List ℕ) → ℕ
 size_of F size count records = count * size
 size_of V size count records = length (stored V records)
 
+-- a file as it is held
 abbrev pub held_file : ℕ → ℕ → Image → Entry → Met → List (List ℕ) → HeldFile
 held_file bsize total image e met records = record {
   entry = e;

@@ -50,6 +50,7 @@ abbrev pub count_with : Option ℕ → ℕ → ℕ
 count_with None files = files + 1
 count_with (Some place) files = files
 
+-- how many files there are once a file of this name is put
 abbrev pub count_put : HeldVolume → Name → ℕ
 count_put v name = count_with (position (same_name name) (names_in v.files)) (length v.files)
 
@@ -95,6 +96,7 @@ pub record GoesOn (j : Journal) (u bsize psize : ℕ) (leaves : List ℕ) (marks
   pub stays : (p : List Event) → IsFront p (writes u part) → HasDraft (now (after j p) u) bsize psize leaves marks fresh bytes from
   pub stands : HasDraft (now (after j (writes u part)) u) bsize psize leaves marks fresh bytes to
 
+-- what a draft adds, from one of its blocks to another, leaves the volume held
 abbrev pub DraftGoesOn : Type 0
 DraftGoesOn =
     (j : Journal) (v : HeldVolume) (m : Minidisk) (psize : ℕ) (leaves : List ℕ) (marks : List Mark) (fresh bytes : List ℕ) (from to : ℕ)

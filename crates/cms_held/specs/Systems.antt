@@ -45,6 +45,7 @@ file_at bsize t count = record {
 abbrev pub directory_file : ℕ → Systems → ℕ → SystemFile
 directory_file bsize s files = file_at bsize s.directory (files + 2)
 
+-- the map's own entry, as its tree says it
 abbrev pub map_file : ℕ → Systems → SystemFile
 map_file bsize s = file_at bsize s.map (length s.map.leaves)
 
@@ -72,6 +73,7 @@ block_writes (n ∷ ns) (bytes ∷ pieces) = record { block = n; bytes = bytes }
 abbrev pub directory_pieces : ℕ → Systems → List (List ℕ)
 directory_pieces bsize s = cut (length s.directory.leaves) bsize s.directory_bytes
 
+-- the map's bytes, a block's bytes each
 abbrev pub map_pieces : ℕ → Systems → List (List ℕ)
 map_pieces bsize s = cut (length s.map.leaves) bsize (bytes_from 0 (length s.map.leaves * bsize) s.bits)
 

@@ -10,9 +10,11 @@ use Rattle.cms_fields.specs.declared.entry.Entry.{Entry}
 abbrev pub system_name : ℕ → List ℕ → List ℕ
 system_name number letters = big_bytes 4 number ++ (0 ∷ 0 ∷ 0 ∷ 0 ∷ coded letters)
 
+-- the name in the directory's own entry
 abbrev pub directory_name : List ℕ
 directory_name = system_name 1 (codes "DIRECTOR")
 
+-- the name in the map's entry
 abbrev pub map_name : List ℕ
 map_name = system_name 2 (codes "ALLOCMAP")
 

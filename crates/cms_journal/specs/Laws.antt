@@ -32,6 +32,7 @@ pub record ChangesNothing (event : Event) (events : List Event) (u : ℕ) (start
   pub base_same : base (event ∷ events) u start ≡ base events u start
   pub crash_same : (image : List (List ℕ)) → IsCrashImage (event ∷ events) u start image ↔ IsCrashImage events u start image
 
+-- an event that is no write to a unit and no sync of it changes nothing of the unit
 abbrev pub IsApart : Type 0
 IsApart = (event : Event) (events : List Event) (u : ℕ) (start : List (List ℕ)) → IsAside event u → ChangesNothing event events u start
 
@@ -43,6 +44,7 @@ pub record IsBlockwise (events : List Event) (u : ℕ) (start image : List (List
       (k : ℕ) → k < length (base events u start)
       → (slice_index_or image k [] ≡ slice_index_or (base events u start) k []) ⊎ WroteSince events u (k + 1) (slice_index_or image k [])
 
+-- an image may be left by a crash exactly where each of its blocks may be
 abbrev pub AreBlockwise : Type 0
 AreBlockwise = (events : List Event) (u : ℕ) (start image : List (List ℕ)) → IsCrashImage events u start image
     ↔ IsBlockwise events u start image
@@ -60,5 +62,6 @@ pub record PutsBlock (events : List Event) (u k : ℕ) (bytes : List ℕ) (start
   pub crash_new : (image : List (List ℕ)) → IsCrashImage events u start image
       → IsCrashImage (Wrote u k bytes ∷ events) u start (slice_set image (k - 1) bytes)
 
+-- a write changes that block of the contents and no other
 abbrev pub ArePut : Type 0
 ArePut = (events : List Event) (u k : ℕ) (bytes : List ℕ) (start : List (List ℕ)) → 1 ≤ k → PutsBlock events u k bytes start

@@ -8,6 +8,8 @@ pub record ConsoleState : Type 0 where
   pub unread : Unread
   pub ended : Bool
 
+-- a console with so many bytes of a piece taken, these bytes unread, and whether the script has
+-- ended
 abbrev pub state : ℕ → List ℕ → Bool → ConsoleState
 state within bytes ended = record { unread = record { within = within; bytes = bytes }; ended = ended }
 

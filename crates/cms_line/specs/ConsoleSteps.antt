@@ -13,6 +13,7 @@ use Rattle.cms_line.specs.declared.console.Front.TheVariants as front
 use Rattle.cms_line.specs.declared.console.Step.{Step}
 use Rattle.cms_line.specs.declared.console.Step.TheVariants as step
 
+-- a line feed is among the bytes
 abbrev pub has_feed : List ℕ → Bool
 has_feed bytes = list_any (λ b. b == 10) bytes
 
@@ -60,9 +61,11 @@ pub record Gives (was now : ConsoleState) (taken : List Item) : Type 0 where
   pub told : (more : List ℕ) (e : Bool) → Goes now.ended more e → items (extended was.unread more) e ≡ taken
       ++ items (extended now.unread more) e
 
+-- the console gives this line, which is the script's next item
 abbrev pub GivesLine : ConsoleState → ConsoleState → ConsoleLine → Type 0
 GivesLine was now line = (item : Item) × (item_of line ≡ Some item) × Gives was now (item ∷ [])
 
+-- what a step of the console says is so
 abbrev pub IsStep : ConsoleState → ConsoleState → Step → Type 0
 IsStep was now (step.Taken line) = GivesLine was now line
 IsStep was now step.Passed = Gives was now []

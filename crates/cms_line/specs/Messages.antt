@@ -12,9 +12,11 @@ ebcdic text = map (λ c. unwrap_or (code_of c) 0) text
 abbrev pub one : List ℕ → List ℕ → List ℕ → List ℕ
 one head word tail = ebcdic head ++ (word ++ ebcdic tail)
 
+-- two words in their places in a message
 abbrev pub two : List ℕ → List ℕ → List ℕ → List ℕ → List ℕ → List ℕ
 two head word middle other tail = ebcdic head ++ (word ++ one middle other tail)
 
+-- three words in their places
 abbrev pub three : List ℕ → List ℕ → List ℕ → List ℕ → List ℕ → List ℕ → List ℕ → List ℕ
 three head word middle other further last tail = ebcdic head ++ (word ++ two middle other further last tail)
 

@@ -32,9 +32,11 @@ pub record Reading : Type 0 where
   pub chosen : List Choice
   pub refused : Option OptionFault
 
+-- nothing is chosen, and this is why
 abbrev pub refuses : OptionFault → Reading
 refuses fault = record { chosen = []; refused = Some fault }
 
+-- one more option is chosen in front
 abbrev pub chooses : Choice → Reading → Reading
 chooses choice more = record { chosen = choice ∷ more.chosen; refused = more.refused }
 
@@ -74,6 +76,7 @@ options_from rules zero place (word ∷ words) =
     else option_named rules place words (λ parameters. options_from rules parameters (place + 1) words)
     (position (is_named word.text) rules)
 
+-- the options behind the left parenthesis; none without one
 abbrev pub options_behind : List OptionRule → List Token → Option ℕ → Reading
 options_behind rules words None = record { chosen = []; refused = None }
 options_behind rules words (Some left) = options_from rules 0 (left + 1) (drop (left + 1) words)

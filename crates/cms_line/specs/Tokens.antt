@@ -7,9 +7,11 @@ use Rattle.cms_line.specs.declared.token.Token.{Token}
 abbrev pub left_parenthesis : ℕ
 left_parenthesis = 0x4D
 
+-- the code of a right parenthesis
 abbrev pub right_parenthesis : ℕ
 right_parenthesis = 0x5D
 
+-- a byte is a parenthesis
 abbrev pub is_parenthesis : ℕ → Bool
 is_parenthesis b = (b == left_parenthesis) || (b == right_parenthesis)
 

@@ -29,15 +29,19 @@ bind (Drops n t) f = Drops n (bind t f)
 
 -- ---- a single thing
 
+-- bytes are typed
 abbrev pub saying : List ℕ → Act (Unit {0})
 saying b = Out b (Done tt)
 
+-- an item is taken
 abbrev pub taking : Act (Option Item)
 taking = Take (λ i. Done i)
 
+-- a turn is spent, which gives the seconds
 abbrev pub turning : Act ℤ
 turning = Turn (λ m. Done m)
 
+-- a step is done, which gives its outcome
 abbrev pub stepping : Step → Act Outcome
 stepping s = Does s (λ o. Done o)
 

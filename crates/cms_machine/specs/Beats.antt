@@ -26,6 +26,7 @@ pub data Deed : Type 0 where
   Asked : ℕ → Object → Reply → Back → Deed
   Dropped : ℕ → Deed
 
+-- a deed with the events that it added to the journal
 pub record Beat : Type 0 where
   pub deed : Deed
   pub piece : List Event
@@ -49,6 +50,7 @@ abbrev pub trace : List Beat → List TraceItem
 trace [] = []
 trace (b ∷ bs) = shown_by b.deed ++ trace bs
 
+-- the outcome of a deed that is a step
 abbrev pub outcome_of : Deed → List Outcome
 outcome_of (Said b) = []
 outcome_of (Turned m) = []
@@ -82,6 +84,7 @@ abbrev pub IsTyped : Event → Type 0
 IsTyped (Typed b) = ⊤
 IsTyped e = ⊥
 
+-- the event is bytes of the script read
 abbrev pub IsRead : Event → Type 0
 IsRead (Read b) = ⊤
 IsRead e = ⊥
@@ -96,9 +99,11 @@ IsDiskOf u e = ⊥
 abbrev pub OnlyTyped : List Event → Type 0
 OnlyTyped es = AllByRecursion IsTyped es
 
+-- all events are reads of the script
 abbrev pub OnlyRead : List Event → Type 0
 OnlyRead es = AllByRecursion IsRead es
 
+-- all events are writes, or syncs of this unit
 abbrev pub OnlyDisk : ℕ → List Event → Type 0
 OnlyDisk u es = AllByRecursion (IsDiskOf u) es
 
@@ -119,6 +124,7 @@ abbrev pub IsStamped : ℕ → Option Stamp → Event → Type 0
 IsStamped u stamp (Wrote v block bytes) = v ≡ u → MayWrite stamp block bytes
 IsStamped u stamp e = ⊤
 
+-- each directory that is begun on this unit has this stamp
 abbrev pub AreStamped : ℕ → Option Stamp → List Event → Type 0
 AreStamped u stamp es = AllByRecursion (IsStamped u stamp) es
 

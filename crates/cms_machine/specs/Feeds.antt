@@ -13,6 +13,7 @@ pub data Close (R : Type 0) : Type 0 where
   WaitsForMoment : Close R
   WaitsForObject : Close R
 
+-- a tree that was run: its trace, and how it closed
 pub record Fed (R : Type 0) : Type 0 where
   pub trace : List TraceItem
   pub close : Close R

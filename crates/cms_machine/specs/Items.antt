@@ -43,6 +43,7 @@ short_line bytes = option_map_or Text (coded_line bytes) Bad
 abbrev pub rests : ℕ → ℕ → List Item
 rests taken count = replicate (up (count - (longest_text - taken)) longest_text) Rest
 
+-- the items of a line: itself, or the pieces of one that is too long
 abbrev pub line_items : List ℕ → List Item
 line_items bytes = if nat_le (length bytes) longest_text then short_line bytes ∷ [] else Long ∷ rests 0 (length bytes)
 
@@ -107,6 +108,7 @@ WholeByLines = (script : List ℕ) → items_of script ≡ flat_map line_items (
 abbrev pub Goes : Bool → List ℕ → Bool → Type 0
 Goes ended more e = ended ≡ true → (more ≡ []) × (e ≡ true)
 
+-- an item, or nothing at the script's end, as a list
 abbrev pub listed : Option Item → List Item
 listed None = []
 listed (Some item) = item ∷ []

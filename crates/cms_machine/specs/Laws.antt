@@ -44,6 +44,7 @@ pub record AddsUp (p q : Point) (bs : List Beat) : Type 0 where
   pub turns : turns_of (trace bs) ≡ length (moments (pieces bs))
   pub as_many : length q.units ≡ length p.units
 
+-- what the beats of a chain added is what the point behind it has more
 abbrev pub AddUp : Type 0
 AddUp = (p q : Point) (bs : List Beat) → Chain p bs q → AddsUp p q bs
 
@@ -94,6 +95,7 @@ pub record FollowsTree {R : Type 0} (p q : Point) (t : Act R) (b : Broke p q t) 
       → early ++ later ≡ script front
       → WaitsBehind (feed t (items (extended p.unread early) false) false (moments front) (outcomes b.ran.beats) back) (typed front)
 
+-- a run that was cut off is a front of the machine's
 abbrev pub StopsFollow : Type 0 → Type 0
 StopsFollow R = (p q : Point) (t : Act R) (b : Broke p q t) → FollowsTree p q t b (backs b.ran.beats)
 
@@ -108,6 +110,7 @@ pub record ComesTo {R : Type 0} (p q : Point) (t : Act R) (a : R) (ran : Ran p q
   pub states : Sound p → (u : ℕ) (x : State) → Leaves (plus p.journal (pieces ran.beats)) u x
       → IsAmong x (last_set u (unit_set p.units u) (fed p t (pieces ran.beats) (outcomes ran.beats) back).trace)
 
+-- a whole run is the machine's, with its result
 abbrev pub RunsCome : Type 0 → Type 0
 RunsCome R = (p q : Point) (t : Act R) (a : R) (ran : Ran p q t (Done a)) → ComesTo p q t a ran (backs ran.beats)
 

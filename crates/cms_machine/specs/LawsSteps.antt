@@ -27,6 +27,7 @@ pub record CountsSyncs (u : ℕ) (ws : List Write) (label : List ℕ) (size : �
   pub wiped : syncs (wipe u size) ≡ label_syncs Good
   pub label_either : (side : Side) → syncs (Wrote u 3 label ∷ []) ≡ label_syncs (EitherFault side)
 
+-- an update has as many syncs as its outcome says
 abbrev pub SyncsAreCounted : Type 0
 SyncsAreCounted = (u : ℕ) (ws : List Write) (label : List ℕ) (size : ℕ) → CountsSyncs u ws label size
 
@@ -36,6 +37,7 @@ pub record IsRefused (m : Minidisk) (change : Change) (o : Outcome) : Type 0 whe
   pub same : after_put m (answer_of m change) o ≡ None
   pub read : MayPut change (answer_of m change) o → (o ≡ Good) ⊎ (o ≡ ReadFault 0)
 
+-- a change that is refused makes no sync and leaves the unit as before
 abbrev pub RefusedIsNothing : Type 0
 RefusedIsNothing = (m : Minidisk) (change : Change) (o : Outcome) → is_taken (answer_of m change) ≡ false → IsRefused m change o
 
@@ -44,6 +46,7 @@ pub record KeepsSlot (slot : Slot) (old new : State) (o : Outcome) : Type 0 wher
   pub access : access_syncs slot o ≡ 0 → after_access slot o ≡ None
   pub update : update_syncs o ≡ 0 → after_update old new o ≡ None
 
+-- an outcome without a sync leaves the unit in no doubt
 abbrev pub KeptWithoutSync : Type 0
 KeptWithoutSync = (slot : Slot) (old new : State) (o : Outcome) → KeepsSlot slot old new o
 

@@ -30,6 +30,7 @@ pub record HasNowIn (j : Journal) (u : ℕ) (x : State) : Type 0 where
   pub attached : slice_get j.units u ≡ Some unit
   pub state : state_of (disk_of unit) (image_of (contents_of j u)) ≡ x
 
+-- at a journal that may not be told; nothing is said of one that isn't
 abbrev pub HasNow : Told → ℕ → State → Type 0
 HasNow None u x = ⊥
 HasNow (Some j) u x = HasNowIn j u x

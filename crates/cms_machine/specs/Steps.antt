@@ -35,10 +35,12 @@ unit_of (Make u old m stamp) = u
 
 -- ---- which outcomes a step may have
 
+-- the change adds records
 abbrev pub is_add : Change → Bool
 is_add (Add name more stamp) = true
 is_add _ = false
 
+-- the change is of the volume id alone
 abbrev pub is_relabel : Change → Bool
 is_relabel (Relabel volid) = true
 is_relabel _ = false
@@ -49,6 +51,7 @@ is_taken (Changed m) = true
 is_taken (Limited k) = false
 is_taken (Full need free) = false
 
+-- the unit is in doubt
 abbrev pub is_doubt : Slot → Bool
 is_doubt (Settled state) = false
 is_doubt (Doubt before after side) = true
@@ -139,6 +142,7 @@ new_slot (Make u old m stamp) o = after_update old (Volume m) o
 abbrev pub slot_after : Slot → Step → Outcome → Slot
 slot_after slot s o = unwrap_or (new_slot s o) slot
 
+-- the units with a new slot, where there is one
 abbrev pub put_slot : List Slot → ℕ → Option Slot → List Slot
 put_slot units u None = units
 put_slot units u (Some slot) = slice_set units u slot
@@ -189,6 +193,7 @@ label_syncs SyncFault = 0
 label_syncs OldFault = 0
 label_syncs (EitherFault side) = 0
 
+-- how many syncs a change makes; none where it is refused
 abbrev pub put_syncs : Change → Answer → Outcome → ℕ
 put_syncs change (Limited k) o = 0
 put_syncs change (Full need free) o = 0
@@ -210,6 +215,7 @@ abbrev pub put_stamp : Change → Stamp → Option Stamp
 put_stamp (Relabel volid) stamp = None
 put_stamp _ stamp = Some stamp
 
+-- the stamp that a step gives a directory, if it writes one
 abbrev pub stamp_in : Step → Option Stamp
 stamp_in (Access u slot) = None
 stamp_in (Get u f wanted) = None

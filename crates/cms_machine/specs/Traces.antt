@@ -24,6 +24,7 @@ turns_of (Shown b ∷ tr) = turns_of tr
 turns_of (Spent ∷ tr) = suc (turns_of tr)
 turns_of (States u set ∷ tr) = turns_of tr
 
+-- the set of a unit's new slot, where there is one, for the trace
 abbrev pub states_in : ℕ → Option Slot → List TraceItem
 states_in u None = []
 states_in u (Some slot) = States u (set_of slot) ∷ []

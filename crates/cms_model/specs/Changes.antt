@@ -58,6 +58,7 @@ changed_files files (Drop name) = drop_file name files
 changed_files files (Rename from to number) = change_file from (λ f. record f { name = to; number = number }) files
 changed_files files (Relabel volid) = files
 
+-- the volume id after a change
 abbrev pub changed_volid : List ℕ → Change → List ℕ
 changed_volid volid (Relabel new) = new
 changed_volid volid (Put new) = volid
@@ -81,6 +82,7 @@ written_file m (Relabel volid) = None
 abbrev pub system_need : Minidisk → Change → ℕ
 system_need m change = directory_more m.bsize (length (changed_files m.files change)) + map_size m.bsize m.total
 
+-- the blocks that a new file needs
 abbrev pub file_need : ℕ → Option File → ℕ
 file_need bsize None = 0
 file_need bsize (Some f) = file_size bsize f
@@ -93,9 +95,11 @@ need m (Add name more stamp) = file_need m.bsize (written_file m (Add name more 
 need m (Drop name) = system_need m (Drop name)
 need m (Rename from to number) = system_need m (Rename from to number)
 
+-- the change needs more blocks than are free
 unfoldable pub is_full : Minidisk → Change → Bool
 is_full m change = nat_lt (free_count m) (need m change)
 
+-- the limit that a file passes by its records or its bytes
 abbrev pub file_limit : Option File → Option ℕ
 file_limit None = None
 file_limit (Some f) =
@@ -114,9 +118,11 @@ pub data Answer : Type 0 where
   Full : ℕ → ℕ → Answer
   Changed : Minidisk → Answer
 
+-- the new minidisk, or that the change is full
 abbrev pub unless_full : Minidisk → Change → Answer
 unless_full m change = if is_full m change then Full (need m change) (free_count m) else Changed (changed m change)
 
+-- that answer, or the limit that is passed
 abbrev pub unless_limited : Option ℕ → Answer → Answer
 unless_limited (Some k) answer = Limited k
 unless_limited None answer = answer

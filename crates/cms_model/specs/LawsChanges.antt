@@ -37,6 +37,7 @@ pub record ChangesPlace (name : Name) (files : List File) (k : ℕ) : Type 0 whe
   pub changed : (edit : File → File) (d : File) → change_file name edit files ≡ slice_set files k (edit (slice_index_or files k d))
   pub dropped : (d : File) → drop_file name files ≡ swap_remove files k d
 
+-- a change of a file that is there is one of its place
 abbrev pub PlaceIsChanged : Type 0
 PlaceIsChanged = (name : Name) (files : List File) (k : ℕ) → IsPlace name files k → ChangesPlace name files k
 
@@ -47,6 +48,7 @@ pub record AddsLast (name : Name) (files : List File) : Type 0 where
   pub changed : (edit : File → File) → change_file name edit files ≡ files
   pub dropped : drop_file name files ≡ files
 
+-- a file of a new name stands last
 abbrev pub NoneIsAdded : Type 0
 NoneIsAdded = (name : Name) (files : List File) → NoneNamed name files → AddsLast name files
 

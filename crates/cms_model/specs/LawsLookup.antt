@@ -36,6 +36,7 @@ pub record Finds (files : List File) (name : Name) : Type 0 where
       → (new : File) × IsRenamed old to number new × (file_named to (changed_files files (Rename name to number)) ≡ Some new)
   pub dropped : AreDistinct files → file_named name (changed_files files (Drop name)) ≡ None
 
+-- after a change each name has the file that the change says
 abbrev pub ChangedIsFound : Type 0
 ChangedIsFound = (files : List File) (name : Name) → Finds files name
 
@@ -62,5 +63,6 @@ pub record LeavesRest (m : Minidisk) (change : Change) : Type 0 where
   pub put : (new : File) → (changed m (Put new)).volid ≡ m.volid
   pub dropped : (name : Name) → (changed m (Drop name)).volid ≡ m.volid
 
+-- all else of the minidisk stays
 abbrev pub RestIsLeft : Type 0
 RestIsLeft = (m : Minidisk) (change : Change) → LeavesRest m change

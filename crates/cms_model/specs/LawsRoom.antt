@@ -45,6 +45,7 @@ pub record Lacks (m : Minidisk) (change : Change) (needed free : ℕ) : Type 0 w
   pub free_is : free ≡ free_count m
   pub short : free < needed
 
+-- a change is full exactly where it passes no limit and needs more than are free
 abbrev pub FullWhereLacking : Type 0
 FullWhereLacking = (m : Minidisk) (change : Change) (needed free : ℕ) → (answer_of m change ≡ Full needed free) ↔ Lacks m change needed free
 

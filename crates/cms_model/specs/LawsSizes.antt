@@ -24,5 +24,6 @@ pub record AreShared (disk : Disk) (image : Image) (v : Opened) : Type 0 where
   pub used : used_count (minidisk_of disk v) ≡ 4 + length (all_blocks v)
   pub free : unmarked_count (bytes_at image v.map_met.leaves) 6 (v.label.blocks - 5) ≡ free_count (minidisk_of disk v)
 
+-- blocks in use, free and lost are all blocks of an open volume
 abbrev pub BlocksAreShared : Type 0
 BlocksAreShared = (disk : Disk) (image : Image) (v : Opened) → IsWhole disk image → open_of disk image ≡ Ok v → AreShared disk image v

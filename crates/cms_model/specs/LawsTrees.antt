@@ -55,6 +55,7 @@ pub record Cell : Type 0 where
   pub block : ℕ
   pub beside : List ℕ
 
+-- the bytes of a pointer, with what stands beside its number
 abbrev pub cell_bytes : Cell → List ℕ
 cell_bytes c = big_bytes 4 c.block ++ c.beside
 

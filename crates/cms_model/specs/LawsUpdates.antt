@@ -48,6 +48,7 @@ pub record StartsAs (disk : Disk) (j : Journal) (u : ℕ) : Type 0 where
   pub firm : IsFirm disk j u (state_of disk (image_of (start_of j.units u)))
   pub settled : (v : Opened) → open_of disk (image_of (start_of j.units u)) ≡ Ok v → IsSettled disk j u v
 
+-- a unit without a write has its starting blocks in every crash image
 abbrev pub UntouchedStarts : Type 0
 UntouchedStarts = (disk : Disk) (j : Journal) (u : ℕ) → IsUntouched j.events u → StartsAs disk j u
 
@@ -58,6 +59,7 @@ pub record SyncedAs (disk : Disk) (j : Journal) (u : ℕ) : Type 0 where
   pub firm : IsFirm disk (after j (Synced u ∷ [])) u (state_of disk (now j u))
   pub settled : (v : Opened) → open_of disk (now j u) ≡ Ok v → IsSettled disk (after j (Synced u ∷ [])) u v
 
+-- after a sync a volume that opens is settled
 abbrev pub SyncSettles : Type 0
 SyncSettles = (disk : Disk) (j : Journal) (u : ℕ) → SyncedAs disk j u
 
@@ -67,6 +69,7 @@ pub record AsBefore (j : Journal) (piece : List Event) (u : ℕ) : Type 0 where
   pub crash_same : (image : List (List ℕ)) → MayLeave (after j piece) u image ↔ MayLeave j u image
   pub settled_same : (disk : Disk) (v : Opened) → IsSettled disk j u v → IsSettled disk (after j piece) u v
 
+-- events of other units leave a unit as it was
 abbrev pub AsideIsAsBefore : Type 0
 AsideIsAsBefore = (j : Journal) (piece : List Event) (u : ℕ) → IsUntouched piece u → AsBefore j piece u
 
@@ -76,6 +79,7 @@ AsideIsAsBefore = (j : Journal) (piece : List Event) (u : ℕ) → IsUntouched p
 abbrev pub to_label : ℕ → List Write → List Event
 to_label u ws = writes u ws ++ Synced u ∷ []
 
+-- an update up to the write of its label
 abbrev pub with_label : ℕ → List Write → List ℕ → List Event
 with_label u ws label = writes u ws ++ Synced u ∷ Wrote u 3 label ∷ []
 
@@ -86,6 +90,7 @@ pub record FrontOf (u : ℕ) (ws : List Write) (label : List ℕ) (p : List Even
   pub one : syncs p ≡ 1 → (p ≡ to_label u ws) ⊎ (p ≡ with_label u ws label)
   pub two : syncs p ≡ 2 → p ≡ update u ws label
 
+-- each front of an update is one of its writes, or one with the label's write, or all of it
 abbrev pub FrontsOfUpdate : Type 0
 FrontsOfUpdate = (u : ℕ) (ws : List Write) (label : List ℕ) (p : List Event) → IsFront p (update u ws label) → FrontOf u ws label p
 
@@ -114,6 +119,7 @@ pub record PutsBlocks (j : Journal) (u : ℕ) (ws : List Write) (label : List �
   pub opens : (disk : Disk) (new : Opened) → open_of disk (updated (now j u) ws label) ≡ Ok new
       → open_of disk (now (after j (update u ws label)) u) ≡ Ok new
 
+-- after an update the contents have its blocks and its label
 abbrev pub UpdateIsPut : Type 0
 UpdateIsPut =
     (j : Journal) (u : ℕ) (ws : List Write) (label : List ℕ) → AreWithin (length (start_of j.units u)) ws → 3 ≤ length (start_of j.units u)
@@ -140,11 +146,13 @@ pub record IsUpdate (disk : Disk) (j : Journal) (u : ℕ) (ws : List Write) (lab
   pub apart : Apart ws (frame old)
   pub opens : open_of disk (now (after j (update u ws label)) u) ≡ Ok new
 
+-- what a crash leaves at each front of an update: the old volume or the new
 pub record Updates (disk : Disk) (j : Journal) (u : ℕ) (ws : List Write) (label : List ℕ) (old new : Opened) : Type 0 where
   pub labelled : open_of disk (now (after j (with_label u ws label)) u) ≡ Ok new
   pub either : (p : List Event) → IsFront p (update u ws label) → OpensEither disk (after j p) u old new
   pub whole : IsSettled disk (after j (update u ws label)) u new
 
+-- an update that is apart from the old volume is whole or absent at every moment
 abbrev pub UpdateIsWhole : Type 0
 UpdateIsWhole =
     (disk : Disk) (j : Journal) (u : ℕ) (ws : List Write) (label : List ℕ) (old new : Opened) → IsUpdate disk j u ws label old new
@@ -152,6 +160,7 @@ UpdateIsWhole =
 
 -- ---- a relabelling: the write of the label, a sync
 
+-- the events of a relabelling
 abbrev pub relabel : ℕ → List ℕ → List Event
 relabel u label = Wrote u 3 label ∷ Synced u ∷ []
 
@@ -166,11 +175,13 @@ pub record IsRelabel (disk : Disk) (j : Journal) (u : ℕ) (bytes : List ℕ) (o
   pub same_origin : label.origin ≡ old.label.origin
   pub same_blocks : label.blocks ≡ old.label.blocks
 
+-- what a crash leaves at each front of a relabelling: the old label or the new
 pub record Relabels (disk : Disk) (j : Journal) (u : ℕ) (bytes : List ℕ) (old : Opened) (label : Label) : Type 0 where
   pub labelled : open_of disk (now (after j (Wrote u 3 bytes ∷ [])) u) ≡ Ok (relabelled old label)
   pub either : (p : List Event) → IsFront p (relabel u bytes) → OpensEither disk (after j p) u old (relabelled old label)
   pub whole : IsSettled disk (after j (relabel u bytes)) u (relabelled old label)
 
+-- a relabelling is whole or absent at every moment
 abbrev pub RelabelIsWhole : Type 0
 RelabelIsWhole =
     (disk : Disk) (j : Journal) (u : ℕ) (bytes : List ℕ) (old : Opened) (label : Label) → IsRelabel disk j u bytes old label
@@ -178,6 +189,7 @@ RelabelIsWhole =
 
 -- ---- a wiping: the write of zeros in place of the label, a sync
 
+-- the events of a wiping: block 3 is written as zeros, and synced
 abbrev pub wipe : ℕ → ℕ → List Event
 wipe u size = Wrote u 3 (replicate size 0) ∷ Synced u ∷ []
 
@@ -199,6 +211,7 @@ pub record Wipes (disk : Disk) (j : Journal) (u size : ℕ) (old : State) : Type
   pub either : (p : List Event) → IsFront p (wipe u size) → HasEither disk (after j p) u old (Not 2)
   pub whole : IsWiped (after j (wipe u size)) u
 
+-- at each front of a wiping a crash leaves the old state or no volume
 abbrev pub WipeIsWhole : Type 0
 WipeIsWhole = (disk : Disk) (j : Journal) (u size : ℕ) (old : State) → IsFirm disk j u old → Wipes disk j u size old
 
@@ -210,6 +223,7 @@ KeepsWiped =
     (j : Journal) (u : ℕ) (ws : List Write) (p : List Event) → IsWiped j u → Apart ws (3 ∷ []) → IsFront p (to_label u ws)
     → IsWiped (after j p) u
 
+-- writes and a label that make a volume on a wiped unit
 pub record IsMaking (disk : Disk) (j : Journal) (u : ℕ) (ws : List Write) (label : List ℕ) (new : Opened) : Type 0 where
   pub wiped : IsWiped j u
   pub apart : Apart ws (3 ∷ [])
@@ -221,6 +235,7 @@ pub record Makes (disk : Disk) (j : Journal) (u : ℕ) (ws : List Write) (label 
   pub either : (p : List Event) → IsFront p (update u ws label) → HasEither disk (after j p) u (Not 2) (Volume (minidisk_of disk new))
   pub whole : IsSettled disk (after j (update u ws label)) u new
 
+-- at each front of a making a crash leaves no volume or the new one
 abbrev pub MakeIsWhole : Type 0
 MakeIsWhole = (disk : Disk) (j : Journal) (u : ℕ) (ws : List Write) (label : List ℕ) (new : Opened) → IsMaking disk j u ws label new
     → Makes disk j u ws label new

@@ -35,6 +35,7 @@ pub record IsInOrder (disk : Disk) (image : Image) (v : Opened) : Type 0 where
   pub once : (n : ℕ) → times n (all_blocks v) ≤ 1
   pub marked : (n : ℕ) → 6 ≤ n → In n (all_blocks v) → is_marked (bytes_at image v.map_met.leaves) n ≡ true
 
+-- what opens passes the tests one after another
 abbrev pub OpenedIsInOrder : Type 0
 OpenedIsInOrder = (disk : Disk) (image : Image) (v : Opened) → open_of disk image ≡ Ok v → IsInOrder disk image v
 

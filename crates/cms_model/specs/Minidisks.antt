@@ -27,6 +27,7 @@ pub data State : Type 0 where
   Volume : Minidisk → State
   Not : ℕ → State
 
+-- both parts of two names are the same
 unfoldable pub same_name : Name → Name → Bool
 same_name a b = same a.file b.file && same a.kind b.kind
 

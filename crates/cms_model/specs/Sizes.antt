@@ -33,6 +33,7 @@ unfoldable pub stored_size : Format → List (List ℕ) → ℕ
 stored_size F records = sum_by length records
 stored_size V records = sum_by (λ text. 2 + length text) records
 
+-- the blocks of a file: its data blocks, and the pointer blocks over them
 unfoldable pub file_size : ℕ → File → ℕ
 file_size bsize f = tree_size (fan_of bsize f.format) (up (stored_size f.format f.records) bsize)
 
@@ -48,5 +49,6 @@ map_size bsize total = tree_size (bsize / 4) (up (up total 8) bsize)
 unfoldable pub used_count : Minidisk → ℕ
 used_count m = 5 + directory_more m.bsize (length m.files) + map_size m.bsize m.total + sum_by (file_size m.bsize) m.files
 
+-- the blocks that are neither in use nor lost
 unfoldable pub free_count : Minidisk → ℕ
 free_count m = m.total - used_count m - m.lost

@@ -35,6 +35,7 @@ pub record HoldsFile (disk : Disk) (total : ℕ) (image : Image) (f : Kept) : Ty
       ≡ Ok f.met
   pub records : records_of disk.bsize f.entry.format f.entry.length f.entry.count (bytes_at image f.met.leaves) ≡ Ok f.records
 
+-- each file is held, by its entry, its tree and its records
 abbrev pub HoldsFiles : Disk → ℕ → Image → List Kept → Type 0
 HoldsFiles disk total image [] = ⊤
 HoldsFiles disk total image (f ∷ fs) = HoldsFile disk total image f × HoldsFiles disk total image fs
@@ -43,9 +44,11 @@ HoldsFiles disk total image (f ∷ fs) = HoldsFile disk total image f × HoldsFi
 abbrev pub entries_in : List Kept → List Entry
 entries_in files = map (λ f. f.entry) files
 
+-- the blocks of each file
 abbrev pub mets_in : List Kept → List Met
 mets_in files = map (λ f. f.met) files
 
+-- the records of each file
 abbrev pub records_in : List Kept → List (List (List ℕ))
 records_in files = map (λ f. f.records) files
 
@@ -54,6 +57,7 @@ unfoldable pub file_blocks : List Kept → List ℕ
 file_blocks [] = []
 file_blocks (f ∷ fs) = f.met.blocks ++ file_blocks fs
 
+-- no file in front has this name
 abbrev pub NoEntryNamed : Name → List Kept → Type 0
 NoEntryNamed name [] = ⊤
 NoEntryNamed name (f ∷ fs) = (f.entry.name ≢ name) × NoEntryNamed name fs
@@ -119,6 +123,7 @@ minidisk_in disk v = record {
   files = map file_of v.files;
 }
 
+-- the minidisk of a volume that opened is that of its layout
 abbrev pub OpenedIsMinidisk : Type 0
 OpenedIsMinidisk = (disk : Disk) (v : Layout) → minidisk_of disk (opened v) ≡ minidisk_in disk v
 
@@ -150,6 +155,7 @@ pub record IsRenewed (disk : Disk) (before later : Image) (old new : Layout) (re
   pub exchange : Exchange new.label.blocks (bytes_at before old.map_met.leaves) (bytes_at later new.map_met.leaves) (layout_blocks old)
       (layout_blocks new) released fresh
 
+-- a volume that was renewed in blocks apart from the old ones stands
 abbrev pub RenewedStands : Type 0
 RenewedStands =
     (disk : Disk) (before later : Image) (old new : Layout) (released fresh : ℕ → Bool) → IsRenewed disk before later old new released fresh

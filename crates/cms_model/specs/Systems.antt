@@ -15,6 +15,7 @@ pub record SystemFile : Type 0 where
   pub count : ℕ
   pub levels : ℕ
 
+-- the fields of an entry of the directory or the map
 unfoldable pub system_fields : List ℕ → SystemFile
 system_fields bytes = record { root = word bytes 40; blocks = word bytes 44; count = word bytes 48; levels = byte bytes 52 }
 
@@ -33,11 +34,13 @@ is_directory bsize origin bytes =
 unfoldable pub is_map : ℕ → ℕ → List ℕ → Bool
 is_map bsize total bytes = is_system bsize bsize bytes && (word bytes 48 == up (up total 8) bsize)
 
+-- the directory's own entry, or why it is refused
 unfoldable pub directory_of : ℕ → ℕ → List ℕ → Result SystemFile OpenFault
 directory_of bsize origin bytes = do
   want (is_directory bsize origin bytes) (System 0)
   Ok (system_fields bytes)
 
+-- the map's entry, or why it is refused
 unfoldable pub map_of : ℕ → ℕ → List ℕ → Result SystemFile OpenFault
 map_of bsize total bytes = do
   want (is_map bsize total bytes) (System 1)

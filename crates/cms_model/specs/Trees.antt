@@ -36,9 +36,11 @@ pub record Met : Type 0 where
   pub blocks : List ℕ
   pub leaves : List ℕ
 
+-- no blocks
 abbrev pub none_met : Met
 none_met = record { blocks = []; leaves = [] }
 
+-- the blocks of two parts, one behind the other
 abbrev pub joined : Met → Met → Met
 joined a b = record { blocks = a.blocks ++ b.blocks; leaves = a.leaves ++ b.leaves }
 

@@ -94,6 +94,7 @@ pub record Opened : Type 0 where
 abbrev pub tree_blocks : Met → Met → List Met → List ℕ
 tree_blocks directory map files = directory.blocks ++ (map.blocks ++ blocks_of files)
 
+-- all blocks of a volume's trees
 abbrev pub all_blocks : Opened → List ℕ
 all_blocks v = tree_blocks v.directory_met v.map_met v.mets
 
@@ -189,6 +190,7 @@ reason (failed.Twice n) = 8
 reason (failed.System n) = 9
 reason failed.Memory = 10
 
+-- the state of what opened, or the reason why nothing did
 abbrev pub state_from : Disk → Result Opened OpenFault → State
 state_from disk (Ok v) = Volume (minidisk_of disk v)
 state_from disk (Err why) = Not (reason why)

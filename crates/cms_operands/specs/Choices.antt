@@ -43,6 +43,7 @@ form word least parameter = record { name = coded word; least = least; parameter
 abbrev pub flag : List ℕ → ℕ → OptionForm
 flag word least = form word least takes.Nothing
 
+-- an option with how many words it takes, as lines are read
 abbrev pub rule_of : OptionForm → OptionRule
 rule_of form = record { name = form.name; least = form.least; takes = words_of form.parameter }
 
@@ -56,6 +57,7 @@ fill_in _ = None
 abbrev pub format_of : ℕ → Option Format
 format_of c = if c == 0xC6 then Some format.F else (if c == 0xE5 then Some format.V else None)
 
+-- the format that a word of one character is
 unfoldable pub format_in : List ℕ → Option Format
 format_in (c ∷ []) = format_of c
 format_in _ = None
@@ -64,6 +66,7 @@ format_in _ = None
 abbrev pub is_in_order : ℕ → ℕ → Bool
 is_in_order first last = nat_le 1 first && nat_le first last
 
+-- two columns, the second not before the first
 abbrev pub in_order : Option ℕ → Option ℕ → Option Setting
 in_order first last = option_and_then (λ a. option_and_then (λ b. if is_in_order a b then Some (setting.Columns a b) else None) last) first
 
@@ -72,6 +75,7 @@ abbrev pub columns_at : List ℕ → Option ℕ → Option Setting
 columns_at text None = None
 columns_at text (Some k) = in_order (number_in (take k text)) (number_in (drop (k + 1) text))
 
+-- two columns with a minus sign between
 unfoldable pub columns_in : List ℕ → Option Setting
 columns_in text = columns_at text (position (λ c. c == 0x60) text)
 
@@ -85,9 +89,11 @@ setting_in takes.Columns text = columns_in text
 
 -- ---- the options of a line
 
+-- the parameter of an option, by its place
 abbrev pub parameter_of : List OptionForm → ℕ → Parameter
 parameter_of forms nth = option_map_or (λ f. f.parameter) (slice_get forms nth) takes.Nothing
 
+-- an option that was chosen, with what its parameter says
 abbrev pub chosen_with : ℕ → Setting → ChosenOption
 chosen_with nth says = record { nth = nth; setting = says }
 
@@ -105,6 +111,7 @@ refusal_of (Some (fault.Missing place)) = Some Missing
 refusal_of (Some (fault.After place)) = Some (BadOperand place)
 refusal_of (Some fault.Memory) = None
 
+-- no more options, or why a word is refused
 abbrev pub unless_refused : Option Refusal → Result (List ChosenOption) Refusal
 unless_refused None = Ok []
 unless_refused (Some why) = Err why
@@ -117,6 +124,7 @@ all_valued forms words refused (c ∷ cs) = do
   more ← all_valued forms words refused cs
   Ok (first ∷ more)
 
+-- the options that were chosen with what their parameters say, or the first refusal
 abbrev pub read_by : List OptionForm → List Token → Reading → Result (List ChosenOption) Refusal
 read_by forms words r = all_valued forms words r.refused r.chosen
 
@@ -139,6 +147,7 @@ without_options words operands = do
 
 -- ---- what a command asks of them
 
+-- an option is one of a group
 abbrev pub is_among : List ℕ → ℕ → Bool
 is_among group nth = list_any (λ one. one == nth) group
 

@@ -49,6 +49,7 @@ or_refused None why = Err why
 
 -- ---- names
 
+-- what was read, or that the word is no name
 abbrev pub or_bad_name : {A : Type 0} → ℕ → Result A NameFault → Result A Refusal
 or_bad_name place (Ok x) = Ok x
 or_bad_name place (Err e) = Err (BadName place)
@@ -83,6 +84,7 @@ reading_of (Some mode.Same) = None
 reading_of (Some (mode.Letter n)) = Some (reading.Letter n)
 reading_of (Some (mode.Numbered n k)) = Some (reading.Numbered n k)
 
+-- the mode of an input, or that the word is none
 unfoldable pub reading_mode : ℕ → List ℕ → Result ReadMode Refusal
 reading_mode place text = or_refused (reading_of (mode_word_of text)) (BadMode place)
 
@@ -94,6 +96,7 @@ writing_of (Some mode.Same) = None
 writing_of (Some (mode.Letter n)) = Some (record { letter = n; number = None })
 writing_of (Some (mode.Numbered n k)) = Some (record { letter = n; number = Some k })
 
+-- the mode of a disk that is written, or that the word is none
 unfoldable pub writing_mode : ℕ → List ℕ → Result WriteMode Refusal
 writing_mode place text = or_refused (writing_of (mode_word_of text)) (BadMode place)
 
@@ -105,6 +108,7 @@ output_of (Some mode.Same) = Some None
 output_of (Some (mode.Letter n)) = Some (Some (record { letter = n; number = None }))
 output_of (Some (mode.Numbered n k)) = Some (Some (record { letter = n; number = Some k }))
 
+-- the mode of an output, none for =, or that the word is none
 unfoldable pub output_mode : ℕ → List ℕ → Result (Option WriteMode) Refusal
 output_mode place text = or_refused (output_of (mode_word_of text)) (BadMode place)
 
@@ -116,9 +120,11 @@ letter_of_word (Some mode.Same) = None
 letter_of_word (Some (mode.Letter n)) = Some n
 letter_of_word (Some (mode.Numbered n k)) = None
 
+-- the letter that a word is
 abbrev pub letter_in : List ℕ → Option ℕ
 letter_in text = letter_of_word (mode_word_of text)
 
+-- the same, or that the word is none
 unfoldable pub letter : ℕ → List ℕ → Result ℕ Refusal
 letter place text = or_refused (letter_in text) (BadMode place)
 
@@ -130,6 +136,7 @@ letter_unless_all (Some mode.Same) = None
 letter_unless_all (Some (mode.Letter n)) = Some (Some n)
 letter_unless_all (Some (mode.Numbered n k)) = None
 
+-- the same, none for *
 unfoldable pub letter_or_all : ℕ → List ℕ → Result (Option ℕ) Refusal
 letter_or_all place text = or_refused (letter_unless_all (mode_word_of text)) (BadMode place)
 
@@ -139,17 +146,21 @@ with_ext None ext = None
 with_ext (Some n) None = None
 with_ext (Some n) (Some ext) = Some (record { letter = n; ext = Some ext })
 
+-- a letter alone
 abbrev pub without_ext : ℕ → AccessMode
 without_ext n = record { letter = n; ext = None }
 
+-- a letter, a stroke, and the letter whose extension it is
 abbrev pub extended : ℕ → ℕ → ℕ → Option AccessMode
 extended a stroke b = if stroke == 0x61 then with_ext (letter_in (a ∷ [])) (letter_in (b ∷ [])) else None
 
+-- a letter, alone or with its extension
 unfoldable pub access_mode_in : List ℕ → Option AccessMode
 access_mode_in (a ∷ []) = option_map without_ext (letter_in (a ∷ []))
 access_mode_in (a ∷ stroke ∷ b ∷ []) = extended a stroke b
 access_mode_in _ = None
 
+-- the same, or that the word is none
 unfoldable pub access_mode : ℕ → List ℕ → Result AccessMode Refusal
 access_mode place text = or_refused (access_mode_in text) (BadMode place)
 
@@ -162,6 +173,7 @@ hexadecimal_of c =
     else (if is_between 0xC1 0xC6 c then Some (10 + (c - 0xC1))
     else None)
 
+-- the number of three hexadecimal digits
 abbrev pub three_digits : Option ℕ → Option ℕ → Option ℕ → Option ℕ
 three_digits None middle low = None
 three_digits (Some high) None low = None
@@ -173,6 +185,7 @@ unfoldable pub device_of : List ℕ → Option ℕ
 device_of (a ∷ b ∷ c ∷ []) = three_digits (hexadecimal_of a) (hexadecimal_of b) (hexadecimal_of c)
 device_of _ = None
 
+-- the device that a word is, or a bad operand
 unfoldable pub device : ℕ → List ℕ → Result ℕ Refusal
 device place text = or_refused (device_of text) (BadOperand place)
 
@@ -183,6 +196,7 @@ target_of place text size =
     else (if size == 1 then or_refused (option_map (λ n. target.Letter n) (letter_in text)) (BadMode place)
     else Err (BadOperand place))
 
+-- the device or the letter that a word is, by its length
 unfoldable pub device_or_letter : ℕ → List ℕ → Result Target Refusal
 device_or_letter place text = target_of place text (length text)
 
@@ -200,6 +214,7 @@ largest = 999999999
 unfoldable pub number_within : ℕ → ℕ → List ℕ → Option ℕ
 number_within from to text = option_and_then (λ n. if is_between from to n then Some n else None) (number_in text)
 
+-- the number that a word is, within a range, or a bad operand
 unfoldable pub number : ℕ → ℕ → ℕ → List ℕ → Result ℕ Refusal
 number from to place text = or_refused (number_within from to text) (BadOperand place)
 

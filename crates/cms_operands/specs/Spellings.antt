@@ -11,6 +11,7 @@ use Rattle.cms_operands.specs.declared.spelling.Spelling.{Spelling}
 abbrev pub spelled : List ℕ → ℕ → CommandName → Spelling
 spelled word least command = record { rule = record { name = coded word; least = least; takes = 0 }; command = command }
 
+-- the words of the commands with their least lengths; the first that fits holds
 unfoldable pub spellings : List Spelling
 spellings =
     spelled (codes "ACCESS  ") 2 Access

@@ -18,6 +18,7 @@ pub record Begun : Type 0 where
 abbrev pub bytes_so_far : Begun → List ℕ
 bytes_so_far s = if s.whole then [] else s.bytes
 
+-- where the next record begins
 abbrev pub next_place : Begun → ℕ
 next_place s = if s.whole then s.place + length s.bytes else s.place
 
@@ -34,6 +35,7 @@ abbrev pub record_bytes : Option ℕ → List ℕ → List ℕ
 record_bytes None bytes = bytes
 record_bytes (Some n) bytes = take n bytes
 
+-- a record of a length that is known has all its bytes
 abbrev pub is_whole : Option ℕ → List ℕ → Bool
 is_whole None bytes = false
 is_whole (Some n) bytes = nat_le n (length bytes)

@@ -82,6 +82,7 @@ abbrev pub IsPast : List ℕ → ℕ → ℕ → Option ℕ → Type 0
 IsPast bytes place high None = (length bytes ≤ place) ⊎ ((length bytes ≡ place + 1) × (slice_index bytes place ≡ high))
 IsPast bytes place high (Some n) = length bytes ≤ place + 2 + n
 
+-- so far the bytes hold records, as the scan tells them
 abbrev pub Passes : List ℕ → Scan → Type 0
 Passes bytes s = IsPast bytes s.place s.high s.size
 

@@ -36,6 +36,7 @@ opened s n disk slot SyncFault = (s, ends.Failed)
 opened s n disk slot OldFault = (s, ends.Failed)
 opened s n disk slot (EitherFault side) = (s, ends.Failed)
 
+-- the volume on a unit is accessed as a letter by a step
 abbrev pub opening : Machine → ℕ → Letter → Option Slot → Act (Machine × AccessEnd)
 opening s n disk None = Done (s, ends.NoUnit)
 opening s n disk (Some slot) =
@@ -50,6 +51,7 @@ abbrev pub on_unit : Machine → ℕ → ℕ → Option ℕ → Option ℕ → A
 on_unit s u n ext (Some parent) = Done (s, ends.NoParent parent)
 on_unit s u n ext None = opening s n (disk_for s u n ext) (slice_get s.units u)
 
+-- the same for the unit that has the device; or no unit has it
 abbrev pub on_device : Machine → ℕ → Option ℕ → Option ℕ → Act (Machine × AccessEnd)
 on_device s n ext None = Done (s, ends.NoUnit)
 on_device s n ext (Some u) = on_unit s u n ext (missing_parent s.letters n ext)
@@ -60,6 +62,7 @@ accessing s vdev n ext = on_device s n ext (unit_with vdev s.devices)
 
 -- ---- the call
 
+-- an access, on the machine with these units
 abbrev pub accessing_tree : State → ℕ → ℕ → Option ℕ → List Slot → Act (Machine × AccessEnd)
 accessing_tree s vdev n ext units = accessing (machine_of s units) vdev n ext
 

@@ -19,6 +19,7 @@ complaint Bad = Some M010
 complaint Long = Some M011
 complaint Rest = None
 
+-- a message is typed, where there is one
 abbrev pub complaining : {R : Type 0} → Option Message → Act R → Act R
 complaining None next = next
 complaining (Some message) next = Out (typed_line (message_text message)) next

@@ -77,11 +77,13 @@ pub record IsSeatOf (unit : UnitInfo) (s : Seated) : Type 0 where
   pub on : IsOn unit s.disk
   pub marked : unit.writable ≡ false → s.letter.read_only ≡ true
 
+-- all units of a table may be used, and each accessed disk is on its unit
 pub record IsUsableTable (j : Journal) (t : Accesses) : Type 0 where
   pub units : (u : ℕ) (unit : UnitInfo) → slice_get t.units u ≡ Some unit → IsUsableUnit j unit
   pub seats : (n : ℕ) (s : Seated) (unit : UnitInfo) → item_at t.seats n ≡ Some s
       → slice_get t.units s.letter.unit ≡ Some unit → IsSeatOf unit s
 
+-- the same at a journal that may not be told
 abbrev pub Usable : Told → Accesses → Type 0
 Usable told t = ForSome told (λ j. IsUsableTable j t)
 
@@ -105,6 +107,7 @@ Spot = SpotWith []
 abbrev pub spot_at : Seen → declared.State.State → Spot
 spot_at world state = record { world = world; state = state }
 
+-- where a session stands, of a world and a state
 abbrev pub spot : {W : Type 0} → Ghosts W → W → declared.State.State → Spot
 spot shows w s = spot_at (seen shows w) s
 
@@ -127,9 +130,11 @@ at {objects} s units = record {
   objects = objects;
 }
 
+-- what fits the journal is held of the units at a spot
 abbrev pub holds : {objects : List Object} → SpotWith objects → List Slot → Type 0
 holds s units = Holds s.world.told s.state.table units
 
+-- the units at a spot may be used
 abbrev pub IsUsable : {objects : List Object} → SpotWith objects → Type 0
 IsUsable s = Usable s.world.told s.state.table
 
@@ -170,6 +175,7 @@ pub record Does {R T : Type 0} (before now : Seen) (t : Act R) (result : Result 
   pub edges : before.edges ≤ now.edges
   pub cause : IfErr result (λ e. e ≡ Edge → Rose before.edges now.edges)
 
+-- a call did its tree and the units are held behind it, or it was cut off in it
 abbrev pub Ends : {R T : Type 0} {objects : List Object} → Point → SpotWith objects → Act R → Result T End → Meaning T R → Type 0
 Ends p new t (Ok x) done = (units : List Slot) × (holds new units × Ran p (at new units) t (Done (done units x)))
 Ends p new t (Err e) done = (units : List Slot) × Broke p (at new units) t

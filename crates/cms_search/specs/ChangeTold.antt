@@ -22,5 +22,6 @@ change_told n (IsLimited s k) = refusal s (M120 (decimal_of k)) limited
 change_told n (IsFull s need free) = refusal s (M107 (letter_text n) (decimal_of need) (decimal_of free)) fault
 change_told n (HasFailed course) = Done course
 
+-- what a change came to is typed, on the machine with these units
 abbrev pub told_tree : State → ℕ → declared.Changed → List Slot → Act Course
 told_tree s n changed units = change_told n (changing_of s units changed)

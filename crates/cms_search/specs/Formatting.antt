@@ -32,6 +32,7 @@ table_made t u unit n (Err failed.Memory) = t
 table_made t u unit n (Err failed.InDoubt) = vacated u n (marked u true t)
 table_made t u unit n (Err why) = vacated u n (marked u false t)
 
+-- what making a minidisk answered, without the disk
 abbrev pub answer_made : Result Accessed DiskFault → Result ⊤ DiskFault
 answer_made (Ok d) = Ok tt
 answer_made (Err why) = Err why

@@ -28,6 +28,7 @@ pub record Letter : Type 0 where
 abbrev pub Places : Type 0
 Places = FinMap (slice_cmp nat_cmp) ℕ
 
+-- what a reading place stands under: a device and a name
 abbrev pub place_key : ℕ → Name → List ℕ
 place_key vdev name = vdev ∷ (name.file ++ 0 ∷ name.kind)
 

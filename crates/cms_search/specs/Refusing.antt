@@ -22,9 +22,11 @@ on_line s words next (Err why) = refusal s (message_of words why) (code_of why)
 abbrev pub no_disk : ℕ
 no_disk = 36
 
+-- the code of a device's fault
 abbrev pub fault : ℕ
 fault = 100
 
+-- the code of a file whose bytes aren't its records any more
 abbrev pub altered_code : ℕ
 altered_code = 104
 
@@ -50,10 +52,12 @@ abbrev pub unread_message : DiskFault → ℕ → Message
 unread_message Altered vdev = M106 (device_text vdev)
 unread_message why vdev = M105 (device_text vdev)
 
+-- the code of a file that isn't read to its end
 abbrev pub unread_code : DiskFault → ℕ
 unread_code Altered = altered_code
 unread_code why = fault
 
+-- a file isn't read to its end: its message is typed, with its code
 abbrev pub unread : Machine → ℕ → DiskFault → Act Course
 unread s vdev why = refusal s (unread_message why vdev) (unread_code why)
 

@@ -29,6 +29,7 @@ unfoldable pub places_from : {A : Type 0} → (A → Bool) → ℕ → List A �
 places_from passes n [] = []
 places_from passes n (x ∷ xs) = if passes x then n ∷ places_from passes (suc n) xs else places_from passes (suc n) xs
 
+-- the places of the items that pass
 abbrev pub places_where : {A : Type 0} → (A → Bool) → List A → List ℕ
 places_where passes xs = places_from passes 0 xs
 
@@ -48,6 +49,7 @@ pub record Shelf : Type 0 where
 abbrev pub Shelves : Type 0
 Shelves = List (Option Shelf)
 
+-- a file as a search sees it
 abbrev pub listed : File → Listed
 listed f = record { name = f.name; number = f.number }
 
@@ -55,6 +57,7 @@ listed f = record { name = f.name; number = f.number }
 abbrev pub files_in : Option Minidisk → List Listed
 files_in m = option_map_or (λ m. map listed m.files) m []
 
+-- a letter's disk as a search sees it, on these units
 abbrev pub shelf_in : List Slot → Letter → Shelf
 shelf_in units letter = record { letter = letter; files = files_in (minidisk_in (slice_get units letter.unit)) }
 
@@ -69,6 +72,7 @@ abbrev pub is_searched : Option ℕ → Shelf → Bool
 is_searched None shelf = true
 is_searched (Some n) shelf = has (λ parent. parent == n) shelf.letter.parent
 
+-- the letters that are searched behind one, or all
 abbrev pub searched : Option ℕ → Shelves → List ℕ
 searched base shelves = places_where (has (is_searched base)) shelves
 
@@ -92,9 +96,11 @@ shows disk number = not (disk.read_only && (number == 0))
 abbrev pub may_find : ReadMode → Letter → ℕ → Bool
 may_find mode disk number = shows disk number && admits mode number
 
+-- a search of this mode and these names finds the file
 abbrev pub is_found : ReadMode → (Name → Bool) → Letter → Listed → Bool
 is_found mode names disk f = names f.name && may_find mode disk f.number
 
+-- a file by its letter and its place
 abbrev pub found_at : ℕ → ℕ → Found
 found_at n place = record { letter = n; place = place }
 
@@ -102,6 +108,7 @@ found_at n place = record { letter = n; place = place }
 abbrev pub found_in : ReadMode → (Name → Bool) → ℕ → Shelf → List Found
 found_in mode names n shelf = map (λ place. found_at n place) (places_where (is_found mode names shelf.letter) shelf.files)
 
+-- the files of letter n that are found
 abbrev pub found_on : Shelves → ReadMode → (Name → Bool) → ℕ → List Found
 found_on shelves mode names n = option_map_or (λ shelf. found_in mode names n shelf) (item_at shelves n) []
 
@@ -110,6 +117,7 @@ abbrev pub found_among : Shelves → ReadMode → (Name → Bool) → Result (Li
 found_among shelves mode names (Ok letters) = Ok (flat_map (λ n. found_on shelves mode names n) letters)
 found_among shelves mode names (Err e) = Err e
 
+-- the files that are found, letter by letter, or why none is looked for
 abbrev pub search : Shelves → ReadMode → (Name → Bool) → Result (List Found) SearchFault
 search shelves mode names = found_among shelves mode names (letters_of_mode shelves mode)
 
@@ -125,6 +133,7 @@ first_found (Ok []) = Err NotFound
 first_found (Ok (f ∷ fs)) = Ok f
 first_found (Err e) = Err e
 
+-- the first file of a name that is found
 abbrev pub look_up : Shelves → ReadMode → Name → Result Found SearchFault
 look_up shelves mode name = first_found (search shelves mode (same_name name))
 
@@ -136,6 +145,7 @@ placed_in mode name shelf = option_and_then
     (λ k. if has (λ f. may_find mode shelf.letter f.number) (slice_get shelf.files k) then Some k else None)
     (position (λ f. same_name name f.name) shelf.files)
 
+-- the place of a name on letter n, where it may be found
 abbrev pub placed_on : Shelves → ReadMode → Name → ℕ → Option ℕ
 placed_on shelves mode name n = option_and_then (λ shelf. placed_in mode name shelf) (item_at shelves n)
 
@@ -144,9 +154,11 @@ abbrev pub first_placed : (ℕ → Option ℕ) → List ℕ → Result Found Sea
 first_placed placed [] = Err NotFound
 first_placed placed (n ∷ ns) = option_map_or (λ k. Ok (found_at n k)) (placed n) (first_placed placed ns)
 
+-- the first of some letters on which it is
 abbrev pub first_among : (ℕ → Option ℕ) → Result (List ℕ) SearchFault → Result Found SearchFault
 first_among placed (Ok letters) = first_placed placed letters
 first_among placed (Err e) = Err e
 
+-- the first file of a name, letter by letter: the same as a look-up
 abbrev pub find_first : Shelves → ReadMode → Name → Result Found SearchFault
 find_first shelves mode name = first_among (λ n. placed_on shelves mode name n) (letters_of_mode shelves mode)

@@ -13,6 +13,7 @@ use Rattle.cms_search.specs.declared.state.Device.{Device}
 abbrev pub device_of : UnitInfo → Device
 device_of unit = record { vdev = unit.vdev; bsize = unit.bsize; blocks = unit.unit.blocks; writable = unit.writable }
 
+-- the devices of a table's units
 abbrev pub devices_of : Accesses → List Device
 devices_of t = map device_of t.units
 

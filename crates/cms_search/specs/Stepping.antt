@@ -20,6 +20,7 @@ pub data Stepped : Type 0 where
   Did : Machine → Stepped
   Failed : Course → Stepped
 
+-- the device failed: its message is typed, and the command ends
 abbrev pub failing : Machine → ℕ → Act Stepped
 failing s vdev = bind (device_fault s vdev) (λ course. Done (Failed course))
 
@@ -49,12 +50,14 @@ pub data Changing : Type 0 where
   IsFull : Machine → ℕ → ℕ → Changing
   HasFailed : Course → Changing
 
+-- what a change comes to, by its step and its answer
 abbrev pub answered : Stepped → Answer → Act Changing
 answered (Failed course) answer = Done (HasFailed course)
 answered (Did s) (Changed m) = Done (IsChanged s)
 answered (Did s) (Limited k) = Done (IsLimited s k)
 answered (Did s) (Full need free) = Done (IsFull s need free)
 
+-- a change of letter n's minidisk as a step of its unit
 abbrev pub changing_in : Machine → ℕ → Letter → Change → Minidisk → Act Changing
 changing_in s n disk change m =
     bind (stepping s n (vdev_of s disk.unit) (Put disk.unit m change (stamp_of s.moment))) (λ x. answered x (answer_of m change))
@@ -63,10 +66,12 @@ changing_in s n disk change m =
 abbrev pub no_change : Machine → ℕ → Act Changing
 no_change s n = bind (not_accessed s n) (λ course. Done (HasFailed course))
 
+-- the same where its unit holds one
 abbrev pub changing_at : Machine → ℕ → Letter → Change → Option Minidisk → Act Changing
 changing_at s n disk change None = no_change s n
 changing_at s n disk change (Some m) = changing_in s n disk change m
 
+-- the same where the letter is accessed
 abbrev pub changing_on : Machine → ℕ → Change → Option Letter → Act Changing
 changing_on s n change None = no_change s n
 changing_on s n change (Some disk) = changing_at s n disk change (minidisk_in (slice_get s.units disk.unit))
@@ -101,6 +106,7 @@ pub record HasRead (before now : Seen) : Type 0 where
 
 -- ---- the call
 
+-- a change of letter n's disk, on the machine with these units
 abbrev pub changing_tree : State → ℕ → Change → List Slot → Act Changing
 changing_tree s n change units = changing (machine_of s units) n change
 

@@ -64,9 +64,11 @@ pub record Accesses : Type 0 where
   pub doubts : List Bool
   pub seats : List (Option Seated)
 
+-- the marks of each letter's disk
 abbrev pub letters_in : List (Option Seated) → List (Option Letter)
 letters_in seats = map (λ x. option_map (λ s. s.letter) x) seats
 
+-- the same of a table
 abbrev pub letters_of : Accesses → List (Option Letter)
 letters_of t = letters_in t.seats
 
@@ -74,6 +76,7 @@ letters_of t = letters_in t.seats
 abbrev pub place_of_device : ℕ → List UnitInfo → Option ℕ
 place_of_device vdev units = position (λ unit. unit.vdev == vdev) units
 
+-- the unit that has a device
 abbrev pub unit_of_device : ℕ → List UnitInfo → Option UnitInfo
 unit_of_device vdev units = option_and_then (λ u. slice_get units u) (place_of_device vdev units)
 
@@ -108,6 +111,7 @@ AreOnUnits t =
 abbrev pub new_table : List UnitInfo → Accesses
 new_table units = record { units = units; doubts = replicate (length units) false; seats = replicate 26 None }
 
+-- letter n has no disk any more
 abbrev pub released : ℕ → Accesses → Accesses
 released n t = record t { seats = cleared n t.seats }
 
@@ -119,6 +123,7 @@ marked u doubt t = record t { doubts = slice_set t.doubts u doubt }
 abbrev pub seat_with : Seated → Accessed → Seated
 seat_with s d = record s { disk = d }
 
+-- letter n has another disk, with the same marks
 abbrev pub with_disk : ℕ → Accessed → Accesses → Accesses
 with_disk n d t = record t { seats = slice_set t.seats n (option_map (λ s. seat_with s d) (item_at t.seats n)) }
 
@@ -169,6 +174,7 @@ EndsAccess told now_told t t' n ext result (Ok u) =
 
 -- ---- what the table searches
 
+-- a file that is held, as a search sees it
 abbrev pub listed_held : HeldFile → Listed
 listed_held f = record { name = f.entry.name; number = f.entry.number }
 
@@ -176,9 +182,11 @@ listed_held f = record { name = f.entry.name; number = f.entry.number }
 abbrev pub told_of : FileInfo → Listed
 told_of info = record { name = info.name; number = info.number }
 
+-- a seated disk, as a search sees it
 abbrev pub shelf_of : Seated → Shelf
 shelf_of s = record { letter = s.letter; files = map listed_held s.disk.volume.files }
 
+-- the disks of a table, as a search sees them
 abbrev pub shelves_of : Accesses → Shelves
 shelves_of t = map (λ x. option_map shelf_of x) t.seats
 

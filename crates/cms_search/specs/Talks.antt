@@ -31,6 +31,8 @@ standing told console faults units objects = record {
   objects = objects;
 }
 
+-- what is said of a call that takes lines of the console, types and asks the clock, and touches no
+-- unit
 pub record Talks {R T : Type 0} (before now : Seen) (was is : ConsoleState) (t : Act R) (r : Result T End) (done : T → R) : Type 0 where
   -- on whichever units and beside whichever objects, and whichever the count of faults, it did its tree, or was cut off in it
   pub each : (faults : ℕ) (units : List Slot) (objects : List Object)
@@ -61,8 +63,10 @@ asked_in s Spent = asking.Spent
 
 -- ---- an ask of the session's state
 
+-- an ask, on the machine with these units
 abbrev pub ask_tree : State → List Slot → Act asking.Asked
 ask_tree s units = asking.ask (machine_of s units)
 
+-- what an ask comes to, with the state that it leaves
 abbrev pub asked_of : State → Meaning Asked asking.Asked
 asked_of s units x = asked_in (machine_of s units) x

@@ -8,6 +8,7 @@ letter_text n = (if nat_lt n 9 then 0xC1 + n
     else (if nat_lt n 26 then 0xE2 + (n - 18)
     else 0x40))) ∷ []
 
+-- the character of a hexadecimal digit, in capitals
 abbrev pub hexadecimal_digit : ℕ → ℕ
 hexadecimal_digit n = if nat_lt n 10 then 0xF0 + n else 0xC1 + (n - 10)
 
@@ -20,6 +21,7 @@ device_text vdev =
 abbrev pub left_in : ℕ → List ℕ → List ℕ
 left_in width text = text ++ replicate (width - length text) 0x40
 
+-- a text at the right of a column
 abbrev pub right_in : ℕ → List ℕ → List ℕ
 right_in width text = replicate (width - length text) 0x40 ++ text
 

@@ -14,16 +14,20 @@ use Rattle.cms_session.specs.Machine.{access_first, rounds, started}
 
 -- ---- the trees of the parts of a session on the machine with these units
 
+-- rounds follow until the session ends
 abbrev pub rounds_tree : declared_session.Session → List Object → List Slot → Act Finish
 rounds_tree s objects units = rounds (desk_of s.state objects units) (procedures_of s)
 
+-- device 191 is accessed as A
 abbrev pub access_tree : State → List Slot → Act Machine
 access_tree s units = access_first (machine_of s units)
 
+-- a session from its first state
 abbrev pub session_tree : State → List Object → List Slot → Act Finish
 session_tree s objects units = started (desk_of s objects units)
 
 -- ---- what their values mean
 
+-- how a session ends is what it is on the machine
 abbrev pub finished : Meaning Finish Finish
 finished units finish = finish

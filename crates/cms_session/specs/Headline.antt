@@ -63,6 +63,7 @@ given_bytes (Some bytes) = bytes
 abbrev pub first_console : Option (List ℕ) → ConsoleState
 first_console given = record { unread = record { within = 0; bytes = given_bytes given }; ended = is_some given }
 
+-- a point of the journal at which nothing of the script was taken
 abbrev pub first_point : Told → ℕ → List Slot → Option (List ℕ) → List Object → Point
 first_point told faults units given objects = record {
   journal = told;
@@ -86,12 +87,14 @@ first_machine units devices offset turns = record {
   left = turns;
 }
 
+-- the point at which a session starts
 abbrev pub start_point : Start → Point
 start_point s = first_point (Some (fresh s.units)) s.faults (settled s.units) s.given s.objects
 
 abbrev pub start_desk : Start → Desk
 start_desk s = desk (first_machine (settled s.units) s.devices s.offset s.turns) s.objects
 
+-- what a session does from its start
 abbrev pub start_tree : Start → Act Finish
 start_tree s = started (start_desk s)
 

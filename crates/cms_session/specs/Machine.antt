@@ -17,6 +17,7 @@ use Rattle.cms_rounds.specs.declared.state.Finish.TheVariants as finish
 
 -- ---- the session
 
+-- the next round follows, unless the session has ended
 abbrev pub then_round : (Desk → List Exec → Act Finish) → Passed → Act Finish
 then_round next (Stops end) = Done end
 then_round next (Goes d ps) = next d ps

@@ -62,6 +62,7 @@ RunsNone (words.Runs spec) = ⊥
 abbrev pub HasFew : ℕ → Told → Type 0
 HasFew most told = ForSome told (λ j. length j.units ≤ most)
 
+-- at most 240 units are attached, where the journal is told
 abbrev pub HasRoom : Told → Type 0
 HasRoom told = HasFew 240 told
 
@@ -136,6 +137,7 @@ pub record WorldCause (before now : Seen) (status : Status) : Type 0 where
 
 -- ---- the parts of the call
 
+-- the status of a session that wasn't cut off
 abbrev pub status_of : Finish → Status
 status_of finish.AtEnd = Done
 status_of finish.AtTurns = Turns

@@ -24,9 +24,11 @@ pub data Read : Type 0 where
 abbrev pub given_by : Option ℕ → Option (List ℕ)
 given_by seed = option_map script_of seed
 
+-- the session that the words ask for
 abbrev pub asked_of : Words → Asked
 asked_of words = record { units = words.units; turns = words.turns; offset = words.offset; given = given_by words.seed }
 
+-- what the words say, as a session or a refusal
 abbrev pub read_by : Result Words WordFault → Read
 read_by (Ok words) = Runs (asked_of words)
 read_by (Err fault) = Refused fault

@@ -23,6 +23,7 @@ abbrev pub fits : ℤ → Bool
 fits (pos n) = nat_lt n (2 ^ 63)
 fits (negsuc n) = nat_lt n (2 ^ 63)
 
+-- a number, where it fits signed 64 bits
 abbrev pub within : ℤ → Option ℤ
 within z = if fits z then Some z else None
 
@@ -30,6 +31,7 @@ within z = if fits z then Some z else None
 abbrev pub negative_of : Text → Option ℤ
 negative_of digits = option_and_then (λ n. within (neg_ℤ (pos n))) (magnitude_of 19 digits)
 
+-- the number of up to 19 digits, where it fits
 abbrev pub positive_of : Text → Option ℤ
 positive_of digits = option_and_then (λ n. within (pos n)) (magnitude_of 19 digits)
 

@@ -8,6 +8,7 @@ use Rattle.cms_ebcdic.specs.CodePage.{code_of, upper_of}
 abbrev pub Text : Type 0
 Text = List ℕ
 
+-- a byte is a blank
 abbrev pub is_blank : ℕ → Bool
 is_blank byte = byte == 0x40
 

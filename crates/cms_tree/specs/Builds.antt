@@ -20,6 +20,7 @@ pub record Child : Type 0 where
 abbrev pub no_mark : Mark
 no_mark = record { last = 0; place = 0 }
 
+-- no block, and no mark
 abbrev pub no_child : Child
 no_child = record { block = 0; mark = no_mark }
 

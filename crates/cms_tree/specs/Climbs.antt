@@ -133,6 +133,7 @@ pub record IsClimbed (bsize psize : ℕ) (leaves : List ℕ) (marks : List Mark)
   pub nodes : ((n : ℕ) → times n fresh ≤ 1) → (image : Image)
       → HasNodes (put_blocks image (climbed bsize psize leaves marks fresh (length leaves))) bsize psize leaves marks fresh
 
+-- with all leaves added, each pointer block was written once, as building gives it
 abbrev pub ClimbsAll : Type 0
 ClimbsAll = (bsize psize : ℕ) (leaves : List ℕ) (marks : List Mark) (fresh : List ℕ) → IsBuildable bsize psize leaves marks fresh
     → IsClimbed bsize psize leaves marks fresh

@@ -5,6 +5,7 @@ use Rattle.cms_tree.specs.declared.types.Mark.{Mark}
 use Rattle.cms_tree.specs.declared.node.Group.{Group}
 use Rattle.cms_tree.specs.Builds.{Child, no_mark, nodes_over}
 
+-- the mark of leaf i; none where there is none
 abbrev pub mark_at : List Mark → ℕ → Mark
 mark_at marks i = slice_index_or marks i no_mark
 

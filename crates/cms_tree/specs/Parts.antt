@@ -15,9 +15,11 @@ use Rattle.cms_tree.specs.declared.read.Subtree.{Subtree}
 use Rattle.cms_tree.specs.declared.read.Tier.{Tier}
 use Rattle.cms_tree.specs.Walks.{AreWithin}
 
+-- the form of a tree, of how it is laid out
 abbrev pub form_of : Layout → Form
 form_of layout = record { fan = layout.fan; stride = layout.stride; last = layout.last }
 
+-- the blocks and leaves of a tree that was read
 abbrev pub met_of : MetBlocks → Met
 met_of met = record { blocks = met.blocks.items; leaves = met.leaves.items }
 

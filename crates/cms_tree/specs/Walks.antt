@@ -29,6 +29,7 @@ tree_at image at = tree (form_at at) image (levels_at at) at.first at.holder at.
 unfoldable pub nodes : Form → Image → ℕ → ℕ → ℕ → List ℕ
 nodes form image k root count = concat (tiers form image k root count)
 
+-- the pointer blocks of a tree at a place of an image
 abbrev pub nodes_at : Image → TreeAt → List ℕ
 nodes_at image at = nodes (form_at at) image (levels_at at) at.root at.count
 

@@ -17,6 +17,7 @@ AreFields parts word =
     (parts.device.now ≡ field word) × (parts.size.now ≡ field (behind word)) × (parts.access.now ≡ field (behind (behind word)))
     × (parts.name.now ≡ behind (behind (behind word)))
 
+-- the unit word that was read
 abbrev pub unit_of : UnitText → UnitWord
 unit_of text = record { vdev = text.vdev; bsize = text.bsize; access = text.access; name = text.name.now }
 

@@ -39,6 +39,7 @@ access_of word =
     else if bytes_eq word (codes "ro") then Some ReadOnly
     else new_image_of word
 
+-- a character is a comma
 abbrev pub is_comma : ℕ → Bool
 is_comma c = c == 44
 
@@ -46,6 +47,7 @@ is_comma c = c == 44
 abbrev pub field : List ℕ → List ℕ
 field word = before_first is_comma word
 
+-- what stands behind the first comma
 abbrev pub behind : List ℕ → List ℕ
 behind word = after_first is_comma word
 

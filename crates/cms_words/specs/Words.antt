@@ -12,6 +12,7 @@ use Rattle.cms_words.specs.declared.unit.UnitWord.{UnitWord}
 use Rattle.cms_words.specs.declared.reading.Words.{Words}
 
 infixl 10 ◌>>=◌
+-- goes on with what was read, or with the refusal
 abbrev pub ◌>>=◌ : {A B : Type 0} → Result A WordFault → (A → Result B WordFault) → Result B WordFault
 (Ok x) >>= f = f x
 (Err e) >>= f = Err e
@@ -45,9 +46,11 @@ unfoldable pub seed_of : Option Text → Result (Option ℕ) WordFault
 seed_of None = Ok None
 seed_of (Some word) = option_map_or (λ n. Ok (Some n)) (number_up_to 2147483647 word) (Err Seed)
 
+-- the devices of unit words
 abbrev pub devices_of : List UnitWord → List ℕ
 devices_of units = map (λ u. u.vdev) units
 
+-- a device is among these
 abbrev pub has_device : List ℕ → ℕ → Bool
 has_device devices vdev = list_any (λ d. d == vdev) devices
 

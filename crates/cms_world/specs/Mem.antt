@@ -23,6 +23,7 @@ told_of w = Some (journal_of w)
 abbrev pub faults_of : MemWorld → ℕ
 faults_of w = w.faults
 
+-- how often a call at an edge failed
 abbrev pub edges_of : MemWorld → ℕ
 edges_of w = w.edges
 
@@ -57,6 +58,7 @@ pub record Rest : Type 0 where
   pub images : List (String Global × Image)
   pub failing : List Planned
 
+-- what a world in memory has besides its journal and its counts
 abbrev pub rest_of : MemWorld → Rest
 rest_of w = record { script = w.script; clock = w.seconds; images = images_of w; failing = w.plan.failing.items }
 

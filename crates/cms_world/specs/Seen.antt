@@ -10,6 +10,7 @@ pub record Seen : Type 0 where
   pub faults : ℕ
   pub edges : ℕ
 
+-- what a world shows
 abbrev pub seen : {W : Type 0} → Ghosts W → W → Seen
 seen shows w = record { told = shows.told w; faults = shows.faults w; edges = shows.edges w }
 

@@ -5,6 +5,7 @@ use Rattle.std.specs.Option.{option_map_or}
 use Rattle.std.specs.Str.{bytes_eq}
 use Rattle.cms_text.specs.Texts.{Text}
 
+-- so many blanks
 abbrev pub blanks : ℕ → Text
 blanks n = replicate n 0x40
 

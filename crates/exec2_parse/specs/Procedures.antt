@@ -27,6 +27,7 @@ first_statement = find (λ line. not (is_idle line))
 unfoldable pub begins_with_trace : List Text → Bool
 begins_with_trace lines = option_map_or (λ line. is_keyword (codes "&TRACE") (first_word line)) (first_statement lines) false
 
+-- a line has more than 255 bytes
 abbrev pub is_long : Text → Bool
 is_long line = nat_lt longest_text (length line)
 
@@ -34,6 +35,7 @@ is_long line = nat_lt longest_text (length line)
 abbrev pub number_of_long_line : List Text → Option ℕ
 number_of_long_line lines = option_map (λ place. place + 1) (position is_long lines)
 
+-- no line is too long, or the first that is
 abbrev pub want_none : Option ℕ → Result (Unit {0}) ProcFault
 want_none None = Ok tt
 want_none (Some number) = Err (LineTooLong number)

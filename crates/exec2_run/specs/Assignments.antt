@@ -25,10 +25,12 @@ use Rattle.exec2_run.specs.declared.fault.Fault.TheVariants.{Arity, TooLong, Ove
 
 -- ---- sums
 
+-- a word that is a plus or a minus sign
 abbrev pub sign_of : Text → Option Sign
 sign_of (byte ∷ []) = if byte == 0x4E then Some Plus else (if byte == 0x60 then Some Minus else None)
 sign_of word = None
 
+-- how a sum begins: with a sign, or with its first number
 abbrev pub begun_by : Option Sign → Option ℤ → Result Sum Fault
 begun_by (Some sign) number = Ok (record { total = pos 0; sign = Some sign })
 begun_by None (Some z) = Ok (record { total = z; sign = None })
@@ -42,10 +44,12 @@ begun word = begun_by (sign_of word) (number_of word)
 abbrev pub checked : ℤ → Result ℤ Fault
 checked z = if fits z then Ok z else Err Overflow
 
+-- a number added or taken away, where the sum fits
 abbrev pub applied : Sign → ℤ → ℤ → Result ℤ Fault
 applied Plus total z = checked (total +ℤ z)
 applied Minus total z = checked (total -ℤ z)
 
+-- the next word: a sign where none is due, else a number
 abbrev pub plus_due : Option Sign → ℤ → Text → Result Sum Fault
 plus_due None total word = do
   sign ← ok_or (sign_of word) BadStatement
@@ -59,19 +63,23 @@ plus_due (Some sign) total word = do
 abbrev pub plus : Sum → Text → Result Sum Fault
 plus sum word = plus_due sum.sign sum.total word
 
+-- all words of a sum, one after another
 unfoldable pub added : Sum → List Text → Result Sum Fault
 added sum [] = Ok sum
 added sum (word ∷ words) = do
   next ← plus sum word
   added next words
 
+-- the sum, unless it ends with a sign
 abbrev pub total_by : Option Sign → ℤ → Result ℤ Fault
 total_by None total = Ok total
 total_by (Some sign) total = Err BadStatement
 
+-- the same of a sum
 abbrev pub total_of : Sum → Result ℤ Fault
 total_of sum = total_by sum.sign sum.total
 
+-- the value of a sum of these words
 abbrev pub sum_value : Text → List Text → Bool → Result Text Fault
 sum_value first others is_cut = do
   sum ← begun first
@@ -82,6 +90,7 @@ sum_value first others is_cut = do
 
 -- ---- no function: nothing, one word, or a sum
 
+-- nothing, one word, or a sum
 abbrev pub plain_by : List Text → Bool → Result Text Fault
 plain_by [] is_cut = do
   whole is_cut
@@ -89,6 +98,7 @@ plain_by [] is_cut = do
 plain_by (word ∷ []) is_cut = if is_cut then sum_value word [] true else Ok word
 plain_by (first ∷ second ∷ others) is_cut = sum_value first (second ∷ others) is_cut
 
+-- the value of a right side without a function
 unfoldable pub plain_value : Operands → Result Text Fault
 plain_value operands = plain_by operands.words operands.is_cut
 
@@ -137,6 +147,7 @@ probe function.Trans words = words
 probe function.Trim words = words
 probe function.Word words = words
 
+-- the fault of a function whose words are cut: its own, or that a word is too long
 abbrev pub earlier : Result Text FuncFault → Fault
 earlier (Ok text) = TooLong
 earlier (Err calling.Arity) = TooLong
@@ -150,12 +161,15 @@ earlier (Err calling.Memory) = of_function calling.Memory
 abbrev pub fault_before : Function → List Text → Fault
 fault_before f words = earlier (called f (probe f words))
 
+-- a function on its words; the first fault from the left
 abbrev pub expanded_call : Function → Operands → Result Text Fault
 expanded_call f given = if given.is_cut then Err (fault_before f given.words) else with_fault of_function (called f given.words)
 
+-- the number of words is tested first
 abbrev pub counted_call : Binding → Function → List Text → Result Text Fault
 counted_call names f words = if takes f (length words) then expanded_call f (arguments names words) else Err Arity
 
+-- the function takes its words as they stand
 abbrev pub is_literal : Function → Bool
 is_literal function.Literal = true
 is_literal function.Concat = false
@@ -178,21 +192,25 @@ is_literal function.Word = false
 unfoldable pub function_value : Binding → Function → List Text → Result Text Fault
 function_value names f words = if is_literal f then with_fault of_function (called f words) else counted_call names f words
 
+-- the value of a right side with a function, or without one
 abbrev pub value_by : Option Function → Binding → List Text → Result Text Fault
 value_by (Some f) names words = function_value names f (drop 2 words)
 value_by None names words = plain_value (operands names words)
 
+-- the value of the words behind the equal sign
 unfoldable pub right_side : Binding → List Text → Result Text Fault
 right_side names words = value_by (function_in words) names words
 
 -- ---- the statement: a target, an equal sign, and a right side
 
+-- the target has the value of the right side
 abbrev pub assigned_to : Exec → Text → List Text → Step
 assigned_to s name words = do
   n ← target (seen s) name
   v ← right_side (seen s) words
   set_to s n v
 
+-- an assignment
 unfoldable pub assigned : Exec → List Text → Step
 assigned s (name ∷ sign ∷ words) = assigned_to s name words
 assigned s words = Err BadStatement

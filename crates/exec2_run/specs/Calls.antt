@@ -29,6 +29,7 @@ entered s place values =
       room_for (len s.variables.others + length values)
       Ok (record (put_aside s (numbered 1 values empty) (length values)) { next = place }, Next))
 
+-- the label's line is next, and the words are the arguments
 abbrev pub called_at : Exec → Text → List Text → Bool → Step
 called_at s label values is_cut = do
   place ← place_named s label
@@ -40,6 +41,7 @@ abbrev pub called_by : Exec → List Text → Bool → Step
 called_by s [] is_cut = Err (missing is_cut)
 called_by s (label ∷ values) is_cut = called_at s label values is_cut
 
+-- &CALL
 unfoldable pub called : Exec → List Text → Step
 called s words = called_by s (operands (seen s) words).words (operands (seen s) words).is_cut
 
@@ -50,11 +52,13 @@ gone_back s (call ∷ calls) = do
   room_for (len s.variables.others + len call.arguments)
   Ok (record (all_arguments s call.arguments call.count) { next = call.line; loops = call.loops; calls = calls }, Next)
 
+-- the last call is left; or none is open
 abbrev pub returned_by : Exec → List Text → List Call → Step
 returned_by s words [] = Err NoCall
 returned_by s words (call ∷ calls) = do
   ended (operands (seen s) words).words (operands (seen s) words).is_cut
   gone_back s (call ∷ calls)
 
+-- &RETURN
 unfoldable pub returned : Exec → List Text → Step
 returned s words = returned_by s words s.calls

@@ -37,6 +37,7 @@ pub record IsFirst (label : Text) (lines : List Text) (from k : ℕ) : Type 0 wh
 abbrev pub HasNone : Text → List Text → ℕ → Type 0
 HasNone label lines from = (j : ℕ) → from ≤ j → Labels label lines j → ⊥
 
+-- the first line with a label, or that none has it
 abbrev pub Search : Text → List Text → ℕ → Option ℕ → Type 0
 Search label lines from None = HasNone label lines from
 Search label lines from (Some k) = IsFirst label lines from k
@@ -133,5 +134,6 @@ pub data Runs (s : Exec) (words : List Text) (m : Step) : Type 0 where
 abbrev pub RunsAreSteps : Type 0
 RunsAreSteps = (s : Exec) (words : List Text) (m : Step) → Runs s words m → m ≡ run_kind s words
 
+-- the function that runs a statement says what the relation says
 abbrev pub StepsAreRuns : Type 0
 StepsAreRuns = (s : Exec) (words : List Text) → Runs s words (run_kind s words)

@@ -13,9 +13,11 @@ use Rattle.exec2_run.specs.declared.loops.Test.{Test}
 use Rattle.exec2_run.specs.declared.comparison.Comparison.{Comparison}
 use Rattle.exec2_run.specs.declared.comparison.Comparison.TheVariants.{Equal, NotEqual, Less, AtMost, Greater, AtLeast}
 
+-- all comparisons
 abbrev pub comparisons : List Comparison
 comparisons = Equal ∷ NotEqual ∷ Less ∷ AtMost ∷ Greater ∷ AtLeast ∷ []
 
+-- a comparison as a sign
 abbrev pub sign_of : Comparison → List ℕ
 sign_of Equal = codes "="
 sign_of NotEqual = codes "^="
@@ -24,6 +26,7 @@ sign_of AtMost = codes "<="
 sign_of Greater = codes ">"
 sign_of AtLeast = codes ">="
 
+-- a comparison as a word
 abbrev pub letters_of : Comparison → List ℕ
 letters_of Equal = codes "EQ"
 letters_of NotEqual = codes "NE"
@@ -32,6 +35,7 @@ letters_of AtMost = codes "LE"
 letters_of Greater = codes "GT"
 letters_of AtLeast = codes "GE"
 
+-- a word is this comparison
 abbrev pub is_written : Text → Comparison → Bool
 is_written word c = is_keyword (sign_of c) word || is_keyword (letters_of c) word
 
@@ -53,9 +57,11 @@ order_by (Some x) (Some y) otherwise = int_cmp x y
 order_by (Some x) None otherwise = otherwise
 order_by None second otherwise = otherwise
 
+-- the order of two values: as numbers where both are, else as texts
 unfoldable pub order : Text → Text → Ordering
 order a b = order_by (number_of a) (number_of b) (order_of_texts a b)
 
+-- a comparison holds at an order
 abbrev pub holds_at : Comparison → Ordering → Bool
 holds_at Equal o = is_eq o
 holds_at NotEqual o = not (is_eq o)

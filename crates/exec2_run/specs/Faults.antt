@@ -30,6 +30,7 @@ abbrev pub of_expansion : ExpandFault → Fault
 of_expansion expanding.TooLong = TooLong
 of_expansion expanding.Memory = Memory
 
+-- the fault of a statement whose function has this one
 abbrev pub of_function : FuncFault → Fault
 of_function calling.Arity = Arity
 of_function calling.NotNumber = NotNumber
@@ -38,6 +39,7 @@ of_function calling.Zero = Zero
 of_function calling.TooLong = TooLong
 of_function calling.Memory = Memory
 
+-- a result, its fault put in other words
 abbrev pub with_fault : {A E F : Type 0} → (E → F) → Result A E → Result A F
 with_fault f (Ok value) = Ok value
 with_fault f (Err e) = Err (f e)

@@ -16,6 +16,7 @@ use Rattle.exec2_run.specs.declared.variables.Variables.{Variables}
 use Rattle.exec2_run.specs.declared.exec.Exec.{Exec}
 use Rattle.exec2_run.specs.declared.exec.FileName.{FileName}
 
+-- the names that are given
 abbrev pub all_given : List Predefined
 all_given = given.Procedure ∷ given.Count ∷ given.Index ∷ given.Rc ∷ given.Retcode ∷ given.Line ∷ given.Linenum ∷ given.Depth
     ∷ given.From ∷ given.Filename ∷ given.Filetype ∷ given.Filemode ∷ given.Date ∷ given.Time ∷ given.Blank ∷ given.Argstring
@@ -50,6 +51,7 @@ line_of_last (call ∷ calls) = call.line
 unfoldable pub given_of : Text → Option Predefined
 given_of name = find (λ g. is_keyword (name_of g) name) all_given
 
+-- a name is given
 abbrev pub is_given : Text → Bool
 is_given name = is_some (given_of name)
 
@@ -57,6 +59,7 @@ is_given name = is_some (given_of name)
 abbrev pub digit_of : ℕ → ℕ
 digit_of n = 0xF0 + n % 10
 
+-- the tens of a number, as a digit
 abbrev pub tens_of : ℕ → ℕ
 tens_of n = 0xF0 + n / 10 % 10
 
@@ -74,6 +77,7 @@ time_of m = tens_of m.hour ∷ digit_of m.hour ∷ 0x7A ∷ tens_of m.minute ∷
 abbrev pub letter_of : ℕ → ℕ
 letter_of n = if nat_lt n 9 then 0xC1 + n else (if nat_lt n 18 then 0xD1 + (n - 9) else 0xE2 + (n - 18) % 8)
 
+-- a letter and a mode number
 abbrev pub mode_of : FileName → Text
 mode_of f = letter_of f.letter ∷ digit_of f.number ∷ []
 
@@ -81,6 +85,7 @@ mode_of f = letter_of f.letter ∷ digit_of f.number ∷ []
 abbrev pub ends_name : ℕ → Bool
 ends_name byte = is_blank byte || ((byte == 0x4D) || (byte == 0x5D))
 
+-- what stands behind the procedure's name in the line that called it
 unfoldable pub behind_name : Text → Text
 behind_name [] = []
 behind_name (byte ∷ bytes) = if ends_name byte then byte ∷ bytes else behind_name bytes
@@ -117,6 +122,7 @@ value_given start at given.Cmdstring = start.called
 
 -- ---- what the names in a statement stand for
 
+-- a digit other than 0
 abbrev pub is_first_digit : ℕ → Bool
 is_first_digit byte = nat_le 0xF1 byte && nat_le byte 0xF9
 
@@ -129,6 +135,7 @@ is_argument (first ∷ digits) = is_first_digit first && list_all is_digit digit
 abbrev pub table_of : Variables → Text → Values
 table_of v name = if is_argument name then v.arguments else v.others
 
+-- the value of a name: given, else as it was set
 abbrev pub known_by : Option Predefined → AtStart → Standing → Variables → Text → Text
 known_by (Some g) start at v name = value_given start at g
 known_by None start at v name = value_of (table_of v name) name
@@ -137,9 +144,11 @@ known_by None start at v name = value_of (table_of v name) name
 unfoldable pub known : AtStart → Standing → Variables → Binding
 known start at v name = known_by (given_of name) start at v name
 
+-- what each name stands for in a statement
 abbrev pub bound : Seen → Binding
 bound seen = known seen.start.now seen.standing seen.variables.now
 
+-- where a procedure stands, as the given names tell it
 abbrev pub standing_at : Exec → ℕ → Moment → Standing
 standing_at s line moment =
     record { count = s.count; code = s.code; line = line; depth = length s.calls; from = line_of_last s.calls; moment = moment }

@@ -17,6 +17,7 @@ use Rattle.exec2_run.specs.declared.fault.Fault.TheVariants.{NotNumber, BadState
 unfoldable pub label_from : Text → ℕ → List Text → Option ℕ
 label_from label from lines = position_from (has_label label) from (drop from lines)
 
+-- the first place, else the second
 abbrev pub or_else : Option ℕ → Option ℕ → Option ℕ
 or_else (Some place) other = Some place
 or_else None other = other
@@ -37,6 +38,7 @@ gone_by s (label ∷ others) is_cut = do
   ended others is_cut
   Ok (record s { next = place }, Next)
 
+-- &GOTO
 unfoldable pub gone : Exec → List Text → Step
 gone s words = gone_by s (operands (seen s) words).words (operands (seen s) words).is_cut
 
@@ -48,6 +50,7 @@ place_below s n = if nat_le s.next (length s.lines) && nat_le n (length s.lines 
 abbrev pub place_above : Exec → ℕ → Result ℕ Fault
 place_above s n = if nat_lt n s.next then Ok (s.next - 1 - n) else Err OutsideLines
 
+-- so many lines down, or up
 abbrev pub place_after : Exec → ℤ → Result ℕ Fault
 place_after s (pos n) = place_below s n
 place_after s (negsuc n) = place_above s (n + 1)
@@ -64,5 +67,6 @@ skipped_by s (word ∷ others) is_cut = do
   ended others is_cut
   Ok (record s { next = place }, Next)
 
+-- &SKIP
 unfoldable pub skipped : Exec → List Text → Step
 skipped s words = skipped_by s (operands (seen s) words).words (operands (seen s) words).is_cut

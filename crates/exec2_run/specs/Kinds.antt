@@ -7,11 +7,13 @@ use Rattle.exec2_run.specs.declared.kind.Control.TheVariants as control
 use Rattle.exec2_run.specs.declared.kind.Kind.{Kind}
 use Rattle.exec2_run.specs.declared.kind.Kind.TheVariants as kind
 
+-- all control words
 abbrev pub controls : List Control
 controls = control.Trace ∷ control.Type ∷ control.BegType ∷ control.Stack ∷ control.BegStack ∷ control.End ∷ control.Command
     ∷ control.Read ∷ control.Args ∷ control.If ∷ control.Goto ∷ control.Skip ∷ control.Loop ∷ control.Call ∷ control.Return
     ∷ control.Error ∷ control.Exit ∷ []
 
+-- a control word as it is written
 abbrev pub name_of : Control → List ℕ
 name_of control.Trace = codes "&TRACE"
 name_of control.Type = codes "&TYPE"
@@ -35,10 +37,12 @@ name_of control.Exit = codes "&EXIT"
 unfoldable pub control_of : Text → Option Control
 control_of word = find (λ c. is_keyword (name_of c) word) controls
 
+-- the kind of a control word, else a command
 abbrev pub by_control : Option Control → Kind
 by_control (Some c) = kind.Control c
 by_control None = kind.Command
 
+-- the kind of a statement by its first word
 abbrev pub control_or_command : Text → Kind
 control_or_command word = by_control (control_of word)
 
@@ -52,6 +56,7 @@ kind_of [] = kind.Nothing
 kind_of (word ∷ []) = control_or_command word
 kind_of (word ∷ second ∷ words) = if is_assignment word second then kind.Assignment else control_or_command word
 
+-- the statement is an &IF
 abbrev pub guards : Kind → Bool
 guards kind.Nothing = false
 guards kind.Assignment = false

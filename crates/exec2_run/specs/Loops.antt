@@ -25,6 +25,7 @@ use Rattle.exec2_run.specs.declared.fault.Fault.TheVariants.{NotNumber, BadState
 
 -- ---- the statement
 
+-- a word and those behind it, unless the word is empty
 abbrev pub first_by : Text → List Text → Result (Text × List Text) Fault → Result (Text × List Text) Fault
 first_by [] words otherwise = otherwise
 first_by (byte ∷ bytes) words otherwise = Ok (byte ∷ bytes, words)
@@ -41,6 +42,7 @@ abbrev pub behind : Option ℕ → Result ℕ Fault
 behind (Some place) = Ok (place + 1)
 behind None = Err NoLabel
 
+-- the line behind the label below
 abbrev pub end_at_label : Exec → Text → Result ℕ Fault
 end_at_label s label = behind (label_from label s.next s.lines)
 
@@ -63,6 +65,7 @@ test_in names (left ∷ sign ∷ right ∷ others) = do
   Ok (record { left = left; comparison = comparison; right = right })
 test_in names words = Err BadStatement
 
+-- a number of times that is 0 or more
 abbrev pub count_by : Option ℤ → Result Passes Fault
 count_by (Some (pos n)) = Ok (Left n)
 count_by (Some (negsuc n)) = Err NotNumber
@@ -72,6 +75,7 @@ count_by None = Err NotNumber
 abbrev pub count_of : Text → Result Passes Fault
 count_of word = if bytes_eq word (0x5C ∷ []) then Ok Forever else count_by (number_of word)
 
+-- the times of a loop by its words
 abbrev pub counted_by : List Text → Bool → Result Passes Fault
 counted_by [] is_cut = Err (missing is_cut)
 counted_by (count ∷ others) is_cut = do
@@ -79,14 +83,17 @@ counted_by (count ∷ others) is_cut = do
   ended others is_cut
   Ok passes
 
+-- the same, expanded
 abbrev pub counted : Binding → List Text → Result Passes Fault
 counted names words = counted_by (operands names words).words (operands names words).is_cut
 
+-- a loop's WHILE with its comparison
 abbrev pub while_in : Binding → List Text → Result Passes Fault
 while_in names words = do
   test ← test_in names words
   Ok (While test)
 
+-- a loop's UNTIL with its comparison
 abbrev pub until_in : Binding → List Text → Result Passes Fault
 until_in names words = do
   test ← test_in names words
@@ -105,6 +112,7 @@ abbrev pub left : ℕ → Option Passes
 left zero = None
 left (suc n) = Some (Left n)
 
+-- a further pass, where the test holds
 abbrev pub if_holds : Bool → Passes → Option Passes
 if_holds holds passes = if holds then Some passes else None
 
@@ -124,11 +132,13 @@ opened_by s past (Some passes) =
     if nat_le 100 (length s.loops) then Err TooDeep
     else Ok (record s { loops = record { line = s.line; first = s.next; past = past; passes = passes } ∷ s.loops }, Next)
 
+-- a loop begins with its first pass, or is passed over
 unfoldable pub opened : Exec → ℕ → Passes → Step
 opened s past passes = do
   first ← first_pass (seen s) passes
   opened_by s past first
 
+-- a loop over a range, as often as its words say
 abbrev pub range_looped : Exec → Text → List Text → Step
 range_looped s range words = do
   past ← end_of_range s range
@@ -152,6 +162,7 @@ begins_by names (Until test) = do
   holds ← test_holds names test
   Ok (not holds)
 
+-- a further pass of a loop begins
 abbrev pub begins : Moment → Exec → Loop → Result Bool Fault
 begins moment s loop = begins_by (seen_at s loop.line moment) loop.passes
 
@@ -163,6 +174,7 @@ has loop place = nat_le loop.first place && nat_lt place loop.past
 abbrev pub again : Exec → Loop → List Loop → Exec
 again s loop loops = record s { next = loop.first; loops = with_pass (loop ∷ loops) }
 
+-- the loop goes on, or ends and the outer ones follow; or its test has a fault
 abbrev pub passed : Result Bool Fault → ℕ → Exec → Result Exec (Fault × ℕ) → Result Exec (Fault × ℕ)
 passed (Ok true) line more outer = Ok more
 passed (Ok false) line more outer = outer
@@ -176,6 +188,7 @@ settled_from moment s (loop ∷ loops) =
     if s.next == loop.past then passed (begins moment s loop) loop.line (again s loop loops) (settled_from moment s loops)
     else (if has loop s.next then Ok (record s { loops = loop ∷ loops }) else settled_from moment s loops)
 
+-- the open loops, tested where their ranges are left
 abbrev pub settled_loops : Moment → Exec → Result Exec (Fault × ℕ)
 settled_loops moment s = settled_from moment s s.loops
 

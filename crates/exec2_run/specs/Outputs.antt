@@ -51,6 +51,7 @@ block_from place [] = Err NoEnd
 block_from place (line ∷ lines) =
     if is_end line then Ok (record { lines = []; past = place + 1 }) else in_front (line ∷ []) (block_from (place + 1) lines)
 
+-- the lines up to &END, from the next one on
 abbrev pub block : Exec → Result Block Fault
 block s = block_from s.next (drop s.next s.lines)
 
@@ -61,6 +62,7 @@ typed_block s words = do
   b ← block s
   Ok (record s { next = b.past }, Say b.lines)
 
+-- a word is FIFO or LIFO
 abbrev pub is_side : Text → Bool
 is_side word = is_keyword (codes "FIFO") word || is_keyword (codes "LIFO") word
 
@@ -69,6 +71,7 @@ abbrev pub side_of : List Text → Side
 side_of [] = Back
 side_of (word ∷ words) = if is_keyword (codes "LIFO") word then Front else Back
 
+-- the words without a first FIFO or LIFO
 abbrev pub behind_side : List Text → List Text
 behind_side [] = []
 behind_side (word ∷ words) = if is_side word then words else word ∷ words

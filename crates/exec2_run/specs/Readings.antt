@@ -44,6 +44,7 @@ reading_of_text s (word ∷ words) = do
   no_words s words
   Ok (reading.Text name)
 
+-- &READ ARGS
 abbrev pub reading_of_args : Exec → List Text → Result Reading Fault
 reading_of_args s words = do
   no_words s words

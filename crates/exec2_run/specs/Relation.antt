@@ -109,6 +109,7 @@ pub data Settling (moment : Moment) (s : Exec) : List Loop → Result Exec (Faul
 
 -- ---- the calls
 
+-- what an action makes of a procedure, case by case
 pub data Moves (old : Exec) (moment : Moment) : Action → Moved → Type 0 where
   -- finding the next line: where the error action is due it runs before any loop is tested
   due : {m : Moved} → is_due old.action ≡ true → m ≡ Ok (old, Next) → Moves old moment Settle m
@@ -177,6 +178,7 @@ abbrev pub StepsAreMoved : Type 0
 StepsAreMoved = (old : Exec) (moment : Moment) (act : Action) (answer : Want) (new : Exec) → StepOf old moment act answer new
     → Takes (moved old moment act) old new answer
 
+-- the functions of the calls say what the relation says
 abbrev pub MovedAreSteps : Type 0
 MovedAreSteps = (old : Exec) (moment : Moment) (act : Action) (answer : Want) (new : Exec) → Takes (moved old moment act) old new answer
     → StepOf old moment act answer new

@@ -42,6 +42,7 @@ use Rattle.exec2_run.specs.declared.fault.Fault.TheVariants.{NotNumber, BadState
 
 -- ---- &EXIT and &ERROR
 
+-- a code from -9999 to 99999
 abbrev pub exit_code_by : Option ℤ → Result ℤ Fault
 exit_code_by (Some (pos n)) = if nat_le n 99999 then Ok (pos n) else Err NotNumber
 exit_code_by (Some (negsuc n)) = if nat_lt n 9999 then Ok (negsuc n) else Err NotNumber
@@ -51,6 +52,7 @@ exit_code_by None = Err NotNumber
 abbrev pub exit_code : Text → Result ℤ Fault
 exit_code word = exit_code_by (number_of word)
 
+-- &EXIT, with its words
 abbrev pub exited_by : List Text → Bool → Result Want Fault
 exited_by [] is_cut = do
   whole is_cut
@@ -69,11 +71,13 @@ abbrev pub action_of : List Text → Option (List Text)
 action_of [] = None
 action_of (word ∷ words) = Some (word ∷ words)
 
+-- the error action is these words, or none
 abbrev pub with_error : Exec → List Text → Exec
 with_error s words = record s { error = action_of words }
 
 -- ---- &IF a op b statement
 
+-- the comparison of an &IF, its values from left to right
 abbrev pub compared : Binding → Text → Text → Text → Result Bool Fault
 compared names left sign right = do
   a ← value names left
@@ -81,15 +85,18 @@ compared names left sign right = do
   b ← value names right
   Ok (holds comparison a b)
 
+-- the fault of an &IF that lacks words
 abbrev pub fault_of_if : Binding → List Text → Result Fault Fault
 fault_of_if names (word ∷ left ∷ words) = do
   a ← value names left
   Ok BadStatement
 fault_of_if names words = Ok BadStatement
 
+-- the statement behind an &IF, or nothing
 abbrev pub if_holds : Bool → Result (List Text) Fault → Result (List Text) Fault
 if_holds holds statement = if holds then statement else Ok []
 
+-- an &IF without its three words
 abbrev pub incomplete : Binding → List Text → Result (List Text) Fault
 incomplete names words = do
   fault ← fault_of_if names words
@@ -107,6 +114,7 @@ guarded names words = if is_if words then incomplete names words else Ok words
 
 -- ---- statements
 
+-- what a control word does
 unfoldable pub run_control : Control → Exec → List Text → Step
 run_control control.Trace s words = Ok (s, Next)
 run_control control.Type s words = still s (typed s words)
@@ -126,6 +134,7 @@ run_control control.Return s words = returned s words
 run_control control.Error s words = Ok (with_error s words, Next)
 run_control control.Exit s words = still s (exited s words)
 
+-- what a statement does, by its kind
 abbrev pub run_by : Kind → Exec → List Text → Step
 run_by kind.Nothing s words = Ok (s, Next)
 run_by kind.Assignment s words = assigned s words
@@ -136,6 +145,7 @@ run_by kind.Command s words = still s (issued s words)
 unfoldable pub run_kind : Exec → List Text → Step
 run_kind s words = run_by (kind_of words) s words
 
+-- a statement, behind its &IFs
 unfoldable pub run : Exec → List Text → Step
 run s words = do
   statement ← guarded (seen s) words
@@ -143,11 +153,13 @@ run s words = do
 
 -- ---- one turn
 
+-- the error action runs next
 abbrev pub is_due : ErrorAction → Bool
 is_due Idle = false
 is_due Due = true
 is_due Running = false
 
+-- the words of the next line's statement
 abbrev pub words_at : Exec → List Text
 words_at s = option_map_or statement_on (slice_get s.lines s.next) []
 
@@ -159,6 +171,7 @@ past_line s = if nat_lt s.next (length s.lines) then record s { next = s.next + 
 abbrev pub place_of : Exec → Place
 place_of s = record { next = s.next; line = s.line; moment = s.moment; action = s.action }
 
+-- a procedure at another place
 abbrev pub at_place : Exec → Place → Exec
 at_place s place = record s { next = place.next; line = place.line; moment = place.moment; action = place.action }
 
@@ -167,10 +180,12 @@ abbrev pub advanced : Moment → Exec → Exec
 advanced moment s =
     if is_due s.action then record s { action = Running; moment = moment } else past_line (record s { action = Idle; moment = moment })
 
+-- the words of the error action
 abbrev pub action_words : Option (List Text) → List Text
 action_words (Some words) = words
 action_words None = []
 
+-- the words of the statement that is due
 abbrev pub due_words : Exec → List Text
 due_words s = if is_due s.action then action_words s.error else words_at s
 
@@ -189,6 +204,7 @@ turned moment s = at_line (advanced moment s).line (run (advanced moment s) (due
 abbrev pub at_next : Exec → Want
 at_next s = if nat_lt s.next (length s.lines) then Next else Ended (pos 0)
 
+-- a procedure that finds its next line, with the tests of its loops
 unfoldable pub settled : Moment → Exec → Result (Exec × Want) (Fault × ℕ)
 settled moment s = if is_due s.action then Ok (s, Next) else (do
   t ← settled_loops moment s
@@ -196,6 +212,7 @@ settled moment s = if is_due s.action then Ok (s, Next) else (do
 
 -- ---- answers
 
+-- the next statement follows; or a fault, with its line
 abbrev pub with_next : Exec → Result Exec Fault → Result (Exec × Want) (Fault × ℕ)
 with_next s (Ok t) = Ok (t, Next)
 with_next s (Err fault) = Err (fault, s.line)
@@ -204,6 +221,7 @@ with_next s (Err fault) = Err (fault, s.line)
 unfoldable pub line_taken : Exec → Text → Result (Exec × Want) (Fault × ℕ)
 line_taken s line = with_next s (taken_for s.reading (record s { reading = reading.Nothing }) line)
 
+-- the error action runs
 abbrev pub is_running : ErrorAction → Bool
 is_running Idle = false
 is_running Due = false
@@ -213,6 +231,7 @@ is_running Running = true
 abbrev pub action_after : Exec → ℤ → ErrorAction
 action_after s code = if not (int_eq code (pos 0)) && (is_some s.error && not (is_running s.action)) then Due else Idle
 
+-- the last command's code is this
 unfoldable pub code_taken : Exec → ℤ → Exec
 code_taken s code = record s { code = code; action = action_after s code }
 

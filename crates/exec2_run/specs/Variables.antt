@@ -35,6 +35,7 @@ room_for n = if nat_le n 1000 then Ok tt else Err TooManyVariables
 abbrev pub has_room : Variables → Text → Bool
 has_room v name = is_some (get (table_of v name) name) || nat_le (len v.arguments + len v.others + 1) 1000
 
+-- the arguments or the other variables are these
 abbrev pub with_table : Variables → Text → Values → Variables
 with_table v name table = if is_argument name then record v { arguments = table } else record v { others = table }
 
@@ -48,6 +49,7 @@ unfoldable pub taken_back : Variables → Text → Option Text → Variables
 taken_back v name None = with_table v name (remove (table_of v name) name)
 taken_back v name (Some value) = with_table v name (insert (table_of v name) name value)
 
+-- the first word, or the empty one
 abbrev pub first_or_empty : List Text → Text
 first_or_empty [] = []
 first_or_empty (word ∷ words) = word
@@ -66,6 +68,7 @@ numbered n (value ∷ values) table = numbered (n + 1) values (insert table (dec
 
 -- ---- in the state
 
+-- a procedure with other variables, or their fault
 abbrev pub with_variables : Exec → Result Variables Fault → Result Exec Fault
 with_variables s (Ok v) = Ok (record s { variables = v })
 with_variables s (Err fault) = Err fault
@@ -74,11 +77,13 @@ with_variables s (Err fault) = Err fault
 abbrev pub with_variable : Exec → Text → Text → Result Exec Fault
 with_variable s name value = with_variables s (with_value s.variables name value)
 
+-- a variable is set, and nothing is wanted
 abbrev pub set_to : Exec → Text → Text → Step
 set_to s name value = do
   t ← with_variable s name value
   Ok (t, Next)
 
+-- the arguments are these, so many
 abbrev pub all_arguments : Exec → Values → ℕ → Exec
 all_arguments s arguments count = record s { variables = record { arguments = arguments; others = s.variables.others }; count = count }
 

@@ -6,9 +6,11 @@ use Rattle.cms_text.specs.Texts as texts
 use Rattle.cms_text.specs.Texts.{Text}
 use Rattle.exec2_parse.specs.Procedures as procedures
 
+-- a byte is a blank
 abbrev pub is_blank : ℕ → Bool
 is_blank = texts.is_blank
 
+-- a text has no bytes
 abbrev pub is_empty : Text → Bool
 is_empty text = length text == 0
 
