@@ -129,14 +129,14 @@ abbrev pub is_own : Copying → Bool
 is_own c = (c.to == c.letter) && same_name c.input.file.name c.name
 
 -- a line reads a file of so many records to its end
-abbrev pub ends : CopyLine → ℕ → Bool
-ends line count = wanted_of line.style count == count
+abbrev pub reads_to_end : CopyLine → ℕ → Bool
+reads_to_end line count = wanted_of line.style count == count
 
 -- reading the file may erase it
 abbrev pub may_erase : CopyLine → Copying → Bool
-may_erase line c = ends line (length c.input.file.records) && not (is_own c)
+may_erase line c = reads_to_end line (length c.input.file.records) && not (is_own c)
 
--- behind the copy the file of a name on the disk of letter n goes, where its mode number says so: 107, 105
+-- behind the copy: where reading the file may erase it, it goes if its mode number and its disk say so: 107, 105
 abbrev pub erasing : Bool → ℕ → Name → Stepped → Act Stepped
 erasing may n name (Did s) = if may then consuming s n name else Done (Did s)
 erasing may n name (Failed course) = Done (Failed course)

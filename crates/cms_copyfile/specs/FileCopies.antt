@@ -8,7 +8,7 @@ use Rattle.cms_search.specs.Machine.{Machine}
 use Rattle.cms_search.specs.Tables.{Accesses}
 use Rattle.cms_files.specs.Files.{UnitFile}
 use Rattle.cms_files.specs.Told.{IsInfo, info_named}
-use Rattle.cms_copyfile.specs.Copyfile.{Copying, copying_of, ends, file_at, letter_for}
+use Rattle.cms_copyfile.specs.Copyfile.{Copying, copying_of, file_at, letter_for, reads_to_end}
 use Rattle.cms_copyfile.specs.Outputs.{extended, form_for, number_for, plan_of}
 use Rattle.cms_copyfile.specs.declared.line.CopyLine.{CopyLine}
 use Rattle.cms_copyfile.specs.declared.copy.FileCopy.{FileCopy}
@@ -42,7 +42,7 @@ is_own_output c = (c.letter == c.found.letter) && same_name c.input.name c.name
 
 -- reading it may erase it
 abbrev pub may_erase_input : CopyLine → FileCopy → Bool
-may_erase_input line c = ends line c.input.count && not (is_own_output c)
+may_erase_input line c = reads_to_end line c.input.count && not (is_own_output c)
 
 -- which records are copied into a file of this format
 abbrev pub plan_for : CopyLine → FileForm → FileCopy → CopyPlan

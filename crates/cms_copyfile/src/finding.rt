@@ -16,7 +16,7 @@ use cms_operands::WriteMode;
 use cms_search::{Found, SearchFault, Table};
 use std::alloc::{AllocError, Global};
 
-/// A file of the disk of a letter. Its place on the disk is none that holds: where another one is dropped, files take new places.
+/// A file by the letter of its disk and its name. Its place wouldn't hold: the last file takes that of one that is dropped.
 #[derive(Clone, Copy)]
 pub struct NamedFile {
     /// the letter of its disk, A is 0

@@ -27,8 +27,8 @@ pub struct CopyPlan {
     pub format: Format,
 }
 
-/// How many of so many records are read.
-pub fn wanted_of(style: &CopyStyle, count: u32) -> u32
+// How many of so many records are read.
+pub(crate) fn wanted_of(style: &CopyStyle, count: u32) -> u32
     ensures { result ≡ spec.wanted_of style.now count }
 {
     match style.most {

@@ -12,7 +12,7 @@ use Rattle.cms_operands.specs.Operands.{operands_of}
 use Rattle.cms_operands.specs.Refusals.{code_of, message_of}
 use Rattle.cms_operands.specs.declared.operand.WriteMode.{WriteMode}
 use Rattle.cms_operands.specs.declared.refusal.Refusal.{Refusal}
-use Rattle.cms_search.specs.Machine.{Letter, Machine, Course, letter_at, minidisk_in, refusal}
+use Rattle.cms_search.specs.Machine.{Letter, Machine, Course, minidisk_in, refusal}
 use Rattle.cms_search.specs.Refusing.{no_disk}
 use Rattle.cms_search.specs.Searches.{Listed, Shelf, Shelves, item_at, look_up, shelves_in}
 use Rattle.cms_search.specs.Telling.{device_text, letter_text}
