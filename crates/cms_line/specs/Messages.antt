@@ -2,7 +2,7 @@
 use Rattle.std.specs.Prelude.{ℕ, List, ◌++◌, map, unwrap_or, codes}
 use Rattle.cms_ebcdic.specs.CodePage.{code_of}
 use Rattle.cms_line.specs.declared.message.Message.{Message}
-use Rattle.cms_line.specs.declared.message.Message.TheVariants.{M001, M002, M003, M010, M011, M024, M029, M037, M048, M054, M062, M069, M070, M085, M086, M105, M106, M107, M112, M113, M114, M115, M120, M121, M122, M603, M605, M723, M733}
+use Rattle.cms_line.specs.declared.message.Message.TheVariants.{M001, M002, M003, M010, M011, M024, M029, M037, M048, M054, M062, M069, M070, M085, M086, M105, M106, M107, M112, M113, M114, M115, M120, M121, M122, M123, M124, M125, M603, M605, M723, M733}
 
 -- an ASCII text in EBCDIC
 abbrev pub ebcdic : List ℕ → List ℕ
@@ -49,6 +49,9 @@ message_text (M115 vdev) = one (codes "CMS115E Device ") vdev (codes " is in dou
 message_text (M120 limit) = one (codes "CMS120E Limit ") limit (codes " reached")
 message_text (M121 records) = one (codes "CMS121E File has only ") records (codes " records")
 message_text (M122 word) = one (codes "CMS122E Extension ") word (codes " does not exist")
+message_text M123 = ebcdic (codes "CMS123E File has records longer than 80")
+message_text M124 = ebcdic (codes "CMS124E Reader is empty")
+message_text M125 = ebcdic (codes "CMS125E Deck is not a dump")
 message_text (M603 letter vdev) = two (codes "CMS603R FORMAT will erase all files on disk ") letter
     (codes " (") vdev (codes "). Go on? Enter YES or NO")
 message_text M605 = ebcdic (codes "CMS605R Enter disk label")

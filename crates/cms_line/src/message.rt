@@ -60,6 +60,12 @@ pub enum Message {
     M121(Word),
     /// the word of an extension that isn't there
     M122(Word),
+    /// records that no card holds
+    M123,
+    /// no deck in the reader
+    M124,
+    /// a deck that no file was dumped to
+    M125,
     /// the letter and the device that FORMAT asks of
     M603(Word, Word),
     /// FORMAT asks for a label
@@ -217,6 +223,9 @@ fn add_message(into: &mut Vec<u8>, message: &Message) -> Result<(), AllocError>
         Message::M120(limit) => add_one(into, "CMS120E Limit ", limit, " reached"),
         Message::M121(records) => add_one(into, "CMS121E File has only ", records, " records"),
         Message::M122(word) => add_one(into, "CMS122E Extension ", word, " does not exist"),
+        Message::M123 => add_text(into, "CMS123E File has records longer than 80"),
+        Message::M124 => add_text(into, "CMS124E Reader is empty"),
+        Message::M125 => add_text(into, "CMS125E Deck is not a dump"),
         Message::M603(letter, vdev) => add_two(
             into,
             "CMS603R FORMAT will erase all files on disk ",

@@ -33,6 +33,9 @@ pub const ROWS: &str = "001 XYZ => CMS001E Unknown command XYZ
 120 2 => CMS120E Limit 2 reached
 121 40 => CMS121E File has only 40 records
 122 NONE => CMS122E Extension NONE does not exist
+123 => CMS123E File has records longer than 80
+124 => CMS124E Reader is empty
+125 => CMS125E Deck is not a dump
 603 A 191 => CMS603R FORMAT will erase all files on disk A (191). Go on? Enter YES or NO
 605 => CMS605R Enter disk label
 723 C 19E => CMS723I C (19E) R/O
@@ -44,6 +47,9 @@ fn wordless(number: u32) -> Message {
         10 => Message::M010,
         11 => Message::M011,
         54 => Message::M054,
+        123 => Message::M123,
+        124 => Message::M124,
+        125 => Message::M125,
         _ => Message::M605,
     }
 }

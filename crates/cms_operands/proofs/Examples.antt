@@ -12,7 +12,6 @@ use Rattle.cms_line.specs.declared.token.Token.{Token}
 use Rattle.cms_line.specs.Tokens.{tokens_from, tokens_of}
 use Rattle.cms_operands.specs.Choices.{all_valued, chosen_of, columns_in, fill_in, flag, form, format_in, valued, setting_in}
 use Rattle.cms_operands.specs.Operands.{access_mode, access_mode_in, device, device_of, device_or_letter, ended, given, given_or, hexadecimal_of, name, needed, number, number_within, operands_of, reading_mode}
-use Rattle.cms_operands.specs.Spellings.{command_named, spellings}
 use Rattle.cms_operands.specs.declared.choosing.ChosenOption.{ChosenOption}
 use Rattle.cms_operands.specs.declared.choosing.OptionForm.{OptionForm}
 use Rattle.cms_operands.specs.declared.choosing.Parameter.TheVariants as takes
@@ -21,20 +20,6 @@ use Rattle.cms_operands.specs.declared.operand.Target.TheVariants as target
 use Rattle.cms_operands.specs.declared.refusal.Refusal.{Refusal}
 use Rattle.cms_operands.specs.declared.refusal.Refusal.TheVariants.{BadMode, BadName, BadOperand, BadParameter, Missing, UnknownOption}
 use Rattle.cms_operands.specs.declared.mode.ReadMode.TheVariants as reading
-use Rattle.cms_operands.specs.declared.spelling.CommandName.{CommandName}
-use Rattle.cms_operands.specs.declared.spelling.CommandName.TheVariants as command
-
--- ---- commands
-
-abbrev named : List ℕ → Option CommandName
-named word = command_named (ebcdic word)
-
-spelled : (named (codes "AC") ≡ Some command.Access) × (named (codes "A") ≡ None) × (named (codes "RE") ≡ Some command.Rename)
-    × (named (codes "REL") ≡ Some command.Release) × (named (codes "EX") ≡ Some command.Exec) × (named (codes "ACCESSED") ≡ None)
-    × (named (codes "NUCXMAP") ≡ Some command.Nucxmap) × (named (codes "NUCXMA") ≡ None)
-    × (named (codes "NUCXDROP") ≡ Some command.Nucxdrop) × (named (codes "NUCXDRO") ≡ None)
-unfolding spellings ebcdic code_of code_page
-spelled = (refl, refl, refl, refl, refl, refl, refl, refl, refl, refl)
 
 -- ---- operands
 

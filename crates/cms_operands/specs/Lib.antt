@@ -2,4 +2,3 @@ pub mod Refusals
 pub mod ReadModes
 pub mod Operands
 pub mod Choices
-pub mod Spellings

@@ -6,7 +6,6 @@ mod choosing;
 mod mode;
 mod operand;
 mod refusal;
-mod spelling;
 
 pub use choosing::{
     ChosenOption, ChosenOptions, CommandFault, OptionForm, Parameter, Setting, chosen_options,
@@ -20,4 +19,3 @@ pub use operand::{
     number_or_all, number_within, operands, output_mode, pattern, reading_mode, writing_mode,
 };
 pub use refusal::Refusal;
-pub use spelling::{CommandName, command_named};

@@ -3,7 +3,7 @@ ghost use Rattle.std.specs.Prelude.{◌≡◌, ◌==◌};
 ghost use Rattle.std.specs.List.{list_all};
 ghost use Rattle.cms_rounds.specs.Commands.{is_comment, request_of};
 
-use cms_operands::{CommandName, command_named};
+use cms_commands::{CommandName, command_named};
 use cms_text::BLANK;
 
 /// A command that knows of no procedure and of no extension.
