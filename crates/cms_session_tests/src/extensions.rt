@@ -1,8 +1,10 @@
 // Extensions for tests. NOTE asks for lines and types them, up to END or an empty one. CARRY copies a file, as in `CARRY A TEXT A B TEXT A`. HEAP writes
-// one that is too long. PAD types the texts that are sent to it, and takes no empty one. Any other word has a tally of its own.
+// one that is too long. EDIT is the editor. PAD types the texts that are sent to it, and takes no empty one. Any other word has a
+// tally of its own.
 ghost use Rattle.std.specs.Prelude.{◌≡◌, ◌<◌, IfOk, IfSome};
 ghost use Rattle.cms_ext.specs.Replies.{MayBe};
 
+use cms_edit::Editor;
 use cms_ext::{ExtList, ExtReply, ExtWant, Extension, Record, Records, Tally};
 use cms_line::{Line, Lines, Tokens, tokens};
 use cms_names::{Name, Part};
@@ -206,6 +208,7 @@ pub fn push(alloc: Global, extensions: &mut ExtList, word: &str) -> Result<bool,
         "NOTE" => Box::new(alloc, Note {})?,
         "CARRY" => Box::new(alloc, Carry { to: None })?,
         "HEAP" => Box::new(alloc, Heap {})?,
+        "EDIT" => Box::new(alloc, Editor::new(alloc))?,
         "PAD" => Box::new(alloc, Pad {})?,
         _ => Box::new(alloc, Tally::new())?,
     };
