@@ -51,7 +51,8 @@ abbrev pub file_numbers : Option Target → List ℕ
 file_numbers None = []
 file_numbers (Some t) = t.letter ∷ length t.name.file ∷ (t.name.file ++ t.name.kind)
 
--- a head line of the phase, the current line's number and the file; the subcommand whose put isn't answered yet; and the buffer's lines
+-- a head line: the phase, the current line's number and the file; then the subcommand whose put isn't answered yet;
+-- then the buffer's lines
 unfoldable pub held : Editor → Content
 held e =
     (phase_number e.phase ∷ e.buffer.current ∷ file_numbers e.file)
@@ -94,6 +95,7 @@ pub record Answered : Type 0 where
   pub want : Want
   pub after : Editor
 
+-- this is wanted, and only the phase is another then
 abbrev pub wanting : Want → Phase → Editor → Answered
 wanting want phase e = record { want = want; after = record e { phase = phase } }
 
@@ -105,6 +107,7 @@ within code = if is_code code then code else pos unable
 abbrev pub done : Editor → ℤ → Answered
 done e code = wanting (Ended (within code)) Idle e
 
+-- its run ends with the code of what can't be done
 abbrev pub not_done : Editor → Answered
 not_done e = done e (pos unable)
 
@@ -112,6 +115,7 @@ not_done e = done e (pos unable)
 abbrev pub asks : Editor → Answered
 asks e = wanting Ask Asking e
 
+-- lines are said
 abbrev pub says : Editor → List Text → Phase → Answered
 says e lines phase = wanting (Say lines) phase e
 
@@ -119,6 +123,7 @@ says e lines phase = wanting (Say lines) phase e
 abbrev pub puts : Editor → Target → Phase → Answered
 puts e t phase = wanting (Put t.name t.letter e.buffer.lines) phase e
 
+-- the editor with another buffer
 abbrev pub with_buffer : Editor → Buffered → Editor
 with_buffer e b = record e { buffer = b }
 
@@ -162,6 +167,7 @@ are_short records = list_all (λ line. nat_le (length line) longest_text) record
 abbrev pub fits : List Text → Bool
 fits records = nat_le (length records) most_lines && are_short records
 
+-- what is said of a file that doesn't fit
 abbrev pub unfit_text : Text
 unfit_text = coded (codes "?EDIT: file does not fit")
 
@@ -177,7 +183,8 @@ loaded e records =
 
 -- a file that isn't there is a new one; with another refusal there is none
 abbrev pub unloaded : Editor → ℤ → Answered
-unloaded e code = if int_eq code (pos not_found) then done e code else done (record e { file = None }) code
+unloaded e code =
+    if int_eq code (pos not_found) then done e code else done (record e { file = None }) code
 
 -- ---- subcommands
 
@@ -194,7 +201,8 @@ sent e t line edited =
 
 -- the next line is asked for, behind one that isn't done
 abbrev pub goes_on : Editor → Text → ℤ → Answered
-goes_on e line code = if int_eq code (pos 0) then asks e else says e (complaint line ∷ []) LoopSaid
+goes_on e line code =
+    if int_eq code (pos 0) then asks e else says e (complaint line ∷ []) LoopSaid
 
 -- what comes of a line that was asked for
 abbrev pub taken : Editor → Target → Text → Edited → Answered
@@ -207,6 +215,7 @@ taken e t line edited =
 abbrev pub saved : Editor → Edited → Answered
 saved e edited = done (with_buffer e edited.buffer) edited.code
 
+-- the same in the loop, which goes on
 abbrev pub loop_saved : Editor → Text → Edited → Answered
 loop_saved e line edited = goes_on (with_buffer e edited.buffer) line edited.code
 
@@ -216,6 +225,7 @@ is_end None = false
 is_end (Some End) = true
 is_end (Some other) = false
 
+-- the line ends the loop
 abbrev pub ends : Text → Bool
 ends line = (length line == 0) || is_end (subcommand_of line)
 
@@ -232,6 +242,7 @@ told_line e None line = not_done e
 told_line e (Some t) line =
     if ends line then done e (pos 0) else taken e t line (edit_told e.buffer line (pos 0))
 
+-- a line that came, which is asked for in the loop alone
 abbrev pub got : Editor → Phase → Text → Answered
 got e Asking line = told_line e e.file line
 got e other line = not_done e
@@ -272,6 +283,7 @@ answered e (Refused code) = refused e e.phase code
 abbrev pub move_of : Answered → Move
 move_of a = record { want = a.want; after = held a.after }
 
+-- what the editor wants and holds, told this at a content
 unfoldable pub step : Content → Reply → Move
 step content reply = move_of (answered (editor_of content) reply)
 

@@ -54,13 +54,15 @@ goes_on b = ended b (pos 0)
 abbrev pub stays : Buffered → ℕ → Edited
 stays b code = ended b (pos code)
 
--- the code of what can't be done, of what isn't found, and of a line for which there is no room
+-- the code of what can't be done
 abbrev pub unable : ℕ
 unable = 24
 
+-- the code where a text isn't found
 abbrev pub not_found : ℕ
 not_found = 28
 
+-- the code where there is no room for a line
 abbrev pub no_room : ℕ
 no_room = 40
 
@@ -72,7 +74,7 @@ on_line b edited = if b.current == 0 then stays b unable else edited
 abbrev pub input : Buffered → Text → Edited
 input b line = if nat_le most_lines (length b.lines) then stays b no_room else goes_on (inserted line b)
 
--- the line behind the current one is current that is the first to contain a text
+-- so many lines behind the current one is the next that contains a text, if any does
 abbrev pub located : Buffered → Option ℕ → Edited
 located b None = stays b not_found
 located b (Some place) = goes_on (at (b.current + place + 1) b)
@@ -81,6 +83,7 @@ located b (Some place) = goes_on (at (b.current + place + 1) b)
 abbrev pub found_below : Buffered → Text → Option ℕ
 found_below b text = position (contains text) (drop b.current b.lines)
 
+-- the next line that contains a text is current
 abbrev pub locate : Buffered → Text → Edited
 locate b text = located b (found_below b text)
 
@@ -119,11 +122,12 @@ done_by b (Change from to) told = on_line b (change b from to)
 done_by b Save told = save b told
 done_by b End told = goes_on b
 
--- the same of a line, which may be no subcommand
+-- the same, where it may be no subcommand
 abbrev pub done_by_any : Buffered → ℤ → Option Subcommand → Edited
 done_by_any b told None = stays b unable
 done_by_any b told (Some subcommand) = done_by b subcommand told
 
+-- the same of a line
 abbrev pub edit_told : Buffered → Text → ℤ → Edited
 edit_told b line told = done_by_any b told (subcommand_of line)
 

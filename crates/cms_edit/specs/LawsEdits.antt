@@ -1,4 +1,5 @@
--- What follows of runs of the editor: the buffer is the fold of `edit` over the subcommands that it was told, and SAVE puts exactly it.
+-- What follows of runs of the editor: the buffer is the fold of `edit` over its subcommands, and SAVE puts exactly
+-- it.
 use Rattle.std.specs.Prelude.{◌≡◌, ◌⊎◌, true, List, [], ◌∷◌, ◌++◌, length, Some, ℤ, ⊤}
 use Rattle.cms_text.specs.Texts.{Text}
 use Rattle.cms_line.specs.Tokens.{tokens_of}

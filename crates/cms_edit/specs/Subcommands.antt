@@ -73,6 +73,7 @@ abbrev pub ended_at : Text → Text → ℕ → Option Subcommand
 ended_at from behind second =
     if second + 1 == length behind then Some (Change from (take second behind)) else None
 
+-- the first delimiter ends the first text
 abbrev pub cut_at : ℕ → Text → ℕ → Option Subcommand
 cut_at delimiter text first =
     option_and_then (ended_at (take first text) (drop (first + 1) text)) (place_of delimiter (drop (first + 1) text))

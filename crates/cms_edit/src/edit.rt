@@ -40,7 +40,8 @@ pub enum Outcome {
 // A line is added behind the current one.
 fn input(alloc: Global, buffer: &mut Buffer, text: &[u8]) -> Result<i32, AllocError>
     requires { IsLine text.now }
-    ensures ok { IfOk result (λ code. spec.input buffer.old text.now ≡ spec.ended buffer.new code) }
+    ensures ok { IfOk result (λ code.
+        spec.input buffer.old text.now ≡ spec.ended buffer.new code) }
     ensures stays { IfOk result (λ code. StaysAt buffer.old buffer.new code) }
     ensures err { OnErr result (buffer.new ≡ buffer.old) }
 {
@@ -81,7 +82,8 @@ fn delete(buffer: &mut Buffer, count: u32) -> i32
 
 // The next line that contains a text is current.
 fn locate(buffer: &mut Buffer, text: &[u8]) -> Result<i32, AllocError>
-    ensures ok { IfOk result (λ code. spec.locate buffer.old text.now ≡ spec.ended buffer.new code) }
+    ensures ok { IfOk result (λ code.
+        spec.locate buffer.old text.now ≡ spec.ended buffer.new code) }
     ensures stays { IfOk result (λ code. StaysAt buffer.old buffer.new code) }
     ensures err { OnErr result (buffer.new ≡ buffer.old) }
 {
@@ -109,7 +111,8 @@ fn save(buffer: &Buffer) -> Outcome
 // The current line becomes the changed one, if it may be a line.
 fn put_changed(buffer: &mut Buffer, changed: Vec<u8>) -> i32
     requires { buffer.old.current ≢ 0 }
-    ensures ok { spec.with_changed buffer.old (Some changed.items) ≡ spec.ended buffer.new result }
+    ensures ok { spec.with_changed buffer.old (Some changed.items)
+        ≡ spec.ended buffer.new result }
     ensures stays { StaysAt buffer.old buffer.new result }
 {
     if !(1..=LONGEST_TEXT).contains(&changed.len()) {
