@@ -101,7 +101,120 @@ R(00024);
 R(00024);
 ";
 
+const SPOKEN: &str = "# a procedure speaks to the editor
++ EDIT
+@ M
+| &TRACE OFF
+| EDIT N NOTE
+| &SUBCOMMAND EDIT LOCATE BETA
+| &PRESUME &SUBCOMMAND EDIT
+| CHANGE /ET/OT/
+| INPUT GAMMA
+| SAVE
+| &PRESUME
+| TYPE N NOTE
+> EXECIO 2 DISKW N NOTE A
+> ALPHA
+> BETA
+R;
+> M
+ALPHA
+BOTA
+GAMMA
+R;
+# its error action comes by subcommands
++ EDIT
+@ M
+| &TRACE OFF
+| &ERROR &TYPE CODE &RC
+| EDIT N NOTE
+| &SUBCOMMAND EDIT LOCATE BETA
+| &SUBCOMMAND EDIT BOTTOM
+| &PRESUME &SUBCOMMAND EDIT
+| TOPP
+| &SUBCOMMAND NONE X
+> EXECIO 1 DISKW N NOTE A (STRING ALPHA
+R;
+> M
+CODE 28
+CODE 24
+CMS122E Extension NONE does not exist
+CODE 28
+R;
+# a save is refused, and then good; an empty line ends the editor's lines
++ EDIT
+> EXECIO 1 DISKW N NOTE A (STRING ALPHA
+R;
+> ACCESS 191 A/A
+CMS723I A (191) R/O
+R;
+> EDIT N NOTE
+R;
+> EDIT
+> NEXT
+> REPLACE OMEGA
+> SAVE
+CMS037E Disk A is read-only
+?EDIT: SAVE
+> 
+R;
+> ACCESS 191 A
+R;
+> EDIT
+> SAVE
+> END
+R;
+> TYPE N NOTE
+OMEGA
+R;
+# subcommands at the buffer's edges
++ EDIT
+> EXECIO 3 DISKW N NOTE A
+> ALPHA
+> BETA
+> GAMMA
+R;
+> EDIT N NOTE
+R;
+> EDIT
+> DELETE
+?EDIT: DELETE
+> REPLACE X
+?EDIT: REPLACE X
+> CHANGE /A/B/
+?EDIT: CHANGE /A/B/
+> UP
+> TYPE 2
+ALPHA
+> LOCATE ALPHA
+> LOCATE ALPHA
+?EDIT: LOCATE ALPHA
+> CHANGE xALPHAxOMEGAx
+> TYPE
+OMEGA
+> CHANGE //B/
+?EDIT: CHANGE //B/
+> CHANGE /OMEGA//
+?EDIT: CHANGE /OMEGA//
+> BOTTOM
+> NEXT 5
+> TYPE 3
+GAMMA
+> DELETE 5
+> TYPE
+BETA
+> INPUT {X*249}
+> CHANGE /X/XXXXXXX/
+> CHANGE /X/XX/
+?EDIT: CHANGE /X/XX/
+> TYPE
+{X*255}
+> END
+R;
+";
+
 #[test]
 fn files_are_edited(rt: HostRuntime) -> Result<(), Fail> {
-    check_sessions(rt.alloc(), EDITS)
+    check_sessions(rt.alloc(), EDITS)?;
+    check_sessions(rt.alloc(), SPOKEN)
 }
