@@ -157,13 +157,13 @@ impl Subject for Edits {
     fn answer(&self, alloc: Global, case: &str) -> Result<String, AllocError> {
         let mut editor = Editor::new(alloc);
         let mut found = String::new(alloc);
-        let mut between = "";
         for step in case.split(";") {
             let reply = reply_of(alloc, step)?;
             let want = editor.turn(alloc, &reply)?;
-            found.push_str(between)?;
+            if !found.is_empty() {
+                found.push(';')?;
+            }
             push_want(alloc, &mut found, &want)?;
-            between = ";";
         }
         Ok(found)
     }
