@@ -14,6 +14,7 @@ R(00024);
 R;
 > EDIT
 > type 2
+HELLO
 > next
 > TYPE 2
 HELLO
@@ -25,12 +26,11 @@ WORLD
 > LOCATE HELLO
 ?EDIT: LOCATE HELLO
 > SAVE
-CMS107E Disk A is full, 2 blocks needed, 1 free
-?EDIT: SAVE
 > END
 R;
 > TYPE HELLO TEXT
-HELLO
+HIDDO
+NEW L
 WORLD
 R;
 > EDIT NONE TEXT
@@ -41,6 +41,32 @@ CMS069E Disk C is not accessed
 R(00036);
 > EDIT
 R(00024);
+# hello
++ EDIT
+> COPYFILE HELLO TEXT A COPY TEXT A
+R;
+> EDIT HELLO TEXT
+R;
+> EDIT
+> NEXT
+> REPLACE AGAIN
+> SAVE
+CMS107E Disk A is full, 2 blocks needed, 1 free
+?EDIT: SAVE
+> END
+R;
+> ERASE COPY TEXT A
+R;
+> EDIT
+> TYPE
+AGAIN
+> SAVE
+> END
+R;
+> TYPE HELLO TEXT
+AGAIN
+WORLD
+R;
 # a file is edited in place, and another is made
 + EDIT
 @ P
