@@ -11,6 +11,7 @@ pub mod Join
 pub mod Single
 pub mod Feed
 pub mod Waits
+pub mod Ones
 pub mod Whole
 pub mod StepsFit
 pub mod FaultsFit

@@ -15,7 +15,7 @@ use Rattle.cms_machine.specs.Objects.{Back, Object, Reply, answered, may_answer}
 use Rattle.cms_machine.specs.Acts.{Act, Out, Take, Turn, Does, Asks, Drops}
 use Rattle.cms_machine.specs.Points.{Leaves, HasNow, Point, with_events, Sound}
 use Rattle.cms_machine.specs.Beats.{Said, Turned, Took, Did, Asked, Dropped, OnlyTyped, OnlyRead, FitsStep, KeepsConsole, Covers, Beats}
-use Rattle.cms_machine.specs.Runs.{Ran, Begun, Broke}
+use Rattle.cms_machine.specs.Runs.{Ran, Begun, Broke, begun_syncs}
 use Rattle.cms_machine.proofs.Units.{other_slot}
 use Rattle.cms_journal.proofs.Events.{all_front, of_aside}
 use Rattle.cms_machine.proofs.Aside.{typed_aside, read_aside, of_disk, leaves_aside, now_aside, covers_aside}
@@ -171,7 +171,7 @@ ran_still p m s o k journal counted synced outcome speaks units none console obj
     (λ sound. covers_aside p [] (unit_of s) (unit_set m.units (unit_of s)) tt (same_sets p m (unit_of s) units) sound) (λ sound. now_kept p m [] journal units (λ u. tt) sound (unit_of s))
 
 -- a step was cut off, with events of its own unit alone: it is enough to know that unit
-pub begun_by : (p : Point) (s : Step) (es : List Event) → OnlyOf (unit_of s) es → syncs es ≤ sync_count s Good
+pub begun_by : (p : Point) (s : Step) (es : List Event) → OnlyOf (unit_of s) es → syncs es ≤ begun_syncs s
     → (Sound p → (front rest : List Event) → front ++ rest ≡ es → (x : State) → Leaves (plus p.journal front) (unit_of s) x → IsAmong x (unit_set p.units (unit_of s)))
     → (Sound p → (front rest : List Event) → front ++ rest ≡ es → OwnNow (with_events p front) (unit_of s)) → Begun p s es
 begun_by p s es only synced own own_now = record {

@@ -12,10 +12,10 @@ use Rattle.cms_machine.specs.Steps.{Outcome, Good, ReadFault, SyncFault, OldFaul
 use Rattle.cms_machine.specs.Items.{Item, extended, items, Goes}
 use Rattle.cms_machine.specs.Acts.{Act, Done, Out, Take, Turn, Does, Asks, Drops}
 use Rattle.cms_machine.specs.Objects.{Back}
-use Rattle.cms_machine.specs.Traces.{TraceItem, Shown, Spent, States, bytes_of, turns_of, states_in, last_set, Within}
+use Rattle.cms_machine.specs.Traces.{TraceItem, Shown, Spent, States, bytes_of, turns_of, states_in, last_set, AreOnes, Within}
 use Rattle.cms_machine.specs.Feeds.{Fed, Over, WaitsForScript, feed, prepend, Waits}
 use Rattle.cms_machine.specs.Points.{Leaves, HasNow, Point, with_events, Sound}
-use Rattle.cms_machine.specs.Beats.{Deed, Said, Turned, Took, Did, Asked, Dropped, Beat, pieces, shown_by, trace, outcome_of, outcomes, backs, Fits, OnConsole, IsTyped, IsRead, IsDiskOf, OnlyTyped, OnlyRead, OnlyDisk, units_by, Chain}
+use Rattle.cms_machine.specs.Beats.{Deed, Said, Turned, Took, Did, Asked, Dropped, Beat, pieces, shown_by, trace, outcome_of, outcomes, backs, Fits, OnConsole, IsTyped, IsRead, IsDiskOf, OnlyTyped, OnlyRead, OnlyDisk, units_by, AreWellOn, Chain}
 use Rattle.cms_machine.specs.Runs.{Ran, Part, Broke, events_of, fed}
 use Rattle.cms_machine.specs.Laws.{AddsUp, FollowsTree, ComesTo}
 use Rattle.cms_machine.proofs.Lists.{lt_or_le, split, split_at, empty_front, no_element, typed-append, script-append, moments-append, over-append}
@@ -25,6 +25,7 @@ use Rattle.cms_machine.proofs.Units.{beat_sets, units_put}
 use Rattle.cms_machine.proofs.Aside.{leaves_aside, sound_aside, typed_aside, read_aside}
 use Rattle.cms_machine.proofs.Law.{here, here_states, past_beat, chain_sound, law}
 use Rattle.cms_machine.proofs.Feed.{feed_beats}
+use Rattle.cms_machine.proofs.Ones.{ones_append, ones_beats, ones_feed}
 use Rattle.cms_machine.proofs.Waits.{no_read, waits, waits_early, bytes_chain, bytes-append}
 
 -- ---- what a chain adds up to
@@ -432,12 +433,21 @@ adds_up p q bs chain = record {
   as_many = units_chain p q bs chain;
 }
 
+ones_all : {R : Type 0} (p q : Point) (t : Act R) (b : Broke p q t) (u : ℕ) → AreWellOn u b.ran.beats
+    → AreOnes u (fed p t (events_of b) (outcomes b.ran.beats) (backs b.ran.beats)).trace
+ones_all {R = R} p q t b u well =
+    let rest : Fed R = fed b.mid b.rest b.loose [] [] in
+    subst (λ (z : Fed R). AreOnes u z.trace) (sym (fed_all p q t b))
+    (ones_append u (trace b.ran.beats) rest.trace (ones_beats u b.ran.beats well)
+    (ones_feed u b.rest (items (extended b.mid.unread (script b.loose)) (b.mid.ended || is_over b.loose)) (b.mid.ended || is_over b.loose) (moments b.loose) []))
+
 pub follows_tree : {R : Type 0} (p q : Point) (t : Act R) (b : Broke p q t) → FollowsTree p q t b (backs b.ran.beats)
 follows_tree p q t b = record {
   journal = told_all p q t b;
   faults = counted_all p q t b;
   bytes = bytes_all p q t b;
   crash = crashes p q t b;
+  ones = ones_all p q t b;
   sound = all_sound p q t b;
   as_many = ap (λ (z : List Slot). length z) b.units ∙ units_chain p b.mid b.ran.beats b.ran.chain;
   waits = all_wait p q t b;

@@ -9,7 +9,7 @@ use Rattle.cms_fields.specs.Stamps.{stamp_bytes, stamp_flags}
 use Rattle.cms_fields.specs.declared.time.Stamp.{Stamp}
 use Rattle.cms_model.specs.Minidisks.{State}
 use Rattle.cms_machine.specs.Slots.{Slot, unit_set, unit_state, IsAmong}
-use Rattle.cms_machine.specs.Steps.{Step, Outcome, unit_of, IsOutcome, IsOf, sync_count, stamp_in, units_after, faults_in}
+use Rattle.cms_machine.specs.Steps.{Step, Outcome, Good, unit_of, IsOutcome, IsOf, sync_count, stamp_in, units_after, faults_in}
 use Rattle.cms_machine.specs.Items.{Item, Takes}
 use Rattle.cms_machine.specs.Objects.{Back, Object, Reply, answered, may_answer}
 use Rattle.cms_machine.specs.Acts.{Act, Out, Take, Turn, Does, Asks, Drops}
@@ -76,6 +76,15 @@ back_of (Dropped n) = []
 abbrev pub backs : List Beat → List Back
 backs [] = []
 backs (b ∷ bs) = back_of b.deed ++ backs bs
+
+-- no step of this unit had a fault
+abbrev pub IsWellOn : ℕ → Deed → Type 0
+IsWellOn u (Did s o) = unit_of s ≡ u → o ≡ Good
+IsWellOn u d = ⊤
+
+-- nor had one of the beats
+abbrev pub AreWellOn : ℕ → List Beat → Type 0
+AreWellOn u bs = AllByRecursion (λ b. IsWellOn u b.deed) bs
 
 -- ---- the events that a piece may have
 

@@ -9,11 +9,11 @@ use Rattle.cms_machine.specs.Slots.{Side, Slot, Settled, Doubt, state_in, set_of
 use Rattle.cms_machine.specs.Steps.{Get, Access, Outcome, ReadFault, IsOutcome, new_slot, faults_in}
 use Rattle.cms_machine.specs.Items.{extended, items, Goes}
 use Rattle.cms_machine.specs.Acts.{Act, Done, bind}
-use Rattle.cms_machine.specs.Traces.{TraceItem, bytes_of, turns_of, last_set, At, Within}
+use Rattle.cms_machine.specs.Traces.{TraceItem, bytes_of, turns_of, last_set, At, AreOnes, Within}
 use Rattle.cms_machine.specs.Feeds.{Over, feed, prepend, Waits, WaitsBehind}
 use Rattle.cms_machine.specs.Points.{Leaves, Point, Sound}
 use Rattle.cms_machine.specs.Objects.{Back}
-use Rattle.cms_machine.specs.Beats.{Beat, pieces, trace, outcomes, backs, Chain, Leads}
+use Rattle.cms_machine.specs.Beats.{Beat, pieces, trace, outcomes, backs, AreWellOn, Chain, Leads}
 use Rattle.cms_machine.specs.Runs.{Ran, Broke, events_of, fed}
 
 -- ---- beats, from a point where a crash leaves each unit in a state of its set
@@ -82,6 +82,8 @@ pub record FollowsTree {R : Type 0} (p q : Point) (t : Act R) (b : Broke p q t) 
   pub crash :
       Sound p → (front rest : List Event) → front ++ rest ≡ events_of b → (u : ℕ) (x : State) → Leaves (plus p.journal front) u x
       → Within (fed p t (events_of b) (outcomes b.ran.beats) back).trace (length (typed front)) (length (moments front)) u (unit_set p.units u) x
+  -- of a unit that no faulted step touches one state is said at a time
+  pub ones : (u : ℕ) → AreWellOn u b.ran.beats → AreOnes u (fed p t (events_of b) (outcomes b.ran.beats) back).trace
   pub sound : Sound p → Sound q
   pub as_many : length q.units ≡ length p.units
   pub waits :

@@ -2,7 +2,7 @@
 use Rattle.std.specs.Prelude.{◌≡◌, ℕ, ◌≤◌, ◌||◌, List, [], ◌++◌}
 use Rattle.cms_journal.specs.declared.event.Event.{Event}
 use Rattle.cms_journal.specs.Told.{plus, typed, script, is_over, moments, syncs}
-use Rattle.cms_machine.specs.Steps.{Step, Outcome, Good, unit_of, sync_count}
+use Rattle.cms_machine.specs.Steps.{Step, Access, Get, Put, Wipe, Make, Outcome, Good, unit_of, access_syncs}
 use Rattle.cms_machine.specs.Items.{extended, items, Lazy}
 use Rattle.cms_machine.specs.Objects.{Back}
 use Rattle.cms_machine.specs.Acts.{Act, Done, Out, Take, Turn, Does, Asks, Drops}
@@ -16,11 +16,19 @@ pub record Ran {R : Type 0} (p q : Point) (t u : Act R) : Type 0 where
   pub chain : Chain p beats q
   pub leads : Leads t beats u
 
+-- the syncs that a step may have made where the run was cut off in it: an access may have ended a doubt, no other step began any
+abbrev pub begun_syncs : Step → ℕ
+begun_syncs (Access u slot) = access_syncs slot Good
+begun_syncs (Get u f wanted) = 0
+begun_syncs (Put u m change stamp) = 0
+begun_syncs (Wipe u old) = 0
+begun_syncs (Make u old m stamp) = 0
+
 -- what was written of a step in which the run was cut off: at every moment each unit is as before the step, so an update of which
 -- a crash might leave anything was carried to its end or to a device's fault
 pub record Begun (p : Point) (s : Step) (es : List Event) : Type 0 where
   pub disk : OnlyDisk (unit_of s) es
-  pub synced : syncs es ≤ sync_count s Good
+  pub synced : syncs es ≤ begun_syncs s
   pub kept : Sound p → (front rest : List Event) → front ++ rest ≡ es → Sound (with_events p front)
 
 -- events that are a front of the piece of the tree's next deed

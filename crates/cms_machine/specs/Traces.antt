@@ -1,5 +1,5 @@
 -- Traces of a machine, and what one says of a unit between two bytes.
-use Rattle.std.specs.Prelude.{◌≡◌, ◌⊎◌, ℕ, suc, ◌-◌, ◌<◌, ◌≤◌, List, [], ◌∷◌, ◌++◌, if◌then◌else◌, ◌==◌, length, Option, Some, None}
+use Rattle.std.specs.Prelude.{◌≡◌, ◌⊎◌, ℕ, suc, ◌-◌, ◌<◌, ◌≤◌, List, [], ◌∷◌, ◌++◌, if◌then◌else◌, ◌==◌, length, Option, Some, None, ⊤}
 use Rattle.cms_model.specs.Minidisks.{State}
 use Rattle.cms_machine.specs.Slots.{Slot, set_of, IsAmong}
 use Rattle.cms_machine.specs.Steps.{Step, Outcome, unit_of, new_slot}
@@ -39,6 +39,17 @@ last_set u set [] = set
 last_set u set (Shown b ∷ tr) = last_set u set tr
 last_set u set (Spent ∷ tr) = last_set u set tr
 last_set u set (States v new ∷ tr) = last_set u (if v == u then new else set) tr
+
+-- one state
+abbrev pub IsOne : List State → Type 0
+IsOne set = (x : State) × (set ≡ x ∷ [])
+
+-- each of the unit's sets in the trace is of one state
+abbrev pub AreOnes : ℕ → List TraceItem → Type 0
+AreOnes u [] = ⊤
+AreOnes u (Shown b ∷ tr) = AreOnes u tr
+AreOnes u (Spent ∷ tr) = AreOnes u tr
+AreOnes u (States v set ∷ tr) = (v ≡ u → IsOne set) × AreOnes u tr
 
 -- x is in one of the unit's sets that stand after the t-th byte of the trace and before the next, or in the last before them
 abbrev pub At : List TraceItem → ℕ → ℕ → List State → State → Type 0

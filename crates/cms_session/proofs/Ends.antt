@@ -176,6 +176,7 @@ module _ (s : Start) (before now : Seen) (faults : before.faults ≡ s.faults) (
         between = λ front rest e u x leaves.
             at_of_within (run_on s (events_of b) (outcomes b.ran.beats) (backs b.ran.beats)).trace (length (typed front)) (length (moments front)) u
             (unit_set (settled s.units) u) x (follows.crash (sound_start s) front rest e u x leaves);
+        untouched = λ u well. follows.ones u well;
         waits = λ front rest bytes e. follows.waits front rest bytes e;
         given = λ front rest bytes e. not_given s.given (λ ended. follows.given ended front rest bytes e);
         waits_before = λ front rest bytes e early later cut. follows.waits_before front rest bytes e early later cut;

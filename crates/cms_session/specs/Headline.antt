@@ -17,10 +17,10 @@ use Rattle.cms_machine.specs.Acts.{Act}
 use Rattle.cms_machine.specs.Acts as acts
 use Rattle.cms_machine.specs.LawsObjects.{AreDistinct}
 use Rattle.cms_machine.specs.Objects.{Back, Object}
-use Rattle.cms_machine.specs.Traces.{bytes_of, turns_of, last_set, At, Within}
+use Rattle.cms_machine.specs.Traces.{bytes_of, turns_of, last_set, At, AreOnes, Within}
 use Rattle.cms_machine.specs.Feeds.{Fed, Over, Waits, WaitsBehind}
 use Rattle.cms_machine.specs.Points.{Leaves, HasNow, Point}
-use Rattle.cms_machine.specs.Beats.{backs, outcomes, pieces}
+use Rattle.cms_machine.specs.Beats.{AreWellOn, backs, outcomes, pieces}
 use Rattle.cms_machine.specs.Runs.{Broke, Ran, events_of}
 use Rattle.cms_search.specs.Machine.{Machine}
 use Rattle.cms_line.specs.ConsoleState.{ConsoleState}
@@ -181,6 +181,8 @@ pub record Headline (s : Start) (before now : Seen) (status : Status) : Type 0 w
   pub between :
       (front rest : List Event) → front ++ rest ≡ events → (u : ℕ) (x : State) → Leaves (plus (Some (fresh s.units)) front) u x
       → At (run_on s events outcomes backs).trace (length (typed front)) u (unit_set (settled s.units) u) x
+  -- of a unit that no faulted step touches the machine says one state at a time
+  pub untouched : (u : ℕ) → AreWellOn u agrees.beats.ran.beats → AreOnes u (run_on s events outcomes backs).trace
   -- at each read the machine waits for the script, and all its bytes are typed
   pub waits : (front rest : List Event) (bytes : List ℕ) → front ++ Read bytes ∷ rest ≡ events
       → Waits (run_before s (script front) front outcomes backs) (typed front)
