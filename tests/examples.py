@@ -34,6 +34,7 @@ class Example(NamedTuple):
 RUNS = [
     Example("README.md", "* what is there", ["191,512,ro,disk.img"], "hello.txt"),
     Example("README.md", "FORMAT 192 B", ["191,512,ro,disk.img", "192,1024,n60,work.img"], "format.txt"),
+    Example("README.md", "* a list is written, mended and typed", ["191,1024,n60,notes.img"], "edit.txt"),
     Example("README.md", "FORMAT 191 A", ["191,1024,n100,keep.img"]),
     Example(PAGE, "* the files of disk A, and some records of two of them", ["191,512,rw,files.img"], "files.txt"),
     Example(PAGE, "EXECIO 9 DISKW FIRST EXEC A", ["191,512,rw,files.img"], "procedure.txt"),

@@ -101,11 +101,24 @@ def command(chosen):
     return chosen.choice(forms)()
 
 
+def edits(chosen):
+    """A line of EDIT that reads a file, and subcommands."""
+    forms = [
+        lambda: chosen.choice(["TOP", "BOTTOM", "SAVE", "save", "END", "", "TYPE", "DELETE", "NEXT", "UP"]),
+        lambda: f"{chosen.choice(['NEXT', 'UP', 'TYPE', 'DELETE'])} {chosen.choice(NUMBERS)}",
+        lambda: f"{chosen.choice(['INPUT', 'REPLACE', 'LOCATE'])} {chosen.choice(NAMES + WORDS)}",
+        lambda: f"CHANGE {chosen.choice(['/A/B/', '//B/', '/E//', 'XAXBX', '/A/B', '/A/' + 'B' * 240 + '/'])}",
+    ]
+    file = f"EDIT {chosen.choice(NAMES)} {chosen.choice(KINDS)} {chosen.choice(['', 'A', 'B', 'C', 'A1'])}"
+    return "\n".join([file, "EDIT", *[chosen.choice(forms)() for _ in range(chosen.randrange(12))], chosen.choice(["END", ""])])
+
+
 def line(chosen):
-    """A command, a procedure, or what is neither."""
+    """A command, a procedure, edits, or what is none of them."""
     forms = [
         *[lambda: command(chosen)] * 12,
         *[lambda: procedure(chosen)] * 2,
+        lambda: edits(chosen),
         lambda: f"FORMAT 192 B\nYES\n{chosen.choice(['WORK', '', '**'])}",
         lambda: " ".join(chosen.choice(WORDS + NAMES + KINDS) for _ in range(chosen.randrange(12))),
         lambda: "".join(chr(chosen.randrange(32, 127)) for _ in range(chosen.randrange(300))),

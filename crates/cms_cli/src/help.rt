@@ -29,6 +29,8 @@ output, and behind each command its ready line: R; or, with a return code, R(000
 
   ACCESS v m       gives the volume of device v the letter m; with m/p, as an extension of p
   COPYFILE fn ft fm fn ft fm   copies files record by record, as they are or changed by options
+  EDIT fn ft m     reads a file into the line editor, an extension; EDIT alone reads its subcommands
+                   from the next lines, up to END
   ERASE fn ft fm   erases files; when its ready line is typed they are gone for good
   EXEC fn words    runs the procedure fn EXEC, as does a line that begins with its name
   EXECIO n DISKR fn ft fm   leaves n records of a file on the program stack, from which the next

@@ -7,6 +7,7 @@ ghost use Rattle.cms_session.specs.Statuses.{code_of};
 mod help;
 mod telling;
 
+use cms_edit::Editor;
 use cms_ext::{ExtList, Extension, Tally};
 use cms_host::{FileWorld, Host};
 use cms_names::Part;
@@ -23,8 +24,11 @@ use telling::{tell_ending, tell_world};
 
 const FOLDER: &str = "/";
 
-/// The word of the extension that the program brings.
+/// The word of the first extension that the program brings.
 const TALLY: &[u8; 5] = b"TALLY";
+
+/// The word of the second.
+const EDIT: &[u8; 4] = b"EDIT";
 
 /// Why the words can't be had: there is no memory, or one isn't text.
 fn argument_status(error: &io::Error) -> Status {
@@ -62,21 +66,25 @@ fn hold_streams(rt: &HostRuntime) -> io::Result<[File; 3]> {
     ])
 }
 
-/// A session with TALLY under its word.
+/// A session with TALLY and EDIT under their words.
 fn run_session(
     alloc: Global,
     words: &Argv,
     world: &mut FileWorld<Host<&HostRuntime>>,
 ) -> Result<Status, AllocError> {
-    let Ok(word) = Part::read(&coded(TALLY)) else {
+    let Ok(tally_word) = Part::read(&coded(TALLY)) else {
+        return Ok(Status::Memory);
+    };
+    let Ok(edit_word) = Part::read(&coded(EDIT)) else {
         return Ok(Status::Memory);
     };
     let tally: Box<dyn Extension> = Box::new(alloc, Tally::new())?;
+    let editor: Box<dyn Extension> = Box::new(alloc, Editor::new(alloc))?;
     let mut extensions = ExtList::new(alloc);
-    match extensions.push(word, tally) {
-        Ok(()) => Ok(run_with(alloc, words, world, extensions)),
-        Err(_) => Ok(Status::Memory),
+    if extensions.push(tally_word, tally).is_err() || extensions.push(edit_word, editor).is_err() {
+        return Ok(Status::Memory);
     }
+    Ok(run_with(alloc, words, world, extensions))
 }
 
 /// A session over real files. Where the world failed it says on standard error what.

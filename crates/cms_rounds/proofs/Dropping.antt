@@ -37,7 +37,7 @@ ended_same : (s : State) (os : List Object) (units : List Slot) (c : declared.Co
 ended_same s os units (course.Went code) = refl
 ended_same s os units course.OutOfTurns = refl
 
-left_to : (os : List Object) (old new : SpotWith os) (t : List Slot → Act Course) (r : Result declared.Course End)
+pub left_to : (os : List Object) (old new : SpotWith os) (t : List Slot → Act Course) (r : Result declared.Course End)
     → Acts (alone old) (alone new) t r (course_of new.state) → Acts old new (λ units. leaving_to os (t units)) r (ended_of new.state os)
 left_to os old new t (Ok c) acts =
     leaves_so old new t (ended_with os) c (course_of new.state) c (ended_of new.state os) acts (λ units. ended_same new.state os units c)

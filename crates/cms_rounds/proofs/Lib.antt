@@ -5,3 +5,4 @@ pub mod Rounds
 pub mod Requests
 pub mod Statements
 pub mod Dropping
+pub mod Sending

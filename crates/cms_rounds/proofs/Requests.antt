@@ -60,12 +60,12 @@ module _ (os : List Object) (old mid : SpotWith os) (tree : List Slot → Act Is
 
 module _ (a b : List Object) (old : SpotWith a) (mid : SpotWith b) (tree : List Slot → Act Issued) (runs : List Slot → Act Ended)
     (is : (units : List Slot) → holds old units → tree units ≡ bind (runs units) came) where
-  ran_so : (c : declared.Course) → Acts old mid runs (Ok c) (ended_of mid.state b) → Acts old mid tree (Ok (line.Came c)) (issued_of mid.state b)
+  pub ran_so : (c : declared.Course) → Acts old mid runs (Ok c) (ended_of mid.state b) → Acts old mid tree (Ok (line.Came c)) (issued_of mid.state b)
   ran_so c acts =
       acts_same old mid tree (λ units. bind (runs units) came) (Ok (line.Came c)) (issued_of mid.state b) is
       (acts_done old mid (λ units. bind (runs units) came) (line.Came c) (issued_of mid.state b) (comes_in old mid runs came c (ended_of mid.state b) acts))
 
-  ran_off : (e : End) → Acts {T = declared.Course} old mid runs (Err e) (ended_of mid.state b)
+  pub ran_off : (e : End) → Acts {T = declared.Course} old mid runs (Err e) (ended_of mid.state b)
       → Acts {T = declared_issued.Issued} old mid tree (Err e) (issued_of mid.state b)
   ran_off e acts =
       acts_same old mid tree (λ units. bind (runs units) came) (Err e) (issued_of mid.state b) is

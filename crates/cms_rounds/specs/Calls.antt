@@ -24,6 +24,7 @@ use Rattle.cms_rounds.specs.Nucleus.{nucxdrop, nucxmap}
 use Rattle.cms_rounds.specs.Procedures as spec
 use Rattle.cms_rounds.specs.Procedures.{Session, Round, Ends, Ready, Passed, passed}
 use Rattle.cms_rounds.specs.Rounds.{bad_line, line_round, round, run_item, run_line, taking}
+use Rattle.cms_rounds.specs.Subcommands.{sent, sent_line}
 use Rattle.cms_rounds.specs.declared.command.Command.{Command}
 use Rattle.cms_rounds.specs.declared.issuing.Issued as declared
 use Rattle.cms_rounds.specs.declared.issuing.Issued.TheVariants as line
@@ -66,6 +67,9 @@ issue_tree s objects running line units = issued (desk_of s objects units) runni
 abbrev pub take_up_tree : State → List Object → ℕ → List ℕ → List Slot → Act Issued
 take_up_tree s objects running line units = taken_up (desk_of s objects units) running line (tokens_of line)
 
+abbrev pub send_tree : State → List Object → List ℕ → List ℕ → List Slot → Act Ended
+send_tree s objects word text units = sent (desk_of s objects units) word text
+
 abbrev pub ready_tree : declared_session.Session → ℤ → List Slot → Act Round
 ready_tree s code units = spec.readied (session_of s units) code
 
@@ -93,6 +97,9 @@ read_tree s p units = bind (ask (machine_of s.state units)) (spec.given (procedu
 abbrev pub issued_tree : declared_session.Session → List Object → Exec → List ℕ → List Slot → Act Passed
 issued_tree s objects p line units =
     bind (issued (desk_of s.state objects units) (length (p ∷ (procedures_of s))) line) (spec.answered (p ∷ (procedures_of s)))
+
+abbrev pub sent_tree : declared_session.Session → List Object → Exec → List ℕ → List ℕ → List Slot → Act Passed
+sent_tree s objects p word text units = bind (sent_line (desk_of s.state objects units) word text) (spec.answered (p ∷ (procedures_of s)))
 
 abbrev pub meet_tree : declared_session.Session → List Object → Exec → Want → List Slot → Act Passed
 meet_tree s objects p want units = spec.meeting (desk_of s.state objects units) (procedures_of s) p want

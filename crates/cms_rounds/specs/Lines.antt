@@ -8,6 +8,8 @@ use Rattle.cms_line.specs.Messages.{message_text}
 use Rattle.cms_line.specs.Tokens.{tokens_of}
 use Rattle.cms_line.specs.declared.message.Message.TheVariants.{M001}
 use Rattle.cms_line.specs.declared.token.Token.{Token}
+use Rattle.cms_names.specs.Names.{part_of}
+use Rattle.cms_operands.specs.Operands.{given}
 use Rattle.cms_search.specs.Machine.{Machine, Course}
 use Rattle.cms_search.specs.Machine as course
 use Rattle.cms_access.specs.Access.{access}
@@ -21,7 +23,7 @@ use Rattle.cms_fileops.specs.State.{state}
 use Rattle.cms_fileops.specs.Typing.{type_command}
 use Rattle.cms_listfile.specs.Listfile.{listfile}
 use Rattle.cms_exec.specs.Exec.{Starting, HasBegun, IsRefused, call_command, exec_command}
-use Rattle.cms_exec.specs.Finding.{called_by, first_name}
+use Rattle.cms_exec.specs.Finding.{called_by, valid_name}
 use Rattle.cms_execio.specs.Execio.{execio}
 use Rattle.cms_ext.specs.Extensions.{Desk, Ended, Went, desk, run_extension}
 use Rattle.cms_ext.specs.Objects.{place_of, words_of}
@@ -94,9 +96,13 @@ abbrev pub requested : Desk → ℕ → List ℕ → List Token → Act Issued
 requested d running line [] = nothing_done d
 requested d running line (first ∷ words) = request d running line (first ∷ words) first.text (request_of first.text)
 
--- the place of the extension whose word is the first, which is a valid name then
+-- the place of the extension of a word, which is a valid name then
+abbrev pub extension_named : List Object → List ℕ → Option ℕ
+extension_named objects word = option_and_then (λ name. place_of name objects) (valid_name (part_of word))
+
+-- the place of the extension whose word is the first
 abbrev pub extension_of : List Object → List Token → Option ℕ
-extension_of objects words = option_and_then (λ word. place_of word objects) (first_name words)
+extension_of objects words = option_and_then (λ word. extension_named objects word) (given words 0)
 
 -- an extension comes before a command of its word: it answers the line, which it is told whole
 abbrev pub extended_or_requested : Desk → ℕ → List ℕ → List Token → Option ℕ → Act Issued

@@ -21,10 +21,11 @@ use Rattle.exec2_run.specs.declared.exec.Exec.{Exec}
 use Rattle.exec2_run.specs.declared.want.Side.{Side}
 use Rattle.exec2_run.specs.declared.want.Side.TheVariants.{Front, Back}
 use Rattle.exec2_run.specs.declared.want.Want.{Want}
-use Rattle.exec2_run.specs.declared.want.Want.TheVariants.{Next, Say, Stack, Read, Command, Ended, Faulted}
+use Rattle.exec2_run.specs.declared.want.Want.TheVariants.{Next, Say, Stack, Read, Command, Sub, Ended, Faulted}
 use Rattle.cms_ext.specs.Extensions.{Desk, desk}
 use Rattle.cms_ext.specs.Extensions as extension
 use Rattle.cms_rounds.specs.Lines.{Issued, Came, Begins, issued}
+use Rattle.cms_rounds.specs.Subcommands.{sent_line}
 use Rattle.cms_rounds.specs.declared.state.Finish.{Finish}
 use Rattle.cms_rounds.specs.declared.state.Finish.TheVariants as finish
 
@@ -66,6 +67,7 @@ over p (Say lines) = Done None
 over p (Stack lines side) = Done None
 over p Read = Done None
 over p (Command line) = Done None
+over p (Sub word text) = Done None
 
 -- the code goes on, or something else follows
 abbrev pub unless_over : (ℤ → Act Round) → Act Round → Option ℤ → Act Round
@@ -148,6 +150,7 @@ meeting d ps p (Say lines) = leaving d.objects (typing lines (going_on d.machine
 meeting d ps p (Stack lines side) = leaving d.objects (stacking_for d.machine ps p lines side)
 meeting d ps p Read = leaving d.objects (bind (ask d.machine) (given ps p))
 meeting d ps p (Command line) = bind (issued d (length (p ∷ ps)) line) (answered (p ∷ ps))
+meeting d ps p (Sub word text) = bind (sent_line d word text) (answered (p ∷ ps))
 meeting d ps p (Ended code) = leaving d.objects (following d.machine ps (p, Ended code))
 meeting d ps p (Faulted number line) = leaving d.objects (following d.machine ps (p, Faulted number line))
 

@@ -140,15 +140,22 @@ fn request<W: World>(
     }
 }
 
-// The place of the extension whose word is the first; none exactly where that is no valid name, or no extension has it.
+/// The place of the extension of a word, which is in upper case; none exactly where the word is no valid name, or no extension has it.
+pub fn extension_named(extensions: &ExtList, word: &[u8]) -> Option<u32>
+    ensures { result ≡ spec.extension_named (objects_of ⟦<dyn Extension as Extension>⟧ extensions.now) word.now }
+{
+    match Part::read(word) {
+        Ok(word) => extensions.find(&word),
+        Err(_) => None,
+    }
+}
+
+// The place of the extension whose word is the first; none exactly where there is no word, or no extension has it.
 fn extension_of(extensions: &ExtList, words: &[Token]) -> Option<u32>
     ensures { result ≡ spec.extension_of (objects_of ⟦<dyn Extension as Extension>⟧ extensions.now) words.now }
 {
     match given(words, 0) {
-        Some(text) => match Part::read(text) {
-            Ok(word) => extensions.find(&word),
-            Err(_) => None,
-        },
+        Some(text) => extension_named(extensions, text),
         None => None,
     }
 }

@@ -7,6 +7,7 @@ mod nucleus;
 mod round;
 mod state;
 mod statement;
+mod subcommand;
 
 pub use round::run_round;
 pub use state::{Finish, Round, Session};

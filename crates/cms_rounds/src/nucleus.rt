@@ -40,17 +40,16 @@ fn drop_line(alloc: Global, words: &Tokens) -> Result<Part, CommandFault>
     without_options(alloc, words, drop_operands(operands(words.as_slice())))
 }
 
-// Types that no extension stands under the word, and gives the code.
-fn refuse_absent<W: World>(
+/// Types that no extension stands under a word, and gives the code.
+pub fn refuse_absent<W: World>(
     alloc: Global,
     world: &mut W,
     state: &State,
-    word: &Part,
+    word: Word,
 ) -> Result<Course, End>
     ensures { Acts (spot W.World world.old state.now) (spot W.World world.new state.now)
-        (refusal_tree state.now (M122 word.now) (pos spec.none_there)) result (course_of state.now) }
+        (refusal_tree state.now (M122 word) (pos spec.none_there)) result (course_of state.now) }
 {
-    let word = Word::of(alloc, word.as_bytes())?;
     refuse(alloc, world, Message::M122(word), NONE_THERE)
 }
 
@@ -73,7 +72,10 @@ fn drop_extension<W: World>(
             extensions.drop_at(place);
             Ok(Course::Went(0))
         }
-        None => refuse_absent(alloc, world, state, word),
+        None => {
+            let word = Word::of(alloc, word.as_bytes())?;
+            refuse_absent(alloc, world, state, word)
+        }
     }
 }
 

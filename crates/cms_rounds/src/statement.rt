@@ -18,6 +18,7 @@ ghost use Rattle.cms_rounds.specs.declared.state.Round.TheVariants.{Ready};
 
 use crate::issuing::{Issued, issue};
 use crate::state::{Finish, Round, Session};
+use crate::subcommand::send;
 use cms_ext::{ExtList, Extension};
 use cms_files::{StackEnd, has_room, stack_lines};
 use cms_line::{Line, Lines, Message, Word};
@@ -80,7 +81,12 @@ fn over<W: World>(
             tell_stop(alloc, world, exec, *number, *line)?;
             Ok(Some(code_of(*number)))
         }
-        Want::Next | Want::Say(_) | Want::Stack(_, _) | Want::Read | Want::Command(_) => Ok(None),
+        Want::Next
+        | Want::Say(_)
+        | Want::Stack(_, _)
+        | Want::Read
+        | Want::Command(_)
+        | Want::Sub(_, _) => Ok(None),
     }
 }
 
@@ -318,6 +324,33 @@ fn command<W: World>(
     answer(alloc, world, session, issued)
 }
 
+// A text is sent to an extension.
+fn subcommand<W: World>(
+    alloc: Global,
+    world: &mut W,
+    session: &mut Session,
+    extensions: &mut ExtList,
+    procedure: Exec,
+    word: &Word,
+    text: Line,
+) -> Result<Round, End>
+    requires usable { IsUsable (spot W.World world.old session.old.state) }
+    requires moment { is_moment session.old.state.moment ≡ true }
+    requires offset { IsOffset session.old.state.offset }
+    ensures acts { Acts (spot_with W.World world.old session.old.state (objects_of ⟦<dyn Extension as Extension>⟧ extensions.old))
+        (spot_with W.World world.new session.new.state (objects_of ⟦<dyn Extension as Extension>⟧ extensions.new))
+        (tree.sent_tree session.old (objects_of ⟦<dyn Extension as Extension>⟧ extensions.old) procedure word.now text)
+        result (passed_of session.new (objects_of ⟦<dyn Extension as Extension>⟧ extensions.new)) }
+    ensures offset { session.new.state.offset ≡ session.old.state.offset }
+    ensures left { session.new.state.left ≤ session.old.state.left }
+{
+    let Ok(()) = session.procedures.push(procedure) else {
+        return Err(End::Memory);
+    };
+    let course = send(alloc, world, &mut session.state, extensions, word, text)?;
+    answer(alloc, world, session, Issued::Came(course))
+}
+
 // What a statement wants is met.
 fn meet<W: World>(
     alloc: Global,
@@ -342,6 +375,9 @@ fn meet<W: World>(
         Want::Stack(lines, side) => stack(alloc, world, session, procedure, &lines, side),
         Want::Read => read(alloc, world, session, procedure),
         Want::Command(line) => command(alloc, world, session, extensions, procedure, &line),
+        Want::Sub(word, text) => {
+            subcommand(alloc, world, session, extensions, procedure, &word, text)
+        }
         Want::Next => follow(alloc, world, session, procedure, &Want::Next),
         Want::Ended(code) => follow(alloc, world, session, procedure, &Want::Ended(code)),
         Want::Faulted { number, line } => {

@@ -136,6 +136,139 @@ One
 ! Turns
 ";
 
+const SENT: &str = "# texts are sent to an extension
++ PAD
+@ P
+| &TRACE OFF
+| &SUBCOMMAND PAD Hello  World
+| &TYPE &RC
+| &SUBCOMMAND pad again
+| &SUBCOMMAND PAD
+| &EXIT &RC
+> P
+Hello World
+0
+again
+R(00028);
+# commands go to it, until they go to CMS again
++ PAD TALLY
+@ P
+| &TRACE OFF
+| &PRESUME &SUBCOMMAND pad
+| TALLY
+| STATE NONE EXEC A
+| &COMMAND TALLY
+| &SUBCOMMAND TALLY X
+| &TYPE &RC
+| * a comment
+| &NOPE
+| &TYPE &RC
+| &PRESUME
+| TALLY
+| &PRESUME &SUBCOMMAND PAD
+| &PRESUME &COMMAND
+| TALLY
+> P
+TALLY
+STATE NONE EXEC A
+TALLY 1
+24
+28
+TALLY 2
+TALLY 3
+R;
+# there is none, or none any more
++ PAD
+@ P
+| &TRACE OFF
+| &SUBCOMMAND NONE X
+| &TYPE &RC
+| &SUBCOMMAND a!b X
+| &SUBCOMMAND MORETHANEIGHT X
+| &PRESUME &SUBCOMMAND PAD
+| HELLO
+| &COMMAND NUCXDROP PAD
+| HELLO
+| &TYPE &RC
+| PAD
+> P
+CMS122E Extension NONE does not exist
+28
+CMS122E Extension A!B does not exist
+CMS122E Extension MORETHANEIGHT does not exist
+HELLO
+CMS122E Extension PAD does not exist
+28
+CMS122E Extension PAD does not exist
+R;
+# a text's code starts the error action, and a text without a code other than 0 doesn't
++ PAD
+@ P
+| &TRACE OFF
+| &ERROR &TYPE BAD &RC
+| &SUBCOMMAND PAD X
+| &SUBCOMMAND PAD
+| &PRESUME &SUBCOMMAND NONE
+| Y
+| &ERROR Z
+| W
+> P
+X
+BAD 28
+CMS122E Extension NONE does not exist
+BAD 28
+CMS122E Extension NONE does not exist
+CMS122E Extension NONE does not exist
+R;
+# an extension that asks for lines within a procedure's text
++ NOTE PAD
+@ Q
+| &TRACE OFF
+| &COMMAND NOTE
+| &TYPE &RC
+| EXEC NONE
+@ P
+| &TRACE OFF
+| &PRESUME &SUBCOMMAND PAD
+| &COMMAND EXEC Q
+| EXEC Q
+> P
+> One
+One
+> END
+7
+CMS002E File NONE EXEC * not found
+EXEC Q
+R;
+# where commands go must be said in full
++ PAD
+@ P
+| &TRACE OFF
+| &PRESUME PAD
+> P
+CMS085E Procedure P stopped at line 2 with fault 6
+R(10006);
+# the first call is in the statement's turn, the second has one of its own: -t 7 191,512,rw,A
++ PAD
+@ P
+| &TRACE OFF
+| &SUBCOMMAND PAD X
+| &TYPE Y
+> P
+X
+! Turns
+# that is enough: -t 8 191,512,rw,A
++ PAD
+@ P
+| &TRACE OFF
+| &SUBCOMMAND PAD X
+| &TYPE Y
+> P
+X
+Y
+R;
+";
+
 const FILES: &str = "# hello
 + CARRY
 > CARRY HELLO TEXT A COPY TEXT A
@@ -201,6 +334,7 @@ R(00028);
 fn extensions_answer_their_lines(rt: HostRuntime) -> Result<(), Fail> {
     check_sessions(rt.alloc(), TALLIES)?;
     check_sessions(rt.alloc(), ASKING)?;
+    check_sessions(rt.alloc(), SENT)?;
     check_sessions(rt.alloc(), FILES)
 }
 

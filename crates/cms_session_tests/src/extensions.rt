@@ -1,8 +1,10 @@
 // Extensions for tests. NOTE asks for lines and types them, up to END or an empty one. CARRY copies a file, as in `CARRY A TEXT A B TEXT A`. HEAP writes
-// one that is too long. Any other word has a tally of its own.
+// one that is too long. EDIT is the editor. PAD types the texts that are sent to it, and takes no empty one. Any other word has a
+// tally of its own.
 ghost use Rattle.std.specs.Prelude.{◌≡◌, ◌<◌, IfOk, IfSome};
 ghost use Rattle.cms_ext.specs.Replies.{MayBe};
 
+use cms_edit::Editor;
 use cms_ext::{ExtList, ExtReply, ExtWant, Extension, Record, Records, Tally};
 use cms_line::{Line, Lines, Tokens, tokens};
 use cms_names::{Name, Part};
@@ -178,12 +180,36 @@ impl Extension for Heap {
     }
 }
 
+/// Types the texts that are sent to it.
+#[derive(Drop)]
+struct Pad {}
+
+// The code of an empty text.
+const EMPTY: i32 = 28;
+
+impl Extension for Pad {
+    ghost content = { λ p. Rattle.std.specs.Prelude.[] };
+
+    ghost does = { λ before reply want after. Rattle.std.specs.Prelude.true };
+
+    fn turn(&mut self, alloc: Global, reply: &ExtReply) -> Result<ExtWant, AllocError> {
+        match reply {
+            ExtReply::Sub(text) if text.bytes().is_empty() => Ok(ExtWant::Done(EMPTY)),
+            ExtReply::Sub(text) => Ok(ExtWant::Say(line_alone(alloc, text)?)),
+            ExtReply::Went => Ok(ExtWant::Done(0)),
+            _ => Ok(ExtWant::Done(UNKNOWN)),
+        }
+    }
+}
+
 /// Hands an extension in under a word; false where it comes back.
 pub fn push(alloc: Global, extensions: &mut ExtList, word: &str) -> Result<bool, AllocError> {
     let object: Box<dyn Extension> = match word {
         "NOTE" => Box::new(alloc, Note {})?,
         "CARRY" => Box::new(alloc, Carry { to: None })?,
         "HEAP" => Box::new(alloc, Heap {})?,
+        "EDIT" => Box::new(alloc, Editor::new(alloc))?,
+        "PAD" => Box::new(alloc, Pad {})?,
         _ => Box::new(alloc, Tally::new())?,
     };
     match Part::read(&ebcdic(alloc, word)?) {

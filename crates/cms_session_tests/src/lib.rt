@@ -9,6 +9,8 @@ mod copy_tests;
 #[cfg(test)]
 mod disk_tests;
 #[cfg(test)]
+mod edit_tests;
+#[cfg(test)]
 mod erase_tests;
 #[cfg(test)]
 mod execio_tests;

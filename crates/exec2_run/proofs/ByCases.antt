@@ -1,10 +1,14 @@
 -- The relation of statements and the function that computes it.
 use Rattle.std.proofs.Common.{◌≡◌, ◌∙◌, List, refl, sym, ap, drop}
 use Rattle.cms_text.specs.Texts.{Text}
-use Rattle.exec2_run.specs.Cases.{Runs, RunsAreSteps, StepsAreRuns, nothing, assignment, command, trace, type_, beg_type, stack, beg_stack, end, command_word, read_line, args, if_, goto, skip, loop, call, return_, error, exit}
+use Rattle.exec2_run.specs.Cases.{Runs, RunsAreSteps, StepsAreRuns, nothing, assignment, command, trace, type_, beg_type, stack, beg_stack, end, command_word, subcommand, presume, presumed_command, read_line, args, if_, goto, skip, loop, call, return_, error, exit}
+use Rattle.exec2_run.specs.Destinations.{sent, sent_to}
 use Rattle.exec2_run.specs.Kinds.{kind_of}
-use Rattle.exec2_run.specs.State.{Step}
+use Rattle.exec2_run.specs.Outputs.{issued}
+use Rattle.exec2_run.specs.State.{Step, still}
 use Rattle.exec2_run.specs.Steps.{run_by, run_control, run_kind}
+use Rattle.exec2_run.specs.declared.destination.Destination.{Destination}
+use Rattle.exec2_run.specs.declared.destination.Destination.TheVariants.{Cms, Extension}
 use Rattle.exec2_run.specs.declared.exec.Exec.{Exec}
 use Rattle.exec2_run.specs.declared.kind.Control.{Control}
 use Rattle.exec2_run.specs.declared.kind.Control.TheVariants as control
@@ -18,11 +22,22 @@ moved : (s : Exec) (words : List Text) (k : Kind) (m : Step) → kind_of words �
 unfolding run_kind
 moved s words k m is e = e ∙ ap (λ (x : Kind). run_by x s words) (sym is)
 
+-- a command goes to CMS, or to the extension that &PRESUME named
+to_cms : (s : Exec) (words : List Text) → s.destination ≡ Cms → sent s words ≡ issued s words
+unfolding sent issued
+to_cms s words goes = rw goes refl
+
+to_extension : (s : Exec) (words : List Text) (word : Text) → s.destination ≡ Extension word → sent s words ≡ sent_to word s words
+unfolding sent
+to_extension s words word goes = rw goes refl
+
 pub runs_are_steps : RunsAreSteps
 unfolding run_control
 runs_are_steps s words m (nothing is e) = moved s words kind.Nothing m is e
 runs_are_steps s words m (assignment is e) = moved s words kind.Assignment m is e
-runs_are_steps s words m (command is e) = moved s words kind.Command m is e
+runs_are_steps s words m (command is goes e) = moved s words kind.Command m is (e ∙ ap (still s) (sym (to_cms s words goes)))
+runs_are_steps s words m (presumed_command {word = word} is goes e) =
+    moved s words kind.Command m is (e ∙ ap (still s) (sym (to_extension s words word goes)))
 runs_are_steps s words m (trace is e) = moved s words (kind.Control control.Trace) m is e
 runs_are_steps s words m (type_ is e) = moved s words (kind.Control control.Type) m is e
 runs_are_steps s words m (beg_type is e) = moved s words (kind.Control control.BegType) m is e
@@ -30,6 +45,8 @@ runs_are_steps s words m (stack is e) = moved s words (kind.Control control.Stac
 runs_are_steps s words m (beg_stack is e) = moved s words (kind.Control control.BegStack) m is e
 runs_are_steps s words m (end is e) = moved s words (kind.Control control.End) m is e
 runs_are_steps s words m (command_word is e) = moved s words (kind.Control control.Command) m is e
+runs_are_steps s words m (subcommand is e) = moved s words (kind.Control control.Subcommand) m is e
+runs_are_steps s words m (presume is e) = moved s words (kind.Control control.Presume) m is e
 runs_are_steps s words m (read_line is e) = moved s words (kind.Control control.Read) m is e
 runs_are_steps s words m (args is e) = moved s words (kind.Control control.Args) m is e
 runs_are_steps s words m (if_ is e) = moved s words (kind.Control control.If) m is e
@@ -50,6 +67,8 @@ by_control s words control.Stack is = stack is refl
 by_control s words control.BegStack is = beg_stack is refl
 by_control s words control.End is = end is refl
 by_control s words control.Command is = command_word is refl
+by_control s words control.Subcommand is = subcommand is refl
+by_control s words control.Presume is = presume is refl
 by_control s words control.Read is = read_line is refl
 by_control s words control.Args is = args is refl
 by_control s words control.If is = if_ is refl
@@ -61,11 +80,16 @@ by_control s words control.Return is = return_ is refl
 by_control s words control.Error is = error is refl
 by_control s words control.Exit is = exit is refl
 
+as_command : (s : Exec) (words : List Text) (d : Destination) → s.destination ≡ d → kind_of words ≡ kind.Command
+    → Runs s words (still s (sent s words))
+as_command s words Cms goes is = command is goes (ap (still s) (to_cms s words goes))
+as_command s words (Extension word) goes is = presumed_command is goes (ap (still s) (to_extension s words word goes))
+
 by_kind : (s : Exec) (words : List Text) (k : Kind) → kind_of words ≡ k → Runs s words (run_by k s words)
 by_kind s words kind.Nothing is = nothing is refl
 by_kind s words kind.Assignment is = assignment is refl
 by_kind s words (kind.Control c) is = by_control s words c is
-by_kind s words kind.Command is = command is refl
+by_kind s words kind.Command is = as_command s words s.destination refl is
 
 pub steps_are_runs : StepsAreRuns
 unfolding run_kind

@@ -4,6 +4,7 @@ use Rattle.std.specs.Option.{IsSomeAnd}
 use Rattle.cms_text.specs.Texts.{Text}
 use Rattle.exec2_run.specs.Assignments.{assigned}
 use Rattle.exec2_run.specs.Calls.{entered, returned}
+use Rattle.exec2_run.specs.Destinations.{presumed, sent_to, subcommanded}
 use Rattle.exec2_run.specs.Given.{seen}
 use Rattle.exec2_run.specs.Jumps.{label_from, skipped}
 use Rattle.exec2_run.specs.Kinds.{kind_of}
@@ -14,6 +15,7 @@ use Rattle.exec2_run.specs.State.{Step, still}
 use Rattle.exec2_run.specs.Steps.{exited, run_kind, with_error}
 use Rattle.exec2_run.specs.Values.{ended, missing, operands}
 use Rattle.exec2_run.specs.Words.{has_label, is_label}
+use Rattle.exec2_run.specs.declared.destination.Destination.TheVariants.{Cms, Extension}
 use Rattle.exec2_run.specs.declared.exec.Exec.{Exec}
 use Rattle.exec2_run.specs.declared.fault.Fault.{Fault}
 use Rattle.exec2_run.specs.declared.fault.Fault.TheVariants.{BadStatement, NoLabel, TooLong}
@@ -105,8 +107,12 @@ pub data Runs (s : Exec) (words : List Text) (m : Step) : Type 0 where
   beg_stack : kind_of words ≡ kind.Control control.BegStack → m ≡ stacked_block s (drop 1 words) → Runs s words m
   -- &END as a statement: nothing
   end : kind_of words ≡ kind.Control control.End → m ≡ Ok (s, Next) → Runs s words m
-  -- &COMMAND text: the text is issued
+  -- &COMMAND text: the text is issued to CMS
   command_word : kind_of words ≡ kind.Control control.Command → m ≡ still s (issued s (drop 1 words)) → Runs s words m
+  -- &SUBCOMMAND word text: the text is sent to the extension of the word
+  subcommand : kind_of words ≡ kind.Control control.Subcommand → m ≡ still s (subcommanded s (drop 1 words)) → Runs s words m
+  -- &PRESUME &SUBCOMMAND word: commands go to the extension of the word; with &COMMAND or alone, to CMS
+  presume : kind_of words ≡ kind.Control control.Presume → m ≡ presumed s (drop 1 words) → Runs s words m
   -- &READ ARGS, VARS names, STRING name: a line is asked for
   read_line : kind_of words ≡ kind.Control control.Read → m ≡ read s (drop 1 words) → Runs s words m
   -- &ARGS words: they become the arguments
@@ -127,8 +133,11 @@ pub data Runs (s : Exec) (words : List Text) (m : Step) : Type 0 where
   error : kind_of words ≡ kind.Control control.Error → m ≡ Ok (with_error s (drop 1 words), Next) → Runs s words m
   -- &EXIT [n]
   exit : kind_of words ≡ kind.Control control.Exit → m ≡ still s (exited s (drop 1 words)) → Runs s words m
-  -- any other statement is a command
-  command : kind_of words ≡ kind.Command → m ≡ still s (issued s words) → Runs s words m
+  -- any other statement is a command, whose text is issued to CMS
+  command : kind_of words ≡ kind.Command → s.destination ≡ Cms → m ≡ still s (issued s words) → Runs s words m
+  -- or sent to the extension that &PRESUME named
+  presumed_command : {word : Text} → kind_of words ≡ kind.Command → s.destination ≡ Extension word → m ≡ still s (sent_to word s words)
+      → Runs s words m
 
 -- the relation says no more than the function that computes it, and no less
 abbrev pub RunsAreSteps : Type 0

@@ -10,8 +10,8 @@ use Rattle.exec2_run.specs.declared.kind.Kind.TheVariants as kind
 -- all control words
 abbrev pub controls : List Control
 controls = control.Trace ∷ control.Type ∷ control.BegType ∷ control.Stack ∷ control.BegStack ∷ control.End ∷ control.Command
-    ∷ control.Read ∷ control.Args ∷ control.If ∷ control.Goto ∷ control.Skip ∷ control.Loop ∷ control.Call ∷ control.Return
-    ∷ control.Error ∷ control.Exit ∷ []
+    ∷ control.Subcommand ∷ control.Presume ∷ control.Read ∷ control.Args ∷ control.If ∷ control.Goto ∷ control.Skip
+    ∷ control.Loop ∷ control.Call ∷ control.Return ∷ control.Error ∷ control.Exit ∷ []
 
 -- a control word as it is written
 abbrev pub name_of : Control → List ℕ
@@ -22,6 +22,8 @@ name_of control.Stack = codes "&STACK"
 name_of control.BegStack = codes "&BEGSTACK"
 name_of control.End = codes "&END"
 name_of control.Command = codes "&COMMAND"
+name_of control.Subcommand = codes "&SUBCOMMAND"
+name_of control.Presume = codes "&PRESUME"
 name_of control.Read = codes "&READ"
 name_of control.Args = codes "&ARGS"
 name_of control.If = codes "&IF"
@@ -69,6 +71,8 @@ guards (kind.Control control.Stack) = false
 guards (kind.Control control.BegStack) = false
 guards (kind.Control control.End) = false
 guards (kind.Control control.Command) = false
+guards (kind.Control control.Subcommand) = false
+guards (kind.Control control.Presume) = false
 guards (kind.Control control.Read) = false
 guards (kind.Control control.Args) = false
 guards (kind.Control control.Goto) = false

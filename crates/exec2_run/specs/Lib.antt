@@ -11,6 +11,7 @@ pub mod Loops
 pub mod Calls
 pub mod Open
 pub mod Outputs
+pub mod Destinations
 pub mod Readings
 pub mod Relation
 pub mod Kinds

@@ -1,4 +1,4 @@
--- &TYPE, &BEGTYPE, &STACK, &BEGSTACK, &COMMAND and commands (VM/SP EXEC 2 Reference, these statements).
+-- &TYPE, &BEGTYPE, &STACK, &BEGSTACK and &COMMAND (VM/SP EXEC 2 Reference, these statements).
 use Rattle.std.specs.Prelude.{ℕ, ◌+◌, Bool, ◌||◌, if◌then◌else◌, List, [], ◌∷◌, ◌++◌, drop, codes, Result, Ok, Err}
 use Rattle.cms_fields.specs.Steps.{◌>>=◌, ◌>>◌}
 use Rattle.cms_text.specs.Texts.{Text, first_word, is_keyword}
@@ -26,7 +26,7 @@ typed s words = do
   lines ← text_line s words
   Ok (Say lines)
 
--- &COMMAND text, and a command
+-- &COMMAND text
 unfoldable pub issued : Exec → List Text → Result Want Fault
 issued s words = do
   line ← text (seen s) words

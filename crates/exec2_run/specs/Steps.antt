@@ -15,6 +15,7 @@ use Rattle.exec2_run.specs.Faults.{number_of_fault}
 use Rattle.exec2_run.specs.Assignments.{assigned}
 use Rattle.exec2_run.specs.Calls.{called, returned}
 use Rattle.exec2_run.specs.Comparisons.{comparison_of, holds}
+use Rattle.exec2_run.specs.Destinations.{presumed, sent, subcommanded}
 use Rattle.exec2_run.specs.Given.{at_start, behind_name}
 use Rattle.exec2_run.specs.Jumps.{gone, skipped}
 use Rattle.exec2_run.specs.Kinds.{is_if, kind_of}
@@ -25,6 +26,7 @@ use Rattle.exec2_run.specs.State.{Step, still}
 use Rattle.exec2_run.specs.Values.{ended, operands, value, whole}
 use Rattle.exec2_run.specs.Variables.{with_arguments}
 use Rattle.exec2_run.specs.Words.{statement_on, words_of}
+use Rattle.exec2_run.specs.declared.destination.Destination.TheVariants as destination
 use Rattle.exec2_run.specs.declared.exec.ErrorAction.{ErrorAction}
 use Rattle.exec2_run.specs.declared.exec.ErrorAction.TheVariants.{Idle, Due, Running}
 use Rattle.exec2_run.specs.declared.exec.Exec.{Exec}
@@ -123,6 +125,8 @@ run_control control.Stack s words = still s (stacked s words)
 run_control control.BegStack s words = stacked_block s words
 run_control control.End s words = Ok (s, Next)
 run_control control.Command s words = still s (issued s words)
+run_control control.Subcommand s words = still s (subcommanded s words)
+run_control control.Presume s words = presumed s words
 run_control control.Read s words = read s words
 run_control control.Args s words = args_given s words
 run_control control.If s words = Ok (s, Next)
@@ -139,7 +143,7 @@ abbrev pub run_by : Kind → Exec → List Text → Step
 run_by kind.Nothing s words = Ok (s, Next)
 run_by kind.Assignment s words = assigned s words
 run_by (kind.Control c) s words = run_control c s (drop 1 words)
-run_by kind.Command s words = still s (issued s words)
+run_by kind.Command s words = still s (sent s words)
 
 -- a statement that no &IF guards
 unfoldable pub run_kind : Exec → List Text → Step
@@ -241,7 +245,7 @@ refused s = Ok (s, Faulted (number_of_fault StackFull) s.line)
 
 -- ---- the start
 
--- the procedure begins with its arguments, before its first line; a line has no more than 1,000 words
+-- the procedure begins with its arguments, before its first line, and its commands go to CMS; a line has no more than 1,000 words
 unfoldable pub begun : Global → List Text → Text → FileName → Result Exec Fault
 begun alloc lines called f = with_arguments (record {
   alloc = alloc;
@@ -257,6 +261,7 @@ begun alloc lines called f = with_arguments (record {
   error = None;
   action = Idle;
   code = pos 0;
+  destination = destination.Cms;
   reading = reading.Nothing;
 }) (words_of (behind_name called))
 

@@ -53,8 +53,12 @@ abbrev pub ended : List Text → Bool → Result (Unit {0}) Fault
 ended [] is_cut = whole is_cut
 ended (word ∷ words) is_cut = Err BadStatement
 
--- the words joined by a blank
+-- words joined by a blank, empty ones left out
+abbrev pub joined : List Text → Result Text Fault
+joined words = with_fault of_function (called function.String words)
+
+-- the text that the words make: what they become, joined by a blank
 unfoldable pub text : Binding → List Text → Result Text Fault
 text names words = do
   whole (operands names words).is_cut
-  with_fault of_function (called function.String (operands names words).words)
+  joined (operands names words).words

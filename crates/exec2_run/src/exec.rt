@@ -8,6 +8,7 @@ ghost use Rattle.exec2_run.specs.Steps.{Takes};
 
 use crate::calls::{Calls, line_of_last};
 use crate::comparison::{Comparison, holds};
+use crate::destination::Destination;
 use crate::given::{AtStart, Seen, Standing, behind_name};
 use crate::kind::{Control, Kind, kind_of};
 use crate::loops::Loops;
@@ -73,6 +74,7 @@ pub struct Exec {
     pub(crate) action: ErrorAction,
     /// The last command's code.
     pub(crate) code: i32,
+    pub(crate) destination: Destination,
     pub(crate) reading: Reading,
 }
 
@@ -102,6 +104,7 @@ impl Exec {
             error: None,
             action: ErrorAction::Idle,
             code: 0,
+            destination: Destination::Cms,
             reading: Reading::Nothing,
         };
         let words = words_of(alloc, behind_name(called.bytes()))?;
@@ -234,7 +237,8 @@ impl Exec {
         }
     }
 
-    /// Takes the code of the command that was issued. With one other than 0 the error action is due, unless it issued the command.
+    /// Takes the code of the command that was issued, or of the text that was sent. With one other than 0 the error action is due, unless it
+    /// issued the command or sent the text.
     #[tactic(auto, unfolding(crate::specs::Steps::code_taken))]
     pub fn take_code(&mut self, code: i32)
         ensures { self.new ≡ spec.code_taken self.old code }
@@ -397,7 +401,7 @@ impl Exec {
             Kind::Nothing => Ok(Want::Next),
             Kind::Assignment => self.assign(words),
             Kind::Control(control) => self.run_control(control, behind_first(words)),
-            Kind::Command => self.command(words),
+            Kind::Command => self.send(words),
         }
     }
 
@@ -412,6 +416,8 @@ impl Exec {
             Control::Stack => self.stack_text(words),
             Control::BegStack => self.stack_block(words),
             Control::Command => self.command(words),
+            Control::Subcommand => self.subcommand(words),
+            Control::Presume => self.presume(words),
             Control::Read => self.read(words),
             Control::Args => self.args(words),
             Control::Goto => self.go_to(words),

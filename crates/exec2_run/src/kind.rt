@@ -14,6 +14,8 @@ pub enum Control {
     BegStack,
     End,
     Command,
+    Subcommand,
+    Presume,
     Read,
     Args,
     If,
@@ -26,7 +28,7 @@ pub enum Control {
     Exit,
 }
 
-const CONTROLS: [Control; 17] = [
+const CONTROLS: [Control; 19] = [
     Control::Trace,
     Control::Type,
     Control::BegType,
@@ -34,6 +36,8 @@ const CONTROLS: [Control; 17] = [
     Control::BegStack,
     Control::End,
     Control::Command,
+    Control::Subcommand,
+    Control::Presume,
     Control::Read,
     Control::Args,
     Control::If,
@@ -58,7 +62,8 @@ impl Control {
             .find(|control| is_keyword(word, control.name()))
     }
 
-    fn name(self) -> &'static str
+    /// The word in capital letters.
+    pub fn name(self) -> &'static str
         ensures { result.now ≡ spec.name_of self }
     {
         match self {
@@ -69,6 +74,8 @@ impl Control {
             Control::BegStack => "&BEGSTACK",
             Control::End => "&END",
             Control::Command => "&COMMAND",
+            Control::Subcommand => "&SUBCOMMAND",
+            Control::Presume => "&PRESUME",
             Control::Read => "&READ",
             Control::Args => "&ARGS",
             Control::If => "&IF",

@@ -5,6 +5,7 @@ mod assignment;
 mod calling;
 mod calls;
 mod comparison;
+mod destination;
 mod exec;
 mod fault;
 mod given;

@@ -1,4 +1,4 @@
-// &TYPE, &BEGTYPE, &STACK, &BEGSTACK, &COMMAND and commands.
+// &TYPE, &BEGTYPE, &STACK, &BEGSTACK and &COMMAND.
 ghost use Rattle.std.specs.Prelude.{◌≡◌};
 ghost use Rattle.exec2_run.specs.Faults.{Answers, Does};
 ghost use Rattle.exec2_run.specs.Outputs as spec;
@@ -54,7 +54,7 @@ impl Exec {
         Ok(Want::Stack(block.lines, side_of(words)))
     }
 
-    /// A command, also one behind &COMMAND.
+    /// &COMMAND text.
     #[tactic(auto, unfolding(crate::specs::Outputs::issued))]
     pub fn command(&self, words: &[Word]) -> Result<Want, Fault>
         ensures { Answers (spec.issued self.now words.now) result }

@@ -115,6 +115,13 @@ pub fn text(alloc: Global, seen: &Seen<'_>, words: &[Word]) -> Result<Line, Faul
 {
     let operands = expanded_words(alloc, seen, words)?;
     whole(operands.is_cut)?;
-    let text = call(alloc, Function::String, &operands.words)?;
+    joined(alloc, &operands.words)
+}
+
+/// The text of these words: joined by a blank, empty ones left out.
+pub fn joined(alloc: Global, words: &WordList) -> Result<Line, Fault>
+    ensures { Answers (spec.joined words.now) result }
+{
+    let text = call(alloc, Function::String, words)?;
     Ok(Line::take(text.into_bytes()))
 }

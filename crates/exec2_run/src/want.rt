@@ -1,5 +1,5 @@
 // What a procedure wants of its session.
-use cms_text::{Line, Lines};
+use cms_text::{Line, Lines, Word};
 
 /// Where lines are stacked.
 #[derive(Clone, Copy)]
@@ -24,6 +24,8 @@ pub enum Want {
     Read,
     /// The line is issued to CMS; `take_code` follows.
     Command(Line),
+    /// The text is sent to the extension of the word, which may be in small letters; `take_code` follows.
+    Sub(Word, Line),
     /// The procedure has ended with this code, -9999 to 99999.
     Ended(i32),
     /// The procedure has ended by a fault, 1 to 14, at a line, which counts from 1.

@@ -112,6 +112,11 @@ fn shown(alloc: Global, want: &Want) -> Result<String, AllocError> {
             let text = ascii(alloc, command.bytes())?;
             format!(in alloc; "cmd [{text}];")
         }
+        Want::Sub(word, text) => {
+            let word = ascii(alloc, word.bytes())?;
+            let text = ascii(alloc, text.bytes())?;
+            format!(in alloc; "sub [{word}] [{text}];")
+        }
         Want::Ended(code) => format!(in alloc; "end {code}"),
         Want::Faulted { number, line } => format!(in alloc; "fail {number} {line}"),
     }
@@ -141,7 +146,7 @@ fn answered(
             let line = word(alloc, answer(answers, "r ").unwrap_or(""))?;
             Ok(Some(exec.take_line(&line)?))
         }
-        Want::Command(_) => {
+        Want::Command(_) | Want::Sub(_, _) => {
             let code = answer(answers, "c ").unwrap_or("0");
             exec.take_code(code.parse().unwrap_or(0));
             Ok(Some(Want::Next))
@@ -251,6 +256,34 @@ T ab # erase &1 file # # cmd [erase ab file];end 0
  # -L * x # # cmd [* x];end 0
  # CMD;&TYPE &RC &RETCODE # c 28 # cmd [CMD];say [28 28];end 0
  # &TYPE &RC # # say [0];end 0
+# ---- texts that go to an extension
+ # &SUBCOMMAND EDIT LOCATE  BETA;&TYPE &RC # c 3 # sub [EDIT] [LOCATE BETA];say [3];end 0;turns 3
+ # &subcommand edit find &NOPE x # # sub [edit] [find x];end 0
+ # &E = EDIT;&SUBCOMMAND &NOPE &E &NOPE TOP # # sub [EDIT] [TOP];end 0
+ # &SUBCOMMAND EDIT;&COMMAND EDIT # # sub [EDIT] [];cmd [EDIT];end 0
+ # &SUBCOMMAND # # fail 6 2
+ # &SUBCOMMAND &NOPE # # fail 6 2
+ # &X = &LEFT OF A 200;&SUBCOMMAND E &X &X # # fail 5 3
+ # &X = {A*200};&SUBCOMMAND E &X {B*54};&SUBCOMMAND E &X {B*55} # # sub [E] [{A*200} {B*54}];fail 5 4
+ # &X = {A*201};&SUBCOMMAND {C*55}&X # # fail 5 3
+ # &ERROR &TYPE BAD;&SUBCOMMAND E X;&TYPE NEXT # c 5 # sub [E] [X];say [BAD];say [NEXT];end 0;turns 5
+ # &ERROR &SUBCOMMAND E &RC;CMD;&TYPE &RC # c 5;c 7 # cmd [CMD];sub [E] [5];say [7];end 0
+ # &PRESUME &SUBCOMMAND EDIT;TOP;&NOPE;&COMMAND STATE;&PRESUME;CMD # # sub [EDIT] [TOP];sub [EDIT] [];cmd [STATE];cmd [CMD];end 0;turns 7
+ # &presume &subcommand edit;TOP;&PRESUME &COMMAND;CMD # # sub [edit] [TOP];cmd [CMD];end 0
+ # &PRESUME &SUBCOMMAND A;&SUBCOMMAND B X;Y;&PRESUME &SUBCOMMAND B &NOPE;Z # # sub [B] [X];sub [A] [Y];sub [B] [Z];end 0
+ # &E = EDIT;&PRESUME &SUBCOMMAND &E;&E = F;TOP # # sub [EDIT] [TOP];end 0
+ # &PRESUME &SUBCOMMAND E;&CALL -S;A;&EXIT;-S B;&PRESUME;&RETURN # # sub [E] [B];cmd [A];end 0
+ # &PRESUME &SUBCOMMAND E;&IF 1 = 1 A;* B;-L C # # sub [E] [A];sub [E] [C];end 0
+ # &ERROR BAD;&PRESUME &SUBCOMMAND E;CMD # c 4 # sub [E] [CMD];sub [E] [BAD];end 0
+ # &PRESUME &COMMAND X # # fail 6 2
+ # &PRESUME &SUBCOMMAND # # fail 6 2
+ # &PRESUME &SUBCOMMAND A B # # fail 6 2
+ # &PRESUME EDIT # # fail 6 2
+ # &PRESUME &NOPE # # fail 6 2
+ # &C = &LITERAL OF &COMMAND;&PRESUME &C # # fail 6 3
+ # &X = {A*201};&PRESUME &SUBCOMMAND {C*55}&X # # fail 5 3
+ # &X = {A*201};&PRESUME &SUBCOMMAND E {C*55}&X # # fail 5 3
+ # &PRESUME = 5;&TYPE &PRESUME # # say [5];end 0
 # ---- comparison
  # &IF 7 = 07 &TYPE Y # # say [Y];end 0
  # &IF A eq A &TYPE Y # # say [Y];end 0

@@ -28,3 +28,6 @@ returns-in-Ended-clause-acts g c =
 
 pub returns-in-Faulted-clause-acts : goal.returns-in-Faulted-clause-acts
 returns-in-Faulted-clause-acts g c = let is = c.in-Faulted.is in rw is (left _ _ _ _ _ c.follow-in-Faulted.ensures.acts)
+
+pub returns-in-Sub-clause-acts : goal.returns-in-Sub-clause-acts
+returns-in-Sub-clause-acts g c = let is = c.in-Sub.is in rw is c.subcommand.ensures.acts

@@ -1,0 +1,5 @@
+use Rattle.cms_edit.proofs.Folding.{folds_edits}
+use Rattle.cms_edit.proofs.laws.laws_of_edits.Goals as goal
+
+pub returns : goal.returns
+returns c = folds_edits

@@ -1,0 +1,5 @@
+pub mod Buffers
+pub mod Subcommands
+pub mod Edits
+pub mod Editors
+pub mod LawsEdits

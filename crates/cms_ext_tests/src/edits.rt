@@ -1,0 +1,175 @@
+// The editor, told what a session may tell it.
+use cms_cases::{Subject, push_ascii, try_rows};
+use cms_edit::Editor;
+use cms_ext::{ExtReply, ExtWant, Extension, Record, Records};
+use cms_text::{LONGEST_TEXT, Line, Lines, ebcdic};
+use std::alloc::{AllocError, Global};
+use std::test::Fail;
+
+// What it is told: `E` and the rest of a line of EDIT, `S` and a subcommand of a procedure, `L` and a line of the loop, `F` and records, `W` that
+// its want is done, `C` and the code of a refusal. The answers are what it wants.
+const ROWS: &[(Edits, &str)] = &[(
+    Edits,
+    "E N NOTE;F ALPHA,BETA;S LOCATE BETA;S CHANGE /ET/OT/;S INPUT GAMMA;S SAVE;W => \
+get N NOTE 0;end 0;end 0;end 0;end 0;put N NOTE 0 ALPHA,BOTA,GAMMA;end 0
+E A B C;F ONE,TWO;S DELETE;S REPLACE X;S CHANGE /O/X/;S TYPE;S UP 3;S TYPE 2;W => \
+get A B 2;end 0;end 24;end 24;end 24;end 0;end 0;say ONE;end 0
+E A B;F A,B,C;S BOTTOM;S TYPE 5;W;S DELETE 2;S TYPE;W;S NEXT 9;S TYPE;W => \
+get A B 0;end 0;end 0;say C;end 0;end 0;say B;end 0;end 0;say B;end 0
+E A B;F A,B,C,D;S NEXT 2;S DELETE 2;S TYPE 9;W;S UP;S TYPE 9;W;S DELETE 0;S DELETE 9;S SAVE => \
+get A B 0;end 0;end 0;end 0;say D;end 0;end 0;say A,D;end 0;end 0;end 0;end 24
+E A B;F X,Y,X;S LOCATE X;S LOCATE X;S UP;S TYPE;W;S BOTTOM;S LOCATE X;S TOP;S LOCATE Z => \
+get A B 0;end 0;end 0;end 0;end 0;say Y;end 0;end 0;end 28;end 0;end 28
+E A B;F A,B;S INPUT X;S NEXT;S INPUT  Y;S TOP;S TYPE 9;W => \
+get A B 0;end 0;end 0;end 0;end 0;end 0;say X,A, Y,B;end 0
+E A B;F {A,*10000};S INPUT X;S NEXT 10000;S DELETE;S INPUT X;S TYPE 2;W;S INPUT X => \
+get A B 0;end 0;end 40;end 0;end 0;end 0;say X;end 0;end 40
+E A B;F {A,*10001};W;S TOP;E => get A B 0;say ?EDIT: file does not fit;end 32;end 24;end 24
+E A B;F {A*255};S NEXT;S CHANGE /A/BB/;S CHANGE /A//;S CHANGE /A/BB/;S CHANGE /B/C/;S TYPE;W => \
+get A B 0;end 0;end 0;end 24;end 0;end 0;end 0;say CB{A*253};end 0
+E A B;F {A*256};W => get A B 0;say ?EDIT: file does not fit;end 32
+E A B;F ABA;S NEXT;S CHANGE XAXCX;S change /A/x/;S CHANGE //X/;S CHANGE /Q/X/;S TYPE;W => \
+get A B 0;end 0;end 0;end 0;end 0;end 24;end 28;say CBx;end 0
+E A B;F A;S NEXT;S CHANGE /A//;S CHANGE /A/B;S CHANGE /A/B/C;S CHANGE;S CHANGE A;S REPLACE QQ;S TYPE;W => \
+get A B 0;end 0;end 0;end 24;end 24;end 24;end 24;end 24;end 0;say QQ;end 0
+E A B;F A;S SAVE;C 36;S SAVE;W => get A B 0;end 0;put A B 0 A;end 36;put A B 0 A;end 0
+E A B;F ONE;E;L NEXT;L TYPE;W;L JUNK;W;L SAVE;C 100;W;L SAVE;W;L END => \
+get A B 0;end 0;ask;ask;say ONE;ask;say ?EDIT: JUNK;ask;put A B 0 ONE;say ?EDIT: SAVE;ask;put A B 0 ONE;ask;end 0
+E A B;F ONE;E;L;E;L END X;W;L TOP => get A B 0;end 0;ask;end 0;ask;say ?EDIT: END X;ask;ask
+E A B;F ONE;E;L {X*255};W => get A B 0;end 0;ask;say ?EDIT: {X*248};ask
+E A B;C 28;S SAVE;S INPUT X;S SAVE;W => get A B 0;end 28;end 24;end 0;put A B 0 X;end 0
+E A B;C 36;S TOP;E => get A B 0;end 36;end 24;end 24
+E;S TOP;E A;E A B C1;E A B C D;E A B (;E ABCDEFGHI B => end 24;end 24;end 24;end 24;end 24;end 24;end 24
+E A B;F X;E A;S TYPE 2;W;E C D;F Y;S TYPE 2;W => \
+get A B 0;end 0;end 24;say X;end 0;get C D 0;end 0;say Y;end 0
+E A B;F A,B;S NEXT 0001;S NEXT 1 2;S NEXT X;S NEXT 1234567890;S UP 999999999;S TOPP;S TOP 1;S next;S TYPE;W => \
+get A B 0;end 0;end 0;end 24;end 24;end 24;end 0;end 24;end 24;end 0;say A;end 0
+W;F A;L X;C 28 => end 24;end 24;end 24;end 24",
+)];
+
+// The editor that rows are of.
+#[derive(Clone, Copy)]
+struct Edits;
+
+// A text as a line.
+fn line_of(alloc: Global, text: &str) -> Result<Line, AllocError> {
+    let bytes = ebcdic(alloc, text)?;
+    if bytes.len() > LONGEST_TEXT {
+        return Err(AllocError);
+    }
+    Ok(Line::take(bytes))
+}
+
+// A line of EDIT.
+fn edit_line(alloc: Global, text: &str) -> Result<Line, AllocError> {
+    let mut line = String::from_str(alloc, "EDIT ")?;
+    line.push_str(text)?;
+    line_of(alloc, line.as_str())
+}
+
+// Records, with a comma behind each but the last.
+fn records_of(alloc: Global, text: &str) -> Result<Records, AllocError> {
+    let mut records = Records::new(alloc);
+    for part in text.split(",") {
+        let bytes = ebcdic(alloc, part)?;
+        if (1..=1000).contains(&bytes.len()) {
+            records.push(Record::take(bytes))?;
+        }
+    }
+    Ok(records)
+}
+
+// What it is told.
+fn reply_of(alloc: Global, step: &str) -> Result<ExtReply, AllocError> {
+    let text = step.split_once(" ").map_or("", |parts| parts.1);
+    if step.starts_with("E") {
+        Ok(ExtReply::Start(edit_line(alloc, text)?))
+    } else if step.starts_with("S") {
+        Ok(ExtReply::Sub(line_of(alloc, text)?))
+    } else if step.starts_with("L") {
+        Ok(ExtReply::Got(line_of(alloc, text)?))
+    } else if step.starts_with("F") {
+        Ok(ExtReply::File(records_of(alloc, text)?))
+    } else if step.starts_with("C") {
+        Ok(ExtReply::Refused(text.parse().unwrap_or(0)))
+    } else {
+        Ok(ExtReply::Went)
+    }
+}
+
+// Adds lines with commas between.
+fn push_lines(into: &mut String, lines: &Lines) -> Result<(), AllocError> {
+    let mut between = "";
+    for line in lines.as_slice() {
+        into.push_str(between)?;
+        push_ascii(into, line.bytes())?;
+        between = ",";
+    }
+    Ok(())
+}
+
+// Adds records with commas between.
+fn push_records(into: &mut String, records: &Records) -> Result<(), AllocError> {
+    let mut between = "";
+    for record in records.as_slice() {
+        into.push_str(between)?;
+        push_ascii(into, record.bytes())?;
+        between = ",";
+    }
+    Ok(())
+}
+
+// Adds a file and the number of its letter.
+fn push_file(into: &mut String, file: &[u8], kind: &[u8], letter: u8) -> Result<(), AllocError> {
+    push_ascii(into, file)?;
+    into.push(' ')?;
+    push_ascii(into, kind)?;
+    into.push(' ')?;
+    into.push(char::from(b'0' + letter % 10))
+}
+
+// Adds what it wants.
+fn push_want(alloc: Global, into: &mut String, want: &ExtWant) -> Result<(), AllocError> {
+    match want {
+        ExtWant::Say(lines) => {
+            into.push_str("say ")?;
+            push_lines(into, lines)
+        }
+        ExtWant::Ask => into.push_str("ask"),
+        ExtWant::Get(name, letter) => {
+            into.push_str("get ")?;
+            push_file(into, name.file.as_bytes(), name.kind.as_bytes(), *letter)
+        }
+        ExtWant::Put(name, letter, records) => {
+            into.push_str("put ")?;
+            push_file(into, name.file.as_bytes(), name.kind.as_bytes(), *letter)?;
+            into.push(' ')?;
+            push_records(into, records)
+        }
+        ExtWant::Done(code) => {
+            into.push_str("end ")?;
+            into.push_str(code.to_string(alloc)?.as_str())
+        }
+    }
+}
+
+impl Subject for Edits {
+    fn answer(&self, alloc: Global, case: &str) -> Result<String, AllocError> {
+        let mut editor = Editor::new(alloc);
+        let mut found = String::new(alloc);
+        for step in case.split(";") {
+            let reply = reply_of(alloc, step)?;
+            let want = editor.turn(alloc, &reply)?;
+            if !found.is_empty() {
+                found.push(';')?;
+            }
+            push_want(alloc, &mut found, &want)?;
+        }
+        Ok(found)
+    }
+}
+
+#[test]
+fn edits_have_their_answers(rt: HostRuntime) -> Result<(), Fail> {
+    try_rows(&rt, ROWS)
+}

@@ -1,0 +1,90 @@
+// Where commands go: &SUBCOMMAND, &PRESUME and commands.
+ghost use Rattle.exec2_run.specs.Destinations as spec;
+ghost use Rattle.exec2_run.specs.Faults.{Answers, Does};
+
+use crate::kind::Control;
+use crate::values::{ended, expanded_words, joined, missing, text, whole};
+use crate::words::copied;
+use crate::{Exec, Fault, Want};
+use cms_text::{Word, is_keyword};
+
+/// Where the commands of a procedure go.
+#[derive(Drop)]
+pub enum Destination {
+    Cms,
+    /// To the extension of this word.
+    Extension(Word),
+}
+
+impl Exec {
+    /// A command: its text goes where &PRESUME said last, and at first to CMS.
+    #[tactic(auto, unfolding(crate::specs::Destinations::sent))]
+    pub fn send(&self, words: &[Word]) -> Result<Want, Fault>
+        ensures { Answers (spec.sent self.now words.now) result }
+    {
+        let text = text(self.alloc, &self.seen(), words)?;
+        match &self.destination {
+            Destination::Cms => Ok(Want::Command(text)),
+            Destination::Extension(word) => {
+                let word = Word::of(self.alloc, word.bytes())?;
+                Ok(Want::Sub(word, text))
+            }
+        }
+    }
+
+    /// &SUBCOMMAND, with a word and a text.
+    #[tactic(auto, unfolding(crate::specs::Destinations::subcommanded))]
+    pub fn subcommand(&self, words: &[Word]) -> Result<Want, Fault>
+        ensures { Answers (spec.subcommanded self.now words.now) result }
+    {
+        let operands = expanded_words(self.alloc, &self.seen(), words)?;
+        let [word, others @ ..] = operands.words.as_slice() else {
+            return Err(missing(operands.is_cut));
+        };
+        whole(operands.is_cut)?;
+        let text = joined(self.alloc, &copied(self.alloc, others)?)?;
+        let word = Word::of(self.alloc, word.bytes())?;
+        Ok(Want::Sub(word, text))
+    }
+
+    /// &PRESUME, alone, with &COMMAND, or with &SUBCOMMAND and a word.
+    #[tactic(auto, unfolding(crate::specs::Destinations::presumed))]
+    pub fn presume(&mut self, words: &[Word]) -> Result<Want, Fault>
+        ensures { Does (spec.presumed self.old words.now) self.old self.new result }
+    {
+        self.destination = self.destination_of(words)?;
+        Ok(Want::Next)
+    }
+
+    /// Where &PRESUME with these words sends commands; the first is read as it stands.
+    #[tactic(auto, unfolding(crate::specs::Destinations::destination_of))]
+    fn destination_of(&self, words: &[Word]) -> Result<Destination, Fault>
+        ensures { Answers (spec.destination_of self.now words.now) result }
+    {
+        let [word, others @ ..] = words else {
+            return Ok(Destination::Cms);
+        };
+        if is_keyword(word.bytes(), Control::Command.name()) {
+            self.no_words(others)?;
+            return Ok(Destination::Cms);
+        }
+        if is_keyword(word.bytes(), Control::Subcommand.name()) {
+            return self.extension_named(others);
+        }
+        Err(Fault::BadStatement)
+    }
+
+    /// The extension that these words name, of which there is one.
+    #[tactic(auto, unfolding(crate::specs::Destinations::extension_named))]
+    fn extension_named(&self, words: &[Word]) -> Result<Destination, Fault>
+        ensures { Answers (spec.extension_named self.now words.now) result }
+    {
+        let operands = expanded_words(self.alloc, &self.seen(), words)?;
+        let [word, others @ ..] = operands.words.as_slice() else {
+            return Err(missing(operands.is_cut));
+        };
+        ended(others, operands.is_cut)?;
+        let word = Word::of(self.alloc, word.bytes())?;
+        Ok(Destination::Extension(word))
+    }
+}
