@@ -117,7 +117,7 @@ CMS037E Disk A is read-only
 HELLO
 > END
 R;
-# another form is no edit: 24
+# a line of another form, with code 24
 + EDIT
 > EDIT HELLO
 R(00024);
