@@ -1,0 +1,5 @@
+pub mod Fetches
+pub mod Deals
+pub mod Loads
+pub mod Texts
+mod Examples

@@ -1,0 +1,6 @@
+pub mod Lines
+pub mod Punching
+pub mod Fetching
+pub mod Loading
+pub mod Cards
+pub mod Calls

@@ -1,0 +1,14 @@
+//! PUNCH, READCARD and DISK: files on the decks of a virtual reader.
+#![tactic(auto)]
+
+mod command;
+mod disk;
+mod fetching;
+mod line;
+mod loading;
+mod punching;
+mod reading;
+
+pub use cms_decks::{Card, Deck, Reader, read_deck, write_deck};
+pub use command::{CardCommand, run};
+pub use line::{DiskLine, DiskVerb, PunchLine, ReadTarget, disk_line, punch_line, read_line};

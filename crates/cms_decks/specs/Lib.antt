@@ -1,0 +1,4 @@
+pub mod Headers
+pub mod Stored
+pub mod Dumps
+pub mod Readers
