@@ -21,7 +21,7 @@ use Rattle.exec2_run.specs.declared.exec.Exec.{Exec}
 use Rattle.exec2_run.specs.declared.want.Side.{Side}
 use Rattle.exec2_run.specs.declared.want.Side.TheVariants.{Front, Back}
 use Rattle.exec2_run.specs.declared.want.Want.{Want}
-use Rattle.exec2_run.specs.declared.want.Want.TheVariants.{Next, Say, Stack, Read, Command, Sub, Ended, Faulted}
+use Rattle.exec2_run.specs.declared.want.Want.TheVariants.{Next, Say, Stack, Read, Command, Sub, Ended, Failed}
 use Rattle.cms_ext.specs.Extensions.{Desk, desk}
 use Rattle.cms_ext.specs.Extensions as extension
 use Rattle.cms_rounds.specs.Lines.{Issued, Came, Begins, issued}
@@ -55,12 +55,12 @@ readied s code =
 -- what a call of a procedure leaves of it, and what it wants then; a fault leaves it as it was
 abbrev pub came_to : Exec → Moved → Exec × Want
 came_to p (Ok moved) = moved
-came_to p (Err failure) = (p, Faulted (number_of_fault failure.0) failure.1)
+came_to p (Err failure) = (p, Failed (number_of_fault failure.0) failure.1)
 
 -- it has ended with this code, which is that of its fault behind the message; or it hasn't
 abbrev pub over : Exec → Want → Act (Option ℤ)
 over p (Ended code) = Done (Some code)
-over p (Faulted number line) =
+over p (Failed number line) =
     Out (typed_line (message_text (M085 p.start.name (decimal_of line) (decimal_of number)))) (Done (Some (pos (stopped_code + number))))
 over p Next = Done None
 over p (Say lines) = Done None
@@ -152,7 +152,7 @@ meeting d ps p Read = leaving d.objects (bind (ask d.machine) (given ps p))
 meeting d ps p (Command line) = bind (issued d (length (p ∷ ps)) line) (answered (p ∷ ps))
 meeting d ps p (Sub word text) = bind (sent_line d word text) (answered (p ∷ ps))
 meeting d ps p (Ended code) = leaving d.objects (following d.machine ps (p, Ended code))
-meeting d ps p (Faulted number line) = leaving d.objects (following d.machine ps (p, Faulted number line))
+meeting d ps p (Failed number line) = leaving d.objects (following d.machine ps (p, Failed number line))
 
 abbrev pub met : Desk → List Exec → Exec × Want → Act Passed
 met d ps x = meeting d ps x.0 x.1

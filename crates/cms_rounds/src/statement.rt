@@ -77,7 +77,7 @@ fn over<W: World>(
 {
     match want {
         Want::Ended(code) => Ok(Some(*code)),
-        Want::Faulted { number, line } => {
+        Want::Failed { number, line } => {
             tell_stop(alloc, world, exec, *number, *line)?;
             Ok(Some(code_of(*number)))
         }
@@ -380,13 +380,13 @@ fn meet<W: World>(
         }
         Want::Next => follow(alloc, world, session, procedure, &Want::Next),
         Want::Ended(code) => follow(alloc, world, session, procedure, &Want::Ended(code)),
-        Want::Faulted { number, line } => {
+        Want::Failed { number, line } => {
             follow(
                 alloc,
                 world,
                 session,
                 procedure,
-                &Want::Faulted { number, line },
+                &Want::Failed { number, line },
             )
         }
     }

@@ -1,9 +1,10 @@
 -- The relation of statements and the function that computes it.
 use Rattle.std.proofs.Common.{◌≡◌, ◌∙◌, List, refl, sym, ap, drop}
+use Rattle.std.specs.Prelude.{false}
 use Rattle.cms_text.specs.Texts.{Text}
-use Rattle.exec2_run.specs.Cases.{Runs, RunsAreSteps, StepsAreRuns, nothing, assignment, command, trace, type_, beg_type, stack, beg_stack, end, command_word, subcommand, presume, presumed_command, read_line, args, if_, goto, skip, loop, call, return_, error, exit}
+use Rattle.exec2_run.specs.Cases.{Runs, RunsAreSteps, StepsAreRuns, nothing, assignment, command, trace, type_, beg_type, stack, beg_stack, end, command_word, subcommand, presume, presumed_command, read_line, args, goto, skip, loop, call, return_, error, exit}
 use Rattle.exec2_run.specs.Destinations.{sent, sent_to}
-use Rattle.exec2_run.specs.Kinds.{kind_of}
+use Rattle.exec2_run.specs.Kinds.{guards, kind_of}
 use Rattle.exec2_run.specs.Outputs.{issued}
 use Rattle.exec2_run.specs.State.{Step, still}
 use Rattle.exec2_run.specs.Steps.{run_by, run_control, run_kind}
@@ -49,7 +50,6 @@ runs_are_steps s words m (subcommand is e) = moved s words (kind.Control control
 runs_are_steps s words m (presume is e) = moved s words (kind.Control control.Presume) m is e
 runs_are_steps s words m (read_line is e) = moved s words (kind.Control control.Read) m is e
 runs_are_steps s words m (args is e) = moved s words (kind.Control control.Args) m is e
-runs_are_steps s words m (if_ is e) = moved s words (kind.Control control.If) m is e
 runs_are_steps s words m (goto is g) = moved s words (kind.Control control.Goto) m is (goes_are g)
 runs_are_steps s words m (skip is e) = moved s words (kind.Control control.Skip) m is e
 runs_are_steps s words m (loop is e) = moved s words (kind.Control control.Loop) m is e
@@ -58,39 +58,40 @@ runs_are_steps s words m (return_ is e) = moved s words (kind.Control control.Re
 runs_are_steps s words m (error is e) = moved s words (kind.Control control.Error) m is e
 runs_are_steps s words m (exit is e) = moved s words (kind.Control control.Exit) m is e
 
-by_control : (s : Exec) (words : List Text) (c : Control) → kind_of words ≡ kind.Control c → Runs s words (run_by (kind.Control c) s words)
+by_control : (s : Exec) (words : List Text) (c : Control) → kind_of words ≡ kind.Control c → guards (kind.Control c) ≡ false
+    → Runs s words (run_by (kind.Control c) s words)
 unfolding run_control
-by_control s words control.Trace is = trace is refl
-by_control s words control.Type is = type_ is refl
-by_control s words control.BegType is = beg_type is refl
-by_control s words control.Stack is = stack is refl
-by_control s words control.BegStack is = beg_stack is refl
-by_control s words control.End is = end is refl
-by_control s words control.Command is = command_word is refl
-by_control s words control.Subcommand is = subcommand is refl
-by_control s words control.Presume is = presume is refl
-by_control s words control.Read is = read_line is refl
-by_control s words control.Args is = args is refl
-by_control s words control.If is = if_ is refl
-by_control s words control.Goto is = goto is (goes_of s (drop 1 words))
-by_control s words control.Skip is = skip is refl
-by_control s words control.Loop is = loop is refl
-by_control s words control.Call is = call is (calls_of s (drop 1 words))
-by_control s words control.Return is = return_ is refl
-by_control s words control.Error is = error is refl
-by_control s words control.Exit is = exit is refl
+by_control s words control.Trace is not_if = trace is refl
+by_control s words control.Type is not_if = type_ is refl
+by_control s words control.BegType is not_if = beg_type is refl
+by_control s words control.Stack is not_if = stack is refl
+by_control s words control.BegStack is not_if = beg_stack is refl
+by_control s words control.End is not_if = end is refl
+by_control s words control.Command is not_if = command_word is refl
+by_control s words control.Subcommand is not_if = subcommand is refl
+by_control s words control.Presume is not_if = presume is refl
+by_control s words control.Read is not_if = read_line is refl
+by_control s words control.Args is not_if = args is refl
+by_control s words control.If is not_if = absurd (cc)
+by_control s words control.Goto is not_if = goto is (goes_of s (drop 1 words))
+by_control s words control.Skip is not_if = skip is refl
+by_control s words control.Loop is not_if = loop is refl
+by_control s words control.Call is not_if = call is (calls_of s (drop 1 words))
+by_control s words control.Return is not_if = return_ is refl
+by_control s words control.Error is not_if = error is refl
+by_control s words control.Exit is not_if = exit is refl
 
 as_command : (s : Exec) (words : List Text) (d : Destination) → s.destination ≡ d → kind_of words ≡ kind.Command
     → Runs s words (still s (sent s words))
 as_command s words Cms goes is = command is goes (ap (still s) (to_cms s words goes))
 as_command s words (Extension word) goes is = presumed_command is goes (ap (still s) (to_extension s words word goes))
 
-by_kind : (s : Exec) (words : List Text) (k : Kind) → kind_of words ≡ k → Runs s words (run_by k s words)
-by_kind s words kind.Nothing is = nothing is refl
-by_kind s words kind.Assignment is = assignment is refl
-by_kind s words (kind.Control c) is = by_control s words c is
-by_kind s words kind.Command is = as_command s words s.destination refl is
+by_kind : (s : Exec) (words : List Text) (k : Kind) → kind_of words ≡ k → guards k ≡ false → Runs s words (run_by k s words)
+by_kind s words kind.Nothing is not_if = nothing is refl
+by_kind s words kind.Assignment is not_if = assignment is refl
+by_kind s words (kind.Control c) is not_if = by_control s words c is not_if
+by_kind s words kind.Command is not_if = as_command s words s.destination refl is
 
 pub steps_are_runs : StepsAreRuns
 unfolding run_kind
-steps_are_runs s words = by_kind s words (kind_of words) refl
+steps_are_runs s words not_if = by_kind s words (kind_of words) refl not_if

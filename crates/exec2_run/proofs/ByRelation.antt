@@ -9,12 +9,12 @@ use Rattle.cms_text.specs.Texts.{Text}
 use Rattle.exec2_parse.specs.Expansion.{Binding}
 use Rattle.exec2_run.specs.Comparisons.{test_holds}
 use Rattle.exec2_run.specs.Given.{seen, seen_at}
-use Rattle.exec2_run.specs.Kinds.{is_if}
+use Rattle.exec2_run.specs.Kinds.{is_if, kind_of}
 use Rattle.exec2_run.specs.Loops as looping
 use Rattle.exec2_run.specs.Loops.{begins, begins_by, has, settled_from}
 use Rattle.exec2_run.specs.Readings.{taken_for}
 use Rattle.exec2_run.specs.Relation.{Action, Begins, BeginsThen, some_left, none_left, forever, while, until, until_fault, Settle, Turn, GiveLine, GiveCode, RefuseStack, Executes, Guards, Moved, MovedAreSteps, Moves, Settling, StepsAreMoved, moved, other, short, holds, fails, if_fault, runs, faults, none, again, over, faulty, inside, jumped_out, due, next_line, no_line, test_fault, error_action, next_statement, past_last, for_arguments, for_variables, for_text, for_nothing, good, starts, no_action, in_action, stack_full}
-use Rattle.exec2_run.specs.Steps.{Takes, action_words, at_line, at_next, code_taken, compared, guarded, if_holds, incomplete, is_due, is_running, line_taken, run, run_kind, settled, turned, with_next, words_at}
+use Rattle.exec2_run.specs.Steps.{Takes, action_words, at_line, at_next, code_taken, compared, fault_of_if, guarded, if_holds, incomplete, is_due, is_running, line_taken, run, run_kind, settled, turned, with_next, words_at}
 use Rattle.exec2_run.specs.declared.exec.ErrorAction.TheVariants.{Idle, Due, Running}
 use Rattle.exec2_run.specs.declared.exec.Exec.{Exec}
 use Rattle.exec2_run.specs.declared.fault.Fault.{Fault}
@@ -75,6 +75,24 @@ guards_of names (a ∷ b ∷ c ∷ []) = few names (a ∷ b ∷ c ∷ []) (omega
 guards_of names (a ∷ b ∷ c ∷ d ∷ words) =
     many names a b c d words (guards_of names words) (is_if (a ∷ b ∷ c ∷ d ∷ words)) refl (compared names b c d) refl
 
+same_statement : (words statement : List Text) (m : Result (List Text) Fault) → m ≡ Ok words → m ≡ Ok statement → words ≡ statement
+same_statement words statement m e given = cc
+
+no_statement : (found : Result Fault Fault) (statement : List Text) (m : Result (List Text) Fault)
+    → m ≡ (found >>= (λ fault. Err fault)) → m ≡ Ok statement → ⊥
+no_statement (Ok fault) statement m e given = cc
+no_statement (Err fault) statement m e given = cc
+
+-- what an &IF guards is no &IF
+no_if : {names : Binding} {words : List Text} {m : Result (List Text) Fault} (statement : List Text)
+    → Guards names words m → m ≡ Ok statement → is_if statement ≡ false
+unfolding kind_of
+no_if {words = words} statement (other not_if e) given = subst (λ (kept : List Text). is_if kept ≡ false) (same_statement words statement _ e given) not_if
+no_if {names} {words} statement (short is few e) given = absurd (no_statement (fault_of_if names words) statement _ e given)
+no_if statement (holds is h g) given = no_if statement g given
+no_if statement (fails is h e) given = subst (λ (kept : List Text). is_if kept ≡ false) (same_statement [] statement _ e given) refl
+no_if statement (if_fault is h e) given = let same = sym e ∙ given in absurd (cc)
+
 -- ---- a statement
 
 executes_are : {s : Exec} {words : List Text} {m : Moved} → Executes s words m → m ≡ at_line s.line (run s words)
@@ -84,7 +102,7 @@ executes_are (faults g e) = rw (sym (guards_are g)) e
 
 executed : (s : Exec) (words : List Text) (r : Result (List Text) Fault) → Guards (seen s) words r
     → Executes s words (at_line s.line (r >>= (λ statement. run_kind s statement)))
-executed s words (Ok statement) g = runs g (steps_are_runs s statement) refl
+executed s words (Ok statement) g = runs g (steps_are_runs s statement (no_if statement g refl)) refl
 executed s words (Err fault) g = faults g refl
 
 executes_of : (s : Exec) (words : List Text) → Executes s words (at_line s.line (run s words))

@@ -7,7 +7,7 @@ use Rattle.exec2_run.specs.Calls.{entered, returned}
 use Rattle.exec2_run.specs.Destinations.{presumed, sent_to, subcommanded}
 use Rattle.exec2_run.specs.Given.{seen}
 use Rattle.exec2_run.specs.Jumps.{label_from, skipped}
-use Rattle.exec2_run.specs.Kinds.{kind_of}
+use Rattle.exec2_run.specs.Kinds.{is_if, kind_of}
 use Rattle.exec2_run.specs.Loops.{looped}
 use Rattle.exec2_run.specs.Outputs.{issued, stacked, stacked_block, typed, typed_block}
 use Rattle.exec2_run.specs.Readings.{args_given, read}
@@ -89,7 +89,8 @@ pub data Calls (s : Exec) (words : List Text) (m : Step) : Type 0 where
 
 -- ---- statements
 
--- the statement `words`, which no &IF guards, does the step m in the state s, whose next line is the one behind its own
+-- the statement `words`, which is no &IF, does the step m in the state s, whose next line is the one behind its own; what an &IF comes
+-- to is said by `Guards` (Relation), and no case is here for it
 pub data Runs (s : Exec) (words : List Text) (m : Step) : Type 0 where
   -- no words: nothing
   nothing : kind_of words ≡ kind.Nothing → m ≡ Ok (s, Next) → Runs s words m
@@ -117,8 +118,6 @@ pub data Runs (s : Exec) (words : List Text) (m : Step) : Type 0 where
   read_line : kind_of words ≡ kind.Control control.Read → m ≡ read s (drop 1 words) → Runs s words m
   -- &ARGS words: they become the arguments
   args : kind_of words ≡ kind.Control control.Args → m ≡ args_given s (drop 1 words) → Runs s words m
-  -- an &IF is taken off before the kind is asked
-  if_ : kind_of words ≡ kind.Control control.If → m ≡ Ok (s, Next) → Runs s words m
   -- &GOTO -label
   goto : kind_of words ≡ kind.Control control.Goto → Goes s (drop 1 words) m → Runs s words m
   -- &SKIP [n]
@@ -143,6 +142,6 @@ pub data Runs (s : Exec) (words : List Text) (m : Step) : Type 0 where
 abbrev pub RunsAreSteps : Type 0
 RunsAreSteps = (s : Exec) (words : List Text) (m : Step) → Runs s words m → m ≡ run_kind s words
 
--- the function that runs a statement says what the relation says
+-- the function that runs a statement that is no &IF says what the relation says
 abbrev pub StepsAreRuns : Type 0
-StepsAreRuns = (s : Exec) (words : List Text) → Runs s words (run_kind s words)
+StepsAreRuns = (s : Exec) (words : List Text) → is_if words ≡ false → Runs s words (run_kind s words)

@@ -38,7 +38,7 @@ use Rattle.exec2_run.specs.declared.kind.Kind.{Kind}
 use Rattle.exec2_run.specs.declared.kind.Kind.TheVariants as kind
 use Rattle.exec2_run.specs.declared.reading.Reading.TheVariants as reading
 use Rattle.exec2_run.specs.declared.want.Want.{Want}
-use Rattle.exec2_run.specs.declared.want.Want.TheVariants.{Next, Ended, Faulted}
+use Rattle.exec2_run.specs.declared.want.Want.TheVariants.{Next, Ended, Failed}
 use Rattle.exec2_run.specs.declared.fault.Fault.{Fault}
 use Rattle.exec2_run.specs.declared.fault.Fault.TheVariants.{NotNumber, BadStatement, StackFull}
 
@@ -241,7 +241,7 @@ code_taken s code = record s { code = code; action = action_after s code }
 
 -- the program stack has no room for the lines: fault 13, and the state stays
 abbrev pub refused : Exec → Result (Exec × Want) (Fault × ℕ)
-refused s = Ok (s, Faulted (number_of_fault StackFull) s.line)
+refused s = Ok (s, Failed (number_of_fault StackFull) s.line)
 
 -- ---- the start
 
@@ -270,4 +270,4 @@ begun alloc lines called f = with_arguments (record {
 -- the defined state and want, or the fault and its line, after which the procedure stands as before the call
 abbrev pub Takes : Result (Exec × Want) (Fault × ℕ) → Exec → Exec → Want → Type 0
 Takes (Ok moved) old new want = (new ≡ moved.0) × (want ≡ moved.1)
-Takes (Err failure) old new want = (new ≡ old) × (want ≡ Faulted (number_of_fault failure.0) failure.1)
+Takes (Err failure) old new want = (new ≡ old) × (want ≡ Failed (number_of_fault failure.0) failure.1)

@@ -129,7 +129,7 @@ impl Exec {
     }
 
     /// Finds the next line, and makes the loops' tests that are due at the moment of the last statement. It spends no turn. It answers
-    /// `Next` where a statement is due, `Ended(0)` past the last line, and `Faulted` where a test has a fault. After that, and without
+    /// `Next` where a statement is due, `Ended(0)` past the last line, and `Failed` where a test has a fault. After that, and without
     /// memory, the procedure stands as before.
     #[tactic(auto, unfolding(crate::specs::Steps::settled))]
     pub fn settle(&mut self, moment: &Moment) -> Result<Want, AllocError>
@@ -181,7 +181,7 @@ impl Exec {
         }
     }
 
-    /// Runs one statement at a turn's moment: the error action where it is due, else that of the next line. After `Faulted`, and without
+    /// Runs one statement at a turn's moment: the error action where it is due, else that of the next line. After `Failed`, and without
     /// memory, the procedure stands as before.
     #[tactic(auto, unfolding(crate::specs::Steps::turned))]
     pub fn turn(&mut self, moment: &Moment) -> Result<Want, AllocError>
@@ -221,7 +221,7 @@ impl Exec {
         self.action = place.action;
     }
 
-    /// Takes the line that `Read` asked for. After `Faulted`, and without memory, it is still asked for.
+    /// Takes the line that `Read` asked for. After `Failed`, and without memory, it is still asked for.
     #[tactic(auto, unfolding(crate::specs::Steps::line_taken))]
     pub fn take_line(&mut self, line: &Line) -> Result<Want, AllocError>
         ensures step { IfOk result (λ want. Takes (spec.line_taken self.old line.now) self.old self.new want) }
@@ -261,7 +261,7 @@ impl Exec {
     pub fn refuse_stack(&mut self) -> Want
         ensures { Takes (spec.refused self.old) self.old self.new result }
     {
-        Want::Faulted {
+        Want::Failed {
             number: Fault::StackFull.number(),
             line: self.line,
         }
@@ -489,13 +489,13 @@ fn is_if(words: &[Word]) -> bool
 
 /// What a fault of a line is for the session.
 fn failed(fault: Fault, line: u32) -> Result<Want, AllocError>
-    ensures want { IfOk result (λ want. want ≡ Want.Faulted (number_of_fault fault) line) }
+    ensures want { IfOk result (λ want. want ≡ Want.Failed (number_of_fault fault) line) }
     ensures memory { IfErr result (λ _. fault ≡ Fault.Memory) }
     ensures fault { OnOk result (fault ≢ Fault.Memory) }
 {
     match fault {
         Fault::Memory => Err(AllocError),
-        _ => Ok(Want::Faulted {
+        _ => Ok(Want::Failed {
             number: fault.number(),
             line,
         }),

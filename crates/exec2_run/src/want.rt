@@ -29,5 +29,5 @@ pub enum Want {
     /// The procedure has ended with this code, -9999 to 99999.
     Ended(i32),
     /// The procedure has ended by a fault, 1 to 14, at a line, which counts from 1.
-    Faulted { number: u8, line: u32 },
+    Failed { number: u8, line: u32 },
 }

@@ -118,7 +118,7 @@ fn shown(alloc: Global, want: &Want) -> Result<String, AllocError> {
             format!(in alloc; "sub [{word}] [{text}];")
         }
         Want::Ended(code) => format!(in alloc; "end {code}"),
-        Want::Faulted { number, line } => format!(in alloc; "fail {number} {line}"),
+        Want::Failed { number, line } => format!(in alloc; "fail {number} {line}"),
     }
 }
 
@@ -151,7 +151,7 @@ fn answered(
             exec.take_code(code.parse().unwrap_or(0));
             Ok(Some(Want::Next))
         }
-        Want::Ended(_) | Want::Faulted { .. } => Ok(None),
+        Want::Ended(_) | Want::Failed { .. } => Ok(None),
     }
 }
 

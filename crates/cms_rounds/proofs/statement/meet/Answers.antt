@@ -26,8 +26,8 @@ returns-in-Ended-clause-acts g c =
     let acts = rw same at c.follow-in-Ended.ensures.acts in
     rw is (left _ _ _ _ _ acts)
 
-pub returns-in-Faulted-clause-acts : goal.returns-in-Faulted-clause-acts
-returns-in-Faulted-clause-acts g c = let is = c.in-Faulted.is in rw is (left _ _ _ _ _ c.follow-in-Faulted.ensures.acts)
+pub returns-in-Failed-clause-acts : goal.returns-in-Failed-clause-acts
+returns-in-Failed-clause-acts g c = let is = c.in-Failed.is in rw is (left _ _ _ _ _ c.follow-in-Failed.ensures.acts)
 
 pub returns-in-Sub-clause-acts : goal.returns-in-Sub-clause-acts
 returns-in-Sub-clause-acts g c = let is = c.in-Sub.is in rw is c.subcommand.ensures.acts
