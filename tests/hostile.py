@@ -94,6 +94,8 @@ def command(chosen):
         lambda: f"RENAME {identifier(chosen)} {chosen.choice(NAMES)} {chosen.choice(KINDS)} {chosen.choice('=AB')}",
         lambda: f"COPYFILE {identifier(chosen)} {identifier(chosen)} ({chosen.choice(COPYING)}",
         lambda: f"COPYFILE {identifier(chosen)} = {chosen.choice(KINDS)} = ({chosen.choice(COPYING)}",
+        lambda: f"{chosen.choice(['PUNCH', 'DISK DUMP', 'READCARD'])} {identifier(chosen)}",
+        lambda: f"DISK LOAD {chosen.choice(WORDS)}",
         lambda: f"EXECIO {chosen.choice(NUMBERS)} DISKR {identifier(chosen)} " + chosen.choice(["", "(LIFO", "(STRIP", "(FINIS"]),
         lambda: f"EXECIO {chosen.choice('013')} DISKW {identifier(chosen)} " + chosen.choice(["", "(STRING text", "(STRING &TRACE OFF"]),
         lambda: f"EXEC {chosen.choice(NAMES)} {chosen.choice(NAMES)}",

@@ -1,7 +1,7 @@
 // The cases of each module, and the test that tries them.
 use crate::{
-    climbs, code_page, fields, files, generator, maps, names, operands, pieces, records, trees,
-    words,
+    climbs, code_page, decks, fields, files, generator, maps, names, operands, pieces, records,
+    trees, words,
 };
 use cms_cases::{Subject, try_rows};
 use std::alloc::{AllocError, Global};
@@ -17,6 +17,7 @@ enum Cases {
     Maps,
     Records,
     Pieces,
+    Decks,
     Trees,
     Climbs,
     Words,
@@ -33,6 +34,7 @@ const ROWS: &[(Cases, &str)] = &[
     (Cases::Maps, maps::ROWS),
     (Cases::Records, records::ROWS),
     (Cases::Pieces, pieces::ROWS),
+    (Cases::Decks, decks::ROWS),
     (Cases::Trees, trees::ROWS),
     (Cases::Climbs, climbs::ROWS),
     (Cases::Words, words::ROWS),
@@ -50,6 +52,7 @@ impl Subject for Cases {
             Cases::Maps => maps::answer(alloc, case),
             Cases::Records => records::answer(alloc, case),
             Cases::Pieces => pieces::answer(alloc, case),
+            Cases::Decks => decks::answer(alloc, case),
             Cases::Trees => trees::answer(alloc, case),
             Cases::Climbs => climbs::answer(alloc, case),
             Cases::Words => words::answer(alloc, case),

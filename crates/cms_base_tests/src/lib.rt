@@ -8,6 +8,8 @@ mod climbs;
 #[cfg(test)]
 mod code_page;
 #[cfg(test)]
+mod decks;
+#[cfg(test)]
 mod fields;
 #[cfg(test)]
 mod files;

@@ -60,6 +60,12 @@ command/EXECI => None
 command/EXECIO => Some(Execio)
 command/EX => Some(Exec)
 command/EXECUTE => None
+command/P => None
+command/PU => Some(Punch)
+command/REA => None
+command/READC => Some(Readcard)
+command/DIS => None
+command/DISK => Some(Disk)
 command/ => None
 name or all/* => Ok(None)
 name or all/= => Err(BadName(1))

@@ -1,5 +1,5 @@
 -- Commands on cards: what they come to, with the decks that they leave.
-use Rattle.std.proofs.Common.{◌≡◌, ◌+◌, ◌<◌, ◌≤◌, ◌∙◌, ℕ, ℤ, zero, suc, pos, negsuc, Bool, false, List, [], ◌∷◌, ◌++◌, Result, Ok, Err, refl, sym, ap, subst}
+use Rattle.std.proofs.Common.{◌≡◌, ◌∙◌, ℕ, zero, suc, pos, negsuc, Bool, false, List, [], ◌∷◌, ◌++◌, Result, Ok, Err, refl, sym, ap, subst}
 use Rattle.cms_names.specs.declared.name.Name.{Name}
 use Rattle.cms_model.specs.Minidisks.{File}
 use Rattle.cms_model.specs.Records.{IsValid}
@@ -14,7 +14,7 @@ use Rattle.cms_operands.specs.declared.choosing.CommandFault.TheVariants as line
 use Rattle.cms_operands.specs.declared.refusal.Refusal.{Refusal}
 use Rattle.cms_records.specs.Stored.{records_in}
 use Rattle.cms_records.proofs.Reading.{records_are}
-use Rattle.cms_search.specs.Calls.{Acts, Meaning, Spot, course_of, holds, machine_of, refusal_tree, spot_at}
+use Rattle.cms_search.specs.Calls.{Acts, Meaning, Spot, course_of, machine_of, refusal_tree, spot_at}
 use Rattle.cms_search.specs.LineRefused.{RefusesLine}
 use Rattle.cms_search.specs.Machine.{Course, Machine}
 use Rattle.cms_search.specs.declared.state.Course as declared

@@ -1,5 +1,5 @@
 -- A file that is found and read whole.
-use Rattle.std.proofs.Common.{◌≡◌, ◌+◌, ◌<◌, ◌≤◌, ◌∙◌, inl, inr, ⊎_elim, ℕ, ℤ, List, [], ◌∷◌, Option, Some, None, Result, Ok, Err, true, false, arith, pos, length, slice_get, slice_index_or, refl, sym, ap, subst}
+use Rattle.std.proofs.Common.{◌≡◌, ◌∙◌, inl, inr, ⊎_elim, ℕ, ℤ, List, [], ◌∷◌, Option, Some, None, Result, Ok, Err, true, false, arith, pos, length, slice_get, slice_index_or, refl, sym, ap, subst}
 use Rattle.std.specs.Prelude.{◌⊎◌, ◌&&◌, Bool, if◌then◌else◌, IfErr, IfOk, IfSome, nat_lt}
 use Rattle.std.specs.Option.{option_map}
 use Rattle.cms_journal.specs.Causes.{Counted, Rose}

@@ -1,6 +1,6 @@
 -- A file that is written from the first deck.
 use Rattle.std.proofs.Common.{◌≡◌, ◌∙◌, ◌+◌, ◌-◌, ◌<◌, ◌≤◌, ◌++◌, get_or, length, take, true, false, Bool, ℕ, List, [], ◌∷◌, map, pos, Option, Some, None, Result, Ok, Err, refl, sym, ap, subst, arith}
-use Rattle.std.specs.Prelude.{◌==◌, ◌&&◌, ⊤, IfOk, IfSome, cond, nat_le}
+use Rattle.std.specs.Prelude.{◌==◌, ◌&&◌, IfOk, IfSome, cond, nat_le}
 use Rattle.std.specs.Option.{ok_or, option_map}
 use Rattle.std.specs.declared.alloc.AllocError.{AllocError}
 use Rattle.std.proofs.lemmas.List.{map-append, take_more}
@@ -12,7 +12,7 @@ use Rattle.cms_names.specs.declared.name.Name.{Name}
 use Rattle.cms_fields.specs.Moments.{stamp_of}
 use Rattle.cms_fields.specs.Steps.{◌>>=◌, ◌>>◌}
 use Rattle.cms_fields.specs.declared.time.Stamp.{Stamp}
-use Rattle.cms_model.specs.Changes.{Change, Put}
+use Rattle.cms_model.specs.Changes.{Put}
 use Rattle.cms_model.specs.Minidisks.{File}
 use Rattle.cms_model.specs.declared.file.FileData.{FileData}
 use Rattle.cms_machine.specs.Acts.{Act, saying, typed_line}
@@ -22,7 +22,6 @@ use Rattle.cms_line.specs.declared.message.Message.TheVariants.{M124, M125}
 use Rattle.cms_line.specs.declared.token.Token.{Token}
 use Rattle.cms_operands.specs.Choices.{chosen_of}
 use Rattle.cms_operands.specs.Operands.{ended, operands_of, or_refused, writing_mode, writing_of}
-use Rattle.cms_operands.specs.declared.choosing.ChosenOption.{ChosenOption}
 use Rattle.cms_operands.specs.declared.operand.WriteMode.{WriteMode}
 use Rattle.cms_operands.specs.declared.refusal.Refusal.{Refusal}
 use Rattle.cms_operands.specs.declared.refusal.Refusal.TheVariants.{BadMode}

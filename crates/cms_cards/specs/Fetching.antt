@@ -1,5 +1,5 @@
 -- A file that is found and read whole, so that it can be punched.
-use Rattle.std.specs.Prelude.{ℕ, pos, ◌&&◌, Bool, nat_lt, if◌then◌else◌, List, length, Result, Ok, Err}
+use Rattle.std.specs.Prelude.{ℕ, ◌&&◌, Bool, nat_lt, if◌then◌else◌, List, length, Result, Ok, Err}
 use Rattle.cms_names.specs.declared.name.Name.{Name}
 use Rattle.cms_text.specs.Numbers.{decimal_of}
 use Rattle.cms_model.specs.Minidisks.{File}
@@ -12,7 +12,6 @@ use Rattle.cms_search.specs.Refusing.{device_fault}
 use Rattle.cms_search.specs.Releasing.{vdev_of}
 use Rattle.cms_search.specs.Stepping.{reading, silently}
 use Rattle.cms_search.specs.declared.fault.SearchFault.{SearchFault}
-use Rattle.cms_search.specs.declared.search.Found.{Found}
 use Rattle.cms_files.specs.Files.{UnitFile, file_found, file_on, search_refused}
 use Rattle.cms_files.specs.declared.identifier.FileInput.{FileInput}
 use Rattle.cms_cards.specs.Punching.{card_size}

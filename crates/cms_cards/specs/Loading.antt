@@ -1,5 +1,5 @@
 -- A file that is written from the first deck of the reader.
-use Rattle.std.specs.Prelude.{ℕ, List, [], map, unwrap_or, Option, Some, None, Result, Ok, Err}
+use Rattle.std.specs.Prelude.{ℕ, List, map, unwrap_or, Option, Some, None, Result, Ok, Err}
 use Rattle.cms_names.specs.declared.name.Format.TheVariants.{F}
 use Rattle.cms_names.specs.declared.name.Name.{Name}
 use Rattle.cms_fields.specs.Moments.{stamp_of}
@@ -10,7 +10,7 @@ use Rattle.cms_line.specs.declared.message.Message.TheVariants.{M124, M125}
 use Rattle.cms_line.specs.declared.token.Token.{Token}
 use Rattle.cms_operands.specs.declared.operand.WriteMode.{WriteMode}
 use Rattle.cms_search.specs.Machine.{Course, Machine, letter_at, refusal}
-use Rattle.cms_search.specs.Searches.{Shelf, shelves_in}
+use Rattle.cms_search.specs.Searches.{shelves_in}
 use Rattle.cms_search.specs.declared.fault.SearchFault.{SearchFault}
 use Rattle.cms_files.specs.Files.{UnitFile, file_on, no_file_code, on_found, writable}
 use Rattle.cms_files.specs.Updating.{last_update}

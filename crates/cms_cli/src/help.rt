@@ -29,6 +29,8 @@ output, and behind each command its ready line: R; or, with a return code, R(000
 
   ACCESS v m       gives the volume of device v the letter m; with m/p, as an extension of p
   COPYFILE fn ft fm fn ft fm   copies files record by record, as they are or changed by options
+  DISK DUMP fn ft fm   dumps a file onto a deck of cards; DISK LOAD m writes the file of the
+                   first deck
   EDIT fn ft m     reads a file into the line editor, an extension; EDIT alone reads its subcommands
                    from the next lines, up to END
   ERASE fn ft fm   erases files; when its ready line is typed they are gone for good
@@ -39,8 +41,10 @@ output, and behind each command its ready line: R; or, with a return code, R(000
                    with (LABEL it asks for another label alone
   LISTFILE fn ft fm   lists files, by patterns as A%C*
   NUCXDROP word    drops the extension of a word; NUCXMAP types the words
+  PUNCH fn ft fm   punches the records of a file onto a deck of cards
   QUERY DISK       shows the accessed disks and their room, with a letter that disk alone
   QUERY SEARCH     shows how disks are searched
+  READCARD fn ft fm   writes the cards of the first deck as a file
   RELEASE disk     gives up a disk, by its letter or its device
   RENAME fn ft fm fn ft fm   gives files other names or mode numbers
   STATE fn ft fm   says whether a file is there

@@ -4,7 +4,7 @@ use Rattle.std.specs.Option.{option_map}
 use Rattle.cms_line.specs.Options.{is_named}
 use Rattle.cms_text.specs.Texts.{coded}
 use Rattle.cms_commands.specs.declared.spelling.CommandName.{CommandName}
-use Rattle.cms_commands.specs.declared.spelling.CommandName.TheVariants.{Access, Release, Format, Query, Listfile, Copyfile, Rename, Erase, TypeFile, State, Execio, Exec, Nucxdrop, Nucxmap}
+use Rattle.cms_commands.specs.declared.spelling.CommandName.TheVariants.{Access, Release, Format, Query, Listfile, Copyfile, Rename, Erase, TypeFile, State, Execio, Exec, Nucxdrop, Nucxmap, Punch, Readcard, Disk}
 use Rattle.cms_commands.specs.declared.spelling.Spelling.{Spelling}
 
 -- a command is named by each beginning of its word that is long enough
@@ -27,7 +27,10 @@ spellings =
     ∷ spelled (codes "EXECIO  ") 6 Execio
     ∷ spelled (codes "EXEC    ") 2 Exec
     ∷ spelled (codes "NUCXDROP") 8 Nucxdrop
-    ∷ spelled (codes "NUCXMAP ") 7 Nucxmap ∷ []
+    ∷ spelled (codes "NUCXMAP ") 7 Nucxmap
+    ∷ spelled (codes "PUNCH   ") 2 Punch
+    ∷ spelled (codes "READCARD") 4 Readcard
+    ∷ spelled (codes "DISK    ") 4 Disk ∷ []
 
 -- the command of the first spelling that a word is
 abbrev pub first_named : List ℕ → List Spelling → Option CommandName

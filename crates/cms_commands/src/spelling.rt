@@ -22,6 +22,9 @@ pub enum CommandName {
     Exec,
     Nucxdrop,
     Nucxmap,
+    Punch,
+    Readcard,
+    Disk,
 }
 
 /// A command with its word and the length of the word's shortest spelling.
@@ -45,7 +48,7 @@ fn spelled(word: &[u8; 8], least: u8, command: CommandName) -> Spelling
 }
 
 #[tactic(auto, unfolding(crate::specs::Spellings::spellings))]
-fn spellings() -> [Spelling; 14]
+fn spellings() -> [Spelling; 17]
     ensures { result ≡ spec.spellings }
 {
     [
@@ -63,6 +66,9 @@ fn spellings() -> [Spelling; 14]
         spelled(b"EXEC    ", 2, CommandName::Exec),
         spelled(b"NUCXDROP", 8, CommandName::Nucxdrop),
         spelled(b"NUCXMAP ", 7, CommandName::Nucxmap),
+        spelled(b"PUNCH   ", 2, CommandName::Punch),
+        spelled(b"READCARD", 4, CommandName::Readcard),
+        spelled(b"DISK    ", 4, CommandName::Disk),
     ]
 }
 

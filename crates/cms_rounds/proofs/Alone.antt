@@ -1,5 +1,5 @@
 -- A call that knows of no object, in a session that has some.
-use Rattle.std.proofs.Common.{◌≡◌, List, Result, Ok, Err, refl, ap}
+use Rattle.std.proofs.Common.{◌≡◌, List, Result, Ok, Err, refl, ap, subst, sym}
 use Rattle.cms_machine.specs.Acts.{Act, Done, bind}
 use Rattle.cms_machine.specs.Objects.{Object}
 use Rattle.cms_machine.specs.Slots.{Slot}
@@ -10,7 +10,9 @@ use Rattle.cms_search.specs.declared.state.State.{State}
 use Rattle.cms_world.specs.Seen.{Seen}
 use Rattle.cms_search.proofs.Acts.{acts_done, acts_stop, comes_in, comes_same, comes_then}
 use Rattle.exec2_run.specs.declared.exec.Exec.{Exec}
-use Rattle.cms_rounds.specs.Calls.{passed_with, round_with}
+use Rattle.cms_cards.specs.Punching.{Decks}
+use Rattle.cms_rounds.specs.Calls.{passed_beside, passed_with, round_with}
+use Rattle.cms_rounds.specs.Decks.{leaving_decks}
 use Rattle.cms_rounds.specs.Procedures.{Round, leaving, passed}
 use Rattle.cms_rounds.specs.declared.state.Round as rounds
 
@@ -59,3 +61,24 @@ pub left : {os : List Object} (old new : SpotWith os) (t : List Slot → Act Rou
 left {os = os} old new t (Ok x) qs acts = leaves_so old new t (passed os) x (round_with new.state qs) x (passed_with new.state qs os) acts (λ units. refl)
 left {os = os} old new t (Err e) qs acts =
     leaves_off {T = rounds.Round} {U = rounds.Round} old new t (passed os) e (round_with new.state qs) (passed_with new.state qs os) acts
+
+-- ---- beside the decks
+
+abbrev with_decks : {A : Type 0} → Decks → A → Act (A × Decks)
+with_decks decks x = Done (x, decks)
+
+-- what knows of none leaves them
+pub decked : {A T : Type 0} {a b : List Object} (old : SpotWith a) (new : SpotWith b) (decks : Decks) (t : List Slot → Act A) (r : Result T End) (d : Meaning T A)
+    → Acts old new t r d → Acts old new (λ units. leaving_decks decks (t units)) r (λ units x. (d units x, decks))
+decked {A = A} old new decks t (Ok x) d a =
+    acts_done old new (λ units. leaving_decks decks (t units)) x (λ units y. (d units y, decks))
+    (comes_in old new t (λ (y : A). with_decks decks y) x d a)
+decked {A = A} old new decks t (Err e) d a =
+    acts_stop old new t (λ (y : A). with_decks decks y) e d (λ units y. (d units y, decks)) a
+
+-- the round of what procedures do by themselves
+pub left_decked : {os : List Object} (old new : SpotWith os) (decks kept : Decks) (t : List Slot → Act Round) (r : Result rounds.Round End) (qs : List Exec) → kept ≡ decks
+    → Acts (alone old) (alone new) t r (round_with new.state qs) → Acts old new (λ units. leaving_decks decks (leaving os (t units))) r (passed_beside new.state kept qs os)
+left_decked {os = os} old new decks kept t r qs same acts =
+    subst (λ (ds : Decks). Acts old new (λ units. leaving_decks decks (leaving os (t units))) r (passed_beside new.state ds qs os)) (sym same)
+    (decked old new decks (λ units. leaving os (t units)) r (passed_with new.state qs os) (left old new t r qs acts))

@@ -27,10 +27,11 @@ use Rattle.cms_world.specs.Seen.{Seen}
 use Rattle.cms_ext.specs.Calls.{desk_of}
 use Rattle.cms_ext.specs.Extensions.{desk}
 use Rattle.exec2_run.specs.declared.exec.Exec.{Exec}
+use Rattle.cms_cards.specs.Punching.{Decks}
 use Rattle.cms_rounds.specs.Rounds.{line_round, on_turn, on_taken, round, run_item}
 use Rattle.cms_rounds.specs.Procedures.{Passed, Round, Ready, ended, readied, statement}
 use Rattle.cms_search.specs.Turns.{machine_now, turning_tree}
-use Rattle.cms_rounds.specs.Calls.{item_in, passed_with, taking_tree, round_with}
+use Rattle.cms_rounds.specs.Calls.{item_in, passed_beside, taking_tree, round_with}
 use Rattle.cms_rounds.specs.declared.round.Taken.{Taken}
 use Rattle.cms_rounds.specs.declared.round.Taken.TheVariants as given
 use Rattle.cms_rounds.specs.declared.state.Round as rounds
@@ -105,37 +106,37 @@ done_here old t x m is = acts_done old old t x m (comes_same old t (λ units. Do
 -- ---- a round of a line
 
 -- in a session with objects, which are left
-module _ (os : List Object) where
+module _ (os : List Object) (decks : Decks) where
   abbrev pub HasTaken : SpotWith os → SpotWith os → Option Taken → Type 0
   HasTaken old mid item = Acts (alone old) (alone mid) (taking_tree old.state) (Ok item) (beside mid.state (option_map item_in))
 
-  abbrev pub line_round_on : State → List Exec → List Slot → Act Passed
-  line_round_on s ps units = line_round (desk_of s os units) ps
+  abbrev pub line_round_on : State → List Exec → List Slot → Act (Passed × Decks)
+  line_round_on s ps units = line_round (desk_of s os units) decks ps
 
   pub take_stops : (old new : SpotWith os) (ps qs : List Exec) (e : End)
       → Acts {T = Option Taken} (alone old) (alone new) (taking_tree old.state) (Err e) (beside new.state (option_map item_in))
-      → Acts {T = rounds.Round} old new (line_round_on old.state ps) (Err e) (passed_with new.state qs os)
+      → Acts {T = rounds.Round} old new (line_round_on old.state ps) (Err e) (passed_beside new.state decks qs os)
   take_stops old new ps qs e a =
-      acts_stop old new (taking_tree old.state) (on_taken os ps) e (beside {T = Option Taken} new.state (option_map item_in)) (passed_with new.state qs os)
+      acts_stop old new (taking_tree old.state) (on_taken os decks ps) e (beside {T = Option Taken} new.state (option_map item_in)) (passed_beside new.state decks qs os)
       (acts_alone {T = Option Taken} old new (taking_tree old.state) (Err e) (beside new.state (option_map item_in)) a)
 
   -- what follows, with the machine that is left
-  abbrev taken_tree : State → List Exec → Option Taken → List Slot → Act Passed
-  taken_tree s ps item units = on_taken os ps (machine_of s units, option_map item_in item)
+  abbrev taken_tree : State → List Exec → Option Taken → List Slot → Act (Passed × Decks)
+  taken_tree s ps item units = on_taken os decks ps (machine_of s units, option_map item_in item)
 
   was_taken : (old mid : SpotWith os) (ps : List Exec) (item : Option Taken) → HasTaken old mid item
       → Comes old mid (line_round_on old.state ps) (taken_tree mid.state ps item)
   was_taken old mid ps item a =
-      comes_in old mid (taking_tree old.state) (on_taken os ps) item (beside mid.state (option_map item_in))
+      comes_in old mid (taking_tree old.state) (on_taken os decks ps) item (beside mid.state (option_map item_in))
       (acts_alone old mid (taking_tree old.state) (Ok item) (beside mid.state (option_map item_in)) a)
 
   pub finished_so : (old new : SpotWith os) (ps qs : List Exec) → HasTaken old new None
-      → Acts old new (line_round_on old.state ps) (Ok (end.Ended finish.AtEnd)) (passed_with new.state qs os)
+      → Acts old new (line_round_on old.state ps) (Ok (end.Ended finish.AtEnd)) (passed_beside new.state decks qs os)
   finished_so old new ps qs a =
-      acts_done old new (line_round_on old.state ps) (end.Ended finish.AtEnd) (passed_with new.state qs os) (was_taken old new ps None a)
+      acts_done old new (line_round_on old.state ps) (end.Ended finish.AtEnd) (passed_beside new.state decks qs os) (was_taken old new ps None a)
 
-  abbrev turn_tree : State → List Exec → Item → ℕ → List Slot → Act Passed
-  turn_tree s ps item left units = on_turn (desk_of s os units) ps item left
+  abbrev turn_tree : State → List Exec → Item → ℕ → List Slot → Act (Passed × Decks)
+  turn_tree s ps item left units = on_turn (desk_of s os units) decks ps item left
 
   -- with so many turns left
   taken_with : (old mid : SpotWith os) (ps : List Exec) (item : Taken) (n : ℕ) → HasTaken old mid (Some item) → mid.state.left ≡ n
@@ -144,31 +145,31 @@ module _ (os : List Object) where
       subst (λ (k : ℕ). Comes old mid (line_round_on old.state ps) (turn_tree mid.state ps (item_in item) k)) left (was_taken old mid ps (Some item) a)
 
   pub no_turns : (old new : SpotWith os) (ps qs : List Exec) (item : Taken) → HasTaken old new (Some item) → new.state.left ≡ 0
-      → Acts old new (line_round_on old.state ps) (Ok (end.Ended finish.AtTurns)) (passed_with new.state qs os)
+      → Acts old new (line_round_on old.state ps) (Ok (end.Ended finish.AtTurns)) (passed_beside new.state decks qs os)
   no_turns old new ps qs item a none =
-      acts_done old new (line_round_on old.state ps) (end.Ended finish.AtTurns) (passed_with new.state qs os) (taken_with old new ps item 0 a none)
+      acts_done old new (line_round_on old.state ps) (end.Ended finish.AtTurns) (passed_beside new.state decks qs os) (taken_with old new ps item 0 a none)
 
-  abbrev then_item : List Exec → Item → Machine → Act Passed
-  then_item ps item m = run_item (desk m os) ps item
+  abbrev then_item : List Exec → Item → Machine → Act (Passed × Decks)
+  then_item ps item m = run_item (desk m os) decks ps item
 
-  abbrev pub item_on : State → List Exec → Item → List Slot → Act Passed
-  item_on s ps item units = run_item (desk_of s os units) ps item
+  abbrev pub item_on : State → List Exec → Item → List Slot → Act (Passed × Decks)
+  item_on s ps item units = run_item (desk_of s os units) decks ps item
 
   pub turn_stops : (old mid new : SpotWith os) (ps qs : List Exec) (n : ℕ) (item : Taken) (e : End) → HasTaken old mid (Some item) → mid.state.left ≡ suc n
       → Acts {T = Unit {0}} (alone mid) (alone new) (turning_tree mid.state n) (Err e) (machine_now new.state)
-      → Acts {T = rounds.Round} old new (line_round_on old.state ps) (Err e) (passed_with new.state qs os)
+      → Acts {T = rounds.Round} old new (line_round_on old.state ps) (Err e) (passed_beside new.state decks qs os)
   turn_stops old mid new ps qs n item e taken some a =
-      acts_after old mid new (line_round_on old.state ps) (turn_tree mid.state ps (item_in item) (suc n)) (Err e) (passed_with new.state qs os)
+      acts_after old mid new (line_round_on old.state ps) (turn_tree mid.state ps (item_in item) (suc n)) (Err e) (passed_beside new.state decks qs os)
       (taken_with old mid ps item (suc n) taken some)
-      (acts_stop mid new (turning_tree mid.state n) (then_item ps (item_in item)) e (machine_now {T = Unit {0}} new.state) (passed_with new.state qs os)
+      (acts_stop mid new (turning_tree mid.state n) (then_item ps (item_in item)) e (machine_now {T = Unit {0}} new.state) (passed_beside new.state decks qs os)
       (acts_alone {T = Unit {0}} mid new (turning_tree mid.state n) (Err e) (machine_now new.state) a))
 
   -- what it asks for was done
-  pub item_done : (b : List Object) (old mid begun : SpotWith os) (new : SpotWith b) (ps qs : List Exec) (n : ℕ) (item : Taken) (x : Unit {0}) (r : Result rounds.Round End)
+  pub item_done : (b : List Object) (kept : Decks) (old mid begun : SpotWith os) (new : SpotWith b) (ps qs : List Exec) (n : ℕ) (item : Taken) (x : Unit {0}) (r : Result rounds.Round End)
       → HasTaken old mid (Some item) → mid.state.left ≡ suc n → Acts (alone mid) (alone begun) (turning_tree mid.state n) (Ok x) (machine_now begun.state)
-      → Acts begun new (item_on begun.state ps (item_in item)) r (passed_with new.state qs b) → Acts old new (line_round_on old.state ps) r (passed_with new.state qs b)
-  item_done b old mid begun new ps qs n item x r taken some turn a =
-      acts_after old begun new (line_round_on old.state ps) (item_on begun.state ps (item_in item)) r (passed_with new.state qs b)
+      → Acts begun new (item_on begun.state ps (item_in item)) r (passed_beside new.state kept qs b) → Acts old new (line_round_on old.state ps) r (passed_beside new.state kept qs b)
+  item_done b kept old mid begun new ps qs n item x r taken some turn a =
+      acts_after old begun new (line_round_on old.state ps) (item_on begun.state ps (item_in item)) r (passed_beside new.state kept qs b)
       (comes_then old mid begun (line_round_on old.state ps) (turn_tree mid.state ps (item_in item) (suc n)) (item_on begun.state ps (item_in item))
       (taken_with old mid ps item (suc n) taken some)
       (comes_in mid begun (turning_tree mid.state n) (then_item ps (item_in item)) x (machine_now begun.state)
@@ -201,17 +202,20 @@ refused_stop old new ps qs message e does same =
 
 -- ---- a round
 
-abbrev pub round_on : State → List Object → List Exec → List Slot → Act Passed
-round_on s os ps units = round (desk_of s os units) ps
+abbrev pub round_on : State → List Object → Decks → List Exec → List Slot → Act (Passed × Decks)
+round_on s os decks ps units = round (desk_of s os units) decks ps
 
 -- a procedure runs
-pub round_some : (a b : List Object) (old : SpotWith a) (new : SpotWith b) (ps rest qs : List Exec) (p : Exec) (r : Result rounds.Round End) → ps ≡ p ∷ rest
-    → Acts old new (λ units. statement (desk_of old.state a units) rest p) r (passed_with new.state qs b) → Acts old new (round_on old.state a ps) r (passed_with new.state qs b)
-round_some a b old new ps rest qs p r is acts = subst (λ (l : List Exec). Acts old new (round_on old.state a l) r (passed_with new.state qs b)) (sym is) acts
+pub round_some : (a b : List Object) (decks kept : Decks) (old : SpotWith a) (new : SpotWith b) (ps rest qs : List Exec) (p : Exec) (r : Result rounds.Round End) → ps ≡ p ∷ rest
+    → Acts old new (λ units. statement (desk_of old.state a units) decks rest p) r (passed_beside new.state kept qs b)
+    → Acts old new (round_on old.state a decks ps) r (passed_beside new.state kept qs b)
+round_some a b decks kept old new ps rest qs p r is acts =
+    subst (λ (l : List Exec). Acts old new (round_on old.state a decks l) r (passed_beside new.state kept qs b)) (sym is) acts
 
 -- or none
-pub round_none : (a b : List Object) (old : SpotWith a) (new : SpotWith b) (ps rest qs : List Exec) (r : Result rounds.Round End) → ps ≡ [] → rest ≡ []
-    → Acts old new (line_round_on a old.state rest) r (passed_with new.state qs b) → Acts old new (round_on old.state a ps) r (passed_with new.state qs b)
-round_none a b old new ps rest qs r none none' acts =
-    subst (λ (l : List Exec). Acts old new (round_on old.state a l) r (passed_with new.state qs b)) (sym none)
-    (subst (λ (l : List Exec). Acts old new (line_round_on a old.state l) r (passed_with new.state qs b)) none' acts)
+pub round_none : (a b : List Object) (decks kept : Decks) (old : SpotWith a) (new : SpotWith b) (ps rest qs : List Exec) (r : Result rounds.Round End) → ps ≡ [] → rest ≡ []
+    → Acts old new (line_round_on a decks old.state rest) r (passed_beside new.state kept qs b)
+    → Acts old new (round_on old.state a decks ps) r (passed_beside new.state kept qs b)
+round_none a b decks kept old new ps rest qs r none none' acts =
+    subst (λ (l : List Exec). Acts old new (round_on old.state a decks l) r (passed_beside new.state kept qs b)) (sym none)
+    (subst (λ (l : List Exec). Acts old new (line_round_on a decks old.state l) r (passed_beside new.state kept qs b)) none' acts)

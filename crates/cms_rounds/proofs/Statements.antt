@@ -32,18 +32,20 @@ use Rattle.exec2_run.specs.declared.exec.Exec.{Exec}
 use Rattle.exec2_run.specs.declared.want.Side.{Side}
 use Rattle.exec2_run.specs.declared.want.Want.{Want}
 use Rattle.exec2_run.proofs.Places.{from_place}
+use Rattle.cms_cards.specs.Punching.{Decks}
 use Rattle.cms_rounds.specs.Commands.{is_comment}
+use Rattle.cms_rounds.specs.Decks.{leaving_decks}
 use Rattle.cms_rounds.specs.Lines.{Issued, issued}
 use Rattle.cms_rounds.specs.Rounds.{run_line}
-use Rattle.cms_rounds.specs.Procedures.{Passed, Round, Ends, Ready, answered, came_to, end_of, finding, following, given, giving, going_on, idle, leaving, meeting, met, over, readied, settled, stacking_for, statement, statement_with, stepped, unless_over}
+use Rattle.cms_rounds.specs.Procedures.{Passed, Round, Ends, Ready, answered, answered_beside, came_to, end_of, finding, following, given, giving, going_on, idle, leaving, meeting, met, over, readied, settled, stacking_for, statement, statement_with, stepped, unless_over}
 use Rattle.cms_search.specs.Turns.{machine_now, turning_tree}
-use Rattle.cms_rounds.specs.Calls.{answering, issued_of, passed_with, round_with, take_up_tree}
+use Rattle.cms_rounds.specs.Calls.{answering, issued_beside, issued_of, passed_beside, passed_with, round_with, take_up_tree}
 use Rattle.cms_rounds.specs.declared.issuing.Issued as declared_issued
 use Rattle.cms_rounds.specs.declared.issuing.Issued.TheVariants as issue
 use Rattle.cms_rounds.specs.declared.state.Round as rounds
 use Rattle.cms_rounds.specs.declared.state.Round.TheVariants as end
 use Rattle.cms_rounds.specs.declared.state.Finish.TheVariants as finish
-use Rattle.cms_rounds.proofs.Alone.{acts_alone, alone, left}
+use Rattle.cms_rounds.proofs.Alone.{acts_alone, alone, decked, left}
 use Rattle.cms_rounds.proofs.Rounds.{done_here, ready_on}
 
 -- ---- calls of a procedure, and of the console
@@ -373,133 +375,143 @@ module _ (old mid : Spot) (ps : List Exec) (p : Exec) where
 
 -- ---- what a line comes to
 
-abbrev pub issuing_on : State → List Object → ℕ → List ℕ → List Slot → Act Issued
-issuing_on s os running line units = issued (desk_of s os units) running line
+abbrev pub issuing_on : State → List Object → Decks → ℕ → List ℕ → List Slot → Act (Issued × Decks)
+issuing_on s os decks running line units = issued (desk_of s os units) decks running line
 
-answered_beside : (s : State) (os : List Object) (ps : List Exec) (x : declared_issued.Issued) (units : List Slot)
+answered_so : (s : State) (os : List Object) (ps : List Exec) (x : declared_issued.Issued) (units : List Slot)
     → answered ps (issued_of s os units x) ≡ leaving os (answering s ps x units)
-answered_beside s os ps (issue.Came (course.Went code)) units = refl
-answered_beside s os ps (issue.Came course.OutOfTurns) units = refl
-answered_beside s os ps (issue.Begun p) units = refl
+answered_so s os ps (issue.Came (course.Went code)) units = refl
+answered_so s os ps (issue.Came course.OutOfTurns) units = refl
+answered_so s os ps (issue.Begun p) units = refl
 
--- with the tree of what it comes to
-module _ (a b : List Object) (old : SpotWith a) (mid : SpotWith b) (ps : List Exec) (tree : List Slot → Act Issued) where
-  pub issue_off : (e : End) (qs : List Exec) → Acts {T = declared_issued.Issued} old mid tree (Err e) (issued_of mid.state b)
-      → Acts {T = rounds.Round} old mid (λ units. bind (tree units) (answered ps)) (Err e) (passed_with mid.state qs b)
-  issue_off e qs acts = acts_stop old mid tree (answered ps) e (issued_of mid.state b) (passed_with mid.state qs b) acts
+-- with the tree of what it comes to, which leaves these decks
+module _ (a b : List Object) (kept : Decks) (old : SpotWith a) (mid : SpotWith b) (ps : List Exec) (tree : List Slot → Act (Issued × Decks)) where
+  pub issue_off : (e : End) (qs : List Exec) → Acts {T = declared_issued.Issued} old mid tree (Err e) (issued_beside mid.state b kept)
+      → Acts {T = rounds.Round} old mid (λ units. bind (tree units) (answered_beside ps)) (Err e) (passed_beside mid.state kept qs b)
+  issue_off e qs acts = acts_stop old mid tree (answered_beside ps) e (issued_beside mid.state b kept) (passed_beside mid.state kept qs b) acts
 
-  pub issue_answered : (new : SpotWith b) (x : declared_issued.Issued) (r : Result rounds.Round End) (qs : List Exec) → Acts old mid tree (Ok x) (issued_of mid.state b)
+  pub issue_answered : (new : SpotWith b) (x : declared_issued.Issued) (r : Result rounds.Round End) (qs : List Exec) (left_decks : Decks)
+      → Acts old mid tree (Ok x) (issued_beside mid.state b kept) → left_decks ≡ kept
       → Acts (alone mid) (alone new) (answering mid.state ps x) r (round_with new.state qs)
-      → Acts old new (λ units. bind (tree units) (answered ps)) r (passed_with new.state qs b)
-  issue_answered new x r qs acts next =
-      acts_after old mid new (λ units. bind (tree units) (answered ps)) (λ units. answered ps (issued_of mid.state b units x)) r (passed_with new.state qs b)
-      (comes_in old mid tree (answered ps) x (issued_of mid.state b) acts)
-      (acts_same mid new (λ units. answered ps (issued_of mid.state b units x)) (λ units. leaving b (answering mid.state ps x units)) r
-      (passed_with new.state qs b) (λ units h. answered_beside mid.state b ps x units)
-      (left mid new (answering mid.state ps x) r qs next))
+      → Acts old new (λ units. bind (tree units) (answered_beside ps)) r (passed_beside new.state left_decks qs b)
+  issue_answered new x r qs left_decks acts same next =
+      let tail : List Slot → Act Passed = λ units. leaving b (answering mid.state ps x units) in
+      subst (λ (ds : Decks). Acts old new (λ units. bind (tree units) (answered_beside ps)) r (passed_beside new.state ds qs b)) (sym same)
+      (acts_after old mid new (λ units. bind (tree units) (answered_beside ps)) (λ units. answered_beside ps (issued_beside mid.state b kept units x)) r
+      (passed_beside new.state kept qs b)
+      (comes_in old mid tree (answered_beside ps) x (issued_beside mid.state b kept) acts)
+      (acts_same mid new (λ units. answered_beside ps (issued_beside mid.state b kept units x)) (λ units. leaving_decks kept (tail units)) r
+      (passed_beside new.state kept qs b) (λ units h. ap (leaving_decks kept) (answered_so mid.state b ps x units))
+      (decked mid new kept tail r (passed_with new.state qs b) (left mid new (answering mid.state ps x) r qs next))))
 
-abbrev issuing_for : State → List Object → List Exec → Exec → List ℕ → List Slot → Act Passed
-issuing_for s os ps p text units = bind (issued (desk_of s os units) (length (p ∷ ps)) text) (answered (p ∷ ps))
+abbrev issuing_for : State → List Object → Decks → List Exec → Exec → List ℕ → List Slot → Act (Passed × Decks)
+issuing_for s os decks ps p text units = bind (issued (desk_of s os units) decks (length (p ∷ ps)) text) (answered_beside (p ∷ ps))
 
 -- a line that the newest procedure issues, once it is back among the others
-pub issues_off : (a b : List Object) (old : SpotWith a) (mid : SpotWith b) (ps rest : List Exec) (p : Exec) (text : List ℕ) (running : ℕ) (e : End) (qs : List Exec)
-    → rest ≡ p ∷ ps → running ≡ length rest → Acts {T = declared_issued.Issued} old mid (issuing_on old.state a running text) (Err e) (issued_of mid.state b)
-    → Acts {T = rounds.Round} old mid (issuing_for old.state a ps p text) (Err e) (passed_with mid.state qs b)
-issues_off a b old mid ps rest p text running e qs is many acts =
-    issue_off a b old mid (p ∷ ps) (issuing_on old.state a (length (p ∷ ps)) text) e qs
-    (subst (λ (n : ℕ). Acts {T = declared_issued.Issued} old mid (issuing_on old.state a n text) (Err e) (issued_of mid.state b))
+pub issues_off : (a b : List Object) (decks kept : Decks) (old : SpotWith a) (mid : SpotWith b) (ps rest : List Exec) (p : Exec) (text : List ℕ) (running : ℕ) (e : End)
+    (qs : List Exec) → rest ≡ p ∷ ps → running ≡ length rest
+    → Acts {T = declared_issued.Issued} old mid (issuing_on old.state a decks running text) (Err e) (issued_beside mid.state b kept)
+    → Acts {T = rounds.Round} old mid (issuing_for old.state a decks ps p text) (Err e) (passed_beside mid.state kept qs b)
+issues_off a b decks kept old mid ps rest p text running e qs is many acts =
+    issue_off a b kept old mid (p ∷ ps) (issuing_on old.state a decks (length (p ∷ ps)) text) e qs
+    (subst (λ (n : ℕ). Acts {T = declared_issued.Issued} old mid (issuing_on old.state a decks n text) (Err e) (issued_beside mid.state b kept))
     (many ∙ ap (λ (l : List Exec). length l) is) acts)
 
-pub issues_so : (a b : List Object) (old : SpotWith a) (mid new : SpotWith b) (ps rest qs : List Exec) (p : Exec) (text : List ℕ) (running : ℕ) (x : declared_issued.Issued)
-    (r : Result rounds.Round End) → rest ≡ p ∷ ps → running ≡ length rest → Acts old mid (issuing_on old.state a running text) (Ok x) (issued_of mid.state b)
+pub issues_so : (a b : List Object) (decks kept left_decks : Decks) (old : SpotWith a) (mid new : SpotWith b) (ps rest qs : List Exec) (p : Exec) (text : List ℕ) (running : ℕ)
+    (x : declared_issued.Issued) (r : Result rounds.Round End) → rest ≡ p ∷ ps → running ≡ length rest
+    → Acts old mid (issuing_on old.state a decks running text) (Ok x) (issued_beside mid.state b kept) → left_decks ≡ kept
     → Acts (alone mid) (alone new) (answering mid.state rest x) r (round_with new.state qs)
-    → Acts old new (issuing_for old.state a ps p text) r (passed_with new.state qs b)
-issues_so a b old mid new ps rest qs p text running x r is many acts next =
-    issue_answered a b old mid (p ∷ ps) (issuing_on old.state a (length (p ∷ ps)) text) new x r qs
-    (subst (λ (n : ℕ). Acts old mid (issuing_on old.state a n text) (Ok x) (issued_of mid.state b)) (many ∙ ap (λ (l : List Exec). length l) is) acts)
+    → Acts old new (issuing_for old.state a decks ps p text) r (passed_beside new.state left_decks qs b)
+issues_so a b decks kept left_decks old mid new ps rest qs p text running x r is many acts same next =
+    issue_answered a b kept old mid (p ∷ ps) (issuing_on old.state a decks (length (p ∷ ps)) text) new x r qs left_decks
+    (subst (λ (n : ℕ). Acts old mid (issuing_on old.state a decks n text) (Ok x) (issued_beside mid.state b kept)) (many ∙ ap (λ (l : List Exec). length l) is) acts)
+    same
     (subst (λ (l : List Exec). Acts (alone mid) (alone new) (answering mid.state l x) r (round_with new.state qs)) is next)
 
 -- ---- a statement
 
-abbrev pub statement_on : State → List Object → List Exec → Exec → List Slot → Act Passed
-statement_on s os ps p units = statement (desk_of s os units) ps p
+abbrev pub statement_on : State → List Object → Decks → List Exec → Exec → List Slot → Act (Passed × Decks)
+statement_on s os decks ps p units = statement (desk_of s os units) decks ps p
 
-abbrev with_turns : State → List Object → List Exec → Exec → ℕ → List Slot → Act Passed
-with_turns s os ps p n units = statement_with (desk_of s os units) ps p n
+abbrev with_turns : State → List Object → Decks → List Exec → Exec → ℕ → List Slot → Act (Passed × Decks)
+with_turns s os decks ps p n units = statement_with (desk_of s os units) decks ps p n
 
-abbrev pub meeting_on : State → List Object → List Exec → Exec → Want → List Slot → Act Passed
-meeting_on s os ps p want units = meeting (desk_of s os units) ps p want
+abbrev pub meeting_on : State → List Object → Decks → List Exec → Exec → Want → List Slot → Act (Passed × Decks)
+meeting_on s os decks ps p want units = meeting (desk_of s os units) decks ps p want
 
-abbrev then_stepped : List Object → List Exec → Exec → Machine → Act Passed
-then_stepped os ps p m = stepped (desk m os) ps p
+abbrev then_stepped : List Object → Decks → List Exec → Exec → Machine → Act (Passed × Decks)
+then_stepped os decks ps p m = stepped (desk m os) decks ps p
 
-abbrev stepped_on : State → List Object → List Exec → Exec → List Slot → Act Passed
-stepped_on s os ps p units = stepped (desk_of s os units) ps p
+abbrev stepped_on : State → List Object → Decks → List Exec → Exec → List Slot → Act (Passed × Decks)
+stepped_on s os decks ps p units = stepped (desk_of s os units) decks ps p
 
-module _ (os : List Object) (old : SpotWith os) (ps : List Exec) (p : Exec) where
-  has_turns : (n : ℕ) → old.state.left ≡ n → Comes old old (statement_on old.state os ps p) (with_turns old.state os ps p n)
+module _ (os : List Object) (decks : Decks) (old : SpotWith os) (ps : List Exec) (p : Exec) where
+  has_turns : (n : ℕ) → old.state.left ≡ n → Comes old old (statement_on old.state os decks ps p) (with_turns old.state os decks ps p n)
   has_turns n left =
-      subst (λ (k : ℕ). Comes old old (statement_on old.state os ps p) (with_turns old.state os ps p k)) left (comes_none old (statement_on old.state os ps p))
+      subst (λ (k : ℕ). Comes old old (statement_on old.state os decks ps p) (with_turns old.state os decks ps p k)) left (comes_none old (statement_on old.state os decks ps p))
 
   pub no_turn_left : (qs : List Exec) → old.state.left ≡ 0
-      → Acts old old (statement_on old.state os ps p) (Ok (end.Ended finish.AtTurns)) (passed_with old.state qs os)
+      → Acts old old (statement_on old.state os decks ps p) (Ok (end.Ended finish.AtTurns)) (passed_beside old.state decks qs os)
   no_turn_left qs none =
-      acts_done old old (statement_on old.state os ps p) (end.Ended finish.AtTurns) (passed_with old.state qs os) (has_turns 0 none)
+      acts_done old old (statement_on old.state os decks ps p) (end.Ended finish.AtTurns) (passed_beside old.state decks qs os) (has_turns 0 none)
 
   pub statement_off : (new : SpotWith os) (n : ℕ) (e : End) (qs : List Exec) → old.state.left ≡ suc n
       → Acts {T = Unit {0}} (alone old) (alone new) (turning_tree old.state n) (Err e) (machine_now new.state)
-      → Acts {T = rounds.Round} old new (statement_on old.state os ps p) (Err e) (passed_with new.state qs os)
+      → Acts {T = rounds.Round} old new (statement_on old.state os decks ps p) (Err e) (passed_beside new.state decks qs os)
   statement_off new n e qs some a =
-      acts_after old old new (statement_on old.state os ps p) (with_turns old.state os ps p (suc n)) (Err e) (passed_with new.state qs os) (has_turns (suc n) some)
-      (acts_stop old new (turning_tree old.state n) (then_stepped os ps p) e (machine_now {T = Unit {0}} new.state) (passed_with new.state qs os)
+      acts_after old old new (statement_on old.state os decks ps p) (with_turns old.state os decks ps p (suc n)) (Err e) (passed_beside new.state decks qs os) (has_turns (suc n) some)
+      (acts_stop old new (turning_tree old.state n) (then_stepped os decks ps p) e (machine_now {T = Unit {0}} new.state) (passed_beside new.state decks qs os)
       (acts_alone {T = Unit {0}} old new (turning_tree old.state n) (Err e) (machine_now new.state) a))
 
   turn_spent : (mid : SpotWith os) (n : ℕ) (x : Unit {0}) → old.state.left ≡ suc n
       → Acts (alone old) (alone mid) (turning_tree old.state n) (Ok x) (machine_now mid.state)
-      → Comes old mid (statement_on old.state os ps p) (stepped_on mid.state os ps p)
+      → Comes old mid (statement_on old.state os decks ps p) (stepped_on mid.state os decks ps p)
   turn_spent mid n x some a =
-      comes_then old old mid (statement_on old.state os ps p) (with_turns old.state os ps p (suc n)) (stepped_on mid.state os ps p) (has_turns (suc n) some)
-      (comes_in old mid (turning_tree old.state n) (then_stepped os ps p) x (machine_now mid.state)
+      comes_then old old mid (statement_on old.state os decks ps p) (with_turns old.state os decks ps p (suc n)) (stepped_on mid.state os decks ps p) (has_turns (suc n) some)
+      (comes_in old mid (turning_tree old.state n) (then_stepped os decks ps p) x (machine_now mid.state)
       (acts_alone old mid (turning_tree old.state n) (Ok x) (machine_now mid.state) a))
 
   pub statement_no_memory : (mid : SpotWith os) (n : ℕ) (x : Unit {0}) (qs : List Exec) → old.state.left ≡ suc n
       → Acts (alone old) (alone mid) (turning_tree old.state n) (Ok x) (machine_now mid.state)
-      → Acts {T = rounds.Round} old mid (statement_on old.state os ps p) (Err Memory) (passed_with mid.state qs os)
+      → Acts {T = rounds.Round} old mid (statement_on old.state os decks ps p) (Err Memory) (passed_beside mid.state decks qs os)
   statement_no_memory mid n x qs some a =
-      no_memory old mid (statement_on old.state os ps p) (stepped_on mid.state os ps p) (passed_with mid.state qs os) (turn_spent mid n x some a)
+      no_memory old mid (statement_on old.state os decks ps p) (stepped_on mid.state os decks ps p) (passed_beside mid.state decks qs os) (turn_spent mid n x some a)
 
-  pub statement_so : (b : List Object) (mid : SpotWith os) (new : SpotWith b) (n : ℕ) (x : Unit {0}) (q : Exec) (want : Want) (r : Result rounds.Round End) (qs : List Exec)
+  pub statement_so : (b : List Object) (kept : Decks) (mid : SpotWith os) (new : SpotWith b) (n : ℕ) (x : Unit {0}) (q : Exec) (want : Want) (r : Result rounds.Round End) (qs : List Exec)
       → old.state.left ≡ suc n → Acts (alone old) (alone mid) (turning_tree old.state n) (Ok x) (machine_now mid.state) → Takes (exec.turned mid.state.moment p) p q want
-      → Acts mid new (meeting_on mid.state os ps q want) r (passed_with new.state qs b) → Acts old new (statement_on old.state os ps p) r (passed_with new.state qs b)
-  statement_so b mid new n x q want r qs some a t acts =
+      → Acts mid new (meeting_on mid.state os decks ps q want) r (passed_beside new.state kept qs b) → Acts old new (statement_on old.state os decks ps p) r (passed_beside new.state kept qs b)
+  statement_so b kept mid new n x q want r qs some a t acts =
       let m : Moved = exec.turned mid.state.moment p in
-      acts_after old mid new (statement_on old.state os ps p) (stepped_on mid.state os ps p) r (passed_with new.state qs b) (turn_spent mid n x some a)
-      (subst (λ (y : Exec × Want). Acts mid new (λ units. met (desk_of mid.state os units) ps y) r (passed_with new.state qs b)) (sym (called_so p q want m t)) acts)
+      acts_after old mid new (statement_on old.state os decks ps p) (stepped_on mid.state os decks ps p) r (passed_beside new.state kept qs b) (turn_spent mid n x some a)
+      (subst (λ (y : Exec × Want). Acts mid new (λ units. met (desk_of mid.state os units) decks ps y) r (passed_beside new.state kept qs b)) (sym (called_so p q want m t)) acts)
 
 -- ---- a line of CMS
 
-abbrev pub line_on : State → List Object → List Exec → List ℕ → List Slot → Act Passed
-line_on s os ps text units = run_line (desk_of s os units) ps text
+abbrev pub line_on : State → List Object → Decks → List Exec → List ℕ → List Slot → Act (Passed × Decks)
+line_on s os decks ps text units = run_line (desk_of s os units) decks ps text
 
-pub comment_so : (os : List Object) (old : SpotWith os) (ps : List Exec) (text : List ℕ) → is_comment text ≡ true
-    → Acts old old (line_on old.state os ps text) (Ok end.Ready) (passed_with old.state ps os)
-comment_so os old ps text is = done_here old (line_on old.state os ps text) end.Ready (passed_with old.state ps os) (λ units h. rw is refl)
+pub comment_so : (os : List Object) (decks : Decks) (old : SpotWith os) (ps : List Exec) (text : List ℕ) → is_comment text ≡ true
+    → Acts old old (line_on old.state os decks ps text) (Ok end.Ready) (passed_beside old.state decks ps os)
+comment_so os decks old ps text is =
+    done_here old (line_on old.state os decks ps text) end.Ready (passed_beside old.state decks ps os) (λ units h. rw is refl)
 
-abbrev taken_up_on : State → List Object → List Exec → List ℕ → List Slot → Act Passed
-taken_up_on s os ps text units = bind (take_up_tree s os (length ps) text units) (answered ps)
+abbrev taken_up_on : State → List Object → Decks → List Exec → List ℕ → List Slot → Act (Passed × Decks)
+taken_up_on s os decks ps text units = bind (take_up_tree s os decks (length ps) text units) (answered_beside ps)
 
-module _ (a b : List Object) (old : SpotWith a) (ps : List Exec) (text : List ℕ) (other : is_comment text ≡ false) where
+module _ (a b : List Object) (decks kept : Decks) (old : SpotWith a) (ps : List Exec) (text : List ℕ) (other : is_comment text ≡ false) where
   pub line_off : (new : SpotWith b) (e : End) (qs : List Exec)
-      → Acts {T = declared_issued.Issued} old new (take_up_tree old.state a (length ps) text) (Err e) (issued_of new.state b)
-      → Acts {T = rounds.Round} old new (line_on old.state a ps text) (Err e) (passed_with new.state qs b)
+      → Acts {T = declared_issued.Issued} old new (take_up_tree old.state a decks (length ps) text) (Err e) (issued_beside new.state b kept)
+      → Acts {T = rounds.Round} old new (line_on old.state a decks ps text) (Err e) (passed_beside new.state kept qs b)
   line_off new e qs acts =
-      acts_same old new (line_on old.state a ps text) (taken_up_on old.state a ps text) (Err e) (passed_with new.state qs b) (λ units h. rw other refl)
-      (issue_off a b old new ps (take_up_tree old.state a (length ps) text) e qs acts)
+      acts_same old new (line_on old.state a decks ps text) (taken_up_on old.state a decks ps text) (Err e) (passed_beside new.state kept qs b)
+      (λ units h. rw other refl)
+      (issue_off a b kept old new ps (take_up_tree old.state a decks (length ps) text) e qs acts)
 
-  pub line_so : (mid new : SpotWith b) (x : declared_issued.Issued) (r : Result rounds.Round End) (qs : List Exec)
-      → Acts old mid (take_up_tree old.state a (length ps) text) (Ok x) (issued_of mid.state b)
+  pub line_so : (mid new : SpotWith b) (x : declared_issued.Issued) (r : Result rounds.Round End) (qs : List Exec) (left_decks : Decks)
+      → Acts old mid (take_up_tree old.state a decks (length ps) text) (Ok x) (issued_beside mid.state b kept) → left_decks ≡ kept
       → Acts (alone mid) (alone new) (answering mid.state ps x) r (round_with new.state qs)
-      → Acts old new (line_on old.state a ps text) r (passed_with new.state qs b)
-  line_so mid new x r qs acts next =
-      acts_same old new (line_on old.state a ps text) (taken_up_on old.state a ps text) r (passed_with new.state qs b) (λ units h. rw other refl)
-      (issue_answered a b old mid ps (take_up_tree old.state a (length ps) text) new x r qs acts next)
+      → Acts old new (line_on old.state a decks ps text) r (passed_beside new.state left_decks qs b)
+  line_so mid new x r qs left_decks acts same next =
+      acts_same old new (line_on old.state a decks ps text) (taken_up_on old.state a decks ps text) r (passed_beside new.state left_decks qs b)
+      (λ units h. rw other refl)
+      (issue_answered a b kept old mid ps (take_up_tree old.state a decks (length ps) text) new x r qs left_decks acts same next)

@@ -19,6 +19,8 @@ use Rattle.cms_exec.specs.declared.started.Started.TheVariants as call
 use Rattle.exec2_run.specs.declared.exec.Exec.{Exec}
 use Rattle.exec2_run.specs.declared.want.Side.{Side}
 use Rattle.exec2_run.specs.declared.want.Want.{Want}
+use Rattle.cms_cards.specs.Punching.{Decks}
+use Rattle.cms_rounds.specs.Decks.{leaving_decks}
 use Rattle.cms_rounds.specs.Lines.{Issued, Came, Begins, issued, obeyed, requested, run_command, taken_up}
 use Rattle.cms_rounds.specs.Nucleus.{nucxdrop, nucxmap}
 use Rattle.cms_rounds.specs.Procedures as spec
@@ -33,13 +35,16 @@ use Rattle.cms_rounds.specs.declared.round.Taken.TheVariants as given
 use Rattle.cms_rounds.specs.declared.state.Round as declared_round
 use Rattle.cms_rounds.specs.declared.state.Round.TheVariants as end
 use Rattle.cms_rounds.specs.declared.state.Session as declared_session
-use Rattle.cms_rounds.specs.declared.state.Finish.{Finish}
 
 -- ---- the session of the program, as the machine's
 
 -- the procedures that run, the newest first
 abbrev pub procedures_of : declared_session.Session → List Exec
 procedures_of s = s.procedures
+
+-- the decks of its reader, the first punched first
+abbrev pub decks_of : declared_session.Session → Decks
+decks_of s = s.reader
 
 abbrev pub session_of : declared_session.Session → List Slot → Session
 session_of s units = record { machine = machine_of s.state units; procedures = procedures_of s }
@@ -55,17 +60,17 @@ nucxdrop_tree s objects words units = nucxdrop (desk_of s objects units) words
 abbrev pub nucxmap_tree : State → List (List ℕ) → List Token → List Slot → Act Course
 nucxmap_tree s under words units = nucxmap (machine_of s units) under words
 
-abbrev pub request_tree : State → List Object → ℕ → List ℕ → List Token → List Slot → Act Issued
-request_tree s objects running line words units = requested (desk_of s objects units) running line words
+abbrev pub request_tree : State → List Object → Decks → ℕ → List ℕ → List Token → List Slot → Act (Issued × Decks)
+request_tree s objects decks running line words units = requested (desk_of s objects units) decks running line words
 
-abbrev pub obey_tree : State → List Object → ℕ → List ℕ → List Token → List Slot → Act Issued
-obey_tree s objects running line words units = obeyed (desk_of s objects units) running line words
+abbrev pub obey_tree : State → List Object → Decks → ℕ → List ℕ → List Token → List Slot → Act (Issued × Decks)
+obey_tree s objects decks running line words units = obeyed (desk_of s objects units) decks running line words
 
-abbrev pub issue_tree : State → List Object → ℕ → List ℕ → List Slot → Act Issued
-issue_tree s objects running line units = issued (desk_of s objects units) running line
+abbrev pub issue_tree : State → List Object → Decks → ℕ → List ℕ → List Slot → Act (Issued × Decks)
+issue_tree s objects decks running line units = issued (desk_of s objects units) decks running line
 
-abbrev pub take_up_tree : State → List Object → ℕ → List ℕ → List Slot → Act Issued
-take_up_tree s objects running line units = taken_up (desk_of s objects units) running line (tokens_of line)
+abbrev pub take_up_tree : State → List Object → Decks → ℕ → List ℕ → List Slot → Act (Issued × Decks)
+take_up_tree s objects decks running line units = taken_up (desk_of s objects units) decks running line (tokens_of line)
 
 abbrev pub send_tree : State → List Object → List ℕ → List ℕ → List Slot → Act Ended
 send_tree s objects word text units = sent (desk_of s objects units) word text
@@ -94,34 +99,37 @@ stack_tree s p lines side units = spec.stacking_for (machine_of s.state units) (
 abbrev pub read_tree : declared_session.Session → Exec → List Slot → Act Round
 read_tree s p units = bind (ask (machine_of s.state units)) (spec.given (procedures_of s) p)
 
-abbrev pub issued_tree : declared_session.Session → List Object → Exec → List ℕ → List Slot → Act Passed
+abbrev pub issued_tree : declared_session.Session → List Object → Exec → List ℕ → List Slot → Act (Passed × Decks)
 issued_tree s objects p line units =
-    bind (issued (desk_of s.state objects units) (length (p ∷ (procedures_of s))) line) (spec.answered (p ∷ (procedures_of s)))
+    bind (issued (desk_of s.state objects units) (decks_of s) (length (p ∷ (procedures_of s))) line)
+    (spec.answered_beside (p ∷ (procedures_of s)))
 
-abbrev pub sent_tree : declared_session.Session → List Object → Exec → List ℕ → List ℕ → List Slot → Act Passed
-sent_tree s objects p word text units = bind (sent_line (desk_of s.state objects units) word text) (spec.answered (p ∷ (procedures_of s)))
+abbrev pub sent_tree : declared_session.Session → List Object → Exec → List ℕ → List ℕ → List Slot → Act (Passed × Decks)
+sent_tree s objects p word text units =
+    bind (leaving_decks (decks_of s) (sent_line (desk_of s.state objects units) word text))
+    (spec.answered_beside (p ∷ (procedures_of s)))
 
-abbrev pub meet_tree : declared_session.Session → List Object → Exec → Want → List Slot → Act Passed
-meet_tree s objects p want units = spec.meeting (desk_of s.state objects units) (procedures_of s) p want
+abbrev pub meet_tree : declared_session.Session → List Object → Exec → Want → List Slot → Act (Passed × Decks)
+meet_tree s objects p want units = spec.meeting (desk_of s.state objects units) (decks_of s) (procedures_of s) p want
 
-abbrev pub statement_tree : declared_session.Session → List Object → Exec → List Slot → Act Passed
-statement_tree s objects p units = spec.statement (desk_of s.state objects units) (procedures_of s) p
+abbrev pub statement_tree : declared_session.Session → List Object → Exec → List Slot → Act (Passed × Decks)
+statement_tree s objects p units = spec.statement (desk_of s.state objects units) (decks_of s) (procedures_of s) p
 
 -- a line is refused
 abbrev pub refused_tree : declared_session.Session → Message → List Slot → Act Round
 refused_tree s message units = bind (refusal (machine_of s.state units) message bad_line) (spec.ended (procedures_of s))
 
-abbrev pub line_tree : declared_session.Session → List Object → List ℕ → List Slot → Act Passed
-line_tree s objects line units = run_line (desk_of s.state objects units) (procedures_of s) line
+abbrev pub line_tree : declared_session.Session → List Object → List ℕ → List Slot → Act (Passed × Decks)
+line_tree s objects line units = run_line (desk_of s.state objects units) (decks_of s) (procedures_of s) line
 
-abbrev pub item_tree : declared_session.Session → List Object → Item → List Slot → Act Passed
-item_tree s objects item units = run_item (desk_of s.state objects units) (procedures_of s) item
+abbrev pub item_tree : declared_session.Session → List Object → Item → List Slot → Act (Passed × Decks)
+item_tree s objects item units = run_item (desk_of s.state objects units) (decks_of s) (procedures_of s) item
 
-abbrev pub line_round_tree : declared_session.Session → List Object → List Slot → Act Passed
-line_round_tree s objects units = line_round (desk_of s.state objects units) (procedures_of s)
+abbrev pub line_round_tree : declared_session.Session → List Object → List Slot → Act (Passed × Decks)
+line_round_tree s objects units = line_round (desk_of s.state objects units) (decks_of s) (procedures_of s)
 
-abbrev pub round_tree : declared_session.Session → List Object → List Slot → Act Passed
-round_tree s objects units = round (desk_of s.state objects units) (procedures_of s)
+abbrev pub round_tree : declared_session.Session → List Object → List Slot → Act (Passed × Decks)
+round_tree s objects units = round (desk_of s.state objects units) (decks_of s) (procedures_of s)
 
 -- the item that was taken
 abbrev pub item_in : Taken → Item
@@ -145,6 +153,10 @@ issued_started (call.Refused course) = line.Came course
 abbrev pub issued_of : State → List Object → Meaning declared.Issued Issued
 issued_of s objects units (line.Came course) = Came (ended_of s objects units course)
 issued_of s objects units (line.Begun exec) = Begins (desk_of s objects units) exec
+
+-- the same beside the decks that are left
+abbrev pub issued_beside : State → List Object → Decks → Meaning declared.Issued (Issued × Decks)
+issued_beside s objects decks units x = (issued_of s objects units x, decks)
 
 -- what follows what a line came to, which asks and drops no object
 abbrev pub answering : State → List Exec → declared.Issued → List Slot → Act Round
@@ -171,5 +183,9 @@ round_of s units r = round_with s.state (procedures_of s) units r
 abbrev pub passed_with : State → List Exec → List Object → Meaning declared_round.Round Passed
 passed_with s ps objects units r = passed objects (round_with s ps units r)
 
-abbrev pub passed_of : declared_session.Session → List Object → Meaning declared_round.Round Passed
-passed_of s objects units r = passed_with s.state (procedures_of s) objects units r
+-- the same beside the decks that are left
+abbrev pub passed_beside : State → Decks → List Exec → List Object → Meaning declared_round.Round (Passed × Decks)
+passed_beside s decks ps objects units r = (passed_with s ps objects units r, decks)
+
+abbrev pub passed_of : declared_session.Session → List Object → Meaning declared_round.Round (Passed × Decks)
+passed_of s objects units r = passed_beside s.state (decks_of s) (procedures_of s) objects units r

@@ -6,7 +6,8 @@ use Rattle.cms_commands.specs.declared.spelling.CommandName.{CommandName}
 use Rattle.cms_commands.specs.declared.spelling.CommandName.TheVariants as named
 use Rattle.cms_rounds.specs.declared.command.Command.TheVariants.{Access, Release, Format, Query, Listfile, Rename, Erase, TypeFile, State, Copyfile, Execio, Unknown}
 use Rattle.cms_rounds.specs.declared.command.Request.{Request}
-use Rattle.cms_rounds.specs.declared.command.Request.TheVariants.{Exec, Nucxdrop, Nucxmap, Command}
+use Rattle.cms_rounds.specs.declared.command.Request.TheVariants.{Exec, Nucxdrop, Nucxmap, Cards, Command}
+use Rattle.cms_cards.specs.declared.command.CardCommand.TheVariants.{Punch, Readcard, Disk}
 
 -- a line of blanks, or one that begins with an asterisk
 unfoldable pub is_comment : List ℕ → Bool
@@ -29,6 +30,9 @@ request_by (Some named.Copyfile) = Command Copyfile
 request_by (Some named.Execio) = Command Execio
 request_by (Some named.Nucxdrop) = Nucxdrop
 request_by (Some named.Nucxmap) = Nucxmap
+request_by (Some named.Punch) = Cards Punch
+request_by (Some named.Readcard) = Cards Readcard
+request_by (Some named.Disk) = Cards Disk
 request_by None = Command Unknown
 
 -- what a line with this first word asks for

@@ -1,3 +1,4 @@
+pub mod Decks
 pub mod Commands
 pub mod Nucleus
 pub mod Lines

@@ -16,6 +16,8 @@ use Rattle.cms_access.specs.Access.{access}
 use Rattle.cms_access.specs.Format.{format}
 use Rattle.cms_access.specs.Query.{query}
 use Rattle.cms_access.specs.Release.{release}
+use Rattle.cms_cards.specs.Cards.{Dealt, cards}
+use Rattle.cms_cards.specs.Punching.{Decks}
 use Rattle.cms_copyfile.specs.Copyfile.{copyfile}
 use Rattle.cms_fileops.specs.Erase.{erase}
 use Rattle.cms_fileops.specs.Rename.{rename}
@@ -30,6 +32,7 @@ use Rattle.cms_ext.specs.Objects.{place_of, words_of}
 use Rattle.exec2_run.specs.declared.exec.Exec.{Exec}
 use Rattle.exec2_run.specs.declared.exec.FileName.{FileName}
 use Rattle.cms_rounds.specs.Commands.{is_comment, request_of}
+use Rattle.cms_rounds.specs.Decks.{leaving_decks}
 use Rattle.cms_rounds.specs.Nucleus.{ended_with, nucxdrop, nucxmap}
 use Rattle.cms_rounds.specs.declared.command.Command.{Command}
 use Rattle.cms_rounds.specs.declared.command.Command.TheVariants as command
@@ -68,6 +71,10 @@ pub data Issued : Type 0 where
 abbrev pub nothing_done : Desk → Act Issued
 nothing_done d = Done (Came (Went d (pos 0)))
 
+-- a command on cards has ended, which leaves the objects and has left these decks
+abbrev pub dealt_with : List Object → Dealt → Act (Issued × Decks)
+dealt_with objects x = Done (Came (ended_with objects x.course), x.decks)
+
 -- what asks or drops objects has ended
 abbrev pub came : Ended → Act Issued
 came ended = Done (Came ended)
@@ -85,16 +92,20 @@ started objects (IsRefused c) = came_with objects c
 abbrev pub memory : Global
 memory = record { memory = record { seal = tt } }
 
--- what a line with these words asks for, where so many procedures run
-abbrev pub request : Desk → ℕ → List ℕ → List Token → List ℕ → Request → Act Issued
-request d running line words word ask.Exec = bind (exec_command memory running d.machine line words) (started d.objects)
-request d running line words word ask.Nucxdrop = bind (nucxdrop d words) came
-request d running line words word ask.Nucxmap = bind (nucxmap d.machine (words_of d.objects) words) (came_with d.objects)
-request d running line words word (ask.Command command) = bind (run_command d.machine line words word command) (came_with d.objects)
+-- what a line with these words asks for, where so many procedures run; all but the commands on cards leave the decks
+abbrev pub request : Desk → Decks → ℕ → List ℕ → List Token → List ℕ → Request → Act (Issued × Decks)
+request d decks running line words word ask.Exec =
+    leaving_decks decks (bind (exec_command memory running d.machine line words) (started d.objects))
+request d decks running line words word ask.Nucxdrop = leaving_decks decks (bind (nucxdrop d words) came)
+request d decks running line words word ask.Nucxmap =
+    leaving_decks decks (bind (nucxmap d.machine (words_of d.objects) words) (came_with d.objects))
+request d decks running line words word (ask.Cards command) = bind (cards d.machine decks words command) (dealt_with d.objects)
+request d decks running line words word (ask.Command command) =
+    leaving_decks decks (bind (run_command d.machine line words word command) (came_with d.objects))
 
-abbrev pub requested : Desk → ℕ → List ℕ → List Token → Act Issued
-requested d running line [] = nothing_done d
-requested d running line (first ∷ words) = request d running line (first ∷ words) first.text (request_of first.text)
+abbrev pub requested : Desk → Decks → ℕ → List ℕ → List Token → Act (Issued × Decks)
+requested d decks running line [] = leaving_decks decks (nothing_done d)
+requested d decks running line (first ∷ words) = request d decks running line (first ∷ words) first.text (request_of first.text)
 
 -- the place of the extension of a word, which is a valid name then
 abbrev pub extension_named : List Object → List ℕ → Option ℕ
@@ -105,21 +116,23 @@ abbrev pub extension_of : List Object → List Token → Option ℕ
 extension_of objects words = option_and_then (λ word. extension_named objects word) (given words 0)
 
 -- an extension comes before a command of its word: it answers the line, which it is told whole
-abbrev pub extended_or_requested : Desk → ℕ → List ℕ → List Token → Option ℕ → Act Issued
-extended_or_requested d running line words (Some place) = bind (run_extension place d (Start line)) came
-extended_or_requested d running line words None = requested d running line words
+abbrev pub extended_or_requested : Desk → Decks → ℕ → List ℕ → List Token → Option ℕ → Act (Issued × Decks)
+extended_or_requested d decks running line words (Some place) = leaving_decks decks (bind (run_extension place d (Start line)) came)
+extended_or_requested d decks running line words None = requested d decks running line words
 
-abbrev pub obeyed : Desk → ℕ → List ℕ → List Token → Act Issued
-obeyed d running line words = extended_or_requested d running line words (extension_of d.objects words)
+abbrev pub obeyed : Desk → Decks → ℕ → List ℕ → List Token → Act (Issued × Decks)
+obeyed d decks running line words = extended_or_requested d decks running line words (extension_of d.objects words)
 
 -- a line that a procedure issues; no procedure begins by its name alone
-abbrev pub issued : Desk → ℕ → List ℕ → Act Issued
-issued d running line = if is_comment line then nothing_done d else obeyed d running line (tokens_of line)
+abbrev pub issued : Desk → Decks → ℕ → List ℕ → Act (Issued × Decks)
+issued d decks running line =
+    if is_comment line then leaving_decks decks (nothing_done d) else obeyed d decks running line (tokens_of line)
 
 -- a line that CMS took: the procedure that its first word names comes before an extension
-abbrev pub called_or_obeyed : Desk → ℕ → List ℕ → List Token → Option FileName → Act Issued
-called_or_obeyed d running line words (Some f) = bind (call_command memory running d.machine line words f) (started d.objects)
-called_or_obeyed d running line words None = obeyed d running line words
+abbrev pub called_or_obeyed : Desk → Decks → ℕ → List ℕ → List Token → Option FileName → Act (Issued × Decks)
+called_or_obeyed d decks running line words (Some f) =
+    leaving_decks decks (bind (call_command memory running d.machine line words f) (started d.objects))
+called_or_obeyed d decks running line words None = obeyed d decks running line words
 
-abbrev pub taken_up : Desk → ℕ → List ℕ → List Token → Act Issued
-taken_up d running line words = called_or_obeyed d running line words (called_by d.machine words)
+abbrev pub taken_up : Desk → Decks → ℕ → List ℕ → List Token → Act (Issued × Decks)
+taken_up d decks running line words = called_or_obeyed d decks running line words (called_by d.machine words)

@@ -24,6 +24,8 @@ use Rattle.exec2_run.specs.declared.want.Want.{Want}
 use Rattle.exec2_run.specs.declared.want.Want.TheVariants.{Next, Say, Stack, Read, Command, Sub, Ended, Failed}
 use Rattle.cms_ext.specs.Extensions.{Desk, desk}
 use Rattle.cms_ext.specs.Extensions as extension
+use Rattle.cms_cards.specs.Punching.{Decks}
+use Rattle.cms_rounds.specs.Decks.{leaving_decks}
 use Rattle.cms_rounds.specs.Lines.{Issued, Came, Begins, issued}
 use Rattle.cms_rounds.specs.Subcommands.{sent_line}
 use Rattle.cms_rounds.specs.declared.state.Finish.{Finish}
@@ -125,6 +127,10 @@ answered ps (Came (extension.Went d code)) = leaving d.objects (giving ps d.mach
 answered ps (Came extension.OutOfTurns) = Done (Stops finish.AtTurns)
 answered ps (Begins d p) = leaving d.objects (going_on d.machine ps p)
 
+-- the same beside the decks that the line left
+abbrev pub answered_beside : List Exec → Issued × Decks → Act (Passed × Decks)
+answered_beside ps x = leaving_decks x.1 (answered ps x.0)
+
 -- ---- what a statement wants
 
 -- where lines are stacked
@@ -144,29 +150,29 @@ abbrev pub given : List Exec → Exec → Asked → Act Round
 given ps p (Given m line) = following m ps (came_to p (exec.line_taken p line))
 given ps p Spent = Done (Ends finish.AtTurns)
 
-abbrev pub meeting : Desk → List Exec → Exec → Want → Act Passed
-meeting d ps p Next = leaving d.objects (following d.machine ps (p, Next))
-meeting d ps p (Say lines) = leaving d.objects (typing lines (going_on d.machine ps p))
-meeting d ps p (Stack lines side) = leaving d.objects (stacking_for d.machine ps p lines side)
-meeting d ps p Read = leaving d.objects (bind (ask d.machine) (given ps p))
-meeting d ps p (Command line) = bind (issued d (length (p ∷ ps)) line) (answered (p ∷ ps))
-meeting d ps p (Sub word text) = bind (sent_line d word text) (answered (p ∷ ps))
-meeting d ps p (Ended code) = leaving d.objects (following d.machine ps (p, Ended code))
-meeting d ps p (Failed number line) = leaving d.objects (following d.machine ps (p, Failed number line))
+abbrev pub meeting : Desk → Decks → List Exec → Exec → Want → Act (Passed × Decks)
+meeting d decks ps p Next = leaving_decks decks (leaving d.objects (following d.machine ps (p, Next)))
+meeting d decks ps p (Say lines) = leaving_decks decks (leaving d.objects (typing lines (going_on d.machine ps p)))
+meeting d decks ps p (Stack lines side) = leaving_decks decks (leaving d.objects (stacking_for d.machine ps p lines side))
+meeting d decks ps p Read = leaving_decks decks (leaving d.objects (bind (ask d.machine) (given ps p)))
+meeting d decks ps p (Command line) = bind (issued d decks (length (p ∷ ps)) line) (answered_beside (p ∷ ps))
+meeting d decks ps p (Sub word text) = bind (leaving_decks decks (sent_line d word text)) (answered_beside (p ∷ ps))
+meeting d decks ps p (Ended code) = leaving_decks decks (leaving d.objects (following d.machine ps (p, Ended code)))
+meeting d decks ps p (Failed number line) = leaving_decks decks (leaving d.objects (following d.machine ps (p, Failed number line)))
 
-abbrev pub met : Desk → List Exec → Exec × Want → Act Passed
-met d ps x = meeting d ps x.0 x.1
+abbrev pub met : Desk → Decks → List Exec → Exec × Want → Act (Passed × Decks)
+met d decks ps x = meeting d decks ps x.0 x.1
 
 -- ---- a statement
 
 -- with the turn spent, at its moment
-abbrev pub stepped : Desk → List Exec → Exec → Act Passed
-stepped d ps p = met d ps (came_to p (exec.turned d.machine.moment p))
+abbrev pub stepped : Desk → Decks → List Exec → Exec → Act (Passed × Decks)
+stepped d decks ps p = met d decks ps (came_to p (exec.turned d.machine.moment p))
 
 -- a turn is spent, and the statement of the newest procedure that is due is run
-abbrev pub statement_with : Desk → List Exec → Exec → ℕ → Act Passed
-statement_with d ps p zero = Done (Stops finish.AtTurns)
-statement_with d ps p (suc left) = Turn (λ seconds. stepped (desk (turned d.machine left seconds) d.objects) ps p)
+abbrev pub statement_with : Desk → Decks → List Exec → Exec → ℕ → Act (Passed × Decks)
+statement_with d decks ps p zero = Done (Stops finish.AtTurns, decks)
+statement_with d decks ps p (suc left) = Turn (λ seconds. stepped (desk (turned d.machine left seconds) d.objects) decks ps p)
 
-abbrev pub statement : Desk → List Exec → Exec → Act Passed
-statement d ps p = statement_with d ps p d.machine.left
+abbrev pub statement : Desk → Decks → List Exec → Exec → Act (Passed × Decks)
+statement d decks ps p = statement_with d decks ps p d.machine.left

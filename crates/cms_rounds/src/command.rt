@@ -3,10 +3,11 @@ ghost use Rattle.std.specs.Prelude.{◌≡◌, ◌==◌};
 ghost use Rattle.std.specs.List.{list_all};
 ghost use Rattle.cms_rounds.specs.Commands.{is_comment, request_of};
 
+use cms_cards::CardCommand;
 use cms_commands::{CommandName, command_named};
 use cms_text::BLANK;
 
-/// A command that knows of no procedure and of no extension.
+/// A command that knows of no procedure, of no extension and of no deck.
 #[derive(Clone, Copy)]
 pub enum Command {
     /// that a volume is accessed as a letter
@@ -44,6 +45,8 @@ pub enum Request {
     Nucxdrop,
     /// that the words of the extensions are typed
     Nucxmap,
+    /// what a command on cards does
+    Cards(CardCommand),
     /// what another command does
     Command(Command),
 }
@@ -88,6 +91,9 @@ pub fn request_of(word: &[u8]) -> Request
         Some(CommandName::Execio) => Request::Command(Command::Execio),
         Some(CommandName::Nucxdrop) => Request::Nucxdrop,
         Some(CommandName::Nucxmap) => Request::Nucxmap,
+        Some(CommandName::Punch) => Request::Cards(CardCommand::Punch),
+        Some(CommandName::Readcard) => Request::Cards(CardCommand::Readcard),
+        Some(CommandName::Disk) => Request::Cards(CardCommand::Disk),
         None => Request::Command(Command::Unknown),
     }
 }

@@ -12,12 +12,13 @@ ghost use Rattle.cms_world.specs.Seen.{seen};
 ghost use Rattle.cms_ext.specs.Calls.{ended_of, run_tree};
 ghost use Rattle.cms_ext.specs.Objects.{HasPlace, objects_of};
 ghost use Rattle.cms_machine.specs.Objects.{Start};
-ghost use Rattle.cms_rounds.specs.Calls.{command_tree, issue_tree, issued_of, issued_started, obey_tree, request_tree, take_up_tree};
+ghost use Rattle.cms_rounds.specs.Calls.{command_tree, issue_tree, issued_beside, issued_started, obey_tree, request_tree, take_up_tree};
 ghost use Rattle.cms_rounds.specs.Lines as spec;
 
 use crate::command::{Command, Request, is_comment, request_of};
 use crate::nucleus::{run_nucxdrop, run_nucxmap};
 use cms_access::{run_access, run_format, run_query, run_release};
+use cms_cards::{Reader, run as run_cards};
 use cms_copyfile::run_copyfile;
 use cms_exec::{Started, find_called, run_called, run_exec};
 use cms_execio::run_execio;
@@ -103,6 +104,7 @@ fn request<W: World>(
     world: &mut W,
     state: &mut State,
     extensions: &mut ExtList,
+    reader: &mut Reader,
     running: usize,
     line: &Line,
     words: &Tokens,
@@ -112,8 +114,8 @@ fn request<W: World>(
     requires offset { IsOffset state.old.offset }
     ensures acts { Acts (spot_with W.World world.old state.old (objects_of ⟦<dyn Extension as Extension>⟧ extensions.old))
         (spot_with W.World world.new state.new (objects_of ⟦<dyn Extension as Extension>⟧ extensions.new))
-        (request_tree state.old (objects_of ⟦<dyn Extension as Extension>⟧ extensions.old) running line.now words.now)
-        result (issued_of state.new (objects_of ⟦<dyn Extension as Extension>⟧ extensions.new)) }
+        (request_tree state.old (objects_of ⟦<dyn Extension as Extension>⟧ extensions.old) reader.old running line.now words.now)
+        result (issued_beside state.new (objects_of ⟦<dyn Extension as Extension>⟧ extensions.new) reader.new) }
     ensures offset { state.new.offset ≡ state.old.offset }
     ensures left { state.new.left ≤ state.old.left }
 {
@@ -131,6 +133,10 @@ fn request<W: World>(
         }
         Request::Nucxmap => {
             let course = run_nucxmap(alloc, world, state, extensions, words)?;
+            Ok(Issued::Came(course))
+        }
+        Request::Cards(command) => {
+            let course = run_cards(alloc, world, state, reader, words, command)?;
             Ok(Issued::Came(course))
         }
         Request::Command(command) => {
@@ -197,6 +203,7 @@ fn obey<W: World>(
     world: &mut W,
     state: &mut State,
     extensions: &mut ExtList,
+    reader: &mut Reader,
     running: usize,
     line: &Line,
     words: &Tokens,
@@ -206,8 +213,8 @@ fn obey<W: World>(
     requires offset { IsOffset state.old.offset }
     ensures acts { Acts (spot_with W.World world.old state.old (objects_of ⟦<dyn Extension as Extension>⟧ extensions.old))
         (spot_with W.World world.new state.new (objects_of ⟦<dyn Extension as Extension>⟧ extensions.new))
-        (obey_tree state.old (objects_of ⟦<dyn Extension as Extension>⟧ extensions.old) running line.now words.now)
-        result (issued_of state.new (objects_of ⟦<dyn Extension as Extension>⟧ extensions.new)) }
+        (obey_tree state.old (objects_of ⟦<dyn Extension as Extension>⟧ extensions.old) reader.old running line.now words.now)
+        result (issued_beside state.new (objects_of ⟦<dyn Extension as Extension>⟧ extensions.new) reader.new) }
     ensures offset { state.new.offset ≡ state.old.offset }
     ensures left { state.new.left ≤ state.old.left }
 {
@@ -216,7 +223,9 @@ fn obey<W: World>(
             let course = run_extension(alloc, world, state, extensions, place, line)?;
             Ok(Issued::Came(course))
         }
-        None => request(alloc, world, state, extensions, running, line, words),
+        None => request(
+            alloc, world, state, extensions, reader, running, line, words,
+        ),
     }
 }
 
@@ -227,6 +236,7 @@ pub fn issue<W: World>(
     world: &mut W,
     state: &mut State,
     extensions: &mut ExtList,
+    reader: &mut Reader,
     running: usize,
     line: &Line,
 ) -> Result<Issued, End>
@@ -235,8 +245,8 @@ pub fn issue<W: World>(
     requires offset { IsOffset state.old.offset }
     ensures acts { Acts (spot_with W.World world.old state.old (objects_of ⟦<dyn Extension as Extension>⟧ extensions.old))
         (spot_with W.World world.new state.new (objects_of ⟦<dyn Extension as Extension>⟧ extensions.new))
-        (issue_tree state.old (objects_of ⟦<dyn Extension as Extension>⟧ extensions.old) running line.now)
-        result (issued_of state.new (objects_of ⟦<dyn Extension as Extension>⟧ extensions.new)) }
+        (issue_tree state.old (objects_of ⟦<dyn Extension as Extension>⟧ extensions.old) reader.old running line.now)
+        result (issued_beside state.new (objects_of ⟦<dyn Extension as Extension>⟧ extensions.new) reader.new) }
     ensures offset { state.new.offset ≡ state.old.offset }
     ensures left { state.new.left ≤ state.old.left }
 {
@@ -244,7 +254,9 @@ pub fn issue<W: World>(
         return Ok(Issued::Came(Course::Went(0)));
     }
     let words = tokens(alloc, line)?;
-    obey(alloc, world, state, extensions, running, line, &words)
+    obey(
+        alloc, world, state, extensions, reader, running, line, &words,
+    )
 }
 
 /// Does what a line of CMS asks for that is neither blank nor a comment, where so many procedures run: the procedure that its first word
@@ -254,6 +266,7 @@ pub fn take_up<W: World>(
     world: &mut W,
     state: &mut State,
     extensions: &mut ExtList,
+    reader: &mut Reader,
     running: usize,
     line: &Line,
 ) -> Result<Issued, End>
@@ -262,8 +275,8 @@ pub fn take_up<W: World>(
     requires offset { IsOffset state.old.offset }
     ensures acts { Acts (spot_with W.World world.old state.old (objects_of ⟦<dyn Extension as Extension>⟧ extensions.old))
         (spot_with W.World world.new state.new (objects_of ⟦<dyn Extension as Extension>⟧ extensions.new))
-        (take_up_tree state.old (objects_of ⟦<dyn Extension as Extension>⟧ extensions.old) running line.now)
-        result (issued_of state.new (objects_of ⟦<dyn Extension as Extension>⟧ extensions.new)) }
+        (take_up_tree state.old (objects_of ⟦<dyn Extension as Extension>⟧ extensions.old) reader.old running line.now)
+        result (issued_beside state.new (objects_of ⟦<dyn Extension as Extension>⟧ extensions.new) reader.new) }
     ensures offset { state.new.offset ≡ state.old.offset }
     ensures left { state.new.left ≤ state.old.left }
 {
@@ -273,6 +286,8 @@ pub fn take_up<W: World>(
             let started = run_called(alloc, world, state, line, &words, &found, running)?;
             Ok(called(started))
         }
-        None => obey(alloc, world, state, extensions, running, line, &words),
+        None => obey(
+            alloc, world, state, extensions, reader, running, line, &words,
+        ),
     }
 }

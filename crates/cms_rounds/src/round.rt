@@ -86,7 +86,15 @@ fn run_line<W: World>(
         return Ok(Round::Ready);
     }
     let running = session.procedures.len();
-    let issued = take_up(alloc, world, &mut session.state, extensions, running, line)?;
+    let issued = take_up(
+        alloc,
+        world,
+        &mut session.state,
+        extensions,
+        &mut session.reader,
+        running,
+        line,
+    )?;
     answer(alloc, world, session, issued)
 }
 
@@ -99,6 +107,7 @@ fn refuse_taken<W: World>(
 ) -> Result<Round, End>
     ensures acts { Acts (spot W.World world.old session.old.state) (spot W.World world.new session.new.state)
         (refused_tree session.old message) result (round_of session.new) }
+    ensures reader { session.new.reader ≡ session.old.reader }
     ensures offset { session.new.state.offset ≡ session.old.state.offset }
     ensures left { session.new.state.left ≤ session.old.state.left }
 {

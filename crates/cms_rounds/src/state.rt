@@ -1,4 +1,5 @@
 // The parts of a session, and how they end.
+use cms_cards::Reader;
 use cms_search::State;
 use exec2_run::{Exec, Stack};
 
@@ -10,6 +11,8 @@ pub struct Session {
     /// those that run, the newest first, each but the last begun by the one behind it; each stands between two statements, but those that
     /// issued the line or the command that runs
     pub procedures: Stack<Exec>,
+    /// the decks that were punched and wait to be read
+    pub reader: Reader,
 }
 
 /// How a session ends that isn't cut off.

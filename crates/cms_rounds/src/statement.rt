@@ -96,6 +96,7 @@ fn over<W: World>(
 fn ready<W: World>(world: &mut W, session: &mut Session, code: i32) -> Result<Round, End>
     ensures acts { Acts (spot W.World world.old session.old.state) (spot W.World world.new session.new.state)
         (tree.ready_tree session.old code) result (round_of session.new) }
+    ensures reader { session.new.reader ≡ session.old.reader }
     ensures offset { session.new.state.offset ≡ session.old.state.offset }
     ensures left { session.new.state.left ≡ session.old.state.left }
 {
@@ -113,6 +114,7 @@ fn settle<W: World>(
 ) -> Result<Option<i32>, End>
     ensures does { Does (seen W.World world.old) (seen W.World world.new) (tree.over_tree (spec.settled procedure)) result itself }
     ensures state { session.new.state ≡ session.old.state }
+    ensures reader { session.new.reader ≡ session.old.reader }
     ensures procedures { IfOk result
         (λ code. tree.procedures_of session.new ≡ waiting code (spec.settled procedure).0 (tree.procedures_of session.old)) }
 {
@@ -140,6 +142,7 @@ fn give<W: World>(
 ) -> Result<Round, End>
     ensures acts { Acts (spot W.World world.old session.old.state) (spot W.World world.new session.new.state)
         (tree.give_tree session.old code) result (round_of session.new) }
+    ensures reader { session.new.reader ≡ session.old.reader }
     ensures offset { session.new.state.offset ≡ session.old.state.offset }
     ensures left { session.new.state.left ≤ session.old.state.left }
 {
@@ -163,6 +166,7 @@ fn go_on<W: World>(
 ) -> Result<Round, End>
     ensures acts { Acts (spot W.World world.old session.old.state) (spot W.World world.new session.new.state)
         (tree.go_on_tree session.old procedure) result (round_of session.new) }
+    ensures reader { session.new.reader ≡ session.old.reader }
     ensures offset { session.new.state.offset ≡ session.old.state.offset }
     ensures left { session.new.state.left ≤ session.old.state.left }
 {
@@ -182,6 +186,7 @@ fn follow<W: World>(
 ) -> Result<Round, End>
     ensures acts { Acts (spot W.World world.old session.old.state) (spot W.World world.new session.new.state)
         (tree.follow_tree session.old procedure want.now) result (round_of session.new) }
+    ensures reader { session.new.reader ≡ session.old.reader }
     ensures offset { session.new.state.offset ≡ session.old.state.offset }
     ensures left { session.new.state.left ≤ session.old.state.left }
 {
@@ -202,6 +207,7 @@ pub fn answer<W: World>(
 ) -> Result<Round, End>
     ensures acts { Acts (spot W.World world.old session.old.state) (spot W.World world.new session.new.state)
         (tree.answer_tree session.old issued) result (round_of session.new) }
+    ensures reader { session.new.reader ≡ session.old.reader }
     ensures offset { session.new.state.offset ≡ session.old.state.offset }
     ensures left { session.new.state.left ≤ session.old.state.left }
 {
@@ -234,6 +240,7 @@ fn type_lines<W: World>(
 ) -> Result<Round, End>
     ensures acts { Acts (spot W.World world.old session.old.state) (spot W.World world.new session.new.state)
         (tree.type_tree session.old procedure lines.now) result (round_of session.new) }
+    ensures reader { session.new.reader ≡ session.old.reader }
     ensures offset { session.new.state.offset ≡ session.old.state.offset }
     ensures left { session.new.state.left ≤ session.old.state.left }
 {
@@ -261,6 +268,7 @@ fn stack<W: World>(
 ) -> Result<Round, End>
     ensures acts { Acts (spot W.World world.old session.old.state) (spot W.World world.new session.new.state)
         (tree.stack_tree session.old procedure lines.now side) result (round_of session.new) }
+    ensures reader { session.new.reader ≡ session.old.reader }
     ensures offset { session.new.state.offset ≡ session.old.state.offset }
     ensures left { session.new.state.left ≤ session.old.state.left }
 {
@@ -284,6 +292,7 @@ fn read<W: World>(
 ) -> Result<Round, End>
     ensures acts { Acts (spot W.World world.old session.old.state) (spot W.World world.new session.new.state)
         (tree.read_tree session.old procedure) result (round_of session.new) }
+    ensures reader { session.new.reader ≡ session.old.reader }
     ensures offset { session.new.state.offset ≡ session.old.state.offset }
     ensures left { session.new.state.left ≤ session.old.state.left }
 {
@@ -320,7 +329,15 @@ fn command<W: World>(
         return Err(End::Memory);
     };
     let running = session.procedures.len();
-    let issued = issue(alloc, world, &mut session.state, extensions, running, line)?;
+    let issued = issue(
+        alloc,
+        world,
+        &mut session.state,
+        extensions,
+        &mut session.reader,
+        running,
+        line,
+    )?;
     answer(alloc, world, session, issued)
 }
 

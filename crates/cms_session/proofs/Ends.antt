@@ -15,7 +15,6 @@ use Rattle.cms_machine.specs.Acts as acts
 use Rattle.cms_machine.specs.LawsObjects.{AreDistinct}
 use Rattle.cms_machine.specs.Objects.{Back, Object}
 use Rattle.cms_machine.specs.Steps.{Outcome}
-use Rattle.cms_machine.specs.Feeds.{Fed}
 use Rattle.cms_machine.specs.Points.{LeavesIn, Leaves, HasNowIn, HasNow, Point, Sound}
 use Rattle.cms_machine.specs.Beats.{pieces, outcomes, backs}
 use Rattle.cms_machine.specs.Runs.{Ran, Broke, events_of}
@@ -23,7 +22,7 @@ use Rattle.cms_machine.proofs.Law.{at_of_within}
 use Rattle.cms_machine.proofs.Single.{broke_before}
 use Rattle.cms_machine.proofs.Whole.{follows_tree, comes_to, whole}
 use Rattle.cms_disk.specs.declared.unit.UnitInfo.{UnitInfo}
-use Rattle.cms_search.specs.Calls.{SpotWith, Holds, Acts, at, first_state, machine_of}
+use Rattle.cms_search.specs.Calls.{Holds, Acts, at, first_state, machine_of}
 use Rattle.cms_search.specs.Machine.{Letter, Machine}
 use Rattle.cms_search.specs.Shows.{devices_of}
 use Rattle.cms_search.specs.Tables.{HaveDistinctDevices, Seated, new_table}
@@ -37,7 +36,7 @@ use Rattle.cms_words.specs.declared.reading.Words.{Words}
 use Rattle.cms_world.specs.Seen.{Seen}
 use Rattle.cms_session.specs.Machine.{machine, started}
 use Rattle.cms_session.specs.Calls.{session_tree, finished}
-use Rattle.cms_session.specs.Headline.{Start, Headline, Came, Begins, EndsAs, IsAs, fresh, settled, first_console, first_machine, first_point, start_desk, start_point, start_tree, run_on}
+use Rattle.cms_session.specs.Headline.{Start, Headline, Came, Begins, EndsAs, IsAs, fresh, settled, first_console, first_machine, first_point, start_point, start_tree, run_on}
 use Rattle.cms_session.specs.Sessions.{AttachesAll, HaveSizes, IsAsSeen, CameTo, WasCut, EndedAs, OnUnits, RunsOn, start_on, status_at, status_of}
 use Rattle.cms_session.specs.Words.{asked_of, given_by}
 use Rattle.cms_rounds.specs.declared.state.Finish.{Finish}

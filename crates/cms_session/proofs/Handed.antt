@@ -2,10 +2,9 @@
 use Rattle.std.proofs.Common.{◌≡◌, ◌<◌, ℕ, zero, suc, List, [], ◌∷◌, ◌++◌, Some, refl, ap, sym, subst, arith, map, length, slice_get}
 use Rattle.std.specs.List.{IsDistinct}
 use Rattle.std.specs.Str.{bytes_eq}
-use Rattle.cms_journal.specs.declared.event.Event.{Event}
 use Rattle.cms_machine.specs.Beats.{Asked, Beat, Beats, Chain, Dropped}
 use Rattle.cms_machine.specs.LawsObjects.{AreDistinct}
-use Rattle.cms_machine.specs.Objects.{Back, Object, Reply}
+use Rattle.cms_machine.specs.Objects.{Object}
 use Rattle.cms_machine.specs.Points.{Point}
 use Rattle.cms_machine.proofs.Asking.{asked_answers, asked_no_more, dropped_is_gone, stay_distinct}
 use Rattle.cms_ext.specs.Objects.{Means, object_in, objects_of, words_of}

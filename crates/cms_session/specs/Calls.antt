@@ -7,7 +7,7 @@ use Rattle.cms_search.specs.Calls.{Meaning, machine_of}
 use Rattle.cms_search.specs.Machine.{Machine}
 use Rattle.cms_search.specs.declared.state.State.{State}
 use Rattle.cms_ext.specs.Calls.{desk_of}
-use Rattle.cms_rounds.specs.Calls.{procedures_of}
+use Rattle.cms_rounds.specs.Calls.{decks_of, procedures_of}
 use Rattle.cms_rounds.specs.declared.state.Finish.{Finish}
 use Rattle.cms_rounds.specs.declared.state.Session as declared_session
 use Rattle.cms_session.specs.Machine.{access_first, rounds, started}
@@ -16,7 +16,7 @@ use Rattle.cms_session.specs.Machine.{access_first, rounds, started}
 
 -- rounds follow until the session ends
 abbrev pub rounds_tree : declared_session.Session → List Object → List Slot → Act Finish
-rounds_tree s objects units = rounds (desk_of s.state objects units) (procedures_of s)
+rounds_tree s objects units = rounds (desk_of s.state objects units) (decks_of s) (procedures_of s)
 
 -- device 191 is accessed as A
 abbrev pub access_tree : State → List Slot → Act Machine

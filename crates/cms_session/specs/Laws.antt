@@ -5,7 +5,7 @@ use Rattle.cms_journal.specs.declared.event.Event.{Event}
 use Rattle.cms_machine.specs.Steps.{faults_in}
 use Rattle.cms_model.specs.Minidisks.{State}
 use Rattle.cms_machine.specs.Slots.{Settled}
-use Rattle.cms_machine.specs.Beats.{Asked, Beat, Beats, Chain, Dropped}
+use Rattle.cms_machine.specs.Beats.{Asked, Beat, Chain, Dropped}
 use Rattle.cms_machine.specs.LawsObjects.{Answers, AskNot, IsGone}
 use Rattle.cms_machine.specs.Objects.{Back, Object, Reply}
 use Rattle.cms_machine.specs.Points.{Leaves, Point}

@@ -4,7 +4,7 @@ ghost use Rattle.cms_search.specs.Calls.{spot, spot_with, Acts, IsUsable};
 ghost use Rattle.cms_ext.specs.Objects.{objects_of};
 ghost use Rattle.cms_search.specs.Turns.{machine_now};
 ghost use Rattle.cms_fields.specs.Offsets.{IsOffset};
-ghost use Rattle.cms_rounds.specs.Calls.{procedures_of};
+ghost use Rattle.cms_rounds.specs.Calls.{decks_of, procedures_of};
 ghost use Rattle.cms_session.specs.Calls.{access_tree, finished, rounds_tree, session_tree};
 
 use cms_ext::{ExtList, Extension};
@@ -49,7 +49,7 @@ fn run_lines<W: World>(
     }
 }
 
-/// Runs a session in which no procedure runs yet: the first device is accessed, and lines are run.
+/// Runs a session in which no procedure runs yet and whose reader has no deck: the first device is accessed, and lines are run.
 pub fn play<W: World>(
     alloc: Global,
     world: &mut W,
@@ -59,6 +59,7 @@ pub fn play<W: World>(
     requires usable { IsUsable (spot W.World world.old session.old.state) }
     requires offset { IsOffset session.old.state.offset }
     requires idle { procedures_of session.old ≡ [] }
+    requires empty { decks_of session.old ≡ [] }
     ensures { Acts (spot_with W.World world.old session.old.state (objects_of ⟦<dyn Extension as Extension>⟧ extensions.old))
         (spot_with W.World world.new session.new.state (objects_of ⟦<dyn Extension as Extension>⟧ extensions.new))
         (session_tree session.old.state (objects_of ⟦<dyn Extension as Extension>⟧ extensions.old)) result finished }

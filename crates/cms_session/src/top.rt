@@ -14,6 +14,7 @@ ghost use Rattle.cms_session.specs.Words.{AreUnits, Asked, Runs, asked_of, given
 use crate::attaching::attach_all;
 use crate::session::play;
 use crate::status::Status;
+use cms_cards::Reader;
 use cms_ext::{ExtList, Extension};
 use cms_generator::script;
 use cms_line::Console;
@@ -92,6 +93,7 @@ fn run_on<W: World>(
     let mut session = Session {
         state,
         procedures: Stack::new(alloc),
+        reader: Reader::new(alloc),
     };
     let mut extensions = extensions;
     match play(alloc, world, &mut session, &mut extensions) {
@@ -124,10 +126,11 @@ fn run_words<W: World>(alloc: Global, world: &mut W, words: &Words, extensions: 
 /// says and else 1,000,000. Lines of the program stack come first, then those of the script. A line whose first word has a procedure runs
 /// it, as `EXEC` does, and up to 50 run one in another. Else the extension of that word answers the line, which may be a command's word
 /// too. Else the commands are `ACCESS`, `RELEASE`, `FORMAT`, `QUERY`, `LISTFILE`, `STATE`, `TYPE`, `ERASE`, `RENAME`, `COPYFILE`,
-/// `EXECIO`, `NUCXDROP` and `NUCXMAP`; where a device fails in them, message 105 says so. `FORMAT`, `ERASE`, `RENAME`, `COPYFILE`,
-/// `EXECIO` with `DISKW`, `LISTFILE` with `EXEC` and an extension write to the unit where it is attached so that it may be written, with
-/// the stamp of their turn in the zone of `-z`; so do `TYPE` and `EXECIO` with `DISKR` where they erase a file of mode number 3. With
-/// `-g` the script is the generated one of that number, and the world isn't read. A told journal must have at most 240 units.
+/// `EXECIO`, `PUNCH`, `READCARD`, `DISK`, `NUCXDROP` and `NUCXMAP`; where a device fails in them, message 105 says so. `FORMAT`, `ERASE`,
+/// `RENAME`, `COPYFILE`, `EXECIO` with `DISKW`, `LISTFILE` with `EXEC`, `READCARD`, `DISK` with `LOAD` and an extension write to the unit
+/// where it is attached so that it may be written, with the stamp of their turn in the zone of `-z`; so do `TYPE` and `EXECIO` with
+/// `DISKR` where they erase a file of mode number 3. The session's reader has no deck at the start. With `-g` the script is the generated
+/// one of that number, and the world isn't read. A told journal must have at most 240 units.
 ///
 /// - In a world that tells its journal, with no unit and no event yet, the session is a run of the machine of minidisks as lists
 ///   of named record lists, in which each extension is asked as an object that holds what it held and may do what its `does` allows; a

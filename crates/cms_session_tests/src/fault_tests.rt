@@ -518,10 +518,102 @@ R;
 ",
 };
 
+// A file is loaded from the deck onto which it was dumped; the deck goes only where the file was written, so a second one finds it else.
+const LOADED: Trial = Trial {
+    images: "one file + empty",
+    words: "191,512,rw,A 192,512,rw,B",
+    transcript: "> ACCESS 192 B
+R;
+> DISK DUMP A FILE
+R;
+> DISK LOAD B
+R;
+> DISK LOAD
+CMS124E Reader is empty
+R(00028);
+",
+    // the attaching, the opening of A, the script and the turn; B is accessed; the file is read; it is written to B; no deck is there
+    calls: b"aarrrrinrrronronwwwswsonooi",
+    look: [
+        "191,512,rw,A 192,512,rw,B",
+        "ACCESS 192 B\nLISTFILE * * B (DATE NOHEADER\nTYPE A FILE B\nTYPE A FILE A\n",
+    ],
+    states: "# before
+R;
+CMS002E File * * B not found
+R(00028);
+CMS002E File A FILE B not found
+R(00028);
+HELLO
+R;
+# loaded
+R;
+A        FILE     B1 V     5        1        1 01/01/00 00:00:02
+R;
+HELLO
+R;
+HELLO
+R;
+",
+    // the label of B is written in event 11
+    moments: "# 0 10 before before before before
+# 11 11 before loaded before loaded
+# 12 17 loaded loaded loaded loaded
+",
+    faults: "# 1 2 before before
+# 3 6 before before
+R;
+CMS069E Disk A is not accessed
+R(00036);
+CMS124E Reader is empty
+R(00028);
+CMS069E Disk A is not accessed
+R(00036);
+# 7 8 before before
+# 9 11 before before
+CMS105E Device fault on 192
+R(00100);
+R;
+CMS069E Disk B is not accessed
+R(00036);
+R;
+# 12 13 before before
+# 14 14 before before
+R;
+CMS105E Device fault on 191
+R(00100);
+CMS124E Reader is empty
+R(00028);
+CMS124E Reader is empty
+R(00028);
+# 15 16 before before
+# 17 20 before before
+R;
+R;
+CMS105E Device fault on 192
+R(00100);
+R;
+# 21 21 before before dropped
+R;
+R;
+CMS105E Device fault on 192
+R(00100);
+R;
+# 21 22 before loaded
+R;
+R;
+CMS105E Device fault on 192
+R(00100);
+R;
+# 23 27 loaded loaded
+",
+};
+
 #[test]
 fn each_call_leaves_the_old_or_the_new(rt: HostRuntime) -> Result<(), Fail> {
     MADE.check(rt.alloc())?;
-    ERASED.check(rt.alloc())
+    ERASED.check(rt.alloc())?;
+    LOADED.check(rt.alloc())
 }
 
 #[test]

@@ -7,6 +7,8 @@ mod access_tests;
 #[cfg(test)]
 mod copy_tests;
 #[cfg(test)]
+mod deck_tests;
+#[cfg(test)]
 mod disk_tests;
 #[cfg(test)]
 mod edit_tests;

@@ -1,4 +1,4 @@
-use Rattle.std.proofs.Common.{◌∙◌, refl, sym}
+use Rattle.std.proofs.Common.{refl, sym}
 use Rattle.cms_search.specs.Calls.{spot}
 use Rattle.cms_cards.proofs.Fetches.{full_on, long_on, read_on, unfound_on}
 use Rattle.cms_cards.proofs.fetching.fetch_on.Goals as goal

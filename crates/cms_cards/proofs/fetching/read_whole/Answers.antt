@@ -3,7 +3,6 @@ use Rattle.cms_search.specs.Calls.{spot}
 use Rattle.cms_search.proofs.Acts.{comes_none, cut_off, no_memory}
 use Rattle.cms_search.proofs.Handing.{only_read}
 use Rattle.cms_world.specs.Seen.{seen}
-use Rattle.cms_cards.specs.Calls.{fetched_of}
 use Rattle.cms_cards.proofs.Fetches.{may_read, read_data, read_unread, some_place, tree}
 use Rattle.cms_cards.proofs.fetching.read_whole.Goals as goal
 

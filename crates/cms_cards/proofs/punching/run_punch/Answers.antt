@@ -1,5 +1,4 @@
 use Rattle.std.proofs.Common.{refl}
-use Rattle.cms_search.specs.Calls.{spot}
 use Rattle.cms_cards.specs.Cards.{punch_file}
 use Rattle.cms_cards.specs.Lines.{punch_line}
 use Rattle.cms_cards.proofs.Deals.{said_fault, said_so}

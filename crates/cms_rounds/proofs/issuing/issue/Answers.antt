@@ -10,7 +10,7 @@ pub returns-then-is_comment-clause-acts : goal.returns-then-is_comment-clause-ac
 returns-then-is_comment-clause-acts g c =
     let value = c.bytes.ensures.bytes in
     let told = rw value at c.is_comment.ensures in
-    comment_issued _ (standing _ (seen g.W.World c.args.world.now) c.args.state.now) c.args.running c.args.line.now (sym told ∙ c.if-is_comment.true)
+    comment_issued _ (standing _ (seen g.W.World c.args.world.now) c.args.state.now) c.args.reader.now c.args.running c.args.line.now (sym told ∙ c.if-is_comment.true)
 
 pub returns-in_err-words-clause-acts : goal.returns-in_err-words-clause-acts
 returns-in_err-words-clause-acts g c =
@@ -21,5 +21,5 @@ pub returns-clause-acts : goal.returns-clause-acts
 returns-clause-acts g c =
     let value = c.bytes.ensures.bytes in
     let told = rw value at c.is_comment.ensures in
-    words_issued _ _ (standing _ (seen g.W.World c.args.world.now) c.args.state.now) _ c.args.running c.args.line.now c.in_ok-words.words _
+    words_issued _ _ (standing _ (seen g.W.World c.args.world.now) c.args.state.now) _ c.args.reader.now _ c.args.running c.args.line.now c.in_ok-words.words _
     (sym told ∙ c.if-is_comment.false) c.in_ok-words.ensures c.obey.ensures.acts

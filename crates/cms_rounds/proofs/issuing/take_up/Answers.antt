@@ -19,9 +19,9 @@ returns-in_err-started-in-Some-clause-acts g c =
     let s = c.args.state.now in
     let value = c.as_slice.ensures in
     let finds = rw value at c.find_called.ensures in
-    rw (p.1, p.2) (call_off _ _ _ (take_up_tree s _ c.args.running c.args.line.now)
+    rw (p.1, p.2) (call_off _ c.args.reader.now _ _ (take_up_tree s _ c.args.reader.now c.args.running c.args.line.now)
     (λ units. call_command c.args.alloc c.args.running (machine_of s units) c.args.line.now c.in_ok-words.words c.in-Some.found)
-    (procedure_taken _ (standing _ (seen g.W.World c.args.world.now) s) c.args.running c.args.line.now c.in_ok-words.words c.find_called.result c.in_ok-words.ensures finds c.in-Some.found c.in-Some.is)
+    (procedure_taken _ (standing _ (seen g.W.World c.args.world.now) s) c.args.reader.now c.args.running c.args.line.now c.in_ok-words.words c.find_called.result c.in_ok-words.ensures finds c.in-Some.found c.in-Some.is)
     _ c.in_err-started-in-Some.ensures)
 
 pub returns-in-Some-clause-acts : goal.returns-in-Some-clause-acts
@@ -29,9 +29,9 @@ returns-in-Some-clause-acts g c =
     let s = c.args.state.now in
     let value = c.as_slice.ensures in
     let finds = rw value at c.find_called.ensures in
-    call_so _ _ _ (take_up_tree s _ c.args.running c.args.line.now)
+    call_so _ c.args.reader.now _ _ (take_up_tree s _ c.args.reader.now c.args.running c.args.line.now)
     (λ units. call_command c.args.alloc c.args.running (machine_of s units) c.args.line.now c.in_ok-words.words c.in-Some.found)
-    (procedure_taken _ (standing _ (seen g.W.World c.args.world.now) s) c.args.running c.args.line.now c.in_ok-words.words c.find_called.result c.in_ok-words.ensures finds c.in-Some.found c.in-Some.is)
+    (procedure_taken _ (standing _ (seen g.W.World c.args.world.now) s) c.args.reader.now c.args.running c.args.line.now c.in_ok-words.words c.find_called.result c.in_ok-words.ensures finds c.in-Some.found c.in-Some.is)
     _ _ c.in_ok-started-in-Some.ensures c.called.ensures
 
 pub returns-clause-acts : goal.returns-clause-acts
@@ -39,5 +39,5 @@ returns-clause-acts g c =
     let s = c.args.state.now in
     let value = c.as_slice.ensures in
     let finds = rw value at c.find_called.ensures in
-    command_taken _ (standing _ (seen g.W.World c.args.world.now) s) c.args.running c.args.line.now c.in_ok-words.words c.find_called.result c.in_ok-words.ensures finds _ _ _ c.in-None.is
+    command_taken _ (standing _ (seen g.W.World c.args.world.now) s) c.args.reader.now c.args.running c.args.line.now c.in_ok-words.words c.find_called.result c.in_ok-words.ensures finds _ _ _ _ c.in-None.is
     c.obey.ensures.acts

@@ -9,7 +9,7 @@ pub returns-then-is_comment-clause-acts : goal.returns-then-is_comment-clause-ac
 returns-then-is_comment-clause-acts g c =
     let value = c.bytes.ensures.bytes in
     let told = rw value at c.is_comment.ensures in
-    comment_so _ (standing _ (seen g.W.World c.args.world.now) c.args.session.now.state) c.args.session.now.procedures c.args.line.now (sym told ∙ c.if-is_comment.true)
+    comment_so _ c.args.session.now.reader (standing _ (seen g.W.World c.args.world.now) c.args.session.now.state) c.args.session.now.procedures c.args.line.now (sym told ∙ c.if-is_comment.true)
 
 pub returns-in_err-issued-clause-acts : goal.returns-in_err-issued-clause-acts
 returns-in_err-issued-clause-acts g c =
@@ -19,7 +19,7 @@ returns-in_err-issued-clause-acts g c =
     let s = c.args.session.now in
     let running = c.len-running.ensures in
     let acts = rw running at c.in_err-issued.ensures.acts in
-    rw (p.1, p.2) (line_off _ _ (standing _ (seen g.W.World c.args.world.now) s.state) s.procedures c.args.line.now (sym told ∙ c.if-is_comment.false) _ _ s.procedures acts)
+    rw (p.1, p.2) (line_off _ _ s.reader _ (standing _ (seen g.W.World c.args.world.now) s.state) s.procedures c.args.line.now (sym told ∙ c.if-is_comment.false) _ _ s.procedures acts)
 
 pub returns-clause-acts : goal.returns-clause-acts
 returns-clause-acts g c =
@@ -28,4 +28,4 @@ returns-clause-acts g c =
     let s = c.args.session.now in
     let running = c.len-running.ensures in
     let acts = rw running at c.in_ok-issued.ensures.acts in
-    line_so _ _ (standing _ (seen g.W.World c.args.world.now) s.state) s.procedures c.args.line.now (sym told ∙ c.if-is_comment.false) _ _ c.in_ok-issued.issued _ _ acts c.answer.ensures.acts
+    line_so _ _ s.reader _ (standing _ (seen g.W.World c.args.world.now) s.state) s.procedures c.args.line.now (sym told ∙ c.if-is_comment.false) _ _ c.in_ok-issued.issued _ _ _ acts c.answer.ensures.reader c.answer.ensures.acts

@@ -1,7 +1,7 @@
 use Rattle.std.proofs.Common.{refl}
 use Rattle.cms_rounds.specs.Calls.{passed_of}
 use Rattle.cms_rounds.specs.declared.state.Round.TheVariants as end
-use Rattle.cms_rounds.proofs.Alone.{left}
+use Rattle.cms_rounds.proofs.Alone.{left_decked}
 use Rattle.cms_rounds.proofs.Rounds.{done_here}
 use Rattle.cms_rounds.proofs.round.run_taken.Goals as goal
 
@@ -9,10 +9,10 @@ pub returns-in-Text-clause-acts : goal.returns-in-Text-clause-acts
 returns-in-Text-clause-acts g c = let is = c.in-Text.is in rw is c.run_line.ensures.acts
 
 pub returns-in-Bad-clause-acts : goal.returns-in-Bad-clause-acts
-returns-in-Bad-clause-acts g c = let is = c.in-Bad.is in rw is (left _ _ _ _ _ c.refuse_taken.ensures.acts)
+returns-in-Bad-clause-acts g c = let is = c.in-Bad.is in rw is (left_decked _ _ c.args.session.now.reader _ _ _ _ c.refuse_taken.ensures.reader c.refuse_taken.ensures.acts)
 
 pub returns-in-Long-clause-acts : goal.returns-in-Long-clause-acts
-returns-in-Long-clause-acts g c = let is = c.in-Long.is in rw is (left _ _ _ _ _ c.refuse_taken-in-Long.ensures.acts)
+returns-in-Long-clause-acts g c = let is = c.in-Long.is in rw is (left_decked _ _ c.args.session.now.reader _ _ _ _ c.refuse_taken-in-Long.ensures.reader c.refuse_taken-in-Long.ensures.acts)
 
 pub returns-in-Rest-clause-acts : goal.returns-in-Rest-clause-acts
 returns-in-Rest-clause-acts g c = let is = c.in-Rest.is in rw is (done_here _ _ end.Ready (passed_of c.args.session.now _) (λ units h. refl))

@@ -11,4 +11,4 @@ pub run_lines-requires-clause-usable : goal.run_lines-requires-clause-usable
 run_lines-requires-clause-usable g c = c.in_ok-access_first.ensures.acts.usable c.requires.usable
 
 pub returns : goal.returns
-returns g c = played _ _ _ _ _ c.args.session.now.procedures tt _ c.requires.idle c.in_ok-access_first.ensures.acts c.run_lines.ensures
+returns g c = played _ _ _ _ _ c.args.session.now.reader c.args.session.now.procedures tt _ c.requires.empty c.requires.idle c.in_ok-access_first.ensures.acts c.run_lines.ensures

@@ -10,7 +10,7 @@ invariant-loop-finish g l = record {
   going : Going (objects_of (λ k. (g.dyn-1.0.entry k).1) l.initial.extensions) (objects_of (λ k. (g.dyn-1.0.entry k).1) l.extensions)
       (spot_with g.W.World l.initial.world l.initial.session.state (objects_of (λ k. (g.dyn-1.0.entry k).1) l.initial.extensions))
       (spot_with g.W.World l.world l.session.state (objects_of (λ k. (g.dyn-1.0.entry k).1) l.extensions))
-      l.session.procedures (rounds_tree l.initial.session (objects_of (λ k. (g.dyn-1.0.entry k).1) l.initial.extensions));
+      l.session.reader l.session.procedures (rounds_tree l.initial.session (objects_of (λ k. (g.dyn-1.0.entry k).1) l.initial.extensions));
   usable : IsUsable (spot g.W.World l.world l.session.state);
   offset : l.session.state.offset ≡ l.initial.session.state.offset;
 }
