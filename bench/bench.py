@@ -2,16 +2,19 @@
 """Measures the program beside tools that do the like, and prints the ratios. No part of the gate.
 
     bench/bench.py              all of them
-    bench/bench.py NAME ..      some: opening, files, copy, execio, procedure
+    bench/bench.py NAME ..      some: opening, files, copy, append, execio, procedure
 
 opening    a volume of 10,000 files in 262,144 blocks of 4,096 bytes, beside `dd` that reads the blocks that describe it
 files      10,000 files of a volume listed with all columns, beside `ls -l` of as many; and one of them erased, beside `dd` that writes and
-           syncs as many blocks
+           syncs as many blocks, and beside one of 100 files
 copy       a file of F 80 records of 64 MiB, and one of 1 MiB, by COPYFILE, beside `cp` and `sync` of a file of that size
-execio     2,000 lines of one record each, `EXECIO 1 DISKW`, beside as many transactions of one row in SQLite with synchronous=FULL
+append     a record added to a file of 64 MiB and to one of 1 MiB, with blocks of 4,096 and of 512 bytes: the blocks that are written, and
+           those that are read beside an opening
+execio     2,000 lines of one record each, `EXECIO 1 DISKW`, beside as many transactions of one row in SQLite with synchronous=FULL; and
+           10,000 beside 1,000
 procedure  procedures of 1,000,000 turns, two of them beside the same loop in REXX, where Regina's `rexx` is installed
 
-The program is built first by `./cms --build`, where it isn't built. All files are made in a folder of their own in the folder in which
+Blocks that are written and read are counted by strace, where it is installed. The program is built first by `./cms --build`, where it isn't built. All files are made in a folder of their own in the folder in which
 this is started, so its file system is the one that is measured. Memory is told by /usr/bin/time.
 """
 
@@ -62,6 +65,25 @@ def beside(seconds, plain):
     print(f"  ratio {seconds / plain:.2f}")
 
 
+def counted(unit, lines):
+    """How many blocks a session of these lines writes, and how many it reads beside one of none; nothing without strace."""
+    if not shutil.which("strace"):
+        return None
+    counts = []
+    for script in (lines, []):
+        traced = ["strace", "-qq", "-o", "calls", "-e", "trace=pwrite64,pread64", PROGRAM, unit]
+        subprocess.run(traced, input="".join(line + "\n" for line in script), capture_output=True, text=True, check=True)
+        calls = pathlib.Path("calls").read_text().splitlines()
+        counts.append([sum(name in call for call in calls) for name in ("pwrite64(", "pread64(")])
+    (written, read), (none, opened) = counts
+    return written - none, read - opened
+
+
+def said_counts(counts, most=None):
+    if counts:
+        print(f"  {counts[0]:,} blocks written" + (f", at most {most}" if most else "") + f", {counts[1]:,} read")
+
+
 def opening():
     """The label, the directory, the map and all pointer blocks stand at the volume's front, as do the small files of varying records."""
     front = subprocess.run([HOME / "tests/volume.py", "large.img"], check=True, capture_output=True, text=True).stdout.split()[-1]
@@ -75,12 +97,14 @@ def opening():
 
 
 def files():
+    import updates
     import volumes
 
-    kind = volumes.Kind(blocks=200_000, origin=4, files=FILES, lost=0)
-    image, _ = volumes.make(kind)
-    pathlib.Path("many.img").write_bytes(image)
-    needs = volumes.erase_needs(volumes.read(image, volumes.SIZE), volumes.SIZE) + 2
+    for count in (100, FILES):
+        image, _ = volumes.make(volumes.Kind(blocks=200_000, origin=4, files=count, lost=0))
+        pathlib.Path(f"many{count}.img").write_bytes(image)
+    written = len(updates.erase(image, volumes.SIZE, ("F00007", "DATA"), volumes.DATE))
+    shutil.copy(f"many{FILES}.img", "many.img")
     os.mkdir("many")
     for nth in range(FILES):
         pathlib.Path(f"many/F{nth:05}.DATA").touch()
@@ -91,12 +115,17 @@ def files():
     said(f"{FILES:,} files by ls -l", plain)
     beside(listed[0], plain)
     erased = session("191,512,rw,many.img", ["ERASE F00007 DATA A"])
-    said(f"one of them erased: {needs:,} blocks", *erased)
-    plain = spent(["dd", "if=/dev/zero", "of=blocks", "bs=512", f"count={needs}", "conv=fdatasync", "status=none"])[0]
-    said(f"{needs:,} blocks written and synced by dd", plain)
+    said(f"one of them erased: {written:,} blocks", *erased)
+    plain = spent(["dd", "if=/dev/zero", "of=blocks", "bs=512", f"count={written}", "conv=fdatasync", "status=none"])[0]
+    said(f"{written:,} blocks written and synced by dd", plain)
     beside(erased[0], plain)
+    few = session("191,512,rw,many100.img", ["ERASE F00007 DATA A"])
+    said("one of 100 files erased", *few)
+    beside(erased[0], few[0])
+    said_counts(counted(f"191,512,rw,many{FILES}.img", ["ERASE F00007 DATA A"]), written)
     shutil.rmtree("many")
-    os.unlink("many.img")
+    for name in ("many.img", "many100.img", f"many{FILES}.img"):
+        os.unlink(name)
 
 
 def with_records(count):
@@ -133,12 +162,41 @@ def copy():
     print(f"  peak memory of 64 MiB beside that of 1 MiB: {times[64][1] / times[1][1]:.2f}")
 
 
-def execio():
-    count = 2_000
-    session("191,512,n400,execio.img", ["FORMAT 191 A", "YES", "BENCH"])
+# The most blocks that the addition of a record to a file of 64 MiB writes, by the size of a block.
+MOST_WRITTEN = {4096: 10, 512: 16}
+
+
+def append():
+    """A line is added to a file of F 80 records, ten short of the size, since no file is larger than 64 MiB."""
+    line = "EXECIO 1 DISKW BIG FILE A (STRING one line more"
+    for size, most in MOST_WRITTEN.items():
+        times = {}
+        for mebibytes in (1, 64):
+            image = f"append{mebibytes}.img"
+            blocks = 3 * mebibytes * MEBIBYTE // size + 4_000
+            session(f"191,{size},n{blocks},{image}", with_records(mebibytes * MEBIBYTE // RECORD - 10))
+            times[mebibytes] = session(f"191,{size},rw,{image}", [line])
+            said(f"a line added to {mebibytes} MiB of F {RECORD} records, blocks of {size} bytes", *times[mebibytes])
+            said_counts(counted(f"191,{size},rw,{image}", [line]), most)
+            os.unlink(image)
+        beside(times[64][0], times[1][0])
+
+
+def lines_written(count):
+    """So many lines added to a file, one by one."""
+    session("191,512,n20000,execio.img", ["FORMAT 191 A", "YES", "BENCH"])
     lines = [f"EXECIO 1 DISKW LOG FILE A (STRING line {n}" for n in range(count)]
     seconds, memory = session("191,512,rw,execio.img", lines)
     said(f"{count:,} times EXECIO 1 DISKW, {count / seconds:,.0f} updates a second", seconds, memory)
+    os.unlink("execio.img")
+    return seconds
+
+
+def execio():
+    few, many = lines_written(1_000), lines_written(10_000)
+    print(f"  10,000 lines beside 1,000: {many / few:.1f}")
+    count = 2_000
+    seconds = lines_written(count)
     base = sqlite3.connect("execio.db", isolation_level=None)
     base.execute("PRAGMA synchronous=FULL")
     base.execute("CREATE TABLE log (line TEXT)")
@@ -185,7 +243,7 @@ def procedure():
             beside(seconds, plain)
 
 
-BENCHES = {"opening": opening, "files": files, "copy": copy, "execio": execio, "procedure": procedure}
+BENCHES = {"opening": opening, "files": files, "copy": copy, "append": append, "execio": execio, "procedure": procedure}
 
 
 def main():

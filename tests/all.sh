@@ -18,7 +18,10 @@ scripts() {
 program.sh       git     statuses, what is typed, and what is said on standard error
 examples.py      -       the examples of README.md and docs/cms.1 type what these show
 volumes.py       -       makes volumes of several directory and map blocks, and reads them as they were made
+updates.py       -       foretells what updates of such volumes write, and looks at what stands then
+exact.py         strace  updates on volumes, whose writes must be those that updates.py foretells
 crash.py         strace  an ERASE, stopped at each write and each sync, on the example and on volumes of volumes.py
+append_crash.py  strace  additions to files by COPYFILE and EXECIO, stopped so
 format_crash.py  strace  a FORMAT and a relabelling, stopped so
 files_crash.py   strace  a COPYFILE, an ERASE, a RENAME and a LISTFILE with EXEC, stopped so
 edge.py          cc      files, folders, streams, locks and syncs that fail

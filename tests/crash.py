@@ -11,6 +11,7 @@ import pathlib
 import sys
 
 import stops
+import updates
 import volumes
 
 OLD, NEW = 0, 1
@@ -51,7 +52,7 @@ class Trial(stops.Trial):
     def are_meant(self, moments):
         device = [(kind, place, data) for kind, _, place, data in moments if kind != "typed"]
         directory = next((data for _, place, data in device if place in (3 * self.size, 4 * self.size)), bytes(60))
-        *blocks, label = volumes.erase(self.starts["a"], self.size, self.key, directory[54:60])
+        *blocks, label = updates.erase(self.starts["a"], self.size, self.key, directory[54:60])
         wrote = [("write", (number - 1) * self.size, data) for number, data in [*blocks, label]]
         if device != [*wrote[:-1], ("sync", 0, b""), wrote[-1], ("sync", 0, b"")]:
             sys.exit("not allowed: the writes aren't those of an erase")

@@ -4,8 +4,8 @@
     tests/volumes.py FOLDER               makes each volume of VOLUMES in the folder as NAME.img, and says what is on it
     tests/volumes.py IMAGE BLOCK-SIZE     says what is on an image, or the reason why it is no minidisk
 
-Other tests take `make`, `read`, `erase_needs` and `erase` from here. Blocks are taken in a mixed order, so that free ones lie between
-them.
+Other tests take `make` and `read` from here; tests/updates.py foretells what an update of such a volume writes. Blocks are taken in a
+mixed order, so that free ones lie between them.
 """
 
 import pathlib
@@ -60,9 +60,9 @@ VOLUMES = {
     "wide": Kind(blocks=40000, origin=4, files=300, lost=7),
     # two levels over 138 directory blocks, from block 5 on
     "deep": Kind(blocks=40000, origin=5, files=1100, lost=0),
-    # an erase finds as many free blocks as it needs, or one fewer
-    "enough": Kind(blocks=8200, origin=4, files=300, lost=0, free=42),
-    "full": Kind(blocks=8200, origin=4, files=300, lost=0, free=41),
+    # the erase of the first file finds as many free blocks as it needs, or one fewer
+    "enough": Kind(blocks=8200, origin=4, files=300, lost=0, free=6),
+    "full": Kind(blocks=8200, origin=4, files=300, lost=0, free=5),
     # the erase of the last entry leaves a directory of one block fewer
     "shrinking": Kind(blocks=40000, origin=5, files=303, lost=1),
     # three of its files have a type of their own
@@ -127,8 +127,12 @@ def front(kind, files, chosen):
 
 def make(kind, seed=1):
     """An image of such a volume, and its files."""
-    chosen = random.Random(seed)
     files = files_of(kind)
+    return made(kind, files, random.Random(seed)), files
+
+
+def made(kind, files, chosen):
+    """An image of such a volume with these files."""
     writer = Writer(front(kind, files, chosen), SIZE)
     rows = []
     for (name, kinds), file in files.items():
@@ -154,7 +158,7 @@ def make(kind, seed=1):
     image = bytearray(kind.blocks * SIZE)
     for number, block in writer.written.items():
         image[(number - 1) * SIZE : number * SIZE] = block
-    return bytes(image), files
+    return bytes(image)
 
 
 def own_rows(root, count, map_root, marks, date, size):
@@ -190,10 +194,6 @@ def label(kind, used):
 
 class Refused(Exception):
     """The image is no minidisk, for the reason of this number."""
-
-
-class Full(Exception):
-    """There are fewer free blocks than the update takes."""
 
 
 class Found(NamedTuple):
@@ -263,6 +263,17 @@ class Reader:
 
         walk(row.root, levels(self.size // psize, row.count), row.count)
         return met, leaves
+
+    def levels(self, row):
+        """The blocks of a tree, level by level, its data blocks first; and the pointers to those of each level but the highest."""
+        psize = 4 if row.form == 0xC6 else 12
+        tiers, pointers, fan = [[row.root]], [], self.size // psize
+        for level in range(levels(fan, row.count) - 1, -1, -1):
+            held = b"".join(self.block(number)[: fan * psize] for number in tiers[0])
+            cells = [held[at : at + psize] for at in range(0, len(held), psize)][: up(row.count, fan**level)]
+            tiers.insert(0, [int.from_bytes(cell[:4], "big") for cell in cells])
+            pointers.insert(0, cells)
+        return tiers, pointers
 
     def data(self, leaves):
         return b"".join(map(self.block, leaves))
@@ -350,54 +361,15 @@ def tree_blocks(count, fan):
     return total
 
 
-def erase_needs(found, size):
-    """How many free blocks the erase of one file takes: those of the new directory but for its first block, and of the new map."""
-    listing = up(64 * (len(found.files) + 1), size)
-    marks = up(up(found.blocks, 8), size)
-    return tree_blocks(listing, size // 4) - 1 + tree_blocks(marks, size // 4)
-
-
-def erase(image, size, key, date):
-    """The blocks that the erase of a file writes, with their bytes, in order: all but the last, a sync, the label, a sync.
-
-    Full, where too few are free.
-    """
-    reader = Reader(image, size)
-    found = reader.read()
-    needs = erase_needs(found, size)
-    if needs > len(found.free):
-        raise Full
-    place = 2 + list(found.files).index(key)
-    rows, last = list(reader.rows[2:]), reader.rows[-1]
-    rows[place - 2] = last
-    rows.pop()
-    count, marks = len(rows) + 2, up(up(found.blocks, 8), size)
-    writer = Writer(found.free[:needs], size)
-    origin = 9 - found.origin
-    root, listing = writer.put(bytes(64 * count), first=origin)
-    first = writer.written.pop(origin)
-    map_root, _ = writer.put(bytes(marks * size))
-    fresh = set(writer.written)
-    writer.written[origin] = first
-    gone = {number for at in (0, 1, place) for number in reader.trees[at] if number > 5}
-    used = set(range(1, found.blocks + 1)) - set(found.free) - gone | fresh
-    fill(writer, root, listing, b"".join([*own_rows(root, count, map_root, marks, date, size), *rows]))
-    fill(writer, map_root, marks, bits_of(used, marks * size))
-    head = bytearray(reader.block(3))
-    head[16:20], head[32:36] = struct.pack(">I", origin), struct.pack(">I", len(used))
-    return [*writer.written.items(), (3, bytes(head))]
-
-
-def said(name, found, size):
-    needs = erase_needs(found, size)
+def said(name, found):
     free = f"{len(found.free)} free, {len(found.lost)} lost"
-    return f"{name}: {len(found.files)} files, {found.blocks} blocks, {free}, origin {found.origin}; an erase takes {needs}"
+    return f"{name}: {len(found.files)} files, {found.blocks} blocks, {free}, origin {found.origin}"
 
 
 def main():
     if len(sys.argv) == 3:
         try:
-            print(said(sys.argv[1], read(pathlib.Path(sys.argv[1]).read_bytes(), int(sys.argv[2])), int(sys.argv[2])))
+            print(said(sys.argv[1], read(pathlib.Path(sys.argv[1]).read_bytes(), int(sys.argv[2]))))
         except Refused as refused:
             sys.exit(f"{sys.argv[1]}: no minidisk, reason {refused}")
         return
@@ -410,7 +382,7 @@ def main():
             sys.exit(f"{name}: it isn't read as it was made")
         path = pathlib.Path(sys.argv[1]) / f"{name}.img"
         path.write_bytes(image)
-        print(said(path, found, SIZE))
+        print(said(path, found))
 
 
 if __name__ == "__main__":

@@ -6,7 +6,10 @@ use Rattle.cms_names.specs.Modes.{letter_of, mode_number_of, mode_word_of, short
 use Rattle.cms_names.specs.Names.{is_name_character}
 use Rattle.cms_text.specs.Numbers.{decimal_of, written, magnitude_of}
 use Rattle.cms_text.specs.Texts.{ebcdic, is_keyword}
-use Rattle.cms_model.specs.Changes.{answer_of, changed, changed_files, is_full, limit, need, written_file}
+use Rattle.cms_model.specs.Changes.{answer_of, changed, changed_files, entries_made, is_full, limit, need, place_named, written_file}
+use Rattle.cms_model.specs.Lists.{holds}
+use Rattle.cms_model.specs.DirectoryParts.{blocks_with, directory_taken}
+use Rattle.cms_model.specs.Sharing.{any_within, fresh_count, fresh_on, fresh_to, is_kept}
 use Rattle.cms_model.specs.Minidisks.{State, Volume, Not}
 use Rattle.cms_model.specs.Sizes.{directory_more, file_size, free_count, map_size, stored_size, tree_size, used_count, levels, levels_from, pointer_count, pointers_to}
 use Rattle.cms_machine.specs.Acts.{Act, typed_line}
@@ -164,6 +167,7 @@ relabelled : (formats (labelled (as_a 0)) (codes "FORMAT 191 A (LABEL") (text (c
 unfolding format_operands operands_of needed given device device_of hexadecimal_of letter mode_word_of short_mode_of letter_of ended chosen_of options_of options_from all_valued valued
     setting_in last_among asking is_keyword ebcdic code_of code_page host_of upper_of character_of is_name_character goes_on is_label message_text typed_line tokens_of tokens_from moment answer_of
     limit changed_files written_file is_full free_count used_count directory_more tree_size pointer_count pointers_to levels levels_from map_size need changed
+    place_named entries_made directory_taken blocks_with holds fresh_count fresh_to fresh_on is_kept any_within
 relabelled = (refl, refl, refl)
 
 -- no turn is left for a line that is to be dropped

@@ -1,24 +1,23 @@
 -- One file that is copied: records are written as a file of the output's disk, whatever they are.
 use Rattle.std.proofs.Common.{◌≡◌, ◌∙◌, inl, ℕ, List, [], ◌∷◌, Option, Some, Result, Ok, Err, length, slice_get, refl, sym, ap, subst, arith}
-use Rattle.std.specs.Prelude.{IfSome, ⊤}
+use Rattle.std.specs.Prelude.{IfSome, false, ⊤}
 use Rattle.cms_journal.specs.Causes.{Rose}
-use Rattle.cms_journal.specs.Journal.{Journal}
 use Rattle.cms_journal.specs.Told.{Told}
 use Rattle.cms_journal.proofs.Counts.{counted_one}
 use Rattle.cms_names.specs.declared.name.Name.{Name}
 use Rattle.cms_fields.specs.Moments.{stamp_of}
 use Rattle.cms_fields.specs.declared.time.Stamp.{Stamp}
 use Rattle.cms_model.specs.Changes.{Change, changed}
-use Rattle.cms_model.specs.Minidisks.{Minidisk, Volume}
+use Rattle.cms_model.specs.Minidisks.{Volume}
 use Rattle.cms_machine.specs.Acts.{Act, Does, bind}
 use Rattle.cms_machine.specs.Runs.{Ran}
 use Rattle.cms_machine.specs.Slots.{Settled, Slot}
-use Rattle.cms_machine.specs.Steps.{Get, OldFault}
+use Rattle.cms_machine.specs.Steps.{Get, OldFault, is_relabel}
+use Rattle.cms_draft.specs.declared.shape.DraftShape.{DraftShape}
 use Rattle.cms_line.specs.declared.token.Token.{Token}
 use Rattle.cms_line.specs.ConsoleState.{ConsoleState}
-use Rattle.cms_disk.specs.Drafts as drafts
 use Rattle.cms_disk.specs.Changing.{Appends}
-use Rattle.cms_disk.specs.Disks.{Accessed, IsMinidisk}
+use Rattle.cms_disk.specs.Disks.{Accessed}
 use Rattle.cms_disk.specs.Drafts.{WritesAside}
 use Rattle.cms_disk.specs.declared.fault.DiskFault.{DiskFault}
 use Rattle.cms_disk.specs.declared.fault.DiskFault.TheVariants as failed
@@ -49,16 +48,19 @@ use Rattle.cms_files.specs.declared.updating.Updated as declared
 use Rattle.cms_world.specs.Seen.{Seen}
 use Rattle.cms_copyfile.specs.Ending.{ChangesAs, WritesAll, WroteAll}
 use Rattle.cms_copyfile.specs.FileCopies.{IsFileCopy}
-use Rattle.cms_copyfile.specs.Writing.{CameTo, putting}
+use Rattle.cms_copyfile.specs.Writing.{change_as, changing}
 use Rattle.cms_copyfile.specs.declared.copy.FileCopy.{FileCopy}
 use Rattle.cms_copyfile.specs.declared.line.CopyLine.{CopyLine}
 use Rattle.cms_copyfile.specs.declared.writing.CopyTarget.{CopyTarget}
+use Rattle.cms_copyfile.specs.declared.writing.CopyWrite.{CopyWrite}
+use Rattle.cms_copyfile.specs.declared.writing.CopyWrite.TheVariants.{Added, Whole}
 use Rattle.cms_copyfile.specs.declared.writing.Written.{Written}
 use Rattle.cms_copyfile.specs.declared.writing.Written.TheVariants.{Altered, Came, Unread}
 use Rattle.cms_copyfile.proofs.CopyInput.{input_at}
 use Rattle.cms_copyfile.proofs.FilesCopied.{copying_at}
 use Rattle.cms_copyfile.proofs.OneRead.{acts_by, acts_by_stop, acts_never_so, behind_read, first, tree_at, wanted_in, wanted_low, whole}
 use Rattle.cms_copyfile.proofs.ReadAside.{DraftedOn, read_failed_beside}
+use Rattle.cms_copyfile.proofs.Writes.{old_may, old_none}
 
 -- ---- what follows the change of the output's disk
 
@@ -105,20 +107,27 @@ module _ (mid now : Spot) (to : CopyTarget) (all : List Slot → List (List ℕ)
       let grown = usable_grown mid.world.told now.world.told t w.seat.does.changes.units.grown usable in
       subst (λ (x : Accesses). Usable now.world.told x) (sym table) (λ j at. usable_with j t to.letter s e w.there w.seat.does.changes.same (grown j at))
 
--- the disk was updated, where putting all the records is this change
-pub all_came : (mid now : Spot) (to : CopyTarget) (all : List Slot → List (List ℕ)) (s : Seated) (change : List Slot → Change) (r : Result ⊤ DiskFault) → WroteAll mid now to all s (Came r)
-    → ((e : Accessed) (units : List Slot) → holds mid units → (j : Journal) (m : Minidisk) → mid.world.told ≡ Some j → IsMinidisk j s.disk m
-    → CameTo mid.world.told now.world.told s.disk e m to (all units) (Came r) → Appends mid.world.told now.world.told s.disk e m (change units) to.stamp r)
-    → Updated mid now to.letter s change r
-all_came mid now to all s change r w turns = record {
+-- the change is of the file of that name
+pub names_as : (write : CopyWrite) (name : Name) (shape : DraftShape) (all : List (List ℕ)) → names_of (change_as write name shape all) ≡ name ∷ []
+names_as Whole name shape all = refl
+names_as Added name shape all = refl
+
+no_label : (write : CopyWrite) (name : Name) (shape : DraftShape) (all : List (List ℕ)) → is_relabel (change_as write name shape all) ≡ false
+no_label Whole name shape all = refl
+no_label Added name shape all = refl
+
+-- the disk was updated
+pub all_came : (mid now : Spot) (to : CopyTarget) (all : List Slot → List (List ℕ)) (s : Seated) (r : Result ⊤ DiskFault) → WroteAll mid now to all s (Came r)
+    → Updated mid now to.letter s (λ units. changing to (all units)) r
+all_came mid now to all s r w = record {
   there = w.there;
   seat = record {
     disk = w.seat.disk;
     table = w.seat.table;
     does = record {
       appends = λ units h j m told minidisk looked.
-          subst (λ (z : Stamp). Appends mid.world.told now.world.told s.disk w.seat.disk m (change units) z r) w.stamp
-          (turns w.seat.disk units h j m told minidisk (w.seat.does.came units h j m told minidisk looked));
+          subst (λ (z : Stamp). Appends mid.world.told now.world.told s.disk w.seat.disk m (changing to (all units)) z r) w.stamp
+          (w.seat.does.came units h j m told minidisk looked);
       changes = w.seat.does.changes;
     };
   };
@@ -168,10 +177,11 @@ module _ (before : Seen) (mid now : Spot) (words : List Token) (line : CopyLine)
       let x = copying_at mid line c is units h in
       let k = meets_at mid units to.letter s w.there h in
       let m = k.met.minidisk in
-      let put = putting to (all units) in
+      let put = changing to (all units) in
       let u = w.seat.does.came units h k.journal m k.told k.met.is k.met.looked in
       let volume : e.volume ≡ s.disk.volume = ap (λ (d : Accessed). d.volume) (w.seat.does.changes.kept (λ (d : failed.Device ≡ failed.InDoubt). absurd (cc d))) in
-      let kept = given_up mid.world.told now.world.told s.disk e m (drafts.file_with to.name to.shape (all units)) stamp (changed m put) u.stands u.answer volume in
+      let no = no_label to.write to.name to.shape (all units) in
+      let kept = given_up mid.world.told now.world.told s.disk e m put stamp (changed m put) u.stands u.answer (λ a. old_none put a no) (old_may put (changed m put) no) volume in
       let steps = steps_kept mid.world.told now.world.told k.journal units mid.state.table to.letter s e k.met put stamp k.told k.table w.there w.seat.does.changes.same kept in
       let answer = u.answer in
       let still : changed_units units s.letter.unit m put stamp OldFault ≡ units = rw answer refl in

@@ -9,20 +9,22 @@ use Rattle.cms_journal.specs.declared.event.Attached.{Attached}
 use Rattle.cms_journal.specs.Journal.{Journal}
 use Rattle.cms_journal.specs.Told.{Grown, Told}
 use Rattle.cms_journal.proofs.Pieces.{plus-none, plus-some}
-use Rattle.cms_edf.specs.FileDrafts.{FileDraft, IsSomeDraft}
+use Rattle.cms_fields.specs.declared.time.Stamp.{Stamp}
+use Rattle.cms_edf.specs.FileDrafts.{FileDraft}
 use Rattle.cms_edf.specs.OpeningSteps.{OfImage}
+use Rattle.cms_model.specs.Changes.{Change}
 use Rattle.cms_model.specs.LawsUpdates.{now}
 use Rattle.cms_model.specs.Minidisks.{Minidisk}
 use Rattle.cms_model.specs.Settled.{Agree}
 use Rattle.cms_model.specs.Trees.{Image}
 use Rattle.cms_model.proofs.Members.{agree_back}
+use Rattle.cms_held.specs.Drafts.{Front}
 use Rattle.cms_draft.specs.Drafting.{Drafts}
 use Rattle.cms_disk.specs.Cursors.{HandsOut, HasLeft, Reading, SameFile, text_of}
 use Rattle.cms_disk.specs.Disks.{Accessed}
-use Rattle.cms_disk.specs.Drafts.{GoesOn, IsGivenUp, IsSameDraft, WritesAside}
+use Rattle.cms_disk.specs.Drafts.{GoesOn, IsGivenUp, WritesAside}
 use Rattle.cms_disk.specs.declared.fault.DiskFault.TheVariants as failed
-use Rattle.cms_disk.proofs.Filling.{same_some}
-use Rattle.cms_copyfile.specs.Copies.{Among, CopiesFrom, PutsCopies, StayBeside, copies_from, copies_to}
+use Rattle.cms_copyfile.specs.Copies.{CopiesFrom, PutsCopies, StayBeside, copies_from, copies_to}
 use Rattle.cms_copyfile.specs.Outputs.{copies_in}
 use Rattle.cms_copyfile.specs.Records.{copied}
 use Rattle.cms_copyfile.specs.declared.copying.CopyFault.{CopyFault}
@@ -34,118 +36,112 @@ use Rattle.cms_copyfile.proofs.Passes.{Hands, drop_last, drop_none}
 -- ---- which copies are put, and which are to come
 
 -- a record in front of the first that is copied
-pub front_to : (among : Among) (plan : CopyPlan) (front : List (List ℕ)) (text : List ℕ) (place : ℕ) → length front ≡ place → place < plan.skipped
-    → copies_to among plan (front ++ text ∷ []) ≡ copies_to among plan front
-front_to among plan front text place long less = ap (λ (l : List (List ℕ)). among.front ++ map (copied plan.style) l) (drop_none plan.skipped front text (omega arith))
+pub front_to : (plan : CopyPlan) (front : List (List ℕ)) (text : List ℕ) (place : ℕ) → length front ≡ place → place < plan.skipped → copies_to plan (front ++ text ∷ []) ≡ copies_to plan front
+front_to plan front text place long less = ap (map (copied plan.style)) (drop_none plan.skipped front text (omega arith))
 
-pub front_from : (among : Among) (plan : CopyPlan) (text : List ℕ) (rest : List (List ℕ)) (place : ℕ) → place < plan.wanted → place < plan.skipped
-    → copies_from among plan place (text ∷ rest) ≡ copies_from among plan (place + 1) rest
-front_from among plan text rest place wanted less =
+pub front_from : (plan : CopyPlan) (text : List ℕ) (rest : List (List ℕ)) (place : ℕ) → place < plan.wanted → place < plan.skipped
+    → copies_from plan place (text ∷ rest) ≡ copies_from plan (place + 1) rest
+front_from plan text rest place wanted less =
     let taken : plan.wanted - place ≡ suc (plan.wanted - (place + 1)) = omega arith in
     let passed : plan.skipped - place ≡ suc (plan.skipped - (place + 1)) = omega arith in
-    ap (λ (n : ℕ). map (copied plan.style) (drop (plan.skipped - place) (take n (text ∷ rest))) ++ among.behind) taken
-    ∙ ap (λ (n : ℕ). map (copied plan.style) (drop n (text ∷ take (plan.wanted - (place + 1)) rest)) ++ among.behind) passed
+    ap (λ (n : ℕ). map (copied plan.style) (drop (plan.skipped - place) (take n (text ∷ rest)))) taken
+    ∙ ap (λ (n : ℕ). map (copied plan.style) (drop n (text ∷ take (plan.wanted - (place + 1)) rest))) passed
 
 -- one that is copied
-pub copied_to : (among : Among) (plan : CopyPlan) (front : List (List ℕ)) (text : List ℕ) (place : ℕ) → length front ≡ place → plan.skipped ≤ place
-    → copies_to among plan (front ++ text ∷ []) ≡ copies_to among plan front ++ copied plan.style text ∷ []
-copied_to among plan front text place long high =
-    ap (λ (l : List (List ℕ)). among.front ++ map (copied plan.style) l) (drop_last plan.skipped front text (omega arith))
-    ∙ (ap (λ (l : List (List ℕ)). among.front ++ l) (map-append (copied plan.style) (drop plan.skipped front) (text ∷ []))
-    ∙ sym (append_assoc among.front (map (copied plan.style) (drop plan.skipped front)) (copied plan.style text ∷ [])))
+pub copied_to : (plan : CopyPlan) (front : List (List ℕ)) (text : List ℕ) (place : ℕ) → length front ≡ place → plan.skipped ≤ place
+    → copies_to plan (front ++ text ∷ []) ≡ copies_to plan front ++ copied plan.style text ∷ []
+copied_to plan front text place long high =
+    ap (map (copied plan.style)) (drop_last plan.skipped front text (omega arith)) ∙ map-append (copied plan.style) (drop plan.skipped front) (text ∷ [])
 
-pub copied_from : (among : Among) (plan : CopyPlan) (text : List ℕ) (rest : List (List ℕ)) (place : ℕ) → place < plan.wanted → plan.skipped ≤ place
-    → copies_from among plan place (text ∷ rest) ≡ copied plan.style text ∷ copies_from among plan (place + 1) rest
-copied_from among plan text rest place wanted high =
+pub copied_from : (plan : CopyPlan) (text : List ℕ) (rest : List (List ℕ)) (place : ℕ) → place < plan.wanted → plan.skipped ≤ place
+    → copies_from plan place (text ∷ rest) ≡ copied plan.style text ∷ copies_from plan (place + 1) rest
+copied_from plan text rest place wanted high =
     let taken : plan.wanted - place ≡ suc (plan.wanted - (place + 1)) = omega arith in
     let passed : plan.skipped - place ≡ 0 = omega arith in
     let later : plan.skipped - (place + 1) ≡ 0 = omega arith in
-    ap (λ (n : ℕ). map (copied plan.style) (drop (plan.skipped - place) (take n (text ∷ rest))) ++ among.behind) taken
-    ∙ (ap (λ (n : ℕ). map (copied plan.style) (drop n (text ∷ take (plan.wanted - (place + 1)) rest)) ++ among.behind) passed
-    ∙ ap (λ (n : ℕ). copied plan.style text ∷ (map (copied plan.style) (drop n (take (plan.wanted - (place + 1)) rest)) ++ among.behind)) (sym later))
+    ap (λ (n : ℕ). map (copied plan.style) (drop (plan.skipped - place) (take n (text ∷ rest)))) taken
+    ∙ (ap (λ (n : ℕ). map (copied plan.style) (drop n (text ∷ take (plan.wanted - (place + 1)) rest))) passed
+    ∙ ap (λ (n : ℕ). copied plan.style text ∷ map (copied plan.style) (drop n (take (plan.wanted - (place + 1)) rest))) (sym later))
 
 -- ---- a record is put
 
-pub record GoesWith (start now : Told) (d : Accessed) (m : Minidisk) (draft : FileDraft) (among : Among) (plan : CopyPlan) (front rest : List (List ℕ)) (text : List ℕ) (place : ℕ) : Type 0 where
-  pub some : IsSomeDraft d.volume draft
+pub record GoesWith (start now : Told) (d : Accessed) (m : Minidisk) (draft : FileDraft) (change : Change) (stamp : Stamp) (plan : CopyPlan) (front rest : List (List ℕ)) (text : List ℕ) (place : ℕ) : Type 0 where
   pub long : length front ≡ place
   pub wanted : place < plan.wanted
-  pub goes : GoesOn start now d m draft (copies_to among plan front) (copies_from among plan place (text ∷ rest))
+  pub goes : GoesOn start now d m draft change stamp (copies_to plan front) (copies_from plan place (text ∷ rest))
 
 -- none of it, where it isn't copied
-pub passed_by : (start now : Told) (d : Accessed) (m : Minidisk) (draft : FileDraft) (among : Among) (plan : CopyPlan) (front rest : List (List ℕ)) (text : List ℕ) (place : ℕ)
-    → GoesWith start now d m draft among plan front rest text place → place < plan.skipped
-    → GoesOn start now d m draft (copies_to among plan (front ++ text ∷ [])) (copies_from among plan (place + 1) rest)
-passed_by start now d m draft among plan front rest text place g less =
-    subst (λ (l : List (List ℕ)). GoesOn start now d m draft l (copies_from among plan (place + 1) rest)) (sym (front_to among plan front text place g.long less))
-    (subst (GoesOn start now d m draft (copies_to among plan front)) (front_from among plan text rest place g.wanted less) g.goes)
+pub passed_by : (start now : Told) (d : Accessed) (m : Minidisk) (draft : FileDraft) (change : Change) (stamp : Stamp) (plan : CopyPlan) (front rest : List (List ℕ)) (text : List ℕ) (place : ℕ)
+    → GoesWith start now d m draft change stamp plan front rest text place → place < plan.skipped
+    → GoesOn start now d m draft change stamp (copies_to plan (front ++ text ∷ [])) (copies_from plan (place + 1) rest)
+passed_by start now d m draft change stamp plan front rest text place g less =
+    subst (λ (l : List (List ℕ)). GoesOn start now d m draft change stamp l (copies_from plan (place + 1) rest)) (sym (front_to plan front text place g.long less))
+    (subst (GoesOn start now d m draft change stamp (copies_to plan front)) (front_from plan text rest place g.wanted less) g.goes)
 
 -- before its copy is put
-pub copy_next : (start now : Told) (d : Accessed) (m : Minidisk) (draft : FileDraft) (among : Among) (plan : CopyPlan) (front rest : List (List ℕ)) (text : List ℕ) (place : ℕ)
-    → GoesWith start now d m draft among plan front rest text place → plan.skipped ≤ place
-    → GoesOn start now d m draft (copies_to among plan front) (copied plan.style text ∷ copies_from among plan (place + 1) rest)
-copy_next start now d m draft among plan front rest text place g high =
-    subst (GoesOn start now d m draft (copies_to among plan front)) (copied_from among plan text rest place g.wanted high) g.goes
+pub copy_next : (start now : Told) (d : Accessed) (m : Minidisk) (draft : FileDraft) (change : Change) (stamp : Stamp) (plan : CopyPlan) (front rest : List (List ℕ)) (text : List ℕ) (place : ℕ)
+    → GoesWith start now d m draft change stamp plan front rest text place → plan.skipped ≤ place
+    → GoesOn start now d m draft change stamp (copies_to plan front) (copied plan.style text ∷ copies_from plan (place + 1) rest)
+copy_next start now d m draft change stamp plan front rest text place g high =
+    subst (GoesOn start now d m draft change stamp (copies_to plan front)) (copied_from plan text rest place g.wanted high) g.goes
 
 -- and behind it
-pub copy_put : (start now : Told) (d : Accessed) (m : Minidisk) (draft : FileDraft) (among : Among) (plan : CopyPlan) (front rest : List (List ℕ)) (text : List ℕ) (place : ℕ) → length front ≡ place
-    → plan.skipped ≤ place → GoesOn start now d m draft (copies_to among plan front ++ copied plan.style text ∷ []) (copies_from among plan (place + 1) rest)
-    → GoesOn start now d m draft (copies_to among plan (front ++ text ∷ [])) (copies_from among plan (place + 1) rest)
-copy_put start now d m draft among plan front rest text place long high goes =
-    subst (λ (l : List (List ℕ)). GoesOn start now d m draft l (copies_from among plan (place + 1) rest)) (sym (copied_to among plan front text place long high)) goes
+pub copy_put : (start now : Told) (d : Accessed) (m : Minidisk) (draft : FileDraft) (change : Change) (stamp : Stamp) (plan : CopyPlan) (front rest : List (List ℕ)) (text : List ℕ) (place : ℕ) → length front ≡ place
+    → plan.skipped ≤ place → GoesOn start now d m draft change stamp (copies_to plan front ++ copied plan.style text ∷ []) (copies_from plan (place + 1) rest)
+    → GoesOn start now d m draft change stamp (copies_to plan (front ++ text ∷ [])) (copies_from plan (place + 1) rest)
+copy_put start now d m draft change stamp plan front rest text place long high goes =
+    subst (λ (l : List (List ℕ)). GoesOn start now d m draft change stamp l (copies_from plan (place + 1) rest)) (sym (copied_to plan front text place long high)) goes
 
 -- with the text that was put, which is the copy
-module _ (start old : Told) (d : Accessed) (m : Minidisk) (draft : FileDraft) (among : Among) (plan : CopyPlan) (front rest : List (List ℕ)) (text t : List ℕ) (place : ℕ)
+module _ (start old : Told) (d : Accessed) (m : Minidisk) (draft : FileDraft) (change : Change) (stamp : Stamp) (plan : CopyPlan) (front rest : List (List ℕ)) (text t : List ℕ) (place : ℕ)
     (is : t ≡ copied plan.style text)
-    (g : GoesWith start old d m draft among plan front rest text place) (high : plan.skipped ≤ place) where
-  before_it : GoesOn start old d m draft (copies_to among plan front) (t ∷ copies_from among plan (place + 1) rest)
+    (g : GoesWith start old d m draft change stamp plan front rest text place) (high : plan.skipped ≤ place) where
+  before_it : GoesOn start old d m draft change stamp (copies_to plan front) (t ∷ copies_from plan (place + 1) rest)
   before_it =
-      subst (λ (c : List ℕ). GoesOn start old d m draft (copies_to among plan front) (c ∷ copies_from among plan (place + 1) rest)) (sym is)
-      (copy_next start old d m draft among plan front rest text place g high)
+      subst (λ (c : List ℕ). GoesOn start old d m draft change stamp (copies_to plan front) (c ∷ copies_from plan (place + 1) rest)) (sym is)
+      (copy_next start old d m draft change stamp plan front rest text place g high)
 
-  pub put_there : (new : Told) (draft' : FileDraft) → (GoesOn start old d m draft (copies_to among plan front) (t ∷ copies_from among plan (place + 1) rest)
-      → GoesOn start new d m draft' (copies_to among plan front ++ t ∷ []) (copies_from among plan (place + 1) rest))
-      → GoesOn start new d m draft' (copies_to among plan (front ++ text ∷ [])) (copies_from among plan (place + 1) rest)
+  pub put_there : (new : Told) (draft' : FileDraft) → (GoesOn start old d m draft change stamp (copies_to plan front) (t ∷ copies_from plan (place + 1) rest)
+      → GoesOn start new d m draft' change stamp (copies_to plan front ++ t ∷ []) (copies_from plan (place + 1) rest))
+      → GoesOn start new d m draft' change stamp (copies_to plan (front ++ text ∷ [])) (copies_from plan (place + 1) rest)
   put_there new draft' puts =
-      copy_put start new d m draft' among plan front rest text place g.long high
-      (subst (λ (c : List ℕ). GoesOn start new d m draft' (copies_to among plan front ++ c ∷ []) (copies_from among plan (place + 1) rest)) is (puts before_it))
+      copy_put start new d m draft' change stamp plan front rest text place g.long high
+      (subst (λ (c : List ℕ). GoesOn start new d m draft' change stamp (copies_to plan front ++ c ∷ []) (copies_from plan (place + 1) rest)) is (puts before_it))
 
-  pub put_failed : (new : Told) → (GoesOn start old d m draft (copies_to among plan front) (t ∷ copies_from among plan (place + 1) rest) → IsGivenUp start new d m) → IsGivenUp start new d m
+  pub put_failed : (new : Told) → (GoesOn start old d m draft change stamp (copies_to plan front) (t ∷ copies_from plan (place + 1) rest) → IsGivenUp start new d m) → IsGivenUp start new d m
   put_failed new fails = fails before_it
 
   -- it is the record that is to come
-  pub put_never : (Drafts draft.writer (copies_to among plan front) (t ∷ copies_from among plan (place + 1) rest) → ⊥) → ⊥
-  put_never altered = altered before_it.drafts
+  pub put_never : ((before : Front) → Drafts draft.writer before (copies_to plan front) (t ∷ copies_from plan (place + 1) rest) → ⊥) → ⊥
+  put_never altered = altered before_it.front before_it.drafts
 
 -- ---- how far the pass has come
 
 -- so many of the records were read, and the copies of those are put; the others are left to read, as they were at the start
-pub record CopiedTo (start now : Told) (d : Accessed) (m : Minidisk) (draft : FileDraft) (among : Among) (plan : CopyPlan) (first c : Reading) (records : List (List ℕ)) (place : ℕ) : Type 0 where
+pub record CopiedTo (start now : Told) (d : Accessed) (m : Minidisk) (draft : FileDraft) (change : Change) (stamp : Stamp) (plan : CopyPlan) (first c : Reading) (records : List (List ℕ)) (place : ℕ) : Type 0 where
   pub front : List (List ℕ)
   pub rest : List (List ℕ)
   pub split : records ≡ front ++ rest
   pub long : length front ≡ place
-  pub some : IsSomeDraft d.volume draft
-  pub goes : GoesOn start now d m draft (copies_to among plan front) (copies_from among plan place rest)
+  pub goes : GoesOn start now d m draft change stamp (copies_to plan front) (copies_from plan place rest)
   pub left : OfImage start first.unit (λ image. HasLeft image c rest)
 
-pub copied_first : (start now : Told) (d : Accessed) (m : Minidisk) (draft : FileDraft) (among : Among) (plan : CopyPlan) (c : Reading) (records : List (List ℕ))
-    → CopiesFrom start now d m draft plan c records among → CopiedTo start now d m draft among plan c c records 0
-copied_first start now d m draft among plan c records from =
-    let none : copies_to among plan [] ≡ among.front =
-    ap (λ (l : List (List ℕ)). among.front ++ map (copied plan.style) l) (drop-nil plan.skipped) ∙ append-nil among.front in
+pub copied_first : (start now : Told) (d : Accessed) (m : Minidisk) (draft : FileDraft) (change : Change) (stamp : Stamp) (plan : CopyPlan) (c : Reading) (records : List (List ℕ))
+    → CopiesFrom start now d m draft change stamp plan c records → CopiedTo start now d m draft change stamp plan c c records 0
+copied_first start now d m draft change stamp plan c records from =
+    let none : copies_to plan [] ≡ [] = ap (map (copied plan.style)) (drop-nil plan.skipped) in
     let skipped : plan.skipped - 0 ≡ plan.skipped = omega arith in
     let wanted : plan.wanted - 0 ≡ plan.wanted = omega arith in
-    let all : copies_from among plan 0 records ≡ copies_in plan records ++ among.behind =
-    ap (λ (n : ℕ). map (copied plan.style) (drop n (take (plan.wanted - 0) records)) ++ among.behind) skipped
-    ∙ ap (λ (n : ℕ). map (copied plan.style) (drop plan.skipped (take n records)) ++ among.behind) wanted in
+    let all : copies_from plan 0 records ≡ copies_in plan records =
+    ap (λ (n : ℕ). map (copied plan.style) (drop n (take (plan.wanted - 0) records))) skipped
+    ∙ ap (λ (n : ℕ). map (copied plan.style) (drop plan.skipped (take n records))) wanted in
     record {
       front = [];
       rest = records;
       split = refl;
       long = refl;
-      some = from.some;
-      goes = subst (λ (l : List (List ℕ)). GoesOn start now d m draft l (copies_from among plan 0 records)) (sym none) (subst (GoesOn start now d m draft among.front) (sym all) from.goes);
+      goes = subst (λ (l : List (List ℕ)). GoesOn start now d m draft change stamp l (copies_from plan 0 records)) (sym none)
+          (subst (GoesOn start now d m draft change stamp []) (sym all) from.goes);
       left = from.left;
     }
 
@@ -164,9 +160,9 @@ hands_there before later c records true agree out = (out.0, out.1, left_there be
 hands_there before later c records false agree out = (out.0, left_there before later c records agree out.1)
 
 -- a file's blocks are as they were at the start
-agree_then : (start now' : Told) (d : Accessed) (m : Minidisk) (draft : FileDraft) (done more : List (List ℕ)) (first : Reading) → StayBeside start d m first.unit first.leaves
-    → (goes : GoesOn start now' d m draft done more) → AtStart start (λ j. Agree first.leaves (now goes.stands.at first.unit) (now j first.unit))
-agree_then start now' d m draft done more first stay goes =
+agree_then : (start now' : Told) (d : Accessed) (m : Minidisk) (draft : FileDraft) (change : Change) (stamp : Stamp) (done more : List (List ℕ)) (first : Reading) → StayBeside start d m first.unit first.leaves
+    → (goes : GoesOn start now' d m draft change stamp done more) → AtStart start (λ j. Agree first.leaves (now goes.stands.at first.unit) (now j first.unit))
+agree_then start now' d m draft change stamp done more first stay goes =
     let k = goes.stands.at in
     let told : now' ≡ Some k = goes.stands.told_is in
     let begun = start_told start now' d.volume.unit m k told goes.aside in
@@ -174,40 +170,40 @@ agree_then start now' d m draft done more first stay goes =
     record { journal = begun.0; told = begun.1; holds = stay begun.0 k begun.1 goes.stands.minidisk aside }
 
 -- what was left at the start is left now
-left_now : (start now' : Told) (d : Accessed) (m : Minidisk) (draft : FileDraft) (done more : List (List ℕ)) (first c : Reading) (rest : List (List ℕ))
-    → StayBeside start d m first.unit first.leaves → (goes : GoesOn start now' d m draft done more) → SameFile first c
+left_now : (start now' : Told) (d : Accessed) (m : Minidisk) (draft : FileDraft) (change : Change) (stamp : Stamp) (done more : List (List ℕ)) (first c : Reading) (rest : List (List ℕ))
+    → StayBeside start d m first.unit first.leaves → (goes : GoesOn start now' d m draft change stamp done more) → SameFile first c
     → OfImage start first.unit (λ image. HasLeft image c rest) → HasLeft (now goes.stands.at first.unit) c rest
-left_now start now' d m draft done more first c rest stay goes same left =
+left_now start now' d m draft change stamp done more first c rest stay goes same left =
     let u = first.unit in
     let k = goes.stands.at in
-    let then' = agree_then start now' d m draft done more first stay goes in
+    let then' = agree_then start now' d m draft change stamp done more first stay goes in
     let j = then'.journal in
     let back : Agree c.leaves (now j u) (now k u) = subst (λ (l : List ℕ). Agree l (now j u) (now k u)) (sym same.leaves) (agree_back first.leaves (now k u) (now j u) then'.holds) in
     left_there (now j u) (now k u) c rest back (left j then'.told)
 
 -- what is handed out beside the draft was left at the start
-hands_beside : (start now' : Told) (d : Accessed) (m : Minidisk) (draft : FileDraft) (done more : List (List ℕ)) (first c next : Reading) (rest : List (List ℕ)) (there : Bool)
-    → StayBeside start d m first.unit first.leaves → GoesOn start now' d m draft done more → SameFile first c → SameFile first next → Hands now' first.unit c next there
+hands_beside : (start now' : Told) (d : Accessed) (m : Minidisk) (draft : FileDraft) (change : Change) (stamp : Stamp) (done more : List (List ℕ)) (first c next : Reading) (rest : List (List ℕ)) (there : Bool)
+    → StayBeside start d m first.unit first.leaves → GoesOn start now' d m draft change stamp done more → SameFile first c → SameFile first next → Hands now' first.unit c next there
     → OfImage start first.unit (λ image. HasLeft image c rest) → AtStart start (λ j. HandsOut (now j first.unit) next rest (Ok there))
-hands_beside start now' d m draft done more first c next rest there stay goes same later hands left =
+hands_beside start now' d m draft change stamp done more first c next rest there stay goes same later hands left =
     let u = first.unit in
     let k = goes.stands.at in
-    let then' = agree_then start now' d m draft done more first stay goes in
+    let then' = agree_then start now' d m draft change stamp done more first stay goes in
     let j = then'.journal in
     let on : Agree next.leaves (now k u) (now j u) = subst (λ (l : List ℕ). Agree l (now k u) (now j u)) (sym later.leaves) then'.holds in
     record {
       journal = j;
       told = then'.told;
-      holds = hands_there (now k u) (now j u) next rest there on (hands k goes.stands.told_is rest (left_now start now' d m draft done more first c rest stay goes same left));
+      holds = hands_there (now k u) (now j u) next rest there on (hands k goes.stands.told_is rest (left_now start now' d m draft change stamp done more first c rest stay goes same left));
     }
 
 -- they are the file's records
-pub never_altered : (start now' : Told) (d : Accessed) (m : Minidisk) (draft : FileDraft) (done more : List (List ℕ)) (first c next : Reading) (rest : List (List ℕ))
-    → StayBeside start d m first.unit first.leaves → GoesOn start now' d m draft done more → SameFile first c
+pub never_altered : (start now' : Told) (d : Accessed) (m : Minidisk) (draft : FileDraft) (change : Change) (stamp : Stamp) (done more : List (List ℕ)) (first c next : Reading) (rest : List (List ℕ))
+    → StayBeside start d m first.unit first.leaves → GoesOn start now' d m draft change stamp done more → SameFile first c
     → OfImage now' first.unit (λ image. (all : List (List ℕ)) → HasLeft image c all → HandsOut image next all (Err failed.Altered))
     → OfImage start first.unit (λ image. HasLeft image c rest) → ⊥
-never_altered start now' d m draft done more first c next rest stay goes same hands left =
-    let here = left_now start now' d m draft done more first c rest stay goes same left in
+never_altered start now' d m draft change stamp done more first c next rest stay goes same hands left =
+    let here = left_now start now' d m draft change stamp done more first c rest stay goes same left in
     hands goes.stands.at goes.stands.told_is rest here
 
 only_told : (start : Told) (u : ℕ) (j : Journal) (c : Reading) (records : List (List ℕ)) → start ≡ Some j → HasLeft (now j u) c records → OfImage start u (λ image. HasLeft image c records)
@@ -218,29 +214,29 @@ only_told start u j c records is left k told =
 -- ---- one record more
 
 -- it was read, and its copy was put, or not
-pub record NextPut (start new : Told) (d : Accessed) (m : Minidisk) (draft : FileDraft) (among : Among) (plan : CopyPlan) (first next : Reading) (records : List (List ℕ)) (place : ℕ)
+pub record NextPut (start new : Told) (d : Accessed) (m : Minidisk) (draft : FileDraft) (change : Change) (stamp : Stamp) (plan : CopyPlan) (first next : Reading) (records : List (List ℕ)) (place : ℕ)
     (result : Result ⊤ CopyFault) : Type 0 where
   pub front : List (List ℕ)
   pub rest : List (List ℕ)
   pub split : records ≡ front ++ rest
   pub long : length front ≡ place + 1
-  pub puts : PutsCopies start new d m draft (copies_to among plan front) (copies_from among plan (place + 1) rest) result
+  pub puts : PutsCopies start new d m draft change stamp (copies_to plan front) (copies_from plan (place + 1) rest) result
   pub left : OfImage start first.unit (λ image. HasLeft image next rest)
 
 -- what putting it says
-abbrev pub PutsNth : Told → Told → Accessed → Minidisk → FileDraft → FileDraft → Among → CopyPlan → ℕ → List ℕ → Result ⊤ CopyFault → Type 0
-PutsNth mid new d m draft draft' among plan place text result =
-    (start : Told) (front rest : List (List ℕ)) → IsSomeDraft d.volume draft → length front ≡ place → place < plan.wanted
-    → GoesOn start mid d m draft (copies_to among plan front) (copies_from among plan place (text ∷ rest))
-    → PutsCopies start new d m draft' (copies_to among plan (front ++ text ∷ [])) (copies_from among plan (place + 1) rest) result
+abbrev pub PutsNth : Told → Told → Accessed → Minidisk → FileDraft → FileDraft → Change → Stamp → CopyPlan → ℕ → List ℕ → Result ⊤ CopyFault → Type 0
+PutsNth mid new d m draft draft' change stamp plan place text result =
+    (start : Told) (front rest : List (List ℕ)) → length front ≡ place → place < plan.wanted
+    → GoesOn start mid d m draft change stamp (copies_to plan front) (copies_from plan place (text ∷ rest))
+    → PutsCopies start new d m draft' change stamp (copies_to plan (front ++ text ∷ [])) (copies_from plan (place + 1) rest) result
 
-pub next_put : (start mid new : Told) (d : Accessed) (m : Minidisk) (draft draft' : FileDraft) (among : Among) (plan : CopyPlan) (first c next : Reading) (records : List (List ℕ)) (place : ℕ)
+pub next_put : (start mid new : Told) (d : Accessed) (m : Minidisk) (draft draft' : FileDraft) (change : Change) (stamp : Stamp) (plan : CopyPlan) (first c next : Reading) (records : List (List ℕ)) (place : ℕ)
     (text : List ℕ)
-    (result : Result ⊤ CopyFault) → StayBeside start d m first.unit first.leaves → CopiedTo start mid d m draft among plan first c records place → SameFile first c → SameFile first next
-    → place < plan.wanted → Hands mid first.unit c next true → text ≡ text_of next → PutsNth mid new d m draft draft' among plan place text result
-    → NextPut start new d m draft' among plan first next records place result
-next_put start mid new d m draft draft' among plan first c next records place text result stay to same later wanted hands is_text puts =
-    let out = hands_beside start mid d m draft (copies_to among plan to.front) (copies_from among plan place to.rest) first c next to.rest true stay to.goes same later hands to.left in
+    (result : Result ⊤ CopyFault) → StayBeside start d m first.unit first.leaves → CopiedTo start mid d m draft change stamp plan first c records place → SameFile first c → SameFile first next
+    → place < plan.wanted → Hands mid first.unit c next true → text ≡ text_of next → PutsNth mid new d m draft draft' change stamp plan place text result
+    → NextPut start new d m draft' change stamp plan first next records place result
+next_put start mid new d m draft draft' change stamp plan first c next records place text result stay to same later wanted hands is_text puts =
+    let out = hands_beside start mid d m draft change stamp (copies_to plan to.front) (copies_from plan place to.rest) first c next to.rest true stay to.goes same later hands to.left in
     let handed : (more : List (List ℕ)) × (to.rest ≡ text_of next ∷ more) × HasLeft (now out.journal first.unit) next more = out.holds in
     let more = handed.0 in
     let here : to.rest ≡ text ∷ more = handed.1 ∙ ap (λ (t : List ℕ). t ∷ more) (sym is_text) in
@@ -251,80 +247,79 @@ next_put start mid new d m draft draft' among plan first c next records place te
       rest = more;
       split = to.split ∙ (ap (λ (l : List (List ℕ)). to.front ++ l) here ∙ sym (append_assoc to.front (text ∷ []) more));
       long = omega arith;
-      puts = puts start to.front more to.some to.long wanted
-          (subst (λ (l : List (List ℕ)). GoesOn start mid d m draft (copies_to among plan to.front) (copies_from among plan place l)) here to.goes);
+      puts = puts start to.front more to.long wanted
+          (subst (λ (l : List (List ℕ)). GoesOn start mid d m draft change stamp (copies_to plan to.front) (copies_from plan place l)) here to.goes);
       left = only_told start first.unit out.journal next more out.told handed.2;
     }
 
-pub copied_next : (start new : Told) (d : Accessed) (m : Minidisk) (draft draft' : FileDraft) (among : Among) (plan : CopyPlan) (first next : Reading) (records : List (List ℕ)) (place : ℕ) (x : ⊤)
-    → IsSomeDraft d.volume draft → IsSameDraft draft draft' → NextPut start new d m draft' among plan first next records place (Ok x)
-    → CopiedTo start new d m draft' among plan first next records (place + 1)
-copied_next start new d m draft draft' among plan first next records place x some same one = record {
+pub copied_next : (start new : Told) (d : Accessed) (m : Minidisk) (draft draft' : FileDraft) (change : Change) (stamp : Stamp) (plan : CopyPlan) (first next : Reading) (records : List (List ℕ)) (place : ℕ) (x : ⊤)
+    → NextPut start new d m draft' change stamp plan first next records place (Ok x)
+    → CopiedTo start new d m draft' change stamp plan first next records (place + 1)
+copied_next start new d m draft draft' change stamp plan first next records place x one = record {
   front = one.front;
   rest = one.rest;
   split = one.split;
   long = one.long;
-  some = same_some d.volume draft draft' same some;
   goes = one.puts;
   left = one.left;
 }
 
 -- where it fails, it doesn't matter how far it had come
-pub fails_so : (start now' : Told) (d : Accessed) (m : Minidisk) (draft : FileDraft) (done more done' more' : List (List ℕ)) (e : CopyFault) → PutsCopies start now' d m draft done more (Err e)
-    → PutsCopies start now' d m draft done' more' (Err e)
-fails_so start now' d m draft done more done' more' why.Read is = is
-fails_so start now' d m draft done more done' more' why.Write is = is
-fails_so start now' d m draft done more done' more' why.Altered is = is
+pub fails_so : (start now' : Told) (d : Accessed) (m : Minidisk) (draft : FileDraft) (change : Change) (stamp : Stamp) (done more done' more' : List (List ℕ)) (e : CopyFault) → PutsCopies start now' d m draft change stamp done more (Err e)
+    → PutsCopies start now' d m draft change stamp done' more' (Err e)
+fails_so start now' d m draft change stamp done more done' more' why.Read is = is
+fails_so start now' d m draft change stamp done more done' more' why.Write is = is
+fails_so start now' d m draft change stamp done more done' more' why.Altered is = is
 
-pub nth_fails : (start mid new : Told) (d : Accessed) (m : Minidisk) (draft draft' : FileDraft) (among : Among) (plan : CopyPlan) (first c next : Reading) (records : List (List ℕ)) (place : ℕ)
+pub nth_fails : (start mid new : Told) (d : Accessed) (m : Minidisk) (draft draft' : FileDraft) (change : Change) (stamp : Stamp) (plan : CopyPlan) (first c next : Reading) (records : List (List ℕ)) (place : ℕ)
     (text : List ℕ)
-    (e : CopyFault) → StayBeside start d m first.unit first.leaves → CopiedTo start mid d m draft among plan first c records place → SameFile first c → SameFile first next → place < plan.wanted
-    → Hands mid first.unit c next true → text ≡ text_of next → PutsNth mid new d m draft draft' among plan place text (Err e)
-    → PutsCopies start new d m draft' (among.front ++ copies_in plan records) among.behind (Err e)
-nth_fails start mid new d m draft draft' among plan first c next records place text e stay to same later wanted hands is_text puts =
-    let one = next_put start mid new d m draft draft' among plan first c next records place text (Err e) stay to same later wanted hands is_text puts in
-    fails_so start new d m draft' (copies_to among plan one.front) (copies_from among plan (place + 1) one.rest) (among.front ++ copies_in plan records) among.behind e one.puts
+    (e : CopyFault) → StayBeside start d m first.unit first.leaves → CopiedTo start mid d m draft change stamp plan first c records place → SameFile first c → SameFile first next → place < plan.wanted
+    → Hands mid first.unit c next true → text ≡ text_of next → PutsNth mid new d m draft draft' change stamp plan place text (Err e)
+    → PutsCopies start new d m draft' change stamp (copies_in plan records) [] (Err e)
+nth_fails start mid new d m draft draft' change stamp plan first c next records place text e stay to same later wanted hands is_text puts =
+    let one = next_put start mid new d m draft draft' change stamp plan first c next records place text (Err e) stay to same later wanted hands is_text puts in
+    fails_so start new d m draft' change stamp (copies_to plan one.front) (copies_from plan (place + 1) one.rest) (copies_in plan records) [] e one.puts
 
 -- ---- how the pass ends
 
-nothing_from : (among : Among) (plan : CopyPlan) (place : ℕ) (rest : List (List ℕ)) → take (plan.wanted - place) rest ≡ [] → copies_from among plan place rest ≡ among.behind
-nothing_from among plan place rest none =
-    ap (λ (l : List (List ℕ)). map (copied plan.style) (drop (plan.skipped - place) l) ++ among.behind) none
-    ∙ ap (λ (l : List (List ℕ)). map (copied plan.style) l ++ among.behind) (drop-nil (plan.skipped - place))
+nothing_from : (plan : CopyPlan) (place : ℕ) (rest : List (List ℕ)) → take (plan.wanted - place) rest ≡ [] → copies_from plan place rest ≡ []
+nothing_from plan place rest none =
+    ap (λ (l : List (List ℕ)). map (copied plan.style) (drop (plan.skipped - place) l)) none
+    ∙ ap (λ (l : List (List ℕ)). map (copied plan.style) l) (drop-nil (plan.skipped - place))
 
-ended : (start now' : Told) (d : Accessed) (m : Minidisk) (draft : FileDraft) (among : Among) (plan : CopyPlan) (front rest records : List (List ℕ)) (place : ℕ)
-    → GoesOn start now' d m draft (copies_to among plan front) (copies_from among plan place rest) → take plan.wanted records ≡ front → take (plan.wanted - place) rest ≡ []
-    → GoesOn start now' d m draft (among.front ++ copies_in plan records) among.behind
-ended start now' d m draft among plan front rest records place goes taken none =
-    subst (λ (l : List (List ℕ)). GoesOn start now' d m draft (among.front ++ map (copied plan.style) (drop plan.skipped l)) among.behind) (sym taken)
-    (subst (GoesOn start now' d m draft (copies_to among plan front)) (nothing_from among plan place rest none) goes)
+ended : (start now' : Told) (d : Accessed) (m : Minidisk) (draft : FileDraft) (change : Change) (stamp : Stamp) (plan : CopyPlan) (front rest records : List (List ℕ)) (place : ℕ)
+    → GoesOn start now' d m draft change stamp (copies_to plan front) (copies_from plan place rest) → take plan.wanted records ≡ front → take (plan.wanted - place) rest ≡ []
+    → GoesOn start now' d m draft change stamp (copies_in plan records) []
+ended start now' d m draft change stamp plan front rest records place goes taken none =
+    subst (λ (l : List (List ℕ)). GoesOn start now' d m draft change stamp (map (copied plan.style) (drop plan.skipped l)) []) (sym taken)
+    (subst (GoesOn start now' d m draft change stamp (copies_to plan front)) (nothing_from plan place rest none) goes)
 
 -- all that are wanted were read
-pub copied_wanted : (start now' : Told) (d : Accessed) (m : Minidisk) (draft : FileDraft) (among : Among) (plan : CopyPlan) (first c : Reading) (records : List (List ℕ)) (place : ℕ)
-    → CopiedTo start now' d m draft among plan first c records place → place ≡ plan.wanted → GoesOn start now' d m draft (among.front ++ copies_in plan records) among.behind
-copied_wanted start now' d m draft among plan first c records place to is =
+pub copied_wanted : (start now' : Told) (d : Accessed) (m : Minidisk) (draft : FileDraft) (change : Change) (stamp : Stamp) (plan : CopyPlan) (first c : Reading) (records : List (List ℕ)) (place : ℕ)
+    → CopiedTo start now' d m draft change stamp plan first c records place → place ≡ plan.wanted → GoesOn start now' d m draft change stamp (copies_in plan records) []
+copied_wanted start now' d m draft change stamp plan first c records place to is =
     let none : plan.wanted - place ≡ 0 = omega arith in
     let front : take plan.wanted records ≡ to.front =
     ap (λ (n : ℕ). take n records) (sym (to.long ∙ is)) ∙ (ap (take (length to.front)) to.split ∙ take-append_seam to.front to.rest) in
-    ended start now' d m draft among plan to.front to.rest records place to.goes front (ap (λ (n : ℕ). take n to.rest) none)
+    ended start now' d m draft change stamp plan to.front to.rest records place to.goes front (ap (λ (n : ℕ). take n to.rest) none)
 
 -- there is none more
-pub copied_all : (start now' : Told) (d : Accessed) (m : Minidisk) (draft : FileDraft) (among : Among) (plan : CopyPlan) (first c next : Reading) (records : List (List ℕ)) (place : ℕ)
-    → StayBeside start d m first.unit first.leaves → CopiedTo start now' d m draft among plan first c records place → SameFile first c → SameFile first next → place ≤ plan.wanted
-    → Hands now' first.unit c next false → GoesOn start now' d m draft (among.front ++ copies_in plan records) among.behind
-copied_all start now' d m draft among plan first c next records place stay to same later low hands =
-    let out = hands_beside start now' d m draft (copies_to among plan to.front) (copies_from among plan place to.rest) first c next to.rest false stay to.goes same later hands to.left in
+pub copied_all : (start now' : Told) (d : Accessed) (m : Minidisk) (draft : FileDraft) (change : Change) (stamp : Stamp) (plan : CopyPlan) (first c next : Reading) (records : List (List ℕ)) (place : ℕ)
+    → StayBeside start d m first.unit first.leaves → CopiedTo start now' d m draft change stamp plan first c records place → SameFile first c → SameFile first next → place ≤ plan.wanted
+    → Hands now' first.unit c next false → GoesOn start now' d m draft change stamp (copies_in plan records) []
+copied_all start now' d m draft change stamp plan first c next records place stay to same later low hands =
+    let out = hands_beside start now' d m draft change stamp (copies_to plan to.front) (copies_from plan place to.rest) first c next to.rest false stay to.goes same later hands to.left in
     let handed : (to.rest ≡ []) × HasLeft (now out.journal first.unit) next to.rest = out.holds in
     let none = handed.0 in
     let whole : records ≡ to.front = to.split ∙ (ap (λ (l : List (List ℕ)). to.front ++ l) none ∙ append-nil to.front) in
     let long = ap length whole in
     let long' = to.long in
-    ended start now' d m draft among plan to.front to.rest records place to.goes (take_all plan.wanted records (omega arith) ∙ whole)
+    ended start now' d m draft change stamp plan to.front to.rest records place to.goes (take_all plan.wanted records (omega arith) ∙ whole)
     (ap (take (plan.wanted - place)) none ∙ take-nil (plan.wanted - place))
 
 -- a read failed
-pub given_up : (start now' : Told) (d : Accessed) (m : Minidisk) (draft : FileDraft) (done more : List (List ℕ)) → GoesOn start now' d m draft done more → IsGivenUp start now' d m
-given_up start now' d m draft done more goes = record { stands = goes.stands; aside = goes.aside }
+pub given_up : (start now' : Told) (d : Accessed) (m : Minidisk) (draft : FileDraft) (change : Change) (stamp : Stamp) (done more : List (List ℕ)) → GoesOn start now' d m draft change stamp done more → IsGivenUp start now' d m
+given_up start now' d m draft change stamp done more goes = record { stands = goes.stands; aside = goes.aside }
 
 -- ---- the units of a journal that has grown
 

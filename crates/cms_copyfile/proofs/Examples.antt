@@ -10,8 +10,11 @@ use Rattle.cms_fields.specs.Moments.{stamp_of}
 use Rattle.cms_fields.specs.declared.time.Stamp.{Stamp}
 use Rattle.cms_text.specs.Numbers.{decimal_of, written, magnitude_of}
 use Rattle.cms_text.specs.Texts.{ebcdic}
-use Rattle.cms_model.specs.Changes.{answer_of, changed, changed_files, change_file, drop_file, file_named, is_full, last_first, limit, need, put_file, written_file}
-use Rattle.cms_model.specs.Lists.{same}
+use Rattle.cms_model.specs.Changes.{answer_of, change_file, changed, changed_files, drop_file, entries_made, file_named, is_full, last_first, limit, need, place_named, put_file, written_file}
+use Rattle.cms_model.specs.DirectoryParts.{blocks_with, directory_taken}
+use Rattle.cms_model.specs.Growth.{growth_taken}
+use Rattle.cms_model.specs.Sharing.{any_within, fresh_count, fresh_on, fresh_to, is_kept}
+use Rattle.cms_model.specs.Lists.{holds, same}
 use Rattle.cms_model.specs.Minidisks.{File, Volume, same_name}
 use Rattle.cms_model.specs.Records.{longest}
 use Rattle.cms_model.specs.Sizes.{directory_more, file_size, free_count, map_size, stored_size, tree_size, used_count, levels, levels_from, pointer_count, pointers_to}
@@ -91,6 +94,7 @@ unfolding copy_operands given_output name_choice output_name name_or_all name_or
     short_mode_of letter_of mode_number_of ended chosen_of options_of options_from all_valued valued setting_in fill_in format_in hexadecimal_of last_among number_within magnitude_of
     ebcdic code_of code_page host_of upper_of lower_of character_of tokens_of tokens_from message_of message_text typed_line decimal_of written digits places_from updating_each
     equal_signs answer_of limit changed_files written_file is_full free_count used_count directory_more tree_size pointer_count pointers_to levels levels_from map_size need changed
+    place_named entries_made directory_taken blocks_with holds fresh_count fresh_to fresh_on is_kept any_within
     file_size stored_size file_named put_file change_file same_name same longest moment stamp_of
 copied = (refl, refl, refl, refl, refl)
 
@@ -111,6 +115,7 @@ unfolding copy_operands given_output name_choice output_name name_or_all name_or
     short_mode_of letter_of mode_number_of ended chosen_of options_of options_from all_valued valued setting_in fill_in format_in hexadecimal_of last_among number_within magnitude_of
     ebcdic code_of code_page host_of upper_of lower_of character_of tokens_of tokens_from message_of message_text typed_line decimal_of written digits places_from updating_each
     equal_signs answer_of limit changed_files written_file is_full free_count used_count directory_more tree_size pointer_count pointers_to levels levels_from map_size need changed
+    place_named entries_made directory_taken blocks_with holds fresh_count fresh_to fresh_on is_kept any_within
     file_size stored_size file_named put_file change_file same_name same longest moment stamp_of
 chosen = (refl, refl, refl, refl, refl, refl, refl, refl)
 
@@ -137,6 +142,7 @@ unfolding copy_operands given_output name_choice output_name name_or_all name_or
     short_mode_of letter_of mode_number_of ended chosen_of options_of options_from all_valued valued setting_in fill_in format_in hexadecimal_of last_among number_within magnitude_of
     ebcdic code_of code_page host_of upper_of lower_of character_of tokens_of tokens_from message_of message_text typed_line decimal_of written digits places_from updating_each
     equal_signs answer_of limit changed_files written_file is_full free_count used_count directory_more tree_size pointer_count pointers_to levels levels_from map_size need changed
+    place_named entries_made directory_taken blocks_with holds fresh_count fresh_to fresh_on is_kept any_within
     file_size stored_size file_named put_file change_file same_name same longest moment stamp_of
 one_length_copied = (refl, refl, refl, refl, refl, refl)
 
@@ -157,6 +163,7 @@ unfolding copy_operands given_output name_choice output_name name_or_all name_or
     short_mode_of letter_of mode_number_of ended chosen_of options_of options_from all_valued valued setting_in fill_in format_in hexadecimal_of last_among number_within magnitude_of
     ebcdic code_of code_page host_of upper_of lower_of character_of tokens_of tokens_from message_of message_text typed_line decimal_of written digits places_from updating_each
     equal_signs answer_of limit changed_files written_file is_full free_count used_count directory_more tree_size pointer_count pointers_to levels levels_from map_size need changed
+    place_named entries_made directory_taken blocks_with holds fresh_count fresh_to fresh_on is_kept any_within
     file_size stored_size file_named put_file change_file same_name same longest moment stamp_of
 options = (refl, refl, refl, refl, refl, refl)
 
@@ -179,6 +186,7 @@ unfolding copy_operands given_output name_choice output_name name_or_all name_or
     short_mode_of letter_of mode_number_of ended chosen_of options_of options_from all_valued valued setting_in fill_in format_in hexadecimal_of last_among number_within magnitude_of
     ebcdic code_of code_page host_of upper_of lower_of character_of tokens_of tokens_from message_of message_text typed_line decimal_of written digits places_from updating_each
     equal_signs answer_of limit changed_files written_file is_full free_count used_count directory_more tree_size pointer_count pointers_to levels levels_from map_size need changed
+    place_named entries_made directory_taken blocks_with holds fresh_count fresh_to fresh_on is_kept any_within
     file_size stored_size file_named put_file change_file same_name same longest moment stamp_of
 in_order = (refl, refl, refl, refl)
 
@@ -216,7 +224,8 @@ existing : (copies both (codes "COPYFILE L FILE A O FILE A") ≡ types (codes "C
 unfolding copy_operands given_output name_choice output_name name_or_all name_or_same output_mode reading_mode operands_of needed given given_or name text_of is_name_character mode_word_of
     short_mode_of letter_of mode_number_of ended chosen_of options_of options_from all_valued valued setting_in fill_in format_in hexadecimal_of last_among number_within magnitude_of
     ebcdic code_of code_page host_of upper_of lower_of character_of tokens_of tokens_from message_of message_text typed_line decimal_of written digits places_from updating_each
-    equal_signs answer_of limit changed_files written_file is_full free_count used_count directory_more tree_size pointer_count pointers_to levels levels_from map_size need changed
+    equal_signs answer_of limit changed_files written_file is_full free_count used_count directory_more tree_size pointer_count pointers_to levels levels_from map_size need growth_taken changed
+    place_named entries_made directory_taken blocks_with holds fresh_count fresh_to fresh_on is_kept any_within
     file_size stored_size file_named put_file change_file same_name same longest moment stamp_of drop_file last_first
 existing = (refl, refl, refl, refl, refl, refl, refl, refl, refl)
 
@@ -233,6 +242,7 @@ unfolding copy_operands given_output name_choice output_name name_or_all name_or
     short_mode_of letter_of mode_number_of ended chosen_of options_of options_from all_valued valued setting_in fill_in format_in hexadecimal_of last_among number_within magnitude_of
     ebcdic code_of code_page host_of upper_of lower_of character_of tokens_of tokens_from message_of message_text typed_line decimal_of written digits places_from updating_each
     equal_signs answer_of limit changed_files written_file is_full free_count used_count directory_more tree_size pointer_count pointers_to levels levels_from map_size need changed
+    place_named entries_made directory_taken blocks_with holds fresh_count fresh_to fresh_on is_kept any_within
     file_size stored_size file_named put_file change_file same_name same longest moment stamp_of drop_file last_first
 numbers = (refl, refl, refl, refl, refl)
 
@@ -247,7 +257,8 @@ to_itself : (copies both (codes "COPYFILE L FILE A (LOWCASE TYPE") ≡ types (co
 unfolding copy_operands given_output name_choice output_name name_or_all name_or_same output_mode reading_mode operands_of needed given given_or name text_of is_name_character mode_word_of
     short_mode_of letter_of mode_number_of ended chosen_of options_of options_from all_valued valued setting_in fill_in format_in hexadecimal_of last_among number_within magnitude_of
     ebcdic code_of code_page host_of upper_of lower_of character_of tokens_of tokens_from message_of message_text typed_line decimal_of written digits places_from updating_each
-    equal_signs answer_of limit changed_files written_file is_full free_count used_count directory_more tree_size pointer_count pointers_to levels levels_from map_size need changed
+    equal_signs answer_of limit changed_files written_file is_full free_count used_count directory_more tree_size pointer_count pointers_to levels levels_from map_size need growth_taken changed
+    place_named entries_made directory_taken blocks_with holds fresh_count fresh_to fresh_on is_kept any_within
     file_size stored_size file_named put_file change_file same_name same longest moment stamp_of
 to_itself = (refl, refl, refl, refl, refl)
 
@@ -267,7 +278,8 @@ stamped : (stamps (codes "COPYFILE L FILE A M = A") ≡ stamp ∷ now ∷ [])
 unfolding copy_operands given_output name_choice output_name name_or_all name_or_same output_mode reading_mode operands_of needed given given_or name text_of is_name_character mode_word_of
     short_mode_of letter_of mode_number_of ended chosen_of options_of options_from all_valued valued setting_in fill_in format_in hexadecimal_of last_among number_within magnitude_of
     ebcdic code_of code_page host_of upper_of lower_of character_of tokens_of tokens_from message_of message_text typed_line decimal_of written digits places_from updating_each
-    equal_signs answer_of limit changed_files written_file is_full free_count used_count directory_more tree_size pointer_count pointers_to levels levels_from map_size need changed
+    equal_signs answer_of limit changed_files written_file is_full free_count used_count directory_more tree_size pointer_count pointers_to levels levels_from map_size need growth_taken changed
+    place_named entries_made directory_taken blocks_with holds fresh_count fresh_to fresh_on is_kept any_within
     file_size stored_size file_named put_file change_file same_name same longest moment stamp_of
 stamped = (refl, refl, refl, refl, refl)
 
@@ -297,6 +309,7 @@ unfolding copy_operands given_output name_choice output_name name_or_all name_or
     short_mode_of letter_of mode_number_of ended chosen_of options_of options_from all_valued valued setting_in fill_in format_in hexadecimal_of last_among number_within magnitude_of
     ebcdic code_of code_page host_of upper_of lower_of character_of tokens_of tokens_from message_of message_text typed_line decimal_of written digits places_from updating_each
     equal_signs answer_of limit changed_files written_file is_full free_count used_count directory_more tree_size pointer_count pointers_to levels levels_from map_size need changed
+    place_named entries_made directory_taken blocks_with holds fresh_count fresh_to fresh_on is_kept any_within
     file_size stored_size file_named put_file change_file same_name same longest moment stamp_of
 over_disks = (refl, refl, refl, refl, refl, refl, refl, refl)
 
@@ -318,6 +331,7 @@ unfolding copy_operands given_output name_choice output_name name_or_all name_or
     short_mode_of letter_of mode_number_of ended chosen_of options_of options_from all_valued valued setting_in fill_in format_in hexadecimal_of last_among number_within magnitude_of
     ebcdic code_of code_page host_of upper_of lower_of character_of tokens_of tokens_from message_of message_text typed_line decimal_of written digits places_from updating_each
     equal_signs answer_of limit changed_files written_file is_full free_count used_count directory_more tree_size pointer_count pointers_to levels levels_from map_size need changed
+    place_named entries_made directory_taken blocks_with holds fresh_count fresh_to fresh_on is_kept any_within
     file_size stored_size file_named put_file change_file same_name same longest moment stamp_of
 stopped = (refl, refl, refl)
 
@@ -332,7 +346,8 @@ failed : (answer (copyfile filling (words (codes "COPYFILE * * A = = B (TYPE")))
 unfolding copy_operands given_output name_choice output_name name_or_all name_or_same output_mode reading_mode operands_of needed given given_or name text_of is_name_character mode_word_of
     short_mode_of letter_of mode_number_of ended chosen_of options_of options_from all_valued valued setting_in fill_in format_in hexadecimal_of last_among number_within magnitude_of
     ebcdic code_of code_page host_of upper_of lower_of character_of tokens_of tokens_from message_of message_text typed_line decimal_of written digits places_from updating_each
-    equal_signs answer_of limit changed_files written_file is_full free_count used_count directory_more tree_size pointer_count pointers_to levels levels_from map_size need changed
+    equal_signs answer_of limit changed_files written_file is_full free_count used_count directory_more tree_size pointer_count pointers_to levels levels_from map_size need growth_taken changed
+    place_named entries_made directory_taken blocks_with holds fresh_count fresh_to fresh_on is_kept any_within
     file_size stored_size file_named put_file change_file same_name same longest moment stamp_of
 failed = (refl, refl, refl, refl, refl)
 
@@ -359,6 +374,7 @@ unfolding copy_operands given_output name_choice output_name name_or_all name_or
     short_mode_of letter_of mode_number_of ended chosen_of options_of options_from all_valued valued setting_in fill_in format_in hexadecimal_of last_among number_within magnitude_of
     ebcdic code_of code_page host_of upper_of lower_of character_of tokens_of tokens_from message_of message_text typed_line decimal_of written digits places_from updating_each
     equal_signs answer_of limit changed_files written_file is_full free_count used_count directory_more tree_size pointer_count pointers_to levels levels_from map_size need changed
+    place_named entries_made directory_taken blocks_with holds fresh_count fresh_to fresh_on is_kept any_within
     file_size stored_size file_named put_file change_file same_name same longest moment stamp_of drop_file last_first
 erased = (refl, refl, refl, refl, refl, refl, refl)
 
@@ -372,6 +388,7 @@ unfolding copy_operands given_output name_choice output_name name_or_all name_or
     short_mode_of letter_of mode_number_of ended chosen_of options_of options_from all_valued valued setting_in fill_in format_in hexadecimal_of last_among number_within magnitude_of
     ebcdic code_of code_page host_of upper_of lower_of character_of tokens_of tokens_from message_of message_text typed_line decimal_of written digits places_from updating_each
     equal_signs answer_of limit changed_files written_file is_full free_count used_count directory_more tree_size pointer_count pointers_to levels levels_from map_size need changed
+    place_named entries_made directory_taken blocks_with holds fresh_count fresh_to fresh_on is_kept any_within
     file_size stored_size file_named put_file change_file same_name same longest moment stamp_of drop_file last_first
 not_erased = (refl, refl, refl, refl)
 
@@ -430,6 +447,7 @@ unfolding copy_operands given_output name_choice output_name name_or_all name_or
     short_mode_of letter_of mode_number_of ended chosen_of options_of options_from all_valued valued setting_in fill_in format_in hexadecimal_of last_among number_within magnitude_of
     ebcdic code_of code_page host_of upper_of lower_of character_of tokens_of tokens_from message_of message_text typed_line decimal_of written digits places_from updating_each
     equal_signs answer_of limit changed_files written_file is_full free_count used_count directory_more tree_size pointer_count pointers_to levels levels_from map_size need changed
+    place_named entries_made directory_taken blocks_with holds fresh_count fresh_to fresh_on is_kept any_within
     file_size stored_size file_named put_file change_file same_name same longest moment stamp_of
 disks = (refl, refl, refl, refl, refl, refl, refl, refl, refl, refl, refl)
 
@@ -447,5 +465,6 @@ unfolding copy_operands given_output name_choice output_name name_or_all name_or
     short_mode_of letter_of mode_number_of ended chosen_of options_of options_from all_valued valued setting_in fill_in format_in hexadecimal_of last_among number_within magnitude_of
     ebcdic code_of code_page host_of upper_of lower_of character_of tokens_of tokens_from message_of message_text typed_line decimal_of written digits places_from updating_each
     equal_signs answer_of limit changed_files written_file is_full free_count used_count directory_more tree_size pointer_count pointers_to levels levels_from map_size need changed
+    place_named entries_made directory_taken blocks_with holds fresh_count fresh_to fresh_on is_kept any_within
     file_size stored_size file_named put_file change_file same_name same longest moment stamp_of
 files = (refl, refl, refl, refl, refl)

@@ -6,14 +6,12 @@ pub mod ReadAside
 pub mod FilesCopied
 pub mod InputErased
 pub mod FilesFound
-pub mod Joined
 pub mod CopiesFit
 pub mod NextPut
 pub mod Settings
 pub mod Shapes
 mod Examples
 pub mod Writes
-pub mod TwoFiles
 pub mod CopyInput
 pub mod OneRead
 pub mod FirstPass
@@ -22,5 +20,4 @@ pub mod OneCopied
 pub mod CopiesMeasured
 pub mod CopyShaped
 pub mod OwnFile
-pub mod JoinShaped
-pub mod Appended
+pub mod AddShaped

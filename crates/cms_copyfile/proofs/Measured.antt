@@ -4,7 +4,6 @@ use Rattle.cms_names.specs.declared.name.Format.{Format}
 use Rattle.cms_names.specs.declared.name.Format.TheVariants.{F, V}
 use Rattle.cms_model.specs.Records.{longest, stored}
 use Rattle.cms_model.proofs.Records.{longest_both, stored_append}
-use Rattle.cms_copyfile.specs.Joins.{joined}
 use Rattle.cms_copyfile.specs.Measures.{measured}
 use Rattle.cms_copyfile.specs.declared.measure.Measure.{Measure}
 
@@ -12,6 +11,10 @@ pub none_measured : (format : Format) → record { count = 0; bytes = 0; longest
 unfolding longest
 none_measured F = refl
 none_measured V = refl
+
+-- what is told of records and of others behind them
+abbrev joined : Measure → Measure → Measure
+joined a b = record { count = a.count + b.count; bytes = a.bytes + b.bytes; longest = max a.longest b.longest }
 
 measured_both : (format : Format) (a b : List (List ℕ)) → joined (measured format a) (measured format b) ≡ measured format (a ++ b)
 measured_both format a b =

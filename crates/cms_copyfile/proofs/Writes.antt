@@ -1,36 +1,44 @@
--- Copies that are written as a file of the disk of a letter.
-use Rattle.std.proofs.Common.{◌≡◌, inl, inr, ℕ, ◌+◌, List, [], ◌++◌, Option, Some, Result, Ok, Err, length, refl, sym, ◌∙◌, ap, subst, arith, append-nil}
-use Rattle.std.specs.Prelude.{⊤, IfSome, None, option_map, slice_get}
+-- Copies that are written as a file of the disk of a letter, or added to one.
+use Rattle.std.proofs.Common.{◌≡◌, inl, inr, ℕ, ◌+◌, false, List, [], ◌++◌, Option, Some, Result, Ok, Err, length, refl, sym, ◌∙◌, ap, subst, arith, append-nil}
+use Rattle.std.specs.Prelude.{⊤, IfErr, IfSome, None, option_map, slice_get}
 use Rattle.std.specs.Option.{ForSome, IsSome}
 use Rattle.std.proofs.lemmas.Option.{same_Some}
+use Rattle.cms_journal.specs.Causes.{Rose}
 use Rattle.cms_journal.specs.declared.event.Attached.{Attached}
 use Rattle.cms_journal.specs.Journal.{HasBlocks, IsWritable, Journal}
 use Rattle.cms_journal.specs.Told.{Grown, Told}
 use Rattle.cms_journal.proofs.Pieces.{grown_same}
 use Rattle.cms_names.specs.declared.name.Name.{Name}
+use Rattle.cms_fields.specs.declared.time.Stamp.{Stamp}
+use Rattle.cms_model.specs.Changes.{Add, Answer, Change, Changed, Drop, Full, Limited, Put, Relabel, Rename, changed, file_named}
+use Rattle.cms_model.specs.LawsUpdates.{now as now_of}
 use Rattle.cms_model.specs.Minidisks.{Minidisk}
-use Rattle.cms_model.specs.Records.{length_of, stored}
 use Rattle.cms_model.specs.Volumes.{disk_of}
+use Rattle.cms_machine.specs.Steps.{MayPut, OldFault, ReadFault, is_relabel, put_syncs}
 use Rattle.cms_draft.specs.BlockWriting.{CanWrite, came}
-use Rattle.cms_draft.specs.Drafting.{Drafting, Drafts, HaveShape, IsFresh}
+use Rattle.cms_held.specs.Drafts.{Front, stored_on}
+use Rattle.cms_draft.specs.Drafting.{Drafting, Drafts, HaveShape}
 use Rattle.cms_draft.specs.declared.shape.DraftShape.{DraftShape}
 use Rattle.cms_world.specs.Seen.{ChangesUnits, Seen}
 use Rattle.cms_edf.proofs.Committed.{can_write}
-use Rattle.cms_edf.specs.FileDrafts.{FileDraft, IsDraftFor, IsSomeDraft, tree_of}
+use Rattle.cms_edf.specs.FileDrafts.{CanDraft, FileDraft, IsSomeDraft}
 use Rattle.cms_held.specs.Opening.{HeldVolume}
-use Rattle.cms_disk.specs.Changing.{ChangesDisk, IsDevices}
+use Rattle.cms_disk.specs.Additions.{IsMoreFault, MayExtend}
+use Rattle.cms_disk.specs.Changing.{Appends, Changes, ChangesDisk, IsDevices}
 use Rattle.cms_disk.specs.Cursors.{Reading}
-use Rattle.cms_disk.specs.Disks.{Accessed, IsLookedAt, IsMinidisk}
-use Rattle.cms_disk.specs.Drafts.{GoesOn, HaveCounts, IsDraftFault, IsGivenUp, IsSameDraft, WritesAside, file_with}
+use Rattle.cms_disk.specs.Disks.{Accessed}
+use Rattle.cms_disk.specs.Drafts.{GoesOn, HaveCounts, IsDraftFault, IsFor, IsGivenUp, IsSameDraft, WritesAside}
 use Rattle.cms_disk.specs.declared.unit.UnitInfo.{UnitInfo}
 use Rattle.cms_disk.specs.declared.fault.DiskFault.{DiskFault}
 use Rattle.cms_disk.specs.declared.fault.DiskFault.TheVariants as failed
-use Rattle.cms_disk.proofs.DraftSteps.{some_draft, starts}
-use Rattle.cms_disk.proofs.Filling.{same_draft, same_some}
+use Rattle.cms_disk.proofs.Adding.{appends_of, more_refused}
+use Rattle.cms_disk.proofs.DraftSteps.{none_aside}
+use Rattle.cms_disk.proofs.Finding.{none_found}
+use Rattle.cms_disk.proofs.Filling.{same_some}
 use Rattle.cms_disk.proofs.FilePut.{alters_same, changed_behind, given_up, refused_so}
 use Rattle.cms_disk.proofs.Standing.{minidisk_same}
 use Rattle.cms_search.specs.Calls.{Usable}
-use Rattle.cms_search.specs.Drafting.{CommitsTo, DraftsSeat, DraftsTo, MayCommit}
+use Rattle.cms_search.specs.Drafting.{CommitsTo, DraftsMoreTo, DraftsTo, IsPlannedOn, MayCommit}
 use Rattle.cms_search.specs.Searches.{item_at}
 use Rattle.cms_search.specs.Seats.{HasDevice, HasDisk}
 use Rattle.cms_search.specs.Tables.{Accesses, Seated, letters_of, seat_with, with_disk, writing}
@@ -39,15 +47,17 @@ use Rattle.cms_search.proofs.Seats.{has_same, item_here, item_within, seat_there
 use Rattle.cms_search.proofs.Stepped.{has_device, if_some, written_at}
 use Rattle.cms_copyfile.proofs.CopyPasses.{units_grown}
 use Rattle.cms_copyfile.specs.Copies as copies
-use Rattle.cms_copyfile.specs.Copies.{Among, CopiesFrom, PutsCopies, StayBeside}
+use Rattle.cms_copyfile.specs.Copies.{CopiesFrom, PutsCopies, StayBeside}
 use Rattle.cms_copyfile.specs.Outputs.{copies_in}
-use Rattle.cms_copyfile.specs.Writing.{CameTo, FillsTo, FinishesTo, IsDrafted, MayWrite, WritesTo, answer_in, putting}
+use Rattle.cms_copyfile.specs.Writing.{CameTo, FillsTo, FinishesTo, FitsVolume, HaveRecords, IsToHave, MayWrite, PlansAs, PlansSeat, PlansTo, WritesTo, answer_in, change_as, changing}
 use Rattle.cms_copyfile.specs.declared.copying.CopyFault.{CopyFault}
 use Rattle.cms_copyfile.specs.declared.copying.CopyFault.TheVariants as why
 use Rattle.cms_copyfile.specs.declared.output.CopyPlan.{CopyPlan}
 use Rattle.cms_copyfile.specs.declared.writing.CopyTarget.{CopyTarget}
+use Rattle.cms_copyfile.specs.declared.writing.CopyWrite.{CopyWrite}
+use Rattle.cms_copyfile.specs.declared.writing.CopyWrite.TheVariants.{Added, Whole}
 use Rattle.cms_copyfile.specs.declared.writing.Written.{Written}
-use Rattle.cms_copyfile.specs.declared.writing.Written.TheVariants.{Altered, Came, Unread}
+use Rattle.cms_copyfile.specs.declared.writing.Written.TheVariants.{Altered, Came, Unread as NotRead}
 
 -- ---- the disk of a letter
 
@@ -114,42 +124,47 @@ still w d = unchanged w w d failed.Altered (record { grown = grown_same w.told w
 -- ---- a draft that has all its records
 
 -- none is left, and no byte
-pub none_left : (d : Drafting) (all : List (List ℕ)) (left : ℕ) → Drafts d all [] → d.put + left ≡ d.shape.count → left ≡ 0
-none_left d all left drafts is =
+pub none_left : (d : Drafting) (front : Front) (all : List (List ℕ)) (left : ℕ) → Drafts d front all [] → d.put + left ≡ d.shape.count → left ≡ 0
+none_left d front all left drafts is =
     let put = drafts.put in
-    let count : d.shape.count ≡ length all = drafts.count ∙ ap length (append-nil all) in
+    let count : d.shape.count ≡ front.count + length all = drafts.count ∙ ap (λ (l : List (List ℕ)). front.count + length l) (append-nil all) in
     omega (arith, put, count, is)
 
-pub no_bytes : (d : Drafting) (all : List (List ℕ)) (left : ℕ) → Drafts d all [] → came d.writer + left ≡ d.writer.size → left ≡ 0
-no_bytes d all left drafts is =
+pub no_bytes : (d : Drafting) (front : Front) (all : List (List ℕ)) (left : ℕ) → Drafts d front all [] → came d.writer + left ≡ d.writer.size → left ≡ 0
+no_bytes d front all left drafts is =
     let here = drafts.came_is in
-    let size : length (stored d.shape.format all) ≡ d.writer.size = ap (λ (l : List (List ℕ)). length (stored d.shape.format l)) (sym (append-nil all)) ∙ drafts.streams.size in
+    let size : length (stored_on d.shape.format front all) ≡ d.writer.size =
+    ap (λ (l : List (List ℕ)). length (stored_on d.shape.format front l)) (sym (append-nil all)) ∙ drafts.streams.size in
     omega (arith, here, size, is)
 
 pub finished : (before now : Seen) (d e : Accessed) (draft : FileDraft) (r : Result ⊤ DiskFault) → CommitsTo before now d e draft r → FinishesTo before now d e draft (Came r)
 finished before now d e draft r c = record {
-  came = λ start m to all goes x. c.alters start m to.name to.shape to.stamp all goes x.planned x.long;
+  came = λ start m change stamp all goes. appends_of start now.told d e m change stamp r (c.alters start m change stamp all goes);
   changes = c.changes;
 }
 
-pub unfinished : (w : Seen) (d : Accessed) (draft : FileDraft) → ((start : Told) (m : Minidisk) (all : List (List ℕ)) → GoesOn start w.told d m draft all [] → ⊥) → FinishesTo w w d d draft Altered
-unfinished w d draft never = record { came = λ start m to all goes x. never start m all goes; changes = still w d }
+pub unfinished : (w : Seen) (d : Accessed) (draft : FileDraft)
+    → ((start : Told) (m : Minidisk) (change : Change) (stamp : Stamp) (all : List (List ℕ)) → GoesOn start w.told d m draft change stamp all [] → ⊥) → FinishesTo w w d d draft Altered
+unfinished w d draft never = record { came = λ start m change stamp all goes. never start m change stamp all goes; changes = still w d }
 
 -- ---- what may be called
 
-may_write : (told : Told) (t : Accesses) (n : ℕ) (s : Seated) (unit : UnitInfo) → item_at t.seats n ≡ Some s → slice_get t.units s.letter.unit ≡ Some unit → Usable told t → MayWrite told s.disk
-may_write told t n s unit at has usable = record {
+may_write : (told : Told) (t : Accesses) (n : ℕ) (s : Seated) (unit : UnitInfo) (to : CopyTarget) → item_at t.seats n ≡ Some s → slice_get t.units s.letter.unit ≡ Some unit → Usable told t
+    → FitsVolume to.write s.disk.volume to.name to.shape → MayWrite told s.disk to
+may_write told t n s unit to at has usable fits = record {
+  fits = fits;
   blocks = readable_seat told t n s unit at has usable;
   writable = λ may j is.
       let on = ((usable j is).seats n s unit at has).on in
       subst (IsWritable j.units) (sym on.number) (((usable j is).units s.letter.unit unit has).writable (sym on.writable ∙ may));
 }
 
-pub may_at : (told : Told) (t : Accesses) (n vdev : ℕ) → HasDevice t n vdev → Usable told t → ForSome (item_at t.seats n) (λ s. MayWrite told s.disk)
-may_at told t n vdev device usable = λ s at.
+pub may_at : (told : Told) (t : Accesses) (n vdev : ℕ) (to : CopyTarget) → HasDevice t n vdev → Usable told t
+    → ForSome (item_at t.seats n) (λ s. FitsVolume to.write s.disk.volume to.name to.shape) → ForSome (item_at t.seats n) (λ s. MayWrite told s.disk to)
+may_at told t n vdev to device usable fits = λ s at.
     let there = if_some (item_at t.seats n) (λ (x : Seated). option_map (λ (unit : UnitInfo). unit.vdev) (slice_get t.units x.letter.unit) ≡ Some vdev) s at device in
     let unit = has_device (slice_get t.units s.letter.unit) vdev there in
-    may_write told t n s unit.0 at unit.1 usable
+    may_write told t n s unit.0 to at unit.1 usable (fits s at)
 
 -- a letter that may be written has a disk
 pub written_there : (t : Accesses) (n : ℕ) → writing (item_at (letters_of t) n) n ≡ Ok tt → IsSome (item_at t.seats n)
@@ -173,17 +188,15 @@ ready_so told d draft may j is = can_write j.units d.volume draft may.planned (m
 
 -- what putting the copies says
 abbrev pub PutsAll : Told → Told → FileDraft → FileDraft → CopyPlan → Reading → Result ⊤ CopyFault → Type 0
-PutsAll old new draft draft' plan c r = (start : Told) (d : Accessed) (m : Minidisk) (records : List (List ℕ)) (among : Among) → CopiesFrom start old d m draft plan c records among
-    → PutsCopies start new d m draft' (among.front ++ copies_in plan records) among.behind r
+PutsAll old new draft draft' plan c r = (start : Told) (d : Accessed) (m : Minidisk) (change : Change) (stamp : Stamp) (records : List (List ℕ))
+    → CopiesFrom start old d m draft change stamp plan c records → PutsCopies start new d m draft' change stamp (copies_in plan records) [] r
 
 pub filled : (before mid now : Seen) (d e : Accessed) (draft draft' : FileDraft) (plan : CopyPlan) (c : Reading) (x : ⊤) (r : Result ⊤ CopyFault) (written : Written) → r ≡ Ok x
-    → PutsAll before.told mid.told draft draft' plan c r → IsSameDraft draft draft' → ChangesUnits before mid copies.IsDevices r → FinishesTo mid now d e draft' written
-    → FillsTo before now d e draft plan c written
-filled before mid now d e draft draft' plan c x r written is puts same units f = record {
-  came = λ start m to front records from drafted.
-      let goes = subst (PutsCopies start mid.told d m draft' (front ++ copies_in plan records) []) is (puts start d m records (record { front = front; behind = [] }) from) in
-      f.came start m to (front ++ copies_in plan records) goes
-      (record { planned = same_draft d.volume to.name to.shape to.stamp draft draft' same drafted.planned; long = drafted.long; answer = drafted.answer });
+    → PutsAll before.told mid.told draft draft' plan c r → ChangesUnits before mid copies.IsDevices r → FinishesTo mid now d e draft' written → FillsTo before now d e draft plan c written
+filled before mid now d e draft draft' plan c x r written is puts units f = record {
+  came = λ start m change stamp records from answer.
+      f.came start m change stamp (copies_in plan records)
+      (subst (PutsCopies start mid.told d m draft' change stamp (copies_in plan records) []) is (puts start d m change stamp records from));
   changes = changed_behind before mid now d d e (answer_in written) units.grown units.faults units.edges refl f.changes;
 }
 
@@ -195,58 +208,189 @@ failed_so before now d r e is device units =
     unchanged before now d failed.Device (record { grown = u.grown; faults = u.faults; edges = u.edges; cause = λ any. u.cause device })
 
 pub unread_so : (before now : Seen) (d : Accessed) (draft draft' : FileDraft) (plan : CopyPlan) (c : Reading) (r : Result ⊤ CopyFault) → r ≡ Err why.Read
-    → PutsAll before.told now.told draft draft' plan c r → ChangesUnits before now copies.IsDevices r → FillsTo before now d d draft plan c Unread
+    → PutsAll before.told now.told draft draft' plan c r → ChangesUnits before now copies.IsDevices r → FillsTo before now d d draft plan c NotRead
 unread_so before now d draft draft' plan c r is puts units = record {
-  came = λ start m to front records from drafted. record {
-    stands = subst (PutsCopies start now.told d m draft' (front ++ copies_in plan records) []) is (puts start d m records (record { front = front; behind = [] }) from);
-    answer = drafted.answer;
+  came = λ start m change stamp records from answer. record {
+    stands = subst (PutsCopies start now.told d m draft' change stamp (copies_in plan records) []) is (puts start d m change stamp records from);
+    answer = answer;
   };
   changes = failed_so before now d r why.Read is (inl refl) units;
 }
 
+-- a change of a file may leave the unit as before, with no sync
+pub old_may : (change : Change) (after : Minidisk) → is_relabel change ≡ false → MayPut change (Changed after) OldFault
+old_may (Relabel volid) after other = absurd (cc other)
+old_may (Put new) after other = (refl, refl)
+old_may (Add name more added) after other = (refl, refl)
+old_may (Drop name) after other = (refl, refl)
+old_may (Rename from to number) after other = (refl, refl)
+
+pub old_none : (change : Change) (answer : Answer) → is_relabel change ≡ false → put_syncs change answer OldFault ≡ 0
+old_none change (Limited k) other = refl
+old_none change (Full need free) other = refl
+old_none (Relabel volid) (Changed after) other = absurd (cc other)
+old_none (Put new) (Changed after) other = refl
+old_none (Add name more added) (Changed after) other = refl
+old_none (Drop name) (Changed after) other = refl
+old_none (Rename from to number) (Changed after) other = refl
+
+-- a draft is for a change of a file
+of_file : (j : Journal) (d : Accessed) (draft : FileDraft) (change : Change) (stamp : Stamp) (front : Front) (records : List (List ℕ)) → IsFor j d draft change stamp front records
+    → is_relabel change ≡ false
+of_file j d draft (Put new) stamp front records is = refl
+of_file j d draft (Add name more added) stamp front records is = refl
+of_file j d draft (Drop name) stamp front records is = refl
+of_file j d draft (Rename from to number) stamp front records is = refl
+of_file j d draft (Relabel volid) stamp front records is = absurd is
+
 pub unwritten_so : (before now : Seen) (d : Accessed) (draft draft' : FileDraft) (plan : CopyPlan) (c : Reading) (r : Result ⊤ CopyFault) → r ≡ Err why.Write
     → PutsAll before.told now.told draft draft' plan c r → ChangesUnits before now copies.IsDevices r → FillsTo before now d d draft plan c (Came (Err failed.Device))
 unwritten_so before now d draft draft' plan c r is puts units = record {
-  came = λ start m to front records from drafted.
-      given_up start now.told d d m (file_with to.name to.shape (front ++ copies_in plan records)) to.stamp _
-      (subst (PutsCopies start now.told d m draft' (front ++ copies_in plan records) []) is (puts start d m records (record { front = front; behind = [] }) from)) drafted.answer refl;
+  came = λ start m change stamp records from answer.
+      (let other = of_file from.goes.stands.at d draft change stamp from.goes.front ([] ++ copies_in plan records) from.goes.is_for in
+      inr (given_up start now.told d d m change stamp (changed m change)
+      (subst (PutsCopies start now.told d m draft' change stamp (copies_in plan records) []) is (puts start d m change stamp records from)) answer
+      (λ a. old_none change a other) (old_may change (changed m change) other) refl));
   changes = failed_so before now d r why.Write is (inr refl) units;
 }
 
 pub altered_so : (before now : Seen) (d : Accessed) (draft draft' : FileDraft) (plan : CopyPlan) (c : Reading) (r : Result ⊤ CopyFault) → r ≡ Err why.Altered
     → PutsAll before.told now.told draft draft' plan c r → ChangesUnits before now copies.IsDevices r → FillsTo before now d d draft plan c Altered
 altered_so before now d draft draft' plan c r is puts units = record {
-  came = λ start m to front records from drafted.
-      subst (PutsCopies start now.told d m draft' (front ++ copies_in plan records) []) is (puts start d m records (record { front = front; behind = [] }) from);
+  came = λ start m change stamp records from answer.
+      subst (PutsCopies start now.told d m draft' change stamp (copies_in plan records) []) is (puts start d m change stamp records from);
   changes = unchanged before now d failed.Altered (record { grown = units.grown; faults = units.faults; edges = units.edges; cause = λ device. absurd (not_device device) });
 }
 
--- ---- a file that is drafted
+-- ---- what is planned
 
--- the draft's disk, which has other spare places at most
-module _ (told : Told) (d e : Accessed) (to : CopyTarget) (r : Result FileDraft DiskFault) (made : DraftsTo d e to.name to.shape to.stamp r) where
-  volume_is : e.volume ≡ d.volume
-  volume_is = ap (λ (a : Accessed). a.volume) made.kept
+-- the draft's disk, which has other spare places at most, may be written with it
+planned_may : (told : Told) (d e : Accessed) (to : CopyTarget) (draft : FileDraft) → e ≡ record d { spare = e.spare } → IsPlannedOn d e draft → MayWrite told d to → MayCommit told e draft
+planned_may told d e to draft kept planned may =
+    let volume : e.volume ≡ d.volume = ap (λ (a : Accessed). a.volume) kept in
+    record {
+      planned = subst (λ (v : HeldVolume). IsSomeDraft v draft) (sym volume) planned.some;
+      room = planned.room;
+      blocks = λ j at. subst (λ (v : HeldVolume). HasBlocks j.units v.unit v.disk.count v.disk.bsize) (sym volume) (may.blocks j at);
+      writable = λ j at. subst (λ (v : HeldVolume). IsWritable j.units v.unit) (sym volume) (may.writable planned.writable j at);
+    }
 
-  drafted_may : (draft : FileDraft) → r ≡ Ok draft → MayWrite told d → MayCommit told e draft
-  drafted_may draft is may =
-      let made' = subst (λ (q : Result FileDraft DiskFault). DraftsTo d e to.name to.shape to.stamp q) is made in
-      record {
-        planned = subst (λ (v : HeldVolume). IsSomeDraft v draft) (sym volume_is) (some_draft d.volume to.name to.shape to.stamp draft made'.planned);
-        room = made'.spare;
-        blocks = λ j at. subst (λ (v : HeldVolume). HasBlocks j.units v.unit v.disk.count v.disk.bsize) (sym volume_is) (may.blocks j at);
-        writable = λ j at. subst (λ (v : HeldVolume). IsWritable j.units v.unit) (sym volume_is) (may.writable made'.writable j at);
-      }
-
-pub draft_may : (told : Told) (t t' : Accesses) (to : CopyTarget) (r : Result FileDraft DiskFault) (draft : FileDraft) → r ≡ Ok draft → IsSome (item_at t.seats to.letter)
-    → IfSome (item_at t.seats to.letter) (λ x. DraftsSeat t t' to.letter x to.name to.shape to.stamp r) → ForSome (item_at t.seats to.letter) (λ x. MayWrite told x.disk)
-    → ForSome (item_at t'.seats to.letter) (λ x. MayCommit told x.disk draft)
-draft_may told t t' to r draft is accessed drafts may = λ x at.
+pub draft_may : (before now : Seen) (t t' : Accesses) (to : CopyTarget) (r : Result FileDraft DiskFault) (draft : FileDraft) → r ≡ Ok draft → IsSome (item_at t.seats to.letter)
+    → IfSome (item_at t.seats to.letter) (λ x. PlansSeat before now t t' x to r) → ForSome (item_at t.seats to.letter) (λ x. MayWrite before.told x.disk to)
+    → ForSome (item_at t'.seats to.letter) (λ x. MayCommit now.told x.disk draft)
+draft_may before now t t' to r draft is accessed plans may = λ x at.
     let s = some_seat (item_at t.seats to.letter) accessed in
-    let h = if_some (item_at t.seats to.letter) (λ (y : Seated). DraftsSeat t t' to.letter y to.name to.shape to.stamp r) s.0 s.1 drafts in
+    let h = if_some (item_at t.seats to.letter) (λ (y : Seated). PlansSeat before now t t' y to r) s.0 s.1 plans in
     let same : seat_with s.0 h.disk ≡ x = same_Some (seat_with s.0 h.disk) x (sym (seat_there t t' to.letter s.0 s.1 h) ∙ at) in
-    subst (λ (y : Seated). MayCommit told y.disk draft) same (drafted_may told s.0.disk h.disk to r h.does draft is (may s.0 s.1))
+    let made = subst (λ (q : Result FileDraft DiskFault). PlansTo before now s.0.disk h.disk to q) is h.does in
+    let told : now.told ≡ before.told = made.reads.told in
+    subst (λ (y : Seated). MayCommit now.told y.disk draft) same
+    (subst (λ (z : Told). MayCommit z h.disk draft) (sym told) (planned_may before.told s.0.disk h.disk to draft made.kept made.planned (may s.0 s.1)))
 
+-- ---- which it came to, of a whole file
+
+counts_of : (shape : DraftShape) (records : List (List ℕ)) → HaveShape shape records → HaveCounts shape records
+counts_of shape records have = record { count = have.count; bytes = have.bytes }
+
+whole_plans : (told : Told) (d e : Accessed) (m : Minidisk) (to : CopyTarget) (all : List (List ℕ)) (r : Result FileDraft DiskFault) → DraftsTo d e to.name to.shape to.stamp r → MayWrite told d to
+    → (x : IsToHave told d m to all) → HaveRecords Whole (file_named to.name m.files) to.shape all → PlansAs told told d e m (change_as Whole to.name to.shape all) to.stamp all r
+whole_plans told d e m to all (Ok draft) drafted may x have =
+    let change = change_as Whole to.name to.shape all in
+    let has = may.blocks x.at x.told_is in
+    record {
+      goes = subst (λ (t : Told). GoesOn t t e m draft change to.stamp [] all) (sym x.told_is) (drafted.begins x.at m all x.minidisk has x.looked have.0 have.1);
+      answer = drafted.answers x.at m all x.minidisk has (counts_of to.shape all have.0);
+    }
+whole_plans told d e m to all (Err why) drafted may x have =
+    appends_of told told d e m (change_as Whole to.name to.shape all) to.stamp (Err why)
+    (refused_so FileDraft told d e m to.name to.shape all to.stamp why drafted.fault
+    (drafted.answers x.at m all x.minidisk (may.blocks x.at x.told_is) (counts_of to.shape all have.0)))
+
+no_device : (d : Accessed) (name : Name) (shape : DraftShape) (r : Result FileDraft DiskFault) (why : DiskFault) → (IsDraftFault d name shape why → ⊥) → IfErr r (IsDraftFault d name shape)
+    → IfErr r (λ e. e ≡ why → ⊥)
+no_device d name shape (Ok draft) why never fault = tt
+no_device d name shape (Err e) why never fault = λ same. never (subst (IsDraftFault d name shape) same fault)
+
+no_rise : (n : ℕ) (r : Result FileDraft DiskFault) → IfErr r (λ e. e ≡ failed.Device → ⊥) → IfErr r (λ e. e ≡ failed.Device → Rose n n)
+no_rise n (Ok draft) never = tt
+no_rise n (Err e) never = λ same. absurd (never same)
+
+pub planned_whole : (w : Seen) (d e : Accessed) (to : CopyTarget) (r : Result FileDraft DiskFault) → to.write ≡ Whole → MayWrite w.told d to → DraftsTo d e to.name to.shape to.stamp r → PlansTo w w d e to r
+planned_whole w d e to r is may drafted = record {
+  planned = drafted.planned;
+  plans = λ m all x.
+      subst (λ (k : CopyWrite). PlansAs w.told w.told d e m (change_as k to.name to.shape all) to.stamp all r) (sym is)
+      (whole_plans w.told d e m to all r drafted may x (subst (λ (k : CopyWrite). HaveRecords k (file_named to.name m.files) to.shape all) is x.have));
+  kept = drafted.kept;
+  sure = no_device d to.name to.shape r failed.InDoubt (λ f. f) drafted.fault;
+  reads = record { told = refl; faults = omega arith; edges = refl; cause = no_rise w.faults r (no_device d to.name to.shape r failed.Device (λ f. f) drafted.fault) };
+}
+
+-- ---- which it came to, of records that are added
+
+more_plans : (before now : Seen) (d e : Accessed) (m : Minidisk) (to : CopyTarget) (all : List (List ℕ)) (r : Result FileDraft DiskFault) → DraftsMoreTo before now d e to.name to.shape to.stamp r
+    → MayWrite before.told d to → (x : IsToHave before.told d m to all) → HaveRecords Added (file_named to.name m.files) to.shape all
+    → PlansAs before.told now.told d e m (change_as Added to.name to.shape all) to.stamp all r
+more_plans before now d e m to all (Ok draft) drafted may x have = record {
+  goes = drafted.begins x.at m have.0 all x.told_is x.minidisk x.looked have.1 have.2;
+  answer = drafted.answers x.at m have.0 all x.minidisk (may.blocks x.at x.told_is) have.1 have.2.counts;
+}
+more_plans before now d e m to all (Err why) drafted may x have =
+    let has = may.blocks x.at x.told_is in
+    more_refused FileDraft before.told now.told d e m to.name to.shape to.stamp all why drafted.reads.told (none_aside x.at before.told d m x.told_is x.minidisk has x.looked)
+    (λ none. none_found d to.name none (now_of x.at d.volume.unit) m x.minidisk.stands) drafted.fault (drafted.answers x.at m have.0 all x.minidisk has have.1 have.2.counts)
+
+no_doubt : (d : Accessed) (name : Name) (shape : DraftShape) (r : Result FileDraft DiskFault) → IfErr r (IsMoreFault d name shape) → IfErr r (λ e. e ≡ failed.InDoubt → ⊥)
+no_doubt d name shape (Ok draft) fault = tt
+no_doubt d name shape (Err e) fault = λ same. subst (IsMoreFault d name shape) same fault
+
+pub planned_more : (before now : Seen) (d e : Accessed) (to : CopyTarget) (r : Result FileDraft DiskFault) → to.write ≡ Added → MayWrite before.told d to
+    → DraftsMoreTo before now d e to.name to.shape to.stamp r → PlansTo before now d e to r
+planned_more before now d e to r is may drafted = record {
+  planned = drafted.planned;
+  plans = λ m all x.
+      subst (λ (k : CopyWrite). PlansAs before.told now.told d e m (change_as k to.name to.shape all) to.stamp all r) (sym is)
+      (more_plans before now d e m to all r drafted may x (subst (λ (k : CopyWrite). HaveRecords k (file_named to.name m.files) to.shape all) is x.have));
+  kept = drafted.kept;
+  sure = no_doubt d to.name to.shape r drafted.fault;
+  reads = drafted.reads;
+}
+
+-- what fits the disk fits the one or the other
+pub fits_whole : (v : HeldVolume) (to : CopyTarget) → to.write ≡ Whole → FitsVolume to.write v to.name to.shape → CanDraft to.shape
+fits_whole v to is fits = subst (λ (k : CopyWrite). FitsVolume k v to.name to.shape) is fits
+
+pub fits_more : (v : HeldVolume) (to : CopyTarget) → to.write ≡ Added → FitsVolume to.write v to.name to.shape → MayExtend v to.name to.shape
+fits_more v to is fits = subst (λ (k : CopyWrite). FitsVolume k v to.name to.shape) is fits
+
+-- ---- a file that is written
+
+read_failed : (fault : DiskFault) → (fault ≡ failed.InDoubt → ⊥) → IsDevices fault → fault ≡ failed.Device
+read_failed fault sure (inl device) = device
+read_failed fault sure (inr doubt) = absurd (sure doubt)
+
+changes_from : (before now : Seen) (d e : Accessed) (to : CopyTarget) (r : Result FileDraft DiskFault) (fault : DiskFault) → r ≡ Err fault → PlansTo before now d e to r
+    → ChangesDisk before now d e (Err fault)
+changes_from before now d e to r fault is plans =
+    let made = subst (λ (q : Result FileDraft DiskFault). PlansTo before now d e to q) is plans in
+    let kept = made.kept in
+    record {
+      units = record {
+        grown = grown_same before.told now.told made.reads.told;
+        faults = made.reads.faults;
+        edges = made.reads.edges;
+        cause = λ is'. made.reads.cause (read_failed fault made.sure is');
+      };
+      same = record {
+        vdev = ap (λ (a : Accessed). a.vdev) kept;
+        writable = ap (λ (a : Accessed). a.writable) kept;
+        unit = ap (λ (a : Accessed). a.volume.unit) kept;
+        disk = ap (λ (a : Accessed). a.volume.disk) kept;
+      };
+      kept = λ sure. kept;
+    }
+
+-- it is the same disk but for its spare places
 given_same : (old new : Told) (d e : Accessed) (m : Minidisk) → e.volume ≡ d.volume → IsGivenUp old new e m → IsGivenUp old new d m
 given_same old new d e m volume g = record {
   stands = record {
@@ -259,90 +403,56 @@ given_same old new d e m volume g = record {
   aside = subst (λ (v : HeldVolume). WritesAside old new v.unit m) volume g.aside;
 }
 
-pub came_same : (old new : Told) (d e f : Accessed) (m : Minidisk) (to : CopyTarget) (all : List (List ℕ)) (written : Written) → e.volume ≡ d.volume → e.writable ≡ d.writable
-    → CameTo old new e f m to all written → CameTo old new d f m to all written
-came_same old new d e f m to all (Came r) volume writable a = alters_same old new d e f m (putting to all) to.stamp r volume writable a
-came_same old new d e f m to all Unread volume writable a = record { stands = given_same old new d e m volume a.stands; answer = a.answer }
-came_same old new d e f m to all Altered volume writable a = a
+appends_same : (old new : Told) (d e f : Accessed) (m : Minidisk) (change : Change) (stamp : Stamp) (r : Result ⊤ DiskFault) → e.volume ≡ d.volume → e.writable ≡ d.writable
+    → Appends old new e f m change stamp r → Appends old new d f m change stamp r
+appends_same old new d e f m change stamp (Ok x) volume writable a = a
+appends_same old new d e f m change stamp (Err failed.Device) volume writable (inl u) = inl (record {
+  same = u.same;
+  after = u.after;
+  answer = u.answer;
+  changes = subst (λ (v : HeldVolume). Changes old new v.unit m change stamp (ReadFault 0)) volume u.changes;
+})
+appends_same old new d e f m change stamp (Err failed.Device) volume writable (inr k) = inr k
+appends_same old new d e f m change stamp (Err failed.NotFound) volume writable a = a
+appends_same old new d e f m change stamp (Err failed.Exists) volume writable a = a
+appends_same old new d e f m change stamp (Err failed.ReadOnly) volume writable a = (a.0, sym writable ∙ a.1)
+appends_same old new d e f m change stamp (Err failed.InDoubt) volume writable a = alters_same old new d e f m change stamp (Err failed.InDoubt) volume writable a
+appends_same old new d e f m change stamp (Err failed.Altered) volume writable a = a
+appends_same old new d e f m change stamp (Err (failed.Limit k)) volume writable a = a
+appends_same old new d e f m change stamp (Err (failed.Full need free)) volume writable a = a
+appends_same old new d e f m change stamp (Err failed.Memory) volume writable a = a
+
+pub came_same : (old new : Told) (d e f : Accessed) (m : Minidisk) (change : Change) (stamp : Stamp) (written : Written) → e.volume ≡ d.volume → e.writable ≡ d.writable
+    → CameTo old new e f m change stamp written → CameTo old new d f m change stamp written
+came_same old new d e f m change stamp (Came r) volume writable a = appends_same old new d e f m change stamp r volume writable a
+came_same old new d e f m change stamp NotRead volume writable a = record { stands = given_same old new d e m volume a.stands; answer = a.answer }
+came_same old new d e f m change stamp Altered volume writable a = a
 
 pub stay_same : (told : Told) (d e : Accessed) (m : Minidisk) (unit : ℕ) (blocks : List ℕ) → e.volume ≡ d.volume → StayBeside told d m unit blocks → StayBeside told e m unit blocks
 stay_same told d e m unit blocks volume stay = λ j k is there aside.
     stay j k is (minidisk_same k e d m (sym volume) there) (subst (λ (v : HeldVolume). WritesAside told (Some k) v.unit m) volume aside)
 
-counts_of : (shape : DraftShape) (records : List (List ℕ)) → HaveShape shape records → HaveCounts shape records
-counts_of shape records have = record { count = have.count; bytes = have.bytes }
-
--- the draft of these records is begun, on the disk e
-pub record HasBegun (told : Told) (e : Accessed) (m : Minidisk) (draft : FileDraft) (to : CopyTarget) (all : List (List ℕ)) : Type 0 where
-  pub some : IsSomeDraft e.volume draft
-  pub goes : GoesOn told told e m draft [] all
-  pub drafted : IsDrafted e m draft to all
-
-module _ (told : Told) (d e : Accessed) (m : Minidisk) (to : CopyTarget) (all : List (List ℕ)) (r : Result FileDraft DiskFault) (drafts : DraftsTo d e to.name to.shape to.stamp r)
-    (may : MayWrite told d) (at : Journal) (told_is : told ≡ Some at) (minidisk : IsMinidisk at d m) (shape : HaveShape to.shape all) where
-  pub has_begun : (draft : FileDraft) → r ≡ Ok draft → IsLookedAt at d → length_of to.shape.format to.shape.length all ≡ to.shape.length → HasBegun told e m draft to all
-  has_begun draft is looked long =
-      let made = subst (λ (q : Result FileDraft DiskFault). DraftsTo d e to.name to.shape to.stamp q) is drafts in
-      let same : e.volume ≡ d.volume = ap (λ (a : Accessed). a.volume) made.kept in
-      let back = sym same in
-      let planned = subst (λ (v : HeldVolume). IsDraftFor v to.name to.shape to.stamp draft) back made.planned in
-      record {
-        some = some_draft e.volume to.name to.shape to.stamp draft planned;
-        goes = starts at told e m draft to.shape all told_is (minidisk_same at d e m same minidisk)
-            (subst (λ (v : HeldVolume). HasBlocks at.units v.unit v.disk.count v.disk.bsize) back (may.blocks at told_is))
-            (subst (λ (v : HeldVolume). (unit : Attached) → slice_get at.units v.unit ≡ Some unit → disk_of unit ≡ v.disk) back looked)
-            (subst (λ (v : HeldVolume). IsFresh v.unit v.disk.bsize to.shape (tree_of draft) draft.writer) back made.fresh) shape;
-        drafted = record { planned = planned; long = long; answer = made.answers at m all minidisk (may.blocks at told_is) (counts_of to.shape all shape) };
-      }
-
-  -- it wasn't begun, which is no fault of the device
-  pub none_begun : (fault : DiskFault) → r ≡ Err fault → CameTo told told d e m to all (Came (Err fault))
-  none_begun fault is =
-      let made = subst (λ (q : Result FileDraft DiskFault). DraftsTo d e to.name to.shape to.stamp q) is drafts in
-      refused_so FileDraft told d e m to.name to.shape all to.stamp fault made.fault (made.answers at m all minidisk (may.blocks at told_is) (counts_of to.shape all shape))
-
-no_device : (d : Accessed) (name : Name) (shape : DraftShape) (e : DiskFault) → IsDraftFault d name shape e → IsDevices e → ⊥
-no_device d name shape e fault (inl is) = subst (IsDraftFault d name shape) is fault
-no_device d name shape e fault (inr is) = subst (IsDraftFault d name shape) is fault
-
-pub none_changed : (w : Seen) (d e : Accessed) (to : CopyTarget) (r : Result FileDraft DiskFault) (fault : DiskFault) → r ≡ Err fault → DraftsTo d e to.name to.shape to.stamp r
-    → ChangesDisk w w d e (Err fault)
-none_changed w d e to r fault is drafts =
-    let made = subst (λ (q : Result FileDraft DiskFault). DraftsTo d e to.name to.shape to.stamp q) is drafts in
-    let kept = made.kept in
-    record {
-      units = record { grown = grown_same w.told w.told refl; faults = omega arith; edges = refl; cause = λ device. absurd (no_device d to.name to.shape fault made.fault device) };
-      same = record {
-        vdev = ap (λ (a : Accessed). a.vdev) kept;
-        writable = ap (λ (a : Accessed). a.writable) kept;
-        unit = ap (λ (a : Accessed). a.volume.unit) kept;
-        disk = ap (λ (a : Accessed). a.volume.disk) kept;
-      };
-      kept = λ sure. kept;
-    }
-
-pub written_from : (before now : Seen) (d e f : Accessed) (to : CopyTarget) (plan : CopyPlan) (c : Reading) (r : Result FileDraft DiskFault) (draft : FileDraft) (written : Written) → r ≡ Ok draft
-    → DraftsTo d e to.name to.shape to.stamp r → MayWrite before.told d → FillsTo before now e f draft plan c written → WritesTo before now d f to plan c written
-written_from before now d e f to plan c r draft written is drafts may fill =
-    let told = before.told in
-    let same : e.volume ≡ d.volume = ap (λ (a : Accessed). a.volume) drafts.kept in
+pub written_from : (before mid now : Seen) (d e f : Accessed) (to : CopyTarget) (plan : CopyPlan) (c : Reading) (r : Result FileDraft DiskFault) (draft : FileDraft) (written : Written) → r ≡ Ok draft
+    → PlansTo before mid d e to r → FillsTo mid now e f draft plan c written → WritesTo before now d f to plan c written
+written_from before mid now d e f to plan c r draft written is plans fill =
+    let made = subst (λ (q : Result FileDraft DiskFault). PlansTo before mid d e to q) is plans in
+    let volume : e.volume ≡ d.volume = ap (λ (a : Accessed). a.volume) made.kept in
+    let writable : e.writable ≡ d.writable = ap (λ (a : Accessed). a.writable) made.kept in
     record {
       came = λ m records x.
-          let all = copies_in plan records in
-          let begun = has_begun told d e m to all r drafts may x.at x.told_is x.minidisk x.shape draft is x.looked x.long in
-          let from : CopiesFrom told told e m draft plan c records (record { front = []; behind = [] }) = record {
-            some = begun.some;
-            goes = subst (GoesOn told told e m draft []) (sym (append-nil all)) begun.goes;
-            stay = stay_same told d e m c.unit c.leaves same x.stay;
-            left = x.left;
-          } in
-          came_same told now.told d e f m to all written same (ap (λ (a : Accessed). a.writable) drafts.kept) (fill.came told m to [] records from begun.drafted);
-      changes = changed_behind before before now d e f (answer_in written) (grown_same told told refl) (omega arith) refl drafts.kept fill.changes;
+          let begun = made.plans m (copies_in plan records) x.to_have in
+          let from : CopiesFrom before.told mid.told e m draft (changing to (copies_in plan records)) to.stamp plan c records =
+          record { goes = begun.goes; stay = stay_same before.told d e m c.unit c.leaves volume x.stay; left = x.left } in
+          came_same before.told now.told d e f m (changing to (copies_in plan records)) to.stamp written volume writable
+          (fill.came before.told m (changing to (copies_in plan records)) to.stamp records from begun.answer);
+      changes = changed_behind before mid now d e f (answer_in written) (grown_same before.told mid.told made.reads.told) made.reads.faults made.reads.edges made.kept fill.changes;
     }
 
-pub written_none : (w : Seen) (d e : Accessed) (to : CopyTarget) (plan : CopyPlan) (c : Reading) (r : Result FileDraft DiskFault) (fault : DiskFault) → r ≡ Err fault
-    → DraftsTo d e to.name to.shape to.stamp r → MayWrite w.told d → WritesTo w w d e to plan c (Came (Err fault))
-written_none w d e to plan c r fault is drafts may = record {
-  came = λ m records x. none_begun w.told d e m to (copies_in plan records) r drafts may x.at x.told_is x.minidisk x.shape fault is;
-  changes = none_changed w d e to r fault is drafts;
-}
+pub written_none : (before now : Seen) (d e : Accessed) (to : CopyTarget) (plan : CopyPlan) (c : Reading) (r : Result FileDraft DiskFault) (fault : DiskFault) → r ≡ Err fault
+    → PlansTo before now d e to r → WritesTo before now d e to plan c (Came (Err fault))
+written_none before now d e to plan c r fault is plans =
+    let made = subst (λ (q : Result FileDraft DiskFault). PlansTo before now d e to q) is plans in
+    record {
+      came = λ m records x. made.plans m (copies_in plan records) x.to_have;
+      changes = changes_from before now d e to r fault is plans;
+    }

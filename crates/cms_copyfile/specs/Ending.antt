@@ -1,5 +1,5 @@
 -- What the writing of the copies came to, behind which the update of the output's disk ends.
-use Rattle.std.specs.Prelude.{◌≡◌, ℕ, List, [], ◌∷◌, Some, Result, ⊤}
+use Rattle.std.specs.Prelude.{◌≡◌, ℕ, List, Some}
 use Rattle.cms_fields.specs.Moments.{stamp_of}
 use Rattle.cms_journal.specs.Journal.{Journal}
 use Rattle.cms_machine.specs.Slots.{Slot}
@@ -7,24 +7,20 @@ use Rattle.cms_model.specs.Changes.{Change}
 use Rattle.cms_model.specs.Minidisks.{Minidisk}
 use Rattle.cms_disk.specs.Changing.{ChangesDisk}
 use Rattle.cms_disk.specs.Disks.{Accessed, IsLookedAt, IsMinidisk}
-use Rattle.cms_disk.specs.declared.fault.DiskFault.{DiskFault}
 use Rattle.cms_search.specs.Calls.{Spot, holds, machine_of}
-use Rattle.cms_search.specs.Putting.{Updated}
 use Rattle.cms_search.specs.Searches.{item_at}
 use Rattle.cms_search.specs.Seats.{HasDevice, HasDisk}
 use Rattle.cms_search.specs.Tables.{Seated}
 use Rattle.cms_files.specs.Opening.{IsOpened}
-use Rattle.cms_files.specs.Updating.{names_of}
 use Rattle.cms_files.specs.declared.opening.OpenFile.{OpenFile}
 use Rattle.cms_copyfile.specs.Copyfile.{change_with}
 use Rattle.cms_copyfile.specs.FileCopies.{IsCopying, IsFileCopy, copied_to}
 use Rattle.cms_copyfile.specs.Outputs.{extended}
-use Rattle.cms_copyfile.specs.Writing.{CameTo, answer_in}
+use Rattle.cms_copyfile.specs.Writing.{CameTo, answer_in, changing}
 use Rattle.cms_copyfile.specs.declared.copy.FileCopy.{FileCopy}
 use Rattle.cms_copyfile.specs.declared.line.CopyLine.{CopyLine}
 use Rattle.cms_copyfile.specs.declared.writing.CopyTarget.{CopyTarget}
 use Rattle.cms_copyfile.specs.declared.writing.Written.{Written}
-use Rattle.cms_copyfile.specs.declared.writing.Written.TheVariants.{Came}
 
 -- ---- these records were written, whatever is on the units
 
@@ -32,7 +28,7 @@ use Rattle.cms_copyfile.specs.declared.writing.Written.TheVariants.{Came}
 pub record WritesAll (mid now : Spot) (d e : Accessed) (to : CopyTarget) (all : List Slot → List (List ℕ))
     (written : Written) : Type 0 where
   pub came : (units : List Slot) → holds mid units → (j : Journal) (m : Minidisk) → mid.world.told ≡ Some j → IsMinidisk j d m
-      → IsLookedAt j d → CameTo mid.world.told now.world.told d e m to (all units) written
+      → IsLookedAt j d → CameTo mid.world.told now.world.told d e m (changing to (all units)) to.stamp written
   pub changes : ChangesDisk mid.world now.world d e (answer_in written)
 
 -- on the disk s of a letter; mid is before that, and now behind it
@@ -51,8 +47,7 @@ ChangesAs spot line c change =
     → change_with (machine_of spot.state units) line (copied_to (machine_of spot.state units) line c x)
     (extended line.style.existing (copied_to (machine_of spot.state units) line c x).there) ≡ change units
 
--- records were written on the output's device, while the file was read again on that of the input; where that came to an answer of the
--- output's disk, it is the answer to this change
+-- records were written on the output's device, while the file was read again on that of the input
 pub record IsWritten (mid now : Spot) (line : CopyLine) (c : FileCopy) (vdev input : ℕ) (written : Written) : Type 0 where
   pub to : CopyTarget
   pub all : List Slot → List (List ℕ)
@@ -63,7 +58,6 @@ pub record IsWritten (mid now : Spot) (line : CopyLine) (c : FileCopy) (vdev inp
   pub opened : IsOpened mid.state.table c.found.letter c.found.name file
   pub read : file.vdev ≡ input
   pub device : HasDevice mid.state.table c.letter vdev
-  pub change : List Slot → Change
-  pub changes : ChangesAs mid line c change
-  pub names : (units : List Slot) → names_of (change units) ≡ c.name ∷ []
-  pub came : (done : Result ⊤ DiskFault) → written ≡ Came done → Updated mid now c.letter disk change done
+  pub letter : to.letter ≡ c.letter
+  pub name : to.name ≡ c.name
+  pub changes : ChangesAs mid line c (λ units. changing to (all units))

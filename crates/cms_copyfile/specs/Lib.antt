@@ -8,9 +8,7 @@ pub mod Puts
 pub mod Copies
 pub mod FileCopies
 pub mod Finding
+pub mod Shapes
 pub mod Writing
-pub mod Joins
-pub mod Joining
 pub mod OneCopy
-pub mod Appending
 pub mod Ending

@@ -1,25 +1,28 @@
 // The update of one file that is copied.
-ghost use Rattle.std.specs.Prelude.{◌≡◌, ◌≤◌, ℕ, true, List, None, Ok, vec_capacity};
+ghost use Rattle.std.specs.Prelude.{◌≡◌, ◌≤◌, ℕ, true, List, None, Some, Ok, IfSome, vec_capacity};
+ghost use Rattle.std.specs.Option.{ForSome};
 ghost use Rattle.cms_fields.specs.Limits.{longest_record};
 ghost use Rattle.cms_fields.specs.Moments.{is_moment};
 ghost use Rattle.cms_line.specs.declared.token.Token as tokens;
 ghost use Rattle.cms_search.specs.Calls.{Acts, IsUsable, machine_of, spot, spot_at};
+ghost use Rattle.cms_search.specs.Machine as machines;
 ghost use Rattle.cms_search.specs.Searches.{item_at};
+ghost use Rattle.cms_search.specs.Shows.{Shows};
 ghost use Rattle.cms_search.specs.Tables.{letters_of, writing};
 ghost use Rattle.cms_search.specs.Stepping.{HasRead};
-ghost use Rattle.cms_files.specs.Opening.{IsOpened};
-ghost use Rattle.cms_files.specs.declared.opening.OpenFile as opened;
+ghost use Rattle.cms_files.specs.Files.{file_on};
 ghost use Rattle.cms_files.specs.Updating.{updated_of};
 ghost use Rattle.cms_copyfile.specs.Copyfile as spec;
-ghost use Rattle.cms_copyfile.specs.FileCopies.{IsFileCopy, form_into, plan_for};
+ghost use Rattle.cms_copyfile.specs.FileCopies.{IsFileCopy, form_in, form_into, plan_for};
 ghost use Rattle.cms_copyfile.specs.Lines.{IsCopyStyle};
 ghost use Rattle.cms_copyfile.specs.OneCopy.{AreMeasured, AreShaped};
 ghost use Rattle.cms_copyfile.specs.Outputs.{extended};
 ghost use Rattle.cms_copyfile.specs.Records.{longest_fit};
+ghost use Rattle.cms_copyfile.specs.Shapes.{IsShapeBehind};
+ghost use Rattle.cms_copyfile.specs.Writing.{FitsVolume};
 ghost use Rattle.cms_copyfile.specs.declared.line.CopyLine as lines;
 ghost use Rattle.cms_world.specs.Seen.{Seen, seen};
 
-use crate::append_file::append_measured;
 use crate::copy::FileCopy;
 use crate::ending::end_written;
 use crate::line::CopyLine;
@@ -28,21 +31,42 @@ use crate::measuring::measure_copies;
 use crate::opening::open_input;
 use crate::output::{CopyPlan, plan_of, stamp_for};
 use crate::refusing::stop_unread;
-use crate::shape::{can_draft, shape_of};
-use crate::writing::{CopyTarget, write_copies};
-use cms_edf::DraftShape;
+use crate::shape::{shape_behind, shape_of};
+use crate::writing::{CopyTarget, CopyWrite, write_copies};
+use cms_disk::{DraftShape, FileInfo, can_draft, can_extend};
 use cms_fields::{LONGEST_RECORD, Stamp};
-use cms_files::Updated;
-use cms_search::{End, State};
+use cms_files::{Updated, info_named, stored_named};
+use cms_search::{End, State, Table};
 use cms_world::World;
 use std::alloc::Global;
 
-// The records of a file, which were measured, are read again, and their copies are put as a file of this shape.
+// Whether the disk of the output's letter may have a file of its name and this shape, or the one that it has can become one.
+fn fits_disk(table: &Table, file: &FileCopy, write: CopyWrite, shape: &DraftShape) -> bool
+    ensures { result ≡ true → ForSome (item_at table.now.seats file.now.letter)
+        (λ s. FitsVolume write s.disk.volume file.now.name shape.now) }
+{
+    match write {
+        CopyWrite::Whole => can_draft(shape),
+        CopyWrite::Added => {
+            let Some(own) = info_named(table, file.letter, &file.name) else {
+                return false;
+            };
+            let Some(stored) = stored_named(table, file.letter, &file.name) else {
+                return false;
+            };
+            can_extend(&own, stored, shape)
+        }
+    }
+}
+
+// The records of a file, which were measured, are read again, and their copies are put as a file of this shape, or added to the one that
+// is to have it then.
 fn put_copied<W: World>(
     alloc: Global,
     world: &mut W,
     state: &mut State,
     file: &FileCopy,
+    write: CopyWrite,
     shape: &DraftShape,
     plan: &CopyPlan,
     buffer: &mut Vec<u8>,
@@ -53,15 +77,15 @@ fn put_copied<W: World>(
     requires size { (most : ℕ) → most ≤ longest_record → longest_fit plan.now.style.fit most ≤ longest_record }
     requires room { longest_record ≤ vec_capacity buffer.old }
     ensures acts { (before : Seen) (words : List tokens.Token) (line : lines.CopyLine) → HasRead before (seen W.World world.old)
-        → IsFileCopy state.old.table line file.now → extended line.style.existing file.now.there ≡ None
-        → AreShaped (spot W.World world.old state.old) line file.now plan.now shape.now
+        → IsFileCopy state.old.table line file.now
+        → AreShaped (spot W.World world.old state.old) line file.now plan.now write shape.now
         → Acts (spot_at before state.old) (spot W.World world.new state.new)
         (λ units. spec.with_copying words line (machine_of state.old units) file.now.found
         (spec.copy_records (machine_of state.old units) line)) result (updated_of state.new) }
     ensures kept { state.new ≡ record state.old { table = state.new.table; places = state.new.places } }
 {
     // what a disk tells of a file is sound, so this is never
-    if !can_draft(shape) {
+    if !fits_disk(&state.table, file, write, shape) {
         return Err(End::Memory);
     }
     let mut input = open_input(alloc, &state.table, file)?;
@@ -69,6 +93,7 @@ fn put_copied<W: World>(
     let to = CopyTarget {
         letter: file.letter,
         name: file.name,
+        write,
         shape: *shape,
         stamp: Stamp::of(&state.moment),
     };
@@ -113,7 +138,77 @@ fn copy_measured<W: World>(
     let turn = Stamp::of(&state.moment);
     let stamp = stamp_for(&line.style, file.input.stamp, turn);
     let shape = shape_of(file.form(line), file.number(line), stamp, measure);
-    put_copied(alloc, world, state, file, &shape, plan, buffer)
+    put_copied(
+        alloc,
+        world,
+        state,
+        file,
+        CopyWrite::Whole,
+        &shape,
+        plan,
+        buffer,
+    )
+}
+
+// The shape of the file that is extended, with records behind its own that were measured; none only where they are more than a number
+// counts.
+fn extended_shape(
+    table: &Table,
+    file: &FileCopy,
+    own: &FileInfo,
+    stamp: Stamp,
+    more: &Measure,
+) -> Option<DraftShape>
+    ensures { IfSome result (λ shape. (s : machines.Machine) → Shows table.now s
+        → IsShapeBehind own.now stamp more.now shape (file_on s file.now.name (machines.letter_at s file.now.letter))) }
+{
+    let stored = stored_named(table, file.letter, &file.name)?;
+    shape_behind(own, stored, stamp, more)
+}
+
+// The copies of a file were measured, and are added to the one that is extended, of which this is told.
+fn append_measured<W: World>(
+    alloc: Global,
+    world: &mut W,
+    state: &mut State,
+    line: &CopyLine,
+    file: &FileCopy,
+    own: &FileInfo,
+    plan: &CopyPlan,
+    measure: &Measure,
+    buffer: &mut Vec<u8>,
+) -> Result<Updated, End>
+    requires usable { IsUsable (spot W.World world.old state.old) }
+    requires moment { is_moment state.old.moment ≡ true }
+    requires writing { writing (item_at (letters_of state.old.table) file.now.letter) file.now.letter ≡ Ok tt }
+    requires file { IsFileCopy state.old.table line.now file.now }
+    requires own { extended line.now.style.existing file.now.there ≡ Some own.now }
+    requires plan { plan.now ≡ plan_for line.now (form_in own.now) file.now }
+    requires size { (most : ℕ) → most ≤ longest_record → longest_fit plan.now.style.fit most ≤ longest_record }
+    requires room { longest_record ≤ vec_capacity buffer.old }
+    ensures acts { (before : Seen) (words : List tokens.Token) → HasRead before (seen W.World world.old)
+        → AreMeasured (spot W.World world.old state.old) line.now file.now (form_in own.now) measure.now
+        → Acts (spot_at before state.old) (spot W.World world.new state.new)
+        (λ units. spec.with_copying words line.now (machine_of state.old units) file.now.found
+        (spec.copy_records (machine_of state.old units) line.now)) result (updated_of state.new) }
+    ensures kept { state.new ≡ record state.old { table = state.new.table; places = state.new.places } }
+{
+    let turn = Stamp::of(&state.moment);
+    let stamp = stamp_for(&line.style, file.input.stamp, turn);
+    let Some(shape) = extended_shape(&state.table, file, own, stamp, measure) else {
+        // a file has at most 1,048,576 records, so this is never
+        return Err(End::Memory);
+    };
+    put_copied(
+        alloc,
+        world,
+        state,
+        file,
+        CopyWrite::Added,
+        &shape,
+        plan,
+        buffer,
+    )
 }
 
 // The copies of a file were measured; they are put as a file of their own, or added to the one that is extended.
@@ -134,8 +229,7 @@ fn put_measured<W: World>(
     requires plan { plan.now ≡ plan_for line.now (form_into line.now file.now) file.now }
     requires size { (most : ℕ) → most ≤ longest_record → longest_fit plan.now.style.fit most ≤ longest_record }
     requires room { longest_record ≤ vec_capacity buffer.old }
-    ensures acts { (before : Seen) (words : List tokens.Token) (input : opened.OpenFile) → HasRead before (seen W.World world.old)
-        → IsOpened state.old.table file.now.found.letter file.now.found.name input
+    ensures acts { (before : Seen) (words : List tokens.Token) → HasRead before (seen W.World world.old)
         → AreMeasured (spot W.World world.old state.old) line.now file.now (form_into line.now file.now) measure.now
         → Acts (spot_at before state.old) (spot W.World world.new state.new)
         (λ units. spec.with_copying words line.now (machine_of state.old units) file.now.found

@@ -6,11 +6,12 @@ ghost use Rattle.cms_journal.specs.Told.{Told};
 ghost use Rattle.cms_fields.specs.Limits.{longest_record};
 ghost use Rattle.cms_model.specs.Minidisks as minidisks;
 ghost use Rattle.cms_draft.specs.BlockWriting.{CanWrite};
-ghost use Rattle.cms_edf.specs.FileDrafts.{IsSomeDraft};
+ghost use Rattle.cms_fields.specs.declared.time.Stamp as stamps;
+ghost use Rattle.cms_model.specs.Changes as model;
 ghost use Rattle.cms_disk.specs.Disks.{Accessed};
 ghost use Rattle.cms_disk.specs.Drafts.{GoesOn, IsSameDraft};
 ghost use Rattle.cms_world.specs.Seen.{ChangesUnits, seen};
-ghost use Rattle.cms_copyfile.specs.Copies.{Among, CopiesFrom, IsDevices, PutsCopies, copies_from, copies_to};
+ghost use Rattle.cms_copyfile.specs.Copies.{CopiesFrom, IsDevices, PutsCopies, copies_from, copies_to};
 ghost use Rattle.cms_copyfile.specs.Outputs.{copies_in};
 ghost use Rattle.cms_copyfile.specs.Records.{longest_fit};
 ghost use Rattle.cms_copyfile.specs.declared.copying.CopyFault.TheVariants.{Altered, Write};
@@ -44,13 +45,12 @@ fn put_nth<W: World>(
 ) -> Result<(), CopyFault>
     requires room { longest_fit plan.now.style.fit (length text.now) ≤ vec_capacity buffer.old }
     requires ready { ForSome (W.told world.old) (λ j. CanWrite j.units draft.old.writer.writer) }
-    ensures puts { (start : Told) (d : Accessed) (m : minidisks.Minidisk) (among : Among) (front rest : List (List ℕ))
-        → IsSomeDraft d.volume draft.old
-        → length front ≡ place → place < plan.now.wanted
-        → GoesOn start (W.told world.old) d m draft.old (copies_to among plan.now front)
-        (copies_from among plan.now place (text.now ∷ rest))
-        → PutsCopies start (W.told world.new) d m draft.new (copies_to among plan.now (front ++ text.now ∷ []))
-        (copies_from among plan.now (place + 1) rest) result }
+    ensures puts { (start : Told) (d : Accessed) (m : minidisks.Minidisk) (change : model.Change) (stamp : stamps.Stamp)
+        (front rest : List (List ℕ)) → length front ≡ place → place < plan.now.wanted
+        → GoesOn start (W.told world.old) d m draft.old change stamp (copies_to plan.now front)
+        (copies_from plan.now place (text.now ∷ rest))
+        → PutsCopies start (W.told world.new) d m draft.new change stamp (copies_to plan.now (front ++ text.now ∷ []))
+        (copies_from plan.now (place + 1) rest) result }
     ensures capacity { vec_capacity buffer.old ≤ vec_capacity buffer.new }
     ensures same { IsSameDraft draft.old draft.new }
     ensures still { ForSome (W.told world.new) (λ j. CanWrite j.units draft.new.writer.writer) }
@@ -85,9 +85,9 @@ pub fn put_copies<W: World>(
     requires short { cursor.old.begun.longest ≤ longest_record }
     requires room { longest_fit plan.now.style.fit cursor.old.begun.longest ≤ vec_capacity buffer.old }
     requires ready { ForSome (W.told world.old) (λ j. CanWrite j.units draft.old.writer.writer) }
-    ensures puts { (start : Told) (d : Accessed) (m : minidisks.Minidisk) (records : List (List ℕ)) (among : Among)
-        → CopiesFrom start (W.told world.old) d m draft.old plan.now cursor.old records among
-        → PutsCopies start (W.told world.new) d m draft.new (among.front ++ copies_in plan.now records) among.behind result }
+    ensures puts { (start : Told) (d : Accessed) (m : minidisks.Minidisk) (change : model.Change) (stamp : stamps.Stamp)
+        (records : List (List ℕ)) → CopiesFrom start (W.told world.old) d m draft.old change stamp plan.now cursor.old records
+        → PutsCopies start (W.told world.new) d m draft.new change stamp (copies_in plan.now records) [] result }
     ensures capacity { vec_capacity buffer.old ≤ vec_capacity buffer.new }
     ensures same { IsSameDraft draft.old draft.new }
     ensures still { ForSome (W.told world.new) (λ j. CanWrite j.units draft.new.writer.writer) }

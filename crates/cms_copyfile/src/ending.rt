@@ -25,7 +25,7 @@ use cms_world::World;
 use std::alloc::Global;
 
 // Ends the update of the output's disk, which came to this.
-pub(crate) fn end_output<W: World>(
+fn end_output<W: World>(
     alloc: Global,
     world: &mut W,
     state: &mut State,

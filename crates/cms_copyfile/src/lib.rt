@@ -1,13 +1,11 @@
 //! COPYFILE: files are copied record by record.
 #![tactic(auto)]
 
-mod append_file;
 mod copy;
 mod copy_file;
 mod copying;
 mod ending;
 mod finding;
-mod joining;
 mod line;
 mod measure;
 mod measuring;
@@ -24,7 +22,6 @@ mod writing;
 pub use copy::FileCopy;
 pub use copying::{CopyFault, put_copies};
 pub use finding::NamedFile;
-pub use joining::write_joined;
 pub use line::{CopyFiles, CopyLine, CopyOutput, CopyStyle, Existing, copy_line};
 pub use measure::Measure;
 pub use measuring::measure_copies;
@@ -33,6 +30,6 @@ pub use putting::put_copy;
 pub use record::{Fit, Fold, RecordStyle, copy_record};
 pub use refusing::stop_too_few;
 pub use running::run_copyfile;
-pub use shape::shape_of;
+pub use shape::{shape_behind, shape_of};
 pub use telling::{FileShown, copy_text, mode_shown};
-pub use writing::{CopyTarget, Written, fill, write_copies};
+pub use writing::{CopyTarget, CopyWrite, Written, write_copies};

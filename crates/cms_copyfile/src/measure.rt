@@ -1,5 +1,5 @@
 // What is told of records before a file of them is drafted.
-ghost use Rattle.std.specs.Prelude.{◌≡◌, ◌⊎◌, ◌+◌, ◌^◌, ◌<◌, ◌≤◌, ◌++◌, ℕ, List, [], ◌∷◌, length, None, IfSome};
+ghost use Rattle.std.specs.Prelude.{◌≡◌, ◌+◌, ◌^◌, ◌<◌, ◌≤◌, ◌++◌, ℕ, List, [], ◌∷◌, length};
 ghost use Rattle.cms_fields.specs.Limits.{longest_record};
 ghost use Rattle.cms_names.specs.declared.name.Format as formats;
 ghost use Rattle.cms_model.specs.Records.{stored};
@@ -54,17 +54,5 @@ impl Measure {
         self.count += 1;
         self.bytes += u64::from(head_bytes(format) + size);
         self.longest = self.longest.max(size);
-    }
-    /// Of these records and others behind them; none only where they are too many, or too many bytes.
-    pub fn with(&self, more: &Measure) -> Option<Measure>
-        ensures both { (format : formats.Format) (front behind : List (List ℕ)) → self.now ≡ measured format front
-            → more.now ≡ measured format behind → IfSome result (λ m. m ≡ measured format (front ++ behind)) }
-        ensures none { result ≡ None → (2 ^ 32 ≤ self.now.count + more.now.count) ⊎ (2 ^ 64 ≤ self.now.bytes + more.now.bytes) }
-    {
-        Some(Measure {
-            count: self.count.checked_add(more.count)?,
-            bytes: self.bytes.checked_add(more.bytes)?,
-            longest: self.longest.max(more.longest),
-        })
     }
 }

@@ -2,11 +2,8 @@
 ghost use Rattle.std.specs.Prelude.{◌≡◌, ◌<◌, ◌≤◌, true, false, IfErr, IfOk, IsSome};
 ghost use Rattle.std.specs.Option.{ForSome};
 ghost use Rattle.cms_fields.specs.Limits.{longest_record};
-ghost use Rattle.cms_search.specs.Machine.{Machine, letter_at};
-ghost use Rattle.cms_search.specs.Shows.{Shows};
 ghost use Rattle.cms_search.specs.declared.state.End.TheVariants.{Memory};
-ghost use Rattle.cms_files.specs.Files.{file_on};
-ghost use Rattle.cms_files.specs.Opening.{HasRecords, IsOpened};
+ghost use Rattle.cms_files.specs.Opening.{IsOpened};
 
 use crate::copy::FileCopy;
 use cms_disk::FileInfo;
@@ -29,15 +26,8 @@ fn is_short(info: Option<FileInfo>) -> bool
 }
 
 // Opens the file of a name on the disk of a letter, which is there.
-pub(crate) fn open_short(
-    alloc: Global,
-    table: &Table,
-    letter: u8,
-    name: &Name,
-) -> Result<OpenFile, End>
+fn open_short(alloc: Global, table: &Table, letter: u8, name: &Name) -> Result<OpenFile, End>
     ensures opened { IfOk result (IsOpened table.now letter name.now) }
-    ensures there { IfOk result (λ file. (s : Machine) → Shows table.now s → HasRecords file.count
-        (file_on s name.now (letter_at s letter))) }
     ensures short { IfOk result (λ file. file.cursor.begun.longest ≤ longest_record) }
     ensures fault { IfErr result (λ e. e ≡ Memory) }
 {

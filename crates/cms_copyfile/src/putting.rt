@@ -7,7 +7,9 @@ ghost use Rattle.cms_model.specs.Minidisks as minidisks;
 ghost use Rattle.cms_model.specs.Records.{Fits, stored};
 ghost use Rattle.cms_draft.specs.BlockWriting.{CanWrite};
 ghost use Rattle.cms_draft.specs.Drafting.{Drafts};
-ghost use Rattle.cms_edf.specs.FileDrafts.{IsSomeDraft};
+ghost use Rattle.cms_held.specs.Drafts.{Front};
+ghost use Rattle.cms_fields.specs.declared.time.Stamp as stamps;
+ghost use Rattle.cms_model.specs.Changes as model;
 ghost use Rattle.cms_disk.specs.Changing.{IsDevices};
 ghost use Rattle.cms_disk.specs.Disks.{Accessed};
 ghost use Rattle.cms_disk.specs.Drafts.{GoesOn, HasMore, IsSameDraft, PutsRecord};
@@ -45,7 +47,8 @@ fn has_bytes(left: u32, format: Format, text: &[u8]) -> bool
 // Whether a record may come next in a draft.
 fn may_come(draft: &Draft, text: &[u8]) -> bool
     ensures next { result ≡ true → ComesNext draft.now text.now }
-    ensures none { result ≡ false → (done more : List (List ℕ)) → Drafts draft.now.writer done (text.now ∷ more) → ⊥ }
+    ensures none { result ≡ false → (front : Front) (done more : List (List ℕ))
+        → Drafts draft.now.writer front done (text.now ∷ more) → ⊥ }
 {
     let shape = draft.shape();
     if !fits(shape, text) {
@@ -63,10 +66,11 @@ fn may_come(draft: &Draft, text: &[u8]) -> bool
 /// records that are to come. The draft is of no more use then, and the minidisk is as before.
 pub fn put_copy<W: World>(world: &mut W, draft: &mut Draft, text: &[u8]) -> Result<(), DiskFault>
     requires ready { ForSome (W.told world.old) (λ j. CanWrite j.units draft.old.writer.writer) }
-    ensures puts { (start : Told) (d : Accessed) (m : minidisks.Minidisk) (done more : List (List ℕ)) → IsSomeDraft d.volume draft.old
-        → GoesOn start (W.told world.old) d m draft.old done (text.now ∷ more)
-        → PutsRecord start (W.told world.new) d m draft.new (done ++ text.now ∷ []) more result }
-    ensures altered { result ≡ Err Altered → (done more : List (List ℕ)) → Drafts draft.old.writer done (text.now ∷ more) → ⊥ }
+    ensures puts { (start : Told) (d : Accessed) (m : minidisks.Minidisk) (change : model.Change) (stamp : stamps.Stamp)
+        (done more : List (List ℕ)) → GoesOn start (W.told world.old) d m draft.old change stamp done (text.now ∷ more)
+        → PutsRecord start (W.told world.new) d m draft.new change stamp (done ++ text.now ∷ []) more result }
+    ensures altered { result ≡ Err Altered → (front : Front) (done more : List (List ℕ))
+        → Drafts draft.old.writer front done (text.now ∷ more) → ⊥ }
     ensures more { OnOk result (HasMore draft.old.writer draft.new.writer text.now) }
     ensures same { IsSameDraft draft.old draft.new }
     ensures still { ForSome (W.told world.new) (λ j. CanWrite j.units draft.new.writer.writer) }

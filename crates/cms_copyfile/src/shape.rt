@@ -1,16 +1,16 @@
 // What a file is to be that is drafted of copies.
-ghost use Rattle.std.specs.Prelude.{◌≡◌, ◌↔◌, ℕ, List, true, false, IsTrue};
+ghost use Rattle.std.specs.Prelude.{◌≡◌, ℕ, List, IfSome};
 ghost use Rattle.cms_names.specs.declared.name.Name as names;
-ghost use Rattle.cms_edf.specs.FileDrafts.{CanDraft, IsSized};
 ghost use Rattle.cms_disk.specs.Drafts as drafts;
 ghost use Rattle.cms_disk.specs.Drafts.{HaveCounts};
 ghost use Rattle.cms_copyfile.specs.Measures.{length_by, measured};
 ghost use Rattle.cms_copyfile.specs.Outputs.{file_with};
+ghost use Rattle.cms_copyfile.specs.Shapes as spec;
 
 use crate::measure::Measure;
 use crate::output::FileForm;
-use cms_edf::DraftShape;
-use cms_fields::{LONGEST_RECORD, Stamp};
+use cms_disk::{DraftShape, FileInfo};
+use cms_fields::Stamp;
 use cms_names::Format;
 
 // The length of records in a file: the one given at F, the longest's at V.
@@ -21,37 +21,6 @@ fn length_in(form: FileForm, longest: u32) -> u32
         Format::F => form.length,
         Format::V => longest,
     }
-}
-
-// Whether so many records of a format and length can have so many stored bytes.
-fn is_sized(shape: &DraftShape) -> bool
-    ensures { IsTrue result ↔ IsSized shape.now.format shape.now.length shape.now.count shape.now.bytes }
-{
-    let count = u64::from(shape.count);
-    match shape.format {
-        Format::F => shape.bytes == u64::from(shape.length) * count,
-        Format::V => 3 * count <= shape.bytes,
-    }
-}
-
-/// Whether a file may have a shape.
-pub fn can_draft(shape: &DraftShape) -> bool
-    ensures can { result ≡ true → CanDraft shape.now }
-    ensures none { result ≡ false → CanDraft shape.now → ⊥ }
-{
-    if shape.number > 6 {
-        return false;
-    }
-    if shape.count == 0 {
-        return false;
-    }
-    if !(1..=LONGEST_RECORD).contains(&shape.length) {
-        return false;
-    }
-    if !shape.stamp.is_valid() {
-        return false;
-    }
-    is_sized(shape)
 }
 
 /// The shape of a file of records that were measured.
@@ -69,4 +38,34 @@ pub fn shape_of(form: FileForm, number: u8, stamp: Stamp, measure: &Measure) -> 
         count: measure.count,
         bytes: measure.bytes,
     }
+}
+
+// The length of records in a file of which this is told, with others behind its own: its own at F, the longest's at V.
+fn length_behind(info: &FileInfo, longest: u32) -> u32
+    ensures { result ≡ spec.length_behind info.now.format info.now.length longest }
+{
+    match info.format {
+        Format::F => info.length,
+        Format::V => info.length.max(longest),
+    }
+}
+
+/// The shape of a file of which this is told, with so many stored bytes, and with records behind its own that were measured; none where
+/// these are more than a number counts.
+pub fn shape_behind(
+    info: &FileInfo,
+    stored: u32,
+    stamp: Stamp,
+    more: &Measure,
+) -> Option<DraftShape>
+    ensures { IfSome result (λ shape. shape ≡ spec.shape_behind info.now stored stamp more.now) }
+{
+    Some(DraftShape {
+        format: info.format,
+        length: length_behind(info, more.longest),
+        number: info.number,
+        stamp,
+        count: info.count.checked_add(more.count)?,
+        bytes: u64::from(stored).checked_add(more.bytes)?,
+    })
 }

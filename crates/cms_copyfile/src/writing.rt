@@ -4,22 +4,29 @@ ghost use Rattle.std.specs.Option.{ForSome};
 ghost use Rattle.cms_journal.specs.Journal.{HasBlocks};
 ghost use Rattle.cms_fields.specs.Limits.{longest_record};
 ghost use Rattle.cms_fields.specs.Stamps.{is_stamp};
-ghost use Rattle.cms_edf.specs.FileDrafts.{CanDraft};
 ghost use Rattle.cms_search.specs.Drafting.{MayCommit};
 ghost use Rattle.cms_search.specs.Searches.{item_at};
 ghost use Rattle.cms_world.specs.Seen.{seen};
 ghost use Rattle.cms_copyfile.specs.Records.{longest_fit};
-ghost use Rattle.cms_copyfile.specs.Writing.{FillsSeat, FinishesSeat, MayWrite, WritesSeat};
+ghost use Rattle.cms_copyfile.specs.Writing.{FillsSeat, FinishesSeat, MayWrite, PlansSeat, WritesSeat};
 
 use crate::copying::{CopyFault, put_copies};
 use crate::output::CopyPlan;
-use cms_disk::{Cursor, DiskFault};
-use cms_edf::{Draft, DraftShape};
+use cms_disk::{Cursor, DiskFault, Draft, DraftShape};
 use cms_fields::Stamp;
 use cms_names::Name;
 use cms_search::Table;
 use cms_world::World;
 use std::alloc::Global;
+
+/// What becomes of the file of the output's name.
+#[derive(Clone, Copy)]
+pub enum CopyWrite {
+    /// a file of the copies takes its place, or stands last
+    Whole,
+    /// the copies are added to it
+    Added,
+}
 
 /// A file that is to be written, and where.
 #[derive(Clone, Copy)]
@@ -27,6 +34,8 @@ pub struct CopyTarget {
     /// the letter of its disk, A is 0
     pub letter: u8,
     pub name: Name,
+    pub write: CopyWrite,
+    /// that of the whole file
     pub shape: DraftShape,
     /// that of the directory then
     pub stamp: Stamp,
@@ -59,9 +68,9 @@ fn finish<W: World>(world: &mut W, table: &mut Table, letter: u8, draft: Draft) 
     Written::Came(table.commit(world, letter, draft))
 }
 
-/// Reads the records that are wanted, puts their copies in a draft, and makes it a file of the disk of a letter. It takes no memory: the
-/// buffer has room for each copy.
-pub fn fill<W: World>(
+// Reads the records that are wanted, puts their copies in a draft, and makes it a file of the disk of a letter. It takes no memory: the
+// buffer has room for each copy.
+fn fill<W: World>(
     world: &mut W,
     table: &mut Table,
     letter: u8,
@@ -86,8 +95,29 @@ pub fn fill<W: World>(
     }
 }
 
-/// Reads the records that are wanted, and writes their copies as a file: it takes the place of the one of its name, or stands last. A limit
-/// and want of room come before the first write. The buffer has room for each copy.
+// Plans what is written.
+fn plan_target<W: World>(
+    alloc: Global,
+    world: &mut W,
+    table: &mut Table,
+    to: &CopyTarget,
+) -> Result<Draft, DiskFault>
+    requires accessed { IsSome (item_at table.old.seats to.now.letter) }
+    requires may { ForSome (item_at table.old.seats to.now.letter) (λ s. MayWrite (W.told world.old) s.disk to.now) }
+    requires stamp { is_stamp to.now.stamp ≡ true }
+    ensures { IfSome (item_at table.old.seats to.now.letter) (λ s. PlansSeat (seen W.World world.old) (seen W.World world.new)
+        table.old table.new s to.now result) }
+{
+    match to.write {
+        CopyWrite::Whole => table.draft(alloc, to.letter, &to.name, &to.shape, &to.stamp),
+        CopyWrite::Added => {
+            table.draft_more(alloc, world, to.letter, &to.name, &to.shape, &to.stamp)
+        }
+    }
+}
+
+/// Reads the records that are wanted, and writes their copies as a file, or adds them to one. A limit and want of room come before the
+/// first write. The buffer has room for each copy.
 ///
 /// `Altered` is never in a world that tells its journal, where the copies were measured.
 pub fn write_copies<W: World>(
@@ -100,16 +130,15 @@ pub fn write_copies<W: World>(
     buffer: &mut Vec<u8>,
 ) -> Written
     requires accessed { IsSome (item_at table.old.seats to.now.letter) }
-    requires may { ForSome (item_at table.old.seats to.now.letter) (λ s. MayWrite (W.told world.old) s.disk) }
+    requires may { ForSome (item_at table.old.seats to.now.letter) (λ s. MayWrite (W.told world.old) s.disk to.now) }
     requires stamp { is_stamp to.now.stamp ≡ true }
-    requires shape { CanDraft to.now.shape }
     requires blocks { ForSome (W.told world.old) (λ j. HasBlocks j.units cursor.old.unit cursor.old.total cursor.old.bsize) }
     requires short { cursor.old.begun.longest ≤ longest_record }
     requires room { longest_fit plan.now.style.fit cursor.old.begun.longest ≤ vec_capacity buffer.old }
     ensures { IfSome (item_at table.old.seats to.now.letter) (λ s. WritesSeat (seen W.World world.old) (seen W.World world.new)
         table.old table.new s to.now plan.now cursor.old result) }
 {
-    match table.draft(alloc, to.letter, &to.name, &to.shape, &to.stamp) {
+    match plan_target(alloc, world, table, to) {
         Ok(draft) => fill(world, table, to.letter, draft, cursor, plan, buffer),
         Err(fault) => Written::Came(Err(fault)),
     }

@@ -1,6 +1,6 @@
 -- A change of a minidisk is a device step of a machine.
 use Rattle.std.proofs.Common.{◌≡◌, inl, inr, ⊎_elim, ℕ, ◌-◌, Bool, false, List, [], ◌∷◌, length, Option, Some, None, Result, Ok, Err, refl, sym, ◌∙◌, ap, subst, arith}
-use Rattle.std.specs.Prelude.{if◌then◌else◌, ◌↔◌, ⊤, IfErr, OnOk, IsSome, IsTrue, not}
+use Rattle.std.specs.Prelude.{if◌then◌else◌, ◌↔◌, ⊤, IfErr, OnOk, IsSome, IsTrue, not, unwrap_or}
 use Rattle.std.proofs.lemmas.Bool.{false≢true}
 use Rattle.cms_journal.specs.declared.event.Event.{Event}
 use Rattle.cms_journal.specs.declared.event.Event.TheVariants.{Wrote, Synced}
@@ -22,9 +22,8 @@ use Rattle.cms_map.specs.Bits.{free_blocks}
 use Rattle.cms_held.specs.Carrying.{IsEditOf, drops, renames}
 use Rattle.cms_held.specs.LawsRenewing.{writes_of}
 use Rattle.cms_edf.specs.Planning.{CanChange, IsFullFor, IsPlanFor, change_of, edit_of, place_in}
-use Rattle.cms_held.specs.Renewing.{Edit, dropping, needed, renaming}
+use Rattle.cms_held.specs.Renewing.{Edit, dropping, made_at, made_without, needed, renaming}
 use Rattle.cms_edf.specs.declared.step.Step.TheVariants as step
-use Rattle.cms_held.proofs.WritesLong.{system_blocks}
 use Rattle.cms_held.specs.Opening.{HeldVolume}
 use Rattle.cms_held.specs.Carrying.{IsHeldMinidisk}
 use Rattle.cms_edf.specs.Finishing.{IsStopped, LeadsTo, safe_events, step_events}
@@ -42,7 +41,7 @@ use Rattle.cms_edf.specs.declared.change.FileEdit.TheVariants as does
 use Rattle.cms_edf.specs.declared.doubt.Doubt.{Doubt}
 use Rattle.cms_edf.proofs.Planned.{count_is}
 use Rattle.cms_edf.proofs.Planned.{named_at as named_in}
-use Rattle.cms_held.proofs.Carried.{lacking_is_full}
+use Rattle.cms_held.proofs.Carried.{edit_writes, lacking_is_full}
 use Rattle.cms_disk.specs.Changing.{Altered, Alters, Doubted, IsChangeFault, IsOnSame, Kept, fault_of, needed_for, refusal_of}
 use Rattle.cms_disk.specs.declared.fault.DiskFault.TheVariants as refused
 use Rattle.cms_disk.specs.Disks.{Accessed, IsLookedAt, IsMinidisk, IsReadable}
@@ -69,7 +68,7 @@ unfolding update
 stamped_step j v m change stamp (step.Edit e s) held p =
     subst (λ (o : Option Stamp). AreStamped v.unit o (update v.unit (writes_of v s) s.label_bytes)) (sym (edit_stamp v (edit_of v.files e p.file) change stamp p.is))
     (all_join (IsStamped v.unit (Some stamp)) (writes v.unit (writes_of v s)) (Synced v.unit ∷ Wrote v.unit 3 s.label_bytes ∷ Synced v.unit ∷ [])
-    (stamped_writes j v held.layout (edit_of v.files e p.file) stamp s held.at p.ready) (tt, ((λ same at. absurd (label_aside at)), (tt, tt))))
+    (stamped_writes v (edit_of v.files e p.file) stamp s held.at.whole.size (edit_writes j v (edit_of v.files e p.file) stamp s m change held p.is p.ready).aside) (tt, ((λ same at. absurd (label_aside at)), (tt, tt))))
 stamped_step j v m change stamp (step.Relabel label bytes) held (volid, is, r) =
     subst (λ (k : Change). AreStamped v.unit (put_stamp k stamp) (relabel v.unit bytes.items)) (sym is) (λ same at. label_aside at, (tt, tt))
 
@@ -91,9 +90,10 @@ safe_front v (step.Edit e s) = to_front v.unit (writes_of v s) s.label_bytes
 safe_front v (step.Relabel label bytes) = none_front (relabel v.unit bytes.items)
 
 -- it writes whole blocks
-whole_step : (v : HeldVolume) (change : Change) (stamp : Stamp) (s : Step) → IsPlanFor v change stamp s → AreWhole v.unit v.disk.bsize (step_events v s)
-whole_step v change stamp (step.Edit e s) p = update_whole v.unit v.disk.bsize (writes_of v s) s.label_bytes (system_blocks v.disk.bsize s p.ready.long) p.label_long
-whole_step v change stamp (step.Relabel label bytes) (volid, is, r) = ((refl, r.bytes_long), (refl, tt))
+whole_step : (j : Journal) (v : HeldVolume) (m : Minidisk) (change : Change) (stamp : Stamp) (s : Step) → IsHeldMinidisk j v m → IsPlanFor v change stamp s → AreWhole v.unit v.disk.bsize (step_events v s)
+whole_step j v m change stamp (step.Edit e s) held p =
+    update_whole v.unit v.disk.bsize (writes_of v s) s.label_bytes (edit_writes j v (edit_of v.files e p.file) stamp s m change held p.is p.ready).long p.label_long
+whole_step j v m change stamp (step.Relabel label bytes) held (volid, is, r) = ((refl, r.bytes_long), (refl, tt))
 
 course_of : (j : Journal) (old : Told) (d : Accessed) (m : Minidisk) (change : Change) (stamp : Stamp) (s : Step) → Setting j old d m change stamp s
     → Course j d m change stamp (safe_events d.volume s) (step_events d.volume s)
@@ -108,7 +108,7 @@ course_of j old d m change stamp s x =
       only = only_step d.volume s;
       stamped = stamped_step j d.volume m change stamp s held x.plan;
       front = safe_front d.volume s;
-      sized = whole_step d.volume change stamp s x.plan;
+      sized = whole_step j d.volume m change stamp s held x.plan;
     }
 
 -- the step's syncs
@@ -217,12 +217,11 @@ pub record Asked (j : Journal) (d : Accessed) (m : Minidisk) (change : asked.Cha
   pub kept : Keeps d.volume
   pub can : CanChange d.volume.files change
 
-lacking : (j : Journal) (v : HeldVolume) (m : Minidisk) (edit : Edit) (change : Change) (files need free : ℕ) → IsHeldMinidisk j v m → IsEditOf v edit change → Keeps v → length edit.files ≡ files
-    → LacksRoom v (needed v files) (failed.Full need free) → answer_of m change ≡ Full need free
-lacking j v m edit change files need free held is kept count (is_need, is_free, short) =
-    let needs : need ≡ needed v (length edit.files) = is_need ∙ ap (needed v) (sym count) in
+lacking : (j : Journal) (v : HeldVolume) (m : Minidisk) (edit : Edit) (change : Change) (need free : ℕ) → IsHeldMinidisk j v m → IsEditOf v edit change → Keeps v
+    → LacksRoom v (needed v (length edit.files) edit.made) (failed.Full need free) → answer_of m change ≡ Full need free
+lacking j v m edit change need free held is kept (is_need, is_free, short) =
     let answer = lacking_is_full j v edit m change held is kept (omega arith) in
-    answer ∙ (ap (λ (n : ℕ). Full n (length (free_blocks v.bits))) (sym needs) ∙ ap (Full need) (sym is_free))
+    answer ∙ (ap (λ (n : ℕ). Full n (length (free_blocks v.bits))) (sym is_need) ∙ ap (Full need) (sym is_free))
 
 some_place : (o : Option ℕ) → IsSome o → (k : ℕ) × (o ≡ Some k)
 some_place None is = absurd (false≢true is)
@@ -234,8 +233,11 @@ full_is j d m (ask.Drop name) need free x lacks =
     let v = d.volume in
     let at = some_place (place_in name.now v.files) x.can in
     let n = named_in v.files name.now at.0 at.1 in
-    let is : IsEditOf v (dropping v.files at.0 n.file) (Drop name.now) = subst (λ (k : Name). IsEditOf v (dropping v.files at.0 n.file) (Drop k)) n.named (drops at.0 n.file n.there) in
-    lacking j v m (dropping v.files at.0 n.file) (Drop name.now) (length v.files - 1) need free (held_minidisk j d m x.is x.readable) is x.kept (count_is v.files (does.Drop at.0) n.file) lacks
+    let edit = dropping v.files at.0 n.file in
+    let is : IsEditOf v edit (Drop name.now) = subst (λ (k : Name). IsEditOf v edit (Drop k)) n.named (drops at.0 n.file n.there) in
+    let count : length edit.files ≡ length v.files - 1 = count_is v.files (does.Drop at.0) n.file in
+    lacking j v m edit (Drop name.now) need free (held_minidisk j d m x.is x.readable) is x.kept
+    (subst (λ (k : ℕ). LacksRoom v (needed v k edit.made) (failed.Full need free)) (sym count) (lacks at.0 at.1))
 full_is j d m (ask.Rename from to number) need free x lacks =
     let v = d.volume in
     let at = some_place (place_in from.now v.files) x.can.0 in
@@ -243,31 +245,42 @@ full_is j d m (ask.Rename from to number) need free x lacks =
     let own = ⊎_elim (λ none. inl none) (λ same. inr (same ∙ sym n.named)) x.can.2 in
     let is : IsEditOf v (renaming v.files at.0 n.file to.now number) (Rename from.now to.now number) =
     subst (λ (k : Name). IsEditOf v (renaming v.files at.0 n.file to.now number) (Rename k to.now number)) n.named (renames at.0 n.file to.now number n.there x.can.1 own) in
-    lacking j v m (renaming v.files at.0 n.file to.now number) (Rename from.now to.now number) (length v.files) need free (held_minidisk j d m x.is x.readable) is x.kept
-    (count_is v.files (does.Rename at.0 to.now number) n.file) lacks
+    let edit = renaming v.files at.0 n.file to.now number in
+    let count : length edit.files ≡ length v.files = count_is v.files (does.Rename at.0 to.now number) n.file in
+    lacking j v m edit (Rename from.now to.now number) need free (held_minidisk j d m x.is x.readable) is x.kept
+    (subst (λ (k : ℕ). LacksRoom v (needed v k edit.made) (failed.Full need free)) (sym count) (lacks at.0 at.1))
 full_is j d m (ask.Relabel volid) need free x lacks = absurd (cc lacks)
 
-room_is : (v : HeldVolume) (change : asked.Change) (need free : ℕ) → IsFullFor v change (failed.Full need free) → IsChangeFault v (needed_for v change) (refused.Full need free)
-room_is v (ask.Drop name) need free lacks = lacks
-room_is v (ask.Rename from to number) need free lacks = lacks
-room_is v (ask.Relabel volid) need free lacks = absurd (cc lacks)
+-- with the file at its place
+told_at : (o : Option ℕ) (k : ℕ) → o ≡ Some k → unwrap_or o 0 ≡ k
+told_at o k is = ap (λ (x : Option ℕ). unwrap_or x 0) is
 
-never_limited : (v : HeldVolume) (change : asked.Change) (which : ℕ) → IsFullFor v change (failed.Limit which) → ⊥
-never_limited v (ask.Drop name) which lacks = lacks
-never_limited v (ask.Rename from to number) which lacks = lacks
-never_limited v (ask.Relabel volid) which lacks = absurd (cc lacks)
+room_is : (v : HeldVolume) (change : asked.Change) (need free : ℕ) → CanChange v.files change → IsFullFor v change (failed.Full need free)
+    → IsChangeFault v (needed_for v change) (refused.Full need free)
+room_is v (ask.Drop name) need free can lacks =
+    let at = some_place (place_in name.now v.files) can in
+    subst (λ (k : ℕ). LacksRoom v (needed v (length v.files - 1) (made_without k (length v.files))) (failed.Full need free)) (sym (told_at (place_in name.now v.files) at.0 at.1)) (lacks at.0 at.1)
+room_is v (ask.Rename from to number) need free can lacks =
+    let at = some_place (place_in from.now v.files) can.0 in
+    subst (λ (k : ℕ). LacksRoom v (needed v (length v.files) (made_at k)) (failed.Full need free)) (sym (told_at (place_in from.now v.files) at.0 at.1)) (lacks at.0 at.1)
+room_is v (ask.Relabel volid) need free can lacks = absurd (cc lacks)
+
+never_limited : (v : HeldVolume) (change : asked.Change) (which : ℕ) → CanChange v.files change → IsFullFor v change (failed.Limit which) → ⊥
+never_limited v (ask.Drop name) which can lacks = let at = some_place (place_in name.now v.files) can in lacks at.0 at.1
+never_limited v (ask.Rename from to number) which can lacks = let at = some_place (place_in from.now v.files) can.0 in lacks at.0 at.1
+never_limited v (ask.Relabel volid) which can lacks = absurd (cc lacks)
 
 -- what it comes to that no plan is made
 pub not_planned : (j : Journal) (old : Told) (d e : Accessed) (m : Minidisk) (change : asked.Change) (stamp : Stamp) (why : PlanFault) → Asked j d m change → IsFullFor d.volume change why
     → Alters old old d e m (change_of change) stamp (Err (refusal_of why))
-not_planned j old d e m change stamp (failed.Limit which) x lacks = absurd (never_limited d.volume change which lacks)
+not_planned j old d e m change stamp (failed.Limit which) x lacks = absurd (never_limited d.volume change which x.can lacks)
 not_planned j old d e m change stamp (failed.Full need free) x lacks = (refl, full_is j d m change need free x lacks)
 not_planned j old d e m change stamp failed.Memory x lacks = refl
 
-pub plan_fault : (v : HeldVolume) (change : asked.Change) (why : PlanFault) → IsFullFor v change why → IsChangeFault v (needed_for v change) (refusal_of why)
-plan_fault v change (failed.Limit which) lacks = absurd (never_limited v change which lacks)
-plan_fault v change (failed.Full need free) lacks = room_is v change need free lacks
-plan_fault v change failed.Memory lacks = tt
+pub plan_fault : (v : HeldVolume) (change : asked.Change) (why : PlanFault) → CanChange v.files change → IsFullFor v change why → IsChangeFault v (needed_for v change) (refusal_of why)
+plan_fault v change (failed.Limit which) can lacks = absurd (never_limited v change which can lacks)
+plan_fault v change (failed.Full need free) can lacks = room_is v change need free can lacks
+plan_fault v change failed.Memory can lacks = tt
 
 pub carry_fault : (v : HeldVolume) (need : ℕ) (why : Doubt) → IsChangeFault v need (fault_of why)
 carry_fault v need Old = tt
@@ -275,7 +288,7 @@ carry_fault v need Either = tt
 
 -- ---- files that are there, and that aren't
 
-not_there : (o : Option ℕ) (has : Bool) → IsTrue has ↔ IsSome o → has ≡ false → o ≡ None
+pub not_there : (o : Option ℕ) (has : Bool) → IsTrue has ↔ IsSome o → has ≡ false → o ≡ None
 not_there None has tells is = refl
 not_there (Some k) has tells is = absurd (false≢true (sym is ∙ tells.1 refl))
 

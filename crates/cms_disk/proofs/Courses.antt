@@ -1,17 +1,16 @@
 -- A change of a minidisk whose events are known is a device step of a machine.
-use Rattle.std.proofs.Common.{◌≡◌, ◌⊎◌, inl, inr, ⊎_elim, ℕ, ◌-◌, ◌≤◌, Bool, List, [], ◌∷◌, ◌++◌, length, map, take, drop, Some, refl, sym, ◌∙◌, ap, subst, arith}
+use Rattle.std.proofs.Common.{◌≡◌, ◌⊎◌, inl, inr, ⊎_elim, ℕ, ◌*◌, List, [], ◌∷◌, take, drop, Some, refl, sym, ◌∙◌, ap, subst, arith}
 use Rattle.std.specs.Prelude.{unwrap_or}
+use Rattle.std.specs.List.{AllByRecursion}
 use Rattle.cms_journal.specs.declared.event.Event.{Event}
-use Rattle.cms_journal.specs.Journal.{Journal, contents_of, start_of}
+use Rattle.cms_journal.specs.Journal.{Journal, IsBlockSize, contents_of, start_of}
 use Rattle.cms_journal.specs.Told.{Told, plus, syncs, IsOfUnit, OnlyOf}
 use Rattle.cms_journal.proofs.Events.{all_front}
 use Rattle.cms_fields.specs.declared.time.Stamp.{Stamp}
-use Rattle.cms_model.specs.Lists.{times}
-use Rattle.cms_model.specs.Trees.{bytes_at}
 use Rattle.cms_model.specs.Minidisks.{Minidisk, State, Volume}
 use Rattle.cms_model.specs.Volumes.{Disk, Opened, minidisk_of, state_of}
 use Rattle.cms_model.specs.Changes.{Change, Changed, Answer, answer_of, changed}
-use Rattle.cms_model.specs.Stands.{Layout, opened}
+use Rattle.cms_model.specs.Stands.{opened}
 use Rattle.cms_model.specs.Settled.{IsSettled, writes}
 use Rattle.cms_model.specs.LawsUpdates.{HasEither, IsFront, after, now}
 use Rattle.cms_model.proofs.Fronts.{front_of_front, none_front}
@@ -25,22 +24,17 @@ use Rattle.cms_machine.specs.Steps.{Put, Outcome, Good, OldFault, EitherFault, M
 use Rattle.cms_machine.specs.Beats.{AreStamped, Covers, HasStamp, IsStamped}
 use Rattle.cms_machine.proofs.Aside.{of_disk}
 use Rattle.cms_journal.proofs.Sizes.{block_bounds}
-use Rattle.cms_model.proofs.Repeats.{times_append}
-use Rattle.cms_map.specs.Bits.{bits_in, free_blocks}
-use Rattle.cms_held.specs.Opening.{HeldTree}
-use Rattle.cms_held.specs.Carrying.{IsReadyFor}
 use Rattle.cms_held.specs.LawsRenewing.{writes_of}
-use Rattle.cms_held.specs.Renewing.{Edit, IsAllotted, entries_held, fresh}
-use Rattle.cms_held.specs.Systems.{Systems, block_writes, directory_pieces, map_pieces, node_writes}
-use Rattle.cms_held.proofs.MapMarks.{lowest_free}
+use Rattle.cms_held.specs.Renewing.{Edit, entries_held}
+use Rattle.cms_held.specs.Systems.{Systems, directory_bytes_of, directory_piece}
+use Rattle.cms_held.proofs.WritesAside.{IsAside}
 use Rattle.cms_held.specs.Opening.{HeldVolume}
 use Rattle.cms_held.specs.Carrying.{IsHeldMinidisk}
 use Rattle.cms_held.specs.HeldAs.{IsHeldAs}
-use Rattle.cms_held.specs.LawsRenewing.{IsHeldAt}
 use Rattle.cms_disk.specs.Changing.{Altered, Changes, Doubted, HasState, Kept}
 use Rattle.cms_disk.specs.Disks.{Accessed, IsLookedAt, IsMinidisk, IsReadable}
 use Rattle.cms_disk.proofs.Standing.{is_minidisk}
-use Rattle.cms_disk.proofs.StepPieces.{first_stamped, front_has_stamp, high_stamped, leaves_state, stamped_behind, start_has, told_after, whole_front, AreWhole, front_whole, has_whole, whole_after}
+use Rattle.cms_disk.proofs.StepPieces.{front_has_stamp, leaves_state, stamped_aside, start_has, told_after, whole_front, AreWhole, front_whole, has_whole, whole_after}
 
 -- ---- a minidisk, as the volume below is held
 
@@ -59,6 +53,7 @@ held_minidisk j d m is has =
         settled = subst (IsSettled v.disk j v.unit) (sym same) is.settled;
         stands = o.1;
         held = subst (λ (x : Opened). IsHeldAs v.unit v.disk (now j v.unit) x v) (sym same) s.volume_is;
+        trees = is.trees;
       };
       minidisk_is = s.minidisk_is ∙ (ap (minidisk_of v.disk) (sym same) ∙ minidisk_is v.disk layout);
     }
@@ -194,38 +189,13 @@ in_doubt j old new d m change stamp safe whole p is x told front synced =
       changes = changes_from j old new d m change stamp safe whole is x p (EitherFault side) told front (synced side) refl (covers_either j d m change stamp safe whole p x front);
     }
 
--- ---- an update: the events of its unit alone, with its stamp
+-- ---- the stamp of an update's writes
 
--- the blocks that are taken lie from 6 on
-taken_high : (j : Journal) (v : HeldVolume) (old : Layout) (files : ℕ) (given taken : List ℕ) (directory map : HeldTree) (bits : List Bool) → IsHeldAt j v old
-    → IsAllotted v files given taken directory map bits → (n : ℕ) → 1 ≤ times n (fresh taken directory map) → 6 ≤ n
-taken_high j v old files given taken directory map bits x a n some =
-    let total = old.label.blocks in
-    let bytes = bytes_at (now j v.unit) old.map_met.leaves in
-    let is : fresh taken directory map ≡ take (length (fresh taken directory map)) (free_blocks (bits_in total bytes)) =
-    a.lowest ∙ ap (λ (b : List Bool). take (length (fresh taken directory map)) (free_blocks b)) x.held.bits_are in
-    ((lowest_free total bytes (fresh taken directory map) is).each n some).0
-
-pub stamped_writes : (j : Journal) (v : HeldVolume) (old : Layout) (edit : Edit) (stamp : Stamp) (s : Systems) → IsHeldAt j v old → IsReadyFor v edit stamp s
-    → AreStamped v.unit (Some stamp) (writes v.unit (writes_of v s))
-stamped_writes j v old edit stamp s x r =
-    let u = v.unit in
-    let b = v.disk.bsize in
-    let a = r.planned.blocks in
-    let low = (block_bounds b x.whole.size).0 in
-    let high = taken_high j v old (length edit.files) edit.given edit.taken s.directory s.map s.bits x a in
-    let more = drop 1 s.directory.leaves in
-    let t0 = λ (n : ℕ). times_append n edit.taken (more ++ (s.directory.pointers ++ (s.map.leaves ++ s.map.pointers))) in
-    let t1 = λ (n : ℕ). times_append n more (s.directory.pointers ++ (s.map.leaves ++ s.map.pointers)) in
-    let t2 = λ (n : ℕ). times_append n s.directory.pointers (s.map.leaves ++ s.map.pointers) in
-    let t3 = λ (n : ℕ). times_append n s.map.leaves s.map.pointers in
-    let pieces = directory_pieces b s in
-    let stamps : HasStamp (take b s.directory_bytes) stamp =
-    subst (λ (l : List ℕ). HasStamp (take b l) stamp) (sym r.planned.directory_bytes) (front_has_stamp b s (entries_held edit.files) stamp low) in
-    let first : take 1 s.directory.leaves ≡ (9 - v.label.origin) ∷ [] = ap (take 1) a.origin in
-    stamped_behind u stamp (block_writes more (drop 1 pieces)) _ (high_stamped u stamp more (drop 1 pieces) (λ n some. high n (omega (arith, some, t0 n, t1 n))))
-    (stamped_behind u stamp (node_writes b s.directory) _ (high_stamped u stamp s.directory.pointers _ (λ n some. high n (omega (arith, some, t0 n, t1 n, t2 n))))
-    (stamped_behind u stamp (block_writes s.map.leaves (map_pieces b s)) _ (high_stamped u stamp s.map.leaves _ (λ n some. high n (omega (arith, some, t0 n, t1 n, t2 n, t3 n))))
-    (stamped_behind u stamp (node_writes b s.map) _ (high_stamped u stamp s.map.pointers _ (λ n some. high n (omega (arith, some, t0 n, t1 n, t2 n, t3 n))))
-    (subst (λ (ns : List ℕ). AreStamped u (Some stamp) (writes u (block_writes ns (take 1 pieces)))) (sym first)
-    (first_stamped u stamp b (9 - v.label.origin) (length s.directory.leaves) s.directory_bytes stamps)))))
+pub stamped_writes : (v : HeldVolume) (edit : Edit) (stamp : Stamp) (s : Systems) → IsBlockSize v.disk.bsize
+    → AllByRecursion (IsAside (directory_piece v.disk.bsize s (entries_held edit.files) stamp 0)) (writes_of v s) → AreStamped v.unit (Some stamp) (writes v.unit (writes_of v s))
+stamped_writes v edit stamp s size aside =
+    let bsize = v.disk.bsize in
+    let bytes = directory_bytes_of bsize s (entries_held edit.files) stamp in
+    let none : 0 * bsize ≡ 0 = omega arith in
+    stamped_aside v.unit stamp (directory_piece bsize s (entries_held edit.files) stamp 0) (writes_of v s)
+    (subst (λ (n : ℕ). HasStamp (take bsize (drop n bytes)) stamp) (sym none) (front_has_stamp bsize s (entries_held edit.files) stamp (block_bounds bsize size).0)) aside

@@ -1,37 +1,33 @@
 -- What putting a file comes to.
-use Rattle.std.proofs.Common.{◌≡◌, inl, inr, ℕ, ◌+◌, ◌*◌, ◌≤◌, List, [], ◌∷◌, length, Some, Result, Ok, Err, refl, sym, ◌∙◌, ap, subst, arith, length-append, mul_comm}
-use Rattle.std.specs.Prelude.{All, slice_get, unwrap_or, ⊤}
+use Rattle.std.proofs.Common.{◌≡◌, inl, inr, ℕ, ◌+◌, ◌*◌, ◌≤◌, List, [], ◌∷◌, length, None, Option, Some, Result, Ok, Err, refl, sym, ◌∙◌, ap, subst, arith, length-append, mul_comm}
+use Rattle.std.specs.Prelude.{All, unwrap_or, ⊤}
 use Rattle.std.proofs.lemmas.List.Elements.{All-head, All-tail}
 use Rattle.cms_names.specs.declared.name.Format.{Format}
 use Rattle.cms_names.specs.declared.name.Format.TheVariants.{F, V}
-use Rattle.cms_journal.specs.Journal.{HasBlocks, Journal}
-use Rattle.cms_journal.specs.Told.{Grown, Told, syncs}
+use Rattle.cms_journal.specs.Told.{Grown, Told}
 use Rattle.cms_names.specs.declared.name.Name.{Name}
 use Rattle.cms_fields.specs.declared.time.Stamp.{Stamp}
 use Rattle.cms_model.specs.Minidisks.{File, Minidisk, Volume}
 use Rattle.cms_model.specs.Records.{Fits, IsValid, StandsFor, length_of, stored, with_length}
 use Rattle.cms_model.proofs.Records.{length-with_length, length_stored_fixed}
-use Rattle.cms_edf.specs.FileDrafts.{FileDraft, IsDraftFor, IsSized, tree_of}
-use Rattle.cms_model.specs.Changes.{Answer, Change, Changed, Put, answer_of, changed}
+use Rattle.cms_edf.specs.FileDrafts.{IsSized}
+use Rattle.cms_model.specs.Changes.{Add, Answer, Change, Changed, Full, Limited, Put, answer_of, changed}
 use Rattle.cms_model.specs.declared.file.FileData.{FileData}
 use Rattle.cms_machine.specs.Beats.{Covers}
 use Rattle.cms_machine.specs.Slots.{Settled, named, set_of}
-use Rattle.cms_machine.specs.Steps.{EitherFault, MayPut, OldFault, after_put, put_syncs}
+use Rattle.cms_machine.specs.Steps.{EitherFault, MayPut, OldFault, after_put, put_stamp, put_syncs}
 use Rattle.cms_machine.proofs.Aside.{of_disk}
 use Rattle.cms_held.specs.Opening.{HeldTree, HeldVolume}
 use Rattle.cms_held.proofs.Fronts.{if_err}
-use Rattle.cms_journal.specs.declared.event.Attached.{Attached}
 use Rattle.cms_world.specs.Seen.{Seen}
-use Rattle.cms_model.specs.Volumes.{disk_of}
 use Rattle.cms_draft.specs.Drafting.{Drafting, HaveShape, IsFresh}
 use Rattle.cms_draft.specs.declared.shape.DraftShape.{DraftShape}
 use Rattle.cms_disk.specs.Changing.{Alters, Changes, ChangesDisk, HasState, IsWholeAt, IsDevices, Kept}
-use Rattle.cms_disk.specs.Disks.{Accessed, IsLookedAt, IsMinidisk, IsReadable}
-use Rattle.cms_disk.specs.Drafts.{AreLast, GoesOn, HaveCounts, IsAnsweredBy, IsDraftFault, IsGivenUp, IsPutFault, file_with, shape_of}
+use Rattle.cms_disk.specs.Disks.{Accessed}
+use Rattle.cms_disk.specs.Drafts.{AreLast, HaveCounts, IsAnsweredBy, IsDraftFault, IsGivenUp, IsPutFault, file_with, shape_of}
 use Rattle.cms_disk.specs.declared.fault.DiskFault.{DiskFault}
 use Rattle.cms_disk.specs.declared.fault.DiskFault.TheVariants as failed
 use Rattle.cms_disk.proofs.Beside.{stamped_any}
-use Rattle.cms_disk.proofs.DraftSteps.{starts}
 use Rattle.cms_disk.proofs.Filling.{changes_then}
 use Rattle.cms_disk.proofs.Standing.{minidisk_same}
 
@@ -53,9 +49,9 @@ refused_so T told d e m name shape records stamp failed.Altered fault answer = a
 
 -- ---- a draft that was given up
 
-pub given_up : (start new : Told) (d e : Accessed) (m : Minidisk) (f : File) (stamp : Stamp) (after : Minidisk) → IsGivenUp start new d m → answer_of m (Put f) ≡ Changed after → e.volume ≡ d.volume
-    → Kept start new e m (Put f) stamp
-given_up start new d e m f stamp after g answer same =
+pub given_up : (start new : Told) (d e : Accessed) (m : Minidisk) (change : Change) (stamp : Stamp) (after : Minidisk) → IsGivenUp start new d m → answer_of m change ≡ Changed after
+    → ((answer : Answer) → put_syncs change answer OldFault ≡ 0) → MayPut change (Changed after) OldFault → e.volume ≡ d.volume → Kept start new e m change stamp
+given_up start new d e m change stamp after g answer none may same =
     let a = g.aside in
     let s = g.stands in
     record {
@@ -64,19 +60,30 @@ given_up start new d e m f stamp after g answer same =
       later = s.at;
       told = s.told_is;
       minidisk = minidisk_same s.at d e m same s.minidisk;
-      changes = subst (λ (v : HeldVolume). Changes start new v.unit m (Put f) stamp OldFault) (sym same) (record {
+      changes = subst (λ (v : HeldVolume). Changes start new v.unit m change stamp OldFault) (sym same) (record {
         events = a.events;
         told = a.told;
         of_unit = a.of_unit;
         fits = record {
           disk = of_disk d.volume.unit a.events a.of_unit;
-          synced = subst (λ (x : Answer). syncs a.events ≡ put_syncs (Put f) x OldFault) (sym answer) a.unsynced;
-          stamped = stamped_any d.volume.unit (Some stamp) a.events a.aside;
-          outcome = subst (λ (x : Answer). MayPut (Put f) x OldFault) (sym answer) (refl, refl);
+          synced = a.unsynced ∙ sym (none (answer_of m change));
+          stamped = stamped_any d.volume.unit (put_stamp change stamp) a.events a.aside;
+          outcome = subst (λ (x : Answer). MayPut change x OldFault) (sym answer) may;
         };
         covers = subst (λ (x : Answer). Covers start a.events d.volume.unit (Volume m ∷ []) (set_of (unwrap_or (after_put m x OldFault) (Settled (Volume m))))) (sym answer) a.covers;
       });
     }
+
+-- the change makes no sync then
+pub file_none : (f : File) (answer : Answer) → put_syncs (Put f) answer OldFault ≡ 0
+file_none f (Limited k) = refl
+file_none f (Full need free) = refl
+file_none f (Changed after) = refl
+
+pub added_none : (name : Name) (more : List (List ℕ)) (added : Stamp) (answer : Answer) → put_syncs (Add name more added) answer OldFault ≡ 0
+added_none name more added (Limited k) = refl
+added_none name more added (Full need free) = refl
+added_none name more added (Changed after) = refl
 
 -- ---- it is the same disk but for its spare places
 
@@ -127,28 +134,6 @@ pub sized_so : (f : FileData) (records : List (List ℕ)) → StandsFor f record
 sized_so f records s = sized_at f.format f.length f.count (length f.bytes) records s.each s.count_is (ap length s.bytes_are)
 
 -- ---- the start
-
--- a file that is put, once its draft is planned
-pub record Start (j : Journal) (old : Told) (d e : Accessed) (m : Minidisk) (draft : FileDraft) (name : Name) (shape : DraftShape) (stamp : Stamp) (f : FileData) (records : List (List ℕ)) :
-    Type 0 where
-  pub told_is : old ≡ Some j
-  pub is : IsMinidisk j d m
-  pub readable : IsReadable j d
-  pub looked : IsLookedAt j d
-  pub volume : e.volume ≡ d.volume
-  pub planned : IsDraftFor d.volume name shape stamp draft
-  pub fresh : IsFresh d.volume.unit d.volume.disk.bsize shape (tree_of draft) draft.writer
-  pub stands : StandsFor f records
-  pub shape_is : shape ≡ shape_of f
-
-pub begins : (j : Journal) (old : Told) (d e : Accessed) (m : Minidisk) (draft : FileDraft) (name : Name) (shape : DraftShape) (stamp : Stamp) (f : FileData) (records : List (List ℕ))
-    → Start j old d e m draft name shape stamp f records → GoesOn old old e m draft [] records
-begins j old d e m draft name shape stamp f records x =
-    let back = sym x.volume in
-    starts j old e m draft shape records x.told_is (minidisk_same j d e m x.volume x.is) (subst (λ (v : HeldVolume). HasBlocks j.units v.unit v.disk.count v.disk.bsize) back x.readable)
-    (subst (λ (v : HeldVolume). (unit : Attached) → slice_get j.units v.unit ≡ Some unit → disk_of unit ≡ v.disk) back x.looked)
-    (subst (λ (v : HeldVolume). IsFresh v.unit v.disk.bsize shape (tree_of draft) draft.writer) back x.fresh)
-    (subst (λ (s : DraftShape). HaveShape s records) (sym x.shape_is) (has_shape f records x.stands))
 
 -- its records are all that the draft has
 pub are_last : (f : FileData) (valid : IsValid f) (unit bsize : ℕ) (shape : DraftShape) (tree : HeldTree) (d : Drafting) → shape ≡ shape_of f → IsFresh unit bsize shape tree d → AreLast d f
@@ -211,3 +196,15 @@ changed_behind a b c d e f r grown faults edges kept two =
       kept = if_err r (λ (why : DiskFault). (why ≡ failed.InDoubt → ⊥) → f ≡ record e { spare = f.spare }) (λ (why : DiskFault). (why ≡ failed.InDoubt → ⊥) → f ≡ record d { spare = f.spare })
           (λ why same sure. same sure ∙ ap (λ (x : Accessed). record x { spare = f.spare }) kept) two.kept;
     }
+
+-- ---- a limit is passed, or none is
+
+pub not_both : {o : Option ℕ} (which : ℕ) → o ≡ Some which → o ≡ None → ⊥
+not_both which some none = clash (sym some ∙ none)
+  where
+    clash : ◌≡◌ {A = Option ℕ} (Some which) None → ⊥
+    clash at = cc
+
+-- a draft that was made wasn't refused
+pub not_made : {T : Type 0} (x : T) (e : DiskFault) → ◌≡◌ {A = Result T DiskFault} (Ok x) (Err e) → ⊥
+not_made x e at = cc

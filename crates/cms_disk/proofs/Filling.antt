@@ -4,44 +4,91 @@ use Rattle.std.specs.Prelude.{All, IfErr, Result, Ok, Err}
 use Rattle.std.proofs.lemmas.List.{append_assoc}
 use Rattle.std.proofs.lemmas.List.Elements.{All-head, All-tail}
 use Rattle.cms_journal.specs.Causes.{Rose}
+use Rattle.cms_journal.specs.Journal.{Journal}
 use Rattle.cms_journal.specs.Told.{Told, Grown}
 use Rattle.cms_journal.proofs.Pieces.{grown_then}
 use Rattle.cms_world.specs.Seen.{Seen, ChangesUnits}
 use Rattle.cms_names.specs.declared.name.Name.{Name}
 use Rattle.cms_names.specs.declared.name.Format.{Format}
 use Rattle.cms_names.specs.declared.name.Format.TheVariants.{F, V}
+use Rattle.cms_fields.specs.declared.entry.Entry.{Entry}
 use Rattle.cms_fields.specs.declared.time.Stamp.{Stamp}
+use Rattle.cms_model.specs.Changes.{Add, Change, Drop, Put, Relabel, Rename}
 use Rattle.cms_model.specs.Minidisks.{Minidisk}
 use Rattle.cms_model.specs.Records.{Fits, StandsFor, stored}
 use Rattle.cms_model.specs.declared.file.FileData.{FileData}
 use Rattle.cms_model.proofs.Records.{stored_append}
-use Rattle.cms_held.specs.Opening.{HeldTree, HeldVolume}
+use Rattle.cms_held.specs.Drafts.{Front}
+use Rattle.cms_held.specs.Opening.{HeldFile, HeldTree, HeldVolume}
 use Rattle.cms_held.specs.Systems.{Systems}
-use Rattle.cms_draft.specs.BlockWriting.{came}
+use Rattle.cms_draft.specs.BlockWriting.{IsSame, came}
 use Rattle.cms_draft.specs.declared.shape.DraftShape.{DraftShape}
-use Rattle.cms_edf.specs.FileDrafts.{FileDraft, IsDraftFor, IsFilePlanned, IsSomeDraft, entry_for, tree_of}
+use Rattle.cms_edf.specs.FileDrafts.{FileDraft, IsDraftFor, IsSomeDraft, tree_of}
+use Rattle.cms_edf.specs.Growing.{IsFrontOf, IsMoreFor}
+use Rattle.cms_edf.proofs.DraftPut.{more_is_some, more_still, new_is_some, new_still, planned_still}
 use Rattle.cms_disk.specs.Disks.{Accessed}
-use Rattle.cms_disk.specs.Drafts.{AreLast, GoesOn, HasMore, IsFull, IsSameDraft}
+use Rattle.cms_disk.specs.Drafts.{AreLast, GoesOn, HasMore, IsFor, IsFull, IsSameDraft}
 
 -- ---- it stays the draft of its file
 
+-- with the entry and what is written then of the one before
+carried : (P : FileDraft → Type 0) (d e : FileDraft) → IsSameDraft d e → P (record { entry = d.entry; writer = e.writer; systems = d.systems }) → P e
+carried P d e same is =
+    subst (λ (s : Systems). P (record { entry = e.entry; writer = e.writer; systems = s })) (sym same.systems)
+    (subst (λ (n : Entry). P (record { entry = n; writer = e.writer; systems = d.systems })) (sym same.entry) is)
+
 pub same_draft : (v : HeldVolume) (name : Name) (shape : DraftShape) (stamp : Stamp) (d e : FileDraft) → IsSameDraft d e → IsDraftFor v name shape stamp d → IsDraftFor v name shape stamp e
-same_draft v name shape stamp d e same is =
-    let tree : tree_of e ≡ tree_of d = same.writer.tree in
-    record {
-      entry_is = same.entry ∙ (is.entry_is ∙ ap (entry_for v.disk.bsize name shape) (sym tree));
-      shape_is = same.shape ∙ is.shape_is;
-      unit_is = same.writer.unit ∙ is.unit_is;
-      bsize_is = same.writer.bsize ∙ is.bsize_is;
-      file = subst (λ (s : Systems). IsFilePlanned v name shape stamp (tree_of e) s) (sym same.systems)
-          (subst (λ (t : HeldTree). IsFilePlanned v name shape stamp t d.systems) (sym tree) is.file);
-    }
+same_draft v name shape stamp d e same is = carried (IsDraftFor v name shape stamp) d e same (new_still v name shape stamp d e.writer same.writer same.shape is)
+
+pub same_more : (v : HeldVolume) (name : Name) (f : HeldFile) (shape : DraftShape) (stamp : Stamp) (d e : FileDraft) → IsSameDraft d e → IsMoreFor v name f shape stamp d
+    → IsMoreFor v name f shape stamp e
+same_more v name f shape stamp d e same is = carried (IsMoreFor v name f shape stamp) d e same (more_still v name f shape stamp d e.writer same.writer same.shape is)
 
 pub same_some : (v : HeldVolume) (d e : FileDraft) → IsSameDraft d e → IsSomeDraft v d → IsSomeDraft v e
-same_some v d e same some = record { name = some.name; shape = some.shape; stamp = some.stamp; is = same_draft v some.name some.shape some.stamp d e same some.is }
+same_some v d e same some = carried (IsSomeDraft v) d e same (planned_still v d e.writer same.writer same.shape some)
+
+-- one that is for a change is planned
+pub some_for : (j : Journal) (d : Accessed) (draft : FileDraft) (change : Change) (stamp : Stamp) (front : Front) (records : List (List ℕ)) → IsFor j d draft change stamp front records
+    → IsSomeDraft d.volume draft
+some_for j d draft (Put new) stamp front records is = new_is_some d.volume new.name is.shape stamp draft is.planned
+some_for j d draft (Add name more added) stamp front records is = more_is_some d.volume name is.1.file is.1.shape stamp draft is.1.planned
+some_for j d draft (Drop name) stamp front records is = absurd is
+some_for j d draft (Rename from to number) stamp front records is = absurd is
+some_for j d draft (Relabel volid) stamp front records is = absurd is
+
+-- it is so still, where what comes in front is still what the unit has
+pub for_still : (j k : Journal) (d : Accessed) (draft draft' : FileDraft) (change : Change) (stamp : Stamp) (front : Front) (records : List (List ℕ)) → IsSameDraft draft draft'
+    → ((name : Name) (f : HeldFile) (shape : DraftShape) → IsMoreFor d.volume name f shape stamp draft → IsFrontOf j d.volume f (tree_of draft) front → IsFrontOf k d.volume f (tree_of draft) front)
+    → IsFor j d draft change stamp front records → IsFor k d draft' change stamp front records
+for_still j k d draft draft' (Put new) stamp front records same stays is = record {
+  shape = is.shape;
+  planned = same_draft d.volume new.name is.shape stamp draft draft' same is.planned;
+  new_is = is.new_is;
+  nothing = is.nothing;
+  long = is.long;
+}
+for_still j k d draft draft' (Add name more added) stamp front records same stays is = (
+  is.0,
+  record {
+    file = is.1.file;
+    shape = is.1.shape;
+    planned = same_more d.volume name is.1.file is.1.shape stamp draft draft' same is.1.planned;
+    added_is = is.1.added_is;
+    front_is = subst (λ (t : HeldTree). IsFrontOf k d.volume is.1.file t front) (sym same.writer.tree)
+        (stays name is.1.file is.1.shape is.1.planned is.1.front_is);
+    long = is.1.long;
+  },
+)
+for_still j k d draft draft' (Drop name) stamp front records same stays is = absurd is
+for_still j k d draft draft' (Rename from to number) stamp front records same stays is = absurd is
+for_still j k d draft draft' (Relabel volid) stamp front records same stays is = absurd is
+
+-- where a record was put
+pub same_of : (d e : FileDraft) → e ≡ record d { writer = record d.writer { put = d.writer.put + 1; writer = e.writer.writer } } → IsSame d.writer.writer e.writer.writer → IsSameDraft d e
+same_of d e is same = record { entry = ap (λ (x : FileDraft). x.entry) is; systems = ap (λ (x : FileDraft). x.systems) is; shape = ap (λ (x : FileDraft). x.writer.shape) is; writer = same }
 
 pub same_none : (d : FileDraft) → IsSameDraft d d
-same_none d = record { entry = refl; systems = refl; shape = refl; writer = record { unit = refl; bsize = refl; psize = refl; tree = refl; size = refl } }
+same_none d = record { entry = refl; systems = refl; shape = refl; writer = record { unit = refl; bsize = refl; psize = refl; tree = refl; size = refl; kept = refl } }
 
 pub same_then : (a b c : FileDraft) → IsSameDraft a b → IsSameDraft b c → IsSameDraft a c
 same_then a b c one two =
@@ -51,7 +98,7 @@ same_then a b c one two =
       entry = two.entry ∙ one.entry;
       systems = two.systems ∙ one.systems;
       shape = two.shape ∙ one.shape;
-      writer = record { unit = w.unit ∙ v.unit; bsize = w.bsize ∙ v.bsize; psize = w.psize ∙ v.psize; tree = w.tree ∙ v.tree; size = w.size ∙ v.size };
+      writer = record { unit = w.unit ∙ v.unit; bsize = w.bsize ∙ v.bsize; psize = w.psize ∙ v.psize; tree = w.tree ∙ v.tree; size = w.size ∙ v.size; kept = w.kept ∙ v.kept };
     }
 
 -- ---- one after another
@@ -64,8 +111,8 @@ pub record PutTo (start now : Told) (first d : FileDraft) (all left : List (List
   pub bytes : came d.writer.writer + length (stored d.writer.shape.format left) ≡ d.writer.writer.size
   pub each : All (Fits d.writer.shape.format d.writer.shape.length) left
   pub same : IsSameDraft first d
-  pub goes : (begin : Told) (a : Accessed) (m : Minidisk) (done : List (List ℕ)) → IsSomeDraft a.volume first → GoesOn begin start a m first done (gone ++ left)
-      → GoesOn begin now a m d (done ++ gone) left
+  pub goes : (begin : Told) (a : Accessed) (m : Minidisk) (change : Change) (stamp : Stamp) (done : List (List ℕ)) → GoesOn begin start a m first change stamp done (gone ++ left)
+      → GoesOn begin now a m d change stamp (done ++ gone) left
 
 fits_as : (format : Format) (size size' : ℕ) (rs : List (List ℕ)) → (format ≡ F → size ≡ size') → All (Fits format size) rs → All (Fits format size') rs
 fits_as F size size' rs same each = subst (λ (n : ℕ). All (Fits F n) rs) (same refl) each
@@ -85,7 +132,7 @@ put_first told d f left records stands is last =
       each = subst (All (Fits d.writer.shape.format d.writer.shape.length)) (sym is)
           (fits_as d.writer.shape.format f.length d.writer.shape.length records last.fixed (subst (λ (k : Format). All (Fits k f.length) records) format stands.each));
       same = same_none d;
-      goes = λ begin a m done some g. subst (λ (l : List (List ℕ)). GoesOn begin told a m d l left) (sym (append-nil done)) g;
+      goes = λ begin a m change stamp done g. subst (λ (l : List (List ℕ)). GoesOn begin told a m d change stamp l left) (sym (append-nil done)) g;
     }
 
 stored_first : (format : Format) (text : List ℕ) (more : List (List ℕ)) → length (stored format (text ∷ more)) ≡ length (stored format (text ∷ [])) + length (stored format more)
@@ -105,7 +152,7 @@ next_fits start now first d all more text to =
     record { fewer = omega (arith, count); fits = All-head (Fits d.writer.shape.format d.writer.shape.length) text more to.each; room = omega (arith, bytes, long) }
 
 pub put_next : (start old new : Told) (first d e : FileDraft) (all more : List (List ℕ)) (text : List ℕ) → PutTo start old first d all (text ∷ more) → HasMore d.writer e.writer text → IsSameDraft d e
-    → ((begin : Told) (a : Accessed) (m : Minidisk) (done : List (List ℕ)) → IsSomeDraft a.volume d → GoesOn begin old a m d done (text ∷ more) → GoesOn begin new a m e (done ++ text ∷ []) more)
+    → ((begin : Told) (a : Accessed) (m : Minidisk) (change : Change) (stamp : Stamp) (done : List (List ℕ)) → GoesOn begin old a m d change stamp done (text ∷ more) → GoesOn begin new a m e change stamp (done ++ text ∷ []) more)
     → PutTo start new first e all more
 put_next start old new first d e all more text to has same puts =
     let count = to.count in
@@ -125,10 +172,10 @@ put_next start old new first d e all more text to has same puts =
       bytes = omega (arith, bytes, size, long, rest, room);
       each = subst (λ (s : DraftShape). All (Fits s.format s.length) more) (sym shape) (All-tail (Fits d.writer.shape.format d.writer.shape.length) text more to.each);
       same = same_then first d e to.same same;
-      goes = λ begin a m done some g.
-          subst (λ (l : List (List ℕ)). GoesOn begin new a m e l more) (append_assoc done to.gone (text ∷ []))
-          (puts begin a m (done ++ to.gone) (same_some a.volume first d to.same some)
-          (to.goes begin a m done some (subst (λ (l : List (List ℕ)). GoesOn begin start a m first done l) (append_assoc to.gone (text ∷ []) more) g)));
+      goes = λ begin a m change stamp done g.
+          subst (λ (l : List (List ℕ)). GoesOn begin new a m e change stamp l more) (append_assoc done to.gone (text ∷ []))
+          (puts begin a m change stamp (done ++ to.gone)
+          (to.goes begin a m change stamp done (subst (λ (l : List (List ℕ)). GoesOn begin start a m first change stamp done l) (append_assoc to.gone (text ∷ []) more) g)));
     }
 
 stored_none : (format : Format) → length (stored format []) ≡ 0
@@ -144,11 +191,11 @@ put_last start now first d all to =
 
 -- all records are put then
 pub put_all : (start now : Told) (first d : FileDraft) (all records : List (List ℕ)) → PutTo start now first d all [] → all ≡ records
-    → (begin : Told) (a : Accessed) (m : Minidisk) (done : List (List ℕ)) → IsSomeDraft a.volume first → GoesOn begin start a m first done records → GoesOn begin now a m d (done ++ records) []
-put_all start now first d all records to is begin a m done some g =
+    → (begin : Told) (a : Accessed) (m : Minidisk) (change : Change) (stamp : Stamp) (done : List (List ℕ)) → GoesOn begin start a m first change stamp done records → GoesOn begin now a m d change stamp (done ++ records) []
+put_all start now first d all records to is begin a m change stamp done g =
     let gone : to.gone ≡ records = sym (append-nil to.gone) ∙ (to.all_are ∙ is) in
-    subst (λ (l : List (List ℕ)). GoesOn begin now a m d (done ++ l) []) gone
-    (to.goes begin a m done some (subst (λ (l : List (List ℕ)). GoesOn begin start a m first done l) (sym (to.all_are ∙ is)) g))
+    subst (λ (l : List (List ℕ)). GoesOn begin now a m d change stamp (done ++ l) []) gone
+    (to.goes begin a m change stamp done (subst (λ (l : List (List ℕ)). GoesOn begin start a m first change stamp done l) (sym (to.all_are ∙ is)) g))
 
 -- ---- two calls on units, one behind the other
 

@@ -25,7 +25,7 @@ use Rattle.cms_model.proofs.Results.{ok_same}
 use Rattle.cms_model.proofs.TreeFrame.{between}
 use Rattle.cms_records.specs.Pieces.{Begun, bytes_so_far, next_place}
 use Rattle.cms_held.specs.Opening.{HeldFile, HeldVolume}
-use Rattle.cms_edf.specs.Asking.{info_of, infos_in, leaves_in}
+use Rattle.cms_edf.specs.Asking.{info_of, infos_in, leaves_in, stored_in}
 use Rattle.cms_edf.specs.declared.held.FileInfo.{FileInfo}
 use Rattle.cms_held.specs.Kept.{IsKeptFile, Keeps}
 use Rattle.cms_held.specs.LawsHeld.{HasRoomOf, IsFileOf, IsFound, IsMinidiskOf, IsStored}
@@ -50,6 +50,19 @@ pub stands_stored : (image : Image) (d : Accessed) (m : Minidisk) → StandsIn i
 stands_stored image d m s =
     let room : HasRoomOf image d.volume m = subst (HasRoomOf image d.volume) (sym s.minidisk_is) (opened_has_room d.volume.unit d.volume.disk image s.opened d.volume s.whole s.opens s.volume_is) in
     room.files_are
+
+-- the file of which so many bytes are stored
+sized_at : (hs : List HeldFile) (k bytes : ℕ) → slice_get (map (λ f. f.size) hs) k ≡ Some bytes → (h : HeldFile) × (slice_get hs k ≡ Some h) × (h.size ≡ bytes)
+sized_at [] k bytes is = absurd (cc is)
+sized_at (h ∷ hs) zero bytes is = (h, refl, same_Some h.size bytes is)
+sized_at (h ∷ hs) (suc k) bytes is = sized_at hs k bytes is
+
+-- those of its records
+pub stored_told : (image : Image) (d : Accessed) (m : Minidisk) (f : File) (k bytes : ℕ) → StandsIn image d m → slice_get m.files k ≡ Some f → slice_get (stored_in d.volume) k ≡ Some bytes
+    → bytes ≡ length (stored f.format f.records)
+stored_told image d m f k bytes s at told =
+    let h = sized_at d.volume.files k bytes told in
+    sym h.2 ∙ (stands_stored image d m s k h.0 f h.1 at).size_is
 
 -- the length of a file is that of its records
 same_length : (format : Format) (size : ℕ) (records : List (List ℕ)) → length_of format size records ≡ length_of format (length_of format size records) records

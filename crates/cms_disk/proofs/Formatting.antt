@@ -33,7 +33,8 @@ use Rattle.cms_held.specs.Carrying.{IsHeldMinidisk}
 use Rattle.cms_held.specs.Making.{Making, IsEmptyVolume, IsReadyUnit, MakesEmpty, made_volume, made_writes}
 use Rattle.cms_held.specs.Opening.{HeldVolume}
 use Rattle.cms_held.specs.Systems.{Systems, block_writes, directory_pieces, map_pieces, node_writes}
-use Rattle.cms_held.proofs.Made.{directory_long, facts, laid_out, made_empty, map_times}
+use Rattle.cms_held.specs.LawsRenewing.{AreBlocks}
+use Rattle.cms_held.proofs.Made.{all_written, directory_long, facts, laid_out, made_empty, map_times}
 use Rattle.cms_held.proofs.NewMap.{row_within}
 use Rattle.cms_held.proofs.WritesLong.{system_blocks}
 use Rattle.cms_edf.specs.Doubts.{IsCutOff}
@@ -199,13 +200,14 @@ stamped_made m stamp e =
     let first : take 1 s.directory.leaves ≡ 4 ∷ [] = ap (take 1) f.leaves in
     let stamps : HasStamp (take b s.directory_bytes) stamp = subst (λ (l : List ℕ). HasStamp (take b l) stamp) (sym e.directory_bytes) (front_has_stamp b s [] stamp low) in
     update_stamped u stamp (made_writes m) s.label_bytes
+    (subst (λ (ws : List Write). AreStamped u (Some stamp) (writes u ws)) (all_written m e)
     (stamped_behind u stamp (block_writes (drop 1 s.directory.leaves) (drop 1 pieces)) _
     (high_stamped u stamp (drop 1 s.directory.leaves) (drop 1 pieces) (λ n some. absurd (omega (arith, no_more n))))
     (stamped_behind u stamp (node_writes b s.directory) _ (high_stamped u stamp s.directory.pointers _ (λ n some. absurd (omega (arith, no_nodes n))))
     (stamped_behind u stamp (block_writes s.map.leaves (map_pieces b s)) _ (high_stamped u stamp s.map.leaves _ (λ n some. in_map n (omega arith)))
     (stamped_behind u stamp (node_writes b s.map) _ (high_stamped u stamp s.map.pointers _ (λ n some. in_map n (omega arith)))
     (subst (λ (ns : List ℕ). AreStamped u (Some stamp) (writes u (block_writes ns (take 1 pieces)))) (sym first)
-    (first_stamped u stamp b 4 (length s.directory.leaves) s.directory_bytes stamps))))))
+    (first_stamped u stamp b 4 (length s.directory.leaves) s.directory_bytes stamps)))))))
 
 -- ---- the making
 
@@ -225,7 +227,7 @@ moves j old mid unit before volid stamp s x =
 
 made_whole : {volid : List ℕ} {stamp : Stamp} (unit : UnitInfo) (s : Systems) → IsEmptyVolume (made_on unit s) volid stamp → AreWhole unit.unit.number unit.bsize (made_events unit s)
 made_whole unit s e =
-    update_whole unit.unit.number unit.bsize (made_writes (made_on unit s)) s.label_bytes (system_blocks unit.bsize s (directory_long (made_on unit s) e)) (laid_out (made_on unit s) e).label_long
+    update_whole unit.unit.number unit.bsize (made_writes (made_on unit s)) s.label_bytes (subst (AreBlocks unit.bsize) (all_written (made_on unit s) e) (system_blocks unit.bsize s (directory_long (made_on unit s) e))) (laid_out (made_on unit s) e).label_long
 
 -- the piece that it made, with its outcome
 making : (j : Journal) (old mid new : Told) (unit : UnitInfo) (before : State) (volid : List ℕ) (stamp : Stamp) (s : Systems) → Setting j old mid unit before volid stamp s

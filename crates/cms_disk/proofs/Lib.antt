@@ -16,3 +16,6 @@ pub mod Adding
 pub mod Altering
 pub mod StepPieces
 pub mod Formatting
+pub mod Beginning
+pub mod Extending
+pub mod AddAnswering

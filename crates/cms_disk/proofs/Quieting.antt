@@ -15,9 +15,11 @@ use Rattle.cms_model.proofs.Images.{crash_now}
 use Rattle.cms_model.proofs.Opening.{state_opens}
 use Rattle.cms_model.proofs.Results.{ok_same}
 use Rattle.cms_model.proofs.Settling.{sync_settles, synced_settles}
-use Rattle.cms_held.specs.Opening.{IsFaultOf, held_of}
+use Rattle.cms_held.specs.Opening.{HeldVolume, IsFaultOf, held_of}
 use Rattle.cms_held.specs.HeldAs.{IsHeldAs}
+use Rattle.cms_held.specs.HeldTrees.{TreesStand}
 use Rattle.cms_held.proofs.HeldTrees.{opened_has_held}
+use Rattle.cms_held.proofs.OpenedTrees.{opened_trees_stand}
 use Rattle.cms_disk.specs.Disks.{Accessed, IsOn, IsMinidisk, IsQuiet, AnswersAccess, IsRefused, disk_on}
 use Rattle.cms_disk.specs.declared.unit.UnitInfo.{UnitInfo}
 use Rattle.cms_disk.specs.LawsDisks.{QuietRests, SyncQuiets}
@@ -72,18 +74,22 @@ opened_leaves unit j d at answers whole quiet =
     let settled = rests.settled v answers.1 in
     let opens : open_of d.volume.disk (now j d.volume.unit) ≡ Ok v =
     subst (λ (n : ℕ). open_of d.volume.disk (now j n) ≡ Ok v) (sym at.number) (subst (λ (k : Disk). open_of k (now j u) ≡ Ok v) (sym at.disk) answers.1) in
+    let here : IsWhole d.volume.disk (now j d.volume.unit) =
+    subst (λ (n : ℕ). IsWhole d.volume.disk (now j n)) (sym at.number) (subst (λ (k : Disk). IsWhole k (now j u)) (sym at.disk) whole) in
     let volume : d.volume ≡ held_of d.volume.unit d.volume.disk (now j d.volume.unit) v =
     answers.2 ∙ (ap (λ (n : ℕ). held_of n (disk_on unit) (now j n) v) (sym at.number) ∙ ap (λ (k : Disk). held_of d.volume.unit k (now j d.volume.unit) v) (sym at.disk)) in (
       minidisk_of d.volume.disk v,
       record {
         stands = record {
-          whole = subst (λ (n : ℕ). IsWhole d.volume.disk (now j n)) (sym at.number) (subst (λ (k : Disk). IsWhole k (now j u)) (sym at.disk) whole);
+          whole = here;
           opened = v;
           opens = opens;
           volume_is = subst (IsHeldAs d.volume.unit d.volume.disk (now j d.volume.unit) v) (sym volume) (opened_has_held d.volume.unit d.volume.disk (now j d.volume.unit) v opens);
           minidisk_is = refl;
         };
         settled = subst (λ (n : ℕ). IsSettled d.volume.disk j n v) (sym at.number) (subst (λ (k : Disk). IsSettled k j u v) (sym at.disk) settled);
+        trees = subst (λ (w : HeldVolume). TreesStand w (now j d.volume.unit)) (sym volume)
+            (opened_trees_stand d.volume.unit d.volume.disk (now j d.volume.unit) v here opens);
       },
     )
 

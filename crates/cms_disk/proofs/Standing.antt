@@ -24,6 +24,7 @@ use Rattle.cms_model.proofs.Opening.{open_ok, state_opens}
 use Rattle.cms_model.proofs.Renewing.{minidisk_is}
 use Rattle.cms_model.proofs.Settling.{aside_is_as_before}
 use Rattle.cms_held.specs.Carrying.{IsHeldMinidisk}
+use Rattle.cms_held.specs.HeldTrees.{TreesStand}
 use Rattle.cms_held.specs.Opening.{HeldFile, HeldVolume}
 use Rattle.cms_held.specs.LawsHeld.{IsFileOf, IsFound}
 use Rattle.cms_disk.specs.Disks.{Accessed, IsMinidisk, StandsIn, place_of}
@@ -116,6 +117,7 @@ minidisk_same j d e m same is =
         minidisk_is = is.stands.minidisk_is;
       };
       settled = is.settled;
+      trees = is.trees;
     })
 
 -- in the same image it is the same volume
@@ -131,6 +133,7 @@ minidisk_aside j piece d m aside is =
     record {
       stands = there.0;
       settled = subst (IsSettled d.volume.disk (after j piece) u) (sym there.1) (before.settled_same d.volume.disk is.stands.opened is.settled);
+      trees = subst (TreesStand d.volume) (ap image_of (sym before.contents_same)) is.trees;
     }
 
 -- ---- a minidisk, as the volume below is held
@@ -145,4 +148,5 @@ is_minidisk j d m h = record {
     minidisk_is = h.minidisk_is ∙ sym (minidisk_is d.volume.disk h.layout);
   };
   settled = h.at.settled;
+  trees = h.at.trees;
 }

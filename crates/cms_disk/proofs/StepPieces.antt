@@ -35,6 +35,7 @@ use Rattle.cms_machine.specs.Points.{Leaves, LeavesIn}
 use Rattle.cms_machine.specs.Slots.{IsAmong}
 use Rattle.cms_held.specs.LawsRenewing.{AreBlocks}
 use Rattle.cms_held.specs.Systems.{Systems, block_writes, directory_bytes_of, system_entry}
+use Rattle.cms_held.proofs.WritesAside.{IsAside}
 use Rattle.cms_disk.specs.Changing.{HasState, IsWholeAt}
 use Rattle.cms_disk.specs.Making.{GrownOf}
 
@@ -140,6 +141,13 @@ pub first_stamped : (u : ℕ) (stamp : Stamp) (bsize n k : ℕ) (bytes : List �
 unfolding writes block_writes cut
 first_stamped u stamp bsize n zero bytes h = tt
 first_stamped u stamp bsize n (suc k) bytes h = (λ same at. h, tt)
+
+-- writes of which each lies from block 6 on or has the stamp
+pub stamped_aside : (u : ℕ) (stamp : Stamp) (first : List ℕ) (ws : List Write) → HasStamp first stamp → AllByRecursion (IsAside first) ws → AreStamped u (Some stamp) (writes u ws)
+unfolding writes
+stamped_aside u stamp first [] h all = tt
+stamped_aside u stamp first (w ∷ ws) h (inl late, more) = ((λ same at. absurd (no_directory w.block late at)), stamped_aside u stamp first ws h more)
+stamped_aside u stamp first (w ∷ ws) h (inr is, more) = ((λ same at. subst (λ (bytes : List ℕ). HasStamp bytes stamp) (sym is) h), stamped_aside u stamp first ws h more)
 
 -- writes that are stamped, one list behind another
 pub stamped_behind : (u : ℕ) (stamp : Stamp) (ws more : List Write) → AreStamped u (Some stamp) (writes u ws) → AreStamped u (Some stamp) (writes u more)

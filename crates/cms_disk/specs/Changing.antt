@@ -1,5 +1,5 @@
 -- A minidisk that is changed, as a device step of a machine.
-use Rattle.std.specs.Prelude.{◌≡◌, ◌⊎◌, ℕ, ◌-◌, ◌<◌, false, List, [], ◌∷◌, length, None, Some, Result, Ok, Err, IfErr, ⊤}
+use Rattle.std.specs.Prelude.{◌≡◌, ◌⊎◌, ℕ, ◌-◌, ◌<◌, false, List, [], ◌∷◌, length, None, Some, Result, Ok, Err, IfErr, ⊤, unwrap_or}
 use Rattle.cms_journal.specs.declared.event.Event.{Event}
 use Rattle.cms_journal.specs.Journal.{Journal}
 use Rattle.cms_journal.specs.Told.{Told, plus, OnlyOf}
@@ -16,15 +16,17 @@ use Rattle.cms_machine.specs.Steps.{Outcome, Good, ReadFault, OldFault, EitherFa
 use Rattle.cms_machine.specs.Beats.{FitsStep, Covers}
 use Rattle.cms_map.specs.Bits.{free_blocks}
 use Rattle.cms_held.specs.Opening.{HeldVolume}
-use Rattle.cms_held.specs.Renewing.{needed}
+use Rattle.cms_held.specs.Renewing.{made_at, made_without, needed}
 use Rattle.cms_edf.specs.declared.allotment.PlanFault.{PlanFault}
 use Rattle.cms_edf.specs.declared.allotment.PlanFault.TheVariants as unplanned
+use Rattle.cms_edf.specs.declared.growing.MoreFault.{MoreFault}
+use Rattle.cms_edf.specs.declared.growing.MoreFault.TheVariants as unmade
 use Rattle.cms_edf.specs.declared.change.Change as asked
 use Rattle.cms_edf.specs.declared.change.Change.TheVariants as ask
 use Rattle.cms_edf.specs.declared.doubt.Doubt.{Doubt}
 use Rattle.cms_edf.specs.declared.doubt.Doubt.TheVariants.{Old, Either}
 use Rattle.cms_world.specs.Seen.{Seen, ChangesUnits}
-use Rattle.cms_disk.specs.Disks.{Accessed, IsMinidisk}
+use Rattle.cms_disk.specs.Disks.{Accessed, IsMinidisk, place_of}
 use Rattle.cms_disk.specs.declared.fault.DiskFault.{DiskFault}
 use Rattle.cms_disk.specs.declared.fault.DiskFault.TheVariants as failed
 
@@ -111,12 +113,14 @@ Alters old new d e m change stamp (Err (failed.Limit k)) = (new ≡ old) × (ans
 Alters old new d e m change stamp (Err (failed.Full need free)) = (new ≡ old) × (answer_of m change ≡ model.Full need free)
 Alters old new d e m change stamp (Err failed.Memory) = new ≡ old
 
--- a read of the file failed before anything was written
+-- a read failed before anything was written, of a change that isn't refused
 pub record Unread (old new : Told) (d : Accessed) (m : Minidisk) (change : Change) (stamp : Stamp) : Type 0 where
   pub same : new ≡ old
+  pub after : Minidisk
+  pub answer : answer_of m change ≡ Changed after
   pub changes : Changes old new d.volume.unit m change stamp (ReadFault 0)
 
--- what it comes to that records are added to a file, which is read first
+-- what it comes to that records are added to a file, of which the last blocks are read first
 abbrev pub Appends : Told → Told → Accessed → Accessed → Minidisk → Change → Stamp → Result ⊤ DiskFault → Type 0
 Appends old new d e m change stamp (Err failed.Device) = Unread old new d m change stamp ⊎ Kept old new e m change stamp
 Appends old new d e m change stamp result = Alters old new d e m change stamp result
@@ -150,12 +154,20 @@ refusal_of (unplanned.Limit which) = failed.Limit which
 refusal_of (unplanned.Full need free) = failed.Full need free
 refusal_of unplanned.Memory = failed.Memory
 
+-- and where an addition wasn't
+abbrev pub more_refusal_of : MoreFault → DiskFault
+more_refusal_of (unmade.Limit which) = failed.Limit which
+more_refusal_of (unmade.Full need free) = failed.Full need free
+more_refusal_of unmade.Device = failed.Device
+more_refusal_of unmade.Memory = failed.Memory
+
 -- ---- why a change is refused, in every world
 
 -- the free blocks that a change needs: those of the new directory and the new map, and none for another volume id
 abbrev pub needed_for : HeldVolume → asked.Change → ℕ
-needed_for v (ask.Drop name) = needed v (length v.files - 1)
-needed_for v (ask.Rename from to number) = needed v (length v.files)
+needed_for v (ask.Drop name) =
+    needed v (length v.files - 1) (made_without (unwrap_or (place_of name.now v) 0) (length v.files))
+needed_for v (ask.Rename from to number) = needed v (length v.files) (made_at (unwrap_or (place_of from.now v) 0))
 needed_for v (ask.Relabel volid) = 0
 
 -- why a change of a writable minidisk whose file is there is refused, where it needs so many free blocks: there are fewer, there is no

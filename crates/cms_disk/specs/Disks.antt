@@ -1,5 +1,5 @@
 -- Minidisks on the units of a world.
-use Rattle.std.specs.Prelude.{◌≡◌, ◌⊎◌, ℕ, Bool, true, false, position, slice_get, Option, None, Some, IsSome, Result, Ok, Err, ⊤}
+use Rattle.std.specs.Prelude.{◌≡◌, ◌⊎◌, ℕ, Bool, true, false, length, position, slice_get, Option, None, Some, IsSome, Result, Ok, Err, ⊤}
 use Rattle.cms_journal.specs.declared.event.Event.TheVariants.{Synced}
 use Rattle.cms_journal.specs.declared.event.Attached.{Attached}
 use Rattle.cms_journal.specs.Journal.{Journal, HasBlocks, adds}
@@ -7,6 +7,7 @@ use Rattle.cms_journal.specs.Told.{Told}
 use Rattle.cms_names.specs.declared.name.Name.{Name}
 use Rattle.cms_model.specs.Trees.{Image}
 use Rattle.cms_model.specs.Minidisks.{File, Minidisk, Not, same_name}
+use Rattle.cms_model.specs.Records.{stored}
 use Rattle.cms_model.specs.Volumes.{Disk, Opened, disk_of, open_of, minidisk_of, reason}
 use Rattle.cms_model.specs.Changes.{file_named}
 use Rattle.cms_model.specs.Settled.{IsSettled, IsFirm}
@@ -16,6 +17,7 @@ use Rattle.cms_model.specs.declared.fault.OpenFault.{OpenFault}
 use Rattle.cms_model.specs.declared.fault.OpenFault.TheVariants as failed
 use Rattle.cms_held.specs.Opening.{HeldFile, HeldVolume, IsFaultOf, held_of, names_in}
 use Rattle.cms_held.specs.HeldAs.{IsHeldAs}
+use Rattle.cms_held.specs.HeldTrees.{TreesStand}
 use Rattle.cms_disk.specs.Cursors.{Reading, IsFirst, HasLeft}
 use Rattle.cms_disk.specs.declared.fault.AccessFault.{AccessFault}
 use Rattle.cms_disk.specs.declared.fault.AccessFault.TheVariants.{Sync, Open}
@@ -58,10 +60,16 @@ pub record StandsIn (image : Image) (d : Accessed) (m : Minidisk) : Type 0 where
   pub volume_is : IsHeldAs d.volume.unit d.volume.disk image opened d.volume
   pub minidisk_is : m ≡ minidisk_of d.volume.disk opened
 
--- at a journal it is this minidisk, and its unit is settled at it
+-- the file at a place has so many stored bytes in each image in which it is a minidisk
+abbrev pub HasStored : Accessed → ℕ → ℕ → Type 0
+HasStored d nth bytes = (image : Image) (m : Minidisk) (f : File) → StandsIn image d m → slice_get m.files nth ≡ Some f
+    → bytes ≡ length (stored f.format f.records)
+
+-- at a journal it is this minidisk, its trees stand, and its unit is settled at it
 pub record IsMinidisk (j : Journal) (d : Accessed) (m : Minidisk) : Type 0 where
   pub stands : StandsIn (now j d.volume.unit) d m
   pub settled : IsSettled d.volume.disk j d.volume.unit stands.opened
+  pub trees : TreesStand d.volume (now j d.volume.unit)
 
 -- a unit is quiet: it is settled at a volume, or is none for the same reason in every crash image
 abbrev pub IsQuiet : Disk → Journal → ℕ → Type 0

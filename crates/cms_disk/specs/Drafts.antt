@@ -1,27 +1,28 @@
 -- A file that is drafted for a minidisk, while its records are put.
-use Rattle.std.specs.Prelude.{◌≡◌, ℕ, ◌+◌, ◌<◌, false, List, [], ◌∷◌, ◌++◌, length, slice_get, Some, None, Result, Ok, Err, ⊤}
+use Rattle.std.specs.Prelude.{◌≡◌, ℕ, ◌+◌, ◌<◌, false, List, [], ◌∷◌, ◌++◌, length, Some, None, Result, Ok, Err, ⊤}
 use Rattle.cms_journal.specs.declared.event.Event.{Event}
 use Rattle.cms_journal.specs.Journal.{Journal}
 use Rattle.cms_journal.specs.Told.{Told, plus, syncs, OnlyOf}
 use Rattle.cms_names.specs.declared.name.Name.{Name}
 use Rattle.cms_names.specs.declared.name.Format.TheVariants.{F}
 use Rattle.cms_model.specs.Minidisks.{File, Minidisk, Volume}
-use Rattle.cms_model.specs.Records.{StandsFor, stored}
-use Rattle.cms_model.specs.Changes.{Answer, Changed, Limited, Put, answer_of, changed}
+use Rattle.cms_fields.specs.declared.time.Stamp.{Stamp}
+use Rattle.cms_model.specs.Records.{length_of, stored}
+use Rattle.cms_model.specs.Changes.{Add, Answer, Change, Changed, Drop, Limited, Put, Relabel, Rename, answer_of, changed}
 use Rattle.cms_model.specs.Changes as model
 use Rattle.cms_model.specs.declared.file.FileData.{FileData}
 use Rattle.cms_map.specs.Bits.{free_blocks}
 use Rattle.cms_machine.specs.Beats.{AreStamped, Covers}
-use Rattle.cms_held.specs.Opening.{HeldVolume}
+use Rattle.cms_held.specs.Drafts.{Front, no_front}
+use Rattle.cms_held.specs.Growing.{length_with}
+use Rattle.cms_held.specs.Opening.{HeldFile}
 use Rattle.cms_held.specs.Putting.{count_put, limit_put, need_put}
 use Rattle.cms_draft.specs.BlockWriting.{IsSame, came}
-use Rattle.cms_draft.specs.Drafting.{Drafting, Drafts}
+use Rattle.cms_draft.specs.Drafting.{Drafting, Drafts, HaveShape}
 use Rattle.cms_draft.specs.declared.shape.DraftShape.{DraftShape}
-use Rattle.cms_edf.specs.FileDrafts.{DraftStands, FileDraft}
-use Rattle.cms_edf.specs.Asking.{infos_in}
-use Rattle.cms_edf.specs.declared.held.FileInfo.{FileInfo}
-use Rattle.cms_disk.specs.Disks.{Accessed, IsLookedAt, IsMinidisk, IsReadable, place_of}
-use Rattle.cms_disk.specs.Getting.{IsLike}
+use Rattle.cms_edf.specs.FileDrafts.{DraftStands, FileDraft, IsDraftFor, tree_of}
+use Rattle.cms_edf.specs.Growing.{IsFrontOf, IsMoreFor}
+use Rattle.cms_disk.specs.Disks.{Accessed, IsLookedAt, IsMinidisk, IsReadable}
 use Rattle.cms_disk.specs.declared.fault.DiskFault.{DiskFault}
 use Rattle.cms_disk.specs.declared.fault.DiskFault.TheVariants as failed
 
@@ -45,13 +46,58 @@ pub record Stands (told : Told) (d : Accessed) (m : Minidisk) : Type 0 where
   pub readable : IsReadable at d
   pub looked : IsLookedAt at d
 
--- a draft goes on: the minidisk stands, from the start on only the draft was written, of its records the first were put and the others are
--- to come, and what was written of it stands
-pub record GoesOn (start now : Told) (d : Accessed) (m : Minidisk) (draft : FileDraft) (done more : List (List ℕ)) : Type 0 where
+-- ---- what is drafted
+
+-- the file of a name and a shape, with these records
+abbrev pub file_with : Name → DraftShape → List (List ℕ) → File
+file_with name shape records = record {
+  name = name;
+  number = shape.number;
+  format = shape.format;
+  length = shape.length;
+  stamp = shape.stamp;
+  records = records;
+}
+
+-- a draft is of this file, which takes the place of the one of its name, or stands last: with these records it is the file
+pub record IsToPut (d : Accessed) (draft : FileDraft) (new : File) (stamp : Stamp) (front : Front) (records : List (List ℕ)) :
+    Type 0 where
+  pub shape : DraftShape
+  pub planned : IsDraftFor d.volume new.name shape stamp draft
+  pub new_is : new ≡ file_with new.name shape records
+  pub nothing : front ≡ no_front
+  pub long : length_of shape.format shape.length records ≡ shape.length
+
+-- a draft adds these records, with this stamp, to the file of a name; what comes in front of them is what the unit has of it
+pub record IsToAdd (j : Journal) (d : Accessed) (draft : FileDraft) (name : Name) (added stamp : Stamp) (front : Front)
+    (records : List (List ℕ)) :
+    Type 0 where
+  pub file : HeldFile
+  pub shape : DraftShape
+  pub planned : IsMoreFor d.volume name file shape stamp draft
+  pub added_is : added ≡ shape.stamp
+  pub front_is : IsFrontOf j d.volume file (tree_of draft) front
+  pub long : length_with shape.format file.length records ≡ shape.length
+
+-- with these records a draft is for the change, with this stamp of the directory
+abbrev pub IsFor : Journal → Accessed → FileDraft → Change → Stamp → Front → List (List ℕ) → Type 0
+IsFor j d draft (Put new) stamp front records = IsToPut d draft new stamp front records
+IsFor j d draft (Add name more added) stamp front records = (more ≡ records) × IsToAdd j d draft name added stamp front records
+IsFor j d draft (Drop name) stamp front records = ⊥
+IsFor j d draft (Rename from to number) stamp front records = ⊥
+IsFor j d draft (Relabel volid) stamp front records = ⊥
+
+-- a draft goes on for a change: the minidisk stands, from the start on only the draft was written, of its records the first were put and
+-- the others are to come, and what was written of it stands
+pub record GoesOn (start now : Told) (d : Accessed) (m : Minidisk) (draft : FileDraft) (change : Change) (stamp : Stamp)
+    (done more : List (List ℕ)) :
+    Type 0 where
   pub stands : Stands now d m
   pub aside : WritesAside start now d.volume.unit m
-  pub drafts : Drafts draft.writer done more
-  pub written : DraftStands stands.at draft.writer (done ++ more)
+  pub front : Front
+  pub is_for : IsFor stands.at d draft change stamp front (done ++ more)
+  pub drafts : Drafts draft.writer front done more
+  pub written : DraftStands stands.at draft.writer front (done ++ more)
 
 -- it is given up: the minidisk stands
 pub record IsGivenUp (start now : Told) (d : Accessed) (m : Minidisk) : Type 0 where
@@ -79,17 +125,6 @@ pub record HasMore (old new : Drafting) (text : List ℕ) : Type 0 where
 
 -- ---- what is answered
 
--- the file of a name and a shape, with these records
-abbrev pub file_with : Name → DraftShape → List (List ℕ) → File
-file_with name shape records = record {
-  name = name;
-  number = shape.number;
-  format = shape.format;
-  length = shape.length;
-  stamp = shape.stamp;
-  records = records;
-}
-
 -- why no file of this name and shape is drafted: the minidisk may not be written, or else the file passes a limit, or else it needs more
 -- blocks than are free, or there is no memory
 abbrev pub IsDraftFault : Accessed → Name → DraftShape → DiskFault → Type 0
@@ -104,7 +139,7 @@ IsDraftFault d name shape failed.Device = ⊥
 IsDraftFault d name shape failed.InDoubt = ⊥
 IsDraftFault d name shape failed.Altered = ⊥
 
--- so is the change answered
+-- so is the change answered; a read may fail only where it isn't refused
 abbrev pub IsAnsweredBy : {T : Type 0} → Answer → Minidisk → Result T DiskFault → Type 0
 IsAnsweredBy answer after (Ok x) = answer ≡ Changed after
 IsAnsweredBy answer after (Err (failed.Limit which)) = answer ≡ Limited which
@@ -113,7 +148,7 @@ IsAnsweredBy answer after (Err failed.ReadOnly) = ⊤
 IsAnsweredBy answer after (Err failed.Memory) = ⊤
 IsAnsweredBy answer after (Err failed.NotFound) = ⊥
 IsAnsweredBy answer after (Err failed.Exists) = ⊥
-IsAnsweredBy answer after (Err failed.Device) = ⊥
+IsAnsweredBy answer after (Err failed.Device) = answer ≡ Changed after
 IsAnsweredBy answer after (Err failed.InDoubt) = ⊥
 IsAnsweredBy answer after (Err failed.Altered) = ⊥
 
@@ -128,10 +163,18 @@ AnswersDraft d name shape result =
     (j : Journal) (m : Minidisk) (records : List (List ℕ)) → IsMinidisk j d m → IsReadable j d → HaveCounts shape records
     → IsAnsweredBy (answer_of m (Put (file_with name shape records))) (changed m (Put (file_with name shape records))) result
 
+-- a draft of such a file begins for the change that puts it, wherever the minidisk stands
+abbrev pub BeginsPut : Accessed → Accessed → Name → DraftShape → Stamp → FileDraft → Type 0
+BeginsPut d e name shape stamp draft =
+    (j : Journal) (m : Minidisk) (records : List (List ℕ)) → IsMinidisk j d m → IsReadable j d → IsLookedAt j d
+    → HaveShape shape records → length_of shape.format shape.length records ≡ shape.length
+    → GoesOn (Some j) (Some j) e m draft (Put (file_with name shape records)) stamp [] records
+
 -- what putting a record comes to: the draft goes on, or it is given up
-abbrev pub PutsRecord : Told → Told → Accessed → Minidisk → FileDraft → List (List ℕ) → List (List ℕ) → Result ⊤ DiskFault → Type 0
-PutsRecord start now d m draft done more (Ok x) = GoesOn start now d m draft done more
-PutsRecord start now d m draft done more (Err e) = IsGivenUp start now d m
+abbrev pub PutsRecord : Told → Told → Accessed → Minidisk → FileDraft → Change → Stamp → List (List ℕ) → List (List ℕ)
+    → Result ⊤ DiskFault → Type 0
+PutsRecord start now d m draft change stamp done more (Ok x) = GoesOn start now d m draft change stamp done more
+PutsRecord start now d m draft change stamp done more (Err e) = IsGivenUp start now d m
 
 -- ---- a file that is put whole
 
@@ -158,39 +201,3 @@ abbrev pub IsPutFault : Accessed → Name → DraftShape → DiskFault → Type 
 IsPutFault d name shape failed.Device = ⊤
 IsPutFault d name shape failed.InDoubt = ⊤
 IsPutFault d name shape e = IsDraftFault d name shape e
-
--- ---- records that are added to a file
-
--- they have the format of the file of a name, and where all have one length, its
-abbrev pub FitsFile : HeldVolume → Name → FileData → Type 0
-FitsFile v name more = (k : ℕ) (info : FileInfo) → place_of name v ≡ Some k → slice_get (infos_in v) k ≡ Some info
-    → (more.format ≡ info.format) × (info.format ≡ F → more.length ≡ info.length)
-
--- the records of one file behind those of another, with the stamp of the one behind
-pub record IsJoined (front behind f : FileData) : Type 0 where
-  pub format : f.format ≡ front.format
-  pub number : f.number ≡ front.number
-  pub stamp : f.stamp ≡ behind.stamp
-  pub fixed : f.format ≡ F → f.length ≡ front.length
-  pub stands : (records more : List (List ℕ)) → StandsFor front records → StandsFor behind more → StandsFor f (records ++ more)
-
--- a file isn't put that has these records behind those that were read of the file of a name
-pub record IsNotJoined (d : Accessed) (name : Name) (more : FileData) (e : DiskFault) : Type 0 where
-  pub front : FileData
-  pub like : IsLike d.volume name front
-  pub whole : FileData
-  pub joined : IsJoined front more whole
-  pub fault : IsDraftFault d name (shape_of whole) e
-
--- why records aren't added to a file: none has the name, it may not be written, the file that it would be isn't put, its bytes are no
--- records any more, there is no memory, or the device failed
-abbrev pub IsAddFault : Accessed → Name → FileData → DiskFault → Type 0
-IsAddFault d name more failed.NotFound = place_of name d.volume ≡ None
-IsAddFault d name more failed.ReadOnly = d.writable ≡ false
-IsAddFault d name more (failed.Limit which) = IsNotJoined d name more (failed.Limit which)
-IsAddFault d name more (failed.Full needs free) = IsNotJoined d name more (failed.Full needs free)
-IsAddFault d name more failed.Altered = ⊤
-IsAddFault d name more failed.Memory = ⊤
-IsAddFault d name more failed.Device = ⊤
-IsAddFault d name more failed.InDoubt = ⊤
-IsAddFault d name more failed.Exists = ⊥

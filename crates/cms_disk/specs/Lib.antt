@@ -6,3 +6,4 @@ pub mod LawsDisks
 pub mod Changing
 pub mod Making
 pub mod Drafts
+pub mod Additions

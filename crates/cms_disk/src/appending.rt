@@ -1,57 +1,91 @@
 // Records that are added to a file.
-ghost use Rattle.std.specs.Prelude.{◌≡◌, ◌⊎◌, ℕ, List, true, false, None, Some, Err, IfErr, IfOk};
+ghost use Rattle.std.specs.Prelude.{◌≡◌, ◌⊎◌, ℕ, List, true, false, None, Some, Err, length, slice_get, ◌<◌, IfErr, IfOk};
 ghost use Rattle.std.specs.Option.{ForSome};
 ghost use Rattle.cms_journal.specs.Journal.{Journal, IsWritable};
 ghost use Rattle.cms_world.specs.Seen.{seen};
-ghost use Rattle.cms_names.specs.declared.name.Format.TheVariants.{F};
 ghost use Rattle.cms_fields.specs.Stamps.{is_stamp};
 ghost use Rattle.cms_model.specs.Minidisks as minidisks;
 ghost use Rattle.cms_model.specs.Changes.{Add};
 ghost use Rattle.cms_model.specs.Records.{IsValid, StandsFor};
+ghost use Rattle.cms_edf.specs.Asking.{infos_in, stored_in};
+ghost use Rattle.cms_edf.specs.declared.held.FileInfo as infos;
+ghost use Rattle.cms_disk.specs.Additions.{CanExtend, FitsFile, IsAddFault, shape_with};
 ghost use Rattle.cms_disk.specs.Changing.{Appends, ChangesDisk};
 ghost use Rattle.cms_disk.specs.Disks.{IsLookedAt, IsMinidisk, IsReadable, place_of};
-ghost use Rattle.cms_disk.specs.Drafts.{FitsFile, IsAddFault, IsJoined};
 ghost use Rattle.cms_disk.specs.declared.fault.DiskFault.TheVariants.{Memory, NotFound, ReadOnly};
 
 use crate::fault::DiskFault;
 use crate::minidisk::Minidisk;
-use cms_edf::{FileData, Stored};
+use crate::putting::put_records;
+use cms_edf::{DraftShape, FileData, FileInfo, can_draft};
 use cms_fields::Stamp;
-use cms_names::Name;
+use cms_names::{Format, Name};
 use cms_world::World;
 use std::alloc::Global;
 
-// The records of one file behind those of another. More than a number of 32 bits counts have no room in memory.
-fn joined(alloc: Global, front: &FileData, behind: &FileData) -> Result<FileData, DiskFault>
-    requires front { IsValid front.now }
-    requires behind { IsValid behind.now }
-    requires format { behind.now.format ≡ front.now.format }
-    requires fixed { front.now.format ≡ F → behind.now.length ≡ front.now.length }
-    ensures joined { IfOk result (IsJoined front.now behind.now) }
-    ensures valid { IfOk result IsValid }
-    ensures fault { IfErr result (λ e. e ≡ Memory) }
+/// Whether a file of which this is told, with so many stored bytes, can become one of a shape, with more records.
+pub fn can_extend(info: &FileInfo, stored: u32, shape: &DraftShape) -> bool
+    ensures can { result ≡ true → CanExtend info.now stored shape.now }
+    ensures none { result ≡ false → CanExtend info.now stored shape.now → ⊥ }
 {
-    let Some(count) = front.count.checked_add(behind.count) else {
-        return Err(DiskFault::Memory);
-    };
-    let mut bytes = front.bytes.bytes().to_vec(alloc)?;
-    bytes.extend_from_slice(behind.bytes.bytes())?;
-    Ok(FileData {
-        format: front.format,
-        length: front.length.max(behind.length),
-        number: front.number,
-        stamp: behind.stamp,
-        count,
-        bytes: Stored::take(bytes),
-    })
+    if shape.format != info.format {
+        return false;
+    }
+    if shape.number != info.number {
+        return false;
+    }
+    if shape.format == Format::F && shape.length != info.length {
+        return false;
+    }
+    if shape.length < info.length {
+        return false;
+    }
+    if shape.count <= info.count {
+        return false;
+    }
+    if shape.bytes <= u64::from(stored) {
+        return false;
+    }
+    can_draft(shape)
 }
 
 impl Minidisk {
+    // The shape of the file at a place with these records behind its own. More of them than a number of 32 bits counts have no room in
+    // memory, and what a minidisk tells of a file is sound, so a fault is want of memory.
+    fn shape_with(&self, place: u32, more: &FileData) -> Result<DraftShape, DiskFault>
+        requires { place < length self.now.volume.files }
+        ensures shape { IfOk result (λ shape. (info : infos.FileInfo) (bytes : ℕ) → slice_get (infos_in self.now.volume) place ≡ Some info
+            → slice_get (stored_in self.now.volume) place ≡ Some bytes → shape ≡ shape_with info bytes more.now) }
+        ensures can { IfOk result (λ shape. (info : infos.FileInfo) (bytes : ℕ) → slice_get (infos_in self.now.volume) place ≡ Some info
+            → slice_get (stored_in self.now.volume) place ≡ Some bytes → CanExtend info bytes shape) }
+        ensures fault { IfErr result (λ e. e ≡ Memory) }
+    {
+        let info = self.info(place);
+        let stored = self.stored(place);
+        let Some(count) = info.count.checked_add(more.count) else {
+            return Err(DiskFault::Memory);
+        };
+        let shape = DraftShape {
+            format: info.format,
+            length: info.length.max(more.length),
+            number: info.number,
+            stamp: more.stamp,
+            count,
+            bytes: u64::from(stored) + more.bytes.bytes().len() as u64,
+        };
+        if can_extend(&info, stored, &shape) {
+            Ok(shape)
+        } else {
+            Err(DiskFault::Memory)
+        }
+    }
+
     /// Adds records to the file of a name, of its format and, where all have one length, its length. The file keeps its mode number and
-    /// takes the stamp of the records' data; the new directory has the stamp that is given.
+    /// takes the stamp of the records' data; the new directory has the stamp that is given. What stands of the file is kept but for its
+    /// last data block, where that isn't full, and the pointer blocks over it.
     ///
-    /// `NotFound` comes exactly where no file has the name, else `ReadOnly` exactly where the minidisk may not be written. Then the file
-    /// is read: `Device` says that this failed and nothing was written, `Altered` is as at `get`. The other refusals are those of `put`.
+    /// The refusals are those of `draft_more`. `Device` says that the device failed and the minidisk is as before, `InDoubt` that it
+    /// failed and the unit holds the minidisk of before or the new one.
     pub fn append<W: World>(
         &mut self,
         alloc: Global,
@@ -75,14 +109,13 @@ impl Minidisk {
         ensures locked { self.old.writable ≡ false → (result ≡ Err NotFound) ⊎ (result ≡ Err ReadOnly) }
         ensures changes { ChangesDisk (seen W.World world.old) (seen W.World world.new) self.old self.new result }
     {
-        if !self.has(name) {
-            return Err(DiskFault::NotFound);
-        }
+        let place = self.place(name)?;
         if !self.is_writable() {
             return Err(DiskFault::ReadOnly);
         }
-        let front = self.get(alloc, world, name)?;
-        let file = joined(alloc, &front, more)?;
-        self.put(alloc, world, name, &file, stamp)
+        let shape = self.shape_with(place, more)?;
+        let mut draft = self.draft_more(alloc, world, name, &shape, stamp)?;
+        put_records(world, &mut draft, more)?;
+        self.commit(world, draft)
     }
 }

@@ -1,12 +1,12 @@
 // Changes of a minidisk.
-ghost use Rattle.std.specs.Prelude.{◌≡◌, ◌⊎◌, ◌≤◌, ◌-◌, true, false, length, None, Some, Err, IfErr};
+ghost use Rattle.std.specs.Prelude.{◌≡◌, ◌⊎◌, ◌≤◌, ◌-◌, true, false, length, None, Some, Err, IfErr, unwrap_or};
 ghost use Rattle.cms_world.specs.Seen.{seen};
 ghost use Rattle.std.specs.Option.{ForSome};
 ghost use Rattle.cms_journal.specs.Journal.{Journal, IsWritable};
 ghost use Rattle.cms_fields.specs.Stamps.{is_stamp};
 ghost use Rattle.cms_model.specs.Minidisks as minidisks;
 ghost use Rattle.cms_model.specs.Changes.{Drop, Rename, Relabel};
-ghost use Rattle.cms_held.specs.Renewing.{needed};
+ghost use Rattle.cms_held.specs.Renewing.{made_at, made_without, needed};
 ghost use Rattle.cms_edf.specs.Planning.{CanChange, change_of};
 ghost use Rattle.cms_disk.specs.Changing.{Alters, ChangesDisk, IsChangeFault, IsDevices, needed_for};
 ghost use Rattle.cms_disk.specs.Disks.{IsLookedAt, IsMinidisk, IsOthers, IsReadable, place_of};
@@ -43,7 +43,8 @@ impl Minidisk {
         ensures read_only { IfErr result (λ e. e ≡ ReadOnly → self.old.writable ≡ false) }
         ensures locked { self.old.writable ≡ false → (result ≡ Err NotFound) ⊎ (result ≡ Err ReadOnly) }
         ensures fault { IfErr result (λ e. (e ≡ NotFound) ⊎ (e ≡ ReadOnly)
-            ⊎ IsChangeFault self.old.volume (needed self.old.volume (length self.old.volume.files - 1)) e) }
+            ⊎ IsChangeFault self.old.volume (needed self.old.volume (length self.old.volume.files - 1)
+            (made_without (unwrap_or (place_of name.now self.old.volume) 0) (length self.old.volume.files))) e) }
         ensures changes { ChangesDisk (seen W.World world.old) (seen W.World world.new) self.old self.new result }
     {
         if !self.has(name) {
@@ -80,7 +81,8 @@ impl Minidisk {
         ensures read_only { IfErr result (λ e. e ≡ ReadOnly → self.old.writable ≡ false) }
         ensures locked { self.old.writable ≡ false → (result ≡ Err NotFound) ⊎ (result ≡ Err Exists) ⊎ (result ≡ Err ReadOnly) }
         ensures fault { IfErr result (λ e. (e ≡ NotFound) ⊎ (e ≡ Exists) ⊎ (e ≡ ReadOnly)
-            ⊎ IsChangeFault self.old.volume (needed self.old.volume (length self.old.volume.files)) e) }
+            ⊎ IsChangeFault self.old.volume (needed self.old.volume (length self.old.volume.files)
+            (made_at (unwrap_or (place_of from.now self.old.volume) 0))) e) }
         ensures changes { ChangesDisk (seen W.World world.old) (seen W.World world.new) self.old self.new result }
     {
         if !self.has(from) {

@@ -1,5 +1,5 @@
 // Why a call on a minidisk is refused.
-use cms_edf::{Doubt, OpenFault, PlanFault};
+use cms_edf::{Doubt, MoreFault, OpenFault, PlanFault};
 use std::alloc::AllocError;
 use thiserror::Error;
 
@@ -57,6 +57,22 @@ impl From<PlanFault> for DiskFault {
             PlanFault::Limit(which) => DiskFault::Limit(which),
             PlanFault::Full { need, free } => DiskFault::Full { need, free },
             PlanFault::Memory => DiskFault::Memory,
+        }
+    }
+}
+
+impl From<MoreFault> for DiskFault {
+    ghost use Rattle.std.specs.Prelude.{◌≡◌};
+    ghost use Rattle.cms_disk.specs.Changing.{more_refusal_of};
+
+    ghost from_gives = { λ why e. e ≡ more_refusal_of why };
+
+    fn from(why: MoreFault) -> DiskFault {
+        match why {
+            MoreFault::Limit(which) => DiskFault::Limit(which),
+            MoreFault::Full { need, free } => DiskFault::Full { need, free },
+            MoreFault::Device => DiskFault::Device,
+            MoreFault::Memory => DiskFault::Memory,
         }
     }
 }

@@ -7,12 +7,12 @@ ghost use Rattle.cms_model.specs.LawsSizes.{IsWhole};
 ghost use Rattle.cms_model.specs.LawsUpdates.{now};
 ghost use Rattle.cms_model.specs.Trees.{image_of};
 ghost use Rattle.cms_model.specs.declared.fault.OpenFault.TheVariants as failed;
-ghost use Rattle.cms_edf.specs.Asking.{infos_in, space_of};
+ghost use Rattle.cms_edf.specs.Asking.{infos_in, space_of, stored_in};
 ghost use Rattle.cms_held.specs.Kept.{Keeps};
 ghost use Rattle.cms_held.specs.Opening.{HeldFile};
 ghost use Rattle.cms_edf.specs.OpeningSteps.{OfImage};
 ghost use Rattle.cms_disk.specs.Cursors.{IsFirst};
-ghost use Rattle.cms_disk.specs.Disks.{AnswersAccess, HasNone, IsDevices, IsLeft, IsOn, IsQuiet, OpensIn, StartsAt, disk_on, place_of, synced, told_with};
+ghost use Rattle.cms_disk.specs.Disks.{AnswersAccess, HasNone, HasStored, IsDevices, IsLeft, IsOn, IsQuiet, OpensIn, StartsAt, disk_on, place_of, synced, told_with};
 ghost use Rattle.cms_disk.specs.declared.fault.AccessFault.TheVariants.{Open, Sync};
 ghost use Rattle.cms_disk.specs.declared.fault.DiskFault.TheVariants.{Memory, NotFound};
 
@@ -99,6 +99,16 @@ impl Minidisk {
         ensures { slice_get (infos_in self.now.volume) nth ≡ Some result }
     {
         self.held.info(nth)
+    }
+
+    /// The number of bytes that the records of the file at a place, from 0 below the number of files, have as they are stored: at V with
+    /// the two bytes of each one's length, at most 67,108,864.
+    pub fn stored(&self, nth: u32) -> u32
+        requires { nth < length self.now.volume.files }
+        ensures stored { slice_get (stored_in self.now.volume) nth ≡ Some result }
+        ensures records { HasStored self.now nth result }
+    {
+        self.held.stored(nth)
     }
 
     /// The mode number of the file at a place.

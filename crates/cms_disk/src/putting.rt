@@ -6,11 +6,13 @@ ghost use Rattle.cms_journal.specs.Told.{Told};
 ghost use Rattle.cms_world.specs.Seen.{ChangesUnits, seen};
 ghost use Rattle.cms_fields.specs.Stamps.{is_stamp};
 ghost use Rattle.cms_model.specs.Minidisks as minidisks;
+ghost use Rattle.cms_model.specs.Changes as model;
 ghost use Rattle.cms_model.specs.Changes.{Put};
+ghost use Rattle.cms_fields.specs.declared.time.Stamp as stamps;
 ghost use Rattle.cms_model.specs.Records.{IsValid, StandsFor};
 ghost use Rattle.cms_draft.specs.BlockWriting.{CanWrite};
 ghost use Rattle.cms_held.specs.Putting.{count_put, limit_put};
-ghost use Rattle.cms_edf.specs.FileDrafts.{CanDraft, IsSomeDraft};
+ghost use Rattle.cms_edf.specs.FileDrafts.{CanDraft};
 ghost use Rattle.cms_disk.specs.Changing.{Alters, ChangesDisk, IsDevices};
 ghost use Rattle.cms_disk.specs.Disks.{Accessed, IsLookedAt, IsMinidisk, IsReadable};
 ghost use Rattle.cms_disk.specs.Drafts.{AreLast, GoesOn, IsFull, IsPutFault, IsSameDraft, PutsRecord, file_with, shape_of};
@@ -43,13 +45,18 @@ fn shape_of(file: &FileData) -> DraftShape
 }
 
 // Puts the records of a file, the last of a draft.
-fn put_records<W: World>(world: &mut W, draft: &mut Draft, file: &FileData) -> Result<(), DiskFault>
+pub(crate) fn put_records<W: World>(
+    world: &mut W,
+    draft: &mut Draft,
+    file: &FileData,
+) -> Result<(), DiskFault>
     requires file { IsValid file.now }
     requires last { AreLast draft.old.writer file.now }
     requires ready { ForSome (W.told world.old) (λ j. CanWrite j.units draft.old.writer.writer) }
-    ensures puts { (start : Told) (d : Accessed) (m : minidisks.Minidisk) (done records : List (List ℕ)) → IsSomeDraft d.volume draft.old
-        → StandsFor file.now records → GoesOn start (W.told world.old) d m draft.old done records
-        → PutsRecord start (W.told world.new) d m draft.new (done ++ records) [] result }
+    ensures puts { (start : Told) (d : Accessed) (m : minidisks.Minidisk) (change : model.Change) (stamp : stamps.Stamp)
+        (done records : List (List ℕ)) → StandsFor file.now records
+        → GoesOn start (W.told world.old) d m draft.old change stamp done records
+        → PutsRecord start (W.told world.new) d m draft.new change stamp (done ++ records) [] result }
     ensures full { OnOk result (IsFull draft.new.writer) }
     ensures same { IsSameDraft draft.old draft.new }
     ensures still { ForSome (W.told world.new) (λ j. CanWrite j.units draft.new.writer.writer) }

@@ -12,8 +12,8 @@ const NEW: [u8; 6] = [0xD5, 0xC5, 0xE6, 0xE5, 0xD6, 0xD3];
 
 /// What a minidisk is accessed for, its image, and what is asked of it, with files by their letters:
 ///
-/// - `written` and `read`: the answer, the files then, how many events were added, and the files of what is left. An update has two blocks
-///   more than it needs and two syncs; of what is only read each refusal stands before the one that follows.
+/// - `written` and `read`: the answer, the files then, how many events were added, and the files of what is left. An update has at most two
+///   blocks more than it needs, and two syncs; of what is only read each refusal stands before the one that follows.
 /// - `seen`: the free blocks, the letters of all calls of the world, and whether the bytes are as a system would leave them.
 /// - `crash`: the answer, and the files of what a crash leaves behind so many events, by a choice. The directory of seven files has two
 ///   blocks, that of six one.
@@ -22,8 +22,8 @@ pub const ROWS: &str = "\
 written/one file/erase A => Ok(()) [] 5 []
 written/one file/erase B => Err(NotFound) [A] 0 [A]
 written/two files/erase A => Ok(()) [B] 5 [B]
-written/two files/rename A C => Ok(()) [CB] 5 [CB]
-written/two files/rename B B => Ok(()) [AB] 5 [AB]
+written/two files/rename A C => Ok(()) [CB] 4 [CB]
+written/two files/rename B B => Ok(()) [AB] 4 [AB]
 written/two files/rename A B => Err(Exists) [AB] 0 [AB]
 written/two files/rename C B => Err(NotFound) [AB] 0 [AB]
 written/two files/relabel => Ok(()) [AB] 2 [AB]
@@ -31,10 +31,15 @@ written/full/erase A => Err(Full { need: 1, free: 0 }) [A] 0 [A]
 written/full/relabel => Ok(()) [A] 2 [A]
 written/long directory/erase G => Ok(()) [ABCDEF] 5 [ABCDEF]
 written/long directory/erase A => Ok(()) [GBCDEF] 5 [GBCDEF]
-written/long directory on 17/rename A H => Err(Full { need: 3, free: 2 }) [ABCDEFG] 0 [ABCDEFG]
-written/long directory on 18/rename A H => Ok(()) [HBCDEFG] 7 [HBCDEFG]
-written/wide map/erase A => Ok(()) [] 7 []
-written/wide map/rename A B => Ok(()) [B] 7 [B]
+written/long directory/rename A H => Err(Full { need: 2, free: 1 }) [ABCDEFG] 0 [ABCDEFG]
+written/long directory on 17/rename A H => Ok(()) [HBCDEFG] 6 [HBCDEFG]
+written/sixteen files/erase A => Ok(()) [PBCDEFGHIJKLMNO] 7 [PBCDEFGHIJKLMNO]
+written/sixteen files/erase P => Ok(()) [ABCDEFGHIJKLMNO] 7 [ABCDEFGHIJKLMNO]
+written/sixteen files/erase H => Err(Full { need: 4, free: 3 }) [ABCDEFGHIJKLMNOP] 0 [ABCDEFGHIJKLMNOP]
+written/sixteen files/rename A Z => Ok(()) [ZBCDEFGHIJKLMNOP] 6 [ZBCDEFGHIJKLMNOP]
+written/sixteen files on 27/erase A => Err(Full { need: 3, free: 2 }) [ABCDEFGHIJKLMNOP] 0 [ABCDEFGHIJKLMNOP]
+written/wide map/erase A => Ok(()) [] 6 []
+written/wide map/rename A B => Ok(()) [B] 4 [B]
 read/two files/erase C => Err(NotFound) [AB] 0 [AB]
 read/two files/erase A => Err(ReadOnly) [AB] 0 [AB]
 read/two files/rename C B => Err(NotFound) [AB] 0 [AB]

@@ -25,7 +25,7 @@ pub fn info_of(unit: Unit, access: Access) -> UnitInfo
 
 /// The minidisk on the unit of a world, which may be written or not.
 pub fn minidisk(alloc: Global, world: &mut Disk, access: Access) -> Result<Minidisk, AccessFault> {
-    let blocks = (world.image.len() / 512).min(5000) as u32;
+    let blocks = (world.image.len() / 512).min(10_000) as u32;
     let info = info_of(Unit { number: 0, blocks }, access);
     Minidisk::access(alloc, world, &info, false)
 }

@@ -7,7 +7,7 @@ use cms_cases::{told, word};
 use cms_disk::{DiskFault, FileData, Minidisk, Stored};
 use cms_fields::Stamp;
 use cms_images::known::one_file;
-use cms_images::{Disk, START, file_named, image_named, world_of};
+use cms_images::{Disk, Event, START, file_named, image_named, world_of};
 use cms_names::{Format, Name};
 use cms_world::Access;
 use std::alloc::{AllocError, Global};
@@ -16,10 +16,14 @@ use std::alloc::{AllocError, Global};
 /// the letters of the names that get it one after another: the answer to the last, the files, the free blocks, the blocks that were
 /// written, the bytes of the last name's file, and whether the image is that of A FILE as a system would put it. What the longer file
 /// needs may be all that is free, and an old file's block isn't free before the label is written.
+///
+/// Where it is accessed for `logged`: the answer, and the blocks that were written in their order, with `s` for each sync. Of the map of
+/// 8,192 blocks one data block stays.
 pub const ROWS: &str = "\
 put/written/empty/hello/A => Ok(()) [A] 2 4 [0, 5, 200, 197, 211, 211, 214] true
 put/written/empty/hello/A B => Ok(()) [AB] 1 8 [0, 5, 200, 197, 211, 211, 214] false
 put/written/empty/blanks/A => Err(Full { need: 6, free: 3 }) [] 3 0 NotFound false
+put/logged/new on 8192/hello/A => Ok(()) 9 10 11 5 s 3 s
 put/read/empty/blanks/A => Err(ReadOnly) [] 3 0 NotFound false
 put/written/two files/hello/B => Err(Full { need: 2, free: 1 }) [AB] 1 0 [0, 5, 200, 197, 211, 211, 214] false
 add/written/one file/hello/A => Ok(()) [A] 2 4 [0, 5, 200, 197, 211, 211, 214, 0, 5, 200, 197, 211, 211, 214] false
@@ -167,6 +171,33 @@ fn told_of(
     format!(in alloc; "{counts} {bytes} {}", is_one_file(alloc, world)?)
 }
 
+// The blocks that were written, in order, with `s` for each sync.
+fn blocks_of(alloc: Global, world: &Disk) -> Result<String, AllocError> {
+    let mut text = String::new(alloc);
+    for event in world.events() {
+        match event {
+            Event::Wrote { block, .. } => text.push_str(&format!(in alloc; " {block}")?)?,
+            Event::Synced => text.push_str(" s")?,
+        }
+    }
+    Ok(text)
+}
+
+// What a case comes to in a world in which what is asked is kept.
+fn logged(alloc: Global, image: &[u8], case: &str) -> Result<String, AllocError> {
+    let mut world = Disk::logged(alloc, image)?;
+    let Some(file) = file_of(alloc, word(case, 3)) else {
+        return String::from_str(alloc, "no file");
+    };
+    match minidisk(alloc, &mut world, Access::ReadWrite) {
+        Ok(mut disk) => {
+            let answer = all_on(alloc, &mut world, &mut disk, case, &file);
+            format!(in alloc; "{answer:?}{}", blocks_of(alloc, &world)?)
+        }
+        Err(fault) => told(alloc, &fault),
+    }
+}
+
 // What is done with a minidisk and a file.
 fn done(
     alloc: Global,
@@ -185,7 +216,11 @@ fn done(
 
 /// What a case comes to.
 pub fn answer(alloc: Global, case: &str) -> Result<String, AllocError> {
-    let mut world = world_of(image_named(alloc, word(case, 2))?);
+    let image = image_named(alloc, word(case, 2))?;
+    if word(case, 1) == "logged" {
+        return logged(alloc, &image, case);
+    }
+    let mut world = world_of(image);
     match minidisk(alloc, &mut world, access_of(word(case, 1))) {
         Ok(mut disk) => done(alloc, &mut world, &mut disk, case),
         Err(fault) => told(alloc, &fault),

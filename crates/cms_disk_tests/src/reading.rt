@@ -21,7 +21,7 @@ use std::alloc::{AllocError, Global};
 /// - `whole`: the length, the count and the mode number of a file, how many bytes it has, whether they are those of the blocks from 7 on,
 ///   and the calls. `get`: the stored bytes of a file.
 /// - `find`: the place of a file. `told`: all files; the length, the count and the blocks of the first; the bytes of a block, the blocks,
-///   and those that are free.
+///   and those that are free. `stored`: how many bytes the records of the first file have as they are stored.
 /// - Why there is no minidisk where bytes of the image are `changed`, or a call of the world is the `failing` one.
 /// - `doubt`: of an access in doubt, where a call of the world fails: why there is no minidisk, the letters of all calls, and the events.
 pub const ROWS: &str = "\
@@ -49,6 +49,9 @@ get/erased/A => NotFound
 find/one file/A => Some(0)
 find/one file/B => None
 told/one file => [A] (5, 1, 1) (512, 9, 2)
+stored/one file => Some(7)
+stored/spanning => Some(516)
+stored/empty => None
 changed/one file/3 0 00 => Open(Label(Id))
 changed/one file/5 48 00 00 00 01 => Open(System(0))
 changed/one file/5 128 00 => Open(Entry(2, Name))
@@ -240,6 +243,14 @@ fn told_of(alloc: Global, disk: &Minidisk) -> Result<String, AllocError> {
     format!(in alloc; "[{files}] {first:?} {room:?}")
 }
 
+// The stored bytes of the first file.
+fn first_stored(disk: &Minidisk) -> Option<u32> {
+    if disk.count() == 0 {
+        return None;
+    }
+    Some(disk.stored(0))
+}
+
 // The place of the file of a letter.
 fn place_of(disk: &Minidisk, letter: &str) -> Option<u32> {
     disk.find(&file_named(letter)?)
@@ -262,6 +273,7 @@ fn world_of_case(alloc: Global, case: &str) -> Result<Disk, AllocError> {
 fn asked_of(alloc: Global, disk: &Minidisk, case: &str) -> Result<String, AllocError> {
     match word(case, 0) {
         "told" => told_of(alloc, disk),
+        "stored" => told(alloc, &first_stored(disk)),
         _ => told(alloc, &place_of(disk, word(case, 2))),
     }
 }

@@ -1,3 +1,4 @@
 pub mod BlockWritten
+pub mod Continued
 pub mod DraftMarks
 pub mod FilePuts

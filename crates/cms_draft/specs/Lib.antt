@@ -1,2 +1,3 @@
 pub mod BlockWriting
+pub mod Continuing
 pub mod Drafting

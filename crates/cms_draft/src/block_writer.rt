@@ -7,6 +7,7 @@ ghost use Rattle.cms_fields.specs.Limits.{most_bytes, most_records};
 ghost use Rattle.cms_fields.specs.Numbers.{up};
 ghost use Rattle.cms_model.specs.Sizes.{pointer_count};
 ghost use Rattle.cms_tree.specs.declared.types.Mark.{Mark};
+ghost use Rattle.cms_tree.specs.Kept.{Kept};
 ghost use Rattle.cms_held.specs.Drafts.{nowhere};
 ghost use Rattle.cms_draft.specs.BlockWriting.{AddsOwnBlocks, AreMarked, CanWrite, Finishes, IsDone, IsLater, IsNewWriter, IsSame, IsWriter, Streams, TakesBytes, WritesBlock, came, mark_on, with_start};
 
@@ -18,7 +19,7 @@ use cms_world::{Failed, World};
 use std::alloc::{AllocError, Global};
 
 /// The place in the mark of a data block in which no record begins.
-const NOWHERE: u32 = 0xFFFF_FFFF;
+pub const NOWHERE: u32 = 0xFFFF_FFFF;
 
 /// Data blocks of a unit, written one after another while their bytes come, each with the pointer blocks that are complete with it. One
 /// data block is held, and a pointer block for each level.
@@ -32,10 +33,12 @@ pub struct BlockWriter {
     /// the bytes that there are to be
     pub size: u32,
     pub climb: Climb,
+    /// the data blocks that stand already, and are not written
+    pub kept: u32,
     /// the bytes so far of the data block that comes next, and zeros
     pub block: Vec<u8>,
     pub filled: u32,
-    /// the data blocks that are written
+    /// the data blocks that stand already or are written
     pub whole: u32,
     /// the mark of the data block that comes next, so far
     pub mark: Mark,
@@ -66,6 +69,7 @@ impl BlockWriter {
             tree,
             size,
             climb,
+            kept: 0,
             block: vec![in alloc; 0; bsize.bytes() as usize]?,
             filled: 0,
             whole: 0,
@@ -118,8 +122,9 @@ impl BlockWriter {
         requires is { IsWriter self.old }
         requires fewer { self.old.whole < length self.old.tree.leaves }
         requires ready { ForSome (W.told world.old) (λ j. CanWrite j.units self.old) }
-        ensures writes { (bytes : List ℕ) (marks : List Mark) → Streams self.old bytes marks → IsDone self.old bytes marks
-            → WritesBlock (W.told world.old) (W.told world.new) self.old self.new bytes marks result }
+        ensures writes { (es : List Kept) (bytes : List ℕ) (marks : List Mark) → Streams self.old es bytes marks
+            → IsDone self.old bytes marks
+            → WritesBlock (W.told world.old) (W.told world.new) self.old self.new es bytes marks result }
         ensures is { IsWriter self.new }
         ensures same { IsSame self.old self.new }
         ensures whole { self.new.whole ≡ self.old.whole + 1 }
@@ -214,9 +219,9 @@ impl BlockWriter {
         requires unfilled { self.old.filled < self.old.bsize }
         requires all { came self.old ≡ self.old.size }
         requires ready { ForSome (W.told world.old) (λ j. CanWrite j.units self.old) }
-        ensures writes { (bytes : List ℕ) (marks : List Mark) → Streams self.old bytes marks
+        ensures writes { (es : List Kept) (bytes : List ℕ) (marks : List Mark) → Streams self.old es bytes marks
             → AreMarked self.old (length self.old.tree.leaves * self.old.bsize) marks
-            → Finishes (W.told world.old) (W.told world.new) self.old bytes marks result }
+            → Finishes (W.told world.old) (W.told world.new) self.old es bytes marks result }
         ensures same { IsSame self.old self.new }
         ensures own { AddsOwnBlocks (W.told world.old) (W.told world.new) self.old }
         ensures still { ForSome (W.told world.new) (λ j. CanWrite j.units self.new) }

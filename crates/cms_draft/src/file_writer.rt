@@ -2,15 +2,18 @@
 ghost use Rattle.std.specs.Prelude.{◌≡◌, ℕ, List, ◌+◌, ◌<◌, ◌≤◌, ◌∷◌, [], length, IfOk, OnOk};
 ghost use Rattle.std.specs.Option.{ForSome};
 ghost use Rattle.cms_world.specs.Seen.{OnUnits, seen};
-ghost use Rattle.cms_fields.specs.Entries.{fan_of};
+ghost use Rattle.cms_fields.specs.Entries.{fan_of, pointer_size};
 ghost use Rattle.cms_fields.specs.Limits.{most_bytes, most_records};
 ghost use Rattle.cms_fields.specs.Numbers.{up};
 ghost use Rattle.cms_model.specs.Records.{Fits, stored};
 ghost use Rattle.cms_model.specs.Sizes.{pointer_count};
+ghost use Rattle.cms_held.specs.Drafts.{Front, stored_on};
 ghost use Rattle.cms_draft.specs.BlockWriting.{AddsOwnBlocks, CanWrite, Finishes, IsSame, came};
-ghost use Rattle.cms_draft.specs.Drafting.{Drafts, IsDrafting, IsFresh, Puts, marks_in};
+ghost use Rattle.cms_draft.specs.Continuing.{IsBegun, IsContinued, bytes_before};
+ghost use Rattle.cms_draft.specs.Drafting.{Drafts, IsDrafting, IsFresh, Puts, marks_in, start_in};
 
-use crate::block_writer::BlockWriter;
+use crate::begun::Begun;
+use crate::block_writer::{BlockWriter, NOWHERE};
 use crate::shape::DraftShape;
 use byteorder::{BigEndian, ByteOrder};
 use cms_fields::pointer_size;
@@ -73,6 +76,55 @@ impl FileWriter {
         })
     }
 
+    /// A file of which the first `put` records stand already, on a unit with blocks of `bsize` bytes: the first data blocks of its tree are
+    /// those that stand. It takes no memory.
+    pub fn resume(
+        unit: u8,
+        bsize: BlockSize,
+        shape: &DraftShape,
+        put: u32,
+        tree: TreeBlocks,
+        begun: Begun,
+    ) -> FileWriter
+        requires some { 1 ≤ shape.now.bytes }
+        requires bytes { shape.now.bytes ≤ most_bytes }
+        requires records { shape.now.count ≤ most_records }
+        requires put { put ≤ shape.now.count }
+        requires leaves { length tree.leaves ≡ up shape.now.bytes bsize }
+        requires pointers { length tree.pointers ≡ pointer_count (fan_of bsize shape.now.format) (length tree.leaves) }
+        requires begun { IsBegun bsize (pointer_size shape.now.format) tree begun }
+        requires within { bytes_before bsize begun ≤ shape.now.bytes }
+        requires mark { begun.mark.last ≤ put }
+        ensures continued { IsContinued unit bsize put shape.now tree begun result }
+        ensures kept { IsDrafting result }
+    {
+        let Begun {
+            climb,
+            kept,
+            block,
+            filled,
+            mark,
+        } = begun;
+        let writer = BlockWriter {
+            unit,
+            bsize,
+            psize: pointer_size(shape.format),
+            tree,
+            size: shape.bytes as u32,
+            climb,
+            kept,
+            block,
+            filled,
+            whole: kept,
+            mark,
+        };
+        FileWriter {
+            shape: *shape,
+            put,
+            writer,
+        }
+    }
+
     /// What the file is to be.
     pub fn shape(&self) -> &DraftShape
         ensures shape { result.now ≡ self.now.shape }
@@ -95,6 +147,17 @@ impl FileWriter {
         self.writer.size - self.writer.came()
     }
 
+    /// Where the first record begins in the data block that the records so far fill in part: 4,294,967,295 where none does, where they fill
+    /// whole blocks, and at F.
+    pub fn start(&self) -> u32
+        ensures { result ≡ start_in self.now }
+    {
+        match self.shape.format {
+            Format::F => NOWHERE,
+            Format::V => self.writer.mark.place,
+        }
+    }
+
     /// Puts the next record: writes each data block that is whole with it, and the pointer blocks that are complete with that.
     ///
     /// It takes no memory. `Failed` where the device did; the file is of no more use then.
@@ -103,8 +166,8 @@ impl FileWriter {
         requires fits { Fits self.old.shape.format self.old.shape.length text.now }
         requires room { came self.old.writer + length (stored self.old.shape.format (text.now ∷ [])) ≤ self.old.writer.size }
         requires ready { ForSome (W.told world.old) (λ j. CanWrite j.units self.old.writer) }
-        ensures puts { (records more : List (List ℕ)) → Drafts self.old records (text.now ∷ more)
-            → Puts (W.told world.old) (W.told world.new) self.old self.new records text.now more result }
+        ensures puts { (front : Front) (records more : List (List ℕ)) → Drafts self.old front records (text.now ∷ more)
+            → Puts (W.told world.old) (W.told world.new) self.old self.new front records text.now more result }
         ensures all { OnOk result (came self.new.writer ≡ came self.old.writer + length (stored self.old.shape.format (text.now ∷ []))) }
         ensures same { IsSame self.old.writer self.new.writer }
         ensures shape { self.new ≡ record self.old { put = self.old.put + 1; writer = self.new.writer } }
@@ -137,8 +200,9 @@ impl FileWriter {
         requires records { self.put ≡ self.shape.count }
         requires bytes { came self.writer ≡ self.writer.size }
         requires ready { ForSome (W.told world.old) (λ j. CanWrite j.units self.writer) }
-        ensures finishes { (records : List (List ℕ)) → Drafts self records []
-            → Finishes (W.told world.old) (W.told world.new) self.writer (stored self.shape.format records) (marks_in self records) result }
+        ensures finishes { (front : Front) (records : List (List ℕ)) → Drafts self front records []
+            → Finishes (W.told world.old) (W.told world.new) self.writer front.nodes
+            (stored_on self.shape.format front records) (marks_in self front records) result }
         ensures tree { IfOk result (λ tree. tree ≡ self.writer.tree) }
         ensures kept { IsDrafting self }
         ensures own { AddsOwnBlocks (W.told world.old) (W.told world.new) self.writer }

@@ -2,9 +2,11 @@
 //! with it.
 #![tactic(auto)]
 
+mod begun;
 mod block_writer;
 mod file_writer;
 mod shape;
 
+pub use begun::Begun;
 pub use file_writer::FileWriter;
 pub use shape::DraftShape;

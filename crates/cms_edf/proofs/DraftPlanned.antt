@@ -1,5 +1,5 @@
 -- A file that is planned for a volume fits in.
-use Rattle.std.proofs.Common.{◌≡◌, inl, inr, ⊎_elim, ℕ, zero, suc, get_or, ◌+◌, ◌-◌, ◌*◌, ◌/◌, ◌^◌, ◌<◌, ◌≤◌, Bool, true, false, List, [], ◌∷◌, ◌++◌, length, map, take, position, All, Option, None, Some, refl, sym, ◌∙◌, ap, subst, arith, length-append, mul-pos, mul_comm}
+use Rattle.std.proofs.Common.{◌≡◌, inl, inr, ⊎_elim, ℕ, zero, suc, get_or, ◌+◌, ◌-◌, ◌*◌, ◌/◌, ◌^◌, ◌<◌, ◌≤◌, Bool, true, false, List, [], ◌∷◌, ◌++◌, length, take, drop, position, All, Option, None, Some, refl, sym, ◌∙◌, ap, subst, arith, length-append, mul-pos, mul_comm}
 use Rattle.std.specs.Prelude.{nat_le, nat_lt, ◌&&◌, ◌==◌, if◌then◌else◌}
 use Rattle.std.proofs.lemmas.Bool.{and_from, le-leb, eq-eqb, cases_lt, ltb-false}
 use Rattle.std.proofs.lemmas.List.{length-set, map-append, map-set}
@@ -17,8 +17,10 @@ use Rattle.cms_fields.specs.Numbers.{up}
 use Rattle.cms_fields.specs.Stamps.{is_stamp}
 use Rattle.cms_fields.specs.declared.entry.Entry.{Entry}
 use Rattle.cms_fields.specs.declared.time.Stamp.{Stamp}
+use Rattle.cms_model.specs.DirectoryParts.{blocks_made, directory_count}
 use Rattle.cms_model.specs.Lists.{In, times}
 use Rattle.cms_model.specs.Minidisks.{same_name}
+use Rattle.cms_model.specs.Sharing.{MayBeWritten}
 use Rattle.cms_model.specs.Sizes.{levels, pointer_count, tree_size}
 use Rattle.cms_model.proofs.FileSizes.{fan_wide, passes_from}
 use Rattle.cms_model.proofs.Quotients.{up_below, up_some, up_spec}
@@ -27,16 +29,25 @@ use Rattle.cms_model.proofs.Shapes.{shape_least}
 use Rattle.cms_map.specs.Bits.{HasFixed, free_blocks}
 use Rattle.cms_map.proofs.Free.{free_are_unused}
 use Rattle.cms_held.proofs.Renewals.{all_of}
+use Rattle.cms_held.specs.Allotting.{IsPlanned}
+use Rattle.cms_held.specs.EntryPlaces.{IsEnoughFor}
 use Rattle.cms_held.specs.Kept.{Keeps}
 use Rattle.cms_held.specs.Opening.{HeldFile, HeldTree, HeldVolume, names_in}
 use Rattle.cms_held.specs.Systems.{Systems}
-use Rattle.cms_held.specs.Renewing.{Edit, IsAllotted, blocks_in, entries_held, fresh, needed}
-use Rattle.cms_held.specs.Putting.{AreFree, IsPutOf, adding, adds, count_put, count_with, limit_put, need_put, replaces, replacing}
+use Rattle.cms_held.specs.Renewing.{Edit, blocks_in, entries_held, needed}
+use Rattle.cms_held.specs.Putting.{AreFree, IsPutOf, adding, adds, count_put, count_with, limit_put, made_put, made_with, need_put, replaces, replacing}
 use Rattle.cms_held.proofs.MapMarks.{take_fewer}
 use Rattle.cms_draft.specs.declared.shape.DraftShape.{DraftShape}
+use Rattle.cms_held.specs.SharedBlocks.{fresh_of}
+use Rattle.cms_held.specs.Written.{ReadsBack}
+use Rattle.cms_edf.specs.Allotting.{IsAllottedFor, all_fresh, given_back, need_of, own_fresh}
 use Rattle.cms_edf.specs.declared.allotment.Allotment.{Allotment}
-use Rattle.cms_edf.specs.FileDrafts.{CanDraft, GivenAt, IsFilePlanned, IsFilled, IsSized, list_with, entry_for, file_for}
-use Rattle.cms_edf.proofs.Planned.{entries_count, named_at, ready_of}
+use Rattle.cms_edf.specs.declared.allotment.Exchange.{Exchange}
+use Rattle.cms_edf.specs.FileDrafts.{CanDraft, GivenAt, IsFilePlanned, IsSized, list_with, entry_for, file_for}
+use Rattle.cms_edf.specs.Planning.{AreEnoughFor, IsFilled}
+use Rattle.cms_edf.proofs.AllottedParts.{Asks, planned_of}
+use Rattle.cms_edf.proofs.EditsEnough.{put_enough}
+use Rattle.cms_edf.proofs.Planned.{entries_count, named_at}
 
 -- ---- the entries
 
@@ -123,12 +134,15 @@ entry_passes bsize name shape tree size can many high leaves =
 
 -- ---- the blocks
 
--- what is taken was free
-taken_free : (v : HeldVolume) (files : ℕ) (given taken : List ℕ) (directory map : HeldTree) (bits : List Bool) → IsAllotted v files given taken directory map bits → AreFree v taken
-taken_free v files given taken directory map bits a n =
-    let all : times n (fresh taken directory map) ≡ times n (take (length (fresh taken directory map)) (free_blocks v.bits)) = ap (times n) a.lowest in
-    let fewer = take_fewer (length (fresh taken directory map)) (free_blocks v.bits) n in
-    let both = times_append n taken (fresh [] directory map) in
+-- what is taken for a file was free
+pub taken_free : (v : HeldVolume) (x : Exchange) (a : Allotment) → IsAllottedFor v x a → AreFree v a.file.items
+taken_free v x a al n =
+    let behind = drop 1 (fresh_of (v.disk.bsize / 4) a.directory_part.leaves v.directory a.directory) in
+    let of_map = fresh_of (v.disk.bsize / 4) a.map_part.leaves v.map a.map_tree in
+    let all : times n (all_fresh v a) ≡ times n (take (length (all_fresh v a)) (free_blocks v.bits)) = ap (times n) al.lowest in
+    let fewer = take_fewer (length (all_fresh v a)) (free_blocks v.bits) n in
+    let both = times_append n (own_fresh v a) of_map in
+    let own = times_append n a.file.items behind in
     omega arith
 
 free_late : (v : HeldVolume) → Keeps v → HasFixed v.bits → (n : ℕ) → In n (free_blocks v.bits) → (6 ≤ n) × (n ≤ v.label.blocks)
@@ -152,15 +166,20 @@ free_late v kept fixed n is_free =
     same_bit (b ∷ bits) zero less = refl
     same_bit (b ∷ bits) (suc k) less = same_bit bits k (omega arith)
 
-taken_within : (v : HeldVolume) (files : ℕ) (given taken : List ℕ) (directory map : HeldTree) (bits : List Bool) → Keeps v → HasFixed v.bits → IsAllotted v files given taken directory map bits
-    → All (λ n. (6 ≤ n) × (n ≤ v.label.blocks)) taken
-taken_within v files given taken directory map bits kept fixed a = all_of (λ n. (6 ≤ n) × (n ≤ v.label.blocks)) taken (λ n some.
-    let fewer = taken_free v files given taken directory map bits a n in
+pub taken_within : (v : HeldVolume) (x : Exchange) (a : Allotment) → Keeps v → HasFixed v.bits → IsAllottedFor v x a → All (λ n. (6 ≤ n) × (n ≤ v.label.blocks)) a.file.items
+taken_within v x a kept fixed al = all_of (λ n. (6 ≤ n) × (n ≤ v.label.blocks)) a.file.items (λ n some.
+    let fewer = taken_free v x a al n in
     free_late v kept fixed n (in_from n (free_blocks v.bits) (held_from n (free_blocks v.bits) (omega arith))))
 
 -- ---- what is planned
 
-pub record Parts (v : HeldVolume) (name : Name) (asked : DraftShape) (stamp : Stamp) (place : Option ℕ) (tree : HeldTree) (a : Allotment) (e : Entry) (s : Systems) : Type 0 where
+-- an update that puts a file in a place
+pub record Exchanges (v : HeldVolume) (place : Option ℕ) (x : Exchange) : Type 0 where
+  pub files : x.files ≡ count_with place (length v.files)
+  pub made : x.made.now ≡ made_with place (length v.files)
+  pub given : (given : List ℕ) → GivenAt v.files place given → given_back x ≡ given
+
+pub record Parts (v : HeldVolume) (name : Name) (asked : DraftShape) (stamp : Stamp) (place : Option ℕ) (tree : HeldTree) (x : Exchange) (a : Allotment) (e : Entry) (s : Systems) : Type 0 where
   pub kept : Keeps v
   pub size : IsBlockSize v.disk.bsize
   pub stamped : is_stamp stamp ≡ true
@@ -168,18 +187,20 @@ pub record Parts (v : HeldVolume) (name : Name) (asked : DraftShape) (stamp : St
   pub at : place ≡ position (same_name name) (names_in v.files)
   pub fixed : HasFixed v.bits
   pub unlimited : limit_put (count_put v name) asked.count asked.bytes ≡ None
+  pub exchange : Exchanges v place x
   pub blocks : tree.leaves ++ tree.pointers ≡ a.file.items
   pub leaves : length tree.leaves ≡ up asked.bytes v.disk.bsize
   pub count : length a.file.items ≡ length tree.leaves + pointer_count (fan_of v.disk.bsize asked.format) (length tree.leaves)
   pub entry : e ≡ entry_for v.disk.bsize name asked tree
-  pub allotted : (given : List ℕ) → GivenAt v.files place given → IsAllotted v (count_with place (length v.files)) given a.file.items a.directory a.map_tree a.map
-  pub room : length a.file.items + needed v (count_with place (length v.files)) ≤ length (free_blocks v.bits)
+  pub allotted : IsAllottedFor v x a
+  pub room : need_of v x ≤ length (free_blocks v.bits)
   pub filled : IsFilled v (list_with (entries_held v.files) place e) a stamp s
 
 -- an edit of the files that puts the new one in the place
 record Edits (v : HeldVolume) (g : HeldFile) (place : Option ℕ) : Type 0 where
   edit : Edit
   put : IsPutOf v g edit
+  made : edit.made ≡ made_with place (length v.files)
   given : GivenAt v.files place edit.given
   taken : edit.taken ≡ blocks_in g.tree
   files : edit.files ≡ list_with v.files place g
@@ -190,6 +211,7 @@ edits : (v : HeldVolume) (g : HeldFile) (place : Option ℕ) → place ≡ posit
 edits v g None at = record {
   edit = adding v.files g;
   put = adds (sym at);
+  made = refl;
   given = refl;
   taken = refl;
   files = refl;
@@ -201,6 +223,7 @@ edits v g (Some k) at =
     record {
       edit = replacing v.files k n.file g;
       put = replaces k n.file n.there n.named;
+      made = refl;
       given = λ f there. ap (λ (x : HeldFile). blocks_in x.tree) (same_Some n.file f (sym n.there ∙ there));
       taken = refl;
       files = refl;
@@ -208,26 +231,46 @@ edits v g (Some k) at =
       count = length-set v.files k g;
     }
 
-pub planned_parts : (v : HeldVolume) (name : Name) (asked : DraftShape) (stamp : Stamp) (place : Option ℕ) (tree : HeldTree) (a : Allotment) (e : Entry) (s : Systems)
-    → Parts v name asked stamp place tree a e s → IsFilePlanned v name asked stamp tree s
+-- what is written for the entries with this one is enough
+pub enough_with : (v : HeldVolume) (place : Option ℕ) (entry : Entry) (x : Exchange) → IsBlockSize v.disk.bsize → x.made.now ≡ made_with place (length v.files)
+    → AreEnoughFor v (list_with (entries_held v.files) place entry) x
+enough_with v place entry x size made =
+    let entries = list_with (entries_held v.files) place entry in
+    subst (λ (l : List ℕ). IsEnoughFor v.disk.bsize (entries_held v.files) entries (blocks_made v.disk.bsize (length entries) l)) (sym made) (put_enough v place entry size)
+
+-- the blocks that are needed
+same_need : (v : HeldVolume) (name : Name) (place : Option ℕ) (x : Exchange) → place ≡ position (same_name name) (names_in v.files) → x.files ≡ count_with place (length v.files)
+    → x.made.now ≡ made_with place (length v.files) → needed v x.files x.made.now ≡ needed v (count_put v name) (made_put v name)
+same_need v name place x at files made =
+    ap (λ (n : ℕ). needed v n x.made.now) files
+    ∙ (ap (needed v (count_with place (length v.files))) made ∙ ap (λ (o : Option ℕ). needed v (count_with o (length v.files)) (made_with o (length v.files))) at)
+
+pub planned_parts : (v : HeldVolume) (name : Name) (asked : DraftShape) (stamp : Stamp) (place : Option ℕ) (tree : HeldTree) (x : Exchange) (a : Allotment) (e : Entry) (s : Systems)
+    → Parts v name asked stamp place tree x a e s → (start : ℕ) → IsFilePlanned v name asked stamp tree s start
 unfolding tree_size
-planned_parts v name asked stamp place tree a e s p =
-    let g = file_for v.disk.bsize name asked tree in
+planned_parts v name asked stamp place tree x a e s p start =
+    let g = file_for v.disk.bsize name asked tree start in
     let d = edits v g place p.at in
+    let entries = list_with (entries_held v.files) place e in
     let l = limits (count_put v name) asked.count asked.bytes p.unlimited in
     let files : count_put v name ≡ count_with place (length v.files) = ap (λ (o : Option ℕ). count_with o (length v.files)) (sym p.at) in
     let few = l.0 in
     let count = d.count in
-    let all = p.allotted d.edit.given d.given in
     let f = p.filled in
-    let same : a.file.items ≡ d.edit.taken = sym p.blocks ∙ sym d.taken in
-    let allotted : IsAllotted v (length d.edit.files) d.edit.given d.edit.taken s.directory s.map s.bits =
-    rw (d.count, f.directory_is, f.map_is, f.bits_are) (subst (λ (t : List ℕ). IsAllotted v (count_with place (length v.files)) d.edit.given t a.directory a.map_tree a.map) same all) in
-    let entries : entries_held d.edit.files ≡ list_with (entries_held v.files) place e = d.entries ∙ ap (list_with (entries_held v.files) place) (sym p.entry) in
+    let are : entries_held d.edit.files ≡ entries = d.entries ∙ ap (list_with (entries_held v.files) place) (sym p.entry) in
+    let asks : Asks v x a entries d.edit = record {
+      entries_are = are;
+      files = p.exchange.files ∙ sym (count_held v.files place e);
+      made = d.made ∙ sym p.exchange.made;
+      given = sym (p.exchange.given d.edit.given d.given);
+      taken = d.taken ∙ p.blocks;
+    } in
+    let planned : IsPlanned v d.edit stamp s = planned_of v x a entries d.edit stamp s p.allotted f asks (enough_with v place e x p.size p.exchange.made) p.room in
     let long = length-append tree.leaves tree.pointers in
     let whole : length (tree.leaves ++ tree.pointers) ≡ length a.file.items = ap (λ (t : List ℕ). length t) p.blocks in
+    let own = p.allotted.file in
     let number = p.count in
-    let more : needed v (count_put v name) ≡ needed v (count_with place (length v.files)) = ap (needed v) files in
+    let more = same_need v name place x p.at p.exchange.files p.exchange.made in
     let leaves = p.leaves in
     let nodes : pointer_count (fan_of v.disk.bsize asked.format) (length tree.leaves) ≡ pointer_count (fan_of v.disk.bsize asked.format) (up asked.bytes v.disk.bsize) =
     ap (pointer_count (fan_of v.disk.bsize asked.format)) p.leaves in
@@ -238,36 +281,50 @@ planned_parts v name asked stamp place tree a e s p =
       put = d.put;
       files_are = d.files ∙ ap (λ (o : Option ℕ). list_with v.files o g) p.at;
       few = omega arith;
-      ready = ready_of v d.edit (list_with (entries_held v.files) place e) stamp s p.kept p.stamped allotted f.systems entries;
+      ready = record { kept = p.kept; stamped = p.stamped; planned = planned; back = subst (All ReadsBack) (sym are) f.systems.back };
       label_long = f.systems.label_long;
       passes_all = entry_passes v.disk.bsize name asked tree p.size p.can l.1 l.2 p.leaves;
       leaves_are = p.leaves;
       pointers_are = omega arith;
-      free = subst (AreFree v) (sym p.blocks) (taken_free v (count_with place (length v.files)) d.edit.given a.file.items a.directory a.map_tree a.map all);
-      within = subst (All (λ n. (6 ≤ n) × (n ≤ v.label.blocks))) (sym p.blocks)
-          (taken_within v (count_with place (length v.files)) d.edit.given a.file.items a.directory a.map_tree a.map p.kept p.fixed all);
+      free = subst (AreFree v) (sym p.blocks) (taken_free v x a p.allotted);
+      within = subst (All (λ n. (6 ≤ n) × (n ≤ v.label.blocks))) (sym p.blocks) (taken_within v x a p.kept p.fixed p.allotted);
       unlimited = p.unlimited;
       room = omega arith;
     }
 
 -- ---- for the code
 
-pub need_is : (v : HeldVolume) (name : Name) (format : Format) (bytes bsize count nodes : ℕ) (place : Option ℕ) → bsize ≡ v.disk.bsize → count ≡ up bytes bsize
+pub need_is : (v : HeldVolume) (name : Name) (format : Format) (bytes bsize count nodes : ℕ) (place : Option ℕ) (x : Exchange) → bsize ≡ v.disk.bsize → count ≡ up bytes bsize
     → nodes ≡ pointer_count (fan_of bsize format) count
-    → place ≡ position (same_name name) (names_in v.files) → count + nodes + needed v (count_with place (length v.files)) ≡ need_put v name format bytes
+    → place ≡ position (same_name name) (names_in v.files) → x.files ≡ count_with place (length v.files) → x.made.now ≡ made_with place (length v.files) → x.file ≡ count + nodes
+    → need_of v x ≡ need_put v name format bytes
 unfolding tree_size
-need_is v name format bytes bsize count nodes place size is pointers at =
-    let more : needed v (count_with place (length v.files)) ≡ needed v (count_put v name) = ap (λ (o : Option ℕ). needed v (count_with o (length v.files))) at in
+need_is v name format bytes bsize count nodes place x size is pointers at files made own =
+    let more = same_need v name place x at files made in
     let leaves : count ≡ up bytes v.disk.bsize = is ∙ ap (up bytes) size in
     let above : nodes ≡ pointer_count (fan_of v.disk.bsize format) (up bytes v.disk.bsize) =
     pointers ∙ ap (λ (b : ℕ). pointer_count (fan_of b format) count) size ∙ ap (pointer_count (fan_of v.disk.bsize format)) leaves in
     omega arith
 
-pub some_given : (v : HeldVolume) (name : Name) (place : Option ℕ) → place ≡ position (same_name name) (names_in v.files) → (given : List ℕ) × GivenAt v.files place given
-some_given v name None at = ([], refl)
-some_given v name (Some k) at =
-    let n = named_at v.files name k (sym at) in
-    (blocks_in n.file.tree, λ f there. ap (λ (x : HeldFile). blocks_in x.tree) (same_Some n.file f (sym n.there ∙ there)))
+-- the data blocks of the directory that are written for a file in a place may be, and the first is one of them
+pub places_with : (v : HeldVolume) (place : Option ℕ) (many : ℕ) (numbers : List ℕ) (e : Entry) → IsBlockSize v.disk.bsize → many ≡ count_with place (length v.files) → numbers ≡ made_with place (length v.files)
+    → In 0 (blocks_made v.disk.bsize many numbers)
+    × MayBeWritten (directory_count v.disk.bsize (length v.files)) (directory_count v.disk.bsize many) (blocks_made v.disk.bsize many numbers)
+places_with v place many numbers e size files made =
+    let enough = put_enough v place e size in
+    let count : length (list_with (entries_held v.files) place e) ≡ many = count_held v.files place e ∙ sym files in
+    let is : blocks_made v.disk.bsize (length (list_with (entries_held v.files) place e)) (made_with place (length v.files)) ≡ blocks_made v.disk.bsize many numbers =
+    ap (λ (n : ℕ). blocks_made v.disk.bsize n (made_with place (length v.files))) count ∙ ap (blocks_made v.disk.bsize many) (sym made) in (
+      subst (In 0) is enough.first,
+      subst (λ (n : ℕ). MayBeWritten n (directory_count v.disk.bsize many) (blocks_made v.disk.bsize many numbers)) (ap (directory_count v.disk.bsize) (entries_count v.files))
+          (subst (λ (n : ℕ). MayBeWritten (directory_count v.disk.bsize (length (entries_held v.files))) (directory_count v.disk.bsize n) (blocks_made v.disk.bsize many numbers)) count
+          (subst (MayBeWritten (directory_count v.disk.bsize (length (entries_held v.files))) (directory_count v.disk.bsize (length (list_with (entries_held v.files) place e)))) is enough.may)),
+    )
+
+pub put_places : (v : HeldVolume) (place : Option ℕ) (x : Exchange) (e : Entry) → IsBlockSize v.disk.bsize → x.files ≡ count_with place (length v.files) → x.made.now ≡ made_with place (length v.files)
+    → In 0 (blocks_made v.disk.bsize x.files x.made.now)
+    × MayBeWritten (directory_count v.disk.bsize (length v.files)) (directory_count v.disk.bsize x.files) (blocks_made v.disk.bsize x.files x.made.now)
+put_places v place x e size files made = places_with v place x.files x.made.now e size files made
 
 -- a limit that is passed, or none
 pub count_files : (v : HeldVolume) (name : Name) (place : Option ℕ) (files : ℕ) → place ≡ position (same_name name) (names_in v.files) → files ≡ count_with place (length v.files)

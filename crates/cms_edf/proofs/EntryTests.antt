@@ -1,5 +1,5 @@
 -- What the tests of entries say of their trees and of their bytes.
-use Rattle.std.proofs.Common.{◌≡◌, inl, inr, ℕ, zero, suc, ◌+◌, ◌-◌, ◌*◌, ◌/◌, ◌≤◌, true, not, List, [], ◌∷◌, Ok, if◌then◌else◌, subst, arith}
+use Rattle.std.proofs.Common.{◌≡◌, inl, inr, ℕ, zero, suc, ◌+◌, ◌-◌, ◌*◌, ◌/◌, ◌<◌, ◌≤◌, true, not, List, [], ◌∷◌, Ok, if◌then◌else◌, sym, ap, subst, arith}
 use Rattle.std.specs.Prelude.{nat_le, ◌==◌, ◌&&◌, ◌||◌}
 use Rattle.std.specs.List.{All}
 use Rattle.std.proofs.lemmas.Bool.{and_from, and_parts, le-leb, leb-true, eqb-true}
@@ -19,10 +19,11 @@ use Rattle.cms_model.specs.Volumes.{blamed, entries_of}
 use Rattle.cms_model.specs.declared.fault.OpenFault.TheVariants as failed
 use Rattle.cms_model.proofs.Results.{ok_same, bind_then}
 use Rattle.cms_model.proofs.Opening.{blamed_ok}
+use Rattle.cms_model.proofs.Quotients.{up_spec}
 use Rattle.cms_model.proofs.Shapes.{shape_least}
 use Rattle.cms_model.proofs.TreeFrame.{between}
 use Rattle.cms_model.proofs.FileSizes.{EntryFits, AllFit, entries_fit, entry_counted, fan_wide}
-use Rattle.cms_edf.specs.EntryShapes.{HasShape, HasSize}
+use Rattle.cms_edf.specs.EntryShapes.{EndsIn, HasShape, HasSize}
 
 shaped : (bsize : ℕ) (e : Entry) → IsBlockSize bsize → EntryFits bsize e → HasShape bsize e
 unfolding levels_fit
@@ -75,11 +76,29 @@ are_few V bsize count len blocks size long fits =
     below : (n b : ℕ) → n / b * b ≤ n
     below n b = grind arith
 
+-- bytes that leave less than a block of so many end in the last of them
+pub ends_last : (n bsize stored : ℕ) → 1 ≤ n → stored ≤ n * bsize → n * bsize < stored + bsize → EndsIn bsize n stored
+ends_last zero bsize stored some high low = absurd (omega arith)
+ends_last (suc n) bsize stored some high low = let one : suc n - 1 ≡ n = omega arith in (rw one (omega arith), high)
+
 small : (bsize : ℕ) (e : Entry) → IsBlockSize bsize → EntryFits bsize e → HasSize bsize e
 unfolding length_fits counts_fit
 small bsize e size fits =
+    let low = (block_bounds bsize size).0 in
     let f = are_few e.format bsize e.count e.length e.blocks size fits.long fits.counts in
-    record { some = f.some; room = f.room; few = f.few; fits = f.fits }
+    let c = entry_counted bsize e (omega arith) fits in
+    let spec = up_spec (e.count * e.length) bsize (omega arith) in
+    record {
+      some = f.some;
+      blocks = c.some;
+      room = f.room;
+      few = f.few;
+      ends = λ fixed.
+          let is : e.blocks ≡ up (e.count * e.length) bsize = c.fixed (ap is_fixed fixed) in
+          subst (λ (k : ℕ). EndsIn bsize k (e.count * e.length)) (sym is)
+          (ends_last (up (e.count * e.length) bsize) bsize (e.count * e.length) (subst (λ (k : ℕ). 1 ≤ k) is c.some) spec.0 spec.1);
+      fits = f.fits;
+    }
 
 each : (P : Entry → Type 0) (bsize : ℕ) (es : List Entry) → ((e : Entry) → EntryFits bsize e → P e) → AllFit bsize es → All P es
 each P bsize [] go fits k d less = absurd (omega arith)

@@ -1,12 +1,14 @@
 -- The trees of files, read one after another.
 use Rattle.std.proofs.Common.{◌≡◌, inl, inr, ℕ, ◌+◌, ◌*◌, ◌/◌, ◌<◌, ◌≤◌, List, [], ◌∷◌, ◌++◌, length, take, drop, map, get_or, None, Result, Ok, Err, refl, sym, ◌∙◌, ap, subst, arith, append-nil, append_assoc}
+use Rattle.std.specs.Prelude.{IfOk}
+use Rattle.std.proofs.lemmas.Result.{IfOk-weaker}
 use Rattle.std.proofs.lemmas.List.{drop_all, drop_more, map-append, take_all, take_more}
 use Rattle.cms_journal.specs.Journal.{Journal, IsBlockSize, contents_of}
 use Rattle.cms_names.specs.declared.name.Format.{Format}
 use Rattle.cms_fields.specs.Steps.{◌>>=◌}
 use Rattle.cms_fields.specs.Entries.{fan_of, pointer_size}
 use Rattle.cms_fields.specs.declared.entry.Entry.{Entry}
-use Rattle.cms_model.specs.Sizes.{levels}
+use Rattle.cms_model.specs.Sizes.{levels, pointer_count}
 use Rattle.cms_model.specs.Trees.{Image, Form, Met, image_of, form_of, tree}
 use Rattle.cms_model.specs.Volumes.{holder_of, file_trees, blocks_of}
 use Rattle.cms_model.specs.declared.fault.OpenFault.{OpenFault}
@@ -17,7 +19,7 @@ use Rattle.cms_edf.specs.declared.open.Place.{Place}
 use Rattle.cms_held.specs.Opening.{IsFaultOf}
 use Rattle.cms_edf.specs.OpeningSteps.{met_in, behind, ReadsTree}
 use Rattle.cms_edf.specs.EntryShapes.{HasShape}
-use Rattle.cms_edf.specs.OpeningFiles.{file_at, file_tree, file_nodes, pointers_in, ReadsFile, HasFiles, HaveCounts}
+use Rattle.cms_edf.specs.OpeningFiles.{file_at, file_tree, file_nodes, pointers_in, ReadsFile, HasFiles, HaveCounts, entry_sizes, walked_sizes}
 use Rattle.cms_held.proofs.Drafted.{fan_is}
 use Rattle.cms_edf.proofs.Faults.{fault_passes}
 
@@ -161,13 +163,24 @@ unfolding blocks_of
 blocks_last directory m walks k blocks past to =
     sym (append-nil blocks) ∙ (sym (ap (λ (l : List Walked). blocks ++ blocks_of (map met_in l)) (drop_all k walks past)) ∙ (sym to ∙ append_assoc directory m (blocks_of (map met_in walks))))
 
-pub counts_next : (entries : List Entry) (k : ℕ) (e : Entry) (walks : List Walked) (walked : Walked) → k < length entries → e ≡ get_or entries k e → length walked.leaves.items ≡ e.blocks
-    → HaveCounts (take k entries) walks → HaveCounts (take (k + 1) entries) (walks ++ (walked ∷ []))
-counts_next entries k e walks walked less is count counts =
-    map-append (λ (w : Walked). length w.leaves.items) walks (walked ∷ [])
-    ∙ (ap (λ (l : List ℕ). l ++ (length walked.leaves.items ∷ [])) counts
-    ∙ (ap (λ (n : ℕ). map (λ (x : Entry). x.blocks) (take k entries) ++ (n ∷ [])) count
-    ∙ (sym (map-append (λ (x : Entry). x.blocks) (take k entries) (e ∷ [])) ∙ ap (map (λ (x : Entry). x.blocks)) (sym (taken_next entries k e less is)))))
+both_same : (a b c d : ℕ) → a ≡ c → b ≡ d → ◌≡◌ {A = ℕ × ℕ} (a, b) (c, d)
+both_same a b c d first second = λ i. (first i, second i)
 
-pub counts_last : (entries : List Entry) (k : ℕ) (walks : List Walked) → length entries ≤ k → HaveCounts (take k entries) walks → HaveCounts entries walks
-counts_last entries k walks past counts = counts ∙ ap (map (λ (x : Entry). x.blocks)) (take_all k entries past)
+pub counts_next : (bsize : ℕ) (entries : List Entry) (k : ℕ) (e : Entry) (walks : List Walked) (walked : Walked) → k < length entries → e ≡ get_or entries k e → length walked.leaves.items ≡ e.blocks
+    → length walked.pointers.items ≡ pointer_count (fan_of bsize e.format) e.blocks
+    → HaveCounts bsize (take k entries) walks → HaveCounts bsize (take (k + 1) entries) (walks ++ (walked ∷ []))
+counts_next bsize entries k e walks walked less is count nodes counts =
+    let same : walked_sizes walked ≡ entry_sizes bsize e = both_same _ _ _ _ count nodes in
+    map-append walked_sizes walks (walked ∷ [])
+    ∙ (ap (λ (l : List (ℕ × ℕ)). l ++ (walked_sizes walked ∷ [])) counts
+    ∙ (ap (λ (n : ℕ × ℕ). map (entry_sizes bsize) (take k entries) ++ (n ∷ [])) same
+    ∙ (sym (map-append (entry_sizes bsize) (take k entries) (e ∷ [])) ∙ ap (map (entry_sizes bsize)) (sym (taken_next entries k e less is)))))
+
+pub counts_last : (bsize : ℕ) (entries : List Entry) (k : ℕ) (walks : List Walked) → length entries ≤ k → HaveCounts bsize (take k entries) walks → HaveCounts bsize entries walks
+counts_last bsize entries k walks past counts = counts ∙ ap (map (entry_sizes bsize)) (take_all k entries past)
+
+-- the pointer blocks of a file's tree that was read
+pub file_pointers : (place : Place) (holder : ℕ) (e : Entry) (at : TreeAt) (r : Result Walked OpenFault) → at ≡ file_at place holder e
+    → IfOk r (λ w. length w.pointers.items ≡ pointer_count (at.bsize / at.psize) at.count) → IfOk r (λ w. length w.pointers.items ≡ pointer_count (fan_of place.bsize e.format) e.blocks)
+file_pointers place holder e at r is has =
+    IfOk-weaker r _ _ (λ w long. long ∙ (ap (λ (x : TreeAt). pointer_count (x.bsize / x.psize) x.count) is ∙ ap (λ (fan : ℕ). pointer_count fan e.blocks) (fan_is place.bsize e.format))) has

@@ -1,16 +1,17 @@
 -- Files that are kept under their names, and what is asked of them.
-use Rattle.std.proofs.Common.{◌≡◌, ⊎_elim, ℕ, ◌≤◌, true, List, [], ◌∷◌, ◌++◌, length, None, Some, refl, sym, ◌∙◌, ap, subst}
+use Rattle.std.proofs.Common.{◌≡◌, ⊎_elim, ℕ, zero, suc, ◌*◌, ◌^◌, ◌<◌, ◌≤◌, true, List, [], ◌∷◌, ◌++◌, length, None, Some, refl, sym, ◌∙◌, ap, subst, arith}
 use Rattle.std.specs.Map.{keys_of, values_of}
 use Rattle.std.proofs.lemmas.List.{map_push}
 use Rattle.cms_names.specs.declared.name.Name.{Name}
 use Rattle.cms_names.specs.declared.name.Format.TheVariants.{F}
-use Rattle.cms_fields.specs.Entries.{passes}
+use Rattle.cms_fields.specs.Entries.{fan_of, passes}
 use Rattle.cms_fields.specs.declared.entry.Entry.{Entry}
-use Rattle.cms_records.specs.declared.sizes.VarSizes.{VarSizes}
+use Rattle.cms_model.specs.Sizes.{pointer_count}
+use Rattle.cms_edf.specs.declared.contents.RecordsTold.{RecordsTold}
 use Rattle.cms_tree.specs.Walks.{AreWithin}
 use Rattle.cms_tree.specs.declared.types.Walked.{Walked}
 use Rattle.cms_held.specs.Opening.{HeldFile, Holding, by_name, names_in}
-use Rattle.cms_edf.specs.EntryShapes.{HasSize}
+use Rattle.cms_edf.specs.EntryShapes.{EndsIn, HasSize}
 use Rattle.cms_held.specs.Kept.{IsKeptFile}
 use Rattle.cms_edf.proofs.RecordsRead.{made}
 
@@ -36,17 +37,31 @@ named_next es es' f is named =
     is ∙ (ap (λ (l : List (Name × HeldFile)). l ++ ((f.entry.name, f) ∷ [])) named
     ∙ (sym (map_push (λ (g : HeldFile). (g.entry.name, g)) (values_of es) f) ∙ ap by_name (sym (values_next es es' f is))))
 
+-- so many data blocks hold bytes that end in the last of them
+counted : (n bsize stored : ℕ) → EndsIn bsize n stored → n * bsize ≤ 67108864 → (1 ≤ n) × (n < 2 ^ 32)
+counted zero bsize stored ends room = let high = ends.1 in let low = ends.0 in absurd (omega arith)
+counted (suc n) zero stored ends room = let high = ends.1 in let low = ends.0 in absurd (omega arith)
+counted (suc n) (suc b) stored ends room = (omega arith, omega arith)
+
 -- a file that was read is one that is kept
-pub file_kept : (bsize total : ℕ) (e : Entry) (w : Walked) (sizes : VarSizes) (f : HeldFile) → f ≡ made e w sizes → passes bsize e ≡ true → HasSize bsize e → length w.leaves.items ≡ e.blocks
-    → AreWithin total None w.leaves.items → 1 ≤ sizes.longest → sizes.longest ≤ 65535 → (e.format ≡ F → sizes.longest ≡ e.length) → sizes.stored ≤ 67108864 → IsKeptFile bsize total f
-file_kept bsize total e w sizes f is passing size count within some short fixed stored =
+pub file_kept : (bsize total : ℕ) (e : Entry) (w : Walked) (told : RecordsTold) (f : HeldFile) → f ≡ made e w told → passes bsize e ≡ true → HasSize bsize e → length w.leaves.items ≡ e.blocks
+    → length w.pointers.items ≡ pointer_count (fan_of bsize e.format) e.blocks
+    → AreWithin total None w.leaves.items → AreWithin total None w.pointers.items → 1 ≤ told.sizes.longest → told.sizes.longest ≤ 65535 → (e.format ≡ F → told.sizes.longest ≡ e.length) → told.sizes.stored ≤ 67108864
+    → EndsIn bsize (length w.leaves.items) told.sizes.stored → IsKeptFile bsize total f
+file_kept bsize total e w told f is passing size count nodes within nodes_within some short fixed stored ends =
+    let room : length w.leaves.items * bsize ≤ 67108864 = rw count size.room in
+    let n = counted (length w.leaves.items) bsize told.sizes.stored ends room in
     subst (IsKeptFile bsize total) (sym is) (record {
       entry = passing;
       count = count;
       within = λ n in'. ⊎_elim (λ (b : (6 ≤ n) × (n ≤ total)). b) (λ (no : None ≡ Some n). absurd (cc no)) (within n in');
-      room = rw count size.room;
+      nodes_within = λ n in'. ⊎_elim (λ (b : (6 ≤ n) × (n ≤ total)). b) (λ (no : None ≡ Some n). absurd (cc no)) (nodes_within n in');
+      room = room;
       some = some;
       short = short;
       fixed = fixed;
       size = stored;
+      shape = record { some = n.0; few = n.1; nodes = nodes ∙ ap (pointer_count (fan_of bsize e.format)) (sym count) };
+      low = ends.0;
+      high = ends.1;
     })

@@ -8,6 +8,7 @@ use Rattle.cms_journal.specs.declared.event.Event.TheVariants.{Wrote, Synced}
 use Rattle.cms_journal.specs.declared.event.Attached.{Attached}
 use Rattle.cms_journal.specs.Journal.{HasBlocks, Journal, MayAdd}
 use Rattle.cms_journal.specs.Told.{Told, plus}
+use Rattle.cms_fields.specs.Numbers.{up}
 use Rattle.cms_fields.specs.declared.label.Label.{Label}
 use Rattle.cms_fields.specs.declared.time.Stamp.{Stamp}
 use Rattle.cms_model.specs.Changes.{Change, Changed, Relabel, answer_of, changed, need}
@@ -175,15 +176,21 @@ edit_keeps v change stamp e e' s s' same_e same_s p f there =
 pub label_keeps : (v : HeldVolume) (volid : List ℕ) (label : Label) (bytes bytes' : List ℕ) → bytes' ≡ bytes → IsReadyLabel v volid label bytes → Keeps (with_label_bytes v label bytes')
 label_keeps v volid label bytes bytes' same r =
     let k = r.kept in
-    let at = k.within in let size = k.size in let low = k.origin_low in let high = k.origin_high in
+    let at = k.within in let size = k.size in let small = k.small in let low = k.origin_low in let high = k.origin_high in
     let blocks = ap (λ (l : Label). l.blocks) r.label_is in
     let origin = ap (λ (l : Label). l.origin) r.label_is in
     record {
       within = omega arith;
       size = omega arith;
+      small = omega arith;
+      sized = k.sized;
       origin_low = omega arith;
       origin_high = omega arith;
       label_long = ap (λ (l : List ℕ). length l) same ∙ r.bytes_long;
+      directory_shape = k.directory_shape;
+      directory_is = k.directory_is;
+      map_shape = k.map_shape;
+      map_is = k.map_is ∙ ap (λ (n : ℕ). up (up n 8) v.disk.bsize) (sym blocks);
       bits_are = k.bits_are ∙ sym blocks;
       few = k.few;
       each = subst (λ (n : ℕ). All (IsKeptFile v.disk.bsize n) v.files) (sym blocks) k.each;
@@ -212,21 +219,29 @@ carries_out j old new v w m change stamp s (Ok x) is held p done leads stop =
 carries_out j old new v w m change stamp s (Err why) is held p done leads stop =
     stopped j new v w m change stamp s why (plan_keeps v change stamp s p) held p (subst (λ (t : Told). IsStopped t new v s why) is stop)
 
--- the same of an edit, and of a label, that were taken out of their plan
-pub edit_out : (j : Journal) (old new : Told) (v w : HeldVolume) (m : Minidisk) (change : Change) (stamp : Stamp) (plan : Step) (e e' : FileEdit) (s s' : Systems) (r : Result ⊤ Doubt) → old ≡ Some j
-    → IsHeldMinidisk j v m → IsPlanFor v change stamp plan → plan ≡ step.Edit e s → e' ≡ e → s' ≡ s → UpdatesSystems old new v.unit s' r
-    → OnOk r ((f : HeldFile) → slice_get v.files (place_of e') ≡ Some f → w ≡ renewed v (edit_of v.files e' f) s') → CarriesOut j new v w m change plan r
-edit_out j old new v w m change stamp plan e e' s s' r is held p there same_e same_s ups leads =
+-- what is told of an edit that was taken out of its plan
+pub record IsCarried (old new : Told) (v w : HeldVolume) (plan : Step) (r : Result ⊤ Doubt) : Type 0 where
+  pub done : OnOk r (new ≡ plus old (step_events v plan))
+  pub cut_off : IfErr r (IsStopped old new v plan)
+  pub volume : OnOk r (LeadsTo v plan w)
+
+pub edit_carried : (old new : Told) (v w : HeldVolume) (change : Change) (stamp : Stamp) (plan : Step) (e e' : FileEdit) (s s' : Systems) (r : Result ⊤ Doubt) → IsPlanFor v change stamp plan
+    → plan ≡ step.Edit e s → e' ≡ e → s' ≡ s → UpdatesSystems old new v.unit s' r
+    → OnOk r ((f : HeldFile) → slice_get v.files (place_of e') ≡ Some f → w ≡ renewed v (edit_of v.files e' f) s') → IsCarried old new v w plan r
+edit_carried old new v w change stamp plan e e' s s' r p there same_e same_s ups leads =
     let q : IsEditFor v change stamp e s = subst (IsPlanFor v change stamp) there p in
     let size : system_writes (length s.label_bytes) s ≡ writes_of v s = ap (λ (n : ℕ). system_writes n s) q.label_long in
     let ups' : Updates old new v.unit (writes_of v s) s.label_bytes r = subst (λ (ws : List Write). Updates old new v.unit ws s.label_bytes r) size
     (subst (λ (x : Systems). UpdatesSystems old new v.unit x r) same_s ups) in
     let leads' = subst (λ (x : FileEdit). OnOk r ((f : HeldFile) → slice_get v.files (place_of x) ≡ Some f → w ≡ renewed v (edit_of v.files x f) s)) same_e
     (subst (λ (x : Systems). OnOk r ((f : HeldFile) → slice_get v.files (place_of e') ≡ Some f → w ≡ renewed v (edit_of v.files e' f) x)) same_s leads) in
-    subst (λ (x : Step). CarriesOut j new v w m change x r) (sym there)
-    (carries_out j old new v w m change stamp (step.Edit e s) r is held q (updates_done old new v.unit (writes_of v s) s.label_bytes r ups') leads'
-    (updates_cut old new v.unit (writes_of v s) s.label_bytes r ups'))
+    subst (λ (x : Step). IsCarried old new v w x r) (sym there) (record {
+      done = updates_done old new v.unit (writes_of v s) s.label_bytes r ups';
+      cut_off = updates_cut old new v.unit (writes_of v s) s.label_bytes r ups';
+      volume = leads';
+    })
 
+-- and of a label
 pub label_out : (j : Journal) (old new : Told) (v w : HeldVolume) (m : Minidisk) (change : Change) (stamp : Stamp) (plan : Step) (label : Label) (bytes : Vec ℕ Global) (bytes' : List ℕ)
     (r : Result ⊤ Doubt)
     → old ≡ Some j → IsHeldMinidisk j v m → IsPlanFor v change stamp plan → plan ≡ step.Relabel label bytes → OnOk r (new ≡ plus old (relabel v.unit bytes'))

@@ -1,5 +1,5 @@
 -- What the directory says, test by test.
-use Rattle.std.proofs.Common.{◌≡◌, ◌⊎◌, inl, inr, ℕ, zero, suc, ◌-◌, ◌/◌, ◌<◌, ◌≤◌, List, [], ◌∷◌, length, drop, slice_index, slice_get, IsSomeAnd, Option, Some, None, Result, Ok, Err, refl, sym, ◌∙◌, subst, arith}
+use Rattle.std.proofs.Common.{◌≡◌, ◌⊎◌, inl, inr, ℕ, zero, suc, ◌-◌, ◌/◌, ◌<◌, ◌≤◌, List, [], ◌∷◌, length, drop, slice_index, slice_get, IsSomeAnd, Option, Some, None, Result, Ok, Err, refl, sym, ◌∙◌, subst, arith, ap, ◌*◌, ◌+◌}
 use Rattle.std.proofs.lemmas.Option.{same_Some}
 use Rattle.cms_names.specs.declared.name.Format.TheVariants.{F}
 use Rattle.cms_fields.specs.declared.entry.Entry.{Entry}
@@ -10,7 +10,12 @@ use Rattle.cms_model.specs.Systems.{SystemFile, directory_of, map_of}
 use Rattle.cms_model.specs.Volumes.{entries_of, first_twice, absent}
 use Rattle.cms_model.specs.declared.fault.OpenFault.{OpenFault}
 use Rattle.cms_model.specs.declared.fault.OpenFault.TheVariants as failed
-use Rattle.cms_journal.specs.Journal.{Journal, HasBlock, HasBlocks, contents_of}
+use Rattle.cms_journal.specs.Journal.{Journal, HasBlock, HasBlocks, IsBlockSize, contents_of}
+use Rattle.cms_journal.proofs.Sizes.{block_bounds}
+use Rattle.cms_fields.specs.Numbers.{up}
+use Rattle.cms_model.specs.DirectoryParts.{directory_count}
+use Rattle.cms_model.proofs.MinidiskSizes.{directory_fits, map_fits}
+use Rattle.cms_model.proofs.Quotients.{up_unique}
 use Rattle.cms_tree.specs.Walks.{tree_at, image_at, IsWithin}
 use Rattle.cms_tree.specs.declared.types.TreeAt.{TreeAt}
 use Rattle.cms_tree.specs.declared.types.Walked.{Walked}
@@ -124,6 +129,18 @@ leaf_block j unit total origin bsize walked leaves k same less some at within ha
 
 pub few_files : (count n : ℕ) → n ≡ count - 2 → count ≤ 16386 → n ≤ 16384
 few_files count n is few = omega arith
+
+-- how many data blocks the directory and the map have
+pub counts_are : (bsize origin total n : ℕ) (first second : List ℕ) (directory map' : SystemFile) → IsBlockSize bsize → directory_of bsize origin first ≡ Ok directory
+    → map_of bsize total second ≡ Ok map' → n ≡ directory.count - 2 → (directory.blocks ≡ directory_count bsize n) × (map'.blocks ≡ up (up total 8) bsize)
+counts_are bsize origin total n first second directory map' size is_directory is_map count =
+    let d = directory_fits bsize origin first directory is_directory in
+    let m = map_fits bsize total second map' is_map in
+    let low = d.low in
+    let least = (block_bounds bsize size).0 in
+    let bytes : directory.count * 64 ≡ 64 * (n + 2) = omega arith in
+    let exact : map'.count ≡ up (map'.count * bsize) bsize = up_unique (map'.count * bsize) bsize map'.count (omega arith) (omega arith) (omega arith) in
+    (d.fits.blocks ∙ ap (λ (k : ℕ). up k bsize) bytes, m.fits.blocks ∙ (sym exact ∙ m.count))
 
 -- the map's tree, as it was walked
 pub map_read : (place : Place) (j : Journal) (s : SystemFile) (at : TreeAt) (result : Result Walked OpenFault) → s.levels ≡ levels (place.bsize / 4) s.blocks → at ≡ system_at place s None

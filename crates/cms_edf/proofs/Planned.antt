@@ -1,18 +1,20 @@
 -- What is planned for an edit is ready, and the volume after it is held.
-use Rattle.std.proofs.Common.{◌≡◌, ◌⊎◌, ⊎_elim, inl, inr, ℕ, zero, suc, ◌+◌, ◌-◌, ◌*◌, ◌^◌, ◌<◌, ◌≤◌, Bool, true, List, [], ◌∷◌, ◌++◌, length, map, take, drop, slice_get, get_or, All, None, Some, refl, sym, ◌∙◌, ap, subst, arith, append-nil, replicate, append_assoc, length-append}
-use Rattle.std.proofs.lemmas.List.{length-map, length-replicate, length-set, map-set, nil_from_length}
+use Rattle.std.proofs.Common.{◌≡◌, ◌⊎◌, ⊎_elim, inl, inr, ℕ, zero, suc, ◌+◌, ◌-◌, ◌*◌, ◌/◌, ◌^◌, ◌<◌, ◌≤◌, Bool, true, List, [], ◌∷◌, ◌++◌, length, take, drop, slice_get, get_or, All, None, Some, Result, Ok, Err, refl, sym, ◌∙◌, ap, subst, arith}
+use Rattle.std.proofs.lemmas.List.{length-map, length-set, map-set, nil_from_length}
 use Rattle.std.proofs.lemmas.List.Elements.{All-nil, All-cons, All-get_or, All-head, All-tail, All-set, All-append, All-take}
 use Rattle.std.proofs.lemmas.Option.{get_or_from_slice_get, same_Some, slice_get-map, slice_get_within}
-use Rattle.cms_journal.specs.Journal.{IsBlockSize}
 use Rattle.cms_journal.proofs.Sizes.{block_bounds}
 use Rattle.cms_names.specs.declared.name.Name.{Name}
-use Rattle.cms_fields.specs.Entries.{entry_bytes, passes}
+use Rattle.cms_fields.specs.Entries.{passes}
 use Rattle.cms_fields.specs.Numbers.{up}
 use Rattle.cms_fields.specs.Stamps.{is_stamp}
 use Rattle.cms_fields.specs.declared.entry.Entry.{Entry}
 use Rattle.cms_fields.specs.declared.label.Label.{Label}
 use Rattle.cms_fields.specs.declared.time.Stamp.{Stamp}
+use Rattle.cms_model.specs.DirectoryParts.{blocks_made, directory_count}
 use Rattle.cms_model.specs.Lists.{In}
+use Rattle.cms_model.specs.Sharing.{MayBeWritten}
+use Rattle.cms_model.specs.Sizes.{map_size, pointer_count}
 use Rattle.cms_map.specs.Bits.{free_blocks, with_marked}
 use Rattle.cms_map.proofs.Free.{free_are_unused, length-with_marked}
 use Rattle.cms_held.specs.Opening.{HeldFile, HeldTree, HeldVolume, names_in}
@@ -21,26 +23,34 @@ use Rattle.cms_model.specs.Minidisks.{same_name}
 use Rattle.cms_model.proofs.Changing.{name_from}
 use Rattle.std.proofs.lemmas.List.Quantifiers.{position-Some}
 use Rattle.cms_held.specs.Kept.{IsKeptFile, Keeps}
-use Rattle.cms_held.specs.Systems.{Systems, directory_bytes_of, directory_file, map_file, system_entry}
-use Rattle.cms_held.specs.Written.{CanWrite, ReadsBack, directory_name, file_entries, map_name}
-use Rattle.cms_held.proofs.EntryBytes.{length_entries}
-use Rattle.cms_edf.specs.Doubts.{IsReady}
+use Rattle.cms_held.specs.Allotting.{IsPartAllotted, part_fresh, part_released, parts_of}
+use Rattle.cms_held.specs.SharedBlocks.{fresh_of}
+use Rattle.cms_held.specs.Systems.{Systems, TreePart}
+use Rattle.cms_held.specs.Written.{CanWrite, ReadsBack}
+use Rattle.cms_held.proofs.KeptTrees.{nodes_are}
+use Rattle.cms_held.specs.MapShares.{turned}
+use Rattle.cms_edf.specs.Allotting.{IsAllottedFor, all_fresh, all_released, given_back, need_of, own_fresh, own_released}
+use Rattle.cms_edf.specs.Doubts.{AreAt, IsReady}
 use Rattle.cms_edf.specs.Writing.{IsBlockOf}
-use Rattle.cms_held.specs.Renewing.{Edit, IsAllotted, blocks_in, dropping, entries_held, fresh, released, renamed, renaming, renewed}
+use Rattle.cms_held.specs.Renewing.{Edit, blocks_in, dropping, entries_held, renamed, renaming, renewed}
 use Rattle.cms_held.specs.Carrying.{IsEditOf, IsReadyFor, drops, renames}
-use Rattle.cms_edf.specs.Planning.{AreSystemsFor, Edited, IsEditFor, IsPlanFor, IsPrepared, IsReadyAt, IsRelabelOf, IsStepOf, MayEdit, count_after, edit_of, edited, place_in, place_of}
+use Rattle.cms_edf.specs.Planning.{AreEnoughFor, Edited, IsEditFor, IsFilled, IsPlanFor, IsPrepared, IsReadyAt, IsRelabelOf, IsStepOf, MayEdit, count_after, edit_of, edited, made_by, place_in, place_of}
+use Rattle.cms_edf.specs.declared.allotment.Allotment.{Allotment}
+use Rattle.cms_edf.specs.declared.allotment.Exchange.{Exchange}
 use Rattle.cms_edf.specs.declared.change.FileEdit.{FileEdit}
 use Rattle.cms_edf.specs.declared.change.FileEdit.TheVariants as does
 use Rattle.cms_edf.specs.declared.step.Step.{Step}
 use Rattle.cms_edf.specs.declared.step.Step.TheVariants as planned
-use Rattle.std.specs.Prelude.{option_map}
+use Rattle.std.specs.Prelude.{IfOk, option_map}
 use Rattle.cms_held.proofs.Allotting.{directory_small, directory_some, map_some}
 use Rattle.cms_held.proofs.Edits.{passes_renamed}
 use Rattle.cms_held.proofs.MapMarks.{length_freed}
 use Rattle.cms_held.proofs.Removing.{All-removed, length-removed, map-removed}
+use Rattle.cms_edf.proofs.AllottedParts.{planned_of}
+use Rattle.cms_edf.proofs.PartsReady.{IsAt, at_fresh, fresh_first, map_may}
 use Rattle.cms_edf.proofs.PlanParts.{one_more}
 use Rattle.cms_model.proofs.FileSizes.{passing}
-use Rattle.cms_model.proofs.Quotients.{up_spec}
+use Rattle.cms_model.proofs.Quotients.{up_below, up_some, up_spec}
 
 -- ---- entries
 
@@ -55,74 +65,11 @@ can_write_all bsize total (f ∷ fs) all =
     All-cons CanWrite f.entry (entries_held fs) (can_write bsize f.entry (All-head (IsKeptFile bsize total) f fs all).entry)
     (can_write_all bsize total fs (All-tail (IsKeptFile bsize total) f fs all))
 
--- entries one behind another
-entries_joined : (xs ys : List Entry) → file_entries (xs ++ ys) ≡ file_entries xs ++ file_entries ys
-unfolding file_entries
-entries_joined [] ys = refl
-entries_joined (x ∷ xs) ys = ap (λ (l : List ℕ). entry_bytes x ++ l) (entries_joined xs ys) ∙ sym (append_assoc (entry_bytes x) (file_entries xs) (file_entries ys))
-
-one_entry : (e : Entry) → file_entries (e ∷ []) ≡ entry_bytes e
-unfolding file_entries
-one_entry e = append-nil (entry_bytes e)
-
-pub no_entry : (old : List ℕ) (es : List Entry) → old ≡ old ++ file_entries (take 0 es)
-unfolding file_entries
-no_entry old es = sym (append-nil old)
-
-pub more_bytes : (old now new : List ℕ) (es : List Entry) (k : ℕ) (e : Entry) → slice_get es k ≡ Some e → now ≡ old ++ file_entries (take k es) → new ≡ now ++ entry_bytes e
-    → new ≡ old ++ file_entries (take (k + 1) es)
-more_bytes old now new es k e there before after =
-    let more : take (k + 1) es ≡ take k es ++ e ∷ [] = one_more es k e there in
-    after ∙ (ap (λ (l : List ℕ). l ++ entry_bytes e) before ∙ (append_assoc old (file_entries (take k es)) (entry_bytes e)
-    ∙ ap (λ (l : List ℕ). old ++ l) (ap (λ (l : List ℕ). file_entries (take k es) ++ l) (sym (one_entry e)) ∙ (sym (entries_joined (take k es) (e ∷ [])) ∙ ap file_entries (sym more)))))
-
+-- entries that spell themselves, one more
 pub more_back : (es : List Entry) (k : ℕ) (e : Entry) → slice_get es k ≡ Some e → All ReadsBack (take k es) → ReadsBack e → All ReadsBack (take (k + 1) es)
 more_back es k e there all one =
     subst (All ReadsBack) (sym (one_more es k e there))
     (All-append ReadsBack (take k es) (e ∷ []) all (All-cons ReadsBack e [] one (All-nil ReadsBack)))
-
--- the entries of the directory and the map come first
-pub first_two : (own map old two : List ℕ) → old ≡ [] → two ≡ old ++ (own ++ map) → two ≡ own ++ map
-first_two own map old two none is = is ∙ ap (λ (l : List ℕ). l ++ (own ++ map)) none
-
-pub first_long : (old two : List ℕ) → old ≡ [] → length two ≡ length old + 128 → length two ≡ 128
-first_long old two none is = is ∙ ap (λ (l : List ℕ). length l + 128) none
-
--- the bytes of a directory, put together
-pub bytes_are : (bsize : ℕ) (s : Systems) (es : List Entry) (stamp : Stamp) (own map two all whole : List ℕ) (size : ℕ)
-    → own ≡ system_entry directory_name 64 (directory_file bsize s (length es)) stamp
-    → map ≡ system_entry map_name bsize (map_file bsize s) stamp → two ≡ own ++ map → length two ≡ 128 → all ≡ two ++ file_entries es → All ReadsBack es → size ≡ length s.directory.leaves * bsize
-    → whole ≡ all ++ replicate (size - length all) 0 → whole ≡ directory_bytes_of bsize s es stamp
-unfolding directory_bytes_of
-bytes_are bsize s es stamp own map two all whole size is_own is_map is_two long is_all back is_size is =
-    let bytes = length_entries es back in
-    let count : length all ≡ 64 * (length es + 2) = ap length is_all ∙ omega (arith, length-append two (file_entries es)) in
-    let zeros : size - length all ≡ length s.directory.leaves * bsize - 64 * (length es + 2) = omega arith in
-    is ∙ (ap (λ (n : ℕ). all ++ replicate n 0) zeros ∙ (ap (λ (l : List ℕ). l ++ replicate (length s.directory.leaves * bsize - 64 * (length es + 2)) 0)
-    (is_all ∙ ap (λ (l : List ℕ). l ++ file_entries es) is_two)
-    ∙ (regroup own map (file_entries es) (replicate (length s.directory.leaves * bsize - 64 * (length es + 2)) 0)
-    ∙ (ap (λ (l : List ℕ). l ++ (map ++ (file_entries es ++ replicate (length s.directory.leaves * bsize - 64 * (length es + 2)) 0))) is_own
-    ∙ ap (λ (l : List ℕ). system_entry directory_name 64 (directory_file bsize s (length es)) stamp
-    ++ (l ++ (file_entries es ++ replicate (length s.directory.leaves * bsize - 64 * (length es + 2)) 0))) is_map))))
-  where
-    regroup : (a b c d : List ℕ) → ((a ++ b) ++ c) ++ d ≡ a ++ (b ++ (c ++ d))
-    regroup a b c d = simp append_assoc
-
--- they end within its last block
-pub whole_enough : (bsize n size : ℕ) (two all : List ℕ) (es : List Entry) → 1 ≤ bsize → n ≡ up (64 * (length es + 2)) bsize → length two ≡ 128 → all ≡ two ++ file_entries es → All ReadsBack es
-    → size ≡ n * bsize → length all ≤ size
-whole_enough bsize n size two all es some is long is_all back is_size =
-    let bytes = length_entries es back in
-    let count : length all ≡ 64 * (length es + 2) = ap length is_all ∙ omega (arith, length-append two (file_entries es)) in
-    let enough = (up_spec (64 * (length es + 2)) bsize some).0 in
-    let same : n * bsize ≡ up (64 * (length es + 2)) bsize * bsize = ap (λ (k : ℕ). k * bsize) is in
-    omega arith
-
--- and fill it
-pub whole_long : (all whole : List ℕ) (size : ℕ) → length all ≤ size → whole ≡ all ++ replicate (size - length all) 0 → length whole ≡ size
-whole_long all whole size enough is =
-    let both = ap length is in
-    omega (arith, length-append all (replicate (size - length all) 0), length-replicate {A = ℕ} (size - length all) 0)
 
 -- the entries of the edited files are the edited entries
 pub edited_are : (fs : List HeldFile) (e : FileEdit) (f : HeldFile) → slice_get fs (place_of e) ≡ Some f → entries_held (edit_of fs e f).files ≡ edited (entries_held fs) e f.entry
@@ -143,11 +90,15 @@ kept_renamed bsize total f to number small k = record {
   entry = passes_renamed bsize f.entry to number small k.entry;
   count = k.count;
   within = k.within;
+  nodes_within = k.nodes_within;
   room = k.room;
   some = k.some;
   short = k.short;
   fixed = k.fixed;
   size = k.size;
+  shape = k.shape;
+  low = k.low;
+  high = k.high;
 }
 
 kept_at : (P : HeldFile → Type 0) (fs : List HeldFile) (k : ℕ) (f : HeldFile) → slice_get fs k ≡ Some f → All P fs → P f
@@ -203,27 +154,50 @@ edited_of v e before entries kept may had edits =
 
 -- ---- the volume after an edit
 
-pub new_bits : (v : HeldVolume) (files : ℕ) (given taken : List ℕ) (directory map : HeldTree) (bits : List Bool) → IsAllotted v files given taken directory map bits → length bits ≡ length v.bits
-new_bits v files given taken directory map bits a =
-    ap length a.marks ∙ (length_freed (released v given) (with_marked (fresh taken directory map) v.bits) ∙ length-with_marked (fresh taken directory map) v.bits)
+pub new_bits : (v : HeldVolume) (edit : Edit) (s : Systems) → IsPartAllotted v edit s (parts_of s) → length s.bits ≡ length v.bits
+new_bits v edit s a =
+    ap length a.marks ∙ (length_freed (part_released v edit s (parts_of s)) (with_marked (part_fresh v edit s (parts_of s)) v.bits) ∙ length-with_marked (part_fresh v edit s (parts_of s)) v.bits)
 
--- in place of the files that were made ready other such files may stand
-pub ready_keeps : (v : HeldVolume) (edit ready : Edit) (stamp : Stamp) (s : Systems) → IsReadyFor v ready stamp s → length s.label_bytes ≡ v.disk.bsize → length edit.files ≤ 16384
-    → All (IsKeptFile v.disk.bsize v.label.blocks) edit.files → Keeps (renewed v edit s)
-ready_keeps v edit ready stamp s r long few each =
+-- the map that was allotted has as many
+pub allotted_bits : (v : HeldVolume) (x : Exchange) (a : Allotment) → IsAllottedFor v x a → length a.map ≡ length v.bits
+allotted_bits v x a al = ap length al.marks ∙ (length_freed (all_released v x a) (with_marked (all_fresh v a) v.bits) ∙ length-with_marked (all_fresh v a) v.bits)
+
+-- in place of the files that were made ready as many other such files may stand
+pub ready_keeps : (v : HeldVolume) (edit ready : Edit) (stamp : Stamp) (s : Systems) → IsReadyFor v ready stamp s → length s.label_bytes ≡ v.disk.bsize → length ready.files ≤ 16384
+    → length edit.files ≡ length ready.files → All (IsKeptFile v.disk.bsize v.label.blocks) edit.files → Keeps (renewed v edit s)
+ready_keeps v edit ready stamp s r long most same each =
     let k = r.kept in
     let low = k.origin_low in let high = k.origin_high in
     let blocks : s.label.blocks ≡ v.label.blocks = ap (λ (l : Label). l.blocks) r.planned.label in
     let origin : s.label.origin ≡ 9 - v.label.origin = ap (λ (l : Label). l.origin) r.planned.label in
     let total = k.within in let some = k.size in
+    let small = k.small in
+    let room = (block_bounds v.disk.bsize k.sized).0 in
+    let fan : 1 ≤ v.disk.bsize / 4 = omega arith in
+    let a = r.planned.blocks in
+    let count = length ready.files in
+    let d = a.directory_is in
+    let m = a.map_is in
+    let d_some = up_some (64 * (count + 2)) v.disk.bsize (omega arith) (omega arith) in
+    let d_few = up_below (64 * (count + 2)) v.disk.bsize (omega arith) in
+    let bytes_some = up_some v.label.blocks 8 (omega arith) (omega arith) in
+    let bytes_few = up_below v.label.blocks 8 (omega arith) in
+    let m_some = up_some (up v.label.blocks 8) v.disk.bsize (omega arith) bytes_some in
+    let m_few = up_below (up v.label.blocks 8) v.disk.bsize (omega arith) in
     record {
       within = omega arith;
       size = omega arith;
+      small = omega arith;
+      sized = k.sized;
       origin_low = omega arith;
       origin_high = omega arith;
       label_long = long;
-      bits_are = new_bits v (length ready.files) ready.given ready.taken s.directory s.map s.bits r.planned.blocks ∙ (k.bits_are ∙ sym blocks);
-      few = few;
+      directory_shape = record { some = omega arith; few = omega arith; nodes = nodes_are (v.disk.bsize / 4) s.directory_part.leaves v.directory s.directory fan a.directory };
+      directory_is = a.directory_is ∙ ap (directory_count v.disk.bsize) (sym same);
+      map_shape = record { some = omega arith; few = omega arith; nodes = nodes_are (v.disk.bsize / 4) s.map_part.leaves v.map s.map fan a.map };
+      map_is = a.map_is ∙ ap (λ (n : ℕ). up (up n 8) v.disk.bsize) (sym blocks);
+      bits_are = new_bits v ready s r.planned.blocks ∙ (k.bits_are ∙ sym blocks);
+      few = omega arith;
       each = subst (λ (n : ℕ). All (IsKeptFile v.disk.bsize n) edit.files) (sym blocks) each;
     }
 
@@ -232,44 +206,34 @@ pub renewed_keeps : (v : HeldVolume) (e : FileEdit) (f : HeldFile) (stamp : Stam
 renewed_keeps v e f stamp s may there r long =
     let count = count_is v.files e f in
     let few = count_few v.files e r.kept.few in
-    ready_keeps v (edit_of v.files e f) (edit_of v.files e f) stamp s r long (omega arith) (edited_kept v.disk.bsize v.label.blocks v.files e f there may r.kept.each)
+    ready_keeps v (edit_of v.files e f) (edit_of v.files e f) stamp s r long (omega arith) refl (edited_kept v.disk.bsize v.label.blocks v.files e f there may r.kept.each)
 
 -- ---- what is prepared
 
--- the edit's own blocks
-pub nothing_taken : (v : HeldVolume) (files : ℕ) (given taken : List ℕ) (directory map : HeldTree) (bits : List Bool) → length taken ≡ 0 → IsAllotted v files given taken directory map bits
-    → IsAllotted v files given [] directory map bits
-nothing_taken v files given taken directory map bits none a = subst (λ (l : List ℕ). IsAllotted v files given l directory map bits) (nil_from_length taken none) a
-
--- what is written for the entries of an edit is ready, where its blocks are allotted
-pub ready_of : (v : HeldVolume) (edit : Edit) (entries : List Entry) (stamp : Stamp) (s : Systems) → Keeps v → is_stamp stamp ≡ true
-    → IsAllotted v (length edit.files) edit.given edit.taken s.directory s.map s.bits → AreSystemsFor v entries stamp s → entries_held edit.files ≡ entries → IsReadyFor v edit stamp s
-ready_of v edit entries stamp s kept stamped blocks a are = record {
-  kept = kept;
-  stamped = stamped;
-  planned = record {
-    blocks = blocks;
-    label = a.label;
-    label_bytes = a.label_bytes;
-    directory_bytes = subst (λ (es : List Entry). s.directory_bytes ≡ directory_bytes_of v.disk.bsize s es stamp) (sym are) a.directory_bytes;
-  };
-  long = a.long;
-  back = subst (All ReadsBack) (sym are) a.back;
-}
-
 -- what is prepared for the entries of an edit is ready
-pub ready_for : (v : HeldVolume) (edit : Edit) (entries : List Entry) (given : List ℕ) (stamp : Stamp) (s : Systems) → Keeps v → is_stamp stamp ≡ true → IsPrepared v entries given stamp s
-    → entries_held edit.files ≡ entries → edit.given ≡ given → edit.taken ≡ [] → IsReadyFor v edit stamp s
-ready_for v edit entries given stamp s kept stamped p are gives takes =
-    let count : length entries ≡ length edit.files = sym (ap length are) ∙ entries_count edit.files in
-    ready_of v edit entries stamp s kept stamped
-    (subst (λ (l : List ℕ). IsAllotted v (length edit.files) edit.given l s.directory s.map s.bits) (sym takes)
-    (subst (λ (l : List ℕ). IsAllotted v (length edit.files) l [] s.directory s.map s.bits) (sym gives) (subst (λ (n : ℕ). IsAllotted v n given [] s.directory s.map s.bits) count p.blocks)))
-    p.systems are
+pub ready_for : (v : HeldVolume) (edit : Edit) (entries : List Entry) (x : Exchange) (stamp : Stamp) (s : Systems) → Keeps v → is_stamp stamp ≡ true → IsPrepared v entries x stamp s
+    → entries_held edit.files ≡ entries → edit.made ≡ x.made.now → edit.given ≡ given_back x → edit.taken ≡ [] → IsReadyFor v edit stamp s
+ready_for v edit entries x stamp s kept stamped p are made gives takes =
+    record { kept = kept; stamped = stamped; planned = p.planned edit are made gives takes; back = subst (All ReadsBack) (sym are) p.back }
+
+-- what is written in the blocks that are allotted is prepared
+pub prepared_of : (v : HeldVolume) (x : Exchange) (a : Allotment) (entries : List Entry) (stamp : Stamp) (s : Systems) → IsAllottedFor v x a → IsFilled v entries a stamp s → x.files ≡ length entries → x.file ≡ 0
+    → AreEnoughFor v entries x → need_of v x ≤ length (free_blocks v.bits) → IsPrepared v entries x stamp s
+prepared_of v x a entries stamp s allotted filled count none enough room = record {
+  label_long = filled.systems.label_long;
+  back = filled.systems.back;
+  planned = λ edit are made gives takes. planned_of v x a entries edit stamp s allotted filled
+      (record { entries_are = are; files = count; made = made; given = gives; taken = takes ∙ sym (nil_from_length a.file.items (allotted.file ∙ none)) }) enough room;
+}
 
 none_taken : (fs : List HeldFile) (e : FileEdit) (f : HeldFile) → (edit_of fs e f).taken ≡ []
 none_taken fs (does.Drop place) f = refl
 none_taken fs (does.Rename place to number) f = refl
+
+-- the entries that it makes anew
+pub made_is : (fs : List HeldFile) (e : FileEdit) (f : HeldFile) → (edit_of fs e f).made ≡ made_by fs e
+made_is fs (does.Drop place) f = refl
+made_is fs (does.Rename place to number) f = refl
 
 -- what a drop gives back, and a renaming
 pub given_drop : (v : HeldVolume) (e : FileEdit) (place : ℕ) (f file : HeldFile) → e ≡ does.Drop place → slice_get v.files place ≡ Some f → slice_get v.files (place_of e) ≡ Some file
@@ -283,13 +247,18 @@ pub given_rename : (v : HeldVolume) (e : FileEdit) (place : ℕ) (to : Name) (nu
 given_rename v e place to number file is = ap (λ (x : FileEdit). (edit_of v.files x file).given) is
 
 -- what is prepared for the edited entries is ready
-pub ready_at : (v : HeldVolume) (e : FileEdit) (stamp : Stamp) (s : Systems) (entries : List Entry) (given : List ℕ) → Keeps v → is_stamp stamp ≡ true → (x : Edited v e entries)
-    → (edit_of v.files e x.file).given ≡ given → IsPrepared v entries given stamp s → IsReadyAt v e stamp s
-ready_at v e stamp s entries given kept stamped x gives p = (
-  p.systems.label_long,
-  λ f there. subst (λ (g : HeldFile). IsReadyFor v (edit_of v.files e g) stamp s) (same_Some x.file f (sym x.there ∙ there))
-      (ready_for v (edit_of v.files e x.file) entries given stamp s kept stamped p x.are gives (none_taken v.files e x.file)),
+pub ready_at : (v : HeldVolume) (e : FileEdit) (stamp : Stamp) (s : Systems) (entries : List Entry) (x : Exchange) → Keeps v → is_stamp stamp ≡ true → (y : Edited v e entries)
+    → made_by v.files e ≡ x.made.now → (edit_of v.files e y.file).given ≡ given_back x → IsPrepared v entries x stamp s → IsReadyAt v e stamp s
+ready_at v e stamp s entries x kept stamped y made gives p = (
+  p.label_long,
+  λ f there. subst (λ (g : HeldFile). IsReadyFor v (edit_of v.files e g) stamp s) (same_Some y.file f (sym y.there ∙ there))
+      (ready_for v (edit_of v.files e y.file) entries x stamp s kept stamped p y.are (made_is v.files e y.file ∙ made) gives (none_taken v.files e y.file)),
 )
+
+pub ready_ok : {E : Type 0} (v : HeldVolume) (e : FileEdit) (stamp : Stamp) (entries : List Entry) (r : Result Systems E) (x : Exchange) → Keeps v → is_stamp stamp ≡ true → (y : Edited v e entries)
+    → IfOk r (IsPrepared v entries x stamp) → made_by v.files e ≡ x.made.now → (edit_of v.files e y.file).given ≡ given_back x → IfOk r (IsReadyAt v e stamp)
+ready_ok v e stamp entries (Ok s) x kept stamped y p made gives = ready_at v e stamp s entries x kept stamped y made gives p
+ready_ok v e stamp entries (Err why) x kept stamped y p made gives = tt
 
 -- ---- what is prepared can be written
 
@@ -313,57 +282,109 @@ pub right_of : (P : ℕ → Type 0) (xs ys : List ℕ) → All P (xs ++ ys) → 
 right_of P [] ys all = all
 right_of P (x ∷ xs) ys all = right_of P xs ys (All-tail P x (xs ++ ys) all)
 
--- a volume of so many blocks of this size, with what is allotted for so many files
-pub record Fills (v : HeldVolume) (files : ℕ) (given taken : List ℕ) (s : Systems) : Type 0 where
+-- a volume of so many blocks of this size, with what is allotted for files with these entries
+pub record Fills (v : HeldVolume) (x : Exchange) (a : Allotment) (entries : List Entry) (s : Systems) : Type 0 where
   pub kept : Keeps v
-  pub bsize : IsBlockSize v.disk.bsize
-  pub small : v.label.blocks < 2 ^ 32
-  pub few : files ≤ 16384
-  pub blocks : IsAllotted v files given taken s.directory s.map s.bits
+  pub few : length entries ≤ 16384
+  pub files : x.files ≡ length entries
+  pub enough : AreEnoughFor v entries x
+  pub allotted : IsAllottedFor v x a
   pub label : s.label.blocks ≡ v.label.blocks
   pub label_long : length s.label_bytes ≡ v.disk.bsize
-  pub directory_long : length s.directory_bytes ≡ length s.directory.leaves * v.disk.bsize
+  pub directory_is : s.directory ≡ a.directory
+  pub directory_part_is : s.directory_part ≡ a.directory_part
+  pub map_is : s.map ≡ a.map_tree
+  pub map_part_is : s.map_part ≡ a.map_part
+  pub directory_long : length s.directory_bytes ≡ length s.directory_part.leaves * v.disk.bsize
 
-pub is_ready : (v : HeldVolume) (files : ℕ) (given taken : List ℕ) (s : Systems) → Fills v files given taken s → IsReady v.disk.bsize s
-is_ready v files given taken s x =
-    let a = x.blocks in
-    let k = x.kept in
-    let b = block_bounds v.disk.bsize x.bsize in
+-- the data blocks of the directory that are written may be
+pub directory_may : (v : HeldVolume) (x : Exchange) (a : Allotment) (entries : List Entry) → Keeps v → IsAllottedFor v x a → x.files ≡ length entries → AreEnoughFor v entries x
+    → MayBeWritten (length v.directory.leaves) (length a.directory.leaves) a.directory_part.leaves
+directory_may v x a entries kept al files enough =
+    let bsize = v.disk.bsize in
+    let old_is : length v.directory.leaves ≡ directory_count bsize (length (entries_held v.files)) = kept.directory_is ∙ ap (directory_count bsize) (sym (entries_count v.files)) in
+    let new_is : length a.directory.leaves ≡ directory_count bsize (length entries) = al.directory_is ∙ ap (directory_count bsize) files in
+    let written : a.directory_part.leaves ≡ blocks_made bsize (length entries) x.made.now = al.written ∙ ap (λ (n : ℕ). blocks_made bsize n x.made.now) files in
+    subst (λ (n : ℕ). MayBeWritten n (length a.directory.leaves) a.directory_part.leaves) (sym old_is)
+    (subst (λ (n : ℕ). MayBeWritten (directory_count bsize (length (entries_held v.files))) n a.directory_part.leaves) (sym new_is)
+    (subst (MayBeWritten (directory_count bsize (length (entries_held v.files))) (directory_count bsize (length entries))) (sym written) enough.may))
+
+some_in : (n : ℕ) (xs : List ℕ) → In n xs → 1 ≤ length xs
+some_in n [] there = absurd there
+some_in n (x ∷ xs) there = omega arith
+
+pub is_ready : (v : HeldVolume) (x : Exchange) (a : Allotment) (entries : List Entry) (s : Systems) → Fills v x a entries s → IsReady v.disk.bsize s
+is_ready v x a entries s f =
+    let al = f.allotted in
+    let k = f.kept in
+    let bsize = v.disk.bsize in
+    let fan = bsize / 4 in
+    let b = block_bounds bsize k.sized in
     let low = b.0 in let high = b.1 in
     let P = IsBlockOf v.label.blocks in
-    let count = k.bits_are in
     let total = k.size in
     let origin_low = k.origin_low in let origin_high = k.origin_high in
-    let small = x.small in
-    let free : All P (free_blocks v.bits) = subst (λ (n : ℕ). All (IsBlockOf n) (free_blocks v.bits)) count (free_within v.bits) in
-    let own : All P (fresh taken s.directory s.map) = subst (All P) (sym a.lowest) (All-take P (length (fresh taken s.directory s.map)) (free_blocks v.bits) free) in
-    let all : All P (fresh [] s.directory s.map) = right_of P taken (fresh [] s.directory s.map) own in
-    let more = left_of P (drop 1 s.directory.leaves) (s.directory.pointers ++ (s.map.leaves ++ s.map.pointers)) all in
-    let rest = right_of P (drop 1 s.directory.leaves) (s.directory.pointers ++ (s.map.leaves ++ s.map.pointers)) all in
-    let nodes = left_of P s.directory.pointers (s.map.leaves ++ s.map.pointers) rest in
-    let maps = right_of P s.directory.pointers (s.map.leaves ++ s.map.pointers) rest in
+    let small = k.small in
+    let some : 1 ≤ fan = omega arith in
+    let free : All P (free_blocks v.bits) = subst (λ (n : ℕ). All (IsBlockOf n) (free_blocks v.bits)) k.bits_are (free_within v.bits) in
+    let own : All P (all_fresh v a) = subst (All P) (sym al.lowest) (All-take P (length (all_fresh v a)) (free_blocks v.bits) free) in
+    let of_map = fresh_of fan a.map_part.leaves v.map a.map_tree in
+    let of_directory = fresh_of fan a.directory_part.leaves v.directory a.directory in
+    let behind : All P (drop 1 of_directory) = right_of P a.file.items (drop 1 of_directory) (left_of P (own_fresh v a) of_map own) in
+    let written : a.directory_part.leaves ≡ blocks_made bsize (length entries) x.made.now = al.written ∙ ap (λ (n : ℕ). blocks_made bsize n x.made.now) f.files in
+    let zero' : In 0 a.directory_part.leaves = subst (In 0) (sym written) f.enough.first in
     let first : P (9 - v.label.origin) = (omega arith, omega arith) in
-    let leaves : All P s.directory.leaves = subst (All P) (sym a.origin) (All-cons P (9 - v.label.origin) (drop 1 s.directory.leaves) first more) in
-    let files_few = directory_small files v.disk.bsize (omega arith) x.few in
-    let some_files = directory_some files v.disk.bsize low in
-    let some_map = map_some v.label.blocks v.disk.bsize low total in
-    let d = a.directory_count in let m = a.map_count in
-    let wide = (up_spec (up v.label.blocks 8) v.disk.bsize (omega arith)).1 in
+    let directory_fresh : All P of_directory = subst (All P) (sym (fresh_first fan (9 - v.label.origin) a.directory_part.leaves v.directory a.directory al.origin zero'))
+    (All-cons P (9 - v.label.origin) (drop 1 of_directory) first behind) in
+    let map_is : length v.map.leaves ≡ length a.map_tree.leaves = k.map_is ∙ sym al.map_is in
+    let map_written : MayBeWritten (length v.map.leaves) (length a.map_tree.leaves) a.map_part.leaves =
+    subst (λ (n : ℕ). MayBeWritten n (length a.map_tree.leaves) a.map_part.leaves) (sym map_is) (map_may bsize v.label.blocks (length a.map_tree.leaves) (turned (length (own_fresh v a) + map_size bsize v.label.blocks) v.bits (own_fresh v a) (own_released v x a) v.map) a.map_part.leaves
+    (omega arith) al.map_is al.touched) in
+    let at_directory = at_fresh v.label.blocks bsize a.directory_part v.directory a.directory some (directory_may v x a entries k al f.files f.enough) al.directory al.directory_nodes directory_fresh in
+    let at_map = at_fresh v.label.blocks bsize a.map_part v.map a.map_tree some map_written al.map al.map_nodes (right_of P (own_fresh v a) of_map own) in
+    let files_few = directory_small x.files bsize (omega arith) (let e = f.files in let n = f.few in omega arith) in
+    let some_files = directory_some x.files bsize low in
+    let some_map = map_some v.label.blocks bsize low total in
+    let d = al.directory_is in let m = al.map_is in
+    let wide = (up_spec (up v.label.blocks 8) bsize (omega arith)).1 in
     let bytes = (up_spec v.label.blocks 8 (omega arith)).1 in
-    let same : up (up v.label.blocks 8) v.disk.bsize * v.disk.bsize ≡ length s.map.leaves * v.disk.bsize = ap (λ (n : ℕ). n * v.disk.bsize) (sym m) in
+    let same : up (up v.label.blocks 8) bsize * bsize ≡ length a.map_tree.leaves * bsize = ap (λ (n : ℕ). n * bsize) (sym m) in
+    let Parts : HeldTree → TreePart → HeldTree → TreePart → Type 0 = λ directory dp map' mp. (1 ≤ length directory.leaves) × (length directory.leaves < 2 ^ 32) × (1 ≤ length dp.leaves)
+    × (length directory.pointers ≡ pointer_count fan (length directory.leaves)) × IsAt v.label.blocks directory dp × (1 ≤ length map'.leaves) × (length map'.leaves * bsize < 2 ^ 32)
+    × (length map'.pointers ≡ pointer_count fan (length map'.leaves)) × IsAt v.label.blocks map' mp in
+    let own_parts : Parts a.directory a.directory_part a.map_tree a.map_part = (
+      omega arith,
+      omega arith,
+      some_in 0 a.directory_part.leaves zero',
+      nodes_are fan a.directory_part.leaves v.directory a.directory some al.directory,
+      at_directory,
+      omega arith,
+      short (length a.map_tree.leaves * bsize) (up v.label.blocks 8) bsize (omega arith) (omega arith) high,
+      nodes_are fan a.map_part.leaves v.map a.map_tree some al.map,
+      at_map,
+    ) in
+    let parts : Parts s.directory s.directory_part s.map s.map_part =
+    subst (λ (t : HeldTree). Parts t s.directory_part s.map s.map_part) (sym f.directory_is)
+    (subst (λ (p : TreePart). Parts a.directory p s.map s.map_part) (sym f.directory_part_is)
+    (subst (λ (t : HeldTree). Parts a.directory a.directory_part t s.map_part) (sym f.map_is)
+    (subst (λ (p : TreePart). Parts a.directory a.directory_part a.map_tree p) (sym f.map_part_is) own_parts))) in
+    let label = f.label in
     record {
-      size = x.bsize;
-      label_long = x.label_long;
-      label_within = (let e = x.label in omega arith);
-      directory_some = omega arith;
-      directory_few = omega arith;
-      directory_long = x.directory_long;
-      directory_nodes = a.directory_nodes;
-      directory_within = subst (λ (n : ℕ). All (IsBlockOf n) (s.directory.leaves ++ s.directory.pointers)) (sym x.label) (All-append P s.directory.leaves s.directory.pointers leaves nodes);
-      map_some = omega arith;
-      map_few = short (length s.map.leaves * v.disk.bsize) (up v.label.blocks 8) v.disk.bsize (omega arith) (omega arith) high;
-      map_nodes = a.map_nodes;
-      map_within = subst (λ (n : ℕ). All (IsBlockOf n) (s.map.leaves ++ s.map.pointers)) (sym x.label) maps;
+      size = k.sized;
+      label_long = f.label_long;
+      label_within = omega arith;
+      directory_some = parts.0;
+      directory_few = parts.1;
+      directory_first = parts.2;
+      directory_long = f.directory_long;
+      directory_nodes = parts.3;
+      directory_at = subst (λ (n : ℕ). AreAt n s.directory.leaves s.directory_part.leaves) (sym label) parts.4.leaves;
+      directory_nodes_at = subst (λ (n : ℕ). AreAt n s.directory.pointers s.directory_part.nodes) (sym label) parts.4.nodes;
+      map_some = parts.5;
+      map_few = parts.6;
+      map_nodes = parts.7;
+      map_at = subst (λ (n : ℕ). AreAt n s.map.leaves s.map_part.leaves) (sym label) parts.8.leaves;
+      map_nodes_at = subst (λ (n : ℕ). AreAt n s.map.pointers s.map_part.nodes) (sym label) parts.8.nodes;
     }
   where
     short : (wide a b : ℕ) → wide < a + b → a ≤ 536870912 → b ≤ 4096 → wide < 2 ^ 32

@@ -3,28 +3,34 @@ use Rattle.std.proofs.Common.{◌≡◌, ℕ, zero, suc, ◌+◌, ◌*◌, ◌<�
 use Rattle.std.specs.Prelude.{IfOk, IfErr, nat_le}
 use Rattle.std.proofs.lemmas.Bool.{leb-true}
 use Rattle.std.proofs.lemmas.List.{drop_all, take_all}
-use Rattle.cms_journal.specs.Journal.{Journal}
+use Rattle.cms_journal.specs.Journal.{Journal, contents_of}
+use Rattle.cms_journal.specs.Told.{Told}
 use Rattle.cms_names.specs.declared.name.Format.TheVariants.{F, V}
 use Rattle.cms_text.specs.Bytes.{half}
 use Rattle.cms_fields.specs.Steps.{◌>>=◌}
+use Rattle.cms_fields.specs.Entries.{fan_of}
 use Rattle.cms_fields.specs.declared.entry.Entry.{Entry}
 use Rattle.cms_model.specs.Lists.{cut}
-use Rattle.cms_model.specs.Trees.{Image, bytes_at}
+use Rattle.cms_model.specs.Trees.{Image, bytes_at, image_of}
 use Rattle.cms_model.specs.Records.{varying, records_of, longest}
+use Rattle.cms_model.specs.Sizes.{pointer_count}
 use Rattle.cms_model.specs.Volumes.{blamed, contents_in}
 use Rattle.cms_model.specs.declared.fault.VarFault.{VarFault}
 use Rattle.cms_model.specs.declared.fault.VarFault.TheVariants.{Zero, PastEnd}
 use Rattle.cms_model.specs.declared.fault.OpenFault.{OpenFault}
 use Rattle.cms_model.specs.declared.fault.OpenFault.TheVariants as failed
 use Rattle.cms_records.specs.declared.sizes.VarSizes.{VarSizes}
-use Rattle.cms_records.specs.Scans.{Scan, IsFed, sizes_in, sizes_of}
+use Rattle.cms_records.specs.Scans.{Scan, IsFed, filled_by, sizes_in, sizes_of}
 use Rattle.cms_tree.specs.declared.types.Walked.{Walked}
 use Rattle.cms_held.specs.Opening.{IsFaultOf, HeldFile}
-use Rattle.cms_edf.specs.OpeningSteps.{met_in, behind}
-use Rattle.cms_edf.specs.EntryShapes.{HasSize}
-use Rattle.cms_edf.specs.OpeningFiles.{records_in, AreSized, HasRecords, told_file, told_files, HasContents, HaveCounts}
+use Rattle.cms_held.specs.Marks.{nowhere, start_of}
+use Rattle.cms_edf.specs.declared.contents.RecordsTold.{RecordsTold}
+use Rattle.cms_edf.specs.OpeningSteps.{OfImage, met_in, behind}
+use Rattle.cms_edf.specs.EntryShapes.{EndsIn, HasSize}
+use Rattle.cms_edf.specs.OpeningFiles.{records_in, AreSized, HasRecords, told_file, told_files, HasContents, HaveCounts, entry_sizes, walked_sizes}
 use Rattle.cms_model.proofs.Results.{ok_same, want_ok, bind_then}
 use Rattle.cms_model.proofs.Opening.{blamed_ok}
+use Rattle.cms_edf.proofs.EntryTests.{ends_last}
 use Rattle.cms_edf.proofs.Faults.{fault_is, fault_passes}
 use Rattle.cms_edf.proofs.Gathered.{Reads, reads_first, reads_next, reads_last}
 use Rattle.cms_edf.proofs.FileTrees.{front_of, taken_next, behind_none, behind_more}
@@ -79,6 +85,14 @@ room_left k n b most less fits = grind arith
 
 -- ---- one file
 
+-- the bytes end in the last block
+pub varying_ends : (bsize n fed stored : ℕ) → 1 ≤ n → fed ≡ n * bsize → stored ≤ fed → fed < stored + bsize → EndsIn bsize n stored
+varying_ends bsize n fed stored some is high low =
+    ends_last n bsize stored some (subst (λ (k : ℕ). stored ≤ k) is high) (subst (λ (k : ℕ). k < stored + bsize) is low)
+
+pub fixed_ends : (bsize : ℕ) (e : Entry) (n : ℕ) → HasSize bsize e → e.format ≡ F → n ≡ e.blocks → EndsIn bsize n (e.count * e.length)
+fixed_ends bsize e n size is count = subst (λ (k : ℕ). EndsIn bsize k (e.count * e.length)) (sym count) (size.ends is)
+
 pub fixed_few : (bsize : ℕ) (e : Entry) → HasSize bsize e → e.format ≡ F → e.count * e.length ≤ 67108864
 fixed_few bsize e size is = size.few is
 
@@ -114,19 +128,41 @@ sizes_some (Ok sizes) number bsize (suc n) bytes some is =
     let least = longest_some bsize n 0 bytes t.0 (blamed_ok (failed.Var number) (varying bsize (suc n) 0 bytes) t.0 t.1) in
     subst (λ (s : VarSizes). 1 ≤ s.longest) t.2 least
 
-pub fixed_has : (bsize : ℕ) (image : Image) (number : ℕ) (e : Entry) (leaves : List ℕ) (sizes : VarSizes) → e.format ≡ F → sizes.longest ≡ e.length → sizes.stored ≡ e.count * e.length
-    → HasRecords bsize image number e leaves sizes
+pub fixed_has : (bsize : ℕ) (image : Image) (number : ℕ) (e : Entry) (leaves : List ℕ) (told : RecordsTold) → e.format ≡ F → told.sizes.longest ≡ e.length → told.sizes.stored ≡ e.count * e.length
+    → told.start ≡ nowhere → HasRecords bsize image number e leaves told
 unfolding records_of
-fixed_has bsize image number e leaves sizes is long stored =
-    record { records = cut e.count e.length (bytes_at image leaves); are = rw is refl; sized = rw is (long, stored) }
+fixed_has bsize image number e leaves told is long stored none =
+    record { records = cut e.count e.length (bytes_at image leaves); are = rw is refl; sized = rw is (long, stored); starts = rw is none }
 
-pub varying_has : (bsize : ℕ) (image : Image) (number : ℕ) (e : Entry) (leaves : List ℕ) (sizes : VarSizes) → e.format ≡ V
-    → blamed (failed.Var number) (sizes_in bsize e.count (bytes_at image leaves)) ≡ Ok sizes → HasRecords bsize image number e leaves sizes
+pub varying_has : (bsize : ℕ) (image : Image) (number : ℕ) (e : Entry) (leaves : List ℕ) (told : RecordsTold) → e.format ≡ V
+    → blamed (failed.Var number) (sizes_in bsize e.count (bytes_at image leaves)) ≡ Ok told.sizes
+    → ((records : List (List ℕ)) → varying bsize e.count 0 (bytes_at image leaves) ≡ Ok records → told.start ≡ start_of bsize V records) → HasRecords bsize image number e leaves told
 unfolding records_of
-varying_has bsize image number e leaves sizes is read =
-    let t = told_varying number (varying bsize e.count 0 (bytes_at image leaves)) sizes read in
+varying_has bsize image number e leaves told is read starts =
+    let t = told_varying number (varying bsize e.count 0 (bytes_at image leaves)) told.sizes read in
     let same = t.2 in
-    record { records = t.0; are = rw is t.1; sized = rw is (sym (ap (λ (s : VarSizes). s.longest) same), sym (ap (λ (s : VarSizes). s.stored) same)) }
+    let begun = starts t.0 (blamed_ok (failed.Var number) (varying bsize e.count 0 (bytes_at image leaves)) t.0 t.1) in
+    record { records = t.0; are = rw is t.1; sized = rw is (sym (ap (λ (s : VarSizes). s.longest) same), sym (ap (λ (s : VarSizes). s.stored) same)); starts = rw is begun }
+
+-- where a journal is told
+pub varying_told : (told : Told) (unit bsize number : ℕ) (e : Entry) (leaves : List ℕ) (r : Result RecordsTold OpenFault) → e.format ≡ V
+    → IfOk r (λ t. OfImage told unit (λ image. blamed (failed.Var number) (sizes_in bsize e.count (bytes_at image leaves)) ≡ Ok t.sizes))
+    → IfOk r (λ t. OfImage told unit (λ image. (records : List (List ℕ)) → varying bsize e.count 0 (bytes_at image leaves) ≡ Ok records → t.start ≡ start_of bsize V records))
+    → IfOk r (λ t. OfImage told unit (λ image. HasRecords bsize image number e leaves t))
+varying_told told unit bsize number e leaves (Ok t) is read starts = λ j at. varying_has bsize (image_of (contents_of j unit)) number e leaves t is (read j at) (starts j at)
+varying_told told unit bsize number e leaves (Err why) is read starts = tt
+
+-- where the records begin in the last block, from what is told of it
+pub starts_so : (image : Image) (leaves : List ℕ) (k count bsize number start : ℕ) (scan : Scan) (sizes : VarSizes) → length leaves ≤ k → scan.bsize ≡ bsize
+    → ((count : ℕ) (bytes : List ℕ) → IsFed count bytes scan → Ok sizes ≡ blamed (failed.Var number) (sizes_in scan.bsize count bytes))
+    → ((count : ℕ) (bytes : List ℕ) (records : List (List ℕ)) → scan.bsize ≡ bsize → IsFed count bytes scan → varying scan.bsize count 0 bytes ≡ Ok records → sizes.stored ≡ filled_by records
+    → start ≡ start_of bsize V records)
+    → Takes image leaves k count scan → (records : List (List ℕ)) → varying bsize count 0 (bytes_at image leaves) ≡ Ok records → start ≡ start_of bsize V records
+starts_so image leaves k count bsize number start scan sizes past size ended starts t records is =
+    let all : t.before ≡ bytes_at image leaves = reads_last image leaves k t.before past t.reads in
+    let read : varying scan.bsize count 0 t.before ≡ Ok records = ap (λ (l : List ℕ). varying scan.bsize count 0 l) all ∙ ap (λ (b : ℕ). varying b count 0 (bytes_at image leaves)) size ∙ is in
+    let told : Ok sizes ≡ Ok (sizes_of records) = ended count t.before t.fed ∙ ap (λ (r : Result (List (List ℕ)) VarFault). blamed (failed.Var number) (r >>= λ rs. Ok (sizes_of rs))) read in
+    starts count t.before records size t.fed read (ap (λ (s : VarSizes). s.stored) (ok_same sizes (sizes_of records) told))
 
 told_fault : (number : ℕ) (read : Result (List (List ℕ)) VarFault) (e : OpenFault) → blamed (failed.Var number) (read >>= λ records. Ok (sizes_of records)) ≡ Err e
     → blamed (failed.Var number) read ≡ Err e
@@ -147,21 +183,21 @@ pub record ContentsTo (bsize : ℕ) (image : Image) (entries : List Entry) (walk
   pub contents : List (List (List ℕ))
   pub many : length contents ≡ k
   pub are : contents_in bsize image 2 entries (map met_in walks) ≡ behind contents (contents_in bsize image (k + 2) (drop k entries) (map met_in (drop k walks)))
-  pub files_are : files ≡ told_files (take k entries) (take k walks) contents
+  pub files_are : files ≡ told_files bsize (take k entries) (take k walks) contents
 
 pub contents_first : (bsize : ℕ) (image : Image) (entries : List Entry) (walks : List Walked) → ContentsTo bsize image entries walks 0 []
 unfolding told_files
 contents_first bsize image entries walks = record { contents = []; many = refl; are = behind_none (contents_in bsize image 2 entries (map met_in walks)); files_are = refl }
 
-told_more : (es : List Entry) (ws : List Walked) (cs : List (List (List ℕ))) (e : Entry) (w : Walked) (c : List (List ℕ)) → length ws ≡ length es → length cs ≡ length es
-    → told_files (es ++ (e ∷ [])) (ws ++ (w ∷ [])) (cs ++ (c ∷ [])) ≡ told_files es ws cs ++ (told_file e w c ∷ [])
+told_more : (bsize : ℕ) (es : List Entry) (ws : List Walked) (cs : List (List (List ℕ))) (e : Entry) (w : Walked) (c : List (List ℕ)) → length ws ≡ length es → length cs ≡ length es
+    → told_files bsize (es ++ (e ∷ [])) (ws ++ (w ∷ [])) (cs ++ (c ∷ [])) ≡ told_files bsize es ws cs ++ (told_file bsize e w c ∷ [])
 unfolding told_files
-told_more [] [] [] e w c a b = refl
-told_more [] [] (x ∷ cs) e w c a b = absurd (omega arith)
-told_more [] (x ∷ ws) cs e w c a b = absurd (omega arith)
-told_more (x ∷ es) [] cs e w c a b = absurd (omega arith)
-told_more (x ∷ es) (y ∷ ws) [] e w c a b = absurd (omega arith)
-told_more (x ∷ es) (y ∷ ws) (z ∷ cs) e w c a b = ap (λ (l : List HeldFile). told_file x y z ∷ l) (told_more es ws cs e w c (omega arith) (omega arith))
+told_more bsize [] [] [] e w c a b = refl
+told_more bsize [] [] (x ∷ cs) e w c a b = absurd (omega arith)
+told_more bsize [] (x ∷ ws) cs e w c a b = absurd (omega arith)
+told_more bsize (x ∷ es) [] cs e w c a b = absurd (omega arith)
+told_more bsize (x ∷ es) (y ∷ ws) [] e w c a b = absurd (omega arith)
+told_more bsize (x ∷ es) (y ∷ ws) (z ∷ cs) e w c a b = ap (λ (l : List HeldFile). told_file bsize x y z ∷ l) (told_more bsize es ws cs e w c (omega arith) (omega arith))
 
 contents_step : (bsize : ℕ) (image : Image) (entries : List Entry) (walks : List Walked) (k : ℕ) (e : Entry) (w : Walked) → k < length entries → e ≡ get_or entries k e → k < length walks
     → w ≡ get_or walks k w
@@ -176,18 +212,25 @@ contents_step bsize image entries walks k e w less is less' is' =
     next)
 
 -- a file as it is made
-abbrev pub made : Entry → Walked → VarSizes → HeldFile
-made e w sizes = record { entry = e; tree = record { leaves = w.leaves.items; pointers = w.pointers.items }; length = sizes.longest; size = sizes.stored }
+abbrev pub made : Entry → Walked → RecordsTold → HeldFile
+made e w told =
+    record { entry = e; tree = record { leaves = w.leaves.items; pointers = w.pointers.items }; length = told.sizes.longest; size = told.sizes.stored; start = told.start }
 
-held_as : (e : Entry) (w : Walked) (records : List (List ℕ)) (sizes : VarSizes) (file : HeldFile) → AreSized e records sizes → file ≡ made e w sizes → file ≡ told_file e w records
-held_as e w records sizes file sized is = is ∙ (ap (λ (n : ℕ). record { entry = e; tree = record { leaves = w.leaves.items; pointers = w.pointers.items }; length = n; size = sizes.stored }) sized.0
-    ∙ ap (λ (n : ℕ). record (told_file e w records) { size = n }) sized.1)
+held_as : (bsize : ℕ) (e : Entry) (w : Walked) (records : List (List ℕ)) (told : RecordsTold) (file : HeldFile) → AreSized e records told.sizes → told.start ≡ start_of bsize e.format records
+    → file ≡ made e w told → file ≡ told_file bsize e w records
+held_as bsize e w records told file sized starts is = is ∙ (λ i. record {
+  entry = e;
+  tree = record { leaves = w.leaves.items; pointers = w.pointers.items };
+  length = sized.0 i;
+  size = sized.1 i;
+  start = starts i;
+})
 
-pub contents_next : (bsize : ℕ) (image : Image) (entries : List Entry) (walks : List Walked) (k number : ℕ) (e : Entry) (w : Walked) (leaves : List ℕ) (sizes : VarSizes) (files : List HeldFile)
+pub contents_next : (bsize : ℕ) (image : Image) (entries : List Entry) (walks : List Walked) (k number : ℕ) (e : Entry) (w : Walked) (leaves : List ℕ) (told : RecordsTold) (files : List HeldFile)
     (file : HeldFile)
-    → k < length entries → e ≡ get_or entries k e → k < length walks → w ≡ get_or walks k w → number ≡ k + 2 → leaves ≡ w.leaves.items → file ≡ made e w sizes
-    → HasRecords bsize image number e leaves sizes → ContentsTo bsize image entries walks k files → ContentsTo bsize image entries walks (k + 1) (files ++ (file ∷ []))
-contents_next bsize image entries walks k number e w leaves sizes files file less is less' is' numbered same made_so has to =
+    → k < length entries → e ≡ get_or entries k e → k < length walks → w ≡ get_or walks k w → number ≡ k + 2 → leaves ≡ w.leaves.items → file ≡ made e w told
+    → HasRecords bsize image number e leaves told → ContentsTo bsize image entries walks k files → ContentsTo bsize image entries walks (k + 1) (files ++ (file ∷ []))
+contents_next bsize image entries walks k number e w leaves told files file less is less' is' numbered same made_so has to =
     let rest = contents_in bsize image (k + 1 + 2) (drop (k + 1) entries) (map met_in (drop (k + 1) walks)) in
     let here : records_in bsize image (k + 2) e w.leaves.items ≡ Ok has.records =
     subst (λ (l : List ℕ). records_in bsize image (k + 2) e l ≡ Ok has.records) same (subst (λ (n : ℕ). records_in bsize image n e leaves ≡ Ok has.records) numbered has.are) in
@@ -201,10 +244,10 @@ contents_next bsize image entries walks k number e w leaves sizes files file les
       are = to.are ∙ (ap (behind to.contents) step ∙ behind_more to.contents has.records rest);
       files_are =
           ap (λ (l : List HeldFile). l ++ (file ∷ [])) to.files_are
-          ∙ (ap (λ (f : HeldFile). told_files (take k entries) (take k walks) to.contents ++ (f ∷ [])) (held_as e w has.records sizes file has.sized made_so)
-          ∙ (sym (told_more (take k entries) (take k walks) to.contents e w has.records (omega (arith, es, ws)) (omega (arith, es, cs)))
-          ∙ (ap (λ (l : List Entry). told_files l (take k walks ++ (w ∷ [])) (to.contents ++ (has.records ∷ []))) (sym (taken_next entries k e less is))
-          ∙ ap (λ (l : List Walked). told_files (take (k + 1) entries) l (to.contents ++ (has.records ∷ []))) (sym (taken_next walks k w less' is')))));
+          ∙ (ap (λ (f : HeldFile). told_files bsize (take k entries) (take k walks) to.contents ++ (f ∷ [])) (held_as bsize e w has.records told file has.sized has.starts made_so)
+          ∙ (sym (told_more bsize (take k entries) (take k walks) to.contents e w has.records (omega (arith, es, ws)) (omega (arith, es, cs)))
+          ∙ (ap (λ (l : List Entry). told_files bsize l (take k walks ++ (w ∷ [])) (to.contents ++ (has.records ∷ []))) (sym (taken_next entries k e less is))
+          ∙ ap (λ (l : List Walked). told_files bsize (take (k + 1) entries) l (to.contents ++ (has.records ∷ []))) (sym (taken_next walks k w less' is')))));
     }
 
 pub contents_bad : (bsize : ℕ) (image : Image) (entries : List Entry) (walks : List Walked) (k number : ℕ) (e : Entry) (w : Walked) (leaves : List ℕ) (files : List HeldFile) (why : OpenFault)
@@ -226,23 +269,31 @@ unfolding contents_in
 contents_last bsize image entries walks k files past past' to = record {
   contents = to.contents;
   are = to.are ∙ (ap (λ (l : List Entry). behind to.contents (contents_in bsize image (k + 2) l (map met_in (drop k walks)))) (drop_all k entries past) ∙ ap Ok (append-nil to.contents));
-  files_are = to.files_are ∙ (ap (λ (l : List Entry). told_files l (take k walks) to.contents) (take_all k entries past)
-      ∙ ap (λ (l : List Walked). told_files entries l to.contents) (take_all k walks past'));
+  files_are = to.files_are ∙ (ap (λ (l : List Entry). told_files bsize l (take k walks) to.contents) (take_all k entries past)
+      ∙ ap (λ (l : List Walked). told_files bsize entries l to.contents) (take_all k walks past'));
 }
 
--- the data blocks of a tree by its entry
-pub count_at : (entries : List Entry) (walks : List Walked) (k : ℕ) (e : Entry) (w : Walked) → HaveCounts entries walks → k < length entries → k < length walks → e ≡ get_or entries k e
-    → w ≡ get_or walks k w → length w.leaves.items ≡ e.blocks
-count_at [] walks k e w counts less less' is is' = absurd (omega arith)
-count_at (x ∷ es) [] k e w counts less less' is is' = absurd (omega arith)
-count_at (x ∷ es) (y ∷ ws) zero e w counts less less' is is' = rw (is, is') (heads counts)
+-- the data blocks and the pointer blocks of a tree by its entry
+sizes_at : (bsize : ℕ) (entries : List Entry) (walks : List Walked) (k : ℕ) (e : Entry) (w : Walked) → HaveCounts bsize entries walks → k < length entries → k < length walks → e ≡ get_or entries k e
+    → w ≡ get_or walks k w → walked_sizes w ≡ entry_sizes bsize e
+sizes_at bsize [] walks k e w counts less less' is is' = absurd (omega arith)
+sizes_at bsize (x ∷ es) [] k e w counts less less' is is' = absurd (omega arith)
+sizes_at bsize (x ∷ es) (y ∷ ws) zero e w counts less less' is is' = rw (is, is') (heads counts)
   where
-    heads : {a b : ℕ} {xs ys : List ℕ} → a ∷ xs ≡ b ∷ ys → a ≡ b
+    heads : {a b : ℕ × ℕ} {xs ys : List (ℕ × ℕ)} → a ∷ xs ≡ b ∷ ys → a ≡ b
     heads same = cc same
-count_at (x ∷ es) (y ∷ ws) (suc k) e w counts less less' is is' = count_at es ws k e w (tails counts) (omega arith) (omega arith) is is'
+sizes_at bsize (x ∷ es) (y ∷ ws) (suc k) e w counts less less' is is' = sizes_at bsize es ws k e w (tails counts) (omega arith) (omega arith) is is'
   where
-    tails : {a b : ℕ} {xs ys : List ℕ} → a ∷ xs ≡ b ∷ ys → xs ≡ ys
+    tails : {a b : ℕ × ℕ} {xs ys : List (ℕ × ℕ)} → a ∷ xs ≡ b ∷ ys → xs ≡ ys
     tails same = cc same
+
+pub count_at : (bsize : ℕ) (entries : List Entry) (walks : List Walked) (k : ℕ) (e : Entry) (w : Walked) → HaveCounts bsize entries walks → k < length entries → k < length walks → e ≡ get_or entries k e
+    → w ≡ get_or walks k w → length w.leaves.items ≡ e.blocks
+count_at bsize entries walks k e w counts less less' is is' = ap (λ (p : ℕ × ℕ). p.0) (sizes_at bsize entries walks k e w counts less less' is is')
+
+pub nodes_at : (bsize : ℕ) (entries : List Entry) (walks : List Walked) (k : ℕ) (e : Entry) (w : Walked) → HaveCounts bsize entries walks → k < length entries → k < length walks → e ≡ get_or entries k e
+    → w ≡ get_or walks k w → length w.pointers.items ≡ pointer_count (fan_of bsize e.format) e.blocks
+nodes_at bsize entries walks k e w counts less less' is is' = ap (λ (p : ℕ × ℕ). p.1) (sizes_at bsize entries walks k e w counts less less' is is')
 
 -- a tree that is taken from the front of what is left
 pub taken_is : {A : Type 0} (before : List A) (x : A) (rest all : List A) → before ++ (x ∷ rest) ≡ all → (length before < length all) × (x ≡ get_or all (length before) x)

@@ -1,5 +1,5 @@
 -- A volume is opened, and held.
-use Rattle.std.proofs.Common.{◌≡◌, ℕ, ◌/◌, ◌<◌, ◌≤◌, Bool, true, false, List, [], ◌∷◌, map, Option, Some, Result, Ok, Err, refl, sym, ◌∙◌, ap}
+use Rattle.std.proofs.Common.{◌≡◌, ℕ, ◌/◌, ◌^◌, ◌<◌, ◌≤◌, Bool, true, false, List, [], ◌∷◌, length, map, Option, Some, Result, Ok, Err, refl, sym, ◌∙◌, ap, subst, arith}
 use Rattle.std.specs.Prelude.{IfOk, IfErr, nat_le}
 use Rattle.std.proofs.lemmas.Bool.{le-leb, lt-leb}
 use Rattle.cms_journal.specs.Journal.{Journal}
@@ -9,7 +9,7 @@ use Rattle.cms_fields.specs.Labels.{label_of}
 use Rattle.cms_fields.specs.declared.label.Label.{Label}
 use Rattle.cms_fields.specs.declared.label.LabelFault.TheVariants.{Count}
 use Rattle.cms_fields.specs.declared.entry.Entry.{Entry}
-use Rattle.cms_model.specs.Sizes.{levels}
+use Rattle.cms_model.specs.Sizes.{levels, pointer_count}
 use Rattle.cms_model.specs.Trees.{Image, form_of, bytes_at}
 use Rattle.cms_model.specs.Volumes.{Disk, blamed, tree_blocks, contents_in, open_of}
 use Rattle.cms_model.specs.declared.fault.OpenFault.{OpenFault}
@@ -20,7 +20,8 @@ use Rattle.cms_tree.specs.declared.types.Walked.{Walked}
 use Rattle.cms_edf.specs.declared.open.Place.{Place}
 use Rattle.cms_edf.specs.declared.open.Listing.{Listing}
 use Rattle.cms_edf.specs.declared.volume.Trees.{Trees}
-use Rattle.cms_held.specs.Opening.{HeldFile, HeldVolume, Holding, IsFaultOf, AnswersOpening, held_file, held_files, held_of}
+use Rattle.cms_held.specs.SharedTrees.{HasShape}
+use Rattle.cms_held.specs.Opening.{HeldFile, HeldTree, HeldVolume, Holding, IsFaultOf, AnswersOpening, held_file, held_files, held_of}
 use Rattle.cms_edf.specs.OpeningSteps.{Listed, Treed, listed, met_in, system_at, listed_in, trees_in, lost_in}
 use Rattle.cms_edf.specs.OpeningFiles.{file_nodes, pointers_in, HasTrees, read_trees, told_file, told_files, opened, behind_label, HasVolume}
 use Rattle.cms_edf.proofs.Faults.{fault_is, fault_passes}
@@ -66,7 +67,7 @@ tails : {A : Type 0} (a b : A) (xs ys : List A) → a ∷ xs ≡ b ∷ ys → xs
 tails a b xs ys same = cc same
 
 pub told_are_held : (place : Place) (image : Image) (es : List Entry) (ws : List Walked) (cs : List (List (List ℕ))) → map pointers_in ws ≡ map (file_nodes place image) es
-    → told_files es ws cs ≡ held_files place.bsize place.total image es (map met_in ws) cs
+    → told_files place.bsize es ws cs ≡ held_files place.bsize place.total image es (map met_in ws) cs
 unfolding told_files held_files
 told_are_held place image [] ws cs same = refl
 told_are_held place image (e ∷ es) [] cs same = refl
@@ -74,14 +75,14 @@ told_are_held place image (e ∷ es) (w ∷ ws) [] same = refl
 told_are_held place image (e ∷ es) (w ∷ ws) (c ∷ cs) same =
     let here = heads (pointers_in w) (file_nodes place image e) (map pointers_in ws) (map (file_nodes place image) es) same in
     let there = told_are_held place image es ws cs (tails (pointers_in w) (file_nodes place image e) (map pointers_in ws) (map (file_nodes place image) es) same) in
-    ap (λ (ps : List ℕ). record (told_file e w c) { tree = record { leaves = w.leaves.items; pointers = ps } } ∷ told_files es ws cs) here
+    ap (λ (ps : List ℕ). record (told_file place.bsize e w c) { tree = record { leaves = w.leaves.items; pointers = ps } } ∷ told_files place.bsize es ws cs) here
     ∙ ap (λ (fs : List HeldFile). held_file place.bsize place.total image e (met_in w) c ∷ fs) there
 
 pub held_so : (p : Place) (disk : Disk) (image : Image) (label : Label) (label_bytes : List ℕ) (l : Listing) (t : Trees) (bits : List Bool) (files : List HeldFile) (lost : ℕ)
     (contents : List (List (List ℕ)))
     → p ≡ record { unit = p.unit; bsize = disk.bsize; total = label.blocks; origin = label.origin } → label_bytes ≡ image 3
     → l.walked.pointers.items ≡ nodes_at image (system_at p l.directory (Some p.origin)) → l.directory.levels ≡ levels (p.bsize / 4) l.directory.blocks
-    → HasTrees p image l t → l.map.levels ≡ levels (p.bsize / 4) l.map.blocks → bits ≡ bits_in p.total (bytes_at image t.map.leaves.items) → files ≡ told_files l.entries.items t.files.items contents
+    → HasTrees p image l t → l.map.levels ≡ levels (p.bsize / 4) l.map.blocks → bits ≡ bits_in p.total (bytes_at image t.map.leaves.items) → files ≡ told_files p.bsize l.entries.items t.files.items contents
     → ◌≡◌ {A = HeldVolume} (record {
       unit = p.unit;
       disk = disk;
@@ -173,3 +174,11 @@ answered unit disk told image label bytes (Ok held) some is good ok err j at =
     (has.volume, behind_is disk (image j) bytes label some (is j at) good ∙ has.opens, has.held_is)
 answered unit disk told image label bytes (Err why) some is good ok err j at =
     fault_passes (behind_label disk (image j) label) (open_of disk (image j)) why (λ e fails. behind_is disk (image j) bytes label some (is j at) good ∙ fails) (err j at)
+
+-- a tree that was walked has its shape
+pub walked_shape : (bsize blocks : ℕ) (t : HeldTree) (w : Walked) → t ≡ record { leaves = w.leaves.items; pointers = w.pointers.items } → (1 ≤ blocks) × (length w.leaves.items ≡ blocks)
+    → blocks < 2 ^ 32 → length w.pointers.items ≡ pointer_count (bsize / 4) blocks → HasShape (bsize / 4) t
+walked_shape bsize blocks t w is leaves few nodes =
+    let some = leaves.0 in
+    let count = leaves.1 in
+    subst (HasShape (bsize / 4)) (sym is) (record { some = omega arith; few = omega arith; nodes = nodes ∙ ap (pointer_count (bsize / 4)) (sym count) })

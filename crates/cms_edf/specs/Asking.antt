@@ -25,6 +25,10 @@ infos_in v = map info_of v.files
 abbrev pub leaves_in : HeldVolume → List (List ℕ)
 leaves_in v = map (λ f. f.tree.leaves) v.files
 
+-- how many bytes are stored of each file
+abbrev pub stored_in : HeldVolume → List ℕ
+stored_in v = map (λ f. f.size) v.files
+
 -- the volume's room: the free blocks are those that its map doesn't mark
 abbrev pub space_of : HeldVolume → Space
 space_of v = record {

@@ -6,7 +6,10 @@ pub mod Keeping
 pub mod Writing
 pub mod Doubts
 pub mod Lacking
+pub mod Allotting
+pub mod DirectoryFields
 pub mod Planning
 pub mod NewEntries
 pub mod Finishing
 pub mod FileDrafts
+pub mod Growing

@@ -1,11 +1,12 @@
 -- The files of a volume, as opening reads them: their trees, and what is told of their records.
 use Rattle.std.specs.Prelude.{◌≡◌, ℕ, List, [], ◌∷◌, length, map, None, Result, Ok, Err}
 use Rattle.cms_fields.specs.Steps.{◌>>=◌}
-use Rattle.cms_fields.specs.Entries.{pointer_size}
+use Rattle.cms_fields.specs.Entries.{fan_of, pointer_size}
 use Rattle.cms_fields.specs.declared.label.Label.{Label}
 use Rattle.cms_fields.specs.declared.entry.Entry.{Entry}
 use Rattle.cms_model.specs.Trees.{Image, Met, form_of, tree, bytes_at}
 use Rattle.cms_model.specs.Records.{records_of, length_of}
+use Rattle.cms_model.specs.Sizes.{pointer_count}
 use Rattle.cms_model.specs.Volumes.{Disk, Opened, blamed, file_trees, contents_in, tree_blocks}
 use Rattle.cms_model.specs.declared.fault.OpenFault.{OpenFault}
 use Rattle.cms_model.specs.declared.fault.OpenFault.TheVariants as failed
@@ -16,6 +17,8 @@ use Rattle.cms_tree.specs.declared.types.Walked.{Walked}
 use Rattle.cms_edf.specs.declared.open.Place.{Place}
 use Rattle.cms_edf.specs.declared.open.Listing.{Listing}
 use Rattle.cms_edf.specs.declared.volume.Trees.{Trees}
+use Rattle.cms_edf.specs.declared.contents.RecordsTold.{RecordsTold}
+use Rattle.cms_held.specs.Marks.{start_of}
 use Rattle.cms_held.specs.Opening.{IsFaultOf, HeldFile, HeldVolume, size_of, held_of}
 use Rattle.cms_edf.specs.OpeningSteps.{Listed, Treed, listed, met_in, system_at, listed_in, trees_in, lost_in}
 
@@ -75,36 +78,46 @@ AreSized e records sizes = (sizes.longest ≡ length_of e.format e.length record
     × (sizes.stored ≡ size_of e.format e.length e.count records)
 
 -- the file has records, of which this is told
-pub record HasRecords (bsize : ℕ) (image : Image) (number : ℕ) (e : Entry) (leaves : List ℕ) (sizes : VarSizes) : Type 0 where
+pub record HasRecords (bsize : ℕ) (image : Image) (number : ℕ) (e : Entry) (leaves : List ℕ) (told : RecordsTold) : Type 0 where
   pub records : List (List ℕ)
   pub are : records_in bsize image number e leaves ≡ Ok records
-  pub sized : AreSized e records sizes
+  pub sized : AreSized e records told.sizes
+  pub starts : told.start ≡ start_of bsize e.format records
 
 -- a file with the tree that was read, and with these records
-abbrev pub told_file : Entry → Walked → List (List ℕ) → HeldFile
-told_file e walked records = record {
+abbrev pub told_file : ℕ → Entry → Walked → List (List ℕ) → HeldFile
+told_file bsize e walked records = record {
   entry = e;
   tree = record { leaves = walked.leaves.items; pointers = walked.pointers.items };
   length = length_of e.format e.length records;
   size = size_of e.format e.length e.count records;
+  start = start_of bsize e.format records;
 }
 
 -- the files of these entries, with the trees that were read, and with these records
-unfoldable pub told_files : List Entry → List Walked → List (List (List ℕ)) → List HeldFile
-told_files [] walks contents = []
-told_files (e ∷ es) [] contents = []
-told_files (e ∷ es) (walked ∷ walks) [] = []
-told_files (e ∷ es) (walked ∷ walks) (records ∷ more) = told_file e walked records ∷ told_files es walks more
+unfoldable pub told_files : ℕ → List Entry → List Walked → List (List (List ℕ)) → List HeldFile
+told_files bsize [] walks contents = []
+told_files bsize (e ∷ es) [] contents = []
+told_files bsize (e ∷ es) (walked ∷ walks) [] = []
+told_files bsize (e ∷ es) (walked ∷ walks) (records ∷ more) = told_file bsize e walked records ∷ told_files bsize es walks more
 
 -- the files of these entries, with the trees that were read, have records and are held so
 pub record HasContents (bsize : ℕ) (image : Image) (entries : List Entry) (walks : List Walked) (files : List HeldFile) : Type 0 where
   pub contents : List (List (List ℕ))
   pub are : contents_in bsize image 2 entries (map met_in walks) ≡ Ok contents
-  pub files_are : files ≡ told_files entries walks contents
+  pub files_are : files ≡ told_files bsize entries walks contents
 
--- each of the trees that were read has as many data blocks as its entry says
-abbrev pub HaveCounts : List Entry → List Walked → Type 0
-HaveCounts entries walks = map (λ w. length w.leaves.items) walks ≡ map (λ e. e.blocks) entries
+-- how many data blocks and pointer blocks a tree has that was read
+abbrev pub walked_sizes : Walked → ℕ × ℕ
+walked_sizes w = (length w.leaves.items, length w.pointers.items)
+
+-- and a file's tree by its entry
+abbrev pub entry_sizes : ℕ → Entry → ℕ × ℕ
+entry_sizes bsize e = (e.blocks, pointer_count (fan_of bsize e.format) e.blocks)
+
+-- each of the trees that were read has as many as its entry says
+abbrev pub HaveCounts : ℕ → List Entry → List Walked → Type 0
+HaveCounts bsize entries walks = map walked_sizes walks ≡ map (entry_sizes bsize) entries
 
 -- ---- the tests behind the label's, part by part
 

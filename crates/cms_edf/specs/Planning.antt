@@ -1,5 +1,6 @@
 -- A change of a volume as it is held: what is asked for, and its plan.
-use Rattle.std.specs.Prelude.{◌≡◌, ◌⊎◌, ℕ, ◌-◌, ◌*◌, ◌^◌, ◌<◌, ◌≤◌, List, [], length, position, slice_get, slice_set, swap_remove, All, Option, None, Some, IsSome, ⊤}
+use Rattle.std.specs.Prelude.{◌≡◌, ◌⊎◌, ℕ, ◌-◌, ◌^◌, ◌<◌, ◌≤◌, List, [], length, map, position, slice_get, slice_set, swap_remove, All, Option, None, Some, IsSome, ⊤}
+use Rattle.std.specs.List.{concat}
 use Rattle.cms_names.specs.declared.name.Name.{Name}
 use Rattle.cms_fields.specs.declared.entry.Entry.{Entry}
 use Rattle.cms_fields.specs.declared.time.Stamp.{Stamp}
@@ -11,9 +12,15 @@ use Rattle.cms_model.specs.Changes.{Change}
 use Rattle.cms_model.specs.Changes as model
 use Rattle.cms_held.specs.Kept.{Keeps}
 use Rattle.cms_held.specs.Opening.{HeldFile, HeldVolume, names_in}
-use Rattle.cms_held.specs.Renewing.{Edit, IsAllotted, dropping, entries_held, label_for, needed, renaming}
+use Rattle.cms_model.specs.DirectoryParts.{blocks_made}
+use Rattle.cms_held.specs.Allotting.{IsPlanned}
+use Rattle.cms_held.specs.EntryPlaces.{IsEnoughFor}
+use Rattle.cms_held.specs.Renewing.{Edit, dropping, entries_held, label_for, made_at, made_without, needed, renaming}
+use Rattle.cms_edf.specs.Allotting.{given_back}
+use Rattle.cms_edf.specs.declared.allotment.Allotment.{Allotment}
+use Rattle.cms_edf.specs.declared.allotment.Exchange.{Exchange}
 use Rattle.cms_edf.specs.Lacking.{LacksRoom}
-use Rattle.cms_held.specs.Systems.{Systems, directory_bytes_of}
+use Rattle.cms_held.specs.Systems.{Systems, directory_piece}
 use Rattle.cms_held.specs.Written.{CanWrite, ReadsBack}
 use Rattle.cms_held.specs.Carrying.{IsEditOf, IsReadyFor}
 use Rattle.cms_held.specs.LawsEdits.{relabelled}
@@ -71,6 +78,11 @@ abbrev pub MayEdit : List HeldFile → FileEdit → Type 0
 MayEdit files (does.Drop place) = place < length files
 MayEdit files (does.Rename place to number) = (place < length files) × (number ≤ 6) × IsFree files place to
 
+-- the numbers of the directory's entries that it makes anew
+abbrev pub made_by : List HeldFile → FileEdit → List ℕ
+made_by files (does.Drop place) = made_without place (length files)
+made_by files (does.Rename place to number) = made_at place
+
 -- how many files it leaves
 abbrev pub count_after : List HeldFile → FileEdit → ℕ
 count_after files (does.Drop place) = length files - 1
@@ -92,14 +104,30 @@ pub record AreSystemsFor (v : HeldVolume) (entries : List Entry) (stamp : Stamp)
   pub label : s.label ≡ label_for v.label s.bits
   pub label_bytes : s.label_bytes ≡ with_label s.label v.label_bytes
   pub label_long : length s.label_bytes ≡ v.disk.bsize
-  pub directory_bytes : s.directory_bytes ≡ directory_bytes_of v.disk.bsize s entries stamp
-  pub long : length s.directory_bytes ≡ length s.directory.leaves * v.disk.bsize
+  pub directory_bytes : s.directory_bytes
+      ≡ concat (map (directory_piece v.disk.bsize s entries stamp) s.directory_part.leaves)
   pub back : All ReadsBack entries
 
--- what is written for files with these entries, where these blocks are given back
-pub record IsPrepared (v : HeldVolume) (entries : List Entry) (given : List ℕ) (stamp : Stamp) (s : Systems) : Type 0 where
-  pub blocks : IsAllotted v (length entries) given [] s.directory s.map s.bits
+-- what is written for files with these entries in the blocks that are allotted
+pub record IsFilled (v : HeldVolume) (entries : List Entry) (a : Allotment) (stamp : Stamp) (s : Systems) : Type 0 where
+  pub directory_is : s.directory ≡ a.directory
+  pub directory_part_is : s.directory_part ≡ a.directory_part
+  pub map_is : s.map ≡ a.map_tree
+  pub map_part_is : s.map_part ≡ a.map_part
+  pub bits_are : s.bits ≡ a.map
   pub systems : AreSystemsFor v entries stamp s
+
+-- these data blocks of the directory are enough for files with these entries
+abbrev pub AreEnoughFor : HeldVolume → List Entry → Exchange → Type 0
+AreEnoughFor v entries x = IsEnoughFor v.disk.bsize (entries_held v.files) entries
+    (blocks_made v.disk.bsize (length entries) x.made.now)
+
+-- what is written for an edit after which the files have these entries, and which takes no blocks for a file
+pub record IsPrepared (v : HeldVolume) (entries : List Entry) (x : Exchange) (stamp : Stamp) (s : Systems) : Type 0 where
+  pub label_long : length s.label_bytes ≡ v.disk.bsize
+  pub back : All ReadsBack entries
+  pub planned : (edit : Edit) → entries_held edit.files ≡ entries → edit.made ≡ x.made.now → edit.given ≡ given_back x
+      → edit.taken ≡ [] → IsPlanned v edit stamp s
 
 -- what is written for an edit
 abbrev pub IsReadyAt : HeldVolume → FileEdit → Stamp → Systems → Type 0
@@ -142,6 +170,8 @@ IsPlanFor v change stamp (step.Relabel label bytes) = (volid : List ℕ) × (cha
 
 -- why a change isn't planned: there is no room for the new directory and the new map, or no memory
 abbrev pub IsFullFor : HeldVolume → asked.Change → PlanFault → Type 0
-IsFullFor v (ask.Drop name) why = LacksRoom v (needed v (length v.files - 1)) why
-IsFullFor v (ask.Rename from to number) why = LacksRoom v (needed v (length v.files)) why
+IsFullFor v (ask.Drop name) why = (place : ℕ) → place_in name.now v.files ≡ Some place
+    → LacksRoom v (needed v (length v.files - 1) (made_without place (length v.files))) why
+IsFullFor v (ask.Rename from to number) why = (place : ℕ) → place_in from.now v.files ≡ Some place
+    → LacksRoom v (needed v (length v.files) (made_at place)) why
 IsFullFor v (ask.Relabel volid) why = why ≡ failed.Memory

@@ -1,14 +1,25 @@
 // The blocks that an update takes and gives back.
-ghost use Rattle.std.specs.Prelude.{◌≡◌, ◌≤◌, ◌<◌, ◌+◌, ◌-◌, ◌/◌, ◌*◌, ◌^◌, ◌∷◌, ◌++◌, length, take, drop, nat_le, ◌&&◌, IfOk, IfErr, OnOk};
+ghost use Rattle.std.specs.Prelude.{◌≡◌, ◌≤◌, ◌<◌, ◌+◌, ◌-◌, ◌/◌, ◌*◌, ◌^◌, ◌∷◌, ◌++◌, length, take, drop, nat_le, ◌==◌, ◌&&◌, IfOk, IfErr, OnOk};
+ghost use Rattle.std.specs.List.{list_any};
 ghost use Rattle.cms_fields.specs.Numbers.{up};
 ghost use Rattle.cms_fields.specs.Limits.{most_files};
-ghost use Rattle.cms_model.specs.Sizes.{pointer_count};
+ghost use Rattle.cms_model.specs.DirectoryParts.{blocks_made, directory_count};
+ghost use Rattle.cms_model.specs.Lists.{In};
+ghost use Rattle.cms_model.specs.Sharing.{MayBeWritten};
+ghost use Rattle.cms_model.specs.Sizes.{map_size, pointer_count};
 ghost use Rattle.cms_map.specs.Bits.{HasFixed, free_blocks, with_marked};
-ghost use Rattle.cms_held.specs.Renewing.{IsAllotted, fresh, needed, released, with_freed};
+ghost use Rattle.cms_map.specs.Touched.{AreTouched};
+ghost use Rattle.cms_tree.specs.Paths.{fresh_places};
+ghost use Rattle.cms_held.specs.Allotting.{KeepsTree, on_map};
+ghost use Rattle.cms_held.specs.MapShares.{turned};
+ghost use Rattle.cms_held.specs.Renewing.{with_freed};
+ghost use Rattle.cms_edf.specs.Allotting.{IsAllottedFor, MapIsShared, SharesDirectory, given_back, need_of};
 ghost use Rattle.cms_edf.specs.Lacking.{LacksRoom};
+ghost use Rattle.cms_edf.specs.declared.allotment.PlanFault.TheVariants.{Memory};
 
-use crate::blocks::{copied, tree_in};
 use crate::held::{Held, TreeBlocks};
+use crate::system::ENTRY_SIZE;
+use crate::tree_part::{WrittenPlaces, left_blocks, shared_tree};
 use cms_journal::BlockSize;
 use cms_map::Map;
 use cms_tree::shape;
@@ -31,45 +42,68 @@ pub enum PlanFault {
     Memory,
 }
 
+impl From<AllocError> for PlanFault {
+    ghost from_gives = { λ _ e. e ≡ Memory };
+
+    fn from(_: AllocError) -> Self {
+        PlanFault::Memory
+    }
+}
+
+/// What an update does to the files, as far as its blocks go.
+#[derive(Clone, Copy)]
+pub struct Exchange<'a> {
+    /// how many files there are then
+    pub files: u32,
+    /// the numbers of the directory's entries that are made anew, its own among them
+    pub made: &'a [u32],
+    /// how many blocks are taken for a file
+    pub file: u32,
+    /// the data blocks of a file that are given back
+    pub leaves: &'a [u32],
+    /// and its pointer blocks
+    pub pointers: &'a [u32],
+}
+
 /// The blocks that an update takes, and the map after it.
 #[derive(Drop)]
 pub struct Allotment {
     /// those of a file, in order
     pub file: Vec<u32>,
     pub directory: TreeBlocks,
+    pub directory_part: WrittenPlaces,
     pub map_tree: TreeBlocks,
+    pub map_part: WrittenPlaces,
     pub map: Map,
 }
 
-// How many data blocks and pointer blocks the new trees have.
-#[derive(Clone, Copy)]
-struct Counts {
-    directory: u32,
-    directory_nodes: u32,
-    map: u32,
-    map_nodes: u32,
+// Whether the entry of one of these numbers stands in a data block that has so many entries.
+fn is_made(made: &[u32], each: u32, block: u32) -> bool
+    requires { 1 ≤ each }
+    ensures { result ≡ list_any (λ number. block == number / each) made.now }
+{
+    made.iter().any(|number| block == *number / each)
 }
 
-// The trees of a directory of so many files, and of the map of so many blocks.
-fn count_blocks(bsize: BlockSize, total: u32, files: u32) -> Counts
-    requires few { files ≤ most_files }
-    requires some { 6 ≤ total }
-    ensures directory { result.directory ≡ up (64 * (files + 2)) bsize }
-    ensures directory_nodes { result.directory_nodes ≡ pointer_count (bsize / 4) result.directory }
-    ensures map { result.map ≡ up (up total 8) bsize }
-    ensures map_nodes { result.map_nodes ≡ pointer_count (bsize / 4) result.map }
-    ensures first { 1 ≤ result.directory }
-    ensures small { result.directory + (result.directory_nodes + (result.map + result.map_nodes)) < 2 ^ 31 }
+// The data blocks of a directory of so many files in which the entries of these numbers stand.
+fn blocks_made(
+    alloc: Global,
+    bsize: BlockSize,
+    files: u32,
+    made: &[u32],
+) -> Result<Vec<u32>, AllocError>
+    requires { files ≤ most_files }
+    ensures { IfOk result (λ v. v.items ≡ blocks_made bsize files made.now) }
 {
-    let bytes = bsize.bytes();
-    let directory = (64 * (files + 2)).div_ceil(bytes);
-    let map = total.div_ceil(8).div_ceil(bytes);
-    Counts {
-        directory,
-        directory_nodes: shape(directory, bytes / 4).pointers,
-        map,
-        map_nodes: shape(map, bytes / 4).pointers,
+    let each = bsize.bytes() / ENTRY_SIZE;
+    let count = (ENTRY_SIZE * (files + 2)).div_ceil(bsize.bytes());
+    let mut blocks = Vec::with_capacity(alloc, made.len())?;
+    for block in 0..count {
+        if is_made(made, each, block) {
+            blocks.push(block)?;
+        }
     }
+    Ok(blocks)
 }
 
 // Whether a block lies from 6 to the last.
@@ -92,21 +126,6 @@ fn release_all(map: &mut Map, total: u32, blocks: &[u32])
     }
 }
 
-// The new map, without the blocks of the old trees and of a file.
-fn release_old(map: &mut Map, held: &Held, leaves: &[u32], pointers: &[u32])
-    requires { length map.old ≡ held.now.volume.label.blocks }
-    ensures freed { map.new ≡ with_freed (held.now.volume.directory.leaves ++ (held.now.volume.directory.pointers
-        ++ (held.now.volume.map.leaves ++ (held.now.volume.map.pointers ++ (leaves.now ++ pointers.now))))) map.old }
-{
-    let total = held.label.blocks;
-    release_all(map, total, held.directory.leaves());
-    release_all(map, total, held.directory.pointers());
-    release_all(map, total, held.map_tree.leaves());
-    release_all(map, total, held.map_tree.pointers());
-    release_all(map, total, leaves);
-    release_all(map, total, pointers);
-}
-
 // A block and others behind it.
 fn joined(alloc: Global, first: u32, more: &[u32]) -> Result<Vec<u32>, AllocError>
     ensures { IfOk result (λ v. v.items ≡ first ∷ more.now) }
@@ -115,45 +134,6 @@ fn joined(alloc: Global, first: u32, more: &[u32]) -> Result<Vec<u32>, AllocErro
     blocks.push(first)?;
     blocks.extend_from_slice(more)?;
     Ok(blocks)
-}
-
-// The trees that take these blocks in order, behind those of a file.
-#[derive(Drop)]
-struct Trees {
-    file: Vec<u32>,
-    directory: TreeBlocks,
-    map: TreeBlocks,
-}
-
-fn take_trees(
-    alloc: Global,
-    counts: &Counts,
-    origin: u32,
-    file: u32,
-    blocks: &[u32],
-) -> Result<Trees, AllocError>
-    requires some { 1 ≤ counts.now.directory }
-    requires long { length blocks.now ≡ file + ((counts.now.directory - 1)
-        + (counts.now.directory_nodes + (counts.now.map + counts.now.map_nodes))) }
-    ensures order { IfOk result (λ t. fresh t.file.items t.directory t.map ≡ blocks.now) }
-    ensures origin { IfOk result (λ t. t.directory.leaves ≡ origin ∷ drop 1 t.directory.leaves) }
-    ensures file { IfOk result (λ t. length t.file.items ≡ file) }
-    ensures directory { IfOk result (λ t. length t.directory.leaves ≡ counts.now.directory) }
-    ensures directory_nodes { IfOk result (λ t. length t.directory.pointers ≡ counts.now.directory_nodes) }
-    ensures map { IfOk result (λ t. length t.map.leaves ≡ counts.now.map) }
-    ensures map_nodes { IfOk result (λ t. length t.map.pointers ≡ counts.now.map_nodes) }
-{
-    let (own, rest) = blocks.split_at(file as usize);
-    let (more, rest) = rest.split_at(counts.directory as usize - 1);
-    let (nodes, rest) = rest.split_at(counts.directory_nodes as usize);
-    Ok(Trees {
-        file: copied(alloc, own)?,
-        directory: TreeBlocks {
-            leaves: joined(alloc, origin, more)?,
-            pointers: copied(alloc, nodes)?,
-        },
-        map: tree_in(alloc, rest, counts.map)?,
-    })
 }
 
 /// The lowest free blocks, and the map with them.
@@ -177,70 +157,263 @@ pub fn take_blocks(alloc: Global, map: &Map, count: u32) -> Result<Taken, AllocE
     Ok(Taken { blocks, map })
 }
 
-// The blocks of an update for which there is room.
-fn take_all(
-    alloc: Global,
-    held: &Held,
-    counts: &Counts,
-    file: u32,
-    need: u32,
-    leaves: &[u32],
-    pointers: &[u32],
-) -> Result<Allotment, AllocError>
-    requires some { 1 ≤ counts.now.directory }
-    requires need { need ≡ file + ((counts.now.directory - 1)
-        + (counts.now.directory_nodes + (counts.now.map + counts.now.map_nodes))) }
-    requires enough { need ≤ length (free_blocks held.now.volume.bits) }
-    ensures directory { IfOk result (λ a. length a.directory.leaves ≡ counts.now.directory) }
-    ensures directory_nodes { IfOk result (λ a. length a.directory.pointers ≡ counts.now.directory_nodes) }
-    ensures map_count { IfOk result (λ a. length a.map_tree.leaves ≡ counts.now.map) }
-    ensures map_nodes { IfOk result (λ a. length a.map_tree.pointers ≡ counts.now.map_nodes) }
-    ensures file { IfOk result (λ a. length a.file.items ≡ file) }
-    ensures origin { IfOk result (λ a. a.directory.leaves ≡ (9 - held.now.volume.label.origin) ∷ drop 1 a.directory.leaves) }
-    ensures lowest { IfOk result (λ a. fresh a.file.items a.directory a.map_tree ≡ take need (free_blocks held.now.volume.bits)) }
-    ensures marks { IfOk result (λ a. a.map ≡ with_freed (released held.now.volume (leaves.now ++ pointers.now))
-        (with_marked (take need (free_blocks held.now.volume.bits)) held.now.volume.bits)) }
-{
-    let mut taken = take_blocks(alloc, &held.map, need)?;
-    let origin = 9 - held.label.origin;
-    let trees = take_trees(alloc, counts, origin, file, &taken.blocks)?;
-    release_old(&mut taken.map, held, leaves, pointers);
-    Ok(Allotment {
-        file: trees.file,
-        directory: trees.directory,
-        map_tree: trees.map,
-        map: taken.map,
-    })
+// The part of the directory that is written, and the tree that it comes to.
+#[derive(Drop)]
+struct SharedPart {
+    tree: TreeBlocks,
+    places: WrittenPlaces,
+    // the blocks that are given back
+    left: Vec<u32>,
 }
 
-/// Takes the lowest free blocks for a directory of so many files and for the map, behind so many for a file, and gives back those of the
-/// old directory and map and these of a file's tree. `Full` exactly where there are too few.
-pub fn allot(
+// The new directory, whose first block is the other one of blocks 4 and 5, and whose others take these in order.
+fn share_directory(
     alloc: Global,
     held: &Held,
     files: u32,
-    file: u32,
-    leaves: &[u32],
-    pointers: &[u32],
-) -> Result<Allotment, PlanFault>
+    places: WrittenPlaces,
+    blocks: &[u32],
+) -> Result<SharedPart, AllocError>
     requires few { files ≤ most_files }
-    requires small { file < 2 ^ 31 }
-    ensures allotted { IfOk result (λ a. IsAllotted held.now.volume files (leaves.now ++ pointers.now)
-        a.file.items a.directory a.map_tree a.map) }
-    ensures file { IfOk result (λ a. length a.file.items ≡ file) }
-    ensures map_few { IfOk result (λ a. length a.map_tree.leaves < 2 ^ 32) }
-    ensures room { OnOk result (file + needed held.now.volume files ≤ length (free_blocks held.now.volume.bits)) }
-    ensures fixed { HasFixed held.now.volume.bits }
-    ensures full { IfErr result (LacksRoom held.now.volume (file + needed held.now.volume files)) }
+    requires first { In 0 places.leaves }
+    requires may { MayBeWritten (length held.now.volume.directory.leaves)
+        (directory_count held.now.volume.disk.bsize files) places.leaves }
+    requires nodes { places.nodes ≡ fresh_places (held.now.volume.disk.bsize / 4)
+        (length held.now.volume.directory.leaves) (directory_count held.now.volume.disk.bsize files) places.leaves }
+    requires enough { length places.leaves + length places.nodes ≤ length blocks.now + 1 }
+    ensures { IfOk result (λ p. SharesDirectory held.now.volume files blocks.now places p.tree p.places p.left.items) }
 {
-    let counts = count_blocks(held.bsize, held.label.blocks, files);
-    let own = counts.directory - 1 + counts.directory_nodes;
-    let need = file + own + counts.map + counts.map_nodes;
+    let bsize = held.bsize.bytes();
+    let count = (ENTRY_SIZE * (files + 2)).div_ceil(bsize);
+    let numbers = joined(alloc, 9 - held.label.origin, blocks)?;
+    let tree = shared_tree(alloc, &held.directory, count, bsize / 4, &places, &numbers)?;
+    let left = left_blocks(alloc, &held.directory, count, bsize / 4, &places.leaves)?;
+    Ok(SharedPart { tree, places, left })
+}
+
+// The new map's tree, of which these data blocks are written, and which takes these blocks in order.
+fn share_map(
+    alloc: Global,
+    held: &Held,
+    written: Vec<u32>,
+    blocks: &[u32],
+) -> Result<SharedPart, AllocError>
+    requires may { MayBeWritten (length held.now.volume.map.leaves) (length held.now.volume.map.leaves) written.items }
+    requires enough { map_size held.now.volume.disk.bsize held.now.volume.label.blocks ≤ length blocks.now }
+    ensures { IfOk result (λ p. MapIsShared held.now.volume written.items blocks.now p.tree p.places p.left.items) }
+{
+    let fan = held.bsize.bytes() / 4;
+    let count = held.map_tree.leaves().len() as u32;
+    let places = WrittenPlaces::of_shared(alloc, count, count, fan, written)?;
+    let tree = shared_tree(alloc, &held.map_tree, count, fan, &places, blocks)?;
+    let left = left_blocks(alloc, &held.map_tree, count, fan, &places.leaves)?;
+    Ok(SharedPart { tree, places, left })
+}
+
+// Whether a block has a bit in the map of so many.
+fn has_bit(block: u32, total: u32) -> bool
+    ensures { result ≡ (nat_le 1 block && nat_le block total) }
+{
+    1 <= block && block <= total
+}
+
+// Appends those of the blocks that have a bit in the map of so many.
+fn append_on_map(total: u32, blocks: &[u32], into: &mut Vec<u32>) -> Result<(), AllocError>
+    ensures { OnOk result (into.new.items ≡ into.old.items ++ on_map total blocks.now) }
+{
+    for block in blocks {
+        if has_bit(*block, total) {
+            into.push(*block)?;
+        }
+    }
+    Ok(())
+}
+
+// The blocks whose bits say what is written of the map: the lowest free ones, those that are given back, and those of the map.
+fn turned_blocks(
+    alloc: Global,
+    held: &Held,
+    lowest: &[u32],
+    released: &[u32],
+) -> Result<Vec<u32>, AllocError>
+    ensures { IfOk result (λ v. v.items ≡ on_map held.now.volume.label.blocks
+        (lowest.now ++ (released.now ++ (held.now.volume.map.leaves ++ held.now.volume.map.pointers)))) }
+{
+    let total = held.label.blocks;
+    let mut blocks = Vec::with_capacity(alloc, lowest.len() + released.len())?;
+    append_on_map(total, lowest, &mut blocks)?;
+    append_on_map(total, released, &mut blocks)?;
+    append_on_map(total, held.map_tree.leaves(), &mut blocks)?;
+    append_on_map(total, held.map_tree.pointers(), &mut blocks)?;
+    Ok(blocks)
+}
+
+// The data blocks of the map that are written, where so many of the lowest free blocks are taken for files and directory, and these are
+// given back: none where nothing is.
+fn map_written(
+    alloc: Global,
+    held: &Held,
+    used: u32,
+    lowest: &[u32],
+    released: &[u32],
+) -> Result<Vec<u32>, AllocError>
+    requires used { used ≤ length lowest.now }
+    requires lowest { lowest.now ≡ take (length lowest.now) (free_blocks held.now.volume.bits) }
+    ensures touched { IfOk result (λ v. AreTouched held.now.volume.disk.bsize
+        (on_map held.now.volume.label.blocks (turned (length lowest.now) held.now.volume.bits
+        (take used lowest.now) released.now held.now.volume.map)) v.items) }
+{
+    if used == 0 && released.is_empty() {
+        return Ok(Vec::new(alloc));
+    }
+    let bsize = held.bsize.bytes();
+    let blocks = turned_blocks(alloc, held, lowest, released)?;
+    let room = held.label.blocks.div_ceil(8 * bsize) as usize;
+    let mut written = Vec::with_capacity(alloc, room)?;
+    held.map.touched(&blocks, bsize, &mut written);
+    Ok(written)
+}
+
+// The blocks that are given back for the files: those of a file, and those of the directory but its first.
+fn released_blocks(
+    alloc: Global,
+    exchange: &Exchange<'_>,
+    left: &[u32],
+) -> Result<Vec<u32>, AllocError>
+    ensures { IfOk result (λ v. v.items ≡ given_back exchange.now ++ drop 1 left.now) }
+{
+    let behind = match left {
+        [_, behind @ ..] => behind,
+        [] => &[],
+    };
+    let room = exchange.leaves.len() + exchange.pointers.len() + behind.len();
+    let mut released = Vec::with_capacity(alloc, room)?;
+    released.extend_from_slice(exchange.leaves)?;
+    released.extend_from_slice(exchange.pointers)?;
+    released.extend_from_slice(behind)?;
+    Ok(released)
+}
+
+// The map with so many of the lowest free blocks taken and these given back.
+fn new_map(
+    alloc: Global,
+    held: &Held,
+    used: u32,
+    released: &[u32],
+    left: &[u32],
+) -> Result<Map, AllocError>
+    requires { used ≤ length (free_blocks held.now.volume.bits) }
+    ensures { IfOk result (λ m. m ≡ with_freed (released.now ++ left.now)
+        (with_marked (take used (free_blocks held.now.volume.bits)) held.now.volume.bits)) }
+{
+    let taken = take_blocks(alloc, &held.map, used)?;
+    let mut map = taken.map;
+    release_all(&mut map, held.label.blocks, released);
+    release_all(&mut map, held.label.blocks, left);
+    Ok(map)
+}
+
+/// How many blocks of a tree are written.
+pub fn written_count(places: &WrittenPlaces) -> u32
+    requires { length places.now.leaves + length places.now.nodes < 2 ^ 32 }
+    ensures { result ≡ length places.now.leaves + length places.now.nodes }
+{
+    (places.leaves.len() + places.nodes.len()) as u32
+}
+
+// The blocks of an update for which there is room.
+fn allot_all(
+    alloc: Global,
+    held: &Held,
+    exchange: &Exchange<'_>,
+    places: WrittenPlaces,
+    need: u32,
+) -> Result<Allotment, AllocError>
+    requires few { exchange.now.files ≤ most_files }
+    requires written { places.leaves ≡ blocks_made held.now.volume.disk.bsize exchange.now.files exchange.now.made.now }
+    requires nodes { places.nodes ≡ fresh_places (held.now.volume.disk.bsize / 4)
+        (length held.now.volume.directory.leaves) (directory_count held.now.volume.disk.bsize exchange.now.files) places.leaves }
+    requires first { In 0 places.leaves }
+    requires may { MayBeWritten (length held.now.volume.directory.leaves)
+        (directory_count held.now.volume.disk.bsize exchange.now.files) places.leaves }
+    requires need { need ≡ need_of held.now.volume exchange.now }
+    requires enough { need ≤ length (free_blocks held.now.volume.bits) }
+    ensures { IfOk result (IsAllottedFor held.now.volume exchange.now) }
+{
+    let lowest = take_blocks(alloc, &held.map, need)?.blocks;
+    let used = exchange.file + written_count(&places) - 1;
+    let (file, behind) = lowest.split_at(exchange.file as usize);
+    let directory = share_directory(alloc, held, exchange.files, places, behind)?;
+    let released = released_blocks(alloc, exchange, &directory.left)?;
+    let written = map_written(alloc, held, used, &lowest, &released)?;
+    let (_, behind) = lowest.split_at(used as usize);
+    let shared = share_map(alloc, held, written, behind)?;
+    let all = used + written_count(&shared.places);
+    let map = new_map(alloc, held, all, &released, &shared.left)?;
+    let file = file.to_vec(alloc)?;
+    Ok(Allotment {
+        file,
+        directory: directory.tree,
+        directory_part: directory.places,
+        map_tree: shared.tree,
+        map_part: shared.places,
+        map,
+    })
+}
+
+// The places of the directory that are written.
+fn directory_places(
+    alloc: Global,
+    held: &Held,
+    exchange: &Exchange<'_>,
+) -> Result<WrittenPlaces, AllocError>
+    requires few { exchange.now.files ≤ most_files }
+    ensures leaves { IfOk result (λ p. p.leaves
+        ≡ blocks_made held.now.volume.disk.bsize exchange.now.files exchange.now.made.now) }
+    ensures nodes { IfOk result (λ p. p.nodes ≡ fresh_places (held.now.volume.disk.bsize / 4)
+        (length held.now.volume.directory.leaves) (directory_count held.now.volume.disk.bsize exchange.now.files)
+        (blocks_made held.now.volume.disk.bsize exchange.now.files exchange.now.made.now)) }
+{
+    let bsize = held.bsize.bytes();
+    let written = blocks_made(alloc, held.bsize, exchange.files, exchange.made)?;
+    let count = (ENTRY_SIZE * (exchange.files + 2)).div_ceil(bsize);
+    let before = held.directory.leaves().len() as u32;
+    WrittenPlaces::of_shared(alloc, before, count, bsize / 4, written)
+}
+
+// The blocks of the map, as many as it is charged for.
+fn map_blocks(held: &Held) -> u32
+    ensures { result ≡ map_size held.now.volume.disk.bsize held.now.volume.label.blocks }
+{
+    let bytes = held.bsize.bytes();
+    let data = held.label.blocks.div_ceil(8).div_ceil(bytes);
+    data + shape(data, bytes / 4).pointers
+}
+
+/// Takes the lowest free blocks for what an update writes of the directory and of the map, behind so many for a file, and gives back the
+/// blocks of the directory and the map that aren't kept, and those of a file's tree. `Full` exactly where there are too few.
+pub fn allot(alloc: Global, held: &Held, exchange: &Exchange<'_>) -> Result<Allotment, PlanFault>
+    requires few { exchange.now.files ≤ most_files }
+    requires small { exchange.now.file < 2 ^ 31 }
+    requires first { In 0 (blocks_made held.now.volume.disk.bsize exchange.now.files exchange.now.made.now) }
+    requires may { MayBeWritten (directory_count held.now.volume.disk.bsize (length held.now.volume.files))
+        (directory_count held.now.volume.disk.bsize exchange.now.files)
+        (blocks_made held.now.volume.disk.bsize exchange.now.files exchange.now.made.now) }
+    ensures allotted { IfOk result (IsAllottedFor held.now.volume exchange.now) }
+    ensures map_few { IfOk result (λ a. length a.map_tree.leaves < 2 ^ 32) }
+    ensures room { OnOk result (need_of held.now.volume exchange.now ≤ length (free_blocks held.now.volume.bits)) }
+    ensures fixed { HasFixed held.now.volume.bits }
+    ensures full { IfErr result (LacksRoom held.now.volume (need_of held.now.volume exchange.now)) }
+{
     let free = held.map.free_count();
+    let Ok(places) = directory_places(alloc, held, exchange) else {
+        return Err(PlanFault::Memory);
+    };
+    let need = exchange.file + (written_count(&places) - 1) + map_blocks(held);
     if free < need {
         return Err(PlanFault::Full { need, free });
     }
-    match take_all(alloc, held, &counts, file, need, leaves, pointers) {
+    match allot_all(alloc, held, exchange, places, need) {
         Ok(allotment) => Ok(allotment),
         Err(_) => Err(PlanFault::Memory),
     }

@@ -5,16 +5,22 @@ ghost use Rattle.indexmap.specs.IndexMap.{spare, values};
 ghost use Rattle.cms_world.specs.Seen.{OnUnits, seen};
 ghost use Rattle.cms_journal.specs.Journal.{HasBlocks, IsWritable, Journal};
 ghost use Rattle.cms_journal.specs.Told.{Grown};
+ghost use Rattle.cms_fields.specs.declared.time.Stamp.{Stamp};
+ghost use Rattle.cms_model.specs.Changes.{Add, Put};
 ghost use Rattle.cms_model.specs.Minidisks.{Minidisk, same_name};
 ghost use Rattle.cms_model.specs.Records.{length_of};
 ghost use Rattle.cms_held.specs.Carrying.{IsHeldMinidisk};
+ghost use Rattle.cms_held.specs.Drafts.{Front, no_front};
+ghost use Rattle.cms_held.specs.Growing.{length_with};
 ghost use Rattle.cms_held.specs.Kept.{Keeps};
 ghost use Rattle.cms_held.specs.Opening.{HeldFile, HeldVolume, by_name, names_in};
 ghost use Rattle.cms_held.specs.Renewing.{Edit, renewed};
 ghost use Rattle.cms_draft.specs.BlockWriting.{came};
 ghost use Rattle.cms_draft.specs.Drafting.{Drafts, IsDrafting};
+ghost use Rattle.cms_draft.specs.declared.shape.DraftShape.{DraftShape};
 ghost use Rattle.cms_edf.specs.Doubts.{UpdatesSystems};
-ghost use Rattle.cms_edf.specs.FileDrafts.{DraftStands, IsCommitted, IsCommittedAt, IsSomeDraft, LeadsToFile, list_with};
+ghost use Rattle.cms_edf.specs.FileDrafts.{DraftStands, IsCommitted, IsCommittedAt, IsDraftFor, IsSomeDraft, LeadsToFile, list_with, put_in, tree_of};
+ghost use Rattle.cms_edf.specs.Growing.{IsFrontOf, IsMoreFor};
 
 use crate::doubt::Doubt;
 use crate::draft::Draft;
@@ -98,13 +104,19 @@ pub fn commit<W: World>(world: &mut W, held: &mut Held, draft: Draft) -> Result<
     requires blocks { ForSome (W.told world.old) (λ j. HasBlocks j.units held.old.volume.unit held.old.volume.disk.count
         held.old.volume.disk.bsize) }
     requires writable { ForSome (W.told world.old) (λ j. IsWritable j.units held.old.volume.unit) }
-    ensures events { (records : List (List ℕ)) → Drafts draft.writer records []
-        → IsCommitted (W.told world.old) (W.told world.new) held.old.volume draft records result }
-    ensures commits { (j : Journal) (m : Minidisk) (records : List (List ℕ)) → W.told world.old ≡ Some j
-        → IsHeldMinidisk j held.old.volume m → Drafts draft.writer records []
-        → length_of draft.writer.shape.format draft.writer.shape.length records ≡ draft.writer.shape.length
-        → DraftStands j draft.writer records
-        → IsCommittedAt j (W.told world.new) held.old.volume held.new.volume m draft records result }
+    ensures events { (front : Front) (records : List (List ℕ)) → Drafts draft.writer front records []
+        → IsCommitted (W.told world.old) (W.told world.new) held.old.volume draft front records result }
+    ensures puts { (j : Journal) (m : Minidisk) (name : Name) (shape : DraftShape) (stamp : Stamp) (records : List (List ℕ))
+        → W.told world.old ≡ Some j → IsHeldMinidisk j held.old.volume m → IsDraftFor held.old.volume name shape stamp draft
+        → Drafts draft.writer no_front records [] → length_of shape.format shape.length records ≡ shape.length
+        → DraftStands j draft.writer no_front records
+        → IsCommittedAt j (W.told world.new) held.old.volume held.new.volume m draft no_front records (Put (put_in draft records)) result }
+    ensures adds { (j : Journal) (m : Minidisk) (name : Name) (f : HeldFile) (shape : DraftShape) (stamp : Stamp) (front : Front)
+        (records : List (List ℕ)) → W.told world.old ≡ Some j → IsHeldMinidisk j held.old.volume m
+        → IsMoreFor held.old.volume name f shape stamp draft → IsFrontOf j held.old.volume f (tree_of draft) front
+        → Drafts draft.writer front records [] → length_with shape.format f.length records ≡ shape.length
+        → DraftStands j draft.writer front records
+        → IsCommittedAt j (W.told world.new) held.old.volume held.new.volume m draft front records (Add name records shape.stamp) result }
     ensures volume { OnOk result (LeadsToFile held.old.volume draft held.new.volume) }
     ensures kept { OnErr result (held.new ≡ held.old) }
     ensures sound { IsDrafting draft.writer }
@@ -117,6 +129,7 @@ pub fn commit<W: World>(world: &mut W, held: &mut Held, draft: Draft) -> Result<
         systems,
     } = draft;
     let (length, size) = (writer.shape().length, writer.shape().bytes as u32);
+    let start = writer.start();
     match writer.finish(world) {
         Ok(tree) => {
             let file = FileHeld {
@@ -124,6 +137,7 @@ pub fn commit<W: World>(world: &mut W, held: &mut Held, draft: Draft) -> Result<
                 tree,
                 length,
                 size,
+                start,
             };
             held.carry_file(world, file, systems)
         }

@@ -5,16 +5,18 @@ ghost use Rattle.cms_journal.specs.Journal.{HasBlock, HasBlocks, contents_of};
 ghost use Rattle.cms_model.specs.Trees.{image_of, bytes_at};
 ghost use Rattle.indexmap.specs.IndexMap.{keys, values};
 ghost use Rattle.cms_fields.specs.Entries.{passes};
-ghost use Rattle.cms_names.specs.declared.name.Format.TheVariants.{F};
+ghost use Rattle.cms_names.specs.declared.name.Format.TheVariants.{F, V};
 ghost use Rattle.cms_model.specs.Minidisks.{is_named};
 ghost use Rattle.cms_model.specs.Volumes.{blamed, contents_in, first_twice};
 ghost use Rattle.cms_model.specs.declared.fault.OpenFault.TheVariants as failed;
-ghost use Rattle.cms_records.specs.Scans.{IsFed, sizes_in};
+ghost use Rattle.cms_records.specs.Scans.{IsFed, filled_by, sizes_in};
+ghost use Rattle.cms_model.specs.Records.{varying};
+ghost use Rattle.cms_held.specs.Marks.{start_of};
 ghost use Rattle.cms_tree.specs.Walks.{IsWithin};
 ghost use Rattle.cms_held.specs.Opening.{IsFaultOf, by_name};
 ghost use Rattle.cms_held.specs.Kept.{IsKeptFile};
 ghost use Rattle.cms_edf.specs.OpeningSteps.{OfImage, met_in};
-ghost use Rattle.cms_edf.specs.EntryShapes.{HasSize};
+ghost use Rattle.cms_edf.specs.EntryShapes.{EndsIn, HasSize};
 ghost use Rattle.cms_edf.specs.OpeningFiles.{records_in, HasRecords, HasContents, HaveCounts};
 ghost use Rattle.cms_fields.specs.Limits.{longest_record, most_bytes, most_files};
 ghost use Rattle.cms_world.specs.Seen.{OnlyReads, seen};
@@ -23,6 +25,7 @@ use crate::held::FileHeld;
 use crate::open::Place;
 use crate::trees::{block_of, tree_held};
 use cms_fields::Entry;
+use cms_journal::BlockSize;
 use cms_model::OpenFault;
 use cms_names::{Format, Name};
 use cms_records::{VarScan, VarSizes};
@@ -30,6 +33,28 @@ use cms_tree::Walked;
 use cms_world::World;
 use indexmap::IndexMap;
 use std::alloc::Global;
+
+/// The place of a record in a data block in which none begins.
+const NOWHERE: u32 = u32::MAX;
+
+/// What is told of a file's records: their sizes, and where at V the first of them begins in the data block that they fill in part.
+#[derive(Clone, Copy)]
+pub struct RecordsTold {
+    pub sizes: VarSizes,
+    pub start: u32,
+}
+
+// Where the first record begins in the data block that the records fill in part, once all bytes came.
+fn start_in(scan: &VarScan, bsize: BlockSize, stored: u32) -> u32
+    ensures { (count : ℕ) (bytes : List ℕ) (records : List (List ℕ)) → scan.now.bsize ≡ bsize → IsFed count bytes scan.now
+        → varying scan.now.bsize count 0 bytes ≡ Ok records → stored ≡ filled_by records → result ≡ start_of bsize V records }
+{
+    if stored % bsize.bytes() == 0 {
+        NOWHERE
+    } else {
+        scan.last_start()
+    }
+}
 
 // Takes the next block of the file of a number.
 fn feed(scan: &mut VarScan, number: u32, block: &[u8]) -> Result<(), OpenFault>
@@ -53,6 +78,8 @@ fn end(scan: &VarScan, number: u32) -> Result<VarSizes, OpenFault>
         (sizes_in scan.now.bsize count bytes) }
     ensures longest { IfOk result (λ sizes. sizes.longest ≤ longest_record) }
     ensures stored { IfOk result (λ sizes. sizes.stored ≤ most_bytes) }
+    ensures high { IfOk result (λ sizes. sizes.stored ≤ scan.now.fed) }
+    ensures low { IfOk result (λ sizes. scan.now.fed < sizes.stored + scan.now.bsize) }
     ensures device { IfErr result (λ e. e ≡ failed.Device → ⊥) }
 {
     match scan.end() {
@@ -70,18 +97,22 @@ fn read_varying<W: World>(
     number: u32,
     count: u32,
     leaves: &[u32],
-) -> Result<VarSizes, OpenFault>
+) -> Result<RecordsTold, OpenFault>
     requires some { 1 ≤ count }
     requires small { length leaves.now * place.now.bsize ≤ most_bytes }
     requires blocks { ForSome (W.told world.old) (λ j. (k : ℕ) → k < length leaves.now
         → HasBlock j.units place.now.unit (slice_index leaves.now k) place.now.bsize) }
-    ensures read { IfOk result (λ sizes. OfImage (W.told world.old) place.now.unit (λ image. blamed (failed.Var number)
-        (sizes_in place.now.bsize count (bytes_at image leaves.now)) ≡ Ok sizes)) }
+    ensures read { IfOk result (λ told. OfImage (W.told world.old) place.now.unit (λ image. blamed (failed.Var number)
+        (sizes_in place.now.bsize count (bytes_at image leaves.now)) ≡ Ok told.sizes)) }
+    ensures start { IfOk result (λ told. OfImage (W.told world.old) place.now.unit (λ image. (records : List (List ℕ))
+        → varying place.now.bsize count 0 (bytes_at image leaves.now) ≡ Ok records
+        → told.start ≡ start_of place.now.bsize V records)) }
     ensures fault { IfErr result (λ why. OfImage (W.told world.old) place.now.unit (λ image. IsFaultOf (blamed (failed.Var number)
         (sizes_in place.now.bsize count (bytes_at image leaves.now))) why)) }
-    ensures some { IfOk result (λ sizes. 1 ≤ sizes.longest) }
-    ensures longest { IfOk result (λ sizes. sizes.longest ≤ longest_record) }
-    ensures stored { IfOk result (λ sizes. sizes.stored ≤ most_bytes) }
+    ensures some { IfOk result (λ told. 1 ≤ told.sizes.longest) }
+    ensures longest { IfOk result (λ told. told.sizes.longest ≤ longest_record) }
+    ensures stored { IfOk result (λ told. told.sizes.stored ≤ most_bytes) }
+    ensures ends { 1 ≤ length leaves.now → IfOk result (λ told. EndsIn place.now.bsize (length leaves.now) told.sizes.stored) }
     ensures reads { OnlyReads (seen W.World world.old) (seen W.World world.new) failed.Device result }
 {
     let mut scan = VarScan::new(count, place.bsize);
@@ -89,7 +120,11 @@ fn read_varying<W: World>(
         let block = block_of(alloc, world, place.unit, leaves[nth], place.bsize)?;
         feed(&mut scan, number, &block)?;
     }
-    end(&scan, number)
+    let sizes = end(&scan, number)?;
+    Ok(RecordsTold {
+        sizes,
+        start: start_in(&scan, place.bsize, sizes.stored),
+    })
 }
 
 // What is told of a file's records, which have these data blocks. Those of fixed records are not read.
@@ -101,44 +136,50 @@ fn read_sizes<W: World>(
     number: u32,
     entry: &Entry,
     leaves: &[u32],
-) -> Result<VarSizes, OpenFault>
+) -> Result<RecordsTold, OpenFault>
     requires size { HasSize place.now.bsize entry.now }
     requires count { length leaves.now ≡ entry.now.blocks }
     requires blocks { ForSome (W.told world.old) (λ j. (k : ℕ) → k < length leaves.now
         → HasBlock j.units place.now.unit (slice_index leaves.now k) place.now.bsize) }
-    ensures read { IfOk result (λ sizes. OfImage (W.told world.old) place.now.unit (λ image.
-        HasRecords place.now.bsize image number entry.now leaves.now sizes)) }
+    ensures read { IfOk result (λ told. OfImage (W.told world.old) place.now.unit (λ image.
+        HasRecords place.now.bsize image number entry.now leaves.now told)) }
     ensures fault { IfErr result (λ why. OfImage (W.told world.old) place.now.unit (λ image.
         IsFaultOf (records_in place.now.bsize image number entry.now leaves.now) why)) }
-    ensures some { IfOk result (λ sizes. 1 ≤ sizes.longest) }
-    ensures longest { IfOk result (λ sizes. sizes.longest ≤ longest_record) }
-    ensures fixed { IfOk result (λ sizes. entry.now.format ≡ F → sizes.longest ≡ entry.now.length) }
-    ensures stored { IfOk result (λ sizes. sizes.stored ≤ most_bytes) }
+    ensures some { IfOk result (λ told. 1 ≤ told.sizes.longest) }
+    ensures longest { IfOk result (λ told. told.sizes.longest ≤ longest_record) }
+    ensures fixed { IfOk result (λ told. entry.now.format ≡ F → told.sizes.longest ≡ entry.now.length) }
+    ensures stored { IfOk result (λ told. told.sizes.stored ≤ most_bytes) }
+    ensures ends { IfOk result (λ told. EndsIn place.now.bsize (length leaves.now) told.sizes.stored) }
     ensures reads { OnlyReads (seen W.World world.old) (seen W.World world.new) failed.Device result }
 {
     match entry.format {
-        Format::F => Ok(VarSizes {
-            longest: entry.length,
-            stored: entry.count * entry.length,
+        Format::F => Ok(RecordsTold {
+            sizes: VarSizes {
+                longest: entry.length,
+                stored: entry.count * entry.length,
+            },
+            start: NOWHERE,
         }),
         Format::V => read_varying(alloc, world, place, number, entry.count, leaves),
     }
 }
 
 // A file with its tree, and with what is told of its records.
-fn file_of(entry: Entry, tree: Walked, sizes: &VarSizes) -> FileHeld
+fn file_of(entry: Entry, tree: Walked, told: &RecordsTold) -> FileHeld
     ensures { result ≡ record {
       entry = entry;
       tree = record { leaves = tree.leaves.items; pointers = tree.pointers.items };
-      length = sizes.now.longest;
-      size = sizes.now.stored;
+      length = told.now.sizes.longest;
+      size = told.now.sizes.stored;
+      start = told.now.start;
     } }
 {
     FileHeld {
         entry,
         tree: tree_held(tree),
-        length: sizes.longest,
-        size: sizes.stored,
+        length: told.sizes.longest,
+        size: told.sizes.stored,
+        start: told.start,
     }
 }
 
@@ -168,13 +209,14 @@ pub fn read_contents<W: World>(
     requires entries { All (λ e. passes place.now.bsize e ≡ true) entries.now }
     requires names { first_twice 2 [] entries.now ≡ None }
     requires sizes { All (HasSize place.now.bsize) entries.now }
-    requires counts { HaveCounts entries.now trees.items }
+    requires counts { HaveCounts place.now.bsize entries.now trees.items }
     requires within { All (IsWithin place.now.total None) trees.items }
     requires blocks { ForSome (W.told world.old) (λ j. HasBlocks j.units place.now.unit place.now.total place.now.bsize) }
     ensures read { IfOk result (λ files. OfImage (W.told world.old) place.now.unit (λ image.
         HasContents place.now.bsize image entries.now trees.items (values files))) }
     ensures names { IfOk result (λ files. files.entries ≡ by_name (values files)) }
     ensures few { IfOk result (λ files. length (values files) ≤ most_files) }
+    ensures total { IfOk result (λ files. length (values files) ≡ length entries.now) }
     ensures each { IfOk result (λ files. All (IsKeptFile place.now.bsize place.now.total) (values files)) }
     ensures fault { IfErr result (λ why. OfImage (W.told world.old) place.now.unit (λ image. IsFaultOf
         (contents_in place.now.bsize image 2 entries.now (map met_in trees.items)) why)) }
@@ -184,8 +226,8 @@ pub fn read_contents<W: World>(
     for tree in trees {
         let nth = files.len();
         let entry = entries[nth];
-        let sizes = read_sizes(alloc, world, place, nth as u32 + 2, &entry, &tree.leaves)?;
-        insert(&mut files, file_of(entry, tree, &sizes))?;
+        let told = read_sizes(alloc, world, place, nth as u32 + 2, &entry, &tree.leaves)?;
+        insert(&mut files, file_of(entry, tree, &told))?;
     }
     Ok(files)
 }

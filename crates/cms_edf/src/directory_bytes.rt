@@ -77,43 +77,59 @@ fn file_at(bsize: BlockSize, tree: &TreeBlocks, count: u32) -> System
     }
 }
 
-/// Appends the bytes with which the directory of so many files begins: its own entry and the map's, with the stamp.
-pub fn append_systems(
-    into: &mut Vec<u8>,
+/// The entries of the system files.
+#[derive(Clone, Copy)]
+pub struct SystemFields {
+    pub directory: [u8; 64],
+    pub map: [u8; 64],
+}
+
+/// The directory's own entry, of so many files, and the map's, with the stamp.
+pub fn system_fields(
     bsize: BlockSize,
     directory: &TreeBlocks,
     map: &TreeBlocks,
     files: u32,
     stamp: &Stamp,
-) -> Result<(), AllocError>
+) -> SystemFields
     requires stamp { is_stamp stamp.now ≡ true }
     requires files { files ≤ most_files }
     requires directory { 1 ≤ length directory.now.leaves }
     requires directory_few { length directory.now.leaves < 2 ^ 32 }
     requires map { 1 ≤ length map.now.leaves }
     requires map_few { length map.now.leaves < 2 ^ 32 }
-    ensures bytes { OnOk result (into.new.items ≡ into.old.items
-        ++ (system_entry directory_name 64 (file_at bsize directory.now (files + 2)) stamp.now
-        ++ system_entry map_name bsize (file_at bsize map.now (length map.now.leaves)) stamp.now)) }
-    ensures size { OnOk result (length into.new.items ≡ length into.old.items + 128) }
+    ensures directory { result.directory
+        ≡ system_entry directory_name 64 (file_at bsize directory.now (files + 2)) stamp.now }
+    ensures map { result.map ≡ system_entry map_name bsize (file_at bsize map.now (length map.now.leaves)) stamp.now }
 {
     let own = file_at(bsize, directory, files + 2);
     let maps = file_at(bsize, map, map.leaves().len() as u32);
     let own_name = system_name(1, b"DIRECTOR");
     let map_name = system_name(2, b"ALLOCMAP");
-    into.extend_from_slice(&system_entry(&own_name, ENTRY_SIZE, &own, stamp))?;
-    into.extend_from_slice(&system_entry(&map_name, bsize.bytes(), &maps, stamp))
+    SystemFields {
+        directory: system_entry(&own_name, ENTRY_SIZE, &own, stamp),
+        map: system_entry(&map_name, bsize.bytes(), &maps, stamp),
+    }
 }
 
-/// Appends the entry of a file.
-pub fn append_entry(entry: &Entry, into: &mut Vec<u8>) -> Result<(), AllocError>
+/// Appends the bytes with which a directory begins: its own entry and the map's.
+pub fn append_systems(fields: &SystemFields, into: &mut Vec<u8>) -> Result<(), AllocError>
+    ensures bytes { OnOk result (into.new.items ≡ into.old.items ++ (fields.now.directory ++ fields.now.map)) }
+    ensures size { OnOk result (length into.new.items ≡ length into.old.items + 128) }
+{
+    into.extend_from_slice(&fields.directory)?;
+    into.extend_from_slice(&fields.map)
+}
+
+/// The bytes of the entry of a file.
+pub fn file_field(entry: &Entry) -> [u8; 64]
     requires { CanWrite entry.now }
-    ensures entry { OnOk result (into.new.items ≡ into.old.items ++ entry_bytes entry.now) }
-    ensures back { OnOk result (ReadsBack entry.now) }
+    ensures entry { result ≡ entry_bytes entry.now }
+    ensures back { ReadsBack entry.now }
 {
     let mut bytes = [0; 64];
     write_entry(entry, &mut bytes);
-    into.extend_from_slice(&bytes)
+    bytes
 }
 
 /// Appends zeros up to so many bytes.

@@ -6,31 +6,37 @@ ghost use Rattle.cms_fields.specs.Limits.{most_bytes, most_files, most_records};
 ghost use Rattle.cms_fields.specs.Numbers.{up};
 ghost use Rattle.cms_fields.specs.Stamps.{is_stamp};
 ghost use Rattle.cms_model.specs.Sizes.{levels, pointer_count};
-ghost use Rattle.cms_map.specs.Bits.{HasFixed, free_blocks};
 ghost use Rattle.cms_held.specs.Kept.{Keeps};
-ghost use Rattle.cms_held.specs.Putting.{count_put, count_with, limit_put, need_put};
-ghost use Rattle.cms_held.specs.Renewing.{IsAllotted, entries_held, needed};
+ghost use Rattle.cms_held.specs.Putting.{count_put, count_with, limit_put, made_with, need_put};
+ghost use Rattle.cms_held.specs.Renewing.{entries_held};
 ghost use Rattle.cms_held.specs.Written.{CanWrite};
-ghost use Rattle.cms_edf.specs.FileDrafts.{CanDraft, DraftStands, GivenAt, IsSomeDraft, StandsThen, StaysHeld, IsAllottedSo, IsDraftFor, IsFilled, IsPlaceIn, IsRefused, list_with, entry_for, tree_of};
+ghost use Rattle.cms_edf.specs.FileDrafts.{CanDraft, DraftStands, GivenAt, IsSomeDraft, StandsThen, StaysHeld, IsDraftFor, IsPlaceIn, IsRefused, list_with, entry_for, tree_of};
 ghost use Rattle.std.specs.Option.{ForSome};
 ghost use Rattle.cms_world.specs.Seen.{OnUnits, seen};
 ghost use Rattle.cms_journal.specs.Journal.{Journal};
 ghost use Rattle.cms_model.specs.Minidisks.{Minidisk};
 ghost use Rattle.cms_model.specs.Records.{Fits, stored};
 ghost use Rattle.cms_held.specs.Carrying.{IsHeldMinidisk};
+ghost use Rattle.cms_held.specs.Drafts.{Front};
 ghost use Rattle.cms_draft.specs.BlockWriting.{AddsOwnBlocks, CanWrite as CanWriteBlocks, IsSame, came};
 ghost use Rattle.cms_draft.specs.Drafting.{Drafts, IsFresh, Puts};
 ghost use Rattle.cms_model.specs.Minidisks.{same_name};
-ghost use Rattle.cms_held.specs.Opening.{HeldVolume, names_in};
+ghost use Rattle.cms_held.specs.Opening.{HeldFile, HeldVolume, names_in};
+ghost use Rattle.cms_edf.specs.Allotting.{IsAllottedFor, given_back};
+ghost use Rattle.cms_edf.specs.Growing.{IsFrontOf, IsMoreFor};
 ghost use Rattle.cms_edf.specs.Lacking.{LacksRoom};
+ghost use Rattle.cms_names.specs.declared.name.Name as names;
+ghost use Rattle.cms_fields.specs.declared.time.Stamp as stamps;
+ghost use Rattle.cms_draft.specs.declared.shape.DraftShape as shapes;
+ghost use Rattle.cms_edf.specs.Planning.{IsFilled};
 ghost use Rattle.cms_edf.specs.declared.allotment.PlanFault.TheVariants.{Limit};
 
-use crate::allotment::{Allotment, PlanFault, allot};
+use crate::allotment::{Allotment, Exchange, PlanFault, allot};
 use crate::blocks::tree_in;
 use crate::directory_bytes::root;
 use crate::held::{Held, TreeBlocks};
 use crate::new_entries::NewEntries;
-use crate::planning::fill_systems;
+use crate::planning::{FIRST_FILE, fill_systems};
 use crate::system_blocks::SystemBlocks;
 use cms_draft::{DraftShape, FileWriter};
 use cms_fields::{Entry, MOST_BYTES, MOST_FILES, MOST_RECORDS, Stamp, pointer_size};
@@ -86,7 +92,7 @@ fn count_blocks(bsize: BlockSize, asked: &DraftShape) -> FileCounts
 }
 
 // The lowest limit that is passed: 1 by the files, 2 by the file's records, 3 by its bytes.
-fn passed_limit(files: u32, asked: &DraftShape) -> Option<u32>
+pub(crate) fn passed_limit(files: u32, asked: &DraftShape) -> Option<u32>
     ensures { result ≡ limit_put files asked.now.count asked.now.bytes }
 {
     if files > MOST_FILES {
@@ -100,44 +106,49 @@ fn passed_limit(files: u32, asked: &DraftShape) -> Option<u32>
     }
 }
 
-// Blocks for a file, in the place of one or as the last, and for the directory and the map.
-fn allot_file(
-    alloc: Global,
-    held: &Held,
-    place: Option<u32>,
-    blocks: u32,
-) -> Result<Allotment, PlanFault>
+// What the file does to the files: it takes so many blocks, in the place of one, whose blocks are given back, or as the last.
+fn exchange_of<'a>(held: &'a Held, place: Option<u32>, blocks: u32, made: &'a [u32]) -> Exchange<'a>
     requires place { IsPlaceIn held.now.volume.files place }
-    requires few { count_with place (length held.now.volume.files) ≤ most_files }
-    requires small { blocks < 2 ^ 31 }
-    ensures allotted { IfOk result (λ a. (given : List ℕ) → GivenAt held.now.volume.files place given
-        → IsAllotted held.now.volume (count_with place (length held.now.volume.files)) given a.file.items a.directory a.map_tree a.map) }
-    ensures file { IfOk result (λ a. length a.file.items ≡ blocks) }
-    ensures map_few { IfOk result (λ a. length a.map_tree.leaves < 2 ^ 32) }
-    ensures room { OnOk result (blocks + needed held.now.volume (count_with place (length held.now.volume.files))
-        ≤ length (free_blocks held.now.volume.bits)) }
-    ensures fixed { HasFixed held.now.volume.bits }
-    ensures full { IfErr result (LacksRoom held.now.volume
-        (blocks + needed held.now.volume (count_with place (length held.now.volume.files)))) }
+    ensures files { result.files ≡ count_with place (length held.now.volume.files) }
+    ensures made { result.made.now ≡ made.now }
+    ensures file { result.file ≡ blocks }
+    ensures given { (given : List ℕ) → GivenAt held.now.volume.files place given → given_back result ≡ given }
 {
     match place {
         Some(place) => {
             let tree = held.files[place as usize].tree();
-            allot(
-                alloc,
-                held,
-                held.count(),
-                blocks,
-                tree.leaves(),
-                tree.pointers(),
-            )
+            Exchange {
+                files: held.count(),
+                made,
+                file: blocks,
+                leaves: tree.leaves(),
+                pointers: tree.pointers(),
+            }
         }
-        None => allot(alloc, held, held.count() + 1, blocks, &[], &[]),
+        None => Exchange {
+            files: held.count() + 1,
+            made,
+            file: blocks,
+            leaves: &[],
+            pointers: &[],
+        },
+    }
+}
+
+// The numbers of the entries that are made anew where a file stands in a place or as the last.
+fn entries_made_with(held: &Held, place: Option<u32>) -> [u32; 2]
+    requires place { IsPlaceIn held.now.volume.files place }
+    ensures { result ≡ made_with place (length held.now.volume.files) }
+{
+    let last = held.count();
+    match place {
+        Some(place) => [0, place + FIRST_FILE],
+        None => [0, last + FIRST_FILE],
     }
 }
 
 // The entry of a file over a tree of so many levels.
-fn entry_for(name: &Name, asked: &DraftShape, tree: &TreeBlocks, height: u8) -> Entry
+pub(crate) fn entry_for(name: &Name, asked: &DraftShape, tree: &TreeBlocks, height: u8) -> Entry
     requires some { 1 ≤ length tree.now.leaves }
     requires few { length tree.now.leaves < 2 ^ 32 }
     ensures { (bsize : ℕ) → height ≡ levels (fan_of bsize asked.now.format) (length tree.now.leaves)
@@ -157,11 +168,12 @@ fn entry_for(name: &Name, asked: &DraftShape, tree: &TreeBlocks, height: u8) -> 
 }
 
 // What is written for the files with this one in a place, or as the last, in the blocks that are allotted.
-fn plan_entry(
+pub(crate) fn plan_entry(
     alloc: Global,
     held: &Held,
     place: Option<u32>,
     entry: &Entry,
+    exchange: &Exchange<'_>,
     allotment: Allotment,
     stamp: &Stamp,
 ) -> Result<SystemBlocks, AllocError>
@@ -169,13 +181,15 @@ fn plan_entry(
     requires place { IsPlaceIn held.now.volume.files place }
     requires few { count_with place (length held.now.volume.files) ≤ most_files }
     requires entry { CanWrite entry.now }
-    requires allotted { IsAllottedSo held.now.volume (count_with place (length held.now.volume.files)) allotment }
+    requires files { exchange.now.files ≡ count_with place (length held.now.volume.files) }
+    requires made { exchange.now.made.now ≡ made_with place (length held.now.volume.files) }
+    requires allotted { IsAllottedFor held.now.volume exchange.now allotment }
     requires map_few { length allotment.map_tree.leaves < 2 ^ 32 }
     ensures { IfOk result (IsFilled held.now.volume (list_with (entries_held held.now.volume.files) place entry.now)
         allotment stamp.now) }
 {
     let entries = NewEntries::with(held, place, entry);
-    fill_systems(alloc, held, &entries, allotment, stamp)
+    fill_systems(alloc, held, &entries, exchange, allotment, stamp)
 }
 
 // Plans a file that passes no limit, in the place of one or as the last.
@@ -197,7 +211,9 @@ fn plan_file(
         (need_put held.now.volume name.now asked.now.format asked.now.bytes)) }
 {
     let counts = count_blocks(held.bsize, asked);
-    let allotment = match allot_file(alloc, held, place, counts.data + counts.pointers) {
+    let made = entries_made_with(held, place);
+    let exchange = exchange_of(held, place, counts.data + counts.pointers, &made);
+    let allotment = match allot(alloc, held, &exchange) {
         Ok(allotment) => allotment,
         Err(why) => return Err(why),
     };
@@ -205,7 +221,7 @@ fn plan_file(
         return Err(PlanFault::Memory);
     };
     let entry = entry_for(name, asked, &tree, counts.levels);
-    let Ok(systems) = plan_entry(alloc, held, place, &entry, allotment, stamp) else {
+    let Ok(systems) = plan_entry(alloc, held, place, &entry, &exchange, allotment, stamp) else {
         return Err(PlanFault::Memory);
     };
     let Ok(writer) = FileWriter::new(alloc, held.unit, held.bsize, asked, tree) else {
@@ -288,15 +304,20 @@ impl Draft {
         requires room { came self.old.writer.writer + length (stored self.old.writer.shape.format (text.now ∷ []))
             ≤ self.old.writer.writer.size }
         requires ready { ForSome (W.told world.old) (λ j. CanWriteBlocks j.units self.old.writer.writer) }
-        ensures puts { (records more : List (List ℕ)) → Drafts self.old.writer records (text.now ∷ more)
-            → Puts (W.told world.old) (W.told world.new) self.old.writer self.new.writer records text.now more result }
+        ensures puts { (front : Front) (records more : List (List ℕ)) → Drafts self.old.writer front records (text.now ∷ more)
+            → Puts (W.told world.old) (W.told world.new) self.old.writer self.new.writer front records text.now more result }
         ensures own { AddsOwnBlocks (W.told world.old) (W.told world.new) self.old.writer.writer }
         ensures aside { (j : Journal) (v : HeldVolume) (m : Minidisk) → W.told world.old ≡ Some j → IsHeldMinidisk j v m
             → IsSomeDraft v self.old → StaysHeld j (W.told world.new) v m }
-        ensures stands { (j : Journal) (v : HeldVolume) (m : Minidisk) (records more : List (List ℕ)) → W.told world.old ≡ Some j
-            → IsHeldMinidisk j v m → IsSomeDraft v self.old → Drafts self.old.writer records (text.now ∷ more)
-            → DraftStands j self.old.writer (records ++ (text.now ∷ more))
-            → StandsThen (W.told world.new) self.old.writer self.new.writer (records ++ (text.now ∷ more)) result }
+        ensures stands { (j : Journal) (v : HeldVolume) (m : Minidisk) (front : Front) (records more : List (List ℕ))
+            → W.told world.old ≡ Some j
+            → IsHeldMinidisk j v m → IsSomeDraft v self.old → Drafts self.old.writer front records (text.now ∷ more)
+            → DraftStands j self.old.writer front (records ++ (text.now ∷ more))
+            → StandsThen (W.told world.new) self.old.writer self.new.writer front (records ++ (text.now ∷ more)) result }
+        ensures front { (j : Journal) (v : HeldVolume) (m : Minidisk) (name : names.Name) (f : HeldFile) (shape : shapes.DraftShape)
+            (stamp : stamps.Stamp) (front : Front) → W.told world.old ≡ Some j → IsHeldMinidisk j v m
+            → IsMoreFor v name f shape stamp self.old → IsFrontOf j v f (tree_of self.old) front
+            → ForSome (W.told world.new) (λ k. IsFrontOf k v f (tree_of self.old) front) }
         ensures all { OnOk result (came self.new.writer.writer
             ≡ came self.old.writer.writer + length (stored self.old.writer.shape.format (text.now ∷ []))) }
         ensures same { IsSame self.old.writer.writer self.new.writer.writer }

@@ -2,6 +2,8 @@
 ghost use Rattle.std.specs.Prelude.{◌≡◌, ◌⊎◌, ◌≤◌, ◌<◌, ◌+◌, ◌*◌, ℕ, List, All, length, map, Ok, IfOk, IfErr, None};
 ghost use Rattle.std.specs.Option.{ForSome};
 ghost use Rattle.cms_journal.specs.Journal.{HasBlocks, contents_of};
+ghost use Rattle.cms_fields.specs.Entries.{fan_of};
+ghost use Rattle.cms_model.specs.Sizes.{pointer_count};
 ghost use Rattle.cms_model.specs.Trees.{image_of};
 ghost use Rattle.cms_model.specs.Volumes.{holder_of, file_trees, tree_blocks};
 ghost use Rattle.cms_model.specs.declared.fault.OpenFault.TheVariants.{Device, Memory};
@@ -62,6 +64,8 @@ fn read_file<W: World>(
     requires blocks { ForSome (W.told world.old) (λ j. HasBlocks j.units place.now.unit place.now.total place.now.bsize) }
     ensures read { OfImage (W.told world.old) place.now.unit (λ image. ReadsFile place.now image holder entry.now result) }
     ensures count { IfOk result (λ walked. length walked.leaves.items ≡ entry.now.blocks) }
+    ensures pointers { IfOk result (λ walked. length walked.pointers.items
+        ≡ pointer_count (fan_of place.now.bsize entry.now.format) entry.now.blocks) }
     ensures within { IfOk result (IsWithin place.now.total None) }
     ensures reads { OnlyReads (seen W.World world.old) (seen W.World world.new) Device result }
 {
@@ -85,7 +89,7 @@ pub fn read_files<W: World>(
     ensures fault { IfErr result (λ why. OfImage (W.told world.old) place.now.unit (λ image.
         IsFaultOf (file_trees place.now.bsize place.now.total image leaves.now 2 entries.now) why)) }
     ensures count { IfOk result (λ v. length v.items ≡ length entries.now) }
-    ensures counts { IfOk result (λ v. HaveCounts entries.now v.items) }
+    ensures counts { IfOk result (λ v. HaveCounts place.now.bsize entries.now v.items) }
     ensures within { IfOk result (λ v. All (IsWithin place.now.total None) v.items) }
     ensures reads { OnlyReads (seen W.World world.old) (seen W.World world.new) Device result }
 {

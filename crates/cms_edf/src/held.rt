@@ -4,7 +4,7 @@ ghost use Rattle.indexmap.specs.IndexMap.{keys, values};
 ghost use Rattle.cms_model.specs.Minidisks.{same_name};
 ghost use Rattle.cms_held.specs.Opening.{names_in};
 ghost use Rattle.cms_held.specs.Kept.{Keeps};
-ghost use Rattle.cms_edf.specs.Asking.{info_of, infos_in, leaves_in, space_of};
+ghost use Rattle.cms_edf.specs.Asking.{info_of, infos_in, leaves_in, space_of, stored_in};
 
 use cms_fields::{Entry, Label, Stamp};
 pub use cms_held::TreeBlocks;
@@ -22,6 +22,8 @@ pub struct FileHeld {
     pub(crate) tree: TreeBlocks,
     pub(crate) length: u32,
     pub(crate) size: u32,
+    // where at V the first record begins in the data block that its records fill in part, or u32::MAX
+    pub(crate) start: u32,
 }
 
 impl Model for FileHeld {
@@ -29,7 +31,7 @@ impl Model for FileHeld {
 
     ghost Value = { HeldFile };
 
-    ghost view = { λ f. record { entry = f.entry; tree = f.tree; length = f.length; size = f.size } };
+    ghost view = { λ f. record { entry = f.entry; tree = f.tree; length = f.length; size = f.size; start = f.start } };
 }
 
 impl FileHeld {
@@ -66,6 +68,14 @@ impl FileHeld {
         ensures { result ≡ self.now.size }
     {
         self.size
+    }
+
+    /// Where at V the first record begins in the data block that its records fill in part: 4,294,967,295 where none does, where they fill
+    /// whole blocks, and at F.
+    pub fn start(&self) -> u32
+        ensures { result ≡ self.now.start }
+    {
+        self.start
     }
 
     // What is told of it.
@@ -152,7 +162,8 @@ impl Model for Held {
       spare = spare h.files;
     } };
 
-    ghost invariant = { λ h. IsSound h.bsize h.blocks h.label (length h.label_bytes.items) h.map h.files.entries (values h.files) };
+    ghost invariant = { λ h. IsSound h.bsize h.blocks h.label (length h.label_bytes.items) h.directory h.map_tree h.map
+        h.files.entries (values h.files) };
 }
 
 impl Held {
@@ -228,6 +239,16 @@ impl Held {
         ensures kept { Keeps self.now.volume }
     {
         self.files[nth as usize].leaves()
+    }
+
+    /// The number of stored bytes of the file at a place, from 0 below the number of files: at most 67,108,864, at V with the two bytes of
+    /// each record's length.
+    pub fn stored(&self, nth: u32) -> u32
+        requires { nth < length self.now.volume.files }
+        ensures stored { slice_get (stored_in self.now.volume) nth ≡ Some result }
+        ensures kept { Keeps self.now.volume }
+    {
+        self.files[nth as usize].size()
     }
 
     /// The files by their names, in the order of the directory.

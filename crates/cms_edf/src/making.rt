@@ -23,10 +23,11 @@ ghost use Rattle.cms_world.specs.Seen.{OnUnits, seen};
 
 use crate::allotment::take_blocks;
 use crate::blocks::tree_in;
-use crate::directory_bytes::{append_systems, fill};
+use crate::directory_bytes::{append_systems, fill, system_fields};
 use crate::doubt::{Doubt, write_label_block};
 use crate::held::{FileHeld, Held, TreeBlocks};
 use crate::system_blocks::{LARGEST, SystemBlocks};
+use crate::tree_part::WrittenPlaces;
 use cms_fields::{Label, Stamp, first_fields};
 use cms_journal::BlockSize;
 use cms_map::Map;
@@ -62,7 +63,8 @@ impl Model for MakePlan {
 
     ghost view = { λ p. record { unit = p.unit; disk = record { bsize = p.bsize; count = p.blocks }; systems = p.systems } };
 
-    ghost invariant = { λ p. IsKept p.bsize p.blocks p.systems.label (length p.systems.label_bytes) p.systems.bits []
+    ghost invariant = { λ p. IsKept p.bsize p.blocks p.systems.label (length p.systems.label_bytes) p.systems.directory
+        p.systems.map p.systems.bits []
         × (p.files.entries ≡ []) };
 }
 
@@ -131,7 +133,7 @@ fn directory_block(
 {
     let whole = bsize.bytes() as usize;
     let mut bytes = Vec::with_capacity(alloc, whole)?;
-    append_systems(&mut bytes, bsize, directory, map, 0, stamp)?;
+    append_systems(&system_fields(bsize, directory, map, 0, stamp), &mut bytes)?;
     fill(&mut bytes, whole)?;
     Ok(bytes)
 }
@@ -173,6 +175,8 @@ pub fn plan_make(
     let label_bytes = label_block(alloc, &label, stamp)?;
     let directory = first_directory(alloc)?;
     let directory_bytes = directory_block(alloc, bsize, &directory, &tree, stamp)?;
+    let directory_part = WrittenPlaces::of_whole(alloc, &directory)?;
+    let map_part = WrittenPlaces::of_whole(alloc, &tree)?;
     Ok(MakePlan {
         unit: unit.number,
         bsize,
@@ -182,8 +186,10 @@ pub fn plan_make(
             label,
             label_bytes,
             directory,
+            directory_part,
             directory_bytes,
             map_tree: tree,
+            map_part,
             map,
         },
         files: IndexMap::new(alloc),
@@ -246,7 +252,7 @@ fn held(
     systems: SystemBlocks,
     files: IndexMap<Name, FileHeld>,
 ) -> Held
-    requires kept { IsKept bsize blocks systems.label (length systems.label_bytes) systems.bits [] }
+    requires kept { IsKept bsize blocks systems.label (length systems.label_bytes) systems.directory systems.map systems.bits [] }
     requires empty { files.entries ≡ [] }
     ensures { result.volume ≡ made_volume (record { unit = unit; disk = record { bsize = bsize; count = blocks }; systems = systems }) }
 {
@@ -255,8 +261,10 @@ fn held(
         label,
         label_bytes,
         directory,
+        directory_part: _,
         directory_bytes: _,
         map_tree,
+        map_part: _,
         map,
     } = systems;
     Held {

@@ -1,68 +1,109 @@
 // A change of a volume is planned.
-ghost use Rattle.std.specs.Prelude.{◌≡◌, ◌≤◌, ◌<◌, ◌+◌, ◌*◌, ◌++◌, ◌^◌, true, length, All, IfOk, IfErr, OnOk};
+ghost use Rattle.std.specs.Prelude.{◌≡◌, ◌≤◌, ◌<◌, ◌+◌, ◌*◌, ◌++◌, ◌^◌, true, length, map, All, IfOk, IfErr, OnOk};
 ghost use Rattle.cms_journal.specs.Journal.{IsBlockSize};
 ghost use Rattle.cms_fields.specs.Labels.{with_label};
-ghost use Rattle.cms_fields.specs.Numbers.{up};
 ghost use Rattle.cms_fields.specs.Stamps.{is_stamp};
 ghost use Rattle.cms_fields.specs.Limits.{most_files};
-ghost use Rattle.cms_edf.specs.Planning.{CanChange, IsFullFor, IsPlanFor, IsPrepared, IsReadyAt, IsRelabelOf, IsStepOf, MayEdit, change_of, count_after};
-ghost use Rattle.cms_edf.specs.FileDrafts.{IsAllottedSo, IsFilled};
+ghost use Rattle.cms_edf.specs.Allotting.{IsAllottedFor};
+ghost use Rattle.cms_edf.specs.DirectoryFields.{block_fields, field_at};
+ghost use Rattle.cms_edf.specs.Planning.{AreEnoughFor, CanChange, IsFilled, IsFullFor, IsPlanFor, IsPrepared, IsReadyAt, IsRelabelOf, IsStepOf, MayEdit, change_of, count_after, made_by};
 ghost use Rattle.cms_edf.specs.Lacking.{LacksRoom};
 ghost use Rattle.cms_held.specs.Kept.{Keeps};
 ghost use Rattle.cms_held.specs.Renewing.{label_for, needed};
-ghost use Rattle.cms_held.specs.Systems.{Systems, directory_bytes_of};
+ghost use Rattle.std.specs.List.{concat};
+ghost use Rattle.cms_model.specs.DirectoryParts.{directory_count};
+ghost use Rattle.cms_held.specs.Systems.{Systems, directory_piece};
 ghost use Rattle.cms_edf.specs.declared.allotment.PlanFault.TheVariants.{Memory};
-ghost use Rattle.cms_held.specs.Written.{CanWrite, ReadsBack, file_entries};
+ghost use Rattle.cms_held.specs.Written.{CanWrite, ReadsBack};
 
-use crate::allotment::{Allotment, PlanFault, allot};
+use crate::allotment::{Allotment, Exchange, PlanFault, allot};
 use crate::change::{Change, FileEdit};
-use crate::directory_bytes::{append_entry, append_systems, fill};
+use crate::directory_bytes::{SystemFields, file_field, system_fields};
 use crate::held::{Held, TreeBlocks};
 use crate::new_entries::NewEntries;
 use crate::step::{Plan, Step};
+use crate::system::ENTRY_SIZE;
 use crate::system_blocks::SystemBlocks;
 use cms_fields::{Label, Stamp, write_label};
 use cms_journal::BlockSize;
 use cms_map::Map;
 use std::alloc::{AllocError, Global};
 
-// Appends the entries of files.
-fn append_entries(entries: &NewEntries<'_>, into: &mut Vec<u8>) -> Result<(), AllocError>
+/// The number of the first file's entry in the directory, behind its own and the map's.
+pub const FIRST_FILE: u32 = 2;
+
+// The 64 bytes of the entry of a number of a directory: its own, the map's, a file's, or zeros behind them.
+fn field_of(fields: &SystemFields, entries: &NewEntries<'_>, number: u32) -> [u8; 64]
     requires { All CanWrite entries.now }
-    ensures bytes { OnOk result (into.new.items ≡ into.old.items ++ file_entries entries.now) }
-    ensures back { OnOk result (All ReadsBack entries.now) }
+    ensures { result ≡ field_at fields.now.directory fields.now.map entries.now number }
 {
-    for nth in 0..entries.count() {
-        append_entry(&entries.get(nth), into)?;
+    match number {
+        0 => fields.directory,
+        1 => fields.map,
+        _ if number - 2 < entries.count() => file_field(&entries.get(number - 2)),
+        _ => [0; 64],
+    }
+}
+
+// Appends the bytes of a data block of a directory, of so many entries.
+fn append_block(
+    fields: &SystemFields,
+    entries: &NewEntries<'_>,
+    each: u32,
+    block: u32,
+    into: &mut Vec<u8>,
+) -> Result<(), AllocError>
+    requires each { All CanWrite entries.now }
+    requires small { block * each + each < 2 ^ 32 }
+    ensures { OnOk result (into.new.items ≡ into.old.items
+        ++ block_fields fields.now.directory fields.now.map entries.now each block) }
+{
+    let first = block * each;
+    for number in first..first + each {
+        into.extend_from_slice(&field_of(fields, entries, number))?;
     }
     Ok(())
 }
 
-// The bytes of the directory of these files.
+// The entries of files spell them.
+fn spell_entries(entries: &NewEntries<'_>)
+    requires { All CanWrite entries.now }
+    ensures { All ReadsBack entries.now }
+{
+    for nth in 0..entries.count() {
+        let _field = file_field(&entries.get(nth));
+    }
+}
+
+// The bytes of these data blocks of the directory of these files, one block's behind the other's.
 fn directory_bytes(
     alloc: Global,
     bsize: BlockSize,
     directory: &TreeBlocks,
-    map: &TreeBlocks,
+    map_tree: &TreeBlocks,
+    places: &[u32],
     entries: &NewEntries<'_>,
     stamp: &Stamp,
 ) -> Result<Vec<u8>, AllocError>
     requires stamp { is_stamp stamp.now ≡ true }
     requires few { length entries.now ≤ most_files }
     requires each { All CanWrite entries.now }
-    requires directory { length directory.now.leaves ≡ up (64 * (length entries.now + 2)) bsize }
-    requires map { 1 ≤ length map.now.leaves }
-    requires map_few { length map.now.leaves < 2 ^ 32 }
-    ensures bytes { IfOk result (λ v. (s : Systems) → s.directory ≡ directory.now → s.map ≡ map.now
-        → v.items ≡ directory_bytes_of bsize s entries.now stamp.now) }
-    ensures long { IfOk result (λ v. length v.items ≡ length directory.now.leaves * bsize) }
+    requires directory { length directory.now.leaves ≡ directory_count bsize (length entries.now) }
+    requires at { All (λ j. j < length directory.now.leaves) places.now }
+    requires map { 1 ≤ length map_tree.now.leaves }
+    requires map_few { length map_tree.now.leaves < 2 ^ 32 }
+    ensures bytes { IfOk result (λ v. (s : Systems) → s.directory ≡ directory.now → s.map ≡ map_tree.now
+        → v.items ≡ concat (map (directory_piece bsize s entries.now stamp.now) places.now)) }
+    ensures long { IfOk result (λ v. length v.items ≡ length places.now * bsize) }
     ensures back { OnOk result (All ReadsBack entries.now) }
 {
-    let whole = directory.leaves().len() * bsize.bytes() as usize;
-    let mut bytes = Vec::with_capacity(alloc, whole)?;
-    append_systems(&mut bytes, bsize, directory, map, entries.count(), stamp)?;
-    append_entries(entries, &mut bytes)?;
-    fill(&mut bytes, whole)?;
+    spell_entries(entries);
+    let fields = system_fields(bsize, directory, map_tree, entries.count(), stamp);
+    let each = bsize.bytes() / ENTRY_SIZE;
+    let mut bytes = Vec::new(alloc);
+    for block in places {
+        append_block(&fields, entries, each, *block, &mut bytes)?;
+    }
     Ok(bytes)
 }
 
@@ -105,47 +146,70 @@ pub fn fill_systems(
     alloc: Global,
     held: &Held,
     entries: &NewEntries<'_>,
+    exchange: &Exchange<'_>,
     allotment: Allotment,
     stamp: &Stamp,
 ) -> Result<SystemBlocks, AllocError>
     requires stamp { is_stamp stamp.now ≡ true }
     requires few { length entries.now ≤ most_files }
     requires each { All CanWrite entries.now }
-    requires allotted { IsAllottedSo held.now.volume (length entries.now) allotment }
+    requires files { exchange.now.files ≡ length entries.now }
+    requires enough { AreEnoughFor held.now.volume entries.now exchange.now }
+    requires allotted { IsAllottedFor held.now.volume exchange.now allotment }
     requires map_few { length allotment.map_tree.leaves < 2 ^ 32 }
     ensures { IfOk result (IsFilled held.now.volume entries.now allotment stamp.now) }
 {
-    let (directory, map_tree) = (allotment.directory, allotment.map_tree);
-    let bytes = directory_bytes(alloc, held.bsize, &directory, &map_tree, entries, stamp)?;
-    let new = relabel(alloc, held, label_for(held.label, &allotment.map))?;
+    let Allotment {
+        file: _,
+        directory,
+        directory_part,
+        map_tree,
+        map_part,
+        map,
+    } = allotment;
+    let directory_bytes = directory_bytes(
+        alloc,
+        held.bsize,
+        &directory,
+        &map_tree,
+        &directory_part.leaves,
+        entries,
+        stamp,
+    )?;
+    let new = relabel(alloc, held, label_for(held.label, &map))?;
     Ok(SystemBlocks {
         bsize: held.bsize,
         label: new.label,
         label_bytes: new.bytes,
         directory,
-        directory_bytes: bytes,
+        directory_part,
+        directory_bytes,
         map_tree,
-        map: allotment.map,
+        map_part,
+        map,
     })
 }
 
-// What is written for files with these entries, where the blocks of these trees are given back.
+// What is written for files with these entries, where no blocks are taken for a file.
 fn plan_systems(
     alloc: Global,
     held: &Held,
     entries: &NewEntries<'_>,
-    leaves: &[u32],
-    pointers: &[u32],
+    exchange: &Exchange<'_>,
     stamp: &Stamp,
 ) -> Result<SystemBlocks, PlanFault>
     requires stamp { is_stamp stamp.now ≡ true }
     requires few { length entries.now ≤ most_files }
     requires each { All CanWrite entries.now }
-    ensures prepared { IfOk result (IsPrepared held.now.volume entries.now (leaves.now ++ pointers.now) stamp.now) }
-    ensures full { IfErr result (LacksRoom held.now.volume (needed held.now.volume (length entries.now))) }
+    requires files { exchange.now.files ≡ length entries.now }
+    requires none { exchange.now.file ≡ 0 }
+    requires enough { AreEnoughFor held.now.volume entries.now exchange.now }
+    ensures prepared { IfOk result (IsPrepared held.now.volume entries.now exchange.now stamp.now) }
+    ensures full { IfErr result (LacksRoom held.now.volume
+        (needed held.now.volume (length entries.now) exchange.now.made.now)) }
 {
-    let allotment = allot(alloc, held, entries.count(), 0, leaves, pointers)?;
-    match fill_systems(alloc, held, entries, allotment, stamp) {
+    let allotment = allot(alloc, held, exchange)?;
+    match fill_systems(alloc, held, entries, exchange, allotment, stamp) {
         Ok(systems) => Ok(systems),
         Err(_) => Err(PlanFault::Memory),
     }
@@ -161,15 +225,32 @@ fn plan_edit(
     requires stamp { is_stamp stamp.now ≡ true }
     requires may { MayEdit held.now.volume.files edit.now }
     ensures ready { IfOk result (IsReadyAt held.now.volume edit.now stamp.now) }
-    ensures full { IfErr result (LacksRoom held.now.volume (needed held.now.volume (count_after held.now.volume.files edit.now))) }
+    ensures full { IfErr result (LacksRoom held.now.volume
+        (needed held.now.volume (count_after held.now.volume.files edit.now) (made_by held.now.volume.files edit.now))) }
 {
     let entries = NewEntries::edited(held, edit);
     match edit {
         FileEdit::Drop { place } => {
             let tree = held.files[*place as usize].tree();
-            plan_systems(alloc, held, &entries, tree.leaves(), tree.pointers(), stamp)
+            let exchange = Exchange {
+                files: entries.count(),
+                made: &[0, *place + FIRST_FILE, held.count() - 1 + FIRST_FILE],
+                file: 0,
+                leaves: tree.leaves(),
+                pointers: tree.pointers(),
+            };
+            plan_systems(alloc, held, &entries, &exchange, stamp)
         }
-        FileEdit::Rename { .. } => plan_systems(alloc, held, &entries, &[], &[], stamp),
+        FileEdit::Rename { place, .. } => {
+            let exchange = Exchange {
+                files: entries.count(),
+                made: &[0, *place + FIRST_FILE],
+                file: 0,
+                leaves: &[],
+                pointers: &[],
+            };
+            plan_systems(alloc, held, &entries, &exchange, stamp)
+        }
     }
 }
 
@@ -178,7 +259,8 @@ fn edit_step(alloc: Global, held: &Held, edit: FileEdit, stamp: &Stamp) -> Resul
     requires stamp { is_stamp stamp.now ≡ true }
     requires may { MayEdit held.now.volume.files edit }
     ensures step { IfOk result (IsStepOf held.now.volume edit stamp.now) }
-    ensures full { IfErr result (LacksRoom held.now.volume (needed held.now.volume (count_after held.now.volume.files edit))) }
+    ensures full { IfErr result (LacksRoom held.now.volume
+        (needed held.now.volume (count_after held.now.volume.files edit) (made_by held.now.volume.files edit))) }
 {
     let systems = plan_edit(alloc, held, &edit, stamp)?;
     Ok(Step::Edit { edit, systems })

@@ -44,7 +44,8 @@ impl Model for System {
 #[tactic(auto, unfolding(cms_model::specs::Systems::system_fields))]
 fn system_fields(bytes: &[u8]) -> System
     requires { 64 ≤ length bytes.now }
-    ensures { result ≡ system_fields bytes.now }
+    ensures is { result ≡ system_fields bytes.now }
+    ensures few { result.blocks < 2 ^ 32 }
 {
     System {
         root: word_at(bytes, 40),
@@ -113,6 +114,7 @@ pub fn directory_in(bsize: BlockSize, origin: u32, bytes: &[u8]) -> Result<Syste
     ensures device { IfErr result (λ e. e ≡ Device → ⊥) }
     ensures shape { IfOk result (λ s. (1 ≤ s.blocks) × (s.levels ≡ levels (bsize / 4) s.blocks)) }
     ensures count { IfOk result (λ s. (2 ≤ s.count) × (s.count ≤ most_files + 2) × (s.count * 64 ≤ s.blocks * bsize)) }
+    ensures few { IfOk result (λ s. s.blocks < 2 ^ 32) }
     ensures size { IsBlockSize bsize }
 {
     let size = bsize.bytes();
@@ -132,6 +134,7 @@ pub fn map_in(bsize: BlockSize, total: u32, bytes: &[u8]) -> Result<System, Open
     ensures device { IfErr result (λ e. e ≡ Device → ⊥) }
     ensures shape { IfOk result (λ s. (1 ≤ s.blocks) × (s.levels ≡ levels (bsize / 4) s.blocks)) }
     ensures room { IfOk result (λ s. total ≤ 8 * (s.blocks * bsize)) }
+    ensures few { IfOk result (λ s. s.blocks < 2 ^ 32) }
 {
     let size = bsize.bytes();
     if is_map(size, total, bytes) {

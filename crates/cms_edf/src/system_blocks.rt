@@ -7,6 +7,7 @@ ghost use Rattle.cms_edf.specs.Writing.{MayWrite, Writes};
 
 use crate::doubt::{Doubt, confirm};
 use crate::held::TreeBlocks;
+use crate::tree_part::WrittenPlaces;
 use crate::writing::{Target, write_directory, write_first, write_map_tree};
 use cms_fields::Label;
 use cms_journal::BlockSize;
@@ -24,8 +25,10 @@ pub struct SystemBlocks {
     pub(crate) label: Label,
     pub(crate) label_bytes: Vec<u8>,
     pub(crate) directory: TreeBlocks,
+    pub(crate) directory_part: WrittenPlaces,
     pub(crate) directory_bytes: Vec<u8>,
     pub(crate) map_tree: TreeBlocks,
+    pub(crate) map_part: WrittenPlaces,
     pub(crate) map: Map,
 }
 
@@ -39,8 +42,10 @@ impl Model for SystemBlocks {
       label = s.label;
       label_bytes = s.label_bytes.items;
       directory = s.directory;
+      directory_part = s.directory_part;
       directory_bytes = s.directory_bytes.items;
       map = s.map_tree;
+      map_part = s.map_part;
       bits = s.map;
     } };
 
@@ -48,8 +53,10 @@ impl Model for SystemBlocks {
       label = s.label;
       label_bytes = s.label_bytes.items;
       directory = s.directory;
+      directory_part = s.directory_part;
       directory_bytes = s.directory_bytes.items;
       map = s.map_tree;
+      map_part = s.map_part;
       bits = s.map;
     }) };
 }
@@ -72,14 +79,28 @@ impl SystemBlocks {
             world,
             &target,
             &self.directory,
+            &self.directory_part,
             &self.directory_bytes,
             block,
         ) {
             Ok(()) => {}
             Err(Failed) => return Err(Failed),
         }
-        match write_map_tree(world, &target, &self.map_tree, &self.map, block) {
-            Ok(()) => write_first(world, &target, &self.directory, &self.directory_bytes),
+        match write_map_tree(
+            world,
+            &target,
+            &self.map_tree,
+            &self.map_part,
+            &self.map,
+            block,
+        ) {
+            Ok(()) => write_first(
+                world,
+                &target,
+                &self.directory,
+                &self.directory_part,
+                &self.directory_bytes,
+            ),
             Err(Failed) => Err(Failed),
         }
     }

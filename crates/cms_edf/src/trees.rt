@@ -1,7 +1,8 @@
 // Trees and the bytes of their data blocks, as opening reads them.
-ghost use Rattle.std.specs.Prelude.{◌≡◌, ◌⊎◌, ◌≤◌, ◌<◌, ◌+◌, ◌*◌, ◌++◌, ℕ, length, slice_index, IfOk, IfErr, OnOk};
+ghost use Rattle.std.specs.Prelude.{◌≡◌, ◌⊎◌, ◌≤◌, ◌<◌, ◌+◌, ◌*◌, ◌/◌, ◌++◌, ℕ, length, slice_index, IfOk, IfErr, OnOk};
 ghost use Rattle.std.specs.Option.{ForSome};
 ghost use Rattle.cms_journal.specs.Journal.{HasBlock, HasBlocks, contents_of};
+ghost use Rattle.cms_model.specs.Sizes.{pointer_count};
 ghost use Rattle.cms_model.specs.Trees.{image_of, bytes_at};
 ghost use Rattle.cms_model.specs.declared.fault.OpenFault.TheVariants.{Device, Memory};
 ghost use Rattle.cms_world.specs.Seen.{OnlyReads, seen};
@@ -47,6 +48,7 @@ pub fn tree_of<W: World>(alloc: Global, world: &mut W, at: &TreeAt) -> Result<Wa
     requires blocks { ForSome (W.told world.old) (λ j. HasBlocks j.units at.now.unit at.now.volume at.now.bsize) }
     ensures read { ForSome (W.told world.old) (λ j. ReadsTree (image_at j at.now) at.now result) }
     ensures count { IfOk result (λ walked. length walked.leaves.items ≡ at.now.count) }
+    ensures pointers { IfOk result (λ walked. length walked.pointers.items ≡ pointer_count (at.now.bsize / at.now.psize) at.now.count) }
     ensures within { IfOk result (IsWithin at.now.volume at.now.first) }
     ensures reads { OnlyReads (seen W.World world.old) (seen W.World world.new) Device result }
 {

@@ -2,7 +2,7 @@
 ghost use Rattle.std.specs.Prelude.{◌≡◌, ◌⊎◌, ◌≤◌, ◌<◌, ◌+◌, ◌*◌, ◌/◌, [], ℕ, List, All, length, map, Ok, IfOk, IfErr, Some, None};
 ghost use Rattle.std.specs.Option.{ForSome};
 ghost use Rattle.cms_journal.specs.Journal.{HasBlocks, contents_of};
-ghost use Rattle.cms_model.specs.Sizes.{levels};
+ghost use Rattle.cms_model.specs.Sizes.{levels, pointer_count};
 ghost use Rattle.cms_model.specs.Trees.{image_of, bytes_at};
 ghost use Rattle.cms_model.specs.Volumes.{tree_blocks};
 ghost use Rattle.cms_model.specs.declared.fault.OpenFault.TheVariants.{Device, Memory};
@@ -51,7 +51,8 @@ pub fn read_trees<W: World>(
     ensures map { IfOk result (λ t. (length t.map.leaves.items ≡ listing.now.map.blocks) × IsWithin place.now.total None t.map) }
     ensures files { IfOk result (λ t. (length t.files.items ≡ length listing.now.entries.items)
         × All (IsWithin place.now.total None) t.files.items) }
-    ensures counts { IfOk result (λ t. HaveCounts listing.now.entries.items t.files.items) }
+    ensures counts { IfOk result (λ t. HaveCounts place.now.bsize listing.now.entries.items t.files.items) }
+    ensures pointers { IfOk result (λ t. length t.map.pointers.items ≡ pointer_count (place.now.bsize / 4) listing.now.map.blocks) }
     ensures reads { OnlyReads (seen W.World world.old) (seen W.World world.new) Device result }
 {
     let map = read_map(alloc, world, place, &listing.map)?;

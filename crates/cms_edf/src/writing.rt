@@ -1,15 +1,14 @@
 // Blocks written one after another.
-ghost use Rattle.std.specs.Prelude.{◌≡◌, ◌≤◌, ◌<◌, ◌+◌, ◌*◌, ◌/◌, ◌^◌, ◌++◌, All, length};
-ghost use Rattle.cms_model.specs.Lists.{cut};
+ghost use Rattle.std.specs.Prelude.{◌≡◌, ◌≤◌, ◌<◌, ◌+◌, ◌*◌, ◌/◌, ◌^◌, length};
 ghost use Rattle.cms_model.specs.Sizes.{pointer_count};
-ghost use Rattle.cms_map.specs.Bits.{bytes_from};
-ghost use Rattle.cms_held.specs.Systems.{block_writes, node_writes};
+ghost use Rattle.cms_held.specs.Systems.{data_writes, leaf_writes, map_piece, nodes_at};
 ghost use Rattle.cms_world.specs.Seen.{seen};
-ghost use Rattle.cms_edf.specs.Doubts.{directory_writes, map_writes, first_writes};
-ghost use Rattle.cms_edf.specs.Writing.{IsBlockOf, MayWrite, Writes};
+ghost use Rattle.cms_edf.specs.Doubts.{AreAt, directory_writes, first_writes, map_writes};
+ghost use Rattle.cms_edf.specs.Writing.{MayWrite, Writes};
 
 use crate::held::TreeBlocks;
 use crate::system::POINTER_SIZE;
+use crate::tree_part::WrittenPlaces;
 use cms_journal::BlockSize;
 use cms_map::Map;
 use cms_tree::build;
@@ -23,23 +22,25 @@ pub struct Target {
     pub bsize: BlockSize,
 }
 
-/// Writes bytes into blocks, a block's bytes into each.
-pub fn write_pieces<W: World>(
+/// Writes the blocks of a list at these places, with a block's bytes each.
+pub fn write_data<W: World>(
     world: &mut W,
     target: &Target,
     blocks: &[u32],
+    places: &[u32],
     bytes: &[u8],
 ) -> Result<(), Failed>
-    requires long { length bytes.now ≡ length blocks.now * target.now.bsize }
-    requires within { All (IsBlockOf target.now.total) blocks.now }
+    requires long { length bytes.now ≡ length places.now * target.now.bsize }
+    requires at { AreAt target.now.total blocks.now places.now }
     requires may { MayWrite (W.told world.old) target.now }
     ensures writes { Writes (seen W.World world.old) (seen W.World world.new) target.now
-        (block_writes blocks.now (cut (length blocks.now) target.now.bsize bytes.now)) result }
+        (data_writes target.now.bsize blocks.now places.now bytes.now) result }
 {
     let size = target.bsize.bytes() as usize;
-    for place in 0..blocks.len() {
-        let from = place * size;
-        match world.write_block(target.unit, blocks[place], &bytes[from..from + size]) {
+    for nth in 0..places.len() {
+        let from = nth * size;
+        let block = blocks[places[nth] as usize];
+        match world.write_block(target.unit, block, &bytes[from..from + size]) {
             Ok(()) => {}
             Err(Failed) => return Err(Failed),
         }
@@ -47,35 +48,37 @@ pub fn write_pieces<W: World>(
     Ok(())
 }
 
-/// Writes the pointer blocks of a tree of fixed records, bottom level first, each made in `block`.
+/// Writes the pointer blocks at these places of a tree of fixed records, each made in `block`.
 pub fn write_nodes<W: World>(
     world: &mut W,
     target: &Target,
-    leaves: &[u32],
-    pointers: &[u32],
+    tree: &TreeBlocks,
+    places: &[u32],
     block: &mut [u8],
 ) -> Result<(), Failed>
     requires room { length block.old ≡ target.now.bsize }
     requires wide { 2 ≤ target.now.bsize / 4 }
-    requires some { 1 ≤ length leaves.now }
-    requires few { length leaves.now < 2 ^ 32 }
-    requires nodes { length pointers.now ≡ pointer_count (target.now.bsize / 4) (length leaves.now) }
-    requires within { All (IsBlockOf target.now.total) pointers.now }
+    requires some { 1 ≤ length tree.now.leaves }
+    requires few { length tree.now.leaves < 2 ^ 32 }
+    requires nodes { length tree.now.pointers ≡ pointer_count (target.now.bsize / 4) (length tree.now.leaves) }
+    requires at { AreAt target.now.total tree.now.pointers places.now }
     requires may { MayWrite (W.told world.old) target.now }
     ensures writes { Writes (seen W.World world.old) (seen W.World world.new) target.now
-        (node_writes target.now.bsize (record { leaves = leaves.now; pointers = pointers.now })) result }
+        (nodes_at target.now.bsize tree.now places.now) result }
 {
-    for place in 0..pointers.len() {
+    let pointers = tree.pointers();
+    for nth in 0..places.len() {
+        let place = places[nth];
         build(
-            leaves,
+            tree.leaves(),
             &[],
             pointers,
             target.bsize,
             POINTER_SIZE,
-            place as u32,
+            place,
             block,
         );
-        match world.write_block(target.unit, pointers[place], block) {
+        match world.write_block(target.unit, pointers[place as usize], block) {
             Ok(()) => {}
             Err(Failed) => return Err(Failed),
         }
@@ -83,26 +86,27 @@ pub fn write_nodes<W: World>(
     Ok(())
 }
 
-/// Writes the bytes of a map into blocks, a block's bytes into each, made in `block`.
+/// Writes the data blocks of a map at these places, each made in `block`.
 pub fn write_map<W: World>(
     world: &mut W,
     target: &Target,
     blocks: &[u32],
+    places: &[u32],
     map: &Map,
     block: &mut [u8],
 ) -> Result<(), Failed>
     requires room { length block.old ≡ target.now.bsize }
     requires few { length blocks.now * target.now.bsize < 2 ^ 32 }
-    requires within { All (IsBlockOf target.now.total) blocks.now }
+    requires at { AreAt target.now.total blocks.now places.now }
     requires may { MayWrite (W.told world.old) target.now }
     ensures writes { Writes (seen W.World world.old) (seen W.World world.new) target.now
-        (block_writes blocks.now (cut (length blocks.now) target.now.bsize
-        (bytes_from 0 (length blocks.now * target.now.bsize) map.now))) result }
+        (leaf_writes blocks.now (map_piece target.now.bsize map.now) places.now) result }
 {
     let size = target.bsize.bytes();
-    for place in 0..blocks.len() {
-        map.put_bytes(place as u32 * size, block);
-        match world.write_block(target.unit, blocks[place], block) {
+    for nth in 0..places.len() {
+        let place = places[nth];
+        map.put_bytes(place * size, block);
+        match world.write_block(target.unit, blocks[place as usize], block) {
             Ok(()) => {}
             Err(Failed) => return Err(Failed),
         }
@@ -110,11 +114,13 @@ pub fn write_map<W: World>(
     Ok(())
 }
 
-/// Writes a directory but for its first block: its other data blocks, then its pointer blocks, each made in `block`.
+/// Writes of a directory what is behind its first block: its other data blocks, then its pointer blocks at these places, each of these made
+/// in `block`.
 pub fn write_directory<W: World>(
     world: &mut W,
     target: &Target,
     tree: &TreeBlocks,
+    places: &WrittenPlaces,
     bytes: &[u8],
     block: &mut [u8],
 ) -> Result<(), Failed>
@@ -123,25 +129,28 @@ pub fn write_directory<W: World>(
     requires some { 1 ≤ length tree.now.leaves }
     requires few { length tree.now.leaves < 2 ^ 32 }
     requires nodes { length tree.now.pointers ≡ pointer_count (target.now.bsize / 4) (length tree.now.leaves) }
-    requires long { length bytes.now ≡ length tree.now.leaves * target.now.bsize }
-    requires within { All (IsBlockOf target.now.total) (tree.now.leaves ++ tree.now.pointers) }
+    requires first { 1 ≤ length places.now.leaves }
+    requires long { length bytes.now ≡ length places.now.leaves * target.now.bsize }
+    requires at { AreAt target.now.total tree.now.leaves places.now.leaves }
+    requires nodes_at { AreAt target.now.total tree.now.pointers places.now.nodes }
     requires may { MayWrite (W.told world.old) target.now }
     ensures writes { Writes (seen W.World world.old) (seen W.World world.new) target.now
-        (directory_writes target.now.bsize tree.now bytes.now) result }
+        (directory_writes target.now.bsize tree.now places.now bytes.now) result }
 {
-    let (_, leaves) = tree.leaves().split_at(1);
+    let (_, behind) = places.leaves.split_at(1);
     let (_, pieces) = bytes.split_at(target.bsize.bytes() as usize);
-    match write_pieces(world, target, leaves, pieces) {
-        Ok(()) => write_nodes(world, target, tree.leaves(), tree.pointers(), block),
+    match write_data(world, target, tree.leaves(), behind, pieces) {
+        Ok(()) => write_nodes(world, target, tree, &places.nodes, block),
         Err(Failed) => Err(Failed),
     }
 }
 
-/// Writes a map: its data blocks, then its pointer blocks, each made in `block`.
+/// Writes a map: its data blocks and then its pointer blocks at these places, each made in `block`.
 pub fn write_map_tree<W: World>(
     world: &mut W,
     target: &Target,
     tree: &TreeBlocks,
+    places: &WrittenPlaces,
     map: &Map,
     block: &mut [u8],
 ) -> Result<(), Failed>
@@ -151,13 +160,14 @@ pub fn write_map_tree<W: World>(
     requires few { length tree.now.leaves < 2 ^ 32 }
     requires nodes { length tree.now.pointers ≡ pointer_count (target.now.bsize / 4) (length tree.now.leaves) }
     requires short { length tree.now.leaves * target.now.bsize < 2 ^ 32 }
-    requires within { All (IsBlockOf target.now.total) (tree.now.leaves ++ tree.now.pointers) }
+    requires at { AreAt target.now.total tree.now.leaves places.now.leaves }
+    requires nodes_at { AreAt target.now.total tree.now.pointers places.now.nodes }
     requires may { MayWrite (W.told world.old) target.now }
     ensures writes { Writes (seen W.World world.old) (seen W.World world.new) target.now
-        (map_writes target.now.bsize tree.now map.now) result }
+        (map_writes target.now.bsize tree.now places.now map.now) result }
 {
-    match write_map(world, target, tree.leaves(), map, block) {
-        Ok(()) => write_nodes(world, target, tree.leaves(), tree.pointers(), block),
+    match write_map(world, target, tree.leaves(), &places.leaves, map, block) {
+        Ok(()) => write_nodes(world, target, tree, &places.nodes, block),
         Err(Failed) => Err(Failed),
     }
 }
@@ -167,16 +177,17 @@ pub fn write_first<W: World>(
     world: &mut W,
     target: &Target,
     tree: &TreeBlocks,
+    places: &WrittenPlaces,
     bytes: &[u8],
 ) -> Result<(), Failed>
-    requires some { 1 ≤ length tree.now.leaves }
-    requires long { length bytes.now ≡ length tree.now.leaves * target.now.bsize }
-    requires within { All (IsBlockOf target.now.total) (tree.now.leaves ++ tree.now.pointers) }
+    requires first { 1 ≤ length places.now.leaves }
+    requires long { length bytes.now ≡ length places.now.leaves * target.now.bsize }
+    requires at { AreAt target.now.total tree.now.leaves places.now.leaves }
     requires may { MayWrite (W.told world.old) target.now }
     ensures writes { Writes (seen W.World world.old) (seen W.World world.new) target.now
-        (first_writes target.now.bsize tree.now bytes.now) result }
+        (first_writes target.now.bsize tree.now places.now bytes.now) result }
 {
-    let (leaves, _) = tree.leaves().split_at(1);
+    let (first, _) = places.leaves.split_at(1);
     let (piece, _) = bytes.split_at(target.bsize.bytes() as usize);
-    write_pieces(world, target, leaves, piece)
+    write_data(world, target, tree.leaves(), first, piece)
 }

@@ -14,7 +14,8 @@ use std::alloc::{AllocError, Global};
 /// - `sizes`: the blocks, the files and the lost blocks. `state`: the volume id, the bytes of a block, the blocks, those that are free,
 ///   and the files. `find`: the place of a file.
 /// - Of the first file `told`: whether it is as it should be told; `leaves`: its data blocks; `file`: the length of its longest record,
-///   its stored bytes, its data blocks, its root, and the levels over these. `root`: the root of a file by its name.
+///   its stored bytes, its data blocks, its root, and the levels over these. `stored`: its stored bytes, by its place; `start`: where the
+///   first record begins in its last data block. `root`: the root of a file by its name.
 /// - `calls`: the letters of all calls of the world: each block is read once.
 pub const ROWS: &str = "\
 changed/one file/3 0 00 => Label(Id)
@@ -85,6 +86,10 @@ find/long directory/{ => None
 told/spanning => true
 leaves/spanning => [7, 8]
 file/spanning => (509, 516, [7, 8], 9, 1)
+stored/spanning => 516
+stored/one file => 7
+start/spanning => Some(4294967295)
+start/one file => Some(0)
 root/spanning/V => Some(9)
 calls/spanning => arrrrrr";
 
@@ -127,6 +132,20 @@ fn first_leaves(alloc: Global, held: &Held) -> Result<String, AllocError> {
     told(alloc, &held.leaves(0))
 }
 
+// The stored bytes of the first file.
+fn first_stored(alloc: Global, held: &Held) -> Result<String, AllocError> {
+    if held.count() == 0 {
+        return Ok(String::new(alloc));
+    }
+    told(alloc, &held.stored(0))
+}
+
+// Where the first record begins in the last data block of the first file.
+fn first_start(held: &Held) -> Option<u32> {
+    let (_, file) = held.by_name().first()?;
+    Some(file.start())
+}
+
 // The place of a file by its name.
 fn place_of(held: &Held, letter: &str) -> Option<u32> {
     held.find(&file_named(letter)?)
@@ -148,6 +167,8 @@ fn asked(alloc: Global, case: &str, held: &Held, world: &MemWorld) -> Result<Str
         "told" => told(alloc, &is_told(held)),
         "leaves" => first_leaves(alloc, held),
         "file" => first_file(alloc, held),
+        "stored" => first_stored(alloc, held),
+        "start" => told(alloc, &first_start(held)),
         "root" => told(alloc, &root_of(held, word(case, 2))),
         "calls" => calls_of(alloc, world),
         _ => String::from_str(alloc, "it opens"),

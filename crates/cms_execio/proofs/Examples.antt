@@ -12,8 +12,11 @@ use Rattle.cms_names.specs.declared.name.Format.TheVariants as format
 use Rattle.cms_names.specs.declared.name.Name.{Name}
 use Rattle.cms_text.specs.Numbers.{decimal_of, written, magnitude_of}
 use Rattle.cms_text.specs.Texts.{ebcdic, is_keyword}
-use Rattle.cms_model.specs.Changes.{answer_of, changed, changed_files, change_file, drop_file, file_named, is_full, last_first, limit, need, put_file, written_file}
-use Rattle.cms_model.specs.Lists.{same}
+use Rattle.cms_model.specs.Changes.{answer_of, change_file, changed, changed_files, drop_file, entries_made, file_named, is_full, last_first, limit, need, place_named, put_file, written_file}
+use Rattle.cms_model.specs.DirectoryParts.{blocks_with, directory_taken}
+use Rattle.cms_model.specs.Growth.{growth_taken}
+use Rattle.cms_model.specs.Sharing.{any_within, fresh_count, fresh_on, fresh_to, is_kept}
+use Rattle.cms_model.specs.Lists.{holds, same}
 use Rattle.cms_model.specs.Minidisks.{File, Volume, same_name}
 use Rattle.cms_model.specs.Records.{longest}
 use Rattle.cms_model.specs.Sizes.{directory_more, file_size, free_count, map_size, stored_size, tree_size, used_count, levels, levels_from, pointer_count, pointers_to}
@@ -158,7 +161,8 @@ read_once : (p : Places) → get p key ≡ Some 1 → (leaves (once p) (codes "E
 unfolding execio_operands read_operands file_input full_name operands_of needed given given_or name text_of is_name_character reading_mode mode_word_of short_mode_of
     letter_of mode_number_of number number_or_all number_within magnitude_of ended string_place text_in chosen_of options_of options_from all_valued valued setting_in
     last_among ebcdic code_of code_page host_of upper_of character_of tokens_of tokens_from is_keyword places_from file_named same_name same message_text typed_line
-    answer_of limit changed_files written_file is_full free_count used_count directory_more tree_size pointer_count pointers_to levels levels_from map_size need changed file_size
+    answer_of limit changed_files written_file is_full free_count used_count directory_more tree_size pointer_count pointers_to levels levels_from map_size need changed
+    place_named entries_made directory_taken blocks_with holds fresh_count fresh_to fresh_on is_kept any_within file_size
     stored_size moment decimal_of written digits drop_file last_first
 read_once p kept = (rw kept refl, refl, refl, rw kept refl)
 
@@ -327,7 +331,8 @@ string_given : (p : Places) → (writes (no_files p) (codes "EXECIO 1 DISKW A FI
 unfolding execio_operands write_operands full_name operands_of needed given given_or name text_of is_name_character writing_mode mode_word_of short_mode_of letter_of
     mode_number_of number_or_all number_within magnitude_of ended string_place text_in chosen_of options_of options_from all_valued valued setting_in last_among ebcdic
     code_of code_page host_of upper_of character_of tokens_of tokens_from is_keyword file_named same_name same message_text typed_line answer_of limit changed_files
-    written_file is_full free_count used_count directory_more tree_size pointer_count pointers_to levels levels_from map_size need changed file_size stored_size moment
+    written_file is_full free_count used_count directory_more tree_size pointer_count pointers_to levels levels_from map_size need changed
+    place_named entries_made directory_taken blocks_with holds fresh_count fresh_to fresh_on is_kept any_within file_size stored_size moment
     stamp_of decimal_of written digits put_file longest
 string_given p = (refl, refl, refl, refl, refl, refl, refl)
 
@@ -344,7 +349,8 @@ asked_for : (p : Places) → (writes (stacking (codes "One" ∷ codes "Two" ∷ 
 unfolding execio_operands write_operands full_name operands_of needed given given_or name text_of is_name_character writing_mode mode_word_of short_mode_of letter_of
     mode_number_of number_or_all number_within magnitude_of ended string_place text_in chosen_of options_of options_from all_valued valued setting_in last_among ebcdic
     code_of code_page host_of upper_of character_of tokens_of tokens_from is_keyword file_named same_name same message_text typed_line answer_of limit changed_files
-    written_file is_full free_count used_count directory_more tree_size pointer_count pointers_to levels levels_from map_size need changed file_size stored_size moment
+    written_file is_full free_count used_count directory_more tree_size pointer_count pointers_to levels levels_from map_size need changed
+    place_named entries_made directory_taken blocks_with holds fresh_count fresh_to fresh_on is_kept any_within file_size stored_size moment
     stamp_of decimal_of written digits put_file longest asking_lines asking
 asked_for p = (refl, refl, refl)
 
@@ -382,7 +388,8 @@ added : (p : Places) → (adds p format.V 2 (codes "AB" ∷ []) (codes "EXECIO 1
 unfolding execio_operands write_operands full_name operands_of needed given given_or name text_of is_name_character writing_mode mode_word_of short_mode_of letter_of
     mode_number_of number_or_all number_within magnitude_of ended string_place text_in chosen_of options_of options_from all_valued valued setting_in last_among ebcdic
     code_of code_page host_of upper_of character_of tokens_of tokens_from is_keyword file_named same_name same message_text typed_line answer_of limit changed_files
-    written_file is_full free_count used_count directory_more tree_size pointer_count pointers_to levels levels_from map_size need changed file_size stored_size moment
+    written_file is_full free_count used_count directory_more tree_size pointer_count pointers_to levels levels_from map_size need growth_taken changed
+    place_named entries_made directory_taken blocks_with holds fresh_count fresh_to fresh_on is_kept any_within file_size stored_size moment
     stamp_of decimal_of written digits put_file change_file longest
 added p = (refl, refl, refl, refl)
 
@@ -398,7 +405,8 @@ other_places : (p : Places) → writes (keeping p (one_disk (new_file 5 (codes "
 unfolding execio_operands write_operands full_name operands_of needed given given_or name text_of is_name_character writing_mode mode_word_of short_mode_of letter_of
     mode_number_of number_or_all number_within magnitude_of ended string_place text_in chosen_of options_of options_from all_valued valued setting_in last_among ebcdic
     code_of code_page host_of upper_of character_of tokens_of tokens_from is_keyword file_named same_name same message_text typed_line answer_of limit changed_files
-    written_file is_full free_count used_count directory_more tree_size pointer_count pointers_to levels levels_from map_size need changed file_size stored_size moment
+    written_file is_full free_count used_count directory_more tree_size pointer_count pointers_to levels levels_from map_size need changed
+    place_named entries_made directory_taken blocks_with holds fresh_count fresh_to fresh_on is_kept any_within file_size stored_size moment
     stamp_of decimal_of written digits put_file longest
 other_places p = refl
 
@@ -417,7 +425,8 @@ not_written : (p : Places) → (writes (stacking (codes "One" ∷ []) (small p t
 unfolding execio_operands write_operands full_name operands_of needed given given_or name text_of is_name_character writing_mode mode_word_of short_mode_of letter_of
     mode_number_of number_or_all number_within magnitude_of ended string_place text_in chosen_of options_of options_from all_valued valued setting_in last_among ebcdic
     code_of code_page host_of upper_of character_of tokens_of tokens_from is_keyword file_named same_name same message_text typed_line answer_of limit changed_files
-    written_file is_full free_count used_count directory_more tree_size pointer_count pointers_to levels levels_from map_size need changed file_size stored_size moment
+    written_file is_full free_count used_count directory_more tree_size pointer_count pointers_to levels levels_from map_size need growth_taken changed
+    place_named entries_made directory_taken blocks_with holds fresh_count fresh_to fresh_on is_kept any_within file_size stored_size moment
     stamp_of decimal_of written digits put_file change_file longest asking_lines asking
 not_written p = (refl, refl, refl, refl)
 

@@ -6,8 +6,10 @@ use Rattle.cms_names.specs.Modes.{letter_of, mode_number_of, mode_word_of, short
 use Rattle.cms_names.specs.Names.{is_name_character, text_of}
 use Rattle.cms_text.specs.Numbers.{decimal_of, written, magnitude_of}
 use Rattle.cms_text.specs.Texts.{ebcdic}
-use Rattle.cms_model.specs.Changes.{answer_of, changed, changed_files, change_file, drop_file, file_named, is_full, last_first, limit, need, written_file}
-use Rattle.cms_model.specs.Lists.{same}
+use Rattle.cms_model.specs.Changes.{answer_of, change_file, changed, changed_files, drop_file, entries_made, file_named, is_full, last_first, limit, need, place_named, written_file}
+use Rattle.cms_model.specs.DirectoryParts.{blocks_with, directory_taken}
+use Rattle.cms_model.specs.Sharing.{any_within, fresh_count, fresh_on, fresh_to, is_kept}
+use Rattle.cms_model.specs.Lists.{same, holds}
 use Rattle.cms_model.specs.Minidisks.{File, same_name}
 use Rattle.cms_model.specs.Sizes.{directory_more, file_size, free_count, map_size, stored_size, tree_size, used_count, levels, levels_from, pointer_count, pointers_to}
 use Rattle.cms_machine.specs.Acts.{typed_line}
@@ -157,7 +159,8 @@ read_once : (types_once (codes "TYPE P FILE") [] ≡ types (codes "X" ∷ codes 
 unfolding type_operands file_input full_name reading_mode number number_or_all operands_of needed given given_or name text_of is_name_character mode_word_of short_mode_of letter_of mode_number_of
     ended chosen_of options_of options_from
     all_valued valued setting_in last_among ebcdic code_of code_page host_of upper_of character_of tokens_of tokens_from message_of message_text typed_line magnitude_of number_within places_from
-    answer_of limit changed_files written_file is_full free_count used_count directory_more tree_size pointer_count pointers_to levels levels_from map_size need changed file_size
+    answer_of limit changed_files written_file is_full free_count used_count directory_more tree_size pointer_count pointers_to levels levels_from map_size need changed
+    place_named entries_made directory_taken blocks_with holds fresh_count fresh_to fresh_on is_kept any_within file_size
     stored_size file_named same_name same moment decimal_of written digits drop_file last_first typing
 read_once = (refl, refl, refl, refl, refl, refl)
 
@@ -185,7 +188,8 @@ erased : (erases (codes "ERASE AB FILE") [] ≡ types [] 0)
 unfolding erase_operands updating_each name_choice name_or_all writing_mode operands_of needed given given_or name text_of is_name_character mode_word_of short_mode_of letter_of mode_number_of
     ended chosen_of options_of options_from
     all_valued valued setting_in last_among ebcdic code_of code_page host_of upper_of character_of tokens_of tokens_from message_of message_text typed_line magnitude_of number_within
-    answer_of limit changed_files written_file is_full free_count used_count directory_more tree_size pointer_count pointers_to levels levels_from map_size need changed file_size
+    answer_of limit changed_files written_file is_full free_count used_count directory_more tree_size pointer_count pointers_to levels levels_from map_size need changed
+    place_named entries_made directory_taken blocks_with holds fresh_count fresh_to fresh_on is_kept any_within file_size
     stored_size file_named same_name same moment decimal_of written digits drop_file last_first
 erased = (refl, refl, refl, refl, refl, refl)
 
@@ -196,7 +200,8 @@ erasing_failed : (erases (codes "ERASE * FILE (TYPE") (Good ∷ OldFault ∷ [])
 unfolding erase_operands updating_each name_choice name_or_all writing_mode operands_of needed given given_or name text_of is_name_character mode_word_of short_mode_of letter_of mode_number_of
     ended chosen_of options_of options_from
     all_valued valued setting_in last_among ebcdic code_of code_page host_of upper_of character_of tokens_of tokens_from message_of message_text typed_line magnitude_of number_within
-    answer_of limit changed_files written_file is_full free_count used_count directory_more tree_size pointer_count pointers_to levels levels_from map_size need changed file_size
+    answer_of limit changed_files written_file is_full free_count used_count directory_more tree_size pointer_count pointers_to levels levels_from map_size need changed
+    place_named entries_made directory_taken blocks_with holds fresh_count fresh_to fresh_on is_kept any_within file_size
     stored_size file_named same_name same moment decimal_of written digits drop_file last_first
 erasing_failed = (refl, refl, refl)
 
@@ -231,7 +236,8 @@ renamed : (renames (codes "RENAME AB FILE A = NEW A2 (TYPE") [] ≡ types (codes
 unfolding rename_operands updating_each equal_signs name_choice output_name name_or_all name_or_same writing_mode output_mode operands_of needed given given_or name text_of is_name_character
     mode_word_of short_mode_of letter_of mode_number_of ended chosen_of options_of options_from
     all_valued valued setting_in last_among ebcdic code_of code_page host_of upper_of character_of tokens_of tokens_from message_of message_text typed_line magnitude_of number_within
-    answer_of limit changed_files written_file is_full free_count used_count directory_more tree_size pointer_count pointers_to levels levels_from map_size need changed file_size
+    answer_of limit changed_files written_file is_full free_count used_count directory_more tree_size pointer_count pointers_to levels levels_from map_size need changed
+    place_named entries_made directory_taken blocks_with holds fresh_count fresh_to fresh_on is_kept any_within file_size
     stored_size file_named same_name same moment decimal_of written digits change_file
 renamed = (refl, refl, refl, refl, refl)
 
@@ -245,7 +251,8 @@ taken : (renames (codes "RENAME AB FILE A BX FILE A") [] ≡ types (codes "CMS02
 unfolding rename_operands updating_each equal_signs name_choice output_name name_or_all name_or_same writing_mode output_mode operands_of needed given given_or name text_of is_name_character
     mode_word_of short_mode_of letter_of mode_number_of ended chosen_of options_of options_from
     all_valued valued setting_in last_among ebcdic code_of code_page host_of upper_of character_of tokens_of tokens_from message_of message_text typed_line magnitude_of number_within
-    answer_of limit changed_files written_file is_full free_count used_count directory_more tree_size pointer_count pointers_to levels levels_from map_size need changed file_size
+    answer_of limit changed_files written_file is_full free_count used_count directory_more tree_size pointer_count pointers_to levels levels_from map_size need changed
+    place_named entries_made directory_taken blocks_with holds fresh_count fresh_to fresh_on is_kept any_within file_size
     stored_size file_named same_name same moment decimal_of written digits change_file
 taken = (refl, refl, refl, refl, refl)
 

@@ -7,15 +7,16 @@ use Rattle.cms_names.specs.declared.name.Name.{Name}
 use Rattle.cms_names.specs.declared.name.Format.TheVariants.{F}
 use Rattle.cms_fields.specs.Moments.{first_moment, stamp_of}
 use Rattle.cms_model.specs.Changes.{file_named}
+use Rattle.cms_model.specs.LawsChanges.{IsPlace}
 use Rattle.cms_model.specs.Minidisks.{File, Minidisk}
 use Rattle.cms_model.specs.Trees.{Image}
 use Rattle.cms_model.proofs.Changing.{none_added, place_changed}
 use Rattle.cms_held.specs.LawsHeld.{IsFileOf, IsFound, IsMinidiskOf}
 use Rattle.cms_held.specs.Opening.{HeldFile, HeldVolume}
-use Rattle.cms_edf.specs.Asking.{info_of, infos_in}
+use Rattle.cms_edf.specs.Asking.{info_of, infos_in, stored_in}
 use Rattle.cms_edf.specs.declared.held.FileInfo.{FileInfo}
-use Rattle.cms_disk.specs.Disks.{StandsIn, place_of}
-use Rattle.cms_disk.proofs.Finding.{stands_tells}
+use Rattle.cms_disk.specs.Disks.{Accessed, StandsIn, place_of}
+use Rattle.cms_disk.proofs.Finding.{stands_tells, stored_told}
 use Rattle.cms_search.specs.Machine.{Letter, Machine, letter_at, minidisk_in}
 use Rattle.cms_search.specs.Searches.{item_at}
 use Rattle.cms_search.specs.Shows.{Shows}
@@ -23,7 +24,7 @@ use Rattle.cms_search.specs.Tables.{Accesses, Seated}
 use Rattle.cms_search.specs.declared.fault.SearchFault.{SearchFault}
 use Rattle.cms_search.proofs.Released.{get_map, letter_told}
 use Rattle.cms_files.specs.Files.{UnitFile, file_in, file_on, unit_file}
-use Rattle.cms_files.specs.Told.{IsInfo, info_named}
+use Rattle.cms_files.specs.Told.{HasStored, IsInfo, info_named, stored_named}
 
 any_file : Name → File
 any_file name = record { name = name; number = 0; format = F; length = 0; stamp = stamp_of first_moment; records = [] }
@@ -91,3 +92,41 @@ file_told t s n name shows = cases (item_at t.seats n) refl
     cases (Some seat) at =
         let e = shows.each n seat at in
         seat_told s name n seat e.0 e.1 (letter ∙ ap (λ (y : Option Seated). option_map (λ (x : Seated). x.letter) y) at) e.2 e.3
+
+-- ---- how many bytes are stored of it
+
+has_stored : (u : ℕ) (image : Image) (name : Name) (d : Accessed) (m : Minidisk) (k bytes : ℕ) → StandsIn image d m → place_of name d.volume ≡ Some k → slice_get (stored_in d.volume) k ≡ Some bytes
+    → HasStored bytes (unit_file u (file_named name m.files))
+has_stored u image name d m k bytes stands at told =
+    let tells = stands_tells image d m stands in
+    let place : IsPlace name m.files k = subst (IsFound name m.files) at (tells.found name) in
+    let f = slice_index_or m.files k (any_file name) in
+    let there : slice_get m.files k ≡ Some f = slice_get-get_or m.files k (any_file name) place.within in
+    let named = (place_changed name m.files k place).found (any_file name) in
+    subst (λ (x : Option File). HasStored bytes (unit_file u x)) (sym named) (stored_told image d m f k bytes stands there told)
+
+abbrev bytes_in : Name → Option Seated → Option ℕ
+bytes_in name x = option_and_then (λ s. option_and_then (λ place. slice_get (stored_in s.disk.volume) place) (place_of name s.disk.volume)) x
+
+no_bytes : (bytes : ℕ) → Some bytes ≡ None → ⊥
+no_bytes bytes is = cc is
+
+pub named_stored : (t : Accesses) (s : Machine) (n : ℕ) (name : Name) (bytes : ℕ) → Some bytes ≡ stored_named t n name → Shows t s → HasStored bytes (file_on s name (letter_at s n))
+named_stored t s n name bytes is shows = cases (item_at t.seats n) refl
+  where
+    letter : letter_at s n ≡ option_map (λ (x : Seated). x.letter) (item_at t.seats n)
+    letter = ap (λ (ls : List (Option Letter)). item_at ls n) (sym shows.letters) ∙ letter_told t.seats n
+
+    placed : (seat : Seated) → item_at t.seats n ≡ Some seat → (place : Option ℕ) → place_of name seat.disk.volume ≡ place
+        → Some bytes ≡ option_and_then (λ (k : ℕ). slice_get (stored_in seat.disk.volume) k) place → HasStored bytes (file_on s name (letter_at s n))
+    placed seat at None none told = absurd (no_bytes bytes told)
+    placed seat at (Some k) there told =
+        let e = shows.each n seat at in
+        let own : letter_at s n ≡ Some seat.letter = letter ∙ ap (λ (y : Option Seated). option_map (λ (x : Seated). x.letter) y) at in
+        let file : file_on s name (letter_at s n) ≡ unit_file seat.letter.unit (file_named name e.1.files) =
+        ap (λ (x : Option Letter). file_on s name x) own ∙ ap (λ (x : Option Minidisk). file_in seat.letter.unit name x) e.2 in
+        subst (HasStored bytes) (sym file) (has_stored seat.letter.unit e.0 name seat.disk e.1 k bytes e.3 there (sym told))
+
+    cases : (x : Option Seated) → item_at t.seats n ≡ x → HasStored bytes (file_on s name (letter_at s n))
+    cases None at = absurd (no_bytes bytes (is ∙ ap (bytes_in name) at))
+    cases (Some seat) at = placed seat at (place_of name seat.disk.volume) refl (is ∙ ap (bytes_in name) at)

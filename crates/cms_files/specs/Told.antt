@@ -1,20 +1,34 @@
 -- What a table tells of its files.
-use Rattle.std.specs.Prelude.{◌≡◌, ℕ, length, slice_get, Option}
+use Rattle.std.specs.Prelude.{◌≡◌, ℕ, length, slice_get, Option, Result, Ok, Err}
 use Rattle.std.specs.Option.{option_and_then}
 use Rattle.cms_names.specs.declared.name.Name.{Name}
 use Rattle.cms_model.specs.Minidisks.{File}
-use Rattle.cms_edf.specs.Asking.{infos_in}
+use Rattle.cms_model.specs.Records.{stored}
+use Rattle.cms_edf.specs.Asking.{infos_in, stored_in}
 use Rattle.cms_edf.specs.declared.held.FileInfo.{FileInfo}
 use Rattle.cms_disk.specs.Disks.{place_of}
 use Rattle.cms_search.specs.Searches.{item_at}
 use Rattle.cms_search.specs.Tables.{Accesses}
+use Rattle.cms_search.specs.declared.fault.SearchFault.{SearchFault}
 use Rattle.cms_search.specs.declared.search.Found.{Found}
+use Rattle.cms_files.specs.Files.{UnitFile}
 
 -- what is told of the file of a name on the disk of a letter, where it is there
 abbrev pub info_named : Accesses → ℕ → Name → Option FileInfo
 info_named t n name =
     option_and_then (λ s. option_and_then (λ place. slice_get (infos_in s.disk.volume) place) (place_of name s.disk.volume))
     (item_at t.seats n)
+
+-- how many bytes are stored of it
+abbrev pub stored_named : Accesses → ℕ → Name → Option ℕ
+stored_named t n name =
+    option_and_then (λ s. option_and_then (λ place. slice_get (stored_in s.disk.volume) place) (place_of name s.disk.volume))
+    (item_at t.seats n)
+
+-- a file is found, and its records have so many bytes as they are stored
+abbrev pub HasStored : ℕ → Result UnitFile SearchFault → Type 0
+HasStored bytes (Ok x) = bytes ≡ length (stored x.file.format x.file.records)
+HasStored bytes (Err e) = ⊥
 
 -- what is told of a file that was found, where it is there
 abbrev pub info_found : Accesses → Found → Option FileInfo

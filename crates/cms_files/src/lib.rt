@@ -29,6 +29,6 @@ pub use searching::{NO_FILE, refuse_exists, refuse_unfound};
 pub use stacking::StackEnd;
 pub use taken::{TakenFile, TakenFiles, files_written, find_written};
 pub use telling::{file_text, tell_updated};
-pub use told::{info_found, info_named};
+pub use told::{info_found, info_named, stored_named};
 pub use updating::{Updated, stop_exists, stop_search, stopped, update_disk};
 pub use writing::{end_writing, write_file, write_last};

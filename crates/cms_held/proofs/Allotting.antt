@@ -1,5 +1,5 @@
 -- Sizes of the new trees, the blocks that they take, and a map with blocks freed.
-use Rattle.std.proofs.Common.{◌≡◌, ⊎_elim, ℕ, zero, suc, ◌+◌, ◌-◌, ◌*◌, ◌/◌, ◌^◌, ◌<◌, ◌≤◌, Bool, true, false, if◌then◌else◌, List, [], ◌∷◌, ◌++◌, length, take, drop, set, get_or, refl, ap, sym, ◌∙◌, arith, length-take-le, mul-le-mul_right}
+use Rattle.std.proofs.Common.{◌≡◌, ⊎_elim, ℕ, zero, suc, ◌+◌, ◌-◌, ◌*◌, ◌/◌, ◌^◌, ◌<◌, ◌≤◌, Bool, true, false, if◌then◌else◌, List, [], ◌∷◌, ◌++◌, length, take, set, get_or, refl, ap, sym, ◌∙◌, arith, mul-le-mul_right}
 use Rattle.std.specs.Prelude.{nat_le, ◌&&◌}
 use Rattle.std.proofs.Math.Nat.{one-le-pow, mul-le-mul_left}
 use Rattle.std.proofs.lemmas.Bool.{cases_Bool, and_from, and_parts, leb-false}
@@ -7,9 +7,7 @@ use Rattle.std.proofs.lemmas.List.{set_past, take_more, take_all}
 use Rattle.cms_fields.specs.Numbers.{up}
 use Rattle.cms_model.specs.Sizes.{levels_from, levels, pointers_to, pointer_count, tree_size, directory_more, map_size}
 use Rattle.cms_model.proofs.Quotients.{up_spec, up_some, up_below}
-use Rattle.cms_map.specs.Bits.{free_blocks, with_marked}
-use Rattle.cms_held.specs.Opening.{HeldTree, HeldVolume}
-use Rattle.cms_held.specs.Renewing.{IsAllotted, fresh, needed, released, with_freed}
+use Rattle.cms_held.specs.Renewing.{with_freed}
 
 -- ---- sizes
 
@@ -122,37 +120,3 @@ passed_more ns i total old now within is long can =
 
 pub released_whole : (ns : List ℕ) (i : ℕ) (old now : List Bool) → length ns ≤ i → now ≡ with_freed (take i ns) old → now ≡ with_freed ns old
 released_whole ns i old now past is = is ∙ ap (λ (l : List ℕ). with_freed l old) (take_all i ns past)
-
--- ---- blocks in order
-
-pub taken_in_order : (own more nodes map map_nodes all r1 r2 r3 : List ℕ) → own ++ r1 ≡ all → more ++ r2 ≡ r1 → nodes ++ r3 ≡ r2 → map ++ map_nodes ≡ r3
-    → own ++ (more ++ (nodes ++ (map ++ map_nodes))) ≡ all
-taken_in_order own more nodes map map_nodes all r1 r2 r3 e1 e2 e3 e4 = rw (e4, e3, e2) e1
-
--- ---- the whole
-
-pub allotted : (v : HeldVolume) (files : ℕ) (given taken : List ℕ) (directory map : HeldTree) (bits : List Bool) (d p m q need : ℕ) → d ≡ up (64 * (files + 2)) v.disk.bsize
-    → p ≡ pointer_count (v.disk.bsize / 4) d
-    → m ≡ up (up v.label.blocks 8) v.disk.bsize → q ≡ pointer_count (v.disk.bsize / 4) m → length directory.leaves ≡ d → length directory.pointers ≡ p → length map.leaves ≡ m → length map.pointers ≡ q
-    → directory.leaves ≡ (9 - v.label.origin) ∷ drop 1 directory.leaves → fresh taken directory map ≡ take need (free_blocks v.bits) → need ≤ length (free_blocks v.bits)
-    → bits ≡ with_freed (released v given) (with_marked (take need (free_blocks v.bits)) v.bits) → IsAllotted v files given taken directory map bits
-allotted v files given taken directory map bits d p m q need is_d is_p is_m is_q has_d has_p has_m has_q origin lowest enough marks =
-    let long : length (fresh taken directory map) ≡ need = ap (λ (l : List ℕ). length l) lowest ∙ length-take-le need (free_blocks v.bits) enough in
-    record {
-      origin = origin;
-      directory_count = has_d ∙ is_d;
-      directory_nodes = has_p ∙ (is_p ∙ ap (pointer_count (v.disk.bsize / 4)) (sym has_d));
-      map_count = has_m ∙ is_m;
-      map_nodes = has_q ∙ (is_q ∙ ap (pointer_count (v.disk.bsize / 4)) (sym has_m));
-      lowest = lowest ∙ ap (λ (n : ℕ). take n (free_blocks v.bits)) (sym long);
-      marks = marks ∙ ap (λ (l : List ℕ). with_freed (released v given) (with_marked l v.bits)) (sym lowest);
-    }
-
-pub need_of : (v : HeldVolume) (b n files d p m q file : ℕ) → b ≡ v.disk.bsize → n ≡ v.label.blocks → 1 ≤ d → d ≡ up (64 * (files + 2)) b → p ≡ pointer_count (b / 4) d → m ≡ up (up n 8) b
-    → q ≡ pointer_count (b / 4) m
-    → file + (d - 1 + p) + m + q ≡ file + needed v files
-need_of v b n files d p m q file is_b is_n one is_d is_p is_m is_q =
-    let sum = need_is b n files d p m q one is_d is_p is_m is_q in
-    let same : directory_more b files + map_size b n ≡ needed v files =
-    ap (λ (k : ℕ). directory_more k files + map_size k n) is_b ∙ ap (λ (k : ℕ). directory_more v.disk.bsize files + map_size v.disk.bsize k) is_n in
-    omega arith

@@ -1,5 +1,5 @@
 -- A finished draft holds its file.
-use Rattle.std.proofs.Common.{◌≡◌, ⊎_elim, ℕ, zero, suc, ◌+◌, ◌-◌, ◌*◌, ◌/◌, ◌<◌, ◌≤◌, List, [], ◌∷◌, ◌++◌, length, take, drop, All, None, Ok, refl, sym, ◌∙◌, ap, arith, append_assoc, append-nil}
+use Rattle.std.proofs.Common.{◌≡◌, ⊎_elim, ℕ, zero, suc, ◌+◌, ◌-◌, ◌*◌, ◌/◌, ◌<◌, ◌≤◌, List, [], ◌∷◌, ◌++◌, length, take, drop, All, None, Ok, refl, sym, ◌∙◌, ap, subst, arith, append_assoc, append-nil}
 use Rattle.std.specs.Prelude.{replicate}
 use Rattle.std.proofs.lemmas.Bool.{cases_lt}
 use Rattle.std.proofs.lemmas.List.{drop-drop, take_all, drop_all, length-take, length-drop, length-replicate, take-append-drop}
@@ -18,6 +18,8 @@ use Rattle.cms_model.proofs.TreeFrame.{tree_keeps}
 use Rattle.cms_tree.specs.Builds.{root_of}
 use Rattle.cms_tree.proofs.Building.{built_is_tree}
 use Rattle.cms_held.specs.Drafts.{filled, data_block, HasData, DraftHolds}
+use Rattle.cms_held.specs.SharedTrees.{IsStanding}
+use Rattle.cms_held.proofs.Standing.{built_stands}
 
 replicate_both : (a b : ℕ) → ◌++◌ {A = ℕ} (replicate a 0) (replicate b 0) ≡ replicate (a + b) 0
 replicate_both zero b = let e : 0 + b ≡ b = omega arith in rw e refl
@@ -31,7 +33,7 @@ next_block bsize k bytes =
     ap (λ (l : List ℕ). filled bsize (take bsize l)) same
 
 -- the bytes of the data blocks are the stored bytes and zeros
-data_bytes : (image : Image) (bsize : ℕ) (leaves bytes : List ℕ) → length bytes ≤ length leaves * bsize → HasData image bsize leaves bytes
+pub data_bytes : (image : Image) (bsize : ℕ) (leaves bytes : List ℕ) → length bytes ≤ length leaves * bsize → HasData image bsize leaves bytes
     → bytes_at image leaves ≡ bytes ++ replicate (length leaves * bsize - length bytes) 0
 unfolding bytes_at
 data_bytes image bsize [] [] fits has = let none : 0 * bsize - 0 ≡ 0 = omega arith in rw none refl
@@ -109,4 +111,6 @@ draft_holds disk total image e leaves marks fresh records d =
       };
       leaves_are = reads.leaves_are;
       blocks_are = reads.blocks_are;
+      stands = subst (λ (f : Form). IsStanding f image (record { leaves = leaves; pointers = fresh })) form_same
+          (built_stands disk.bsize (pointer_size e.format) total leaves marks fresh image d.plan d.small d.words d.nodes_allowed d.nodes);
     }

@@ -29,7 +29,9 @@ use Rattle.cms_held.specs.Renewing.{Edit, blocks_in, dropping, entries_held, ren
 use Rattle.cms_held.specs.LawsRenewing.{ComesFrom, IsHeldAt, LeavesFiles}
 use Rattle.cms_held.specs.LawsEdits.{DropEdits, RenameEdits}
 use Rattle.cms_held.proofs.Removing.{All-removed, length-removed, map-removed}
+use Rattle.cms_held.specs.HeldTrees.{TreeComes}
 use Rattle.cms_held.proofs.Renewals.{same_entries}
+use Rattle.cms_held.proofs.Standing.{comes_renamed, trees_old}
 
 -- ---- a place among files
 
@@ -211,9 +213,10 @@ pub record Moved (before later : Image) (v : HeldVolume) (edit : Edit) (old : La
 pub moved : (before later : Image) (v : HeldVolume) (edit : Edit) (old : Layout) (change : Change) (fs : List Kept)
     → HaveNames old.files → IsFree change (map file_of old.files) → changed_files (map file_of old.files) change ≡ map file_of fs → Beside fs edit.files → length fs ≤ most_files
     → All (λ (f : Kept). passes v.disk.bsize f.entry ≡ true) fs → ComesFrom v.disk v.label.blocks before later (layout_blocks old) fs
+    → All (TreeComes v.disk.bsize v.label.blocks before later (layout_blocks old)) edit.files
     → ((n : ℕ) → times n (file_blocks fs) + times n edit.given ≡ times n (file_blocks old.files) + times n edit.taken) → ((n : ℕ) → times n edit.given ≤ times n (file_blocks old.files))
     → Moved before later v edit old change
-moved before later v edit old change fs names free changed held few pass come balance had = record {
+moved before later v edit old change fs names free changed held few pass come trees balance had = record {
   files = fs;
   files_are = sym changed;
   held = held;
@@ -224,6 +227,7 @@ moved before later v edit old change fs names free changed held few pass come ba
     names = names_from fs (subst AreDistinct changed (stay_distinct (map file_of old.files) change (names_distinct old.files names) free));
     held = held;
     come = come;
+    trees = trees;
     balance = balance;
     had = had;
   };
@@ -237,6 +241,10 @@ files_old j v old x =
     old_all v.disk v.label.blocks (now j v.unit) (layout_blocks old) old.files
     (subst (λ (n : ℕ). HoldsFiles v.disk n (now j v.unit) old.files) total x.stands.files)
     (λ n in'. In-right n old.directory_met.blocks (old.map_met.blocks ++ file_blocks old.files) (In-right n old.map_met.blocks (file_blocks old.files) in'))
+
+-- with the trees of the files of a volume
+pub trees_of : (j : Journal) (v : HeldVolume) (old : Layout) (later : Image) → IsHeldAt j v old → All (TreeComes v.disk.bsize v.label.blocks (now j v.unit) later (layout_blocks old)) v.files
+trees_of j v old later x = trees_old v.disk.bsize v.label.blocks (now j v.unit) later old v.files x.held.files_are x.trees.files
 
 pub drop_moves : (j : Journal) (v : HeldVolume) (old : Layout) (later : Image) (k : ℕ) (h : HeldFile) → IsHeldAt j v old → Keeps v → slice_get v.files k ≡ Some h
     → Moved (now j v.unit) later v (dropping v.files k h) old (Drop h.entry.name)
@@ -261,10 +269,20 @@ drop_moves j v old later k h x kept there =
     (All-removed P old.files k g less (pass_all v.disk.bsize v.label.blocks old.files v.files x.held.files_are kept.each))
     (come_all v.disk v.label.blocks (now j v.unit) later (layout_blocks old) fs
     (All-removed (Old v.disk v.label.blocks (now j v.unit) (layout_blocks old)) old.files k g less (files_old j v old x)))
+    (All-removed (TreeComes v.disk.bsize v.label.blocks (now j v.unit) later (layout_blocks old)) v.files k h (omega arith) (trees_of j v old later x))
     (λ n. omega (arith, removed_times n old.files k g less, tree_times n g h at.held, same n, no_times n))
     (λ n. omega (arith, removed_times n old.files k g less, tree_times n g h at.held, same n))
 
 -- ---- a file with another name
+
+-- what holds of each holds of the file at a place
+tree_at : (P : HeldFile → Type 0) (hs : List HeldFile) (k : ℕ) (h : HeldFile) → slice_get hs k ≡ Some h → All P hs → P h
+tree_at P [] k h is all = absurd (cc is)
+tree_at P (x ∷ hs) zero h is all = subst P (some_same x h is) (All-head P x hs all)
+  where
+    some_same : (a b : HeldFile) → Some a ≡ Some b → a ≡ b
+    some_same a b e = cc e
+tree_at P (x ∷ hs) (suc k) h is all = tree_at P hs k h is (All-tail P x hs all)
 
 pub passes_renamed : (bsize : ℕ) (e : Entry) (name : Name) (number : ℕ) → number ≤ 6 → passes bsize e ≡ true → passes bsize (record e { name = name; number = number }) ≡ true
 unfolding length_fits counts_fit levels_fit
@@ -295,6 +313,8 @@ rename_moves j v old later k h to number x kept there small free =
     let P = λ (f : Kept). passes v.disk.bsize f.entry ≡ true in
     let all = pass_all v.disk.bsize v.label.blocks old.files v.files x.held.files_are kept.each in
     let olds = files_old j v old x in
+    let T = TreeComes v.disk.bsize v.label.blocks (now j v.unit) later (layout_blocks old) in
+    let trees = trees_of j v old later x in
     let g_passes : P g = subst P is (All-get_or P old.files k g less all) in
     let g_old : Old v.disk v.label.blocks (now j v.unit) (layout_blocks old) g =
     subst (Old v.disk v.label.blocks (now j v.unit) (layout_blocks old)) is (All-get_or (Old v.disk v.label.blocks (now j v.unit) (layout_blocks old)) old.files k g less olds) in
@@ -309,6 +329,7 @@ rename_moves j v old later k h to number x kept there small free =
     moved (now j v.unit) later v (renaming v.files k h to number) old (Rename h.entry.name to number) fs x.stands.names free changed held (let n = length-set old.files k g' in omega arith)
     (All-set P old.files k g' (passes_renamed v.disk.bsize g.entry to number small g_passes) all)
     (come_all v.disk v.label.blocks (now j v.unit) later (layout_blocks old) fs (All-set (Old v.disk v.label.blocks (now j v.unit) (layout_blocks old)) old.files k g' g_new olds))
+    (All-set T v.files k (renamed to number h) (comes_renamed v.disk.bsize v.label.blocks (now j v.unit) later (layout_blocks old) h to number (tree_at T v.files k h there trees)) trees)
     (λ n. ap (λ (l : List ℕ). times n l + times n []) (same_trees old.files k g' g less (ap (λ (f : Kept). f.met) (sym is))))
     (λ n. omega (arith, no_times n))
 

@@ -1,32 +1,25 @@
 -- The entries of a directory by their places, and those that an update leaves as they were.
-use Rattle.std.proofs.Common.{◌≡◌, ◌⊎◌, inl, inr, ⊎_elim, ℕ, zero, suc, ◌+◌, ◌-◌, ◌*◌, ◌/◌, ◌%◌, ◌<◌, ◌≤◌, Bool, true, false, List, [], ◌∷◌, ◌++◌, length, map, take, drop, set, get_or, Result, Ok, Err, refl, sym, ◌∙◌, ap, subst, arith, div-add-mod', mod-lt, length-append, mul-le-mul_right}
-use Rattle.std.specs.Prelude.{cond}
-use Rattle.std.specs.List.{filter, range_with_len}
-use Rattle.std.specs.List.Sorted.{IsStrictlyIncreasing}
+use Rattle.std.proofs.Common.{◌≡◌, ◌⊎◌, inl, inr, ⊎_elim, ℕ, zero, suc, ◌+◌, ◌-◌, ◌*◌, ◌/◌, ◌%◌, ◌<◌, ◌≤◌, true, false, List, [], ◌∷◌, ◌++◌, length, take, drop, set, get_or, Result, Ok, Err, refl, sym, ◌∙◌, ap, subst, arith, div-add-mod', mod-lt, length-append, mul-le-mul_right}
 use Rattle.std.proofs.lemmas.Bool.{cases_lt}
 use Rattle.std.proofs.lemmas.List.{length-map, length-set, length-take, map-append, map-set, take-map, get_or-set_other, get_or-take, get_or_append_left, drop-drop}
-use Rattle.std.proofs.lemmas.List.FromFn.{get_or-range_with_len, length-range_with_len}
-use Rattle.std.proofs.lemmas.List.Kept.{IsStrictlyIncreasing-filter}
-use Rattle.std.proofs.Math.Nat.{div-lt_iff_lt-mul, div-eq_of_lt-le, zero-div}
 use Rattle.cms_journal.specs.Journal.{IsBlockSize}
-use Rattle.cms_journal.proofs.Sizes.{block_bounds}
 use Rattle.cms_fields.specs.Steps.{◌>>=◌}
 use Rattle.cms_fields.specs.Entries.{entry_of}
-use Rattle.cms_fields.specs.Numbers.{up}
 use Rattle.cms_fields.specs.declared.entry.Entry.{Entry}
-use Rattle.cms_model.specs.Lists.{In, cut, holds}
+use Rattle.cms_model.specs.Lists.{cut}
 use Rattle.cms_model.specs.Trees.{Image, bytes_at}
 use Rattle.cms_model.specs.Volumes.{blamed, entries_of}
 use Rattle.cms_model.specs.declared.fault.OpenFault.{OpenFault}
 use Rattle.cms_model.specs.declared.fault.OpenFault.TheVariants as failed
-use Rattle.cms_model.proofs.Quotients.{up_spec, up_some}
-use Rattle.cms_model.proofs.Repeats.{in_held}
 use Rattle.cms_model.proofs.Results.{bind_then, ok_same}
 use Rattle.cms_held.specs.Opening.{HeldFile}
 use Rattle.cms_held.specs.Renewing.{dropping, entries_held}
-use Rattle.cms_held.specs.SharedBlocks.{AreLong, MayBeWritten}
-use Rattle.cms_held.specs.EntryPlaces.{EditsHavePlaces, EntriesByPlace, IsChangedAt, PlacesAreEnough, blocks_with, directory_count, entry_at, entry_block}
+use Rattle.cms_model.specs.DirectoryParts.{directory_count, entry_block}
+use Rattle.cms_model.proofs.DirectoryParts.{blocks_may, entry_within, first_made, in_blocks, parts}
+use Rattle.cms_held.specs.SharedBlocks.{AreLong}
+use Rattle.cms_held.specs.EntryPlaces.{EntriesByPlace, IsChangedAt, PlacesAreEnough, entry_at}
 use Rattle.cms_held.proofs.BlockBytes.{piece_by_place}
+use Rattle.cms_held.specs.SharedNeed.{EditsHavePlaces}
 
 clash : true ≡ false → ⊥
 clash e = cc
@@ -77,12 +70,6 @@ read_back bsize number (e ∷ es) bytes each =
     rw (first, rest) refl
 
 -- ---- by their places in the data blocks
-
-pub parts : (bsize : ℕ) → IsBlockSize bsize → (bsize / 64 * 64 ≡ bsize) × (8 ≤ bsize / 64)
-parts bsize (inl e) = rw e (refl, omega arith)
-parts bsize (inr (inl e)) = rw e (refl, omega arith)
-parts bsize (inr (inr (inl e))) = rw e (refl, omega arith)
-parts bsize (inr (inr (inr e))) = rw e (refl, omega arith)
 
 same_piece : (bsize : ℕ) (image : Image) (leaves : List ℕ) (count k : ℕ) → IsBlockSize bsize → AreLong bsize image leaves → 64 * (count + 2) ≤ length leaves * bsize → k < count
     → take 64 (drop (k * 64) (drop 128 (bytes_at image leaves))) ≡ entry_at bsize image leaves (k + 2)
@@ -146,113 +133,7 @@ edits_have_places files place old new = record {
     below : (k : ℕ) → k < length (entries_held files ++ new.entry ∷ []) → (k ≡ length files → ⊥) → k < length (entries_held files)
     below k less isnt = omega (arith, length-append (entries_held files) (new.entry ∷ []), length-map files (λ (f : HeldFile). f.entry))
 
--- ---- the data blocks of some entries
-
-in_filter : (test : ℕ → Bool) (n : ℕ) (xs : List ℕ) → In n xs → test n ≡ true → In n (filter test xs)
-in_filter test n [] there is = absurd there
-in_filter test n (x ∷ xs) (inl e) is = let here : test x ≡ true = ap test (sym e) ∙ is in rw here (inl e)
-in_filter test n (x ∷ xs) (inr more) is = go (test x) (in_filter test n xs more is)
-  where
-    go : (b : Bool) → In n (filter test xs) → In n (cond b (x ∷ filter test xs) (filter test xs))
-    go true there = inr there
-    go false there = there
-
-from_filter : (test : ℕ → Bool) (n : ℕ) (xs : List ℕ) → In n (filter test xs) → In n xs
-from_filter test n [] there = absurd there
-from_filter test n (x ∷ xs) there = go (test x) there (from_filter test n xs)
-  where
-    go : (b : Bool) → In n (cond b (x ∷ filter test xs) (filter test xs)) → (In n (filter test xs) → In n xs) → In n (x ∷ xs)
-    go true (inl e) deeper = inl e
-    go true (inr more) deeper = inr (deeper more)
-    go false more deeper = inr (deeper more)
-
-in_row : (a n k : ℕ) → a ≤ n → n < a + k → In n (range_with_len a k)
-in_row a n zero low high = absurd (omega arith)
-in_row a n (suc k) low high = ⊎_elim (λ (is : n < a + 1). inl (omega arith)) (λ (past : a + 1 ≤ n). inr (in_row (a + 1) n k past (omega arith))) (cases_lt n (a + 1))
-
-from_row : (a n k : ℕ) → In n (range_with_len a k) → n < a + k
-from_row a n zero there = absurd there
-from_row a n (suc k) (inl is) = omega arith
-from_row a n (suc k) (inr more) = let less = from_row (a + 1) n k more in omega arith
-
-row_ascends : (a n : ℕ) → IsStrictlyIncreasing (range_with_len a n)
-row_ascends a n k less =
-    let long = length-range_with_len a n in
-    rw (get_or-range_with_len a n k 0 (omega arith), get_or-range_with_len a n (k + 1) 0 (omega arith)) (omega arith)
-
-pub in_blocks : (bsize count n : ℕ) (numbers : List ℕ) → In n (map (entry_block bsize) numbers) → n < count → In n (blocks_with bsize count numbers)
-unfolding blocks_with
-in_blocks bsize count n numbers there less =
-    in_filter (holds (map (entry_block bsize) numbers)) n (range_with_len 0 count) (in_row 0 n count (omega arith) (omega arith)) (in_held n (map (entry_block bsize) numbers) there)
-
-pub blocks_within : (bsize count n : ℕ) (numbers : List ℕ) → In n (blocks_with bsize count numbers) → n < count
-unfolding blocks_with
-blocks_within bsize count n numbers there = let less = from_row 0 n count (from_filter (holds (map (entry_block bsize) numbers)) n (range_with_len 0 count) there) in omega arith
-
-pub blocks_ascend : (bsize count : ℕ) (numbers : List ℕ) → IsStrictlyIncreasing (blocks_with bsize count numbers)
-unfolding blocks_with
-blocks_ascend bsize count numbers = IsStrictlyIncreasing-filter (holds (map (entry_block bsize) numbers)) (range_with_len 0 count) (row_ascends 0 count)
-
 -- ---- they are enough
-
--- more need no fewer pieces
-up_rises : (a b size : ℕ) → 0 < size → a ≤ b → up a size ≤ up b size
-up_rises a b size some le =
-    let one = (up_spec a size some).1 in
-    let two = (up_spec b size some).0 in
-    ⊎_elim
-    (λ (more : up b size < up a size). let wide : suc (up b size) * size ≤ up a size * size = mul-le-mul_right size more in absurd (omega arith))
-    (λ (fine : up a size ≤ up b size). fine)
-    (cases_lt (up b size) (up a size))
-
--- an entry stands in one of the data blocks
-pub entry_within : (bsize count k : ℕ) → IsBlockSize bsize → k < count → entry_block bsize (k + 2) < directory_count bsize count
-entry_within bsize count k size less =
-    let p = parts bsize size in
-    let whole = p.0 in
-    let some = p.1 in
-    let each = bsize / 64 in
-    let d = directory_count bsize count in
-    let room = (up_spec (64 * (count + 2)) bsize (omega arith)).0 in
-    let wide : d * bsize ≡ d * each * 64 = ap (λ (n : ℕ). d * n) (sym whole) ∙ (omega arith) in
-    (div-lt_iff_lt-mul {k = each} {x = k + 2} {y = d} (omega arith)).1 (omega arith)
-
--- where the directory grows, the new entry stands in the one data block that there wasn't before
-grown_at : (bsize count j : ℕ) → IsBlockSize bsize → directory_count bsize count ≤ j → j < directory_count bsize (suc count) → j ≡ entry_block bsize (count + 2)
-grown_at bsize count j size low high =
-    let p = parts bsize size in
-    let whole = p.0 in
-    let some = p.1 in
-    let each = bsize / 64 in
-    let before = up_spec (64 * (count + 2)) bsize (omega arith) in
-    let after = up_spec (64 * (suc count + 2)) bsize (omega arith) in
-    let a = before.0 in
-    let b = after.1 in
-    let wide : j * bsize ≡ j * each * 64 = ap (λ (n : ℕ). j * n) (sym whole) ∙ (omega arith) in
-    let c : directory_count bsize count * bsize ≤ j * bsize = mul-le-mul_right bsize low in
-    let e : suc j * bsize ≤ directory_count bsize (suc count) * bsize = mul-le-mul_right bsize high in
-    let f : suc j * bsize ≡ j * bsize + bsize = omega arith in
-    let g : (j + 1) * each ≡ j * each + each = omega arith in
-    sym (div-eq_of_lt-le {k = j} each {m = count + 2} (omega arith) (omega arith))
-
--- the data blocks that there weren't before are among those of the entry that is added
-pub grown_places : (bsize before after place j : ℕ) (numbers : List ℕ) → IsBlockSize bsize → (after ≤ before) ⊎ ((after ≡ suc before) × (place ≡ before)) → In (entry_block bsize (place + 2)) (map (entry_block bsize) numbers)
-    → directory_count bsize before ≤ j → j < directory_count bsize after → In j (blocks_with bsize (directory_count bsize after) numbers)
-grown_places bsize before after place j numbers size (inl fewer) there low high =
-    let wide = (block_bounds bsize size).0 in
-    let less = up_rises (64 * (after + 2)) (64 * (before + 2)) bsize (omega arith) (omega arith) in
-    absurd (omega arith)
-grown_places bsize before after place j numbers size (inr one) there low high =
-    let is : j ≡ entry_block bsize (place + 2) = grown_at bsize before j size low (subst (λ (n : ℕ). j < directory_count bsize n) one.0 high) ∙ ap (λ (n : ℕ). entry_block bsize (n + 2)) (sym one.1) in
-    in_blocks bsize (directory_count bsize after) j numbers (subst (λ (n : ℕ). In n (map (entry_block bsize) numbers)) (sym is) there) high
-
-pub blocks_may : (bsize before after place : ℕ) (numbers : List ℕ) → IsBlockSize bsize → (after ≤ before) ⊎ ((after ≡ suc before) × (place ≡ before)) → In (entry_block bsize (place + 2)) (map (entry_block bsize) numbers)
-    → MayBeWritten (directory_count bsize before) (directory_count bsize after) (blocks_with bsize (directory_count bsize after) numbers)
-blocks_may bsize before after place numbers size long there = record {
-  ascend = blocks_ascend bsize (directory_count bsize after) numbers;
-  within = λ j in'. blocks_within bsize (directory_count bsize after) j numbers in';
-  grown = λ j low high. grown_places bsize before after place j numbers size long there low high;
-}
 
 pub places_are_enough : PlacesAreEnough
 places_are_enough bsize olds news place more size at =
@@ -260,7 +141,7 @@ places_are_enough bsize olds news place more size at =
     let count = directory_count bsize (length news) in
     record {
       may = blocks_may bsize (length olds) (length news) place numbers size at.long (inr (inl refl));
-      first = in_blocks bsize count 0 numbers (inl (sym (zero-div (bsize / 64)))) some_blocks;
+      first = first_made bsize (length news) ((place + 2) ∷ more) size;
       stay = λ k d less isnt.
           let apart = λ (is : k ≡ place).
           isnt (in_blocks bsize count (entry_block bsize (k + 2)) numbers (inr (inl (ap (λ (n : ℕ). entry_block bsize (n + 2)) is))) (entry_within bsize (length news) k size less)) in
@@ -273,6 +154,3 @@ places_are_enough bsize olds news place more size at =
         let long = one.0 in
         let at' = one.1 in
         ⊎_elim (λ (lt : k < length olds). lt) (λ (ge : length olds ≤ k). absurd (apart (omega arith))) (cases_lt k (length olds))
-
-    some_blocks : 0 < directory_count bsize (length news)
-    some_blocks = let low = (block_bounds bsize size).0 in let some = up_some (64 * (length news + 2)) bsize (omega arith) (omega arith) in omega arith

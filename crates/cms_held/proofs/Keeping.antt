@@ -28,6 +28,7 @@ use Rattle.cms_held.specs.LawsRenewing.{AreBlocks, FrontKeepsHeld}
 use Rattle.cms_held.proofs.OldBlocks.{old_blocks, past_label, same_blocks}
 use Rattle.cms_held.proofs.Renewals.{comes_from}
 use Rattle.cms_held.proofs.Edits.{come_all, old_all}
+use Rattle.cms_held.proofs.Standing.{trees_stay}
 use Rattle.cms_held.proofs.WritesPut.{put_long}
 
 -- ---- an image with the same bytes in a volume's blocks
@@ -137,6 +138,7 @@ front_keeps_held j v old ws p x blocks within apart front =
         files_are = x.held.files_are;
         lost_is = x.held.lost_is;
       };
+      trees = trees_stay u v.disk before later old v x.held same x.trees;
     }
   where
     low : (n : ℕ) → In n (layout_blocks old) → 1 ≤ n

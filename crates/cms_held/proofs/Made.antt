@@ -1,5 +1,5 @@
 -- An empty volume that was made is read again.
-use Rattle.std.proofs.Common.{◌≡◌, ◌≢◌, ◌⊎◌, inl, inr, ⊎_elim, ℕ, ◌+◌, ◌-◌, ◌*◌, ◌/◌, ◌<◌, ◌≤◌, Bool, true, false, List, [], ◌∷◌, ◌++◌, length, map, take, drop, get_or, replicate, All, Ok, refl, sym, ◌∙◌, ap, subst, arith, append-nil, append_assoc, length-append}
+use Rattle.std.proofs.Common.{◌≡◌, ◌≢◌, ◌⊎◌, inl, inr, ⊎_elim, ℕ, ◌+◌, ◌-◌, ◌*◌, ◌/◌, ◌^◌, ◌<◌, ◌≤◌, Bool, true, false, List, [], ◌∷◌, ◌++◌, length, map, take, drop, get_or, replicate, All, Ok, refl, sym, ◌∙◌, ap, subst, arith, append-nil, append_assoc, length-append}
 use Rattle.std.specs.Prelude.{◌==◌, if◌then◌else◌}
 use Rattle.std.specs.List.{range_with_len}
 use Rattle.std.proofs.lemmas.Bool.{cases_Bool, cases_lt, cases_eq, eqb-true}
@@ -20,33 +20,41 @@ use Rattle.cms_model.specs.Maps.{is_marked}
 use Rattle.cms_model.specs.Minidisks.{Minidisk, Volume, Not}
 use Rattle.cms_model.specs.Sizes.{map_size, pointer_count}
 use Rattle.cms_model.specs.Trees.{Image, Met, bytes_at}
-use Rattle.cms_model.specs.Volumes.{minidisk_of}
+use Rattle.cms_model.specs.Volumes.{minidisk_of, state_of}
 use Rattle.cms_model.specs.Stands.{Layout, Stands, file_blocks, layout_blocks, opened}
-use Rattle.cms_model.specs.Settled.{Apart, update}
+use Rattle.cms_model.specs.Settled.{Apart, Write, update}
 use Rattle.cms_model.specs.LawsSizes.{IsWhole}
-use Rattle.cms_model.specs.LawsUpdates.{AreWithin, HasEither, Makes, PutsBlocks, after, now, put_block, put_blocks, with_label}
+use Rattle.cms_journal.specs.declared.event.Event.{Event}
+use Rattle.cms_model.specs.LawsUpdates.{AreWithin, HasEither, IsFront, IsWiped, Makes, PutsBlocks, after, now, put_block, put_blocks, to_label, with_label}
 use Rattle.cms_model.proofs.Cuts.{length_cut}
 use Rattle.cms_model.proofs.Opening.{state_opens}
 use Rattle.cms_model.proofs.Putting.{update_is_put}
-use Rattle.cms_model.proofs.Quotients.{up_unique}
+use Rattle.cms_model.proofs.Quotients.{up_below, up_some, up_unique}
 use Rattle.cms_model.proofs.Renewing.{minidisk_is}
 use Rattle.cms_model.proofs.Repeats.{bit, hit, miss, held_from, times_append}
 use Rattle.cms_model.proofs.Standing.{stands_opens}
 use Rattle.cms_model.proofs.Wiping.{keeps_wiped, make_is_whole}
 use Rattle.cms_map.specs.Bits.{bytes_from, HasFixed}
 use Rattle.cms_tree.specs.Builds.{node_bytes, nodes_over}
+use Rattle.cms_held.specs.Carrying.{IsHeldMinidisk}
+use Rattle.cms_held.specs.HeldTrees.{FileStands}
 use Rattle.cms_held.specs.Kept.{IsKept, IsKeptFile}
-use Rattle.cms_held.specs.Making.{Making, EmptyIsMade, EmptyIsPlaced, IsEmptyVolume, IsReadyUnit, empty_label, first_used, made_minidisk, made_writes}
+use Rattle.cms_held.specs.Making.{Making, EmptyIsMade, EmptyIsPlaced, IsEmptyVolume, IsReadyUnit, empty_label, first_used, made_minidisk, made_volume, made_writes}
 use Rattle.cms_held.specs.Opening.{HeldFile, HeldTree}
-use Rattle.cms_held.specs.Systems.{Systems, HasWritten, IsLaidOut, IsTree, ReadsSystems, SaysBits, block_writes, directory_bytes_of, directory_pieces, map_pieces, node_writes, directory_file, file_at, map_file, system_entry}
+use Rattle.cms_held.specs.Systems.{Systems, HasWritten, IsLaidOut, IsTree, ReadsSystems, SaysBits, block_writes, directory_bytes_of, directory_pieces, map_pieces, node_writes, directory_file, file_at, map_file, system_entry, whole_writes}
 use Rattle.cms_held.specs.Written.{ReadsBack, directory_name, file_entries, map_name}
 use Rattle.cms_held.proofs.NewMap.{bit_free, bit_used, first_fixed, length_first, map_fits, nodes_none, none_lost, row_all, row_has, row_once, row_within}
 use Rattle.cms_held.proofs.PiecesWritten.{length_nodes}
 use Rattle.cms_held.proofs.SystemsRead.{directory_fills, directory_is, map_is_read, written_is_read}
+use Rattle.cms_held.proofs.WholeWrites.{all_is_whole}
 use Rattle.cms_held.proofs.WritesLong.{system_blocks}
 use Rattle.cms_held.proofs.WritesPut.{apart_of, blocks_written, has_written, put_long, system_times, within_of, written_append, written_same}
 
 -- ---- the plan
+
+-- what is written of it, whole
+abbrev pub whole_made : Making → List Write
+whole_made m = whole_writes m.disk.bsize m.systems
 
 -- the numbers of an empty volume
 pub record Facts (m : Making) : Type 0 where
@@ -136,7 +144,7 @@ directory_times m e n =
     let b : times n m.systems.directory.pointers ≡ 0 = ap (times n) f.pointers in
     omega arith
 
-write_times : {volid : List ℕ} {stamp : Stamp} (m : Making) → IsEmptyVolume m volid stamp → (n : ℕ) → times n (blocks_written (made_writes m)) ≤ bit (n == 4) + times n (row m)
+write_times : {volid : List ℕ} {stamp : Stamp} (m : Making) → IsEmptyVolume m volid stamp → (n : ℕ) → times n (blocks_written (whole_made m)) ≤ bit (n == 4) + times n (row m)
 unfolding times
 write_times m e n =
     let f = facts m e in
@@ -154,9 +162,9 @@ blocks_given [] pieces same = refl
 blocks_given (n ∷ ns) [] same = absurd (omega arith)
 blocks_given (n ∷ ns) (bytes ∷ pieces) same = ap (λ (l : List ℕ). n ∷ l) (blocks_given ns pieces (omega arith))
 
-pub made_placed : EmptyIsPlaced
+whole_placed : (m : Making) (volid : List ℕ) (stamp : Stamp) → IsEmptyVolume m volid stamp → blocks_written (whole_made m) ≡ range_with_len 6 (map_size m.disk.bsize m.disk.count) ++ 4 ∷ []
 unfolding block_writes cut
-made_placed m volid stamp e =
+whole_placed m volid stamp e =
     let f = facts m e in
     let b = m.disk.bsize in
     let t = m.systems.map in
@@ -217,8 +225,8 @@ place m e n =
 
 -- what is known of a block that is written
 record WriteFacts (m : Making) : Type 0 where
-  once : (n : ℕ) → times n (blocks_written (made_writes m)) ≤ 1
-  low : (n : ℕ) → 1 ≤ times n (blocks_written (made_writes m)) → (4 ≤ n) × (n ≤ m.disk.count)
+  once : (n : ℕ) → times n (blocks_written (whole_made m)) ≤ 1
+  low : (n : ℕ) → 1 ≤ times n (blocks_written (whole_made m)) → (4 ≤ n) × (n ≤ m.disk.count)
 
 write_facts : {volid : List ℕ} {stamp : Stamp} (m : Making) → IsEmptyVolume m volid stamp → WriteFacts m
 write_facts m e = record {
@@ -227,14 +235,14 @@ write_facts m e = record {
 }
 
 -- the label's block isn't among them
-label_apart : {volid : List ℕ} {stamp : Stamp} (m : Making) → IsEmptyVolume m volid stamp → Apart (made_writes m) (3 ∷ [])
-label_apart m e = apart_of (made_writes m) (3 ∷ []) (λ n in'. ⊎_elim (λ (three : n ≡ 3). none_at n three) (λ (no' : ⊥). absurd no') in')
+label_apart : {volid : List ℕ} {stamp : Stamp} (m : Making) → IsEmptyVolume m volid stamp → Apart (whole_made m) (3 ∷ [])
+label_apart m e = apart_of (whole_made m) (3 ∷ []) (λ n in'. ⊎_elim (λ (three : n ≡ 3). none_at n three) (λ (no' : ⊥). absurd no') in')
   where
-    none_at : (n : ℕ) → n ≡ 3 → times n (blocks_written (made_writes m)) ≡ 0
+    none_at : (n : ℕ) → n ≡ 3 → times n (blocks_written (whole_made m)) ≡ 0
     none_at n three = ⊎_elim
-        (λ (none : times n (blocks_written (made_writes m)) < 1). omega arith)
-        (λ (some : 1 ≤ times n (blocks_written (made_writes m))). let low = ((write_facts m e).low n some).0 in absurd (omega arith))
-        (cases_lt (times n (blocks_written (made_writes m))) 1)
+        (λ (none : times n (blocks_written (whole_made m)) < 1). omega arith)
+        (λ (some : 1 ≤ times n (blocks_written (whole_made m))). let low = ((write_facts m e).low n some).0 in absurd (omega arith))
+        (cases_lt (times n (blocks_written (whole_made m))) 1)
 
 pub directory_long : {volid : List ℕ} {stamp : Stamp} (m : Making) → IsEmptyVolume m volid stamp → length m.systems.directory_bytes ≡ length m.systems.directory.leaves * m.disk.bsize
 directory_long {stamp = stamp} m e =
@@ -247,18 +255,33 @@ directory_long {stamp = stamp} m e =
 
 -- it is held as a volume is
 pub made_kept : {volid : List ℕ} {stamp : Stamp} (m : Making) (files : List HeldFile) → IsEmptyVolume m volid stamp → files ≡ []
-    → IsKept m.disk.bsize m.disk.count m.systems.label (length m.systems.label_bytes) m.systems.bits files
+    → IsKept m.disk.bsize m.disk.count m.systems.label (length m.systems.label_bytes) m.systems.directory m.systems.map m.systems.bits files
 made_kept m files e none =
     let f = facts m e in
     let l = laid_out m e in
     let least = e.least in let blocks = f.blocks in let origin = f.origin in
     let count : length files ≡ 0 = ap (λ (x : List HeldFile). length x) none in
+    let low = f.low in
+    let small : m.systems.label.blocks < 2 ^ 32 = l.blocks in
+    let one : length m.systems.directory.leaves ≡ 1 = ap (λ (x : List ℕ). length x) f.leaves in
+    let total = m.systems.label.blocks in
+    let s1 = up_some total 8 (omega arith) (omega arith) in
+    let s2 = up_some (up total 8) m.disk.bsize (omega arith) s1 in
+    let b1 = up_below total 8 (omega arith) in
+    let b2 = up_below (up total 8) m.disk.bsize (omega arith) in
+    let map_is = l.map_count in
     record {
       within = omega arith;
       size = omega arith;
+      small = small;
+      sized = e.size;
       origin_low = omega arith;
       origin_high = omega arith;
       label_long = l.label_long;
+      directory_shape = record { some = omega arith; few = omega arith; nodes = l.directory_nodes };
+      directory_is = l.directory_count ∙ ap (λ (n : ℕ). up (64 * (n + 2)) m.disk.bsize) (sym count);
+      map_shape = record { some = omega arith; few = omega arith; nodes = l.map_nodes };
+      map_is = l.map_count;
       bits_are = l.bits_count;
       few = omega arith;
       each = subst (All (IsKeptFile m.disk.bsize m.systems.label.blocks)) (sym none) (All-nil (IsKeptFile m.disk.bsize m.systems.label.blocks));
@@ -280,37 +303,37 @@ empty_directory bsize directory map stamp two all one is_two is s d t =
 -- ---- the image after it
 
 abbrev later_of : Journal → Making → Journal
-later_of j m = after j (update m.unit (made_writes m) m.systems.label_bytes)
+later_of j m = after j (update m.unit (whole_made m) m.systems.label_bytes)
 
 abbrev later_at : Journal → Making → Image
 later_at j m = now (later_of j m) m.unit
 
 record Later (j : Journal) (m : Making) : Type 0 where
   label : later_at j m 3 ≡ m.systems.label_bytes
-  has : HasWritten (later_at j m) (made_writes m)
+  has : HasWritten (later_at j m) (whole_made m)
   whole : IsWhole m.disk (later_at j m)
 
 later_image : {volid : List ℕ} {stamp : Stamp} (j : Journal) (m : Making) → IsEmptyVolume m volid stamp → IsReadyUnit j m → Later j m
 later_image j m e x = record {
   label = put.whole 3 (omega arith);
-  has = written_same (put_blocks (now j m.unit) (made_writes m)) (later_at j m) (made_writes m)
-      (λ n some. let low = (w.low n some).0 in sym (elsewhere n (omega arith) (λ is. omega (arith, is)))) (has_written (now j m.unit) (made_writes m) w.once);
+  has = written_same (put_blocks (now j m.unit) (whole_made m)) (later_at j m) (whole_made m)
+      (λ n some. let low = (w.low n some).0 in sym (elsewhere n (omega arith) (λ is. omega (arith, is)))) (has_written (now j m.unit) (whole_made m) w.once);
   whole = record { size = x.whole.size; small = x.whole.small; each = λ n from to. long n from to (cases_eq n 3) };
 }
   where
     w : WriteFacts m
     w = write_facts m e
 
-    within : AreWithin (length (start_of j.units m.unit)) (made_writes m)
+    within : AreWithin (length (start_of j.units m.unit)) (whole_made m)
     within =
         let attached = x.attached in
-        within_of (length (start_of j.units m.unit)) (made_writes m) (λ n some. let r = w.low n some in let low = r.0 in let high = r.1 in (omega arith, omega arith))
+        within_of (length (start_of j.units m.unit)) (whole_made m) (λ n some. let r = w.low n some in let low = r.0 in let high = r.1 in (omega arith, omega arith))
 
-    put : PutsBlocks j m.unit (made_writes m) m.systems.label_bytes
+    put : PutsBlocks j m.unit (whole_made m) m.systems.label_bytes
     put =
         let attached = x.attached in
         let least = e.least in
-        update_is_put j m.unit (made_writes m) m.systems.label_bytes within (omega arith)
+        update_is_put j m.unit (whole_made m) m.systems.label_bytes within (omega arith)
 
     aside : (image : Image) (n : ℕ) → n ≢ 3 → put_block image (record { block = 3; bytes = m.systems.label_bytes }) n ≡ image n
     aside image n ne = go (n == 3) refl
@@ -319,14 +342,14 @@ later_image j m e x = record {
         go true is = absurd (ne (eqb-true n 3 is))
         go false is = refl
 
-    elsewhere : (n : ℕ) → 1 ≤ n → n ≢ 3 → later_at j m n ≡ put_blocks (now j m.unit) (made_writes m) n
-    elsewhere n some ne = put.whole n some ∙ aside (put_blocks (now j m.unit) (made_writes m)) n ne
+    elsewhere : (n : ℕ) → 1 ≤ n → n ≢ 3 → later_at j m n ≡ put_blocks (now j m.unit) (whole_made m) n
+    elsewhere n some ne = put.whole n some ∙ aside (put_blocks (now j m.unit) (whole_made m)) n ne
 
     long : (n : ℕ) → 1 ≤ n → n ≤ m.disk.count → (n ≡ 3) ⊎ (n ≢ 3) → length (later_at j m n) ≡ m.disk.bsize
     long n from to (inl is) =
         ap (λ (k : ℕ). length (later_at j m k)) is ∙ (ap (λ (l : List ℕ). length l) (put.whole 3 (omega arith)) ∙ (label_facts m e).long)
     long n from to (inr ne) = ap (λ (l : List ℕ). length l) (elsewhere n from ne)
-        ∙ put_long m.disk.bsize (now j m.unit) (made_writes m) n (system_blocks m.disk.bsize m.systems (directory_long m e)) (x.whole.each n from to)
+        ∙ put_long m.disk.bsize (now j m.unit) (whole_made m) n (system_blocks m.disk.bsize m.systems (directory_long m e)) (x.whole.each n from to)
 
 -- ---- the new volume
 
@@ -400,20 +423,27 @@ new_stands j m e x r = record {
 
 -- ---- the whole
 
-pub made_empty : EmptyIsMade
-made_empty j m volid stamp e x =
+-- the making by these writes
+record MakesBy (j : Journal) (m : Making) (made : Minidisk) (ws : List Write) : Type 0 where
+  either : (p : List Event) → IsFront p (update m.unit ws m.systems.label_bytes) → HasEither m.disk (after j p) m.unit (Not 2) (Volume made)
+  before : (p : List Event) → IsFront p (to_label m.unit ws) → IsWiped (after j p) m.unit
+  labelled : state_of m.disk (now (after j (with_label m.unit ws m.systems.label_bytes)) m.unit) ≡ Volume made
+  done : IsHeldMinidisk (after j (update m.unit ws m.systems.label_bytes)) (made_volume m) made
+
+made_whole : (j : Journal) (m : Making) (volid : List ℕ) (stamp : Stamp) → IsEmptyVolume m volid stamp → IsReadyUnit j m → MakesBy j m (made_minidisk m volid) (whole_made m)
+made_whole j m volid stamp e x =
     let r = reads_of j m e x in
     let i = later_image j m e x in
     let new = new_of m r.directory r.map in
     let stands = new_stands j m e x r in
-    let makes : Makes m.disk j m.unit (made_writes m) m.systems.label_bytes (opened new) = make_is_whole m.disk j m.unit (made_writes m) m.systems.label_bytes (opened new)
+    let makes : Makes m.disk j m.unit (whole_made m) m.systems.label_bytes (opened new) = make_is_whole m.disk j m.unit (whole_made m) m.systems.label_bytes (opened new)
     (record { wiped = x.wiped; apart = label_apart m e; opens = stands_opens m.disk (later_at j m) new stands }) in
     let of_label : Label → Minidisk = λ l. record { volid = l.volid; bsize = m.disk.bsize; total = l.blocks; lost = 0; files = [] } in
     let same : minidisk_of m.disk (opened new) ≡ made_minidisk m volid = minidisk_is m.disk new ∙ ap of_label e.label in
     record {
       either = λ p front. subst (λ (k : Minidisk). HasEither m.disk (after j p) m.unit (Not 2) (Volume k)) same (makes.either p front);
-      before = λ p front. keeps_wiped j m.unit (made_writes m) p x.wiped (label_apart m e) front;
-      labelled = state_opens m.disk (now (after j (with_label m.unit (made_writes m) m.systems.label_bytes)) m.unit) (opened new) makes.labelled ∙ ap Volume same;
+      before = λ p front. keeps_wiped j m.unit (whole_made m) p x.wiped (label_apart m e) front;
+      labelled = state_opens m.disk (now (after j (with_label m.unit (whole_made m) m.systems.label_bytes)) m.unit) (opened new) makes.labelled ∙ ap Volume same;
       done = record {
         layout = new;
         at = record {
@@ -432,7 +462,26 @@ made_empty j m volid stamp e x =
             files_are = tt;
             lost_is = refl;
           };
+          trees = record {
+            directory = r.directory_stands;
+            map = r.map_stands;
+            files = All-nil (FileStands m.disk.bsize m.systems.label.blocks (later_at j m));
+          };
         };
         minidisk_is = sym same ∙ minidisk_is m.disk new;
       };
     }
+
+pub all_written : {volid : List ℕ} {stamp : Stamp} (m : Making) → IsEmptyVolume m volid stamp → whole_made m ≡ made_writes m
+all_written m e =
+    let low = (block_bounds m.disk.bsize e.size).0 in
+    let l = laid_out m e in
+    sym (all_is_whole m.disk.bsize m.systems (omega arith) l.directory_nodes l.map_nodes e.directory_part e.map_part)
+
+pub made_placed : EmptyIsPlaced
+made_placed m volid stamp e = subst (λ (ws : List Write). map (λ (w : Write). w.block) ws ≡ range_with_len 6 (map_size m.disk.bsize m.disk.count) ++ 4 ∷ []) (all_written m e) (whole_placed m volid stamp e)
+
+pub made_empty : EmptyIsMade
+made_empty j m volid stamp e x =
+    let r = subst (MakesBy j m (made_minidisk m volid)) (all_written m e) (made_whole j m volid stamp e x) in
+    record { either = r.either; before = r.before; labelled = r.labelled; done = r.done }

@@ -49,12 +49,12 @@ in_map f n (x ∷ xs) (inl is) = inl (ap f is)
 in_map f n (x ∷ xs) (inr more) = inr (in_map f n xs more)
 
 -- a number of which it is the value
-record Source (f : ℕ → ℕ) (y : ℕ) (xs : List ℕ) : Type 0 where
-  n : ℕ
-  there : In n xs
-  is : y ≡ f n
+pub record Source (f : ℕ → ℕ) (y : ℕ) (xs : List ℕ) : Type 0 where
+  pub n : ℕ
+  pub there : In n xs
+  pub is : y ≡ f n
 
-from_map : (f : ℕ → ℕ) (y : ℕ) (xs : List ℕ) → In y (map f xs) → Source f y xs
+pub from_map : (f : ℕ → ℕ) (y : ℕ) (xs : List ℕ) → In y (map f xs) → Source f y xs
 from_map f y [] there = absurd there
 from_map f y (x ∷ xs) (inl is) = record { n = x; there = inl refl; is = is }
 from_map f y (x ∷ xs) (inr more) = let s = from_map f y xs more in record { n = s.n; there = inr s.there; is = s.is }

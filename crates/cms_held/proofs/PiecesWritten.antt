@@ -25,7 +25,7 @@ take_none : {A : Type 0} (n : ℕ) → take {A = A} n [] ≡ []
 take_none zero = refl
 take_none (suc n) = refl
 
-take_both : (a b : ℕ) (xs : List ℕ) → take a xs ++ take b (drop a xs) ≡ take (a + b) xs
+pub take_both : (a b : ℕ) (xs : List ℕ) → take a xs ++ take b (drop a xs) ≡ take (a + b) xs
 take_both zero b xs = let e : 0 + b ≡ b = omega arith in rw e refl
 take_both (suc a) b [] = rw (take_none {A = ℕ} b, take_none {A = ℕ} (suc a + b)) refl
 take_both (suc a) b (x ∷ xs) = let e : suc a + b ≡ suc (a + b) = omega arith in rw e (ap (λ (l : List ℕ). x ∷ l) (take_both a b xs))
@@ -179,7 +179,7 @@ length_bytes : (at count : ℕ) (bits : List Bool) → length (bytes_from at cou
 unfolding bytes_from
 length_bytes at count bits = length-map-range_with_len (byte_at bits) at count
 
-bytes_part : (n size k : ℕ) (bits : List Bool) → k < n → take size (drop (k * size) (bytes_from 0 (n * size) bits)) ≡ bytes_from (k * size) size bits
+pub bytes_part : (n size k : ℕ) (bits : List Bool) → k < n → take size (drop (k * size) (bytes_from 0 (n * size) bits)) ≡ bytes_from (k * size) size bits
 bytes_part n size k bits less =
     let rest = n * size - (k * size + size) in
     let room : suc k * size ≤ n * size = mul-le-mul_right size less in

@@ -1,5 +1,5 @@
 -- What is answered to a file that is put, and writes to free blocks.
-use Rattle.std.proofs.Common.{◌≡◌, inl, inr, ⊎_elim, ℕ, ◌≤◌, Bool, true, false, List, [], ◌∷◌, ◌++◌, length, map, position, Option, None, Some, refl, sym, ◌∙◌, ap, subst, arith, append_assoc, length-append}
+use Rattle.std.proofs.Common.{◌≡◌, inl, inr, ⊎_elim, ℕ, ◌+◌, ◌/◌, ◌≤◌, Bool, true, false, List, [], ◌∷◌, ◌++◌, length, map, position, Option, None, Some, refl, sym, ◌∙◌, ap, subst, arith, append_assoc, length-append}
 use Rattle.std.proofs.lemmas.List.{length-set, take_all}
 use Rattle.cms_journal.specs.Journal.{Journal, start_of}
 use Rattle.cms_journal.specs.declared.event.Event.{Event}
@@ -9,13 +9,14 @@ use Rattle.cms_fields.specs.declared.label.Label.{Label}
 use Rattle.cms_model.specs.Lists.{In, times}
 use Rattle.cms_model.specs.Trees.{bytes_at}
 use Rattle.cms_model.specs.Minidisks.{File, Minidisk, same_name}
-use Rattle.cms_model.specs.Changes.{Put, answer_of, changed, changed_files, is_full, limit, need, written_file}
+use Rattle.cms_model.specs.Changes.{Change, Put, answer_of, changed, changed_files, entries_made, is_full, limit, need, written_file}
 use Rattle.cms_model.specs.Records.{stored}
 use Rattle.cms_model.specs.Settled.{Apart, Write, frame, writes}
 use Rattle.cms_model.specs.Sizes.{file_size, free_count}
 use Rattle.cms_model.specs.Stands.{Layout, file_of, layout_blocks, minidisk_in, opened}
 use Rattle.cms_model.specs.LawsUpdates.{AreWithin, IsFront, after, now}
 use Rattle.cms_model.proofs.Changing.{none_added, place_changed}
+use Rattle.cms_model.proofs.DirectoryNeed.{place_is_named}
 use Rattle.cms_model.proofs.Records.{length_stored}
 use Rattle.cms_model.proofs.Renewing.{minidisk_is}
 use Rattle.cms_model.proofs.Repeats.{held, held_from, in_from, in_held}
@@ -24,17 +25,17 @@ use Rattle.cms_tree.specs.Climbs.{AreOwn}
 use Rattle.cms_held.specs.Opening.{HeldVolume, names_in}
 use Rattle.cms_held.specs.LawsHeld.{IsFound}
 use Rattle.cms_held.specs.LawsRenewing.{AreBlocks, IsHeldAt}
-use Rattle.cms_held.specs.Putting.{AreFree, DraftGoesOn, FreeIsAside, PutIsAnswered, answer_put, count_put, count_with, limit_put, need_put}
+use Rattle.cms_held.specs.Putting.{AreFree, DraftGoesOn, FreeIsAside, PutIsAnswered, answer_put, count_put, count_with, limit_put, made_put, made_with, need_put}
 use Rattle.cms_model.proofs.Fronts.{Cut, cut_front, front_nil}
 use Rattle.cms_model.proofs.Putting.{writes_put}
 use Rattle.cms_model.specs.LawsUpdates.{put_blocks}
-use Rattle.cms_held.specs.Drafts.{HasDraft, draft_writes}
+use Rattle.cms_held.specs.Drafts.{HasDraft, draft_writes, own_blocks}
 use Rattle.cms_held.specs.Systems.{HasWritten}
 use Rattle.cms_held.proofs.Drafting.{Among, among_left, among_right, draft_is_put, draft_stays, each_written, has_among, in_draft}
 use Rattle.cms_held.proofs.Exchanged.{other}
 use Rattle.cms_held.proofs.HeldFiles.{opened_has_room, opened_is_held, place_is_told}
 use Rattle.cms_held.proofs.Keeping.{front_keeps_held}
-use Rattle.cms_held.proofs.MapMarks.{AreUnmarked, free_once, lowest_free}
+use Rattle.cms_held.proofs.MapMarks.{AreUnmarked, lowest_free}
 use Rattle.cms_held.proofs.OldBlocks.{frame_blocks, old_blocks, old_opens}
 
 -- ---- the place of a name
@@ -60,6 +61,15 @@ count_after j v old new x =
     count_put_is (map file_of old.files) new (position (same_name new.name) (names_in v.files)) (found_in j v old new.name x)
     ∙ ap (count_with (position (same_name new.name) (names_in v.files))) (files_count j v old x)
 
+-- by the place that is found for a name
+made_found : (files : List File) (new : File) (place : Option ℕ) (count : ℕ) → length files ≡ count → IsFound new.name files place → entries_made files (Put new) ≡ made_with place count
+unfolding entries_made
+made_found files new None count same none = ap (λ (n : ℕ). 0 ∷ (n + 2) ∷ []) ((place_is_named new.name files).none none ∙ same)
+made_found files new (Some k) count same there = ap (λ (n : ℕ). 0 ∷ (n + 2) ∷ []) ((place_is_named new.name files).found k there)
+
+pub put_made : (j : Journal) (v : HeldVolume) (old : Layout) (new : File) → IsHeldAt j v old → entries_made (map file_of old.files) (Put new) ≡ made_put v new.name
+put_made j v old new x = made_found (map file_of old.files) new (position (same_name new.name) (names_in v.files)) (length v.files) (files_count j v old x) (found_in j v old new.name x)
+
 -- ---- the answer
 
 limit_is : (m : Minidisk) (new : File) (files : ℕ) → length (changed_files m.files (Put new)) ≡ files
@@ -68,15 +78,16 @@ unfolding limit written_file
 limit_is m new files is = rw (is, length_stored new.format new.records) refl
 
 pub need_is_put : (v : HeldVolume) (old : Layout) (new : File) → v.label.blocks ≡ old.label.blocks → length (changed_files (map file_of old.files) (Put new)) ≡ count_put v new.name
+    → length (map file_of old.files) ≡ length v.files → entries_made (map file_of old.files) (Put new) ≡ made_put v new.name
     → need (minidisk_in v.disk old) (Put new) ≡ need_put v new.name new.format (length (stored new.format new.records))
 unfolding need written_file file_size
-need_is_put v old new same count = rw (count, length_stored new.format new.records, same) refl
+need_is_put v old new same count files made = rw (count, files, made, length_stored new.format new.records, same) refl
 
-answers : (o : Option ℕ) (m : Minidisk) (new : File) (needs free : ℕ) → limit m (Put new) ≡ o → need m (Put new) ≡ needs → free_count m ≡ free
-    → answer_of m (Put new) ≡ answer_put o needs free (changed m (Put new))
+pub answers : (o : Option ℕ) (m : Minidisk) (change : Change) (needs free : ℕ) → limit m change ≡ o → need m change ≡ needs → free_count m ≡ free
+    → answer_of m change ≡ answer_put o needs free (changed m change)
 unfolding answer_of is_full
-answers (Some k) m new needs free limited needed is_free = rw limited refl
-answers None m new needs free limited needed is_free = rw (limited, needed, is_free) refl
+answers (Some k) m change needs free limited needed is_free = rw limited refl
+answers None m change needs free limited needed is_free = rw (limited, needed, is_free) refl
 
 pub put_is_answered : PutIsAnswered
 put_is_answered j v m new is_held kept =
@@ -89,9 +100,9 @@ put_is_answered j v m new is_held kept =
     let free : free_count (minidisk_in v.disk old) ≡ length (free_blocks v.bits) = sym (room.free_is ∙ ap free_count (minidisk_is v.disk old)) in
     subst (λ (k : Minidisk). answer_of k (Put new) ≡ answer_put (limit_put (count_put v new.name) (length new.records) (length (stored new.format new.records)))
     (need_put v new.name new.format (length (stored new.format new.records))) (length (free_blocks v.bits)) (changed k (Put new))) (sym same)
-    (answers (limit_put (count_put v new.name) (length new.records) (length (stored new.format new.records))) (minidisk_in v.disk old) new
+    (answers (limit_put (count_put v new.name) (length new.records) (length (stored new.format new.records))) (minidisk_in v.disk old) (Put new)
     (need_put v new.name new.format (length (stored new.format new.records))) (length (free_blocks v.bits))
-    (limit_is (minidisk_in v.disk old) new (count_put v new.name) count) (need_is_put v old new blocks count) free)
+    (limit_is (minidisk_in v.disk old) new (count_put v new.name) count) (need_is_put v old new blocks count (files_count j v old x) (put_made j v old new x)) free)
 
 -- ---- free blocks
 
@@ -140,7 +151,7 @@ own_apart old bsize count blocks (w ∷ ws) top aside own =
     let rest = own_apart old bsize count blocks ws top aside own.2 in
     ((a.aside, rest.0), (omega arith, omega arith, rest.1), (own.1, rest.2))
 
-free_of : (v : HeldVolume) (blocks : List ℕ) → AreFree v blocks → (n : ℕ) → In n blocks → In n (free_blocks v.bits)
+pub free_of : (v : HeldVolume) (blocks : List ℕ) → AreFree v blocks → (n : ℕ) → In n blocks → In n (free_blocks v.bits)
 free_of v blocks are_free n in' =
     let some = held n blocks (in_held n blocks in') in
     let fewer = are_free n in
@@ -188,30 +199,27 @@ within_each count [] each = tt
 within_each count (w ∷ ws) each = let here = each w (inl refl) in (here.0, here.1, within_each count ws (λ v there. each v (inr there)))
 
 pub draft_goes_on : DraftGoesOn
-draft_goes_on j v m psize leaves marks fresh bytes from to part is_held are_free plan low is has = record {
+draft_goes_on j v m psize leaves marks fresh kept es bytes from to part is_held once are_free plan low is has = record {
   stays = λ p front.
       let f = front_of_writes v.unit part p front in
       let whole : front_draft ++ (f.first ++ f.rest) ≡ whole_draft = ap (λ (l : List Write). front_draft ++ l) (sym f.whole) ∙ is in
-      subst (λ (q : List Event). HasDraft (now (after j q) v.unit) v.disk.bsize psize leaves marks fresh bytes from) (sym f.is)
+      subst (λ (q : List Event). HasDraft (now (after j q) v.unit) v.disk.bsize psize leaves marks fresh kept es bytes from) (sym f.is)
       (settled front_draft f.first (λ w there. subst (Among w) is (among_left w front_draft part there)) (λ w there. subst (Among w) (sym f.whole) (among_left w f.first f.rest there))
-      (draft_stays (now j v.unit) v.disk.bsize psize leaves marks fresh bytes from to f.first f.rest plan once low whole has));
-  stands = settled whole_draft part (λ w there. there) (λ w there. there) (draft_is_put (now j v.unit) v.disk.bsize psize leaves marks fresh bytes from to part plan once low is has);
+      (draft_stays (now j v.unit) v.disk.bsize psize leaves marks fresh kept es bytes from to f.first f.rest plan once low whole has));
+  stands = settled whole_draft part (λ w there. there) (λ w there. there)
+      (draft_is_put (now j v.unit) v.disk.bsize psize leaves marks fresh kept es bytes from to part plan once low is has);
 }
   where
     front_draft : List Write
-    front_draft = draft_writes v.disk.bsize psize leaves marks fresh bytes from
+    front_draft = draft_writes v.disk.bsize psize leaves marks fresh kept es bytes from
 
     whole_draft : List Write
-    whole_draft = draft_writes v.disk.bsize psize leaves marks fresh bytes to
-
-    once : (n : ℕ) → times n (leaves ++ fresh) ≤ 1
-    once n = let fewer = are_free n in let one = free_once 1 v.bits n in omega arith
+    whole_draft = draft_writes v.disk.bsize psize leaves marks fresh kept es bytes to
 
     place : (w : Write) → Among w whole_draft → IsAside is_held.layout w.block
     place w there =
-        let some = in_draft v.disk.bsize psize leaves marks fresh bytes to plan low w there in
-        let fewer = are_free w.block in
-        free_aside j v is_held.layout is_held.at w.block (in_from w.block (free_blocks v.bits) (held_from w.block (free_blocks v.bits) (omega arith)))
+        free_aside j v is_held.layout is_held.at w.block
+        (free_of v (own_blocks (v.disk.bsize / psize) leaves fresh kept) are_free w.block (in_draft v.disk.bsize psize leaves marks fresh kept es bytes to plan low w there))
 
     within : (w : Write) → Among w whole_draft → (1 ≤ w.block) × (w.block ≤ length (start_of j.units v.unit))
     within w there =

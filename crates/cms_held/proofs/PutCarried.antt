@@ -1,5 +1,5 @@
 -- An update that puts a file is carried out.
-use Rattle.std.proofs.Common.{◌≡◌, ℕ, ◌+◌, ◌/◌, ◌≤◌, false, List, [], length, map, None, refl, sym, ◌∙◌, ap, subst, arith, length-append, length-take}
+use Rattle.std.proofs.Common.{◌≡◌, ℕ, ◌+◌, ◌/◌, ◌≤◌, false, List, length, map, None, refl, sym, ◌∙◌, ap, subst, arith, length-append}
 use Rattle.std.specs.Prelude.{nat_lt}
 use Rattle.std.proofs.lemmas.Bool.Decides.{nat_tests}
 use Rattle.cms_journal.specs.Journal.{Journal}
@@ -20,16 +20,17 @@ use Rattle.cms_tree.specs.declared.types.Mark.{Mark}
 use Rattle.cms_held.specs.Opening.{HeldFile, HeldVolume}
 use Rattle.cms_held.specs.LawsHeld.{IsFound}
 use Rattle.cms_held.specs.Systems.{Systems}
-use Rattle.cms_held.specs.Renewing.{Edit, IsAllotted, blocks_in, fresh, needed}
+use Rattle.cms_held.specs.Renewing.{Edit, blocks_in, needed}
 use Rattle.cms_held.specs.LawsRenewing.{later_of}
-use Rattle.cms_held.specs.Carrying.{IsHeldMinidisk}
-use Rattle.cms_held.specs.Putting.{IsPutAs, IsPutOf, IsPutReady, PutIsCarried, adds, answer_put, count_put, limit_put, need_put, replaces}
-use Rattle.cms_held.proofs.Carried.{carries_of, fresh_count, same_count}
+use Rattle.cms_held.specs.Carrying.{IsHeldMinidisk, IsReadyFor}
+use Rattle.cms_held.specs.Putting.{IsPutAs, IsPutOf, IsPutReady, PutIsCarried, adds, answer_put, count_put, limit_put, made_put, need_put, replaces}
+use Rattle.cms_held.proofs.Carried.{carries_of, same_count}
 use Rattle.cms_held.proofs.Drafted.{fan_is}
 use Rattle.cms_held.proofs.Edits.{Moved}
-use Rattle.cms_held.proofs.PutAsides.{count_after, found_in, put_is_answered}
-use Rattle.cms_held.proofs.PutMoves.{Puts, add_moves, replace_moves}
-use Rattle.cms_held.proofs.WritesLong.{system_blocks}
+use Rattle.cms_held.proofs.Needing.{edit_put}
+use Rattle.cms_held.proofs.PutAsides.{count_after, found_in, put_is_answered, put_made}
+use Rattle.cms_held.proofs.PlannedWrites.{WritesBlocks, planned_writes}
+use Rattle.cms_held.proofs.PutMoves.{Puts, add_moves, put_taking, replace_moves}
 
 taken_put : (v : HeldVolume) (g : HeldFile) (edit : Edit) → IsPutOf v g edit → edit.taken ≡ blocks_in g.tree
 taken_put v g edit (replaces place f there named) = refl
@@ -45,14 +46,14 @@ moved_put j v old g marks new edit s (adds none) p =
 
 -- ---- the room
 
-no_limit : (files records bytes : ℕ) → files ≤ most_files → records ≤ most_records → bytes ≤ most_bytes → limit_put files records bytes ≡ None
+pub no_limit : (files records bytes : ℕ) → files ≤ most_files → records ≤ most_records → bytes ≤ most_bytes → limit_put files records bytes ≡ None
 no_limit files records bytes few some small =
     let a : nat_lt most_files files ≡ false = grind (arith, nat_tests) in
     let b : nat_lt most_records records ≡ false = grind (arith, nat_tests) in
     let c : nat_lt most_bytes bytes ≡ false = grind (arith, nat_tests) in
     rw (a, b, c) refl
 
-made : (needs free : ℕ) (m : Minidisk) → needs ≤ free → answer_put None needs free m ≡ Changed m
+pub made : (needs free : ℕ) (m : Minidisk) → needs ≤ free → answer_put None needs free m ≡ Changed m
 made needs free m room = let a : nat_lt free needs ≡ false = grind (arith, nat_tests) in rw a refl
 
 -- the blocks of its tree
@@ -65,15 +66,6 @@ tree_count bsize g new p numbers =
     ∙ ap (λ (f : ℕ). length g.tree.leaves + pointer_count f (length g.tree.leaves)) fan
     ∙ ap (λ (n : ℕ). n + pointer_count (fan_of bsize new.format) n) p.leaves_are
 
--- all that is taken was free
-taken_room : (v : HeldVolume) (edit : Edit) (s : Systems) → IsAllotted v (length edit.files) edit.given edit.taken s.directory s.map s.bits
-    → length edit.taken + needed v (length edit.files) ≤ length (free_blocks v.bits)
-taken_room v edit s a =
-    let own = fresh_count v (length edit.files) edit.given edit.taken s.directory s.map s.bits a in
-    let all = ap (λ (l : List ℕ). length l) a.lowest in
-    let cut = length-take (length (fresh edit.taken s.directory s.map)) (free_blocks v.bits) in
-    omega (arith, length-append edit.taken (fresh [] s.directory s.map))
-
 -- ---- the whole
 
 pub moved_ready : (j : Journal) (v : HeldVolume) (edit : Edit) (stamp : Stamp) (s : Systems) (g : HeldFile) (marks : List Mark) (new : File) (m : Minidisk) → (is_held : IsHeldMinidisk j v m)
@@ -83,7 +75,7 @@ moved_ready j v edit stamp s g marks new m is_held r = moved_put j v is_held.lay
   kept = r.ready.kept;
   few = r.few;
   planned = (stamp, r.ready.planned);
-  long = system_blocks v.disk.bsize s r.ready.long;
+  back = r.ready.back;
   taken_is = taken_put v g edit r.put;
   file = r.file;
   plan = r.plan;
@@ -107,11 +99,20 @@ put_is_carried j v edit stamp s g marks new m is_held r =
     no_limit (count_put v new.name) (length new.records) bytes (omega arith) r.file.few r.file.small in
     let own = tree_count v.disk.bsize g new r.file r.plan.numbers in
     let taken : length edit.taken ≡ length (blocks_in g.tree) = ap (λ (l : List ℕ). length l) (taken_put v g edit r.put) in
-    let more : needed v (count_put v new.name) ≡ needed v (length edit.files) = ap (needed v) count in
-    let room = taken_room v edit s r.ready.planned.blocks in
+    let made' : made_put v new.name ≡ edit.made = sym (edit_put j v is_held.layout g edit new is_held.at r.file.name_is r.put ∙ put_made j v is_held.layout new is_held.at) in
+    let more : needed v (count_put v new.name) (made_put v new.name) ≡ needed v (length edit.files) edit.made =
+    ap (λ (n : ℕ). needed v n (made_put v new.name)) count ∙ ap (needed v (length edit.files)) made' in
+    let room = r.ready.planned.room in
     let enough : need_put v new.name new.format bytes ≤ length (free_blocks v.bits) = omega arith in
     let answer : answer_of m (Put new) ≡ Changed (changed m (Put new)) =
     put_is_answered j v m new is_held r.ready.kept
     ∙ ap (λ o. answer_put o (need_put v new.name new.format bytes) (length (free_blocks v.bits)) (changed m (Put new))) none
     ∙ made (need_put v new.name new.format bytes) (length (free_blocks v.bits)) (changed m (Put new)) enough in
     carries_of j v edit stamp s m (Put new) is_held r.ready e refl answer
+
+-- what it writes
+pub put_writes : (j : Journal) (v : HeldVolume) (edit : Edit) (stamp : Stamp) (s : Systems) (g : HeldFile) (m : Minidisk) → IsHeldMinidisk j v m → IsPutOf v g edit
+    → IsReadyFor v edit stamp s → length edit.files ≤ most_files → WritesBlocks v edit stamp s
+put_writes j v edit stamp s g m is_held put ready few =
+    let t = put_taking j v is_held.layout g stamp edit s is_held.at put ready few in
+    planned_writes j v edit stamp s is_held.layout t.0 t.1

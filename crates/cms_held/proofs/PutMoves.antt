@@ -1,5 +1,5 @@
 -- A file that is put, among files that are held.
-use Rattle.std.proofs.Common.{◌≡◌, inr, ℕ, zero, suc, ◌+◌, ◌*◌, ◌^◌, ◌<◌, ◌≤◌, true, List, [], ◌∷◌, ◌++◌, length, map, set, get_or, slice_get, slice_index, All, None, Some, refl, sym, ◌∙◌, ap, subst, arith, length-append}
+use Rattle.std.proofs.Common.{◌≡◌, inr, ℕ, zero, suc, ◌+◌, ◌*◌, ◌^◌, ◌<◌, ◌≤◌, true, List, [], ◌∷◌, ◌++◌, length, map, set, get_or, slice_get, slice_index, All, None, Some, Ok, refl, sym, ◌∙◌, ap, subst, arith, length-append}
 use Rattle.std.specs.Prelude.{nat_le}
 use Rattle.std.proofs.lemmas.Bool.{le-leb, and_from}
 use Rattle.std.proofs.lemmas.List.{length-set, map-set, map-append}
@@ -8,15 +8,16 @@ use Rattle.cms_journal.specs.Journal.{Journal}
 use Rattle.cms_names.specs.declared.name.Format.{Format}
 use Rattle.cms_names.specs.declared.name.Format.TheVariants.{F, V}
 use Rattle.cms_fields.specs.Entries.{passes, pointer_size}
+use Rattle.cms_fields.specs.Limits.{most_files}
 use Rattle.cms_fields.specs.declared.entry.Entry.{Entry}
 use Rattle.cms_fields.specs.declared.label.Label.{Label}
 use Rattle.cms_fields.specs.declared.time.Stamp.{Stamp}
 use Rattle.cms_model.specs.Lists.{times}
-use Rattle.cms_model.specs.Trees.{Image, is_allowed}
+use Rattle.cms_model.specs.Trees.{Image, bytes_at, is_allowed}
 use Rattle.cms_model.specs.Built.{AllAllowed}
 use Rattle.cms_model.specs.Minidisks.{File}
 use Rattle.cms_model.specs.Volumes.{Disk}
-use Rattle.cms_model.specs.Records.{Fits, length_of, stored}
+use Rattle.cms_model.specs.Records.{Fits, length_of, records_of, stored}
 use Rattle.cms_model.specs.Changes.{Put, changed_files, put_file}
 use Rattle.cms_model.specs.Stands.{Kept, HoldsFile, Layout, file_blocks, file_of, layout_blocks}
 use Rattle.cms_model.specs.LawsChanges.{NoneNamed}
@@ -24,21 +25,28 @@ use Rattle.cms_model.specs.LawsUpdates.{now}
 use Rattle.cms_model.proofs.Changing.{none_added, place_changed}
 use Rattle.cms_model.proofs.Records.{length_stored_fixed}
 use Rattle.cms_model.proofs.Repeats.{times_append, times_first, times_later}
+use Rattle.cms_model.proofs.Results.{ok_same}
 use Rattle.cms_fields.specs.Numbers.{up}
 use Rattle.cms_tree.proofs.Totals.{in_times}
 use Rattle.cms_held.proofs.OldBlocks.{old_blocks}
 use Rattle.cms_tree.specs.declared.types.Mark.{Mark}
 use Rattle.cms_tree.specs.Builds.{IsBuildable}
+use Rattle.cms_held.specs.Marks.{start_of}
 use Rattle.cms_held.specs.Opening.{HeldFile, HeldVolume, size_of}
 use Rattle.cms_held.specs.Kept.{Keeps}
 use Rattle.cms_held.specs.Drafts.{HasAll, IsDrafted}
+use Rattle.cms_held.specs.HeldTrees.{FileStands, TreeComes}
 use Rattle.cms_held.specs.Systems.{Systems}
-use Rattle.cms_held.specs.Renewing.{Edit, IsPlanned, blocks_in}
-use Rattle.cms_held.specs.LawsRenewing.{AreBlocks, ComesFrom, IsHeldAt, later_of, writes_of}
-use Rattle.cms_held.specs.Putting.{IsPutAs, adding, replacing}
+use Rattle.cms_held.specs.Allotting.{IsPlanned}
+use Rattle.cms_held.specs.Renewing.{Edit, blocks_in, entries_held}
+use Rattle.cms_held.specs.Written.{ReadsBack}
+use Rattle.cms_held.specs.LawsRenewing.{ComesFrom, IsHeldAt, later_of}
+use Rattle.cms_held.specs.Carrying.{IsReadyFor}
+use Rattle.cms_held.specs.Putting.{IsPutAs, IsPutOf, adding, adds, replaces, replacing}
 use Rattle.cms_held.proofs.Drafted.{draft_holds}
-use Rattle.cms_held.proofs.Edits.{Beside, Is, Moved, at_place, beside_count, beside_set, come_all, files_old, found_at, moved, names_distinct, no_times, pass_all, tree_times}
-use Rattle.cms_held.proofs.Renewals.{IsTaking, all_of, taken_of, taken_stay}
+use Rattle.cms_held.proofs.Edits.{Beside, Is, Moved, at_place, beside_count, beside_set, come_all, files_old, found_at, moved, names_distinct, no_times, pass_all, tree_times, trees_of}
+use Rattle.cms_held.proofs.PlannedWrites.{IsTaking, taken_stay}
+use Rattle.cms_held.proofs.Renewals.{all_of}
 
 -- ---- lists of files
 
@@ -48,7 +56,7 @@ beside_last [] (h ∷ hs) g k b is = absurd b
 beside_last (f ∷ fs) [] g k b is = absurd b
 beside_last (f ∷ fs) (h ∷ hs) g k b is = (b.0, beside_last fs hs g k b.1 is)
 
-come_set : (disk : Disk) (total : ℕ) (before later : Image) (blocks : List ℕ) (fs : List Kept) (k : ℕ) (g : Kept) → ComesFrom disk total before later blocks fs → HoldsFile disk total later g
+pub come_set : (disk : Disk) (total : ℕ) (before later : Image) (blocks : List ℕ) (fs : List Kept) (k : ℕ) (g : Kept) → ComesFrom disk total before later blocks fs → HoldsFile disk total later g
     → ComesFrom disk total before later blocks (set fs k g)
 come_set disk total before later blocks [] k g come new = come
 come_set disk total before later blocks (f ∷ fs) zero g come new = (inr new, come.1)
@@ -59,7 +67,7 @@ come_last : (disk : Disk) (total : ℕ) (before later : Image) (blocks : List �
 come_last disk total before later blocks [] g come new = (inr new, tt)
 come_last disk total before later blocks (f ∷ fs) g come new = (come.0, come_last disk total before later blocks fs g come.1 new)
 
-set_times : (n : ℕ) (fs : List Kept) (k : ℕ) (g d : Kept) → k < length fs → times n (file_blocks (set fs k g)) + times n (get_or fs k d).met.blocks ≡ times n (file_blocks fs) + times n g.met.blocks
+pub set_times : (n : ℕ) (fs : List Kept) (k : ℕ) (g d : Kept) → k < length fs → times n (file_blocks (set fs k g)) + times n (get_or fs k d).met.blocks ≡ times n (file_blocks fs) + times n g.met.blocks
 unfolding file_blocks
 set_times n [] k g d less = absurd (omega arith)
 set_times n (f ∷ fs) zero g d less =
@@ -72,7 +80,7 @@ set_times n (f ∷ fs) (suc k) g d less =
     let more = set_times n fs k g d (omega arith) in
     omega arith
 
-at_times : (n : ℕ) (fs : List Kept) (k : ℕ) (d : Kept) → k < length fs → times n (get_or fs k d).met.blocks ≤ times n (file_blocks fs)
+pub at_times : (n : ℕ) (fs : List Kept) (k : ℕ) (d : Kept) → k < length fs → times n (get_or fs k d).met.blocks ≤ times n (file_blocks fs)
 unfolding file_blocks
 at_times n [] k d less = absurd (omega arith)
 at_times n (f ∷ fs) zero d less = let a = times_append n f.met.blocks (file_blocks fs) in omega arith
@@ -96,6 +104,7 @@ pub record NewFile (disk : Disk) (total : ℕ) (later : Image) (g : HeldFile) (n
   pub file_is : file_of file ≡ new
   pub entry_is : file.entry ≡ g.entry
   pub holds : HoldsFile disk total later file
+  pub stands : FileStands disk.bsize total later g
   pub blocks_are : (n : ℕ) → times n file.met.blocks ≡ times n (blocks_in g.tree)
 
 same_size : (format : Format) (size count : ℕ) (records : List (List ℕ)) → All (Fits format size) records → count ≡ length records → length (stored format records) ≡ size_of format size count records
@@ -124,6 +133,13 @@ new_file disk total later g marks new p is_drafted =
       file_is = file_same (file_of k) new p.name_is p.number_is p.format_is lengths p.stamp_is refl;
       entry_is = refl;
       holds = d.holds;
+      stands = record {
+        tree = d.stands;
+        start = λ records is'.
+            let same : new.records ≡ records = ok_same new.records records (sym (subst (λ (l : List ℕ). records_of disk.bsize g.entry.format g.entry.length g.entry.count (bytes_at later l) ≡ Ok new.records)
+            d.leaves_are d.holds.records) ∙ is') in
+            p.start_is ∙ (ap (λ (f : Format). start_of disk.bsize f new.records) (sym p.format_is) ∙ ap (start_of disk.bsize g.entry.format) same);
+      };
       blocks_are = λ n. (let b = d.blocks_are n in let t = times_append n g.tree.leaves g.tree.pointers in omega arith);
     }
 
@@ -135,13 +151,13 @@ pub record Puts (j : Journal) (v : HeldVolume) (old : Layout) (g : HeldFile) (ma
   pub kept : Keeps v
   pub few : length edit.files ≤ 16384
   pub planned : (stamp : Stamp) × IsPlanned v edit stamp s
-  pub long : AreBlocks v.disk.bsize (writes_of v s)
+  pub back : All ReadsBack (entries_held edit.files)
   pub taken_is : edit.taken ≡ blocks_in g.tree
   pub file : IsPutAs v.disk.bsize g new
   pub plan : IsBuildable v.disk.bsize (pointer_size g.entry.format) g.tree.leaves marks g.tree.pointers
   pub has : HasAll (now j v.unit) v.disk.bsize (pointer_size g.entry.format) g.tree.leaves marks g.tree.pointers (stored g.entry.format new.records)
 
-all_allowed : (total : ℕ) (ns : List ℕ) → ((n : ℕ) → 1 ≤ times n ns → (6 ≤ n) × (n ≤ total)) → AllAllowed total None ns
+pub all_allowed : (total : ℕ) (ns : List ℕ) → ((n : ℕ) → 1 ≤ times n ns → (6 ≤ n) × (n ≤ total)) → AllAllowed total None ns
 unfolding is_allowed
 all_allowed total [] each = tt
 all_allowed total (n ∷ ns) each =
@@ -181,13 +197,12 @@ placed : (j : Journal) (v : HeldVolume) (old : Layout) (g : HeldFile) (marks : L
     → ((n : ℕ) → times n (file_blocks files) + times n edit.given ≡ times n (file_blocks old.files) + times n edit.taken) → ((n : ℕ) → times n edit.given ≤ times n (file_blocks old.files))
     → NewFile v.disk v.label.blocks (now (later_of j v s) v.unit) g new
 placed j v old g marks new edit s files p balance had =
-    let x : IsTaking j v edit p.planned.0 s old files = record { at = p.at; planned = p.planned.1; long = p.long; balance = balance; had = had } in
-    let t = taken_of j v edit p.planned.0 s old files x in
+    let x : IsTaking j v edit p.planned.0 s old files = record { at = p.at; planned = p.planned.1; few = p.few; back = p.back; balance = balance; had = had } in
     let same : v.label.blocks ≡ old.label.blocks = ap (λ (l : Label). l.blocks) p.at.held.label_is in
     let there : (n : ℕ) → 1 ≤ times n (blocks_in g.tree) → 1 ≤ times n edit.taken = (λ n some. subst (λ (ns : List ℕ). 1 ≤ times n ns) (sym p.taken_is) some) in
     new_file v.disk v.label.blocks (now (later_of j v s) v.unit) g marks new p.file
-    (drafted_later j v old g marks new edit s p (λ n some. taken_stay j v edit p.planned.0 s old files x n (there n some))
-    (λ n some. let e = t.each n (there n some) in let high = e.1 in (e.0, omega arith)))
+    (drafted_later j v old g marks new edit s p (λ n some. (taken_stay j v edit p.planned.0 s old files x n (there n some)).same)
+    (λ n some. let e = taken_stay j v edit p.planned.0 s old files x n (there n some) in let high = e.high in (e.low, omega arith)))
 
 -- a file with these blocks
 abbrev stand_in : HeldFile → File → Kept
@@ -230,6 +245,7 @@ replace_moves j v old g marks new s k f there named p =
     (All-set P old.files k q own all)
     (come_set v.disk v.label.blocks before later (layout_blocks old) old.files k q
     (come_all v.disk v.label.blocks before later (layout_blocks old) old.files (files_old j v old p.at)) placed'.holds)
+    (All-set (TreeComes v.disk.bsize v.label.blocks before later (layout_blocks old)) v.files k g (inr placed'.stands) (trees_of j v old later p.at))
     (balance_of q placed'.blocks_are) had
 
 -- ---- as the last
@@ -252,6 +268,7 @@ add_moves j v old g marks new s none p =
     let held = beside_last old.files v.files q g p.at.held.files_are placed'.is in
     let P = λ (x : Kept). passes v.disk.bsize x.entry ≡ true in
     let all = pass_all v.disk.bsize v.label.blocks old.files v.files p.at.held.files_are p.kept.each in
+    let T = TreeComes v.disk.bsize v.label.blocks before later (layout_blocks old) in
     let own : P q = ap (passes v.disk.bsize) placed'.entry_is ∙ p.file.passes_all in
     let changed : put_file new (map file_of old.files) ≡ map file_of fs =
     (none_added new.name (map file_of old.files) none).put new refl ∙ ap (λ (x : File). map file_of old.files ++ x ∷ []) (sym placed'.file_is) ∙ sym (map-append file_of old.files (q ∷ [])) in
@@ -259,4 +276,41 @@ add_moves j v old g marks new s none p =
     (All-append P old.files (q ∷ []) all (All-cons P q [] own (All-nil P)))
     (come_last v.disk v.label.blocks before later (layout_blocks old) old.files q
     (come_all v.disk v.label.blocks before later (layout_blocks old) old.files (files_old j v old p.at)) placed'.holds)
+    (All-append T v.files (g ∷ []) (trees_of j v old later p.at) (All-cons T g [] (inr placed'.stands) (All-nil T)))
     (balance_of q placed'.blocks_are) had
+
+-- ---- what is known of an update that puts a file before its blocks stand
+
+abbrev stands_for : HeldFile → Kept
+stands_for g = record { entry = g.entry; met = record { blocks = blocks_in g.tree; leaves = g.tree.leaves }; records = [] }
+
+pub put_taking : (j : Journal) (v : HeldVolume) (old : Layout) (g : HeldFile) (stamp : Stamp) (edit : Edit) (s : Systems) → IsHeldAt j v old → IsPutOf v g edit
+    → IsReadyFor v edit stamp s → length edit.files ≤ most_files → (files : List Kept) × IsTaking j v edit stamp s old files
+put_taking j v old g stamp edit s at (replaces place f there named) ready few =
+    let found = at_place old.files v.files at.held.files_are place f there in
+    let h = found.file in
+    let is = found.is h in
+    let less = found.within in
+    let q = stands_for g in
+    let same : (n : ℕ) → times n (get_or old.files place h).met.blocks ≡ times n h.met.blocks = (λ n. ap (λ (x : Kept). times n x.met.blocks) is) in (
+      set old.files place q,
+      record {
+        at = at;
+        planned = ready.planned;
+        few = few;
+        back = ready.back;
+        balance = λ n. (let t = set_times n old.files place q h less in let o = tree_times n h f found.held in let e = same n in omega arith);
+        had = λ n. (let t = at_times n old.files place h less in let o = tree_times n h f found.held in let e = same n in omega arith);
+      },
+    )
+put_taking j v old g stamp edit s at (adds none) ready few = (
+  old.files ++ stands_for g ∷ [],
+  record {
+    at = at;
+    planned = ready.planned;
+    few = few;
+    back = ready.back;
+    balance = λ n. (let t = last_times n old.files (stands_for g) in let z = no_times n in omega arith);
+    had = λ n. (let z = no_times n in omega arith);
+  },
+)

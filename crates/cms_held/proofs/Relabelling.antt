@@ -32,6 +32,7 @@ use Rattle.cms_held.proofs.OldBlocks.{HasBlocksOf, old_blocks, past_label}
 use Rattle.cms_held.proofs.Exchanged.{other}
 use Rattle.cms_held.proofs.Keeping.{same_map, same_stands}
 use Rattle.cms_held.proofs.Edits.{beside_count}
+use Rattle.cms_held.proofs.Standing.{trees_stay}
 
 -- ---- the label
 
@@ -146,6 +147,7 @@ relabel_is_held j v old volid x kept six in_use =
     let map_same = same_map v.disk before later old x.stands i.same in
     let stands = same_stands v.disk before later old label blocks x.stands (open_ok v.disk later (opened new) ups.whole.opens).system i.same in
     let few = kept.few in
+    let trees = trees_stay v.unit v.disk before later old v x.held i.same x.trees in
     let count = beside_count old.files v.files x.held.files_are in
     let m = minidisk_in v.disk old in
     let changes : minidisk_in v.disk new ≡ changed m (Relabel volid) =
@@ -168,6 +170,7 @@ relabel_is_held j v old volid x kept six in_use =
           files_are = x.held.files_are;
           lost_is = x.held.lost_is;
         };
+        trees = record { directory = trees.directory; map = trees.map; files = trees.files };
       };
       answered = (changed_where_made m (minidisk_in v.disk new) (Relabel volid)).1 (record {
         is = changes;

@@ -1,47 +1,44 @@
 -- The data blocks of the directory that a change writes are enough, and what is taken for it is what the change needs.
-use Rattle.std.proofs.Common.{◌≡◌, ℕ, suc, ◌+◌, ◌-◌, ◌/◌, ◌<◌, ◌≤◌, List, [], ◌∷◌, ◌++◌, length, map, take, drop, set, get_or, position, slice_get, Some, None, refl, sym, ◌∙◌, ap, subst, arith, length-append}
+use Rattle.std.proofs.Common.{◌≡◌, ℕ, ◌+◌, ◌-◌, ◌/◌, ◌<◌, List, [], ◌∷◌, length, map, drop, slice_get, Some, refl, sym, ◌∙◌, ap, subst, arith, length-append}
 use Rattle.std.proofs.lemmas.List.{length-map, length-set}
 use Rattle.std.proofs.lemmas.Option.{slice_get_within}
 use Rattle.cms_journal.specs.Journal.{Journal}
 use Rattle.cms_names.specs.declared.name.Name.{Name}
 use Rattle.cms_fields.specs.declared.entry.Entry.{Entry}
-use Rattle.cms_fields.specs.declared.time.Stamp.{Stamp}
-use Rattle.cms_model.specs.Changes.{Change, Put, Add, Drop, Rename, added_to, change_file, changed_files, drop_file, put_file}
+use Rattle.cms_model.specs.Changes.{Change, Put, Add, Drop, Rename, added_to, change_file, changed_files, put_file, directory_written, entries_made}
 use Rattle.cms_model.specs.LawsChanges.{IsPlace, NoneNamed}
-use Rattle.cms_model.specs.LawsUpdates.{now}
-use Rattle.cms_model.specs.Minidisks.{File, same_name}
+use Rattle.cms_model.specs.Minidisks.{File}
 use Rattle.cms_model.specs.Sharing.{fresh_count}
-use Rattle.cms_model.specs.Stands.{Kept, Layout, entries_in, file_of, minidisk_in}
+use Rattle.cms_model.specs.Stands.{Kept, Layout, file_of, minidisk_in}
 use Rattle.cms_model.proofs.Changing.{none_added, place_changed}
-use Rattle.cms_held.specs.DirectoryNeed.{directory_fresh, directory_written, entries_made, place_named}
-use Rattle.cms_held.specs.EntryPlaces.{EditsAt, IsChangedAt, IsEnoughFor, blocks_with, directory_count}
+use Rattle.cms_held.specs.EntryPlaces.{IsChangedAt, IsEnoughFor}
 use Rattle.cms_held.specs.LawsHeld.{IsFound}
 use Rattle.cms_held.specs.LawsRenewing.{IsHeldAt}
-use Rattle.cms_held.specs.Opening.{HeldFile, HeldVolume, names_in}
+use Rattle.cms_held.specs.Opening.{HeldFile, HeldVolume}
 use Rattle.cms_held.specs.Putting.{adding, replacing}
-use Rattle.cms_held.specs.Renewing.{Edit, dropping, entries_held, renamed, renaming}
+use Rattle.cms_held.specs.Renewing.{dropping, entries_held, renamed, renaming}
 use Rattle.cms_held.specs.SharedBlocks.{fresh_of}
-use Rattle.cms_held.specs.SharedNeed.{AreEnough, TakesTheNeed, WritesEnough, WrittenIsEnough}
-use Rattle.cms_held.specs.SharedRenewing.{IsPartRenewal, Parts}
-use Rattle.cms_held.specs.Systems.{Systems}
-use Rattle.cms_held.proofs.DirectoryNeed.{place_is_named}
+use Rattle.cms_held.specs.SharedNeed.{AreEnough, TakesTheNeed, WrittenIsEnough}
 use Rattle.cms_held.proofs.Edits.{at_place, found_at, names_distinct}
 use Rattle.cms_held.proofs.EntryPlaces.{edits_have_places, places_are_enough}
 use Rattle.cms_held.proofs.PutAsides.{files_count, found_in}
 use Rattle.cms_held.proofs.Removing.{length-removed}
 use Rattle.cms_held.proofs.Renewals.{same_entries}
 use Rattle.cms_held.proofs.SharedBlocks.{fresh_is_counted}
-use Rattle.cms_held.proofs.SharedRenewals.{Case, directory_may, directory_shape, fresh_begins, held_count}
+use Rattle.cms_held.proofs.PartCases.{Case, case_of, directory_may, fresh_begins, held_count}
+use Rattle.cms_held.proofs.PartTrees.{directory_shape}
 use Rattle.cms_held.proofs.SystemsHeld.{held_has_systems}
+use Rattle.cms_model.specs.DirectoryParts.{blocks_with, directory_count, directory_taken}
+use Rattle.cms_model.proofs.DirectoryNeed.{place_is_named}
 
 -- ---- the place of a file
 
-record Stands (v : HeldVolume) (old : Layout) (place : ℕ) (f : HeldFile) : Type 0 where
-  within : place < length v.files
-  at : IsPlace f.entry.name (map file_of old.files) place
-  file : File
+pub record Stands (v : HeldVolume) (old : Layout) (place : ℕ) (f : HeldFile) : Type 0 where
+  pub within : place < length v.files
+  pub at : IsPlace f.entry.name (map file_of old.files) place
+  pub file : File
 
-stands_at : (j : Journal) (v : HeldVolume) (old : Layout) (place : ℕ) (f : HeldFile) → IsHeldAt j v old → slice_get v.files place ≡ Some f → Stands v old place f
+pub stands_at : (j : Journal) (v : HeldVolume) (old : Layout) (place : ℕ) (f : HeldFile) → IsHeldAt j v old → slice_get v.files place ≡ Some f → Stands v old place f
 stands_at j v old place f x there =
     let at = at_place old.files v.files x.held.files_are place f there in
     let g = at.file in
@@ -57,7 +54,6 @@ enough_at : (v : HeldVolume) (old : Layout) (files : List HeldFile) (change : Ch
     → IsChangedAt (entries_held v.files) (entries_held files) place
     → length (changed_files (map file_of old.files) change) ≡ length (entries_held files) → entries_made (map file_of old.files) change ≡ 0 ∷ (place + 2) ∷ more
     → AreEnough v old files change
-unfolding directory_written
 enough_at v old files change place more j x at count made =
     subst (IsEnoughFor v.disk.bsize (entries_held v.files) (entries_held files))
     (ap (λ (n : ℕ). blocks_with v.disk.bsize (directory_count v.disk.bsize n) (0 ∷ (place + 2) ∷ more)) (sym count)
@@ -119,9 +115,9 @@ written_is_enough j v old x = record {
 -- ---- what is taken
 
 pub takes_the_need : TakesTheNeed
-unfolding directory_fresh
+unfolding directory_taken case_of
 takes_the_need j v edit stamp s parts old files change x changed written =
-    let c : Case = record { j = j; v = v; edit = edit; stamp = stamp; s = s; parts = parts; old = old; files = files; x = x } in
+    let c : Case = case_of j v edit stamp s parts old files x in
     let bsize = v.disk.bsize in
     let first = ap (λ (l : List ℕ). length l) (fresh_begins c) in
     let counted = fresh_is_counted (bsize / 4) parts.directory v.directory s.directory (directory_may c) (directory_shape c).nodes in

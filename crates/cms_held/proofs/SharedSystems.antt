@@ -20,12 +20,14 @@ use Rattle.cms_held.specs.Systems.{directory_bytes_of, directory_file, map_file,
 use Rattle.cms_held.specs.Written.{ReadsBack, directory_name, map_name, file_entries}
 use Rattle.cms_held.proofs.EntryBytes.{length_entries}
 use Rattle.cms_held.proofs.SystemsRead.{Fits, Says, Word, all_parts, behind_one, behind_two, directory_long, entries_back, entry_long, entry_says, first_block, is_directory_from, is_map_from, lies_words, root_first, root_word}
-use Rattle.cms_held.specs.EntryPlaces.{EntriesStay, HasEntries, entry_at, entry_block}
+use Rattle.cms_held.specs.EntryPlaces.{EntriesStay, HasEntries, entry_at}
 use Rattle.cms_held.specs.SharedBlocks.{AreLong, SharesBlocks}
 use Rattle.cms_held.specs.SharedSystems.{ShareIsRead}
 use Rattle.cms_held.proofs.BlockBytes.{leaf_long}
-use Rattle.cms_held.proofs.EntryPlaces.{entries_by_place, entry_within, parts, spelled}
+use Rattle.cms_held.proofs.EntryPlaces.{entries_by_place, spelled}
 use Rattle.cms_held.proofs.MapPlaces.{map_is_shared}
+use Rattle.cms_model.specs.DirectoryParts.{entry_block}
+use Rattle.cms_model.proofs.DirectoryParts.{entry_within, parts}
 
 clash : true ≡ false → ⊥
 clash e = cc

@@ -9,7 +9,7 @@ use Rattle.cms_fields.specs.Numbers.{up}
 use Rattle.cms_model.specs.Built.{AllAllowed, Built}
 use Rattle.cms_model.specs.ByLevels.{Heaped, beside, tiers, tiers_below}
 use Rattle.cms_model.specs.SharedTiers.{top_of}
-use Rattle.cms_model.specs.Sizes.{levels, pointer_count}
+use Rattle.cms_model.specs.Sizes.{levels, pointer_count, pointers_to}
 use Rattle.cms_model.specs.Trees.{Form, Image, pointers}
 use Rattle.cms_model.proofs.Building.{built_reads}
 use Rattle.cms_model.proofs.ByLevels.{read_is_heaped}
@@ -22,11 +22,11 @@ use Rattle.cms_tree.specs.Paths.{levels_of}
 use Rattle.cms_tree.proofs.Pathing.{count_first, left_count}
 use Rattle.cms_held.specs.Opening.{HeldTree}
 use Rattle.cms_held.specs.SharedBlocks.{levels_in}
-use Rattle.cms_held.specs.SharedTrees.{HasShape, LevelsAreRead, ReadStandsByLevels, SharedTreeStands}
+use Rattle.cms_held.specs.SharedTrees.{HasShape, IsStanding, LevelsAreRead, ReadStandsByLevels, SharedTreeStands}
 
 -- ---- levels in one list
 
-levels_count : (fan size count k : ℕ) (numbers : List ℕ) → length (levels_of fan size count k numbers) ≡ k
+pub levels_count : (fan size count k : ℕ) (numbers : List ℕ) → length (levels_of fan size count k numbers) ≡ k
 unfolding levels_of
 levels_count fan size count zero numbers = refl
 levels_count fan size count (suc k) numbers = ap suc (levels_count fan (size * fan) count k (drop (up count (size * fan)) numbers))
@@ -198,7 +198,22 @@ tiers_deep form image some (suc k) root count any =
     let deep = (below_deep k (form.fan ^ k) (tiers form image k) room (λ p c more. tiers_deep form image some k p c more) ps count).1 (omega arith) any in
     length-append (tiers_below (tiers form image k) (form.fan ^ k) ps count) ((root ∷ []) ∷ []) ∙ (omega arith)
 
+-- the levels of a tree, whose pointer blocks are these in one list, up to its root
+pub standing_from : (form : Form) (image : Image) (leaves fresh : List ℕ) (ts : List (List ℕ)) → 2 ≤ form.fan → HasShape form.fan (record { leaves = leaves; pointers = fresh })
+    → length ts ≡ levels form.fan (length leaves) → fresh ≡ concat ts → Heaped form image leaves ts (root_of leaves fresh ∷ []) → IsStanding form image (record { leaves = leaves; pointers = fresh })
+standing_from form image leaves fresh ts wide shape deep are heaped =
+    let fan = form.fan in
+    let count = length leaves in
+    let some = shape.some in
+    let back : levels_of fan 1 count (levels fan count) fresh ≡ ts = ap (levels_of fan 1 count (levels fan count)) are
+    ∙ (ap (λ (n : ℕ). levels_of fan 1 count n (concat ts)) (sym deep) ∙ levels_back form image 1 count leaves (root_of leaves fresh ∷ []) ts (omega arith) (omega arith) (up_one count) heaped) in
+    record {
+      shape = shape;
+      stands = subst (λ (l : List (List ℕ)). Heaped form image leaves l (root_of leaves fresh ∷ [])) (sym back) heaped;
+    }
+
 pub read_stands : ReadStandsByLevels
+unfolding pointer_count
 read_stands form image k first holder root count met wide some few shape is =
     let fan = form.fan in
     let ts = tiers form image k root count in
@@ -209,15 +224,16 @@ read_stands form image k first holder root count met wide some few shape is =
     let deep : length ts ≡ k = tiers_deep form image (omega arith) k root count some in
     let depth : length ts ≡ levels fan (length met.leaves) = deep ∙ (least ∙ ap (levels fan) (sym size)) in
     let unit : length met.leaves ≡ up (length met.leaves) 1 = up_one (length met.leaves) in
-    let back : levels_of fan 1 (length met.leaves) (levels fan (length met.leaves)) (concat ts) ≡ ts =
-    ap (λ (n : ℕ). levels_of fan 1 (length met.leaves) n (concat ts)) (sym depth) ∙ levels_back form image 1 (length met.leaves) met.leaves (root ∷ []) ts (omega arith) (omega arith) unit heaped in
+    let back : levels_of fan 1 (length met.leaves) (length ts) (concat ts) ≡ ts = levels_back form image 1 (length met.leaves) met.leaves (root ∷ []) ts (omega arith) (omega arith) unit heaped in
     let long = heaped_long form image 1 (length met.leaves) met.leaves (root ∷ []) ts (omega arith) (omega arith) unit heaped in
     let one : up (length met.leaves) (1 * fan ^ length ts) ≡ 1 = ap (λ (n : ℕ). up (length met.leaves) (1 * fan ^ n)) depth ∙ one_root fan (length met.leaves) wide (omega arith) (omega arith) in
     let top : top_of met.leaves (levels_of fan 1 (length met.leaves) (length ts) (concat ts)) ≡ root_of met.leaves (concat ts) ∷ [] =
     top_is_root fan 1 (length met.leaves) (length ts) met.leaves (concat ts) (omega arith) (omega arith) (omega arith) unit long one in
-    let same : root_of met.leaves (concat ts) ∷ [] ≡ root ∷ [] = sym top ∙ (ap (λ (n : ℕ). top_of met.leaves (levels_of fan 1 (length met.leaves) n (concat ts))) depth
-    ∙ (ap (top_of met.leaves) back ∙ top_stands form image met.leaves ts (root ∷ []) heaped)) in
-    subst (λ (l : List (List ℕ)). Heaped form image met.leaves l (root_of met.leaves (concat ts) ∷ [])) (sym back) (subst (Heaped form image met.leaves ts) (sym same) heaped)
+    let same : root_of met.leaves (concat ts) ∷ [] ≡ root ∷ [] = sym top ∙ (ap (top_of met.leaves) back ∙ top_stands form image met.leaves ts (root ∷ []) heaped) in
+    let nodes : length (concat ts) ≡ pointers_to fan (length met.leaves) (levels fan (length met.leaves)) =
+    long ∙ (ap (left_count fan 1 (length met.leaves)) depth ∙ count_first fan (length met.leaves) (levels fan (length met.leaves))) in
+    standing_from form image met.leaves (concat ts) ts wide (record { some = omega arith; few = omega arith; nodes = nodes }) depth refl
+    (subst (Heaped form image met.leaves ts) (sym same) heaped)
 
 -- ---- what shares blocks stands
 

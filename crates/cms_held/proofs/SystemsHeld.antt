@@ -27,8 +27,8 @@ use Rattle.cms_held.specs.Opening.{HeldVolume}
 use Rattle.cms_held.specs.Renewing.{entries_held}
 use Rattle.cms_held.proofs.OldBlocks.{old_opens}
 use Rattle.cms_held.proofs.Renewals.{same_entries}
-use Rattle.cms_held.specs.EntryPlaces.{directory_count}
 use Rattle.cms_held.specs.SharedSystems.{HeldHasSystems}
+use Rattle.cms_model.specs.DirectoryParts.{directory_count}
 
 all_in : (P : ℕ → Type 0) (ns : List ℕ) → ((n : ℕ) → In n ns → P n) → All P ns
 all_in P [] each = All-nil P

@@ -37,7 +37,9 @@ use Rattle.cms_held.specs.Opening.{HeldTree}
 use Rattle.cms_held.specs.Written.{ReadsBack, directory_name, map_name, system_name, file_entries}
 use Rattle.cms_held.specs.Systems.{Systems, directory_file, map_file, system_entry, directory_bytes_of, block_writes, directory_pieces, map_pieces, node_writes, HasWritten, WrittenIsRead, MapIsRead}
 use Rattle.cms_held.proofs.EntryBytes.{length_entries}
+use Rattle.cms_held.specs.SharedTrees.{IsStanding}
 use Rattle.cms_held.proofs.PiecesWritten.{has_front, has_behind, pieces_joined, nodes_written}
+use Rattle.cms_held.proofs.Standing.{built_stands}
 
 -- ---- the entries of files
 
@@ -160,6 +162,16 @@ tree_read bsize last first holder t image size some few least numbers words allo
     built_is_tree bsize 4 last first holder t.leaves [] t.pointers image
     (record { size = size; pointer = inl refl; some = omega arith; few = few; each = λ (e : 4 ≡ 12). absurd (omega arith); numbers = numbers })
     (omega arith) words allowed (lies_allowed last t.pointers lie) (nodes_written image bsize t (omega arith) numbers has)
+
+-- and stands
+tree_stands : (bsize last : ℕ) (t : HeldTree) (image : Image) → IsBlockSize bsize → 1 ≤ length t.leaves → length t.leaves < 2 ^ 32 → last < 2 ^ 32
+    → length t.pointers ≡ pointer_count (bsize / 4) (length t.leaves) → All Word t.leaves → All (Lies last) t.pointers → HasWritten image (node_writes bsize t)
+    → IsStanding (form_of bsize last F) image t
+tree_stands bsize last t image size some few least numbers words lie has =
+    let low = (block_bounds bsize size).0 in
+    built_stands bsize 4 last t.leaves [] t.pointers image
+    (record { size = size; pointer = inl refl; some = omega arith; few = few; each = λ (e : 4 ≡ 12). absurd (omega arith); numbers = numbers })
+    (omega arith) words (lies_allowed last t.pointers lie) (nodes_written image bsize t (omega arith) numbers has)
 
 pub root_word : (leaves fresh : List ℕ) → 1 ≤ length leaves → All Word leaves → All Word fresh → root_of leaves fresh < 2 ^ 32
 root_word leaves fresh some words words' =
@@ -334,6 +346,8 @@ written_is_read disk image s entries stamp l ok bytes_is label_is has =
       };
       directory_is = record { leaves = sym dt.leaves_are; blocks = dt.blocks_are };
       map_is = record { leaves = sym mt.leaves_are; blocks = mt.blocks_are };
+      directory_stands = tree_stands bsize last s.directory image l.size some leaves_few few l.directory_nodes words l.directory_within nodes_has;
+      map_stands = tree_stands bsize last s.map image l.size map_some map_few few l.map_nodes map_words part.1 map_nodes_has;
       map_bytes = ap (bytes_at image) mt.leaves_are ∙ map_joined;
     }
 

@@ -11,7 +11,7 @@ use Rattle.cms_tree.specs.Builds.{Child, all_over, cell_of, level_over, node_byt
 use Rattle.cms_tree.proofs.Filling.{length-cells}
 use Rattle.cms_map.specs.Bits.{bytes_from}
 use Rattle.cms_held.specs.Opening.{HeldTree}
-use Rattle.cms_held.specs.Systems.{Systems, block_writes, directory_pieces, map_pieces, node_writes, system_writes}
+use Rattle.cms_held.specs.Systems.{Systems, block_writes, directory_pieces, map_pieces, node_writes, whole_writes}
 use Rattle.cms_held.specs.LawsRenewing.{AreBlocks}
 use Rattle.cms_held.proofs.MapBytes.{length_written}
 
@@ -86,7 +86,7 @@ node_blocks : (bsize : ℕ) (t : HeldTree) → AreBlocks bsize (node_writes bsiz
 node_blocks bsize t = are_blocks bsize t.pointers (map (node_bytes bsize 4) (nodes_over (bsize / 4) t.leaves [] t.pointers))
     (nodes_long bsize (nodes_over (bsize / 4) t.leaves [] t.pointers) (over_few (bsize / 4) _ _ t.pointers))
 
-pub system_blocks : (bsize : ℕ) (s : Systems) → length s.directory_bytes ≡ length s.directory.leaves * bsize → AreBlocks bsize (system_writes bsize s)
+pub system_blocks : (bsize : ℕ) (s : Systems) → length s.directory_bytes ≡ length s.directory.leaves * bsize → AreBlocks bsize (whole_writes bsize s)
 system_blocks bsize s long =
     let d = cut_long (length s.directory.leaves) bsize s.directory_bytes long in
     let m = cut_long (length s.map.leaves) bsize (bytes_from 0 (length s.map.leaves * bsize) s.bits) (length_written (length s.map.leaves * bsize) s.bits) in

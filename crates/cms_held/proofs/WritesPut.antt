@@ -10,7 +10,7 @@ use Rattle.cms_model.proofs.Repeats.{times_append, times_first, times_later}
 use Rattle.cms_model.proofs.Putting.{apart_is_kept}
 use Rattle.cms_tree.specs.Builds.{node_bytes, nodes_over}
 use Rattle.cms_held.specs.Opening.{HeldTree}
-use Rattle.cms_held.specs.Systems.{Systems, block_writes, system_writes, node_writes, directory_pieces, map_pieces, HasWritten}
+use Rattle.cms_held.specs.Systems.{Systems, block_writes, whole_writes, node_writes, directory_pieces, map_pieces, HasWritten}
 use Rattle.cms_held.specs.LawsRenewing.{AreBlocks}
 
 -- the blocks that are written
@@ -31,7 +31,7 @@ block_times n [] pieces = omega arith
 block_times n (x ∷ ns) [] = omega arith
 block_times n (x ∷ ns) (bytes ∷ pieces) = omega (arith, block_times n ns pieces)
 
-pub system_times : (bsize : ℕ) (s : Systems) (n : ℕ) → times n (blocks_written (system_writes bsize s))
+pub system_times : (bsize : ℕ) (s : Systems) (n : ℕ) → times n (blocks_written (whole_writes bsize s))
     ≤ times n (drop 1 s.directory.leaves) + (times n s.directory.pointers + (times n s.map.leaves + (times n s.map.pointers + times n (take 1 s.directory.leaves))))
 system_times bsize s n =
     let nodes : HeldTree → List (List ℕ) = λ (t : HeldTree). map (node_bytes bsize 4) (nodes_over (bsize / 4) t.leaves [] t.pointers) in

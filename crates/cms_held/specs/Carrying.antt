@@ -1,5 +1,5 @@
 -- What carrying out an update of a held volume comes to for its minidisk.
-use Rattle.std.specs.Prelude.{◌≡◌, ◌⊎◌, ℕ, suc, ◌+◌, ◌*◌, ◌<◌, ◌≤◌, true, List, [], ◌∷◌, length, position, slice_get, All, Some, None}
+use Rattle.std.specs.Prelude.{◌≡◌, ◌⊎◌, ℕ, suc, ◌+◌, ◌<◌, ◌≤◌, true, List, [], ◌∷◌, length, position, slice_get, All, Some, None}
 use Rattle.cms_journal.specs.declared.event.Event.{Event}
 use Rattle.cms_journal.specs.declared.event.Event.TheVariants.{Missed, Now, Read, Synced, Typed, Wrote}
 use Rattle.cms_journal.specs.Journal.{Journal}
@@ -16,7 +16,8 @@ use Rattle.cms_held.specs.Opening.{HeldFile, HeldVolume, names_in}
 use Rattle.cms_held.specs.Kept.{Keeps}
 use Rattle.cms_held.specs.Written.{ReadsBack}
 use Rattle.cms_held.specs.Systems.{Systems}
-use Rattle.cms_held.specs.Renewing.{Edit, IsPlanned, dropping, entries_held, needed, renaming, renewed}
+use Rattle.cms_held.specs.Allotting.{IsPlanned}
+use Rattle.cms_held.specs.Renewing.{Edit, dropping, entries_held, needed, renaming, renewed}
 use Rattle.cms_held.specs.LawsRenewing.{IsHeldAt, later_of, writes_of}
 
 -- at a journal a volume as it is held is this minidisk, and its unit is settled at it
@@ -37,7 +38,6 @@ pub record IsReadyFor (v : HeldVolume) (edit : Edit) (stamp : Stamp) (s : System
   pub kept : Keeps v
   pub stamped : is_stamp stamp ≡ true
   pub planned : IsPlanned v edit stamp s
-  pub long : length s.directory_bytes ≡ length s.directory.leaves * v.disk.bsize
   pub back : All ReadsBack (entries_held edit.files)
 
 -- carried out, it is the change: the answer is the new minidisk, at every moment each crash image is the old one or the new, up to the
@@ -59,8 +59,8 @@ PlannedIsCarried =
 abbrev pub LackingIsFull : Type 0
 LackingIsFull =
     (j : Journal) (v : HeldVolume) (edit : Edit) (m : Minidisk) (change : Change) → IsHeldMinidisk j v m → IsEditOf v edit change → Keeps v
-    → length (free_blocks v.bits) < needed v (length edit.files)
-    → answer_of m change ≡ Full (needed v (length edit.files)) (length (free_blocks v.bits))
+    → length (free_blocks v.bits) < needed v (length edit.files) edit.made
+    → answer_of m change ≡ Full (needed v (length edit.files) edit.made) (length (free_blocks v.bits))
 
 -- ---- how much an update writes
 

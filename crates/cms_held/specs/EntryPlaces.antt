@@ -1,26 +1,19 @@
 -- The entries of a directory by their places in its data blocks, and the data blocks that an update
 -- of one file writes.
-use Rattle.std.specs.Prelude.{◌≡◌, ◌⊎◌, ◌↔◌, ℕ, suc, ◌+◌, ◌*◌, ◌/◌, ◌%◌, ◌<◌, ◌≤◌, List, ◌∷◌, length, map, take, drop, slice_set, slice_index_or, Ok}
-use Rattle.std.specs.List.{filter, range_with_len}
+use Rattle.std.specs.Prelude.{◌≡◌, ◌⊎◌, ◌↔◌, ℕ, suc, ◌+◌, ◌*◌, ◌/◌, ◌%◌, ◌<◌, ◌≤◌, List, ◌∷◌, length, take, drop, slice_index_or, Ok}
 use Rattle.cms_journal.specs.Journal.{IsBlockSize}
 use Rattle.cms_fields.specs.Entries.{entry_of}
-use Rattle.cms_fields.specs.Numbers.{up}
 use Rattle.cms_fields.specs.declared.entry.Entry.{Entry}
-use Rattle.cms_model.specs.Lists.{In, cut, holds}
+use Rattle.cms_model.specs.DirectoryParts.{blocks_with, directory_count, entry_block}
+use Rattle.cms_model.specs.Lists.{In, cut}
+use Rattle.cms_model.specs.Sharing.{MayBeWritten}
 use Rattle.cms_model.specs.Trees.{Image, bytes_at}
 use Rattle.cms_model.specs.Volumes.{entries_of, holder_of}
-use Rattle.cms_held.specs.Opening.{HeldFile}
-use Rattle.cms_held.specs.Putting.{adding}
-use Rattle.cms_held.specs.Renewing.{dropping, entries_held}
-use Rattle.cms_held.specs.SharedBlocks.{AreLong, MayBeWritten}
+use Rattle.cms_held.specs.SharedBlocks.{AreLong}
 
 -- ---- entries by their places
 
--- the data block in which the entry of a number stands, from 0; that of the first file has number 2
-abbrev pub entry_block : ℕ → ℕ → ℕ
-entry_block bsize number = number / (bsize / 64)
-
--- its 64 bytes
+-- the 64 bytes of the entry of a number
 abbrev pub entry_at : ℕ → Image → List ℕ → ℕ → List ℕ
 entry_at bsize image leaves number =
     take 64 (drop (number % (bsize / 64) * 64) (image (holder_of bsize leaves number)))
@@ -44,15 +37,6 @@ EntriesByPlace =
 
 -- ---- what an update of one file writes
 
--- the data blocks of a directory of so many files
-abbrev pub directory_count : ℕ → ℕ → ℕ
-directory_count bsize files = up (64 * (files + 2)) bsize
-
--- of so many data blocks those in which the entries of these numbers stand, ascending and each once
-unfoldable pub blocks_with : ℕ → ℕ → List ℕ → List ℕ
-blocks_with bsize count numbers =
-    filter (holds (map (entry_block bsize) numbers)) (range_with_len 0 count)
-
 -- a list of entries has them where they were but for one place; where it is longer, this is a new
 -- one at its end
 pub record IsChangedAt (olds news : List Entry) (place : ℕ) : Type 0 where
@@ -60,17 +44,6 @@ pub record IsChangedAt (olds news : List Entry) (place : ℕ) : Type 0 where
       → slice_index_or news k d ≡ slice_index_or olds k d
   pub long : (length news ≤ length olds)
       ⊎ ((length news ≡ suc (length olds)) × (place ≡ length olds))
-
--- so it is where a file goes, where one takes its place, and where one is added
-pub record EditsAt (files : List HeldFile) (place : ℕ) (old new : HeldFile) : Type 0 where
-  pub gone : IsChangedAt (entries_held files) (entries_held (dropping files place old).files) place
-  pub other : IsChangedAt (entries_held files) (entries_held (slice_set files place new)) place
-  pub added : IsChangedAt (entries_held files) (entries_held (adding files new).files)
-      (length files)
-
-abbrev pub EditsHavePlaces : Type 0
-EditsHavePlaces =
-    (files : List HeldFile) (place : ℕ) (old new : HeldFile) → EditsAt files place old new
 
 -- the entries in other data blocks are those that were there
 abbrev pub EntriesStay : ℕ → List ℕ → List Entry → List Entry → Type 0

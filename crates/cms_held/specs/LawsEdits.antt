@@ -7,7 +7,7 @@ use Rattle.cms_fields.specs.Labels.{with_label}
 use Rattle.cms_fields.specs.declared.label.Label.{Label}
 use Rattle.cms_fields.specs.Limits.{most_files}
 use Rattle.cms_model.specs.Minidisks.{Minidisk}
-use Rattle.cms_model.specs.Changes.{Change, Put, Add, Drop, Rename, Relabel, Changed, Full, answer_of, changed, changed_files}
+use Rattle.cms_model.specs.Changes.{Change, Put, Add, Drop, Rename, Relabel, Changed, Full, answer_of, changed, changed_files, entries_made}
 use Rattle.cms_model.specs.Stands.{Kept, Layout, file_of, minidisk_in, opened}
 use Rattle.cms_model.specs.LawsChanges.{NoneNamed}
 use Rattle.cms_model.specs.LawsUpdates.{Relabels, after, now, relabel}
@@ -67,7 +67,8 @@ abbrev pub EditIsAnswered : Type 0
 EditIsAnswered =
     (j : Journal) (v : HeldVolume) (old : Layout) (change : Change) → IsHeldAt j v old → IsEdit change
     → length (changed_files (map file_of old.files) change) ≤ most_files
-    → IsAnswered (minidisk_in v.disk old) change (needed v (length (changed_files (map file_of old.files) change)))
+    → IsAnswered (minidisk_in v.disk old) change
+    (needed v (length (changed_files (map file_of old.files) change)) (entries_made (map file_of old.files) change))
     (length (free_blocks v.bits))
 
 -- ---- another volume id

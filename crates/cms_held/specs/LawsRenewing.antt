@@ -3,7 +3,6 @@ use Rattle.std.specs.Prelude.{◌≡◌, ◌⊎◌, ℕ, ◌+◌, ◌≤◌, tru
 use Rattle.cms_journal.specs.Journal.{Journal, start_of}
 use Rattle.cms_journal.specs.declared.event.Event.{Event}
 use Rattle.cms_fields.specs.Entries.{passes}
-use Rattle.cms_fields.specs.Stamps.{is_stamp}
 use Rattle.cms_fields.specs.declared.time.Stamp.{Stamp}
 use Rattle.cms_fields.specs.Limits.{most_files}
 use Rattle.cms_model.specs.Lists.{In, times}
@@ -17,7 +16,9 @@ use Rattle.cms_held.specs.Opening.{HeldVolume}
 use Rattle.cms_held.specs.Written.{ReadsBack}
 use Rattle.cms_held.specs.Systems.{Systems, system_writes}
 use Rattle.cms_held.specs.HeldAs.{AreHeld, IsHeldAs}
-use Rattle.cms_held.specs.Renewing.{Edit, IsPlanned, renewed}
+use Rattle.cms_held.specs.Allotting.{IsPlanned}
+use Rattle.cms_held.specs.HeldTrees.{TreeComes, TreesStand}
+use Rattle.cms_held.specs.Renewing.{Edit, renewed}
 
 -- each file is one of the old image whose blocks are the old volume's, or is held by the new image
 abbrev pub ComesFrom : Disk → ℕ → Image → Image → List ℕ → List Kept → Type 0
@@ -39,13 +40,14 @@ abbrev pub AreBlocks : ℕ → List Write → Type 0
 AreBlocks bsize [] = ⊤
 AreBlocks bsize (w ∷ ws) = (length w.bytes ≡ bsize) × AreBlocks bsize ws
 
--- a unit is settled at a volume, which is held so
+-- a unit is settled at a volume, which is held so, with trees that stand
 pub record IsHeldAt (j : Journal) (v : HeldVolume) (old : Layout) : Type 0 where
   pub whole : IsWhole v.disk (now j v.unit)
   pub attached : v.disk.count ≤ length (start_of j.units v.unit)
   pub settled : IsSettled v.disk j v.unit (opened old)
   pub stands : Stands v.disk (now j v.unit) old
   pub held : IsHeldAs v.unit v.disk (now j v.unit) (opened old) v
+  pub trees : TreesStand v (now j v.unit)
 
 -- as long as an update's label isn't written, a unit is settled at the old volume, which is held as before
 abbrev pub FrontKeepsHeld : Type 0
@@ -54,7 +56,8 @@ FrontKeepsHeld =
     → AreWithin (length (start_of j.units v.unit)) ws → Apart ws (frame (opened old)) → IsFront p (to_label v.unit ws)
     → IsHeldAt (after j p) v old
 
--- an edit leaves these files, whose blocks are the old files', without those that it gives back and with those that it takes
+-- an edit leaves these files, whose blocks are the old files', without those that it gives back and with those that it takes, and whose trees
+-- stand in the old image or in the new one
 pub record LeavesFiles (before later : Image) (v : HeldVolume) (edit : Edit) (old : Layout) (files : List Kept) : Type 0 where
   pub few : length files ≤ most_files
   pub pass : All (λ e. passes v.disk.bsize e ≡ true) (entries_in files)
@@ -62,6 +65,7 @@ pub record LeavesFiles (before later : Image) (v : HeldVolume) (edit : Edit) (ol
   pub names : HaveNames files
   pub held : AreHeld (entries_in files) (mets_in files) (records_in files) edit.files
   pub come : ComesFrom v.disk v.label.blocks before later (layout_blocks old) files
+  pub trees : All (TreeComes v.disk.bsize v.label.blocks before later (layout_blocks old)) edit.files
   pub balance : (n : ℕ) → times n (file_blocks files) + times n edit.given ≡ times n (file_blocks old.files) + times n edit.taken
   pub had : (n : ℕ) → times n edit.given ≤ times n (file_blocks old.files)
 
@@ -69,9 +73,7 @@ pub record LeavesFiles (before later : Image) (v : HeldVolume) (edit : Edit) (ol
 pub record IsRenewal (j : Journal) (v : HeldVolume) (edit : Edit) (stamp : Stamp) (s : Systems) (old : Layout) (files : List Kept) :
     Type 0 where
   pub at : IsHeldAt j v old
-  pub stamped : is_stamp stamp ≡ true
   pub planned : IsPlanned v edit stamp s
-  pub long : AreBlocks v.disk.bsize (writes_of v s)
   pub leaves : LeavesFiles (now j v.unit) (now (later_of j v s) v.unit) v edit old files
 
 -- what it does: a crash leaves the old volume or the new one at every moment, and in the end the new; this is held as the renewed one, and

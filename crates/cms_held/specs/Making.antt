@@ -17,7 +17,7 @@ use Rattle.cms_model.specs.Sizes.{map_size, pointer_count}
 use Rattle.cms_model.specs.Volumes.{Disk, state_of}
 use Rattle.cms_held.specs.Carrying.{IsHeldMinidisk}
 use Rattle.cms_held.specs.Opening.{HeldVolume}
-use Rattle.cms_held.specs.Systems.{Systems, directory_bytes_of, system_writes}
+use Rattle.cms_held.specs.Systems.{Systems, directory_bytes_of, system_writes, whole_part}
 
 -- what is made: the unit, what is looked at of it, and what is written
 pub record Making : Type 0 where
@@ -53,6 +53,8 @@ pub record IsEmptyVolume (m : Making) (volid : List ℕ) (stamp : Stamp) : Type 
   pub map_nodes : length m.systems.map.pointers ≡ pointer_count (m.disk.bsize / 4) (length m.systems.map.leaves)
   pub map_from : m.systems.map.leaves ++ m.systems.map.pointers ≡ range_with_len 6 (map_size m.disk.bsize m.disk.count)
   pub bits : m.systems.bits ≡ first_bits (first_used m.disk) m.disk.count
+  pub directory_part : m.systems.directory_part ≡ whole_part m.systems.directory
+  pub map_part : m.systems.map_part ≡ whole_part m.systems.map
 
 -- its writes before the label's
 abbrev pub made_writes : Making → List Write

@@ -13,6 +13,7 @@ use Rattle.cms_model.specs.declared.fault.OpenFault.{OpenFault}
 use Rattle.cms_model.specs.declared.fault.OpenFault.TheVariants as failed
 use Rattle.cms_map.specs.Bits.{bits_in}
 use Rattle.cms_tree.specs.Walks.{nodes}
+use Rattle.cms_held.specs.Marks.{start_of}
 
 -- ---- a volume as it is held: all of it but the files' data
 
@@ -21,12 +22,14 @@ pub record HeldTree : Type 0 where
   pub leaves : List ℕ
   pub pointers : List ℕ
 
--- a file: its entry, its tree, the length of its records (of the longest at V), and how many bytes are stored of it
+-- a file: its entry, its tree, the length of its records (of the longest at V), how many bytes are stored of it, and where at V the first
+-- record begins in the data block that they fill in part
 pub record HeldFile : Type 0 where
   pub entry : Entry
   pub tree : HeldTree
   pub length : ℕ
   pub size : ℕ
+  pub start : ℕ
 
 -- a volume as it is held: all but its files' data
 pub record HeldVolume : Type 0 where
@@ -75,6 +78,7 @@ held_file bsize total image e met records = record {
   tree = held_tree (form_of bsize total e.format) image e.levels e.root e.blocks met;
   length = length_of e.format e.length records;
   size = size_of e.format e.length e.count records;
+  start = start_of bsize e.format records;
 }
 
 -- the files of these entries, with these trees and these records

@@ -1,5 +1,5 @@
 -- A file that is put into a volume as it is held: it was drafted on free blocks, and one update makes it the volume's.
-use Rattle.std.specs.Prelude.{◌≡◌, ℕ, ◌+◌, ◌≤◌, true, nat_lt, if◌then◌else◌, List, [], ◌∷◌, ◌++◌, length, position, slice_get, slice_set, All, Option, None, Some}
+use Rattle.std.specs.Prelude.{◌≡◌, ℕ, ◌+◌, ◌/◌, ◌≤◌, true, nat_lt, if◌then◌else◌, List, [], ◌∷◌, ◌++◌, length, position, slice_get, slice_set, All, Option, None, Some}
 use Rattle.cms_journal.specs.declared.event.Event.{Event}
 use Rattle.cms_journal.specs.Journal.{Journal}
 use Rattle.cms_names.specs.declared.name.Name.{Name}
@@ -19,11 +19,13 @@ use Rattle.cms_map.specs.Bits.{free_blocks}
 use Rattle.cms_tree.specs.declared.types.Mark.{Mark}
 use Rattle.cms_tree.specs.Builds.{IsBuildable, root_of}
 use Rattle.cms_tree.specs.Climbs.{AreOwn}
+use Rattle.cms_held.specs.Marks.{start_of}
 use Rattle.cms_held.specs.Opening.{HeldFile, HeldVolume, names_in}
 use Rattle.cms_held.specs.Kept.{Keeps}
-use Rattle.cms_held.specs.Drafts.{HasAll, HasDraft, draft_writes}
+use Rattle.cms_tree.specs.Kept.{Kept}
+use Rattle.cms_held.specs.Drafts.{HasAll, HasDraft, draft_writes, own_blocks}
 use Rattle.cms_held.specs.Systems.{Systems}
-use Rattle.cms_held.specs.Renewing.{Edit, blocks_in, needed}
+use Rattle.cms_held.specs.Renewing.{Edit, blocks_in, made_at, needed}
 use Rattle.cms_held.specs.Carrying.{Carries, IsHeldMinidisk, IsReadyFor, written_count}
 use Rattle.cms_held.specs.LawsRenewing.{writes_of}
 
@@ -31,11 +33,21 @@ use Rattle.cms_held.specs.LawsRenewing.{writes_of}
 
 -- a file takes the place of one, whose blocks are given back
 abbrev pub replacing : List HeldFile → ℕ → HeldFile → HeldFile → Edit
-replacing files place f g = record { files = slice_set files place g; given = blocks_in f.tree; taken = blocks_in g.tree }
+replacing files place f g = record {
+  files = slice_set files place g;
+  made = made_at place;
+  given = blocks_in f.tree;
+  taken = blocks_in g.tree;
+}
 
 -- a file stands last
 abbrev pub adding : List HeldFile → HeldFile → Edit
-adding files g = record { files = files ++ g ∷ []; given = []; taken = blocks_in g.tree }
+adding files g = record {
+  files = files ++ g ∷ [];
+  made = made_at (length files);
+  given = [];
+  taken = blocks_in g.tree;
+}
 
 -- the edit of a file that is put: it takes the place of the one of its name, else it stands last
 pub data IsPutOf (v : HeldVolume) (g : HeldFile) : Edit → Type 0 where
@@ -54,9 +66,18 @@ count_with (Some place) files = files
 abbrev pub count_put : HeldVolume → Name → ℕ
 count_put v name = count_with (position (same_name name) (names_in v.files)) (length v.files)
 
+-- the entries that are made anew then
+abbrev pub made_with : Option ℕ → ℕ → List ℕ
+made_with None files = made_at files
+made_with (Some place) files = made_at place
+
+abbrev pub made_put : HeldVolume → Name → List ℕ
+made_put v name = made_with (position (same_name name) (names_in v.files)) (length v.files)
+
 -- the free blocks that a file with so many stored bytes needs: its own, and those of the new directory and map
 abbrev pub need_put : HeldVolume → Name → Format → ℕ → ℕ
-need_put v name format bytes = tree_size (fan_of v.disk.bsize format) (up bytes v.disk.bsize) + needed v (count_put v name)
+need_put v name format bytes = tree_size (fan_of v.disk.bsize format) (up bytes v.disk.bsize)
+    + needed v (count_put v name) (made_put v name)
 
 -- the lowest limit that it passes, by the files that there are then, its records and its stored bytes
 abbrev pub limit_put : ℕ → ℕ → ℕ → Option ℕ
@@ -90,21 +111,25 @@ FreeIsAside =
     → AreFree v blocks → AreOwn v.disk.bsize blocks ws → IsFront p (writes v.unit ws) → IsHeldMinidisk (after j p) v m
 
 -- what a draft wrote of a file stands in the contents as soon as it was written, and stays as long as more of it is written
-pub record GoesOn (j : Journal) (u bsize psize : ℕ) (leaves : List ℕ) (marks : List Mark) (fresh bytes : List ℕ) (from to : ℕ)
-    (part : List Write) :
+pub record GoesOn (j : Journal) (u bsize psize : ℕ) (leaves : List ℕ) (marks : List Mark) (fresh : List ℕ) (kept : ℕ) (es : List Kept)
+    (bytes : List ℕ) (from to : ℕ) (part : List Write) :
     Type 0 where
-  pub stays : (p : List Event) → IsFront p (writes u part) → HasDraft (now (after j p) u) bsize psize leaves marks fresh bytes from
-  pub stands : HasDraft (now (after j (writes u part)) u) bsize psize leaves marks fresh bytes to
+  pub stays : (p : List Event) → IsFront p (writes u part)
+      → HasDraft (now (after j p) u) bsize psize leaves marks fresh kept es bytes from
+  pub stands : HasDraft (now (after j (writes u part)) u) bsize psize leaves marks fresh kept es bytes to
 
--- what a draft adds, from one of its blocks to another, leaves the volume held
+-- what a draft adds, from one of its blocks to another, leaves the volume held: the blocks that it writes are free, and of the new
+-- tree no block stands twice
 abbrev pub DraftGoesOn : Type 0
 DraftGoesOn =
-    (j : Journal) (v : HeldVolume) (m : Minidisk) (psize : ℕ) (leaves : List ℕ) (marks : List Mark) (fresh bytes : List ℕ) (from to : ℕ)
-    (part : List Write) → IsHeldMinidisk j v m → AreFree v (leaves ++ fresh) → IsBuildable v.disk.bsize psize leaves marks fresh
-    → to ≤ length leaves
-    → draft_writes v.disk.bsize psize leaves marks fresh bytes from ++ part ≡ draft_writes v.disk.bsize psize leaves marks fresh bytes to
-    → HasDraft (now j v.unit) v.disk.bsize psize leaves marks fresh bytes from
-    → GoesOn j v.unit v.disk.bsize psize leaves marks fresh bytes from to part
+    (j : Journal) (v : HeldVolume) (m : Minidisk) (psize : ℕ) (leaves : List ℕ) (marks : List Mark) (fresh : List ℕ) (kept : ℕ)
+    (es : List Kept) (bytes : List ℕ) (from to : ℕ) (part : List Write) → IsHeldMinidisk j v m
+    → ((n : ℕ) → times n (leaves ++ fresh) ≤ 1) → AreFree v (own_blocks (v.disk.bsize / psize) leaves fresh kept)
+    → IsBuildable v.disk.bsize psize leaves marks fresh → to ≤ length leaves
+    → draft_writes v.disk.bsize psize leaves marks fresh kept es bytes from ++ part
+    ≡ draft_writes v.disk.bsize psize leaves marks fresh kept es bytes to
+    → HasDraft (now j v.unit) v.disk.bsize psize leaves marks fresh kept es bytes from
+    → GoesOn j v.unit v.disk.bsize psize leaves marks fresh kept es bytes from to part
 
 -- ---- the update
 
@@ -121,6 +146,7 @@ pub record IsPutAs (bsize : ℕ) (g : HeldFile) (new : File) : Type 0 where
   pub levels_are : g.entry.levels ≡ levels (fan_of bsize g.entry.format) (length g.tree.leaves)
   pub length_is : g.length ≡ new.length
   pub size_is : g.size ≡ length (stored new.format new.records)
+  pub start_is : g.start ≡ start_of bsize new.format new.records
   pub few : length new.records ≤ most_records
   pub small : length (stored new.format new.records) ≤ most_bytes
   pub each : All (Fits new.format new.length) new.records
@@ -154,5 +180,5 @@ PutIsSmall =
     (j : Journal) (v : HeldVolume) (edit : Edit) (stamp : Stamp) (s : Systems) (g : HeldFile) (marks : List Mark) (new : File)
     (m : Minidisk)
     → IsHeldMinidisk j v m → IsPutReady j v edit stamp s g marks new
-    → written_count (update v.unit (draft_writes v.disk.bsize (pointer_size g.entry.format) g.tree.leaves marks g.tree.pointers
+    → written_count (update v.unit (draft_writes v.disk.bsize (pointer_size g.entry.format) g.tree.leaves marks g.tree.pointers 0 []
     (stored new.format new.records) (length g.tree.leaves) ++ writes_of v s) s.label_bytes) ≤ need m (Put new) + 2

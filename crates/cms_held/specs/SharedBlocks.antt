@@ -1,8 +1,7 @@
 -- The blocks of a tree that an update writes in part: those that it writes and those that it keeps.
-use Rattle.std.specs.Prelude.{◌≡◌, ℕ, ◌<◌, ◌≤◌, true, List, ◌++◌, length, slice_index, All}
-use Rattle.std.specs.List.Sorted.{IsStrictlyIncreasing}
+use Rattle.std.specs.Prelude.{◌≡◌, ℕ, ◌<◌, true, List, ◌++◌, length, slice_index, All}
 use Rattle.cms_model.specs.Lists.{In}
-use Rattle.cms_model.specs.Sharing.{fresh_count, is_kept}
+use Rattle.cms_model.specs.Sharing.{MayBeWritten, fresh_count, is_kept}
 use Rattle.cms_model.specs.SharedTimes.{came, gone, without}
 use Rattle.cms_model.specs.Sizes.{pointer_count}
 use Rattle.cms_model.specs.Trees.{Image}
@@ -44,13 +43,6 @@ released_of fan written old new =
     without (is_kept true 1 (length old.leaves) (length new.leaves) written) 0 old.leaves
     ++ gone fan 1 (length old.leaves) (length new.leaves) written
     (levels_in fan old) (levels_in fan new)
-
--- what may be written of a tree that had so many data blocks: any of its data blocks, ascending and
--- each once, and all that it didn't have
-pub record MayBeWritten (before count : ℕ) (written : List ℕ) : Type 0 where
-  pub ascend : IsStrictlyIncreasing written
-  pub within : (j : ℕ) → In j written → j < count
-  pub grown : (j : ℕ) → before ≤ j → j < count → In j written
 
 -- as many blocks are taken as the numbers of data blocks tell
 abbrev pub FreshIsCounted : Type 0

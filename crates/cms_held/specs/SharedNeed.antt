@@ -1,19 +1,30 @@
 -- What a change needs for the directory is what an update that writes a part of it takes.
-use Rattle.std.specs.Prelude.{◌≡◌, ℕ, ◌+◌, List, length, map, position, slice_get, Some, None}
+use Rattle.std.specs.Prelude.{◌≡◌, ℕ, ◌+◌, List, length, map, position, slice_get, slice_set, Some, None}
 use Rattle.cms_journal.specs.Journal.{Journal}
 use Rattle.cms_names.specs.declared.name.Name.{Name}
 use Rattle.cms_fields.specs.declared.time.Stamp.{Stamp}
-use Rattle.cms_model.specs.Changes.{Change, Put, Add, Drop, Rename, changed_files}
+use Rattle.cms_model.specs.Changes.{Change, Put, Add, Drop, Rename, changed_files, directory_fresh, directory_written}
 use Rattle.cms_model.specs.Minidisks.{File, same_name}
 use Rattle.cms_model.specs.Stands.{Kept, Layout, file_of, minidisk_in}
-use Rattle.cms_held.specs.DirectoryNeed.{directory_fresh, directory_written}
-use Rattle.cms_held.specs.EntryPlaces.{IsEnoughFor}
+use Rattle.cms_held.specs.Allotting.{Parts, files_fresh}
+use Rattle.cms_held.specs.EntryPlaces.{IsChangedAt, IsEnoughFor}
 use Rattle.cms_held.specs.LawsRenewing.{IsHeldAt}
 use Rattle.cms_held.specs.Opening.{HeldFile, HeldVolume, names_in}
 use Rattle.cms_held.specs.Putting.{adding, replacing}
 use Rattle.cms_held.specs.Renewing.{Edit, dropping, entries_held, renaming}
-use Rattle.cms_held.specs.SharedRenewing.{IsPartRenewal, Parts, files_fresh}
+use Rattle.cms_held.specs.SharedRenewing.{IsPartRenewal}
 use Rattle.cms_held.specs.Systems.{Systems}
+
+-- a list of entries is changed in one place where a file goes, where one takes its place, and where one is added
+pub record EditsAt (files : List HeldFile) (place : ℕ) (old new : HeldFile) : Type 0 where
+  pub gone : IsChangedAt (entries_held files) (entries_held (dropping files place old).files) place
+  pub other : IsChangedAt (entries_held files) (entries_held (slice_set files place new)) place
+  pub added : IsChangedAt (entries_held files) (entries_held (adding files new).files)
+      (length files)
+
+abbrev pub EditsHavePlaces : Type 0
+EditsHavePlaces =
+    (files : List HeldFile) (place : ℕ) (old new : HeldFile) → EditsAt files place old new
 
 -- the data blocks of the directory that a change writes are enough for these files
 abbrev pub AreEnough : HeldVolume → Layout → List HeldFile → Change → Type 0

@@ -1,90 +1,21 @@
 -- An update of a volume as it is held that writes a part of its directory and of its map.
-use Rattle.std.specs.Prelude.{◌≡◌, ℕ, ◌+◌, ◌-◌, ◌*◌, ◌/◌, ◌<◌, ◌≤◌, List, ◌∷◌, ◌++◌, length, take, drop, slice_index}
-use Rattle.std.specs.List.{concat}
+use Rattle.std.specs.Prelude.{◌≡◌, ◌+◌, ◌/◌, ◌≤◌, List, ◌++◌, length, take, drop}
 use Rattle.cms_journal.specs.Journal.{Journal}
 use Rattle.cms_names.specs.declared.name.Format.TheVariants.{F}
 use Rattle.cms_fields.specs.Labels.{with_label}
-use Rattle.cms_fields.specs.Numbers.{up}
-use Rattle.cms_fields.specs.declared.entry.Entry.{Entry}
 use Rattle.cms_fields.specs.declared.time.Stamp.{Stamp}
 use Rattle.cms_model.specs.LawsUpdates.{Updates, after, now}
-use Rattle.cms_model.specs.Lists.{In}
 use Rattle.cms_model.specs.Settled.{Apart, Write, frame, update}
-use Rattle.cms_model.specs.Sharing.{fresh_to}
-use Rattle.cms_model.specs.Sizes.{levels, map_size}
+use Rattle.cms_model.specs.Sizes.{map_size}
 use Rattle.cms_model.specs.Stands.{Kept, Layout, opened}
 use Rattle.cms_model.specs.Trees.{Image, form_of}
-use Rattle.cms_map.specs.Bits.{bytes_from, free_blocks, with_marked}
-use Rattle.cms_map.specs.Touched.{AreTouched}
-use Rattle.cms_tree.specs.Paths.{path_levels}
-use Rattle.cms_held.specs.EntryPlaces.{IsEnoughFor, directory_count}
 use Rattle.cms_held.specs.LawsRenewing.{IsHeldAt, LeavesFiles}
-use Rattle.cms_held.specs.MapShares.{turned}
-use Rattle.cms_held.specs.Opening.{HeldTree, HeldVolume}
-use Rattle.cms_held.specs.Renewing.{Edit, entries_held, label_for, renewed, with_freed}
-use Rattle.cms_held.specs.SharedBlocks.{fresh_of, released_of}
+use Rattle.cms_held.specs.Allotting.{IsPartAllotted, Parts, files_fresh}
+use Rattle.cms_held.specs.Opening.{HeldVolume}
+use Rattle.cms_held.specs.Renewing.{Edit, entries_held, label_for, renewed}
 use Rattle.cms_held.specs.SharedTrees.{HasShape, StandsByLevels}
-use Rattle.cms_held.specs.SharedWrites.{leaf_writes, shared_node_writes}
-use Rattle.cms_held.specs.Systems.{Systems, directory_bytes_of}
-
--- which data blocks of the directory and of the map are written
-pub record Parts : Type 0 where
-  pub directory : List ℕ
-  pub map : List ℕ
-
--- ---- the blocks
-
--- those that are taken for files and for the directory, the first block of which has a place of
--- its own
-abbrev pub files_fresh : HeldVolume → Edit → Systems → Parts → List ℕ
-files_fresh v edit s parts =
-    edit.taken ++ drop 1 (fresh_of (v.disk.bsize / 4) parts.directory v.directory s.directory)
-
--- and those that are given back
-abbrev pub files_released : HeldVolume → Edit → Systems → Parts → List ℕ
-files_released v edit s parts =
-    edit.given ++ drop 1 (released_of (v.disk.bsize / 4) parts.directory v.directory s.directory)
-
--- with those of the map
-abbrev pub part_fresh : HeldVolume → Edit → Systems → Parts → List ℕ
-part_fresh v edit s parts =
-    files_fresh v edit s parts ++ fresh_of (v.disk.bsize / 4) parts.map v.map s.map
-
-abbrev pub part_released : HeldVolume → Edit → Systems → Parts → List ℕ
-part_released v edit s parts =
-    files_released v edit s parts ++ released_of (v.disk.bsize / 4) parts.map v.map s.map
-
--- a tree has the data blocks and the pointer blocks of the tree before that are kept, and for the
--- other pointer blocks these numbers in order
-pub record KeepsTree (fan : ℕ) (written : List ℕ) (old new : HeldTree) : Type 0 where
-  pub leaves : (j : ℕ) → j < length new.leaves → (In j written → ⊥)
-      → slice_index new.leaves j ≡ slice_index old.leaves j
-  pub nodes : List ℕ
-  pub count : length nodes
-      ≡ fresh_to fan (length old.leaves) (length new.leaves) written
-      (levels fan (length new.leaves))
-  pub path : new.pointers
-      ≡ concat (path_levels fan (length old.leaves) old.pointers (length new.leaves) written nodes)
-
--- the trees of the directory and of the map are allotted: the directory begins in the other one of
--- blocks 4 and 5; what isn't kept takes the lowest free blocks in order, behind those that are
--- taken for a file; the bits are the map then
-pub record IsPartAllotted (v : HeldVolume) (edit : Edit) (s : Systems) (parts : Parts) :
-    Type 0 where
-  pub origin : s.directory.leaves ≡ (9 - v.label.origin) ∷ drop 1 s.directory.leaves
-  pub directory_is : length s.directory.leaves ≡ directory_count v.disk.bsize (length edit.files)
-  pub map_is : length s.map.leaves ≡ up (up v.label.blocks 8) v.disk.bsize
-  pub directory : KeepsTree (v.disk.bsize / 4) parts.directory v.directory s.directory
-  pub map : KeepsTree (v.disk.bsize / 4) parts.map v.map s.map
-  pub enough : IsEnoughFor v.disk.bsize (entries_held v.files) (entries_held edit.files)
-      parts.directory
-  pub touched : AreTouched v.disk.bsize
-      (turned (length (files_fresh v edit s parts) + map_size v.disk.bsize v.label.blocks) v.bits
-      (files_fresh v edit s parts) (files_released v edit s parts) v.map) parts.map
-  pub lowest : part_fresh v edit s parts
-      ≡ take (length (part_fresh v edit s parts)) (free_blocks v.bits)
-  pub marks : s.bits
-      ≡ with_freed (part_released v edit s parts) (with_marked (part_fresh v edit s parts) v.bits)
+use Rattle.cms_held.specs.SharedWrites.{shared_node_writes}
+use Rattle.cms_held.specs.Systems.{Systems, directory_piece, leaf_writes, map_piece}
 
 -- what is written for an edit, with the label of the new volume
 pub record IsPartPlanned (v : HeldVolume) (edit : Edit) (s : Systems) (parts : Parts) : Type 0 where
@@ -94,14 +25,6 @@ pub record IsPartPlanned (v : HeldVolume) (edit : Edit) (s : Systems) (parts : P
 
 -- ---- the writes
 
--- the bytes of a data block of the directory, and of the map
-abbrev pub directory_piece : ℕ → Systems → List Entry → Stamp → ℕ → List ℕ
-directory_piece bsize s entries stamp j =
-    take bsize (drop (j * bsize) (directory_bytes_of bsize s entries stamp))
-
-abbrev pub map_piece : ℕ → Systems → ℕ → List ℕ
-map_piece bsize s j = bytes_from (j * bsize) bsize s.bits
-
 -- the writes before the label's: the directory's data blocks but its first, its pointer blocks,
 -- the map's data blocks, its pointer blocks, and the directory's first block; of each those that
 -- aren't kept
@@ -110,7 +33,7 @@ part_writes v edit stamp s parts =
     leaf_writes s.directory.leaves (directory_piece v.disk.bsize s (entries_held edit.files) stamp)
     (drop 1 parts.directory)
     ++ (shared_node_writes v.disk.bsize parts.directory v.directory s.directory
-    ++ (leaf_writes s.map.leaves (map_piece v.disk.bsize s) parts.map
+    ++ (leaf_writes s.map.leaves (map_piece v.disk.bsize s.bits) parts.map
     ++ (shared_node_writes v.disk.bsize parts.map v.map s.map
     ++ leaf_writes s.directory.leaves
     (directory_piece v.disk.bsize s (entries_held edit.files) stamp)

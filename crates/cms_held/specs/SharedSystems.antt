@@ -18,7 +18,8 @@ use Rattle.cms_held.specs.LawsRenewing.{IsHeldAt}
 use Rattle.cms_held.specs.Opening.{HeldVolume}
 use Rattle.cms_held.specs.Renewing.{entries_held}
 use Rattle.cms_held.specs.Systems.{IsLaidOut, IsTree, Systems, directory_bytes_of, directory_file, map_file}
-use Rattle.cms_held.specs.EntryPlaces.{HasEntries, IsEnoughFor, directory_count}
+use Rattle.cms_model.specs.DirectoryParts.{directory_count}
+use Rattle.cms_held.specs.EntryPlaces.{HasEntries, IsEnoughFor}
 use Rattle.cms_held.specs.MapPlaces.{BitsStay, SaysMap}
 use Rattle.cms_held.specs.SharedBlocks.{AreLong, SharesBlocks}
 

@@ -22,14 +22,23 @@ pub record HasShape (fan : ℕ) (t : HeldTree) : Type 0 where
   pub few : length t.leaves < 2 ^ 32
   pub nodes : length t.pointers ≡ pointer_count fan (length t.leaves)
 
--- a tree that is read stands so, with its pointer blocks level by level
+-- a tree as it is held has its shape, and stands so
+pub record IsStanding (form : Form) (image : Image) (t : HeldTree) : Type 0 where
+  pub shape : HasShape form.fan t
+  pub stands : StandsByLevels form image t
+
+-- a tree that is read, with its pointer blocks level by level
+abbrev pub read_tree : Form → Image → ℕ → ℕ → ℕ → Met → HeldTree
+read_tree form image k root count met =
+    record { leaves = met.leaves; pointers = concat (tiers form image k root count) }
+
+-- it stands
 abbrev pub ReadStandsByLevels : Type 0
 ReadStandsByLevels =
     (form : Form) (image : Image) (k : ℕ) (first : Option ℕ) (holder root count : ℕ) (met : Met)
     → 2 ≤ form.fan → 1 ≤ count → count < 2 ^ 32 → is_shape form.fan count k ≡ true
     → tree form image k first holder root count ≡ Ok met
-    → StandsByLevels form image
-    (record { leaves = met.leaves; pointers = concat (tiers form image k root count) })
+    → IsStanding form image (read_tree form image k root count met)
 
 -- and one that stands so is read, where its blocks are allowed
 abbrev pub LevelsAreRead : Type 0

@@ -5,22 +5,17 @@ use Rattle.cms_journal.specs.Journal.{IsBlockSize}
 use Rattle.cms_names.specs.declared.name.Format.TheVariants.{F}
 use Rattle.cms_model.specs.Lists.{In}
 use Rattle.cms_model.specs.Settled.{Write}
-use Rattle.cms_model.specs.Sharing.{is_kept}
 use Rattle.cms_model.specs.SharedTiers.{group}
 use Rattle.cms_model.specs.Trees.{Image, form_of}
 use Rattle.cms_tree.specs.Builds.{marked, node_bytes}
 use Rattle.cms_tree.specs.Paths.{path_levels}
 use Rattle.cms_held.specs.Opening.{HeldTree}
-use Rattle.cms_held.specs.SharedBlocks.{MayBeWritten, SharesBlocks, fresh_of, levels_in}
+use Rattle.cms_model.specs.Sharing.{MayBeWritten, is_kept}
+use Rattle.cms_held.specs.SharedBlocks.{SharesBlocks, fresh_of, levels_in}
 use Rattle.cms_held.specs.SharedTrees.{HasShape, SharesTree}
-use Rattle.cms_held.specs.Systems.{HasWritten}
+use Rattle.cms_held.specs.Systems.{HasWritten, leaf_writes}
 
 -- ---- the writes
-
--- those of the data blocks at these places, each with its piece
-abbrev pub leaf_writes : List ℕ → (ℕ → List ℕ) → List ℕ → List Write
-leaf_writes leaves piece written =
-    map (λ j. record { block = slice_index leaves j; bytes = piece j }) written
 
 -- those of the pointer blocks of a level, from a place on, that aren't kept: each points to its
 -- group of the level below

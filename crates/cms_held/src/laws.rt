@@ -1,29 +1,32 @@
 // What holds of every volume that is held.
+ghost use Rattle.cms_held.specs.Adding.{AddIsAnswered, AddIsCarried, AddIsSmall};
 ghost use Rattle.cms_held.specs.Carrying.{LackingIsFull, PlannedIsCarried, UpdateIsSmall};
+ghost use Rattle.cms_held.specs.Growing.{FrontStays, GrowEdits, GrownHolds, GrownIsShared, GrownStarts, OwnIsFresh};
 ghost use Rattle.cms_held.specs.Drafts.{DraftHasAll, DraftHolds, DraftIsPut, DraftStays};
 ghost use Rattle.cms_held.specs.HeldAs.{OpenedHasHeld};
+ghost use Rattle.cms_held.specs.HeldTrees.{OpenedTreesStand};
 ghost use Rattle.cms_held.specs.LawsEdits.{DropEdits, EditIsAnswered, RelabelIsHeld, RenameEdits, RenewedIsChanged};
 ghost use Rattle.cms_held.specs.LawsHeld.{OpenedHasRoom, OpenedIsHeld, PlaceIsTold};
 ghost use Rattle.cms_held.specs.Putting.{DraftGoesOn, FreeIsAside, PutIsAnswered, PutIsCarried, PutIsSmall};
 ghost use Rattle.cms_held.specs.LawsRenewing.{FrontKeepsHeld, UpdateRenews};
 ghost use Rattle.cms_held.specs.Making.{EmptyIsMade, EmptyIsPlaced};
 ghost use Rattle.cms_held.specs.Systems.{MapIsRead, WrittenIsRead};
-ghost use Rattle.cms_held.specs.DirectoryNeed.{DirectoryIsNeeded, PlaceIsNamed};
-ghost use Rattle.cms_held.specs.EntryPlaces.{EditsHavePlaces, EntriesByPlace, PlacesAreEnough};
+ghost use Rattle.cms_held.specs.EntryPlaces.{EntriesByPlace, PlacesAreEnough};
 ghost use Rattle.cms_held.specs.MapPlaces.{MapByPlace, MapIsShared};
 ghost use Rattle.cms_held.specs.MapShares.{TurnedIsEnough};
 ghost use Rattle.cms_held.specs.SharedBlocks.{FreshIsCounted};
-ghost use Rattle.cms_held.specs.SharedNeed.{TakesTheNeed, WrittenIsEnough};
+ghost use Rattle.cms_held.specs.SharedNeed.{EditsHavePlaces, TakesTheNeed, WrittenIsEnough};
 ghost use Rattle.cms_held.specs.SharedRenewing.{PartUpdateIsSmall, PartUpdateRenews};
 ghost use Rattle.cms_held.specs.SharedSystems.{HeldHasSystems, ShareIsRead};
 ghost use Rattle.cms_held.specs.SharedTrees.{LevelsAreRead, ReadStandsByLevels, SharedTreeStands};
 ghost use Rattle.cms_held.specs.SharedWrites.{FreshAreWritten, WrittenIsShared};
 
 /// What opens is held with its trees, and what is held so is the minidisk that it is, with its files and their records in their order;
-/// where each block of its image has its size, it has as many free blocks, and its files are stored so. A name is found in the place
-/// of its file.
+/// where each block of its image has its size, its trees stand level by level, it has as many free blocks, and its files are stored so.
+/// A name is found in the place of its file.
 pub fn held_laws()
     ensures trees { OpenedHasHeld }
+    ensures stand { OpenedTreesStand }
     ensures held { OpenedIsHeld }
     ensures room { OpenedHasRoom }
     ensures place { PlaceIsTold }
@@ -85,13 +88,11 @@ pub fn making_laws()
     ensures made { EmptyIsMade }
 {}
 
-/// An update that writes a part of the directory and of the map, and shares their other blocks with the volume before. No update does so
-/// yet.
+/// An update that writes a part of the directory and of the map, and shares their other blocks with the volume before.
 ///
 /// - An entry of the directory is spelled by the 64 bytes at its place in its data block. Where a file goes, is replaced or is added, the
 ///   entries outside the data block of its place are those that were there; a new data block is that of the new entry.
-/// - What the directory needs is counted from the minidisk's values alone. It is never more than for a whole directory, and as many blocks
-///   are taken for a tree as the numbers of its data blocks tell.
+/// - As many blocks are taken for a tree as the numbers of its data blocks tell.
 /// - The bit of a block stands in one data block of the map. Where those data blocks are written in which the bits of the lowest free
 ///   blocks, of the blocks that are given back and of the old map's stand, no bit outside them changes.
 /// - A unit that is settled at a volume has the directory and the map that are held of it. What was written of them and what was kept are
@@ -100,8 +101,6 @@ pub fn shared_systems_laws()
     ensures entries { EntriesByPlace }
     ensures places { EditsHavePlaces }
     ensures enough { PlacesAreEnough }
-    ensures named { PlaceIsNamed }
-    ensures needed { DirectoryIsNeeded }
     ensures counted { FreshIsCounted }
     ensures bits { MapByPlace }
     ensures map { MapIsShared }
@@ -121,8 +120,7 @@ pub fn shared_tree_laws()
     ensures read { LevelsAreRead }
 {}
 
-/// An update of a volume as it is held that writes a part of its directory and of its map, in place of one that writes both whole: a crash
-/// leaves the old volume or the new one at every moment, and in the end the new one, which is held as the renewed one, with trees that
+/// An update of a volume as it is held that writes a part of its directory and of its map: a crash leaves the old volume or the new one at every moment, and in the end the new one, which is held as the renewed one, with trees that
 /// stand level by level as they did. With what is written for a file it writes at most one block more than it needs, before its label.
 /// The data blocks of the directory that a change writes are enough for its edit, and with these it takes for the directory what the
 /// change needs.
@@ -131,4 +129,26 @@ pub fn shared_renewal_laws()
     ensures small { PartUpdateIsSmall }
     ensures enough { WrittenIsEnough }
     ensures needed { TakesTheNeed }
+{}
+
+/// A file that grows: its full data blocks are kept, and the pointer blocks over these alone. Where all that is written of it stands, and the
+/// tree before stood level by level, its tree shares the kept blocks with that one, and the volume holds it with the records of the file
+/// before and those that were put behind them. Of the blocks of that file those are given back that it doesn't keep, and what a draft writes is
+/// what is taken; among the files of the volume it is the one to which the records are added.
+pub fn growing_laws()
+    ensures shared { GrownIsShared }
+    ensures holds { GrownHolds }
+    ensures own { OwnIsFresh }
+    ensures edits { GrowEdits }
+    ensures stays { FrontStays }
+    ensures begins { GrownStarts }
+{}
+
+/// Records that are added to a file of a volume as it is held: they are refused exactly where the file passes a limit with them or needs more
+/// blocks than are free; and where all that is written of the file stands, the update that was planned for them adds them. All that is
+/// written for them, with the blocks of the file that aren't kept, are at most two blocks more than they need.
+pub fn adding_laws()
+    ensures answered { AddIsAnswered }
+    ensures carried { AddIsCarried }
+    ensures small { AddIsSmall }
 {}

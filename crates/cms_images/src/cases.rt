@@ -2,8 +2,10 @@
 use crate::edits::edited;
 use crate::hello::HELLO;
 use crate::known::{
-    empty, erased, full, long_directory, one_file, put, spanning, two_files, wide_map,
+    empty, erased, full, long_directory, one_file, put, sixteen_files, spanning, two_files,
+    wide_map,
 };
+use crate::new_volume::{Made, formatted};
 use cms_cases::{byte, number};
 use cms_ebcdic::from_host;
 use cms_names::{Name, Part};
@@ -21,6 +23,14 @@ pub fn file_named(text: &str) -> Option<Name> {
     Some(Name { file, kind })
 }
 
+// An empty volume whose map has two data blocks.
+const NEW: Made = Made {
+    bsize: 512,
+    total: 8192,
+    map: 2,
+    pointers: 1,
+};
+
 /// The image of a name; no bytes where none is known by it.
 pub fn image_named(alloc: Global, name: &str) -> Result<Vec<u8>, AllocError> {
     match name {
@@ -34,8 +44,10 @@ pub fn image_named(alloc: Global, name: &str) -> Result<Vec<u8>, AllocError> {
         "hello" => edited(alloc, 9, &[HELLO]),
         "long directory" => long_directory(alloc),
         "long directory on 17" => longer(alloc, 17),
-        "long directory on 18" => longer(alloc, 18),
+        "sixteen files" => sixteen_files(alloc, 28),
+        "sixteen files on 27" => sixteen_files(alloc, 27),
         "wide map" => wide_map(alloc),
+        "new on 8192" => formatted(alloc, &NEW),
         _ => Ok(Vec::new(alloc)),
     }
 }

@@ -260,6 +260,54 @@ pub fn long_directory(alloc: Global) -> Result<Vec<u8>, AllocError>
     Ok(volume)
 }
 
+// The data blocks of a directory of 18 entries.
+const LONGER: [u32; 3] = [4, 7, 8];
+
+// Puts a file into that directory: its entry, behind those of the directory and the map, and its record, in block 10 or behind it.
+fn put_file(image: &mut [u8], place: u8)
+    requires { place < 16 }
+{
+    let letter = if place < 9 {
+        0xC1 + place
+    } else {
+        0xC8 + place
+    };
+    let number = usize::from(place) + 2;
+    let root = 10 + u32::from(place);
+    let block = LONGER[number / 8] as usize;
+    put_entry(image, block, number % 8, &file(letter, root, 0));
+    put(
+        image,
+        root as usize,
+        0,
+        &[0x00, 0x05, 0xC8, 0xC5, 0xD3, 0xD3, 0xD6],
+    );
+}
+
+/// A volume of so many blocks, 25 at least, with the files A to P: the directory in blocks 4, 7 and 8 below the pointer block 9, the data
+/// in blocks 10 to 25.
+pub fn sixteen_files(alloc: Global, blocks: u8) -> Result<Vec<u8>, AllocError> {
+    let mut volume = zeros(alloc, usize::from(blocks))?;
+    let image = volume.as_mut_slice();
+    put_label(image, 4, u32::from(blocks), 25);
+    let own = Row {
+        root: 9,
+        blocks: 3,
+        levels: 1,
+        ..directory(4, 18, 0)
+    };
+    put_entry(image, 4, 0, &own);
+    put_entry(image, 4, 1, &map(6, 0));
+    for place in 0..16_u8 {
+        put_file(image, place);
+    }
+    put(image, 6, 0, &[0xFF, 0xFF, 0xFF, 0x80]);
+    for (place, block) in LONGER.iter().enumerate() {
+        put_number(image, 9, place * 4, *block);
+    }
+    Ok(volume)
+}
+
 /// A volume of 4,112 blocks with A FILE in block 9: the directory in block 4, the map in blocks 6 and 7 below the pointer block 8.
 pub fn wide_map(alloc: Global) -> Result<Vec<u8>, AllocError> {
     let mut volume = zeros(alloc, 4112)?;

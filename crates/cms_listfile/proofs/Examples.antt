@@ -8,8 +8,11 @@ use Rattle.cms_names.specs.Patterns.{fits}
 use Rattle.cms_names.specs.declared.name.Format.TheVariants as format
 use Rattle.cms_text.specs.Numbers.{decimal_of, written}
 use Rattle.cms_text.specs.Texts.{ebcdic}
-use Rattle.cms_model.specs.Changes.{answer_of, changed, changed_files, change_file, file_named, is_full, limit, need, put_file, written_file}
-use Rattle.cms_model.specs.Lists.{same}
+use Rattle.cms_model.specs.Changes.{answer_of, change_file, changed, changed_files, entries_made, file_named, is_full, limit, need, place_named, put_file, written_file}
+use Rattle.cms_model.specs.DirectoryParts.{blocks_with, directory_taken}
+use Rattle.cms_model.specs.Growth.{growth_taken}
+use Rattle.cms_model.specs.Sharing.{any_within, fresh_count, fresh_on, fresh_to, is_kept}
+use Rattle.cms_model.specs.Lists.{same, holds}
 use Rattle.cms_model.specs.Minidisks.{File, Volume, same_name}
 use Rattle.cms_model.specs.Records.{longest}
 use Rattle.cms_model.specs.Sizes.{directory_more, file_size, free_count, map_size, stored_size, tree_size, used_count, levels, levels_from, pointer_count, pointers_to}
@@ -176,7 +179,8 @@ unfolding list_operands operands_of given given_or pattern text_of is_pattern_ch
     options_of options_from
     all_valued valued setting_in last_among ebcdic code_of code_page host_of upper_of character_of tokens_of tokens_from message_of message_text typed_line typing places_from fits
     decimal_of written digits stored_size answer_of limit changed_files written_file is_full free_count used_count directory_more tree_size pointer_count pointers_to levels levels_from
-    map_size need changed file_size
+    map_size need changed
+    place_named entries_made directory_taken blocks_with holds fresh_count fresh_to fresh_on is_kept any_within file_size
     file_named same_name same put_file change_file longest moment
 written_new = (refl, refl)
 
@@ -191,7 +195,8 @@ unfolding list_operands operands_of given given_or pattern text_of is_pattern_ch
     options_of options_from
     all_valued valued setting_in last_among ebcdic code_of code_page host_of upper_of character_of tokens_of tokens_from message_of message_text typed_line typing places_from fits
     decimal_of written digits stored_size answer_of limit changed_files written_file is_full free_count used_count directory_more tree_size pointer_count pointers_to levels levels_from
-    map_size need changed file_size
+    map_size need growth_taken changed
+    place_named entries_made directory_taken blocks_with holds fresh_count fresh_to fresh_on is_kept any_within file_size
     file_named same_name same put_file change_file longest moment
 written_old = (refl, refl, refl)
 
@@ -204,7 +209,8 @@ unfolding list_operands operands_of given given_or pattern text_of is_pattern_ch
     options_of options_from
     all_valued valued setting_in last_among ebcdic code_of code_page host_of upper_of character_of tokens_of tokens_from message_of message_text typed_line typing places_from fits
     decimal_of written digits stored_size answer_of limit changed_files written_file is_full free_count used_count directory_more tree_size pointer_count pointers_to levels levels_from
-    map_size need changed file_size
+    map_size need growth_taken changed
+    place_named entries_made directory_taken blocks_with holds fresh_count fresh_to fresh_on is_kept any_within file_size
     file_named same_name same put_file change_file longest moment
 written_itself = (refl, refl, refl)
 

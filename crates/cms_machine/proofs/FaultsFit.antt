@@ -30,7 +30,7 @@ pub faults_fit : FaultsFitSteps
 faults_fit (Access u slot) = record { read = λ j h. h; sync = in_doubt u slot; old = λ h. h; either = λ side h. h }
 faults_fit (Get u f wanted) = record { read = λ j h. h; sync = λ h. absurd h; old = λ h. h; either = λ side h. h }
 faults_fit (steps.Put u m change stamp) = record {
-  read = λ j h. (h.0, addition change h.1);
+  read = λ j h. (h.0, addition change h.1, changed_by (answer_of m change) h.2);
   sync = λ h. absurd h;
   old = λ h. (changed_by (answer_of m change) h.0, no_relabel change h.1);
   either = λ side h. changed_by (answer_of m change) h;

@@ -52,24 +52,24 @@ syncs_counted u ws label size = record {
 
 -- ---- a change that is refused
 
--- no update is made, so none fails
-only_reads : (change : Change) (answer : Answer) (o : Outcome) → is_taken answer ≡ false → MayPut change answer o → (o ≡ Good) ⊎ (o ≡ ReadFault 0)
-only_reads change answer Good none may = inl refl
-only_reads change answer (ReadFault j) none may = inr (ap ReadFault may.0)
-only_reads change answer SyncFault none may = absurd may
-only_reads change answer OldFault none may = absurd (cc)
-only_reads change answer (EitherFault side) none may = absurd (cc)
+-- nothing is read and no update is made, so none fails
+only_good : (change : Change) (answer : Answer) (o : Outcome) → is_taken answer ≡ false → MayPut change answer o → o ≡ Good
+only_good change answer Good none may = refl
+only_good change answer (ReadFault j) none may = absurd (let taken = may.2 in cc)
+only_good change answer SyncFault none may = absurd may
+only_good change answer OldFault none may = absurd (cc)
+only_good change answer (EitherFault side) none may = absurd (cc)
 
 refused : (m : Minidisk) (change : Change) (answer : Answer) (o : Outcome) → is_taken answer ≡ false
-    → (put_syncs change answer o ≡ 0) × (after_put m answer o ≡ None) × (MayPut change answer o → (o ≡ Good) ⊎ (o ≡ ReadFault 0))
+    → (put_syncs change answer o ≡ 0) × (after_put m answer o ≡ None) × (MayPut change answer o → o ≡ Good)
 refused m change (Changed new) o none = absurd (cc)
-refused m change (Limited k) o none = (refl, refl, only_reads change (Limited k) o none)
-refused m change (Full need free) o none = (refl, refl, only_reads change (Full need free) o none)
+refused m change (Limited k) o none = (refl, refl, only_good change (Limited k) o none)
+refused m change (Full need free) o none = (refl, refl, only_good change (Full need free) o none)
 
 pub refused_is_nothing : RefusedIsNothing
 refused_is_nothing m change o none =
     let all = refused m change (answer_of m change) o none in
-    record { none = all.0; same = all.1; read = all.2 }
+    record { none = all.0; same = all.1; good = all.2 }
 
 -- ---- what the machine knows of a unit
 

@@ -31,11 +31,11 @@ pub record CountsSyncs (u : ℕ) (ws : List Write) (label : List ℕ) (size : �
 abbrev pub SyncsAreCounted : Type 0
 SyncsAreCounted = (u : ℕ) (ws : List Write) (label : List ℕ) (size : ℕ) → CountsSyncs u ws label size
 
--- a change that is refused writes nothing and changes nothing, and no device fault is one of an update
+-- a change that is refused writes nothing and changes nothing, and no device fails
 pub record IsRefused (m : Minidisk) (change : Change) (o : Outcome) : Type 0 where
   pub none : put_syncs change (answer_of m change) o ≡ 0
   pub same : after_put m (answer_of m change) o ≡ None
-  pub read : MayPut change (answer_of m change) o → (o ≡ Good) ⊎ (o ≡ ReadFault 0)
+  pub good : MayPut change (answer_of m change) o → o ≡ Good
 
 -- a change that is refused makes no sync and leaves the unit as before
 abbrev pub RefusedIsNothing : Type 0
@@ -81,7 +81,7 @@ IsMade m change = (new : Minidisk) × (answer_of m change ≡ Changed new)
 abbrev pub MayFailReading : Step → ℕ → Type 0
 MayFailReading (Access u slot) j = j ≡ 0
 MayFailReading (Get u f wanted) j = j ≤ wanted
-MayFailReading (Put u m change stamp) j = (j ≡ 0) × IsAddition change
+MayFailReading (Put u m change stamp) j = (j ≡ 0) × IsAddition change × IsMade m change
 MayFailReading (Wipe u old) j = ⊥
 MayFailReading (Make u old m stamp) j = ⊥
 
@@ -105,7 +105,7 @@ WritesLabel (Put u m change stamp) = IsMade m change
 WritesLabel (Wipe u old) = ⊤
 WritesLabel (Make u old m stamp) = ⊤
 
--- a read fails in an access, a reading and an addition alone; a sync that ends a doubt in an access of a unit in doubt alone; a fault
+-- a read fails in an access, a reading and an addition that isn't refused alone; a sync that ends a doubt in an access of a unit in doubt alone; a fault
 -- leaves the unit as before where new blocks are written before the label, and in doubt where the label is
 pub record FaultsOf (s : Step) : Type 0 where
   pub read : (j : ℕ) → IsOutcome s (ReadFault j) → MayFailReading s j

@@ -72,11 +72,11 @@ MayGet wanted SyncFault = ⊥
 MayGet wanted OldFault = ⊥
 MayGet wanted (EitherFault side) = ⊥
 
--- a change with this answer: where records are added a read may fail; an update may fail only where the change isn't refused,
--- and one that writes nothing but the label can't leave the unit as before
+-- a change with this answer: it may fail only where it isn't refused; where records are added a read may, and an update that writes
+-- nothing but the label can't leave the unit as before
 abbrev pub MayPut : Change → Answer → Outcome → Type 0
 MayPut change answer Good = ⊤
-MayPut change answer (ReadFault j) = (j ≡ 0) × IsTrue (is_add change)
+MayPut change answer (ReadFault j) = (j ≡ 0) × IsTrue (is_add change) × IsTrue (is_taken answer)
 MayPut change answer SyncFault = ⊥
 MayPut change answer OldFault = IsTrue (is_taken answer) × IsTrue (not (is_relabel change))
 MayPut change answer (EitherFault side) = IsTrue (is_taken answer)

@@ -11,7 +11,8 @@ use Rattle.cms_model.specs.Maps.{is_marked, is_used, lowest_unmarked, lost_count
 use Rattle.cms_model.specs.Sizes.{levels_from, levels, pointers_to, pointer_count, tree_size, stored_size, file_size, directory_more, map_size, used_count, free_count}
 use Rattle.cms_model.specs.Sharing.{any_within, is_kept, fresh_on, fresh_to, fresh_count}
 use Rattle.cms_model.specs.Minidisks.{File, Minidisk, same_name}
-use Rattle.cms_model.specs.Changes.{Put, Drop, empty_minidisk, changed_files, written_file, put_file, drop_file, last_first, need, is_full}
+use Rattle.cms_model.specs.DirectoryParts.{blocks_with, directory_taken}
+use Rattle.cms_model.specs.Changes.{Put, Drop, entries_made, place_named, empty_minidisk, changed_files, written_file, put_file, drop_file, last_first, need}
 use Rattle.cms_model.specs.declared.fault.VarFault.TheVariants.{Zero, PastEnd, Left}
 use Rattle.cms_fields.specs.declared.entry.EntryFault.TheVariants as entry_fault
 use Rattle.cms_fields.specs.declared.label.LabelFault.TheVariants as label_fault
@@ -144,7 +145,7 @@ file_of format name size = record {
 
 -- four data blocks, the pointer block over them and a new map; the new directory has one block, which is 4 or 5
 new_file : (need (empty_minidisk [] 512 9) (Put (file_of F 0xC1 2048)) ≡ 6) × (free_count (empty_minidisk [] 512 9) ≡ 3)
-unfolding need written_file changed_files put_file file_size stored_size used_count free_count directory_more map_size tree_size levels levels_from pointer_count pointers_to file_of
+unfolding need written_file changed_files put_file file_size stored_size used_count free_count directory_more map_size tree_size levels levels_from pointer_count pointers_to file_of place_named entries_made directory_taken blocks_with holds fresh_count fresh_to fresh_on is_kept any_within
 new_file = (refl, refl)
 
 -- one file, and two blocks that are lost
@@ -152,7 +153,7 @@ full_disk : Minidisk
 full_disk = record (empty_minidisk [] 512 9) { lost = 2; files = file_of V 0xC1 5 ∷ [] }
 
 no_room_to_erase : (need full_disk (Drop (record { file = 0xC1 ∷ []; kind = 0xC6 ∷ [] })) ≡ 1) × (free_count full_disk ≡ 0)
-unfolding need changed_files drop_file last_first same_name same file_size stored_size used_count free_count directory_more map_size tree_size levels levels_from pointer_count pointers_to file_of
+unfolding need changed_files drop_file last_first same_name same file_size stored_size used_count free_count directory_more map_size tree_size levels levels_from pointer_count pointers_to file_of place_named entries_made directory_taken blocks_with holds fresh_count fresh_to fresh_on is_kept any_within
     full_disk
 no_room_to_erase = (refl, refl)
 

@@ -22,6 +22,7 @@ pub mod FileSizes
 pub mod MinidiskSizes
 pub mod Changing
 pub mod OpenedNames
+pub mod Growth
 pub mod Needing
 pub mod Lookup
 pub mod Standing
@@ -32,5 +33,10 @@ pub mod Sharing
 pub mod ByLevels
 pub mod SharedTiers
 pub mod SharedTimes
+pub mod WrittenBlocks
+pub mod Exchanging
+pub mod DirectoryParts
+pub mod DirectoryNeed
+mod DirectoryRows
 mod Examples
 mod SmallVolume

@@ -1,12 +1,25 @@
 -- What a change needs is what it takes; when a change is made.
-use Rattle.std.proofs.Common.{◌≡◌, ◌⊎◌, inl, inr, ⊎_elim, ℕ, ◌+◌, ◌<◌, ◌≤◌, Bool, true, false, if◌then◌else◌, nat_lt, List, [], ◌∷◌, length, sum_by, Option, Some, None, refl, sym, ◌∙◌, ap, subst, arith}
+use Rattle.std.proofs.Common.{◌≡◌, ◌⊎◌, inl, inr, ⊎_elim, ℕ, zero, suc, ◌+◌, ◌-◌, ◌/◌, ◌<◌, ◌≤◌, Bool, true, false, if◌then◌else◌, nat_lt, List, [], ◌∷◌, ◌++◌, length, sum_by, Option, Some, None, refl, sym, ◌∙◌, ap, subst, arith}
 use Rattle.std.proofs.lemmas.Bool.{cases_Bool, ltb-true, ltb-false, lt-ltb, le-ltb}
 use Rattle.std.proofs.lemmas.List.Sums.{sum_by-cons}
+use Rattle.cms_journal.specs.Journal.{IsBlockSize}
+use Rattle.cms_journal.proofs.Sizes.{block_bounds}
 use Rattle.cms_names.specs.declared.name.Name.{Name}
 use Rattle.cms_model.specs.Minidisks.{File, Minidisk, same_name}
-use Rattle.cms_model.specs.Sizes.{stored_size, file_size, used_count, free_count}
-use Rattle.cms_model.specs.Changes.{Change, Put, Add, Drop, Rename, Relabel, file_named, put_file, added_to, change_file, behind_first, last_first, drop_file, changed_files, changed, written_file, file_need, need, is_full, file_limit, limit, Limited, Full, Changed, answer_of}
+use Rattle.cms_model.specs.Lists.{In}
+use Rattle.cms_model.specs.DirectoryParts.{directory_count, directory_released, directory_taken}
+use Rattle.cms_fields.specs.declared.time.Stamp.{Stamp}
+use Rattle.cms_model.specs.Growth.{growth_given, growth_taken}
+use Rattle.cms_model.specs.LawsRoom.{added_given}
+use Rattle.cms_model.specs.Sharing.{MayBeWritten, fresh_count, fresh_on, fresh_to, released_count}
+use Rattle.cms_model.specs.Sizes.{directory_more, file_size, free_count, levels, pointer_count, stored_size, tree_size, used_count}
+use Rattle.cms_model.specs.Changes.{Change, Put, Add, Drop, Rename, Relabel, added_need, file_named, put_file, added_to, change_file, behind_first, last_first, drop_file, changed_files, changed, written_file, file_need, need, place_named, entries_made, count_after, directory_fresh, directory_written, is_full, file_limit, limit, Limited, Full, Changed, answer_of}
 use Rattle.cms_model.specs.LawsRoom.{NeedIsTaken, IsWithin, Makes, ChangedWhereMade, FullWhereLacking, PassesFirst, Files, Records, Bytes, LimitedWherePassing, RoomIsKept}
+use Rattle.cms_model.proofs.DirectoryNeed.{may_be}
+use Rattle.cms_model.proofs.DirectoryParts.{first_made, some_blocks}
+use Rattle.cms_model.proofs.Exchanging.{size_is_exchanged}
+use Rattle.cms_model.proofs.Growth.{growth_exchanged}
+use Rattle.cms_model.proofs.WrittenBlocks.{leaf_written}
 
 -- the blocks of files
 abbrev sizes : ℕ → List File → ℕ
@@ -51,6 +64,30 @@ change_sizes bsize name edit (f ∷ fs) keeps = go (same_name name f.name) refl 
         let there : sizes bsize (f ∷ change_file name edit fs) + file_need bsize (file_named name fs) ≡ sizes bsize (f ∷ fs) + file_need bsize (file_named name (change_file name edit fs)) =
         (let a = sizes_more bsize f (change_file name edit fs) in let b = sizes_more bsize f fs in omega (arith, a, b, deeper)) in
         rw is there
+
+-- the file to which records are added
+grown_size : (bsize : ℕ) (more : List (List ℕ)) (stamp : Stamp) (f : File) → IsBlockSize bsize
+    → file_size bsize (added_to more stamp f) + growth_given bsize f.format (stored_size f.format f.records) (stored_size f.format (f.records ++ more))
+    ≡ file_size bsize f + growth_taken bsize f.format (stored_size f.format f.records) (stored_size f.format (f.records ++ more))
+unfolding file_size
+grown_size bsize more stamp f size = growth_exchanged bsize f.format (stored_size f.format f.records) (stored_size f.format (f.records ++ more)) size
+
+add_sizes : (bsize : ℕ) (name : Name) (more : List (List ℕ)) (stamp : Stamp) (files : List File) → IsBlockSize bsize
+    → sizes bsize (change_file name (added_to more stamp) files) + added_given bsize more (file_named name files) ≡ sizes bsize files + added_need bsize more (file_named name files)
+unfolding change_file file_named
+add_sizes bsize name more stamp [] size = refl
+add_sizes bsize name more stamp (f ∷ fs) size = go (same_name name f.name) (add_sizes bsize name more stamp fs size)
+  where
+    go : (b : Bool) → sizes bsize (change_file name (added_to more stamp) fs) + added_given bsize more (file_named name fs) ≡ sizes bsize fs + added_need bsize more (file_named name fs)
+        → sizes bsize (if b then added_to more stamp f ∷ fs else f ∷ change_file name (added_to more stamp) fs) + added_given bsize more (if b then Some f else file_named name fs)
+        ≡ sizes bsize (f ∷ fs) + added_need bsize more (if b then Some f else file_named name fs)
+    go true deeper =
+        let grown = grown_size bsize more stamp f size in
+        let a = sizes_more bsize (added_to more stamp f) fs in
+        let b = sizes_more bsize f fs in omega (arith, a, b, grown)
+    go false deeper =
+        let a = sizes_more bsize f (change_file name (added_to more stamp) fs) in
+        let b = sizes_more bsize f fs in omega (arith, a, b, deeper)
 
 last_sizes : (bsize : ℕ) (files : List File) → sizes bsize (last_first files) ≡ sizes bsize files
 unfolding last_first
@@ -98,13 +135,49 @@ rename_sizes bsize from to number (f ∷ fs) = go (same_name from f.name) (renam
 
 -- ---- the blocks of a minidisk
 
+-- the first data block of the tree before is given back where that of the new one is written
+first_released : (before count : ℕ) (written : List ℕ) → In 0 written → 0 < before → 1 ≤ fresh_on true 1 count before written before
+unfolding fresh_on
+first_released zero count written there some = absurd (omega arith)
+first_released (suc k) count written there some = at_least k
+  where
+    at_least : (n : ℕ) → 1 ≤ fresh_on true 1 count (suc k) written (suc n)
+    at_least zero = let off = leaf_written count (suc k) 0 written (omega arith) there in rw off (omega arith)
+    at_least (suc n) = let rest = at_least n in omega arith
+
+-- the blocks of the directory after a change, and those that it gives back, are those before and those that it takes
+directory_exchanged : (m : Minidisk) (change : Change) → IsBlockSize m.bsize → In 0 (directory_written m change)
+    → directory_more m.bsize (count_after m change) + directory_released m.bsize (length m.files) (count_after m change) (entries_made m.files change)
+    ≡ directory_more m.bsize (length m.files) + directory_fresh m change
+unfolding directory_more directory_released directory_taken fresh_count released_count tree_size
+directory_exchanged m change size first =
+    let before = directory_count m.bsize (length m.files) in
+    let count = directory_count m.bsize (count_after m change) in
+    let written = directory_written m change in
+    let wide = (block_bounds m.bsize size).0 in
+    let some = some_blocks m.bsize (length m.files) size in
+    let some' = some_blocks m.bsize (count_after m change) size in
+    let all = exchanged (m.bsize / 4) before count written (omega arith) (may_be m change size) in
+    let one = some_length 0 written first in
+    let gone = first_released before count written first some in
+    omega arith
+  where
+    exchanged : (fan before count : ℕ) (written : List ℕ) → 2 ≤ fan → MayBeWritten before count written
+        → count + pointer_count fan count + (fresh_on true 1 count before written before + fresh_to fan count before written (levels fan before))
+        ≡ before + pointer_count fan before + (length written + fresh_to fan before count written (levels fan count))
+    exchanged fan before count written wide may = size_is_exchanged fan before count written wide may
+
+    some_length : (n : ℕ) (xs : List ℕ) → In n xs → 1 ≤ length xs
+    some_length n [] there = absurd there
+    some_length n (x ∷ xs) there = omega arith
+
 pub need_taken : NeedIsTaken
-unfolding used_count need changed changed_files written_file
-need_taken m (Put new) = let files = put_sizes m.bsize new m.files in omega (arith, files)
-need_taken m (Add name more stamp) = let files = change_sizes m.bsize name (added_to more stamp) m.files (λ f. refl) in omega (arith, files)
-need_taken m (Drop name) = let files = drop_sizes m.bsize name m.files in omega (arith, files)
-need_taken m (Rename from to number) = let files = rename_sizes m.bsize from to number m.files in omega (arith, files)
-need_taken m (Relabel volid) = refl
+unfolding used_count need changed changed_files entries_made written_file
+need_taken m (Put new) size = let files = put_sizes m.bsize new m.files in let directory = directory_exchanged m (Put new) size (first_made m.bsize (count_after m (Put new)) ((place_named new.name m.files + 2) ∷ []) size) in omega (arith, files)
+need_taken m (Add name more stamp) size = let files = add_sizes m.bsize name more stamp m.files size in let directory = directory_exchanged m (Add name more stamp) size (first_made m.bsize (count_after m (Add name more stamp)) ((place_named name m.files + 2) ∷ []) size) in omega (arith, files)
+need_taken m (Drop name) size = let files = drop_sizes m.bsize name m.files in let directory = directory_exchanged m (Drop name) size (first_made m.bsize (count_after m (Drop name)) ((place_named name m.files + 2) ∷ (length m.files - 1 + 2) ∷ []) size) in omega (arith, files)
+need_taken m (Rename from to number) size = let files = rename_sizes m.bsize from to number m.files in let directory = directory_exchanged m (Rename from to number) size (first_made m.bsize (count_after m (Rename from to number)) ((place_named from m.files + 2) ∷ []) size) in omega (arith, files)
+need_taken m (Relabel volid) size = refl
 
 -- ---- when a change is made
 
@@ -264,11 +337,12 @@ limited_where_passing m change k = (
 
 -- ---- room
 
-kept : (m : Minidisk) (change : Change) → used_count m + m.lost ≤ m.total → need m change ≤ free_count m → used_count (changed m change) + (changed m change).lost ≤ (changed m change).total
+kept : (m : Minidisk) (change : Change) → IsBlockSize m.bsize → used_count m + m.lost ≤ m.total → need m change ≤ free_count m
+    → used_count (changed m change) + (changed m change).lost ≤ (changed m change).total
 unfolding free_count changed
-kept m change fits room = let taken = need_taken m change in omega (arith, fits, room, taken)
+kept m change size fits room = let taken = need_taken m change size in omega (arith, fits, room, taken)
 
 pub room_kept : RoomIsKept
-room_kept m new change fits is =
+room_kept m new change size fits is =
     let made = (changed_where_made m new change).0 is in
-    subst (λ (n : Minidisk). used_count n + n.lost ≤ n.total) (sym made.is) (kept m change fits made.room)
+    subst (λ (n : Minidisk). used_count n + n.lost ≤ n.total) (sym made.is) (kept m change size fits made.room)

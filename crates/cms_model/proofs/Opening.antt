@@ -14,7 +14,7 @@ use Rattle.cms_model.specs.Trees.{Image, form_of, tree, bytes_at}
 use Rattle.cms_model.specs.Maps.{lowest_unmarked}
 use Rattle.cms_model.specs.Minidisks.{Minidisk, Volume, Not}
 use Rattle.cms_model.specs.Systems.{directory_of, map_of}
-use Rattle.cms_model.specs.Volumes.{Disk, Opened, IsOpened, disk_of, blamed, absent, open_of, minidisk_of, state_from, state_of, reason, entries_of, first_twice, file_trees, tree_blocks, contents_in}
+use Rattle.cms_model.specs.Volumes.{Disk, Opened, IsOpened, blamed, absent, open_of, minidisk_of, state_from, state_of, reason, entries_of, first_twice, file_trees, tree_blocks, contents_in}
 use Rattle.cms_model.specs.LawsVolumes.{DiskIsLookedAt}
 use Rattle.cms_model.specs.Settled.{frame, Agree}
 use Rattle.cms_model.specs.declared.fault.OpenFault.{OpenFault}

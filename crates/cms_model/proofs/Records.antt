@@ -12,7 +12,7 @@ use Rattle.cms_names.specs.declared.name.Format.TheVariants.{F, V}
 use Rattle.cms_text.specs.Bytes.{half}
 use Rattle.cms_model.specs.Lists.{cut}
 use Rattle.cms_model.specs.Sizes.{stored_size}
-use Rattle.cms_model.specs.Records.{with_length, longest, stored, Fits, HoldRecords, varying, records_of, StandsFor, IsValid}
+use Rattle.cms_model.specs.Records.{with_length, longest, stored, Fits, HoldRecords, varying, records_of, StandsFor}
 use Rattle.cms_model.specs.LawsRecords.{AreBytes, ValidHasRecords}
 use Rattle.cms_model.specs.declared.fault.VarFault.TheVariants.{Zero, PastEnd, Left}
 use Rattle.cms_model.specs.declared.file.FileData.{FileData}

@@ -1,12 +1,11 @@
 -- A tree that shares blocks with one that stood before stands.
-use Rattle.std.proofs.Common.{◌≡◌, ◌⊎◌, inl, inr, ⊎_elim, ℕ, zero, suc, ◌+◌, ◌-◌, ◌*◌, ◌<◌, ◌≤◌, min, Bool, true, false, not, List, [], ◌∷◌, ◌++◌, length, take, drop, get_or, slice_index, refl, sym, ◌∙◌, ap, subst, arith, length-append, mul-le-mul_right, mul_comm, mul_assoc}
-use Rattle.std.specs.Prelude.{◌==◌, ◌&&◌, ◌||◌, nat_le, nat_lt}
-use Rattle.std.proofs.lemmas.Bool.{cases_Bool, cases_lt, and_from, and_parts, eqb-true, eq-eqb}
+use Rattle.std.proofs.Common.{◌≡◌, inl, inr, ⊎_elim, ℕ, zero, suc, ◌+◌, ◌-◌, ◌*◌, ◌<◌, ◌≤◌, min, true, false, not, List, [], ◌∷◌, ◌++◌, length, take, drop, slice_index, refl, sym, ◌∙◌, ap, subst, arith, length-append, mul-le-mul_right, mul_comm, mul_assoc}
+use Rattle.std.specs.Prelude.{◌==◌, ◌&&◌}
+use Rattle.std.proofs.lemmas.Bool.{cases_Bool, cases_lt, and_parts, eqb-true, eq-eqb}
 use Rattle.std.proofs.lemmas.List.{take-append-drop, length-drop, length-take, drop-drop, drop_all}
 use Rattle.cms_fields.specs.Numbers.{up}
-use Rattle.cms_model.specs.Lists.{In}
 use Rattle.cms_model.specs.Trees.{Image, Form, pointers}
-use Rattle.cms_model.specs.Built.{Node, Points}
+use Rattle.cms_model.specs.Built.{Points}
 use Rattle.cms_model.specs.ByLevels.{Heaped}
 use Rattle.cms_model.specs.Sharing.{any_within, is_kept}
 use Rattle.cms_model.specs.SharedTiers.{group, Names, SharedTier, Shared, top_of, SharedStands}

@@ -1,17 +1,17 @@
 -- How often a block stands in a tree that shares blocks with the tree before.
-use Rattle.std.proofs.Common.{◌≡◌, ◌⊎◌, ⊎_elim, ℕ, zero, suc, ◌+◌, ◌*◌, ◌<◌, ◌≤◌, Bool, true, false, if◌then◌else◌, List, [], ◌∷◌, ◌++◌, length, slice_index, refl, sym, ◌∙◌, ap, subst, arith, mul-le-mul_right}
+use Rattle.std.proofs.Common.{◌≡◌, ⊎_elim, ℕ, suc, ◌+◌, ◌*◌, ◌<◌, ◌≤◌, Bool, true, false, if◌then◌else◌, List, [], ◌∷◌, ◌++◌, length, slice_index, refl, sym, ◌∙◌, ap, arith, mul-le-mul_right}
 use Rattle.std.specs.List.{concat}
-use Rattle.std.proofs.lemmas.Bool.{cases_Bool, cases_lt}
+use Rattle.std.proofs.lemmas.Bool.{cases_Bool}
 use Rattle.cms_fields.specs.Numbers.{up}
 use Rattle.cms_model.specs.Lists.{times}
 use Rattle.cms_model.specs.Trees.{Image, Form}
 use Rattle.cms_model.specs.ByLevels.{Heaped}
 use Rattle.cms_model.specs.Sharing.{is_kept, fresh_on}
-use Rattle.cms_model.specs.SharedTiers.{SharedTier, Shared}
+use Rattle.cms_model.specs.SharedTiers.{Shared}
 use Rattle.cms_model.specs.SharedTimes.{without, came, gone, SharedTimes, LeavesTimes, CameIsFresh}
-use Rattle.cms_model.proofs.Quotients.{up_spec, up_up}
+use Rattle.cms_model.proofs.Quotients.{up_up}
 use Rattle.cms_model.proofs.Repeats.{times_append}
-use Rattle.cms_model.proofs.SharedTiers.{Tier, points_tier, kept_parts, lies, lies_back, up_one, never_kept}
+use Rattle.cms_model.proofs.SharedTiers.{points_tier, kept_parts, lies, lies_back, up_one, never_kept}
 
 -- ---- the rest of a list
 

@@ -1,11 +1,11 @@
 -- Trees that share blocks with the tree before.
-use Rattle.std.proofs.Common.{◌≡◌, ◌⊎◌, inl, inr, ⊎_elim, ℕ, zero, suc, ◌+◌, ◌-◌, ◌*◌, ◌^◌, ◌<◌, ◌≤◌, min, Bool, true, false, not, if◌then◌else◌, List, [], ◌∷◌, length, refl, sym, ◌∙◌, ap, subst, arith, mul-le-mul_right}
+use Rattle.std.proofs.Common.{◌≡◌, inl, inr, ⊎_elim, ℕ, zero, suc, ◌+◌, ◌-◌, ◌*◌, ◌^◌, ◌<◌, ◌≤◌, min, Bool, true, false, not, if◌then◌else◌, List, [], ◌∷◌, length, refl, sym, ◌∙◌, ap, subst, arith, mul-le-mul_right}
 use Rattle.std.specs.Prelude.{◌==◌, ◌&&◌, ◌||◌, nat_le, nat_lt}
 use Rattle.std.proofs.Math.Nat.{one-le-pow}
-use Rattle.std.proofs.lemmas.Bool.{cases_Bool, cases_lt, and_from, and_parts, or_parts, le-leb, lt-ltb, leb-true, ltb-true, eqb-true, eq-eqb}
+use Rattle.std.proofs.lemmas.Bool.{cases_Bool, cases_lt, and_from, and_parts, le-leb, lt-ltb, leb-true, ltb-true, eqb-true, eq-eqb}
 use Rattle.cms_fields.specs.Numbers.{up}
 use Rattle.cms_model.specs.Lists.{In}
-use Rattle.cms_model.specs.Sizes.{levels_from, levels, pointers_to, pointer_count, tree_size}
+use Rattle.cms_model.specs.Sizes.{levels, pointers_to, pointer_count, tree_size}
 use Rattle.cms_model.specs.Sharing.{any_within, is_kept, fresh_on, fresh_to, fresh_count, AllIsWhole, TakesNoMore, BehindIsWritten}
 use Rattle.cms_model.proofs.Quotients.{up_spec}
 
@@ -80,7 +80,7 @@ all_is_whole fan before count written wide all = ap (λ (n : ℕ). length writte
 -- ---- no more than before and what is written
 
 -- a block that is kept was there
-kept_inside : (had : Bool) (size before count : ℕ) (written : List ℕ) (m : ℕ) → 1 ≤ size → suc m ≤ up count size → is_kept had size before count written m ≡ true → (had ≡ true) × (m < up before size)
+pub kept_inside : (had : Bool) (size before count : ℕ) (written : List ℕ) (m : ℕ) → 1 ≤ size → suc m ≤ up count size → is_kept had size before count written m ≡ true → (had ≡ true) × (m < up before size)
 unfolding is_kept
 kept_inside had size before count written m some few is =
     let high = (up_spec count size some).1 in

@@ -18,7 +18,9 @@ use Rattle.cms_model.specs.Systems.{system_fields, is_system, is_directory, is_m
 use Rattle.cms_model.specs.Volumes.{Disk, entries_of, first_twice, file_trees, blocks_of, contents_in, open_of, files_of, minidisk_of, reason, state_of}
 use Rattle.cms_model.specs.Sizes.{levels_from, levels, pointers_to, pointer_count, tree_size, stored_size, file_size, directory_more, map_size, used_count, free_count}
 use Rattle.cms_model.specs.declared.fault.OpenFault.TheVariants as failed
-use Rattle.cms_model.specs.Changes.{Put, Drop, put_file, last_first, drop_file, changed_files, written_file, need, is_full, limit, Full, Changed, answer_of, changed}
+use Rattle.cms_model.specs.DirectoryParts.{blocks_with, directory_taken}
+use Rattle.cms_model.specs.Sharing.{any_within, fresh_count, fresh_on, fresh_to, is_kept}
+use Rattle.cms_model.specs.Changes.{Put, Drop, entries_made, place_named, put_file, last_first, drop_file, changed_files, written_file, need, is_full, limit, Full, Changed, answer_of, changed}
 
 -- ---- the image: blocks of 512 bytes, of which the zeros at the end are left out
 
@@ -115,6 +117,6 @@ free_block = (refl, refl)
 dropped : (answer_of (minidisk 0) (Drop (record { file = 0xC1 ∷ []; kind = 0xC2 ∷ [] }))
     ≡ Changed (record { volid = 0xC4 ∷ 0xC9 ∷ 0xE2 ∷ 0xD2 ∷ 0xF1 ∷ 0x40 ∷ []; bsize = 512; total = 8; lost = 0; files = [] }))
     × (answer_of (minidisk 1) (Drop (record { file = 0xC1 ∷ []; kind = 0xC2 ∷ [] })) ≡ Full 1 0)
-unfolding answer_of limit is_full need changed changed_files drop_file last_first written_file same_name same used_count free_count directory_more map_size file_size stored_size tree_size levels
+unfolding answer_of limit is_full need changed changed_files drop_file last_first written_file same_name same used_count free_count directory_more map_size file_size stored_size tree_size levels place_named entries_made directory_taken blocks_with holds fresh_count fresh_to fresh_on is_kept any_within
     levels_from pointer_count pointers_to minidisk file noon
 dropped = (refl, refl)

@@ -1,11 +1,13 @@
 -- Changes of a minidisk, and when there is no room for one.
-use Rattle.std.specs.Prelude.{ℕ, ◌+◌, Bool, if◌then◌else◌, nat_lt, List, [], ◌∷◌, ◌++◌, length, Option, Some, None}
+use Rattle.std.specs.Prelude.{ℕ, suc, ◌+◌, ◌-◌, Bool, if◌then◌else◌, nat_lt, List, [], ◌∷◌, ◌++◌, length, Option, Some, None}
 use Rattle.cms_names.specs.declared.name.Name.{Name}
 use Rattle.cms_fields.specs.declared.time.Stamp.{Stamp}
 use Rattle.cms_fields.specs.Limits.{most_records, most_bytes, most_files}
 use Rattle.cms_model.specs.Records.{length_of}
 use Rattle.cms_model.specs.Minidisks.{File, Minidisk, same_name}
-use Rattle.cms_model.specs.Sizes.{stored_size, file_size, directory_more, map_size, free_count}
+use Rattle.cms_model.specs.DirectoryParts.{blocks_made, directory_taken}
+use Rattle.cms_model.specs.Growth.{growth_taken}
+use Rattle.cms_model.specs.Sizes.{stored_size, file_size, map_size, free_count}
 
 -- Put: a whole file. Add: more records of a file, and its stamp. Drop: a file goes. Rename: from, to and the new mode
 -- number. Relabel: the new volume id.
@@ -78,20 +80,52 @@ written_file m (Drop name) = None
 written_file m (Rename from to number) = None
 written_file m (Relabel volid) = None
 
--- the blocks of the new directory, but for its first, and of the new map
-abbrev pub system_need : Minidisk → Change → ℕ
-system_need m change = directory_more m.bsize (length (changed_files m.files change)) + map_size m.bsize m.total
-
 -- the blocks that a new file needs
 abbrev pub file_need : ℕ → Option File → ℕ
 file_need bsize None = 0
 file_need bsize (Some f) = file_size bsize f
 
+-- and those that a file needs to which these records are added
+abbrev pub added_need : ℕ → List (List ℕ) → Option File → ℕ
+added_need bsize more None = 0
+added_need bsize more (Some f) =
+    growth_taken bsize f.format (stored_size f.format f.records) (stored_size f.format (f.records ++ more))
+
+-- the place of the file of a name, from 0; where none has it, that behind the last
+unfoldable pub place_named : Name → List File → ℕ
+place_named name [] = 0
+place_named name (f ∷ fs) = if same_name name f.name then 0 else suc (place_named name fs)
+
+-- the numbers of the directory's entries that a change makes anew: its own, that of the changed file, and where a file goes that of the
+-- last, which takes its place
+unfoldable pub entries_made : List File → Change → List ℕ
+entries_made files (Put new) = 0 ∷ (place_named new.name files + 2) ∷ []
+entries_made files (Add name more stamp) = 0 ∷ (place_named name files + 2) ∷ []
+entries_made files (Drop name) = 0 ∷ (place_named name files + 2) ∷ (length files - 1 + 2) ∷ []
+entries_made files (Rename from to number) = 0 ∷ (place_named from files + 2) ∷ []
+entries_made files (Relabel volid) = []
+
+-- how many files there are after a change
+abbrev pub count_after : Minidisk → Change → ℕ
+count_after m change = length (changed_files m.files change)
+
+-- the data blocks of the directory that a change writes: those in which these entries stand
+abbrev pub directory_written : Minidisk → Change → List ℕ
+directory_written m change = blocks_made m.bsize (count_after m change) (entries_made m.files change)
+
+-- the free blocks that it needs for the directory, of which it writes these data blocks alone, but for the first
+abbrev pub directory_fresh : Minidisk → Change → ℕ
+directory_fresh m change = directory_taken m.bsize (length m.files) (count_after m change) (entries_made m.files change)
+
+-- and with those of the map, which is charged whole
+abbrev pub system_need : Minidisk → Change → ℕ
+system_need m change = directory_fresh m change + map_size m.bsize m.total
+
 -- the free blocks that a change needs
 unfoldable pub need : Minidisk → Change → ℕ
 need m (Relabel volid) = 0
 need m (Put new) = file_need m.bsize (written_file m (Put new)) + system_need m (Put new)
-need m (Add name more stamp) = file_need m.bsize (written_file m (Add name more stamp)) + system_need m (Add name more stamp)
+need m (Add name more stamp) = added_need m.bsize more (file_named name m.files) + system_need m (Add name more stamp)
 need m (Drop name) = system_need m (Drop name)
 need m (Rename from to number) = system_need m (Rename from to number)
 

@@ -1,25 +1,57 @@
 -- What follows for the room that a change needs, and for the answer to it.
-use Rattle.std.specs.Prelude.{◌≡◌, ◌↔◌, ℕ, ◌+◌, ◌<◌, ◌≤◌, length, Some}
+use Rattle.std.specs.Prelude.{◌≡◌, ◌↔◌, ℕ, ◌+◌, ◌<◌, ◌≤◌, List, ◌++◌, length, Option, None, Some}
+use Rattle.cms_journal.specs.Journal.{IsBlockSize}
+use Rattle.cms_names.specs.declared.name.Name.{Name}
 use Rattle.cms_fields.specs.Limits.{most_records, most_bytes, most_files}
 use Rattle.cms_model.specs.Minidisks.{File, Minidisk}
 use Rattle.cms_model.specs.Sizes.{stored_size, directory_more, map_size, used_count, free_count}
-use Rattle.cms_model.specs.Changes.{Change, Put, Add, Drop, Rename, Relabel, file_named, changed, written_file, file_need, need, Limited, Full, Changed, answer_of}
+use Rattle.cms_model.specs.Changes.{Change, Put, Add, Drop, Rename, Relabel, file_named, changed, written_file, file_need, need, place_named, entries_made, count_after, directory_written, directory_fresh, Limited, Full, Changed, answer_of}
+use Rattle.cms_model.specs.DirectoryParts.{directory_count, directory_released}
+use Rattle.cms_model.specs.Growth.{growth_given}
+use Rattle.cms_model.specs.LawsChanges.{IsPlace, NoneNamed}
+use Rattle.cms_model.specs.Sharing.{MayBeWritten}
 
--- the blocks of the directory, but for its first, and of the map
-abbrev pub system_size : Minidisk → ℕ
-system_size m = directory_more m.bsize (length m.files) + map_size m.bsize m.total
+-- the place of a name is that of its file, or behind the last
+pub record IsPlaceNamed (name : Name) (files : List File) : Type 0 where
+  pub found : (k : ℕ) → IsPlace name files k → place_named name files ≡ k
+  pub none : NoneNamed name files → place_named name files ≡ length files
 
--- the blocks that a change gives back: of the directory and the map, which it writes anew, and of the file that it writes anew or drops
+abbrev pub PlaceIsNamed : Type 0
+PlaceIsNamed = (name : Name) (files : List File) → IsPlaceNamed name files
+
+-- the data blocks of the directory that a change writes may be written, and no more is needed than for a whole directory
+pub record IsNeeded (m : Minidisk) (change : Change) : Type 0 where
+  pub may : MayBeWritten (directory_count m.bsize (length m.files))
+      (directory_count m.bsize (count_after m change)) (directory_written m change)
+  pub few : directory_fresh m change ≤ directory_more m.bsize (count_after m change)
+
+abbrev pub DirectoryIsNeeded : Type 0
+DirectoryIsNeeded = (m : Minidisk) (change : Change) → IsBlockSize m.bsize → IsNeeded m change
+
+-- the blocks of the directory that a change gives back, and those of the map, as many as it is charged for
+abbrev pub system_given : Minidisk → Change → ℕ
+system_given m change = directory_released m.bsize (length m.files) (count_after m change) (entries_made m.files change)
+    + map_size m.bsize m.total
+
+-- the blocks that a file gives back to which these records are added
+abbrev pub added_given : ℕ → List (List ℕ) → Option File → ℕ
+added_given bsize more None = 0
+added_given bsize more (Some f) =
+    growth_given bsize f.format (stored_size f.format f.records) (stored_size f.format (f.records ++ more))
+
+-- the blocks that a change gives back: of the directory and the map, of which it writes a part anew, and of the file that it writes anew,
+-- to which it adds records, or which it drops
 abbrev pub given_back : Minidisk → Change → ℕ
-given_back m (Put new) = file_need m.bsize (file_named new.name m.files) + system_size m
-given_back m (Add name more stamp) = file_need m.bsize (file_named name m.files) + system_size m
-given_back m (Drop name) = file_need m.bsize (file_named name m.files) + system_size m
-given_back m (Rename from to number) = system_size m
+given_back m (Put new) = file_need m.bsize (file_named new.name m.files) + system_given m (Put new)
+given_back m (Add name more stamp) = added_given m.bsize more (file_named name m.files) + system_given m (Add name more stamp)
+given_back m (Drop name) = file_need m.bsize (file_named name m.files) + system_given m (Drop name)
+given_back m (Rename from to number) = system_given m (Rename from to number)
 given_back m (Relabel volid) = 0
 
 -- what a change needs is what it takes: the blocks in use after it are those before, and these, without those that it gives back
 abbrev pub NeedIsTaken : Type 0
-NeedIsTaken = (m : Minidisk) (change : Change) → used_count (changed m change) + given_back m change ≡ used_count m + need m change
+NeedIsTaken = (m : Minidisk) (change : Change) → IsBlockSize m.bsize
+    → used_count (changed m change) + given_back m change ≡ used_count m + need m change
 
 -- a file within the limits of a directory entry
 pub record IsWithin (f : File) : Type 0 where
@@ -64,5 +96,5 @@ LimitedWherePassing = (m : Minidisk) (change : Change) (k : ℕ) → (answer_of 
 
 -- a minidisk that has room for what it has in use and for its lost blocks has it after each change that isn't refused
 abbrev pub RoomIsKept : Type 0
-RoomIsKept = (m new : Minidisk) (change : Change) → used_count m + m.lost ≤ m.total → answer_of m change ≡ Changed new
+RoomIsKept = (m new : Minidisk) (change : Change) → IsBlockSize m.bsize → used_count m + m.lost ≤ m.total → answer_of m change ≡ Changed new
     → used_count new + new.lost ≤ new.total

@@ -6,6 +6,9 @@ pub mod Minidisks
 pub mod Systems
 pub mod Volumes
 pub mod Sizes
+pub mod Sharing
+pub mod DirectoryParts
+pub mod Growth
 pub mod Changes
 pub mod Settled
 pub mod LawsRecords
@@ -18,7 +21,6 @@ pub mod LawsChanges
 pub mod LawsRoom
 pub mod LawsLookup
 pub mod Stands
-pub mod Sharing
 pub mod ByLevels
 pub mod SharedTiers
 pub mod SharedTimes

@@ -4,14 +4,14 @@ ghost use Rattle.cms_model.specs.ByLevels.{ReadIsHeaped};
 ghost use Rattle.cms_model.specs.LawsChanges.{NamesAreTold, NamesStayDistinct, NoneIsAdded, OpenedAreDistinct, PlaceIsChanged, PlaceIsFound};
 ghost use Rattle.cms_model.specs.LawsLookup.{ChangedIsFound, OthersStay, RestIsLeft};
 ghost use Rattle.cms_model.specs.LawsRecords.{FixedAreCut, StandsForOne, StoredHasSize, ValidHasRecords, VaryingAreRead};
-ghost use Rattle.cms_model.specs.LawsRoom.{ChangedWhereMade, FullWhereLacking, LimitedWherePassing, NeedIsTaken, RoomIsKept};
+ghost use Rattle.cms_model.specs.LawsRoom.{ChangedWhereMade, DirectoryIsNeeded, FullWhereLacking, LimitedWherePassing, NeedIsTaken, PlaceIsNamed, RoomIsKept};
 ghost use Rattle.cms_model.specs.LawsSizes.{BlocksAreShared};
 ghost use Rattle.cms_model.specs.LawsTrees.{FirstIsFixed, LeavesAreBlocks, OnlyItsPointers, PointersAreRead, ShapeIsLeast, TreeHasSize, TreeIsWithin, TreeRestsOnItsBlocks};
 ghost use Rattle.cms_model.specs.LawsUpdates.{AfterIsTold, ApartIsKept, AsideIsAsBefore, FrontsOfUpdate, KeepsOld, KeepsWiped, MakeIsWhole, RelabelIsWhole, SettledIsFirm, SyncSettles, UntouchedStarts, UpdateIsAside, UpdateIsPut, UpdateIsWhole, WipeIsWhole, WipedIsNone};
 ghost use Rattle.cms_model.specs.LawsVolumes.{DiskIsLookedAt, NoLabelIsNone, OpenedIsInOrder, OpensWhereHeld, RestsOnFrame, StateIsMinidisk};
 ghost use Rattle.cms_model.specs.SharedTiers.{SharedStands};
 ghost use Rattle.cms_model.specs.SharedTimes.{CameIsFresh, LeavesTimes, SharedTimes};
-ghost use Rattle.cms_model.specs.Sharing.{AllIsWhole, BehindIsWritten, TakesNoMore};
+ghost use Rattle.cms_model.specs.Sharing.{AllIsWhole, BehindIsWritten, SizeIsExchanged, TakesItsSize, TakesNoMore};
 ghost use Rattle.cms_model.specs.Stands.{OpenedIsMinidisk, OpenedStands, RenewedStands, StandsOpens};
 
 /// Records and the bytes that hold them: what is joined is cut again, and a valid file has at least one.
@@ -40,10 +40,12 @@ pub fn tree_laws()
 ///
 /// - Where all data blocks are written nothing is kept, and a tree has no more blocks than it had and those that are written anew.
 /// - A tree that is read stands level by level, and one that keeps blocks of it stands with their bytes.
-/// - It has the blocks of the tree before, without those that it leaves out and with those that it takes.
+/// - It has the blocks of the tree before, without those that it leaves out and with those that it takes: no more than its size.
 pub fn sharing_laws()
     ensures whole { AllIsWhole }
     ensures room { TakesNoMore }
+    ensures exchanged { SizeIsExchanged }
+    ensures few { TakesItsSize }
     ensures behind { BehindIsWritten }
     ensures read { ReadIsHeaped }
     ensures stands { SharedStands }
@@ -99,10 +101,14 @@ pub fn lookup_laws()
 /// The room that a change needs.
 ///
 /// - What it needs is what it takes: the blocks in use after it are those before, and these, without those that it gives back.
+/// - For the directory it is counted by the data blocks in which the entries stand that it makes anew, and is never more than for a whole
+///   directory.
 /// - It is made exactly where it passes no limit and there is room, and full exactly where it passes none and there isn't.
 /// - A limit is told exactly where it is the first that the change passes.
 /// - A minidisk that has room for what it holds has it after each change that is made.
 pub fn room_laws()
+    ensures named { PlaceIsNamed }
+    ensures needed { DirectoryIsNeeded }
     ensures need { NeedIsTaken }
     ensures made { ChangedWhereMade }
     ensures full { FullWhereLacking }

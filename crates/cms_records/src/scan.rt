@@ -97,6 +97,8 @@ impl VarScan {
         ensures told { (count : ℕ) (bytes : List ℕ) → IsFed count bytes self.now → result ≡ sizes_in self.now.bsize count bytes }
         ensures longest { IfOk result (λ sizes. sizes.longest ≤ longest_record) }
         ensures stored { IfOk result (λ sizes. sizes.stored ≤ most_bytes) }
+        ensures high { IfOk result (λ sizes. sizes.stored ≤ self.now.fed) }
+        ensures low { IfOk result (λ sizes. self.now.fed < sizes.stored + self.now.bsize) }
     {
         if self.left > 0 {
             return Err(VarFault::PastEnd(self.place));

@@ -26,3 +26,4 @@ pub mod Seating
 pub mod Sure
 pub mod Accesses
 pub mod Updating
+pub mod Drafted

@@ -1,5 +1,5 @@
 -- An update of a file of the disk of a letter, as a step of a command.
-use Rattle.std.proofs.Common.{◌≡◌, inl, inr, ⊎_elim, ◌∙◌, ℕ, List, [], ◌∷◌, Option, Some, Result, Ok, Err, refl, sym, ap, subst, slice_get}
+use Rattle.std.proofs.Common.{◌≡◌, inl, ⊎_elim, ◌∙◌, ℕ, List, [], ◌∷◌, Option, Some, Result, Err, refl, sym, ap, subst, slice_get}
 use Rattle.std.specs.Prelude.{⊤, IfSome, None, option_map}
 use Rattle.std.specs.Option.{IsSome, unwrap_or}
 use Rattle.cms_journal.specs.Causes.{Counted}
@@ -15,11 +15,12 @@ use Rattle.cms_machine.specs.Acts.{Act}
 use Rattle.cms_machine.specs.Runs.{Ran}
 use Rattle.cms_machine.specs.Slots.{Settled, Slot}
 use Rattle.cms_machine.specs.Steps.{OldFault, Outcome, ReadFault, after_put, faults_in}
-use Rattle.cms_disk.specs.Changing.{Alters, Appends, Changes, Kept, Unread}
+use Rattle.cms_disk.specs.Changing.{Appends, Changes, Kept, Unread}
 use Rattle.cms_disk.specs.Disks.{Accessed}
 use Rattle.cms_disk.specs.declared.fault.DiskFault.{DiskFault}
 use Rattle.cms_disk.specs.declared.fault.DiskFault.TheVariants as failed
 use Rattle.cms_disk.specs.declared.unit.UnitInfo.{UnitInfo}
+use Rattle.cms_disk.proofs.Adding.{appends_of}
 use Rattle.cms_disk.proofs.Standing.{minidisk_same}
 use Rattle.cms_world.specs.Seen.{Seen}
 use Rattle.cms_search.specs.Calls.{Comes, Spot, Usable, at, holds, machine_of}
@@ -69,21 +70,7 @@ updated_so old mid n s change stamp r there when does state =
       state = state;
     }
 
--- a change that is made at once is one of those that may read first
-pub appends_of : (old new : Told) (d e : Accessed) (m : Minidisk) (change : Change) (stamp : Stamp) (r : Result ⊤ DiskFault)
-    → Alters old new d e m change stamp r → Appends old new d e m change stamp r
-appends_of old new d e m change stamp (Ok x) is = is
-appends_of old new d e m change stamp (Err failed.NotFound) is = is
-appends_of old new d e m change stamp (Err failed.Exists) is = is
-appends_of old new d e m change stamp (Err failed.ReadOnly) is = is
-appends_of old new d e m change stamp (Err failed.Device) is = inr is
-appends_of old new d e m change stamp (Err failed.InDoubt) is = is
-appends_of old new d e m change stamp (Err failed.Altered) is = is
-appends_of old new d e m change stamp (Err (failed.Limit k)) is = is
-appends_of old new d e m change stamp (Err (failed.Full need free)) is = is
-appends_of old new d e m change stamp (Err failed.Memory) is = is
-
--- so is what came of a change that is made at once
+-- what came of a change that is made at once
 pub changed_so : (before now : Seen) (t t' : Accesses) (n : ℕ) (s : Seated) (change : Change) (stamp : Stamp) (r : Result ⊤ DiskFault) → ChangesSeat before now t t' n s change stamp r
     → UpdatesSeat before now t t' n s change stamp r
 changed_so before now t t' n s change stamp r c = record {

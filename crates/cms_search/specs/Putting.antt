@@ -12,9 +12,10 @@ use Rattle.cms_model.specs.declared.file.FileData.{FileData}
 use Rattle.cms_machine.specs.Slots.{Slot}
 use Rattle.cms_held.specs.Opening.{HeldVolume}
 use Rattle.cms_world.specs.Seen.{Seen}
+use Rattle.cms_disk.specs.Additions.{FitsFile}
 use Rattle.cms_disk.specs.Changing.{Appends, ChangesDisk}
 use Rattle.cms_disk.specs.Disks.{Accessed, IsLookedAt, IsMinidisk, IsReadable, place_of}
-use Rattle.cms_disk.specs.Drafts.{FitsFile, file_with, shape_of}
+use Rattle.cms_disk.specs.Drafts.{file_with, shape_of}
 use Rattle.cms_disk.specs.declared.fault.DiskFault.{DiskFault}
 use Rattle.cms_search.specs.Calls.{Spot, holds}
 use Rattle.cms_search.specs.Searches.{item_at}

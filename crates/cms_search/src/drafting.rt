@@ -5,7 +5,7 @@ ghost use Rattle.cms_fields.specs.Stamps.{is_stamp};
 ghost use Rattle.cms_world.specs.Seen.{seen};
 ghost use Rattle.cms_edf.specs.FileDrafts.{CanDraft};
 ghost use Rattle.cms_disk.specs.Drafts.{IsFull};
-ghost use Rattle.cms_search.specs.Drafting.{CommitsSeat, CommitsTo, DraftsSeat, MayCommit};
+ghost use Rattle.cms_search.specs.Drafting.{CommitsSeat, CommitsTo, DraftsMoreSeat, DraftsSeat, MayCommit, MayDraftMore};
 ghost use Rattle.cms_search.specs.Searches.{item_at};
 
 use crate::table::Table;
@@ -41,6 +41,29 @@ impl Table {
     {
         match &mut self.seats[letter as usize] {
             Some(seat) => seat.disk.draft(alloc, name, shape, stamp),
+            None => Err(DiskFault::Memory),
+        }
+    }
+
+    /// Plans the addition of records to a file of the disk of an accessed letter, as `Minidisk`'s call does. Nothing is written, and the
+    /// disk stays as it is.
+    pub fn draft_more<W: World>(
+        &mut self,
+        alloc: Global,
+        world: &mut W,
+        letter: u8,
+        name: &Name,
+        shape: &DraftShape,
+        stamp: &Stamp,
+    ) -> Result<Draft, DiskFault>
+        requires accessed { IsSome (item_at self.old.seats letter) }
+        requires may { ForSome (item_at self.old.seats letter) (λ s. MayDraftMore (W.told world.old) s.disk name.now shape.now) }
+        requires stamp { is_stamp stamp.now ≡ true }
+        ensures { IfSome (item_at self.old.seats letter) (λ s. DraftsMoreSeat (seen W.World world.old) (seen W.World world.new)
+            self.old self.new letter s name.now shape.now stamp.now result) }
+    {
+        match &mut self.seats[letter as usize] {
+            Some(seat) => seat.disk.draft_more(alloc, world, name, shape, stamp),
             None => Err(DiskFault::Memory),
         }
     }

@@ -484,6 +484,139 @@ fn files_are_copied(rt: HostRuntime) -> Result<(), Fail> {
     check_sessions(rt.alloc(), REFUSED)
 }
 
+// Files that grow. A file of 300 records of one block each has 304 blocks; one more takes a data block, two pointer blocks and a map, and
+// where only three are free it is refused. A record of 21,502 bytes fills 42 data blocks, over which one pointer block is full; behind it
+// three blocks are taken, and that one is kept.
+const GROWN: &str = "# new: 191,512,n320,A
+> FORMAT 191 A
+CMS603R FORMAT will erase all files on disk A (191). Go on? Enter YES or NO
+> YES
+CMS605R Enter disk label
+> GROWN1
+CMS733I 320 blocks formatted on A (191)
+R;
+> EXECIO 1 DISKW S FILE A (STRING ONE
+R;
+> COPYFILE S FILE A BIG FILE A (RECFM F LRECL 512
+R;
+> ERASE S FILE A
+R;
+> COPYFILE BIG FILE A BIG FILE A (APPEND
+R;
+> COPYFILE BIG FILE A BIG FILE A (APPEND
+R;
+> COPYFILE BIG FILE A BIG FILE A (APPEND
+R;
+> COPYFILE BIG FILE A BIG FILE A (APPEND
+R;
+> COPYFILE BIG FILE A BIG FILE A (APPEND
+R;
+> COPYFILE BIG FILE A BIG FILE A (APPEND
+R;
+> COPYFILE BIG FILE A BIG FILE A (APPEND
+R;
+> COPYFILE BIG FILE A BIG FILE A (APPEND
+R;
+> COPYFILE BIG FILE A BIG FILE A (APPEND FOR 44
+R;
+> QUERY DISK A
+LABEL  VDV M STA BLKSZ  FILES     USED     FREE    TOTAL
+GROWN1 191 A R/W   512      1      310       10      320
+R;
+> EXECIO 1 DISKW BIG FILE A (STRING TWO
+R;
+> QUERY DISK A
+LABEL  VDV M STA BLKSZ  FILES     USED     FREE    TOTAL
+GROWN1 191 A R/W   512      1      311        9      320
+R;
+> LISTFILE * * A (ALLOC NOHEADER
+BIG      FILE     A1 F   512      301      301
+R;
+> TYPE BIG FILE A 300 301 (COL 1-3
+ONE
+TWO
+R;
+# new: 191,512,n313,A
+> FORMAT 191 A
+CMS603R FORMAT will erase all files on disk A (191). Go on? Enter YES or NO
+> YES
+CMS605R Enter disk label
+> GROWN1
+CMS733I 313 blocks formatted on A (191)
+R;
+> EXECIO 1 DISKW S FILE A (STRING ONE
+R;
+> COPYFILE S FILE A BIG FILE A (RECFM F LRECL 512
+R;
+> ERASE S FILE A
+R;
+> COPYFILE BIG FILE A BIG FILE A (APPEND
+R;
+> COPYFILE BIG FILE A BIG FILE A (APPEND
+R;
+> COPYFILE BIG FILE A BIG FILE A (APPEND
+R;
+> COPYFILE BIG FILE A BIG FILE A (APPEND
+R;
+> COPYFILE BIG FILE A BIG FILE A (APPEND
+R;
+> COPYFILE BIG FILE A BIG FILE A (APPEND
+R;
+> COPYFILE BIG FILE A BIG FILE A (APPEND
+R;
+> COPYFILE BIG FILE A BIG FILE A (APPEND
+R;
+> COPYFILE BIG FILE A BIG FILE A (APPEND FOR 44
+R;
+> QUERY DISK A
+LABEL  VDV M STA BLKSZ  FILES     USED     FREE    TOTAL
+GROWN1 191 A R/W   512      1      310        3      313
+R;
+> EXECIO 1 DISKW BIG FILE A (STRING TWO
+CMS107E Disk A is full, 4 blocks needed, 3 free
+R(00100);
+> QUERY DISK A
+LABEL  VDV M STA BLKSZ  FILES     USED     FREE    TOTAL
+GROWN1 191 A R/W   512      1      310        3      313
+R;
+# new: 191,512,n100,A
+> FORMAT 191 A
+CMS603R FORMAT will erase all files on disk A (191). Go on? Enter YES or NO
+> YES
+CMS605R Enter disk label
+> GROWN1
+CMS733I 100 blocks formatted on A (191)
+R;
+> EXECIO 1 DISKW S FILE A (STRING ONE
+R;
+> COPYFILE S FILE A W FILE A (RECFM F LRECL 21502
+R;
+> COPYFILE W FILE A V FILE A (RECFM V
+R;
+> ERASE W FILE A
+R;
+> ERASE S FILE A
+R;
+> QUERY DISK A
+LABEL  VDV M STA BLKSZ  FILES     USED     FREE    TOTAL
+GROWN1 191 A R/W   512      1       49       51      100
+R;
+> EXECIO 1 DISKW V FILE A (STRING ABC
+R;
+> QUERY DISK A
+LABEL  VDV M STA BLKSZ  FILES     USED     FREE    TOTAL
+GROWN1 191 A R/W   512      1       52       48      100
+R;
+> TYPE V FILE A 2 2
+ABC
+R;
+";
+
+#[test]
+fn files_grow(rt: HostRuntime) -> Result<(), Fail> {
+    check_sessions(rt.alloc(), GROWN)
+}
+
 // The calls of the world in sessions. A file is read twice, the second time block by block as it is written; what is refused reads no more
 // than it must, and writes nothing.
 const CALLS: &str = "# long records

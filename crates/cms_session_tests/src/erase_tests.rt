@@ -81,11 +81,11 @@ R(00028);
 HELLO
 R;
 ! Done arrrrrrrrrrrrinwwswsonoonrooi
-# wide, five free: 191,512,rw,A
+# wide, four free: 191,512,rw,A
 > ERASE FILE0020 TEXT A
-CMS107E Disk A is full, 6 blocks needed, 5 free
+CMS107E Disk A is full, 5 blocks needed, 4 free
 R(00100);
-# wide, six free: 191,512,rw,A
+# wide, five free: 191,512,rw,A
 > ERASE FILE0020 TEXT A
 R;
 ";
@@ -334,8 +334,10 @@ R;
 0019
 R;
 ",
-    // the opening reads the label, three blocks of the directory, two of the map, and a pointer block of each; an update writes as many
-    calls: b"arrrrrrrrinwwwwwwwswsonoonroonwwwwwwwswsonrooi",
+    // the opening reads the label, three blocks of the directory, two of the map, and a pointer block of each. The first update writes the
+    // directory's first and last data block, its pointer block, and the map's first data block and pointer block; the second all of the
+    // directory
+    calls: b"arrrrrrrrinwwwwwswsonoonroonwwwwwwswsonrooi",
     look: [
         "191,512,ro,A",
         "TYPE FILE0001 TEXT A\nTYPE FILE0009 TEXT A\nTYPE FILE0018 TEXT A\n",
@@ -362,16 +364,16 @@ R(00028);
 0018
 R;
 ",
-    // the events are the script, a turn, seven blocks (9), a sync, the label, a sync, the ready line; a turn and two lines; a turn, a
-    // record and the ready line; a turn, seven blocks (27), a sync, the label, a sync, the ready line; a turn, a record, the ready line and
-    // the script's end (35)
-    moments: "# 9 9 all all all all
-# 11 11 all without-first all without-first
-# 27 27 without-first without-first without-first without-first
-# 29 29 without-first without-both without-first without-both
-# 0 35 - - - -
+    // the events are the script, a turn, five blocks (7), a sync, the label, a sync, the ready line; a turn and two lines; a turn, a
+    // record and the ready line; a turn, six blocks (24), a sync, the label, a sync, the ready line; a turn, a record, the ready line and
+    // the script's end (32)
+    moments: "# 7 7 all all all all
+# 9 9 all without-first all without-first
+# 24 24 without-first without-first without-first without-first
+# 26 26 without-first without-both without-first without-both
+# 0 32 - - - -
 ",
-    faults: "# 1 46 - -
+    faults: "# 1 43 - -
 ",
 };
 

@@ -581,7 +581,7 @@ R;
 ALPHA NEW A1
 ALSO NEW A0
 R;
-! Done aarrrrrinwwswsowwswsooi
+! Done aarrrrrinwswsowswsooi
 # texts
 > RENAME ALPHA TEXT A BETA DATA A
 CMS024E File BETA DATA A already exists

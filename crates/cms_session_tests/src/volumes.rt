@@ -239,9 +239,9 @@ const STARS_AND_BLANKS: &[Edit] = &[(7, 2, &[0x5C; 508]), (7, 252, &[0x40; 5])];
 const NONE_FREE: &[Edit] = &[(6, 0, &[0xFF; 3])];
 
 // All blocks but the last five, or the last six, are marked.
-const FIVE_FREE: &[Edit] = &[(6, 0, &[0xFF; 512]), (7, 0, &[0xE0])];
+const FOUR_FREE: &[Edit] = &[(6, 0, &[0xFF; 512]), (7, 0, &[0xF0])];
 
-const SIX_FREE: &[Edit] = &[(6, 0, &[0xFF; 512]), (7, 0, &[0xC0])];
+const FIVE_FREE: &[Edit] = &[(6, 0, &[0xFF; 512]), (7, 0, &[0xE0])];
 
 // What is changed in an image, by its name.
 fn changes(name: &str) -> &'static [Edit] {
@@ -261,8 +261,8 @@ fn changes(name: &str) -> &'static [Edit] {
         "stars" => STARS,
         "stars and blanks" => STARS_AND_BLANKS,
         "none free" => NONE_FREE,
+        "four free" => FOUR_FREE,
         "five free" => FIVE_FREE,
-        "six free" => SIX_FREE,
         _ => &[],
     }
 }

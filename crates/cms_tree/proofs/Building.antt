@@ -19,7 +19,7 @@ use Rattle.cms_model.proofs.Pointers.{pointers_read}
 use Rattle.cms_model.proofs.Quotients.{up_spec, up_some, up_zero}
 use Rattle.cms_model.proofs.Shapes.{levels_needs}
 use Rattle.cms_tree.specs.declared.types.Mark.{Mark}
-use Rattle.cms_tree.specs.Builds.{Child, marked, level_over, parents, all_over, cell_of, node_bytes, root_of, BuiltIsTree}
+use Rattle.cms_tree.specs.Builds.{Child, marked, level_over, parents, all_over, cell_of, node_bytes, root_of, BuiltIsTree, HasNodes, IsBuildable}
 use Rattle.cms_tree.proofs.Blocks.{allowed_lies}
 use Rattle.cms_tree.proofs.Filling.{length-cell}
 use Rattle.cms_tree.specs.Levels.{over_count}
@@ -32,7 +32,7 @@ blocks_of cs = map (λ c. c.block) cs
 abbrev pub Words : List ℕ → Type 0
 Words ns = All (λ n. n < 2 ^ 32) ns
 
-length-blocks : (cs : List Child) → length (blocks_of cs) ≡ length cs
+pub length-blocks : (cs : List Child) → length (blocks_of cs) ≡ length cs
 length-blocks [] = refl
 length-blocks (c ∷ cs) = ap suc (length-blocks cs)
 
@@ -50,7 +50,7 @@ length-cells_of : (psize : ℕ) (group : List Child) → length (map (cell_of ps
 length-cells_of psize [] = refl
 length-cells_of psize (c ∷ cs) = ap suc (length-cells_of psize cs)
 
-fits_cell : (psize : ℕ) (c : Child) → (psize ≡ 4) ⊎ (psize ≡ 12) → c.block < 2 ^ 32 → FitsCell psize (cell_of psize c)
+pub fits_cell : (psize : ℕ) (c : Child) → (psize ≡ 4) ⊎ (psize ≡ 12) → c.block < 2 ^ 32 → FitsCell psize (cell_of psize c)
 fits_cell psize c kind word = record { word = word; wide = (let e = length-cell psize c kind in omega arith) }
 
 all_fit : (psize : ℕ) (group : List Child) → (psize ≡ 4) ⊎ (psize ≡ 12) → Words (blocks_of group) → All (FitsCell psize) (map (cell_of psize) group)
@@ -73,18 +73,18 @@ node_points bsize psize fan group kind fits words =
 -- ---- a level
 
 -- parents have the numbers of their blocks
-blocks-parents : (numbers : List ℕ) (groups : List (List Child)) → length groups ≤ length numbers → blocks_of (parents numbers groups) ≡ take (length groups) numbers
+pub blocks-parents : (numbers : List ℕ) (groups : List (List Child)) → length groups ≤ length numbers → blocks_of (parents numbers groups) ≡ take (length groups) numbers
 unfolding parents
 blocks-parents numbers [] enough = refl
 blocks-parents [] (g ∷ gs) enough = absurd (omega arith)
 blocks-parents (n ∷ ns) (g ∷ gs) enough = ap (λ (l : List ℕ). n ∷ l) (blocks-parents ns gs (omega arith))
 
-take-blocks : (k : ℕ) (cs : List Child) → take k (blocks_of cs) ≡ blocks_of (take k cs)
+pub take-blocks : (k : ℕ) (cs : List Child) → take k (blocks_of cs) ≡ blocks_of (take k cs)
 take-blocks zero cs = refl
 take-blocks (suc k) [] = refl
 take-blocks (suc k) (c ∷ cs) = ap (λ (l : List ℕ). c.block ∷ l) (take-blocks k cs)
 
-drop-blocks : (k : ℕ) (cs : List Child) → drop k (blocks_of cs) ≡ blocks_of (drop k cs)
+pub drop-blocks : (k : ℕ) (cs : List Child) → drop k (blocks_of cs) ≡ blocks_of (drop k cs)
 drop-blocks zero cs = refl
 drop-blocks (suc k) [] = refl
 drop-blocks (suc k) (c ∷ cs) = drop-blocks k cs
@@ -226,9 +226,12 @@ blocks-marked (n ∷ ns) marks = ap (λ (l : List ℕ). n ∷ l) (blocks-marked 
 pub fan_wide : (bsize psize : ℕ) → IsBlockSize bsize → (psize ≡ 4) ⊎ (psize ≡ 12) → 2 ≤ bsize / psize
 fan_wide bsize psize size kind = ⊎_elim (λ (is : psize ≡ 4). rw is (omega (arith, size))) (λ (is : psize ≡ 12). rw is (omega (arith, size))) kind
 
-pub built_is_tree : BuiltIsTree
+-- the levels of a tree whose pointer blocks an image has
+pub built_whole : (bsize psize last : ℕ) (leaves : List ℕ) (marks : List Mark) (fresh : List ℕ) (image : Image) → IsBuildable bsize psize leaves marks fresh → last < 2 ^ 32 → All (λ n. n < 2 ^ 32) leaves
+    → AllAllowed last None fresh → HasNodes image bsize psize leaves marks fresh
+    → Built (record { fan = bsize / psize; stride = psize; last = last }) image (levels (bsize / psize) (length leaves)) leaves (root_of leaves fresh) fresh
 unfolding pointer_count
-built_is_tree bsize psize last first holder leaves marks fresh image b small words allowed allowed' has =
+built_whole bsize psize last leaves marks fresh image b small words allowed has =
     let fan = bsize / psize in
     let form : Form = record { fan = fan; stride = psize; last = last } in
     let wide = fan_wide bsize psize b.size b.pointer in
@@ -240,6 +243,13 @@ built_is_tree bsize psize last first holder leaves marks fresh image b small wor
     let needs = levels_needs fan n wide b.few in
     let fits : Fits fan k (length below) = subst (Fits fan k) (sym long) (record { some = b.some; room = needs.fits; fewer = needs.fewer }) in
     let count : length fresh ≡ over_count fan k (length below) = b.numbers ∙ sym (all_count fan n k (omega arith)) ∙ ap (over_count fan k) (sym long) in
-    let whole = built form image bsize b.pointer (omega arith) small k below fresh fits count (subst Words (sym named) words) allowed' has in
-    built_reads form image k first holder (root_of leaves fresh) leaves fresh (omega arith)
-    (subst (λ (l : List ℕ). Built form image k l (root_of l fresh) fresh) named whole) allowed
+    let whole = built form image bsize b.pointer (omega arith) small k below fresh fits count (subst Words (sym named) words) allowed has in
+    subst (λ (l : List ℕ). Built form image k l (root_of l fresh) fresh) named whole
+
+pub built_is_tree : BuiltIsTree
+built_is_tree bsize psize last first holder leaves marks fresh image b small words allowed allowed' has =
+    let fan = bsize / psize in
+    let form : Form = record { fan = fan; stride = psize; last = last } in
+    let wide = fan_wide bsize psize b.size b.pointer in
+    built_reads form image (levels fan (length leaves)) first holder (root_of leaves fresh) leaves fresh (omega arith)
+    (built_whole bsize psize last leaves marks fresh image b small words allowed' has) allowed

@@ -9,7 +9,9 @@ pub mod Building
 pub mod Lifting
 pub mod Stepping
 pub mod Totals
+pub mod Counted
 pub mod Own
+pub mod Behind
 pub mod Resuming
 pub mod Heaps
 pub mod Pathing

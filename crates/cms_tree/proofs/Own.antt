@@ -1,5 +1,5 @@
 -- Writes to a call's own blocks.
-use Rattle.std.proofs.Common.{◌≡◌, inl, inr, ℕ, zero, suc, ◌<◌, List, [], ◌∷◌, ◌++◌, length, take, drop, get_or, refl, sym, ◌∙◌, ap, arith}
+use Rattle.std.proofs.Common.{◌≡◌, inl, inr, ℕ, zero, suc, ◌<◌, ◌≤◌, List, [], ◌∷◌, ◌++◌, length, take, drop, get_or, refl, sym, ◌∙◌, ap, subst, arith, get_or-take, length-take}
 use Rattle.cms_journal.specs.declared.event.Event.{Event}
 use Rattle.cms_journal.specs.declared.event.Event.TheVariants.{Wrote}
 use Rattle.cms_journal.specs.Journal.{MayAdd}
@@ -22,6 +22,21 @@ pub in_at : (ns : List ℕ) (k : ℕ) → k < length ns → In (get_or ns k 0) n
 in_at [] k less = absurd (omega arith)
 in_at (n ∷ ns) zero less = inl refl
 in_at (n ∷ ns) (suc k) less = inr (in_at ns k (omega arith))
+
+-- one of a list behind its first ones
+pub in_drop_at : (ns : List ℕ) (a k : ℕ) → a ≤ k → k < length ns → In (get_or ns k 0) (drop a ns)
+in_drop_at [] a k low less = absurd (omega arith)
+in_drop_at (n ∷ ns) zero k low less = in_at (n ∷ ns) k less
+in_drop_at (n ∷ ns) (suc a) zero low less = absurd (omega arith)
+in_drop_at (n ∷ ns) (suc a) (suc k) low less = in_drop_at ns a k (omega arith) (omega arith)
+
+pub in_behind : (ns : List ℕ) (a m k : ℕ) → a ≤ k → k < m → k < length ns → In (get_or ns k 0) (drop a (take m ns))
+in_behind [] a m k low high less = absurd (omega arith)
+in_behind (n ∷ ns) zero m k low high less =
+    subst (λ (x : ℕ). In x (take m (n ∷ ns))) (get_or-take m (n ∷ ns) k 0 high) (in_at (take m (n ∷ ns)) k (omega (arith, length-take m (n ∷ ns))))
+in_behind (n ∷ ns) (suc a) zero k low high less = absurd (omega arith)
+in_behind (n ∷ ns) (suc a) (suc m) zero low high less = absurd (omega arith)
+in_behind (n ∷ ns) (suc a) (suc m) (suc k) low high less = in_behind ns a m k (omega arith) (omega arith) (omega arith)
 
 pub in_drop : (n k : ℕ) (ns : List ℕ) → In n (drop k ns) → In n ns
 in_drop n zero ns is_in = is_in
@@ -57,3 +72,7 @@ own_twice old mid new u size some all among a b = record {
 
 pub own_grown : (old new : Told) (u size : ℕ) (blocks : List ℕ) → AddsOwn old new u size blocks → Grown old new
 own_grown old new u size blocks a = record { events = writes u a.part; told = a.told }
+
+-- the blocks may be some of others
+pub own_some : (old new : Told) (u size : ℕ) (some all : List ℕ) → ((n : ℕ) → In n some → In n all) → AddsOwn old new u size some → AddsOwn old new u size all
+own_some old new u size some all among a = record { part = a.part; told = a.told; own = own_among size some all among a.part a.own }

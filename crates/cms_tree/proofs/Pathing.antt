@@ -13,11 +13,12 @@ use Rattle.cms_model.specs.Sizes.{levels, pointers_to, pointer_count}
 use Rattle.cms_model.specs.Sharing.{any_within, is_kept, fresh_on, fresh_to}
 use Rattle.cms_model.specs.SharedTiers.{Names, Shared, SharedTier, group}
 use Rattle.cms_model.specs.SharedTimes.{came, gone, without}
+use Rattle.cms_model.proofs.Members.{In-either}
 use Rattle.cms_model.proofs.Quotients.{up_up}
 use Rattle.cms_model.proofs.Shapes.{levels_needs}
 use Rattle.cms_model.proofs.Sharing.{within_has}
 use Rattle.cms_model.proofs.SharedTiers.{lies, lies_back, kept_parts, never_kept}
-use Rattle.cms_tree.specs.Paths.{PathIsShared, PathIsWhole, PathTakesFirst, PathTakesNoMore, PointFresh, levels_of, numbered, paths, tree_levels}
+use Rattle.cms_tree.specs.Paths.{PathIsShared, PathIsWhole, PathTakesFirst, PathTakesNoMore, PointFresh, levels_of, numbered, paths, places_on, places_to, tree_levels}
 use Rattle.cms_tree.proofs.Own.{in_at}
 use Rattle.cms_tree.proofs.Rising.{up_one}
 
@@ -548,3 +549,68 @@ fresh_to_few fan before count written (suc i) =
 pub path_takes_no_more : PathTakesNoMore
 unfolding pointer_count
 path_takes_no_more fan before count written = fresh_to_few fan before count written (levels fan count)
+
+-- ---- places
+
+pub places_next : (had : Bool) (size before count : ℕ) (written : List ℕ) (at n place : ℕ) (kept : Bool) (old items items' : List ℕ) → kept ≡ is_kept had size before count written n
+    → place ≡ at + n → (kept ≡ true → items' ≡ items) → (kept ≡ false → items' ≡ items ++ place ∷ []) → items ≡ old ++ places_on had size before count written at n
+    → items' ≡ old ++ places_on had size before count written at (n + 1)
+unfolding places_on
+places_next had size before count written at n place true old items items' is here same more so_far =
+    let e : n + 1 ≡ suc n = omega arith in
+    rw (e, ← is) (same refl ∙ so_far ∙ ap (λ (l : List ℕ). old ++ l) (sym (append-nil (places_on had size before count written at n))))
+places_next had size before count written at n place false old items items' is here same more so_far =
+    let e : n + 1 ≡ suc n = omega arith in
+    rw (e, ← is) (more refl ∙ ap (λ (l : List ℕ). l ++ place ∷ []) so_far ∙ append_assoc old (places_on had size before count written at n) (place ∷ [])
+    ∙ ap (λ (k : ℕ). old ++ (places_on had size before count written at n ++ k ∷ [])) here)
+
+pub places_up : (fan before count : ℕ) (written : List ℕ) (i first size : ℕ) (both : Bool) (old items items' : List ℕ) → both ≡ nat_lt i (levels fan before) → size ≡ fan ^ (i + 1) → first ≡ pointers_to fan count i
+    → items ≡ old ++ places_to fan before count written i → items' ≡ items ++ places_on both size before count written first (up count size)
+    → items' ≡ old ++ places_to fan before count written (i + 1)
+unfolding places_to
+places_up fan before count written i first size both old items items' both_is size_is first_is so_far next =
+    let e : i + 1 ≡ suc i = omega arith in
+    let s : size ≡ fan ^ suc i = size_is ∙ ap (λ (n : ℕ). fan ^ n) e in
+    rw e (next ∙ rw (so_far, both_is, s, first_is) (append_assoc old (places_to fan before count written i) _))
+
+-- as many as are counted
+on_count : (had : Bool) (size before count : ℕ) (written : List ℕ) (at n : ℕ) → length (places_on had size before count written at n) ≡ fresh_on had size before count written n
+unfolding places_on fresh_on
+on_count had size before count written at zero = refl
+on_count had size before count written at (suc j) = go (is_kept had size before count written j) (on_count had size before count written at j)
+  where
+    go : (b : Bool) → length (places_on had size before count written at j) ≡ fresh_on had size before count written j
+        → length (places_on had size before count written at j ++ (if b then [] else (at + j) ∷ [])) ≡ fresh_on had size before count written j + (if b then 0 else 1)
+    go true rest = length-append (places_on had size before count written at j) [] ∙ (omega arith)
+    go false rest = length-append (places_on had size before count written at j) ((at + j) ∷ []) ∙ (omega arith)
+
+pub places_count : (fan before count : ℕ) (written : List ℕ) (k : ℕ) → length (places_to fan before count written k) ≡ fresh_to fan before count written k
+unfolding places_to fresh_to
+places_count fan before count written zero = refl
+places_count fan before count written (suc i) =
+    let rest = places_count fan before count written i in
+    let level = on_count (nat_le (suc i) (levels fan before)) (fan ^ suc i) before count written (pointers_to fan count i) (up count (fan ^ suc i)) in
+    length-append (places_to fan before count written i) (places_on (nat_le (suc i) (levels fan before)) (fan ^ suc i) before count written (pointers_to fan count i) (up count (fan ^ suc i))) ∙ (omega arith)
+
+-- each lies among the pointer blocks
+on_within : (had : Bool) (size before count : ℕ) (written : List ℕ) (at n p : ℕ) → In p (places_on had size before count written at n) → p < at + n
+unfolding places_on
+on_within had size before count written at zero p there = absurd there
+on_within had size before count written at (suc j) p there = ⊎_elim
+    (λ (front : In p (places_on had size before count written at j)). let less = on_within had size before count written at j p front in omega arith)
+    (λ (last : In p (if is_kept had size before count written j then [] else (at + j) ∷ [])). go (is_kept had size before count written j) last)
+    (In-either p (places_on had size before count written at j) (if is_kept had size before count written j then [] else (at + j) ∷ []) there)
+  where
+    go : (b : Bool) → In p (if b then [] else (at + j) ∷ []) → p < at + suc j
+    go true none = absurd none
+    go false (inl is) = omega arith
+    go false (inr none) = absurd none
+
+pub places_within : (fan before count : ℕ) (written : List ℕ) (k p : ℕ) → In p (places_to fan before count written k) → p < pointers_to fan count k
+unfolding places_to pointers_to
+places_within fan before count written zero p there = absurd there
+places_within fan before count written (suc i) p there = ⊎_elim
+    (λ (front : In p (places_to fan before count written i)). let less = places_within fan before count written i p front in omega arith)
+    (λ (last : In p (places_on (nat_le (suc i) (levels fan before)) (fan ^ suc i) before count written (pointers_to fan count i) (up count (fan ^ suc i)))).
+    on_within (nat_le (suc i) (levels fan before)) (fan ^ suc i) before count written (pointers_to fan count i) (up count (fan ^ suc i)) p last)
+    (In-either p (places_to fan before count written i) (places_on (nat_le (suc i) (levels fan before)) (fan ^ suc i) before count written (pointers_to fan count i) (up count (fan ^ suc i))) there)

@@ -70,7 +70,7 @@ range_splits x first a (suc b) =
 
 -- ---- the places that are complete with the blocks of a level
 
-places : ℕ → ℕ → ℕ → ℕ → ℕ → List ℕ
+unfoldable pub places : ℕ → ℕ → ℕ → ℕ → ℕ → List ℕ
 places fan j first count zero = []
 places fan j first count (suc k) = places fan j first count k ++ complete_from fan j first count k
 
@@ -80,7 +80,7 @@ none_above x fan first count zero = refl
 none_above x fan first count (suc m) = times_append x (places fan 0 first count m) [] ∙ (let e = none_above x fan first count m in omega arith)
 
 -- so many groups of a level end within its first blocks
-abbrev Ended : ℕ → ℕ → ℕ → ℕ → Type 0
+abbrev pub Ended : ℕ → ℕ → ℕ → ℕ → Type 0
 Ended fan count m e = ((m < count) × (e ≡ m / fan)) ⊎ ((m ≡ count) × (e ≡ up count fan))
 
 up_next : (fan m : ℕ) → 1 ≤ fan → up (m + 1) fan ≡ m / fan + 1
@@ -90,11 +90,11 @@ up_next fan m some =
     sym (up_unique (m + 1) fan (m / fan + 1) some (omega arith) (omega arith))
 
 -- how many have ended with one block more
-ended_more : (fan count k e : ℕ) → 1 ≤ fan → k < count → Ended fan count (k + 1) e → Ends fan count k → e ≡ k / fan + 1
+pub ended_more : (fan count k e : ℕ) → 1 ≤ fan → k < count → Ended fan count (k + 1) e → Ends fan count k → e ≡ k / fan + 1
 ended_more fan count k e some less (inl h) ends = h.1 ∙ (ends_begins fan count k some ends h.0).0
 ended_more fan count k e some less (inr h) ends = h.1 ∙ ap (λ (n : ℕ). up n fan) (sym h.0) ∙ up_next fan k some
 
-ended_same : (fan count k e : ℕ) → Ended fan count (k + 1) e → Goes fan count k → e ≡ k / fan
+pub ended_same : (fan count k e : ℕ) → Ended fan count (k + 1) e → Goes fan count k → e ≡ k / fan
 ended_same fan count k e (inl h) goes = h.1 ∙ (next_within fan k goes.more).0
 ended_same fan count k e (inr h) goes = absurd (goes.less h.0)
 

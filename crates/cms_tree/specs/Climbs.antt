@@ -1,9 +1,10 @@
 -- A tree whose pointer blocks are written while its leaves are.
-use Rattle.std.specs.Prelude.{◌≡◌, ◌⊎◌, ℕ, zero, suc, ◌/◌, ◌^◌, ◌<◌, ◌≤◌, List, [], ◌∷◌, ◌++◌, length, slice_index, map, All, Result, Ok, Err, ⊤}
+use Rattle.std.specs.Prelude.{◌≡◌, ◌⊎◌, ℕ, zero, suc, ◌/◌, ◌^◌, ◌<◌, ◌≤◌, List, [], ◌∷◌, ◌++◌, length, take, drop, slice_index, map, All, Result, Ok, Err, ⊤}
 use Rattle.cms_journal.specs.Journal.{HasBlock, IsBlockSize}
 use Rattle.cms_journal.specs.Told.{Told, plus}
 use Rattle.cms_journal.specs.declared.event.Attached.{Attached}
 use Rattle.cms_journal.specs.declared.event.Failed.{Failed}
+use Rattle.cms_fields.specs.Numbers.{up}
 use Rattle.cms_model.specs.Lists.{In, times}
 use Rattle.cms_model.specs.Trees.{Image}
 use Rattle.cms_model.specs.Sizes.{levels}
@@ -55,6 +56,13 @@ pub record AddsOwn (old new : Told) (u size : ℕ) (blocks : List ℕ) : Type 0 
   pub part : List Write
   pub told : new ≡ plus old (writes u part)
   pub own : AreOwn size blocks part
+
+-- of the numbers of the pointer blocks over a level of `count` blocks, in so many levels, those of the blocks that don't end
+-- within the first `kept` of that level
+unfoldable pub numbers_behind : ℕ → ℕ → ℕ → ℕ → List ℕ → List ℕ
+numbers_behind fan zero count kept fresh = []
+numbers_behind fan (suc levels) count kept fresh = drop (kept / fan) (take (up count fan) fresh)
+    ++ numbers_behind fan levels (up count fan) (kept / fan) (drop (up count fan) fresh)
 
 -- the pointer blocks that leaf i completes, from 0, bottom level first, as they are written
 abbrev pub climb_writes : ℕ → ℕ → List ℕ → List Mark → List ℕ → ℕ → List Write

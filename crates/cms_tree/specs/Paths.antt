@@ -1,5 +1,5 @@
 -- The pointer blocks of a tree that keeps some of those of the tree before.
-use Rattle.std.specs.Prelude.{◌≡◌, ℕ, zero, suc, ◌*◌, ◌^◌, ◌<◌, ◌≤◌, Bool, true, false, if◌then◌else◌, List, [], ◌∷◌, ◌++◌, length, take, drop, slice_index, Option, None, ⊤}
+use Rattle.std.specs.Prelude.{◌≡◌, ℕ, zero, suc, nat_le, ◌+◌, ◌*◌, ◌^◌, ◌<◌, ◌≤◌, Bool, true, false, if◌then◌else◌, List, [], ◌∷◌, ◌++◌, length, take, drop, slice_index, Option, None, ⊤}
 use Rattle.std.specs.List.{concat}
 use Rattle.std.specs.List.Sorted.{IsStrictlyIncreasing}
 use Rattle.cms_fields.specs.Numbers.{up}
@@ -7,7 +7,7 @@ use Rattle.cms_model.specs.Lists.{In}
 use Rattle.cms_model.specs.Trees.{Image, Form}
 use Rattle.cms_model.specs.Built.{AllAllowed, ReadsAs}
 use Rattle.cms_model.specs.ByLevels.{Heaped}
-use Rattle.cms_model.specs.Sizes.{levels, pointer_count}
+use Rattle.cms_model.specs.Sizes.{levels, pointer_count, pointers_to}
 use Rattle.cms_model.specs.Sharing.{any_within, is_kept, fresh_on, fresh_to}
 use Rattle.cms_model.specs.SharedTiers.{Names, Shared, group}
 use Rattle.cms_model.specs.SharedTimes.{came}
@@ -48,6 +48,23 @@ tree_levels fan count numbers = levels_of fan 1 count (levels fan count) numbers
 abbrev pub path_levels : ℕ → ℕ → List ℕ → ℕ → List ℕ → List ℕ → List (List ℕ)
 path_levels fan before olds count written fresh =
     paths fan 1 before count written (tree_levels fan before olds) (levels fan count) fresh
+
+-- the places, from `at` on, of those of the first so many pointer blocks of a level that aren't kept
+unfoldable pub places_on : Bool → ℕ → ℕ → ℕ → List ℕ → ℕ → ℕ → List ℕ
+places_on had size before count written at zero = []
+places_on had size before count written at (suc j) = places_on had size before count written at j
+    ++ (if is_kept had size before count written j then [] else (at + j) ∷ [])
+
+-- and of those of the lowest levels, from 0, where the levels stand one behind the other
+unfoldable pub places_to : ℕ → ℕ → ℕ → List ℕ → ℕ → List ℕ
+places_to fan before count written zero = []
+places_to fan before count written (suc i) = places_to fan before count written i
+    ++ places_on (nat_le (suc i) (levels fan before)) (fan ^ suc i) before count written
+    (pointers_to fan count i) (up count (fan ^ suc i))
+
+-- the places of the pointer blocks that aren't kept, among all pointer blocks of the tree after
+abbrev pub fresh_places : ℕ → ℕ → ℕ → List ℕ → List ℕ
+fresh_places fan before count written = places_to fan before count written (levels fan count)
 
 -- of ascending numbers the last ones, from the first that isn't below `low` on
 pub record IsRest (low : ℕ) (numbers rest : List ℕ) : Type 0 where

@@ -123,6 +123,12 @@ pub record Keeps (psize fan : ℕ) (t : Tier) (e : Kept) : Type 0 where
   pub front : length e.front ≡ t.kept % fan * psize
   pub partly : e.place ≡ None → (t.place ≡ None) × (t.kept % fan ≡ 0)
 
+-- and so on each of so many levels
+abbrev pub AllKeep : ℕ → ℕ → List ℕ → Tier → List Kept → ℕ → Type 0
+AllKeep psize fan fresh t es zero = ⊤
+AllKeep psize fan fresh t es (suc n) = Keeps psize fan t (kept_here es)
+    × AllKeep psize fan fresh (tier_above fan fresh t (kept_here es)) (kept_above es) n
+
 -- the open pointer block points to the blocks before block k that no whole pointer block points to,
 -- and has the place of its mark as soon as that is known
 pub record IsOpen (bsize psize : ℕ) (marks : List Mark) (count : ℕ) (t : Tier) (e : Kept) (k : ℕ)

@@ -9,7 +9,7 @@ ghost use Rattle.cms_model.specs.Sizes.{levels, pointer_count};
 ghost use Rattle.cms_tree.specs.declared.types.Mark.{Mark};
 ghost use Rattle.cms_tree.specs.Builds.{cell_of, root_of};
 ghost use Rattle.cms_tree.specs.Levels.{over_count};
-ghost use Rattle.cms_tree.specs.Climbs.{AddsOn, AddsOwn, HasEach, HasSize, HoldsLittle, IsNew, IsNext, Climbs, ClimbsOn, Adds, ClimbsAll};
+ghost use Rattle.cms_tree.specs.Climbs.{AddsOn, AddsOwn, HasEach, HasSize, HoldsLittle, IsNew, IsNext, Climbs, ClimbsOn, Adds, ClimbsAll, numbers_behind};
 ghost use Rattle.cms_tree.specs.Kept.{Kept, kept_here};
 ghost use Rattle.cms_tree.specs.Paths.{levels_of};
 ghost use Rattle.cms_tree.specs.Resumes.{IsClear, IsResumed, ReadsFront, ResumesAll, ResumesOne, partly_above, place_in, root_before};
@@ -169,7 +169,9 @@ impl Climb {
             marks fresh.now result }
         ensures added { self.new ≡ record self.old { added = self.old.added + 1; levels = self.new.levels } }
         ensures held { HoldsLittle self.new }
-        ensures own { AddsOwn (W.told world.old) (W.told world.new) unit self.old.bsize fresh.now }
+        ensures own { (kept : ℕ) → kept ≤ self.old.added → AddsOwn (W.told world.old) (W.told world.new) unit self.old.bsize
+            (numbers_behind (self.old.bsize / self.old.psize) (levels (self.old.bsize / self.old.psize) self.old.count)
+            self.old.count kept fresh.now) }
         ensures counts { OnUnits (seen W.World world.old) (seen W.World world.new) result }
     {
         let child = Child {
@@ -489,7 +491,8 @@ fn lift<W: World>(
         tier (kept_here es) child.now level.new result }
     ensures parent { IfOk result (λ parent. IfSome parent (IsParent (bsize / psize) child.now)) }
     ensures size { HasSize bsize level.new }
-    ensures own { AddsOwn (W.told world.old) (W.told world.new) unit bsize fresh.now }
+    ensures own { (kept : ℕ) → kept ≤ child.now.nth → AddsOwn (W.told world.old) (W.told world.new) unit bsize
+        (drop (kept / (bsize / psize)) (take (up child.now.count (bsize / psize)) fresh.now)) }
     ensures counts { OnUnits (seen W.World world.old) (seen W.World world.new) result }
 {
     let fan = bsize.bytes() / u32::from(psize);
@@ -537,7 +540,8 @@ fn rise<W: World>(
         → Rises (W.told world.old) (W.told world.new) unit bsize psize leaves marks numbers node
         tier es child.now levels.old levels.new result }
     ensures sizes { All (HasSize bsize) levels.new }
-    ensures own { AddsOwn (W.told world.old) (W.told world.new) unit bsize fresh.now }
+    ensures own { (kept : ℕ) → kept ≤ child.now.nth → AddsOwn (W.told world.old) (W.told world.new) unit bsize
+        (numbers_behind (bsize / psize) (length levels.old) child.now.count kept fresh.now) }
     ensures counts { OnUnits (seen W.World world.old) (seen W.World world.new) result }
 {
     let Some((level, above)) = levels.split_first_mut() else {

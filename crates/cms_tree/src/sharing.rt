@@ -6,7 +6,7 @@ ghost use Rattle.cms_fields.specs.Numbers.{up};
 ghost use Rattle.cms_model.specs.Sizes.{levels, pointer_count};
 ghost use Rattle.cms_model.specs.Sharing.{any_within, is_kept, fresh_on, fresh_to};
 ghost use Rattle.cms_model.specs.SharedTimes.{without, gone};
-ghost use Rattle.cms_tree.specs.Paths.{HeapedIsRead, IsRest, PathIsShared, PathIsWhole, PathTakesFirst, PathTakesNoMore, numbered, path_levels, tree_levels};
+ghost use Rattle.cms_tree.specs.Paths.{HeapedIsRead, IsRest, PathIsShared, PathIsWhole, PathTakesFirst, PathTakesNoMore, fresh_places, numbered, path_levels, places_on, tree_levels};
 
 use crate::shape;
 
@@ -243,6 +243,108 @@ pub fn left_out(
         leave_level(&level, tier, written, into);
         olds = above;
     }
+}
+
+// Appends the places of the pointer blocks of a level that aren't kept, where the first block of the level has this one.
+fn place_level(level: &SharedLevel, first: u32, written: &[u32], into: &mut Vec<u32>)
+    requires some { 1 ≤ level.now.size }
+    requires few { first + up level.now.count level.now.size < 2 ^ 32 }
+    requires ascends { IsStrictlyIncreasing written.now }
+    requires room { vec_len into.old + up level.now.count level.now.size ≤ vec_capacity into.old }
+    ensures appended { into.new.items ≡ into.old.items
+        ++ places_on level.now.both level.now.size level.now.before level.now.count
+        written.now first (up level.now.count level.now.size) }
+    ensures len { vec_len into.new ≤ vec_len into.old + up level.now.count level.now.size }
+    ensures capacity { vec_capacity into.old ≤ vec_capacity into.new }
+{
+    let mut rest = written;
+    for nth in 0..level.blocks(level.count) {
+        rest = rest_from(rest, u64::from(nth) * level.size);
+        if !level.is_kept(u64::from(nth), rest) {
+            into.push(first + nth).unwrap();
+        }
+    }
+}
+
+/// Appends the places of the pointer blocks that `path` doesn't keep, from 0 in the order of `path`. It takes no memory: the vector
+/// must have room for the tree's pointer blocks.
+pub fn fresh_places(
+    old_leaves: u32,
+    new_leaves: u32,
+    fan: u32,
+    written: &[u32],
+    into: &mut Vec<u32>,
+)
+    requires some_before { 1 ≤ old_leaves }
+    requires some { 1 ≤ new_leaves }
+    requires wide { 2 ≤ fan }
+    requires ascends { IsStrictlyIncreasing written.now }
+    requires room { vec_len into.old + pointer_count fan new_leaves ≤ vec_capacity into.old }
+    ensures appended { into.new.items ≡ into.old.items ++ fresh_places fan old_leaves new_leaves written.now }
+    ensures capacity { vec_capacity into.old ≤ vec_capacity into.new }
+{
+    let old_levels = shape(old_leaves, fan).levels;
+    let new_levels = shape(new_leaves, fan).levels;
+    let mut first = 0;
+    let mut size = 1u64;
+    for height in 0..new_levels {
+        size *= u64::from(fan);
+        let level = SharedLevel {
+            size,
+            before: old_leaves,
+            count: new_leaves,
+            both: height < old_levels,
+        };
+        place_level(&level, first, written, into);
+        first += level.blocks(new_leaves);
+    }
+}
+
+// The level of data blocks of two trees, each of which has itself below it.
+fn data_level(before: u32, count: u32) -> SharedLevel
+    ensures { result ≡ record { size = 1; before = before; count = count; both = true } }
+{
+    SharedLevel {
+        size: 1,
+        before,
+        count,
+        both: true,
+    }
+}
+
+/// Appends the numbers of the data blocks of a tree that keeps some of those of the tree before, in order.
+///
+/// `old` has the number of each data block of the tree before, and the tree after has `count` of them. `written` has the places of
+/// those that are written anew, ascending and each once, with each that the tree before lacks. A data block that isn't written keeps
+/// its number, and each other takes the next of the `fresh` numbers, of which there must be enough. The call takes no memory: the
+/// vector must have room for all.
+pub fn keep_leaves(old: &[u32], count: u32, written: &[u32], fresh: &[u32], into: &mut Vec<u32>)
+    requires few { length old.now < 2 ^ 32 }
+    requires ascends { IsStrictlyIncreasing written.now }
+    requires fresh { fresh_on true 1 (length old.now) count written.now count ≤ length fresh.now }
+    requires room { vec_len into.old + count ≤ vec_capacity into.old }
+    ensures appended { into.new.items ≡ into.old.items
+        ++ numbered true 1 (length old.now) count written.now old.now fresh.now count }
+    ensures len { vec_len into.new ≡ vec_len into.old + count }
+    ensures capacity { vec_capacity into.old ≤ vec_capacity into.new }
+{
+    let level = data_level(old.len() as u32, count);
+    let _taken = number_level(&level, old, written, fresh, into);
+}
+
+/// Appends the numbers of the old data blocks that `keep_leaves` doesn't keep, in order. It takes no memory: the vector must have
+/// room for all data blocks of the tree before.
+pub fn leave_leaves(old: &[u32], count: u32, written: &[u32], into: &mut Vec<u32>)
+    requires few { length old.now < 2 ^ 32 }
+    requires ascends { IsStrictlyIncreasing written.now }
+    requires room { vec_len into.old + length old.now ≤ vec_capacity into.old }
+    ensures appended { into.new.items ≡ into.old.items
+        ++ without (is_kept true 1 (length old.now) count written.now) 0 old.now }
+    ensures len { vec_len into.new ≤ vec_len into.old + length old.now }
+    ensures capacity { vec_capacity into.old ≤ vec_capacity into.new }
+{
+    let level = data_level(old.len() as u32, count);
+    leave_level(&level, old, written, into);
 }
 
 /// The tree of `path` shares its pointer blocks with the tree before, takes the first of the fresh numbers, as many as are counted and

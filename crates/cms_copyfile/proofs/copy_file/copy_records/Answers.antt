@@ -36,7 +36,7 @@ returns-in-Ok-clause-acts g c = λ words.
     let told = e.reads.told in
     let read : HasRead (seen g.W.World c.args.world.now) mid.world = only_read _ _ _ _ e.reads in
     let planned = c.plan_of-plan.ensures ∙ ap (λ (z : FileForm). plan_of line.style z f.input.count) c.form-form.ensures in
-    c.put_measured.ensures.acts (seen g.W.World c.args.world.now) words input read opened
+    c.put_measured.ensures.acts (seen g.W.World c.args.world.now) words read
     (measured_as mid line f (form_into line f) input c.in-Ok.measure c.plan_of-plan.result planned opened c.requires.style (rw told e.measured) (rw told e.records))
 
 pub returns-then-form-gt-LONGEST_RECORD-clause-acts : goal.returns-then-form-gt-LONGEST_RECORD-clause-acts

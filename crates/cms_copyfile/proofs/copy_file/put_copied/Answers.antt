@@ -15,7 +15,7 @@ use Rattle.cms_copyfile.proofs.Writes.{may_at, still_device, still_there, writte
 use Rattle.cms_copyfile.proofs.copy_file.put_copied.Goals as goal
 
 pub returns-in_err-input-clause-acts : goal.returns-in_err-input-clause-acts
-returns-in_err-input-clause-acts g c = λ before words line read whole' none shaped.
+returns-in_err-input-clause-acts g c = λ before words line read is shaped.
     let p = err_from_is_err_and c.from_residual.result c.from_residual.ensures.1 in
     let memory = c.in_err-input.ensures.fault in
     rw (p.1, p.2, memory)
@@ -25,7 +25,9 @@ pub write_copies-written-requires-clause-accessed : goal.write_copies-written-re
 write_copies-written-requires-clause-accessed g c = written_there c.args.state.now.table c.args.file.now.letter c.requires.writing
 
 pub write_copies-written-requires-clause-may : goal.write_copies-written-requires-clause-may
-write_copies-written-requires-clause-may g c = may_at _ c.args.state.now.table c.args.file.now.letter c.vdev-vdev.result c.vdev-vdev.ensures.accessed c.requires.usable
+write_copies-written-requires-clause-may g c =
+    let to : CopyTarget = record { letter = c.args.file.now.letter; name = c.args.file.now.name; write = c.args.write; shape = c.args.shape.now; stamp = c.of.result } in
+    may_at _ c.args.state.now.table to.letter c.vdev-vdev.result to c.vdev-vdev.ensures.accessed c.requires.usable (c.fits_disk.ensures c.if-not-fits_disk.false)
 
 pub write_copies-written-requires-clause-blocks : goal.write_copies-written-requires-clause-blocks
 write_copies-written-requires-clause-blocks g c =
@@ -41,7 +43,7 @@ pub end_written-requires-clause-accessed : goal.end_written-requires-clause-acce
 end_written-requires-clause-accessed g c =
     let st = c.args.state.now in
     let s = written_at st.table c.args.file.now.letter c.requires.writing in
-    let to : CopyTarget = record { letter = c.args.file.now.letter; name = c.args.file.now.name; shape = c.args.shape.now; stamp = c.of.result } in
+    let to : CopyTarget = record { letter = c.args.file.now.letter; name = c.args.file.now.name; write = c.args.write; shape = c.args.shape.now; stamp = c.of.result } in
     still_there (λ (x : Seated) (e : Accessed). WritesTo (seen g.W.World c.args.world.now) (seen g.W.World c.write_copies-written.new.world) x.disk e to c.args.plan.now c.in_ok-input.input.cursor
     c.write_copies-written.result) st.table c.write_copies-written.new.table c.args.file.now.letter s.0 s.1 c.write_copies-written.ensures
 
@@ -49,22 +51,22 @@ pub end_written-requires-clause-device : goal.end_written-requires-clause-device
 end_written-requires-clause-device g c =
     let st = c.args.state.now in
     let s = written_at st.table c.args.file.now.letter c.requires.writing in
-    let to : CopyTarget = record { letter = c.args.file.now.letter; name = c.args.file.now.name; shape = c.args.shape.now; stamp = c.of.result } in
+    let to : CopyTarget = record { letter = c.args.file.now.letter; name = c.args.file.now.name; write = c.args.write; shape = c.args.shape.now; stamp = c.of.result } in
     still_device (λ (x : Seated) (e : Accessed). WritesTo (seen g.W.World c.args.world.now) (seen g.W.World c.write_copies-written.new.world) x.disk e to c.args.plan.now c.in_ok-input.input.cursor
     c.write_copies-written.result) st.table c.write_copies-written.new.table c.args.file.now.letter s.0 c.vdev-vdev.result s.1 c.write_copies-written.ensures c.vdev-vdev.ensures.accessed
 
-pub returns-then-not-can_draft-clause-acts : goal.returns-then-not-can_draft-clause-acts
-returns-then-not-can_draft-clause-acts g c = λ before words line read whole' none shaped.
+pub returns-then-not-fits_disk-clause-acts : goal.returns-then-not-fits_disk-clause-acts
+returns-then-not-fits_disk-clause-acts g c = λ before words line read is shaped.
     cut_read before (spot g.W.World c.args.world.now c.args.state.now) (whole (spot g.W.World c.args.world.now c.args.state.now) words line c.args.file.now) (updated_of c.args.state.now) read
 
 pub returns-clause-acts : goal.returns-clause-acts
-returns-clause-acts g c = λ before words line read is none shaped.
+returns-clause-acts g c = λ before words line read is shaped.
     let st = c.args.state.now in
     let f = c.args.file.now in
     let mid = spot g.W.World c.args.world.now st in
     let now = spot g.W.World c.write_copies-written.new.world (record st { table = c.write_copies-written.new.table }) in
     let s = written_at st.table f.letter c.requires.writing in
-    let to : CopyTarget = record { letter = f.letter; name = f.name; shape = c.args.shape.now; stamp = c.of.result } in
+    let to : CopyTarget = record { letter = f.letter; name = f.name; write = c.args.write; shape = c.args.shape.now; stamp = c.of.result } in
     c.end_written.ensures.acts before mid words line read
-    (copies_written mid now line f c.in_ok-input.input to c.args.plan.now is c.in_ok-input.ensures.opened shaped s.0 c.vdev-vdev.result c.write_copies-written.result none refl refl
+    (copies_written mid now line f c.in_ok-input.input to c.args.plan.now is c.in_ok-input.ensures.opened shaped refl refl s.0 c.vdev-vdev.result c.write_copies-written.result
     c.vdev-vdev.ensures.accessed s.1 c.write_copies-written.ensures refl c.of.ensures.value)

@@ -14,12 +14,12 @@ append_measured-requires-clause-plan g c =
     c.requires.plan ∙ ap (λ (own : Option FileInfo). plan_for line (form_for line.style (form_in f.input) (option_map form_in own)) f) (sym c.in-Some.ensures)
 
 pub returns-in-Some-clause-acts : goal.returns-in-Some-clause-acts
-returns-in-Some-clause-acts g c = λ before words input read opened measures.
+returns-in-Some-clause-acts g c = λ before words read measures.
     let line = c.args.line.now in
     let f = c.args.file.now in
-    c.append_measured.ensures.acts before words input read opened
+    c.append_measured.ensures.acts before words read
     (subst (λ (own : Option FileInfo). AreMeasured (spot g.W.World c.args.world.now c.args.state.now) line f (form_for line.style (form_in f.input) (option_map form_in own)) c.args.measure.now)
     (sym c.in-Some.ensures) measures)
 
 pub returns-in-None-clause-acts : goal.returns-in-None-clause-acts
-returns-in-None-clause-acts g c = λ before words input read opened measures. c.copy_measured.ensures.acts before words read measures
+returns-in-None-clause-acts g c = λ before words read measures. c.copy_measured.ensures.acts before words read measures

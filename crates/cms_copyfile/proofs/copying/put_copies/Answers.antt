@@ -1,4 +1,4 @@
-use Rattle.std.proofs.Common.{◌≡◌, ◌<◌, ◌≤◌, ◌∙◌, ◌++◌, ℕ, List, [], true, false, Ok, Err, ⊎_elim, refl, sym, subst, arith}
+use Rattle.std.proofs.Common.{◌≡◌, ◌<◌, ◌≤◌, ◌∙◌, ℕ, List, [], true, false, Ok, Err, ⊎_elim, refl, sym, subst, arith}
 use Rattle.std.proofs.lemmas.Result.{err_from_is_err_and}
 use Rattle.std.specs.Option.{ForSome}
 use Rattle.cms_journal.specs.declared.event.Attached.{Attached}
@@ -23,7 +23,7 @@ pub loop-place-init : goal.loop-place-init
 loop-place-init g c =
     let told = g.W.World.told c.args.world.now in
     record {
-      to = λ start d m records among from. copied_first start told d m c.args.draft.now among c.args.plan.now c.args.cursor.now records from;
+      to = λ start d m change stamp records from. copied_first start told d m c.args.draft.now change stamp c.args.plan.now c.args.cursor.now records from;
       blocks = c.requires.blocks;
       file = record { unit = refl; total = refl; bsize = refl; leaves = refl; fixed = refl; longest = refl };
       same = same_none c.args.draft.now;
@@ -58,13 +58,13 @@ loop-place-preserved g c =
     let read = n.reads.faults in
     let wrote = put.changes.faults in
     record {
-      to = λ start d m records among from.
-          (let to = inv.to start d m records among from in
-          copied_next start new d m l.draft c.put_nth.new.draft among plan first next records l.place tt to.some put.same
-          (next_put start (told l.world) new d m l.draft c.put_nth.new.draft among plan first l.cursor next records l.place c.text.result.now (Ok tt) from.stay to inv.file file less hands
+      to = λ start d m change stamp records from.
+          (let to = inv.to start d m change stamp records from in
+          copied_next start new d m l.draft c.put_nth.new.draft change stamp plan first next records l.place tt
+          (next_put start (told l.world) new d m l.draft c.put_nth.new.draft change stamp plan first l.cursor next records l.place c.text.result.now (Ok tt) from.stay to inv.file file less hands
           c.text.ensures
-          (subst (λ (t : Told). PutsNth t new d m l.draft c.put_nth.new.draft among plan l.place c.text.result.now (Ok tt)) n.reads.told
-          (λ begin front rest some long wanted goes. put.puts begin d m among front rest some long wanted goes))));
+          (subst (λ (t : Told). PutsNth t new d m l.draft c.put_nth.new.draft change stamp plan l.place c.text.result.now (Ok tt)) n.reads.told
+          (λ begin front rest long wanted goes. put.puts begin d m change stamp front rest long wanted goes))));
       blocks = units_grown (told l.world) new (λ (us : List Attached). HasBlocks us next.unit next.total next.bsize) grown (open_same (told l.world) l.cursor next n.file inv.blocks);
       file = file;
       same = same_then c.args.draft.now l.draft c.put_nth.new.draft inv.same put.same;
@@ -93,11 +93,11 @@ returns-in_err-put_nth-in-Ok-true-clause-puts g c =
     let less : l.place < plan.wanted = omega arith in
     let file = file_then first l.cursor next inv.file n.file in
     let hands = subst (λ (u : ℕ). Hands (told l.world) u l.cursor next true) inv.file.unit (rw handed at n.records) in
-    rw (p.1, p.2) (λ start d m records among from.
-    (let to = inv.to start d m records among from in
-    nth_fails start (told l.world) new d m l.draft c.put_nth.new.draft among plan first l.cursor next records l.place c.text.result.now why' from.stay to inv.file file less hands c.text.ensures
-    (subst (λ (t : Told). PutsNth t new d m l.draft c.put_nth.new.draft among plan l.place c.text.result.now (Err why')) n.reads.told
-    (λ begin front rest some long wanted goes. put.puts begin d m among front rest some long wanted goes))))
+    rw (p.1, p.2) (λ start d m change stamp records from.
+    (let to = inv.to start d m change stamp records from in
+    nth_fails start (told l.world) new d m l.draft c.put_nth.new.draft change stamp plan first l.cursor next records l.place c.text.result.now why' from.stay to inv.file file less hands c.text.ensures
+    (subst (λ (t : Told). PutsNth t new d m l.draft c.put_nth.new.draft change stamp plan l.place c.text.result.now (Err why')) n.reads.told
+    (λ begin front rest long wanted goes. put.puts begin d m change stamp front rest long wanted goes))))
 
 pub returns-in_err-put_nth-in-Ok-true-clause-same : goal.returns-in_err-put_nth-in-Ok-true-clause-same
 returns-in_err-put_nth-in-Ok-true-clause-same g c =
@@ -119,7 +119,7 @@ returns-in_err-put_nth-in-Ok-true-clause-changes g c =
 
 -- there is no record more
 pub returns-in-Ok-false-clause-puts : goal.returns-in-Ok-false-clause-puts
-returns-in-Ok-false-clause-puts g c = λ start d m records among from.
+returns-in-Ok-false-clause-puts g c = λ start d m change stamp records from.
     let told = g.W.World.told in
     let l = c.loop-place in
     let inv = l.invariant in
@@ -128,22 +128,22 @@ returns-in-Ok-false-clause-puts g c = λ start d m records among from.
     let next = c.next.new.self in
     let plan = c.args.plan.now in
     let handed = c.in-Ok-false.field-0-test in
-    let to = inv.to start d m records among from in
+    let to = inv.to start d m change stamp records from in
     let file = file_then first l.cursor next inv.file n.file in
     let hands = subst (λ (u : ℕ). Hands (told l.world) u l.cursor next false) inv.file.unit (rw handed at n.records) in
     let low : l.place ≤ plan.wanted = omega arith in
-    subst (λ (t : Told). PutsCopies start t d m l.draft (among.front ++ copies_in plan records) among.behind (Ok tt)) (sym n.reads.told)
-    (copied_all start (told l.world) d m l.draft among plan first l.cursor next records l.place from.stay to inv.file file low hands)
+    subst (λ (t : Told). PutsCopies start t d m l.draft change stamp (copies_in plan records) [] (Ok tt)) (sym n.reads.told)
+    (copied_all start (told l.world) d m l.draft change stamp plan first l.cursor next records l.place from.stay to inv.file file low hands)
 
 -- a read failed
 pub returns-in_default-clause-puts : goal.returns-in_default-clause-puts
-returns-in_default-clause-puts g c = λ start d m records among from.
+returns-in_default-clause-puts g c = λ start d m change stamp records from.
     let told = g.W.World.told in
     let l = c.loop-place in
-    let to = l.invariant.to start d m records among from in
+    let to = l.invariant.to start d m change stamp records from in
     let plan = c.args.plan.now in
-    subst (λ (t : Told). PutsCopies start t d m l.draft (among.front ++ copies_in plan records) among.behind (Err why.Read)) (sym c.in-Err.ensures.reads.told)
-    (given_up start (told l.world) d m l.draft (copies_to among plan to.front) (copies_from among plan l.place to.rest) to.goes)
+    subst (λ (t : Told). PutsCopies start t d m l.draft change stamp (copies_in plan records) [] (Err why.Read)) (sym c.in-Err.ensures.reads.told)
+    (given_up start (told l.world) d m l.draft change stamp (copies_to plan to.front) (copies_from plan l.place to.rest) to.goes)
 
 pub returns-in_default-clause-changes : goal.returns-in_default-clause-changes
 returns-in_default-clause-changes g c =
@@ -163,7 +163,7 @@ returns-in_default-clause-changes g c =
 
 -- never in a world that tells its journal
 pub returns-in-Altered-clause-puts : goal.returns-in-Altered-clause-puts
-returns-in-Altered-clause-puts g c = λ start d m records among from.
+returns-in-Altered-clause-puts g c = λ start d m change stamp records from.
     let told = g.W.World.told in
     let l = c.loop-place in
     let inv = l.invariant in
@@ -171,15 +171,15 @@ returns-in-Altered-clause-puts g c = λ start d m records among from.
     let first = c.args.cursor.now in
     let plan = c.args.plan.now in
     let altered = c.in-Altered.is in
-    let to = inv.to start d m records among from in
+    let to = inv.to start d m change stamp records from in
     let file = file_then first l.cursor c.next.new.self inv.file n.file in
-    never_altered start (told l.world) d m l.draft (copies_to among plan to.front) (copies_from among plan l.place to.rest) first l.cursor c.next.new.self to.rest from.stay to.goes inv.file
+    never_altered start (told l.world) d m l.draft change stamp (copies_to plan to.front) (copies_from plan l.place to.rest) first l.cursor c.next.new.self to.rest from.stay to.goes inv.file
     (subst (λ (u : ℕ). OfImage (told l.world) u (λ image. (all : List (List ℕ)) → HasLeft image l.cursor all → HandsOut image c.next.new.self all (Err failed.Altered)))
     inv.file.unit (rw altered at n.records)) to.left
 
 -- all that are wanted were read
 pub returns-clause-puts : goal.returns-clause-puts
-returns-clause-puts g c = λ start d m records among from.
+returns-clause-puts g c = λ start d m change stamp records from.
     let l = c.loop-place in
     let is : l.place ≡ c.args.plan.now.wanted = omega arith in
-    copied_wanted start (g.W.World.told l.world) d m l.draft among c.args.plan.now c.args.cursor.now l.cursor records l.place (l.invariant.to start d m records among from) is
+    copied_wanted start (g.W.World.told l.world) d m l.draft change stamp c.args.plan.now c.args.cursor.now l.cursor records l.place (l.invariant.to start d m change stamp records from) is

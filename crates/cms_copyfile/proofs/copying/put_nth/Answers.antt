@@ -6,30 +6,30 @@ use Rattle.cms_copyfile.proofs.copying.put_nth.Goals as goal
 
 -- it is in front of the first that is copied
 pub returns-then-place-plan-clause-puts : goal.returns-then-place-plan-clause-puts
-returns-then-place-plan-clause-puts g c = λ start d m among front rest some long wanted goes.
+returns-then-place-plan-clause-puts g c = λ start d m change stamp front rest long wanted goes.
     let less : c.args.place < c.args.plan.now.skipped = omega arith in
-    passed_by start (g.W.World.told c.args.world.now) d m c.args.draft.now among c.args.plan.now front rest c.args.text.now c.args.place
-    (record { some = some; long = long; wanted = wanted; goes = goes }) less
+    passed_by start (g.W.World.told c.args.world.now) d m c.args.draft.now change stamp c.args.plan.now front rest c.args.text.now c.args.place
+    (record { long = long; wanted = wanted; goes = goes }) less
 
 pub returns-in-Ok-clause-puts : goal.returns-in-Ok-clause-puts
-returns-in-Ok-clause-puts g c = λ start d m among front rest some long wanted goes.
+returns-in-Ok-clause-puts g c = λ start d m change stamp front rest long wanted goes.
     let plan = c.args.plan.now in
     let high : plan.skipped ≤ c.args.place = omega arith in
     let is : c.deref.result.now ≡ copied plan.style c.args.text.now = c.deref.ensures.value ∙ c.copy_record.ensures.text in
-    put_there start (g.W.World.told c.args.world.now) d m c.args.draft.now among plan front rest c.args.text.now c.deref.result.now c.args.place is
-    (record { some = some; long = long; wanted = wanted; goes = goes }) high (g.W.World.told c.put_copy.new.world) c.put_copy.new.draft
-    (λ before. c.in-Ok.ensures.puts start d m (copies_to among plan front) (copies_from among plan (c.args.place + 1) rest) some before)
+    put_there start (g.W.World.told c.args.world.now) d m c.args.draft.now change stamp plan front rest c.args.text.now c.deref.result.now c.args.place is
+    (record { long = long; wanted = wanted; goes = goes }) high (g.W.World.told c.put_copy.new.world) c.put_copy.new.draft
+    (λ before. c.in-Ok.ensures.puts start d m change stamp (copies_to plan front) (copies_from plan (c.args.place + 1) rest) before)
 
 -- it is the record that is to come
 pub returns-in-Altered-clause-puts : goal.returns-in-Altered-clause-puts
-returns-in-Altered-clause-puts g c = λ start d m among front rest some long wanted goes.
+returns-in-Altered-clause-puts g c = λ start d m change stamp front rest long wanted goes.
     let plan = c.args.plan.now in
     let high : plan.skipped ≤ c.args.place = omega arith in
     let is : c.deref.result.now ≡ copied plan.style c.args.text.now = c.deref.ensures.value ∙ c.copy_record.ensures.text in
     let altered = c.in-Altered.is in
-    put_never start (g.W.World.told c.args.world.now) d m c.args.draft.now among plan front rest c.args.text.now c.deref.result.now c.args.place is
-    (record { some = some; long = long; wanted = wanted; goes = goes }) high
-    (λ drafts. (rw altered at c.in-Err.ensures.altered) refl (copies_to among plan front) (copies_from among plan (c.args.place + 1) rest) drafts)
+    put_never start (g.W.World.told c.args.world.now) d m c.args.draft.now change stamp plan front rest c.args.text.now c.deref.result.now c.args.place is
+    (record { long = long; wanted = wanted; goes = goes }) high
+    (λ front' drafts. (rw altered at c.in-Err.ensures.altered) refl front' (copies_to plan front) (copies_from plan (c.args.place + 1) rest) drafts)
 
 -- the device failed
 pub returns-in_default : goal.returns-in_default
@@ -40,10 +40,10 @@ returns-in_default g c =
     let is : c.deref.result.now ≡ copied plan.style c.args.text.now = c.deref.ensures.value ∙ c.copy_record.ensures.text in
     let device = ⊎_elim (λ d. d) (λ a. absurd (c.in_default.not-Altered a)) put.fault in
     record {
-      puts = λ start d m among front rest some long wanted goes.
-          put_failed start (g.W.World.told c.args.world.now) d m c.args.draft.now among plan front rest c.args.text.now c.deref.result.now c.args.place is
-          (record { some = some; long = long; wanted = wanted; goes = goes }) high (g.W.World.told c.put_copy.new.world)
-          (λ before. put.puts start d m (copies_to among plan front) (copies_from among plan (c.args.place + 1) rest) some before);
+      puts = λ start d m change stamp front rest long wanted goes.
+          put_failed start (g.W.World.told c.args.world.now) d m c.args.draft.now change stamp plan front rest c.args.text.now c.deref.result.now c.args.place is
+          (record { long = long; wanted = wanted; goes = goes }) high (g.W.World.told c.put_copy.new.world)
+          (λ before. put.puts start d m change stamp (copies_to plan front) (copies_from plan (c.args.place + 1) rest) before);
       capacity = c.copy_record.ensures.capacity;
       same = put.same;
       still = put.still;

@@ -28,7 +28,7 @@ returns-in-Ok g c =
     disk_so (λ (x : Seated) (e : Accessed). FinishesTo mid now x.disk e c.put_copies.new.draft c.finish.result)
     (λ (x : Seated) (e : Accessed). FillsTo before now x.disk e c.args.draft c.args.plan.now c.args.cursor.now c.finish.result) _ _ c.args.letter s.0 s.1 c.finish.ensures
     (λ e so. filled before mid now s.0.disk e c.args.draft c.put_copies.new.draft c.args.plan.now c.args.cursor.now c.in-Ok.field-0 c.put_copies.result c.finish.result c.in-Ok.is
-    put.puts put.same put.changes so)
+    put.puts put.changes so)
 
 pub returns-in-Err-Read : goal.returns-in-Err-Read
 returns-in-Err-Read g c =

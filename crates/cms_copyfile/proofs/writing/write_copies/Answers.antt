@@ -1,10 +1,9 @@
 use Rattle.std.proofs.Common.{Err}
 use Rattle.cms_world.specs.Seen.{seen}
 use Rattle.cms_disk.specs.Disks.{Accessed}
-use Rattle.cms_search.specs.Drafting.{DraftsTo}
 use Rattle.cms_search.specs.Tables.{Seated}
 use Rattle.cms_search.proofs.Stepped.{if_some}
-use Rattle.cms_copyfile.specs.Writing.{FillsTo, WritesTo}
+use Rattle.cms_copyfile.specs.Writing.{FillsTo, PlansTo, WritesTo}
 use Rattle.cms_copyfile.specs.declared.writing.Written.TheVariants.{Came}
 use Rattle.cms_copyfile.proofs.Writes.{disk_so, disk_then, draft_may, some_seat, still_there, written_from, written_none}
 use Rattle.cms_copyfile.proofs.writing.write_copies.Goals as goal
@@ -13,28 +12,30 @@ pub fill-requires-clause-accessed : goal.fill-requires-clause-accessed
 fill-requires-clause-accessed g c =
     let to = c.args.to.now in
     let s = some_seat _ c.requires.accessed in
-    still_there (λ (x : Seated) (e : Accessed). DraftsTo x.disk e to.name to.shape to.stamp c.draft.result) _ _ to.letter s.0 s.1 c.draft.ensures
+    still_there (λ (x : Seated) (e : Accessed). PlansTo (seen g.W.World c.args.world.now) (seen g.W.World c.plan_target.new.world) x.disk e to c.plan_target.result) _ _ to.letter s.0 s.1 c.plan_target.ensures
 
 pub fill-requires-clause-may : goal.fill-requires-clause-may
-fill-requires-clause-may g c = draft_may _ _ _ c.args.to.now c.draft.result c.in-Ok.draft c.in-Ok.is c.requires.accessed c.draft.ensures c.requires.may
+fill-requires-clause-may g c = draft_may _ _ _ _ c.args.to.now c.plan_target.result c.in-Ok.draft c.in-Ok.is c.requires.accessed c.plan_target.ensures c.requires.may
 
 pub returns-in-Ok : goal.returns-in-Ok
 returns-in-Ok g c =
     let s = some_seat _ c.requires.accessed in
     let n = c.args.to.now.letter in
     let before = seen g.W.World c.args.world.now in
+    let mid = seen g.W.World c.plan_target.new.world in
     let now = seen g.W.World c.fill.new.world in
-    let h = if_some _ _ s.0 s.1 c.draft.ensures in
-    disk_then (λ (e : Accessed). DraftsTo s.0.disk e c.args.to.now.name c.args.to.now.shape c.args.to.now.stamp c.draft.result)
-    (λ (x : Seated) (e : Accessed). FillsTo before now x.disk e c.in-Ok.draft c.args.plan.now c.args.cursor.now c.fill.result)
+    let h = if_some _ _ s.0 s.1 c.plan_target.ensures in
+    disk_then (λ (e : Accessed). PlansTo before mid s.0.disk e c.args.to.now c.plan_target.result)
+    (λ (x : Seated) (e : Accessed). FillsTo mid now x.disk e c.in-Ok.draft c.args.plan.now c.args.cursor.now c.fill.result)
     (λ (x : Seated) (e : Accessed). WritesTo before now x.disk e c.args.to.now c.args.plan.now c.args.cursor.now c.fill.result)
     _ _ _ n s.0 s.1 h c.fill.ensures
-    (λ e so. written_from before now s.0.disk h.disk e c.args.to.now c.args.plan.now c.args.cursor.now c.draft.result c.in-Ok.draft c.fill.result c.in-Ok.is h.does (c.requires.may s.0 s.1) so)
+    (λ e so. written_from before mid now s.0.disk h.disk e c.args.to.now c.args.plan.now c.args.cursor.now c.plan_target.result c.in-Ok.draft c.fill.result c.in-Ok.is h.does so)
 
 pub returns-in-Err : goal.returns-in-Err
 returns-in-Err g c =
     let s = some_seat _ c.requires.accessed in
-    let w = seen g.W.World c.args.world.now in
-    disk_so (λ (x : Seated) (e : Accessed). DraftsTo x.disk e c.args.to.now.name c.args.to.now.shape c.args.to.now.stamp c.draft.result)
-    (λ (x : Seated) (e : Accessed). WritesTo w w x.disk e c.args.to.now c.args.plan.now c.args.cursor.now (Came (Err c.in-Err.fault))) _ _ c.args.to.now.letter s.0 s.1 c.draft.ensures
-    (λ e so. written_none w s.0.disk e c.args.to.now c.args.plan.now c.args.cursor.now c.draft.result c.in-Err.fault c.in-Err.is so (c.requires.may s.0 s.1))
+    let before = seen g.W.World c.args.world.now in
+    let now = seen g.W.World c.plan_target.new.world in
+    disk_so (λ (x : Seated) (e : Accessed). PlansTo before now x.disk e c.args.to.now c.plan_target.result)
+    (λ (x : Seated) (e : Accessed). WritesTo before now x.disk e c.args.to.now c.args.plan.now c.args.cursor.now (Came (Err c.in-Err.fault))) _ _ c.args.to.now.letter s.0 s.1 c.plan_target.ensures
+    (λ e so. written_none before now s.0.disk e c.args.to.now c.args.plan.now c.args.cursor.now c.plan_target.result c.in-Err.fault c.in-Err.is so)

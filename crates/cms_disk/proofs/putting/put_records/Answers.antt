@@ -5,7 +5,7 @@ use Rattle.cms_journal.proofs.Pieces.{grown_then}
 use Rattle.cms_records.specs.Stored.{records_in}
 use Rattle.cms_disk.specs.Changing.{IsDevices}
 use Rattle.cms_disk.specs.Drafts.{GoesOn, PutsRecord}
-use Rattle.cms_disk.proofs.Filling.{NextFits, PutTo, changes_then, next_fits, put_all, put_first, put_last, put_next, same_some, same_then}
+use Rattle.cms_disk.proofs.Filling.{NextFits, PutTo, changes_then, next_fits, put_all, put_first, put_last, put_next, same_then}
 use Rattle.cms_disk.proofs.putting.put_records.Given as given
 use Rattle.cms_disk.proofs.putting.put_records.Goals as goal
 use Rattle.cms_disk.proofs.putting.put_records.Goals.{In-Some}
@@ -64,7 +64,7 @@ loop-text-preserved g c =
       next = search rules;
       finite = search rules;
       put = put_next (told c.args.world.now) (told l.world) (told c.put_record.new.world) c.args.draft.now l.draft c.put_record.new.draft all c.next.new.self c.in-Some.text.now to put.more put.same
-          (λ begin a m done some goes. put.puts begin a m done c.next.new.self some goes);
+          (λ begin a m change stamp done goes. put.puts begin a m change stamp done c.next.new.self goes);
       ready = put.still;
       grown = grown_then (told c.args.world.now) (told l.world) (told c.put_record.new.world) inv.grown put.changes.grown;
       faults = omega (arith, first, second);
@@ -79,11 +79,11 @@ returns-in_err-put_record-clause-puts g c =
     let put = c.in_err-put_record.ensures in
     let all = records_in c.args.file.now in
     let to = put_so_far g (goal.at.returns-in_err-put_record-clause-puts g c).In-Some in
-    λ start d m done records some stands goes.
+    λ start d m change stamp done records stands goes.
     let is : all ≡ records = sym c.of-text-items.ensures.records ∙ c.of-text-items.ensures.stands records stands in
-    subst (PutsRecord start (told c.put_record.new.world) d m c.put_record.new.draft (done ++ records) []) (sym p.1)
-    (put.puts start d m (done ++ to.gone) c.next.new.self (same_some d.volume c.args.draft.now l.draft to.same some)
-    (to.goes start d m done some (subst (GoesOn start (told c.args.world.now) d m c.args.draft.now done) (sym (to.all_are ∙ is)) goes)))
+    subst (PutsRecord start (told c.put_record.new.world) d m c.put_record.new.draft change stamp (done ++ records) []) (sym p.1)
+    (put.puts start d m change stamp (done ++ to.gone) c.next.new.self
+    (to.goes start d m change stamp done (subst (GoesOn start (told c.args.world.now) d m c.args.draft.now change stamp done) (sym (to.all_are ∙ is)) goes)))
 
 pub returns-in_err-put_record-clause-same : goal.returns-in_err-put_record-clause-same
 returns-in_err-put_record-clause-same g c = same_then c.args.draft.now c.loop-text.draft c.put_record.new.draft c.loop-text.invariant.put.same c.in_err-put_record.ensures.same
@@ -97,13 +97,13 @@ returns-in_err-put_record-clause-changes g c =
     inv.grown inv.faults inv.edges c.in_err-put_record.ensures.changes)
 
 pub returns-clause-puts : goal.returns-clause-puts
-returns-clause-puts g c = λ start d m done records some stands goes.
+returns-clause-puts g c = λ start d m change stamp done records stands goes.
     let l = c.loop-text in
     let told = g.W.World.told in
     let all = records_in c.args.file.now in
     let to = subst (PutTo (told c.args.world.now) (told l.world) c.args.draft.now l.draft all) c.in-None.ensures.steps.0 l.invariant.put in
     put_all (told c.args.world.now) (told l.world) c.args.draft.now l.draft all records to
-    (sym c.of-text-items.ensures.records ∙ c.of-text-items.ensures.stands records stands) start d m done some goes
+    (sym c.of-text-items.ensures.records ∙ c.of-text-items.ensures.stands records stands) start d m change stamp done goes
 
 pub returns-clause-full : goal.returns-clause-full
 returns-clause-full g c =

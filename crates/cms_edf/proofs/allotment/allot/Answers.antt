@@ -1,32 +1,66 @@
 -- What is needed, and whether it is there.
-use Rattle.std.proofs.Common.{◌∙◌, ap, length, arith}
+use Rattle.std.proofs.Common.{◌∙◌, ap, length, subst, arith}
 use Rattle.cms_map.specs.Bits.{free_blocks}
+use Rattle.cms_held.specs.Kept.{Keeps}
 use Rattle.cms_held.specs.Opening.{Holding}
-use Rattle.cms_held.proofs.Allotting.{need_of}
+use Rattle.cms_edf.proofs.AllottedSteps.{Splits, splits_asked}
 use Rattle.cms_edf.proofs.allotment.allot.Goals as goal
+use Rattle.cms_edf.proofs.allotment.allot.Goals.{In-Ok}
+
+splits : (c : In-Ok) → Splits c.args.held.now.volume c.args.exchange.now c.in-Ok.places
+splits c =
+    let kept : Keeps c.args.held.now.volume = subst (λ (h : Holding). Keeps h.volume) c.held.view_is c.held.invariant.kept in
+    splits_asked c.args.held.now.volume c.args.exchange.now c.in-Ok.places kept c.requires.few c.in-Ok.ensures.leaves c.in-Ok.ensures.nodes c.requires.first c.requires.may
+
+pub written_count-requires : goal.written_count-requires
+written_count-requires c =
+    let s = splits (goal.at.written_count-requires c).In-Ok in
+    let low = s.low in
+    omega (arith, low)
+
+pub overflow_add-need : goal.overflow_add-need
+overflow_add-need c =
+    let s = splits (goal.at.overflow_add-need c).In-Ok in
+    let low = s.low in
+    let count = c.written_count.ensures in
+    let small = c.requires.small in
+    omega (arith, low, count, small)
+
+pub overflow_add-need-2 : goal.overflow_add-need-2
+overflow_add-need-2 c =
+    let s = splits (goal.at.overflow_add-need-2 c).In-Ok in
+    let low = s.low in
+    let most = s.charge_low in
+    let count = c.written_count.ensures in
+    let charge = c.map_blocks.ensures in
+    let small = c.requires.small in
+    omega (arith, low, most, count, charge, small)
 
 pub returns-then-free-need-clause-full : goal.returns-then-free-need-clause-full
 returns-then-free-need-clause-full c =
-    let v = c.args.held.now.volume in
-    let k = c.count_blocks-counts.ensures in
-    let r = c.count_blocks-counts.result in
-    let size = ap (λ (h : Holding). h.volume.disk.bsize) c.held.view_is in
-    let total = ap (λ (h : Holding). h.volume.label.blocks) c.held.view_is in (
-      need_of v c.held.inside.bsize c.held.inside.label.blocks c.args.files r.directory r.directory_nodes r.map r.map_nodes c.args.file size total k.first k.directory k.directory_nodes k.map
-          k.map_nodes,
+    let s = splits (goal.at.returns-then-free-need-clause-full c).In-Ok in
+    let needs = s.need_is in
+    let count = c.written_count.ensures in
+    let charge = c.map_blocks.ensures in (
+      omega (arith, needs, count, charge),
       c.free_count-free.ensures.count ∙ ap (λ (h : Holding). length (free_blocks h.volume.bits)) c.held.view_is,
       c.if-free-need.true,
     )
 
-pub returns-in-Ok-clause-room : goal.returns-in-Ok-clause-room
-returns-in-Ok-clause-room c =
-    let v = c.args.held.now.volume in
-    let k = c.count_blocks-counts.ensures in
-    let r = c.count_blocks-counts.result in
-    let size = ap (λ (h : Holding). h.volume.disk.bsize) c.held.view_is in
-    let total = ap (λ (h : Holding). h.volume.label.blocks) c.held.view_is in
-    let need = need_of v c.held.inside.bsize c.held.inside.label.blocks c.args.files r.directory r.directory_nodes r.map r.map_nodes c.args.file size total k.first k.directory k.directory_nodes k.map
-    k.map_nodes in
+pub allot_all-requires-clause-need : goal.allot_all-requires-clause-need
+allot_all-requires-clause-need c =
+    let s = splits (goal.at.allot_all-requires-clause-need c).In-Ok in
+    let needs = s.need_is in
+    let count = c.written_count.ensures in
+    let charge = c.map_blocks.ensures in
+    omega (arith, needs, count, charge)
+
+pub returns-in-Ok-allot_all-clause-room : goal.returns-in-Ok-allot_all-clause-room
+returns-in-Ok-allot_all-clause-room c =
+    let s = splits (goal.at.returns-in-Ok-allot_all-clause-room c).In-Ok in
+    let needs = s.need_is in
+    let count = c.written_count.ensures in
+    let charge = c.map_blocks.ensures in
     let free = c.free_count-free.ensures.count ∙ ap (λ (h : Holding). length (free_blocks h.volume.bits)) c.held.view_is in
     let enough = c.if-free-need.false in
-    omega arith
+    omega (arith, needs, count, charge, free, enough)

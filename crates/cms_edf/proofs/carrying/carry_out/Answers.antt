@@ -1,7 +1,9 @@
 use Rattle.std.proofs.Common.{refl, sym, ◌∙◌, subst}
 use Rattle.cms_edf.specs.Planning.{IsPlanFor}
-use Rattle.cms_edf.proofs.Finished.{edit_keeps, edit_out, label_blocks, label_keeps, label_out}
+use Rattle.cms_edf.proofs.Finished.{IsCarried, carries_out, edit_carried, edit_keeps, label_blocks, label_keeps, label_out}
+use Rattle.cms_edf.proofs.carrying.carry_out.Given as given
 use Rattle.cms_edf.proofs.carrying.carry_out.Goals as goal
+use Rattle.cms_edf.proofs.carrying.carry_out.Goals.{After-carry_edit}
 
 pub carry_edit-requires-clause-kept : goal.carry_edit-requires-clause-kept
 carry_edit-requires-clause-kept g c =
@@ -25,13 +27,29 @@ carry_label-requires-clause-blocks g c = λ j told.
     let q = subst (IsPlanFor v p.change p.stamp) same p.is in
     rw c.in-Relabel.is (label_blocks j.units v q.0 c.in-Relabel.label c.in-Relabel.label_bytes.items c.in-Relabel.label_bytes.items refl q.2 (c.requires.blocks j told))
 
+-- what is told of an edit
+carried : (g : given.Over) (c : After-carry_edit g)
+    → IsCarried (g.W.World.told c.args.world.now) (g.W.World.told c.carry_edit.new.world) c.args.held.now.volume c.carry_edit.new.self.volume c.args.plan c.carry_edit.result
+carried g c =
+    let p = c.requires.plan in
+    let same = sym c.plan.view_is ∙ c.in-Edit.is in
+    edit_carried (g.W.World.told c.args.world.now) (g.W.World.told c.carry_edit.new.world) c.args.held.now.volume c.carry_edit.new.self.volume p.change p.stamp c.args.plan c.in-Edit.edit _ c.in-Edit.systems _
+    c.carry_edit.result p.is same c.in-Edit.edit-is c.in-Edit.systems-is c.carry_edit.ensures.updates c.carry_edit.ensures.volume
+
+pub returns-in-Edit-clause-done : goal.returns-in-Edit-clause-done
+returns-in-Edit-clause-done g c = (carried g (goal.at.returns-in-Edit-clause-done g c).After-carry_edit).done
+
+pub returns-in-Edit-clause-cut_off : goal.returns-in-Edit-clause-cut_off
+returns-in-Edit-clause-cut_off g c = (carried g (goal.at.returns-in-Edit-clause-cut_off g c).After-carry_edit).cut_off
+
+pub returns-in-Edit-clause-volume : goal.returns-in-Edit-clause-volume
+returns-in-Edit-clause-volume g c = (carried g (goal.at.returns-in-Edit-clause-volume g c).After-carry_edit).volume
+
 pub returns-in-Edit-clause-carries : goal.returns-in-Edit-clause-carries
 returns-in-Edit-clause-carries g c = λ j m change stamp told held is.
-    let v = c.args.held.now.volume in
-    let same = sym c.plan.view_is ∙ c.in-Edit.is in
-    edit_out j (g.W.World.told c.args.world.now) (g.W.World.told c.carry_edit.new.world) v c.carry_edit.new.self.volume m change stamp c.args.plan c.in-Edit.edit _ c.in-Edit.systems _
-    c.carry_edit.result told held is
-    same c.in-Edit.edit-is c.in-Edit.systems-is c.carry_edit.ensures.updates c.carry_edit.ensures.volume
+    let k = carried g (goal.at.returns-in-Edit-clause-carries g c).After-carry_edit in
+    carries_out j (g.W.World.told c.args.world.now) (g.W.World.told c.carry_edit.new.world) c.args.held.now.volume c.carry_edit.new.self.volume m change stamp c.args.plan c.carry_edit.result told held is
+    k.done k.volume k.cut_off
 
 pub returns-in-Relabel-clause-carries : goal.returns-in-Relabel-clause-carries
 returns-in-Relabel-clause-carries g c = λ j m change stamp told held is.

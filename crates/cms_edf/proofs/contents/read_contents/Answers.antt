@@ -13,12 +13,12 @@ use Rattle.cms_model.specs.Trees.{image_of}
 use Rattle.cms_tree.specs.Walks.{IsWithin}
 use Rattle.cms_tree.specs.declared.types.Walked.{Walked}
 use Rattle.cms_held.specs.Opening.{HeldFile}
-use Rattle.cms_edf.specs.EntryShapes.{HasSize}
+use Rattle.cms_edf.specs.EntryShapes.{EndsIn, HasSize}
 use Rattle.cms_held.specs.Kept.{IsKeptFile}
 use Rattle.cms_edf.proofs.FilesNamed.{keys_named, values_next, named_next, file_kept}
 use Rattle.cms_edf.proofs.FileTrees.{taken_next}
 use Rattle.cms_edf.proofs.NamesMet.{name_is_new}
-use Rattle.cms_edf.proofs.RecordsRead.{ContentsTo, contents_first, contents_next, contents_bad, contents_last, count_at, taken_is}
+use Rattle.cms_edf.proofs.RecordsRead.{ContentsTo, contents_first, contents_next, contents_bad, contents_last, count_at, nodes_at, taken_is}
 use Rattle.cms_edf.proofs.TreesRead.{plain_block}
 use Rattle.cms_edf.proofs.contents.read_contents.Goals as goal
 
@@ -53,7 +53,7 @@ read_sizes-requires-clause-count g c =
     let nth : c.len-nth.result ≡ k = search rules in
     let count = c.requires.count in
     let leaves : c.deref.result.now ≡ c.in-Some.tree.leaves.items = search rules in
-    ap length leaves ∙ count_at c.args.entries.now c.args.trees.items k c.index-entries-nth.result c.in-Some.tree c.requires.counts (omega (arith, item.0, count)) item.0
+    ap length leaves ∙ count_at c.args.place.now.bsize c.args.entries.now c.args.trees.items k c.index-entries-nth.result c.in-Some.tree c.requires.counts (omega (arith, item.0, count)) item.0
     (index_at c.args.entries.now c.len-nth.result k c.index-entries-nth.result nth c.index-entries-nth.is) item.1
 
 pub read_sizes-requires-clause-blocks : goal.read_sizes-requires-clause-blocks
@@ -83,8 +83,8 @@ insert-requires g c =
     let keys_are = ap keys_of l.invariant.named ∙ (keys_named (values l.files) ∙ l.invariant.names) in
     record { new = rw (entry_is, keys_are) (name_is_new a.entries.now k c.index-entries-nth.result c.requires.names (omega (arith, item.0, count)) at) }
 
-pub returns-in_err-sizes-clause-fault : goal.returns-in_err-sizes-clause-fault
-returns-in_err-sizes-clause-fault g c =
+pub returns-in_err-told-clause-fault : goal.returns-in_err-told-clause-fault
+returns-in_err-told-clause-fault g c =
     let l = c.loop-tree in
     let a = c.args in
     let k = length l.yielded in
@@ -97,9 +97,9 @@ returns-in_err-sizes-clause-fault g c =
     let leaves : c.deref.result.now ≡ c.in-Some.tree.leaves.items = search rules in
     rw (p.1, p.2) (λ j told.
     let image = image_of (contents_of j a.place.now.unit) in
-    contents_bad a.place.now.bsize image a.entries.now a.trees.items k (c.len-nth.result + 2) c.index-entries-nth.result c.in-Some.tree c.deref.result.now (values l.files) c.in_err-sizes.field-0.0
+    contents_bad a.place.now.bsize image a.entries.now a.trees.items k (c.len-nth.result + 2) c.index-entries-nth.result c.in-Some.tree c.deref.result.now (values l.files) c.in_err-told.field-0.0
     (omega (arith, item.0, count)) (index_at a.entries.now c.len-nth.result k c.index-entries-nth.result nth c.index-entries-nth.is) item.0 item.1 (omega (arith, nth)) leaves
-    (c.in_err-sizes.ensures.fault j (l.invariant.told ∙ told))
+    (c.in_err-told.ensures.fault j (l.invariant.told ∙ told))
     (subst (λ (ws : List Walked). ContentsTo a.place.now.bsize image a.entries.now ws k (values l.files)) gives (l.invariant.contents j told)))
 
 pub loop-tree-preserved : goal.loop-tree-preserved
@@ -123,7 +123,7 @@ loop-tree-preserved g c =
     let at = index_at a.entries.now c.len-nth.result k c.index-entries-nth.result nth c.index-entries-nth.is in
     let less : k < length a.entries.now = omega (arith, item.0, count) in
     let entry_is : c.file_of.result.entry ≡ c.index-entries-nth.result = ap (λ (f : HeldFile). f.entry) c.file_of.ensures in
-    let sizes = c.in_ok-sizes.ensures in
+    let sizes = c.in_ok-told.ensures in
     record {
       trees = append_assoc l.yielded (c.in-Some.tree ∷ []) _ ∙ rw (← steps) l.invariant.trees;
       len = omega arith;
@@ -132,7 +132,7 @@ loop-tree-preserved g c =
           let image = image_of (contents_of j a.place.now.unit) in
           rw (values_are, one)
           (subst (λ (ws : List Walked). ContentsTo a.place.now.bsize image a.entries.now ws (k + 1) (values l.files ++ (c.file_of.result ∷ []))) (sym gives)
-          (contents_next a.place.now.bsize image a.entries.now a.trees.items k (c.len-nth.result + 2) c.index-entries-nth.result c.in-Some.tree c.deref.result.now c.in_ok-sizes.sizes
+          (contents_next a.place.now.bsize image a.entries.now a.trees.items k (c.len-nth.result + 2) c.index-entries-nth.result c.in-Some.tree c.deref.result.now c.in_ok-told.told
           (values l.files) c.file_of.result
           less at item.0 item.1 (omega (arith, nth)) leaves c.file_of.ensures
           (sizes.read j (l.invariant.told ∙ told))
@@ -145,12 +145,15 @@ loop-tree-preserved g c =
           ∙ (sym (map_push (λ (x : Entry). x.name) (take k a.entries.now) c.index-entries-nth.result)
           ∙ ap (map (λ (x : Entry). x.name)) (sym (taken_next a.entries.now k c.index-entries-nth.result less at))))));
       each = rw values_are (All-push (IsKeptFile a.place.now.bsize a.place.now.total) (values l.files) c.file_of.result l.invariant.each
-          (file_kept a.place.now.bsize a.place.now.total c.index-entries-nth.result c.in-Some.tree c.in_ok-sizes.sizes c.file_of.result c.file_of.ensures
+          (file_kept a.place.now.bsize a.place.now.total c.index-entries-nth.result c.in-Some.tree c.in_ok-told.told c.file_of.result c.file_of.ensures
           (subst (λ (x : Entry). passes a.place.now.bsize x ≡ true) (sym at) (c.requires.entries k c.index-entries-nth.result less))
           (subst (HasSize a.place.now.bsize) (sym at) (c.requires.sizes k c.index-entries-nth.result less))
-          (count_at a.entries.now a.trees.items k c.index-entries-nth.result c.in-Some.tree c.requires.counts less item.0 at item.1)
+          (count_at a.place.now.bsize a.entries.now a.trees.items k c.index-entries-nth.result c.in-Some.tree c.requires.counts less item.0 at item.1)
+          (nodes_at a.place.now.bsize a.entries.now a.trees.items k c.index-entries-nth.result c.in-Some.tree c.requires.counts less item.0 at item.1)
           (subst (IsWithin a.place.now.total None) (sym item.1) (c.requires.within k c.in-Some.tree item.0)).leaves
-          sizes.some sizes.longest sizes.fixed sizes.stored));
+          (subst (IsWithin a.place.now.total None) (sym item.1) (c.requires.within k c.in-Some.tree item.0)).pointers
+          sizes.some sizes.longest sizes.fixed sizes.stored
+          (subst (λ (l : List ℕ). EndsIn a.place.now.bsize (length l) c.in_ok-told.told.sizes.stored) leaves sizes.ends)));
       told = sizes.reads.told ∙ l.invariant.told;
       faults = omega (arith, sizes.reads.faults, l.invariant.faults);
       edges = sizes.reads.edges ∙ l.invariant.edges;

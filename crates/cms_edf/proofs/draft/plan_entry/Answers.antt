@@ -1,22 +1,28 @@
-use Rattle.std.proofs.Common.{List, ℕ, length, All, sym, ◌∙◌, ap, subst}
+use Rattle.std.proofs.Common.{◌≡◌, ◌≤◌, ℕ, List, length, All, sym, ◌∙◌, ap, subst}
+use Rattle.cms_fields.specs.Limits.{most_files}
 use Rattle.cms_fields.specs.declared.entry.Entry.{Entry}
 use Rattle.cms_held.specs.Kept.{Keeps}
+use Rattle.cms_held.specs.Putting.{count_with}
 use Rattle.cms_held.specs.Renewing.{entries_held}
 use Rattle.cms_held.specs.Written.{CanWrite}
-use Rattle.cms_edf.specs.FileDrafts.{IsAllottedSo}
-use Rattle.cms_edf.proofs.DraftPlanned.{all_with, count_held}
+use Rattle.cms_edf.specs.Planning.{AreEnoughFor}
+use Rattle.cms_edf.proofs.DraftPlanned.{all_with, count_held, enough_with}
 use Rattle.cms_edf.proofs.Planned.{can_write_all}
 use Rattle.cms_edf.proofs.draft.plan_entry.Goals as goal
 
-pub fill_systems-requires-clause-each : goal.fill_systems-requires-clause-each
-fill_systems-requires-clause-each c =
+pub fill_systems-requires : goal.fill_systems-requires
+fill_systems-requires c =
     let v = c.args.held.now.volume in
     let kept : Keeps v = c.with-entries.ensures.kept in
-    subst (All CanWrite) (sym c.with-entries.ensures.entries)
-    (all_with CanWrite (entries_held v.files) c.args.place c.args.entry.now (can_write_all v.disk.bsize v.label.blocks v.files kept.each) c.requires.entry)
-
-pub fill_systems-requires-clause-allotted : goal.fill_systems-requires-clause-allotted
-fill_systems-requires-clause-allotted c =
-    let v = c.args.held.now.volume in
-    subst (λ (n : ℕ). IsAllottedSo v n c.args.allotment)
-    (sym (ap (λ (l : List Entry). length l) c.with-entries.ensures.entries ∙ count_held v.files c.args.place c.args.entry.now)) c.requires.allotted
+    let are = c.with-entries.ensures.entries in
+    let count : length c.with-entries.result ≡ count_with c.args.place (length v.files) = ap (λ (l : List Entry). length l) are ∙ count_held v.files c.args.place c.args.entry.now in
+    record {
+      stamp = c.requires.stamp;
+      few = subst (λ (n : ℕ). n ≤ most_files) (sym count) c.requires.few;
+      each = subst (All CanWrite) (sym are)
+          (all_with CanWrite (entries_held v.files) c.args.place c.args.entry.now (can_write_all v.disk.bsize v.label.blocks v.files kept.each) c.requires.entry);
+      files = c.requires.files ∙ sym count;
+      enough = subst (λ (es : List Entry). AreEnoughFor v es c.args.exchange.now) (sym are) (enough_with v c.args.place c.args.entry.now c.args.exchange.now kept.sized c.requires.made);
+      allotted = c.requires.allotted;
+      map_few = c.requires.map_few;
+    }

@@ -26,8 +26,8 @@ loop-nth-preserved g c =
       files = λ j told. rw grown (files_next a.place.now (image_of (contents_of j a.place.now.unit)) a.leaves.now a.entries.now l.nth c.holder_of-holder.result c.index-entries-nth.result l.trees.items
           c.in_ok-tree.tree
           (search rules) c.index-entries-nth.is c.holder_of-holder.ensures (c.in_ok-tree.ensures.read j (l.invariant.told ∙ told)) (l.invariant.files j told));
-      counts = rw grown (counts_next a.entries.now l.nth c.index-entries-nth.result l.trees.items c.in_ok-tree.tree
-          (search rules) c.index-entries-nth.is c.in_ok-tree.ensures.count l.invariant.counts);
+      counts = rw grown (counts_next a.place.now.bsize a.entries.now l.nth c.index-entries-nth.result l.trees.items c.in_ok-tree.tree
+          (search rules) c.index-entries-nth.is c.in_ok-tree.ensures.count c.in_ok-tree.ensures.pointers l.invariant.counts);
       many = rw grown (length_push l.trees.items c.in_ok-tree.tree ∙ ap (λ (n : ℕ). n + 1) l.invariant.many);
       within = rw grown (All-push (IsWithin a.place.now.total None) l.trees.items c.in_ok-tree.tree l.invariant.within c.in_ok-tree.ensures.within);
       told = c.in_ok-tree.ensures.reads.told ∙ l.invariant.told;
@@ -40,4 +40,4 @@ returns-clause-read g c = λ j told. files_last c.args.place.now (image_of (cont
     (search rules) (c.loop-nth.invariant.files j told)
 
 pub returns-clause-counts : goal.returns-clause-counts
-returns-clause-counts g c = counts_last c.args.entries.now c.loop-nth.nth c.loop-nth.trees.items (search rules) c.loop-nth.invariant.counts
+returns-clause-counts g c = counts_last c.args.place.now.bsize c.args.entries.now c.loop-nth.nth c.loop-nth.trees.items (search rules) c.loop-nth.invariant.counts

@@ -11,7 +11,7 @@ use Rattle.cms_edf.proofs.files.read_files.Given as goal
 abbrev pub invariant-loop-nth : goal.invariant-loop-nth
 invariant-loop-nth g l = record {
   files : ForSome (g.W.World.told l.fn.world) (λ j. FilesTo l.place (image_of (contents_of j l.place.unit)) l.leaves l.entries l.nth l.trees.items);
-  counts : HaveCounts (take l.nth l.entries) l.trees.items;
+  counts : HaveCounts l.place.bsize (take l.nth l.entries) l.trees.items;
   many : length l.trees.items ≡ l.nth;
   within : All (IsWithin l.place.total None) l.trees.items;
   told : g.W.World.told l.world ≡ g.W.World.told l.fn.world;

@@ -1,9 +1,24 @@
 -- What is put together is an empty volume.
-use Rattle.std.proofs.Common.{[], refl, rules}
+use Rattle.std.proofs.Common.{◌≤◌, ◌/◌, [], length, refl, rules, arith}
 use Rattle.cms_held.specs.Making.{Making, IsEmptyVolume}
+use Rattle.cms_held.proofs.Allotting.{map_small, nodes_few}
 use Rattle.cms_held.proofs.Made.{made_kept}
 use Rattle.cms_edf.proofs.NewSystems.{made_ready}
 use Rattle.cms_edf.proofs.making.plan_make.Goals as goal
+
+pub of_whole-requires-2-clause-few_nodes : goal.of_whole-requires-2-clause-few_nodes
+of_whole-requires-2-clause-few_nodes c =
+    let leaves = length c.in_ok-tree.field-0.tree.leaves in
+    let size = c.bytes.ensures.value in
+    let least = c.bytes.ensures.least in
+    let most = c.bytes.ensures.most in
+    let low : 512 ≤ c.args.bsize = omega (arith, size, least) in
+    let high : c.args.bsize ≤ 4096 = omega (arith, size, most) in
+    let few = map_small c.args.unit.now.blocks c.args.bsize low high (search rules) in
+    let nodes = nodes_few (c.args.bsize / 4) leaves (omega (arith, low)) in
+    let count = c.in_ok-tree.ensures.count in
+    let pointers = c.in_ok-tree.ensures.nodes in
+    omega (arith, few, nodes, count, pointers)
 
 made : goal.After-new → Making
 made c = record {
@@ -13,8 +28,10 @@ made c = record {
     label = record { volid = c.args.volid; bsize = c.bytes.result; origin = 4; blocks = c.args.unit.now.blocks; in_use = c.in_ok-tree.field-0.used };
     label_bytes = c.in_ok-label_bytes.label_bytes.items;
     directory = c.in_ok-directory.directory;
+    directory_part = c.in_ok-directory_part.directory_part;
     directory_bytes = c.in_ok-directory_bytes.directory_bytes.items;
     map = c.in_ok-tree.field-0.tree;
+    map_part = c.in_ok-map_part.map_part;
     bits = c.in_ok-tree.field-0.map;
   };
 }

@@ -1,8 +1,9 @@
-use Rattle.std.proofs.Common.{rules, ◌≡◌, ◌-◌, ℕ, List, [], Ok, Err, Some, None, sym, ◌∙◌, ap, subst, drop}
+use Rattle.std.proofs.Common.{rules, ◌≡◌, ◌-◌, ◌/◌, ℕ, List, [], Ok, Err, Some, None, sym, ◌∙◌, ap, subst, drop}
 use Rattle.std.proofs.lemmas.Result.{err_from_is_err_and}
 use Rattle.cms_journal.specs.Journal.{Journal, contents_of}
 use Rattle.cms_model.specs.Trees.{image_of, bytes_at}
 use Rattle.cms_model.specs.Lists.{cut}
+use Rattle.cms_model.specs.Sizes.{pointer_count}
 use Rattle.cms_model.specs.Volumes.{entries_of, first_twice, absent}
 use Rattle.cms_model.specs.declared.fault.OpenFault.TheVariants as failed
 use Rattle.cms_model.specs.Systems.{directory_of, map_of}
@@ -10,7 +11,7 @@ use Rattle.cms_tree.specs.Walks.{tree_at, nodes_at, IsWithin}
 use Rattle.cms_tree.specs.declared.types.TreeAt.{TreeAt}
 use Rattle.cms_held.specs.Opening.{IsFaultOf}
 use Rattle.cms_edf.specs.OpeningSteps.{met_in, system_at}
-use Rattle.cms_edf.proofs.Listings.{HasEntries, HasTree, directory_fault, tree_fault, map_fault, entries_fault, names_fault, listed_so, tree_has, leaf_block, few_files}
+use Rattle.cms_edf.proofs.Listings.{HasEntries, HasTree, counts_are, directory_fault, tree_fault, map_fault, entries_fault, names_fault, listed_so, tree_has, leaf_block, few_files}
 use Rattle.cms_edf.proofs.EntryTests.{entries_shaped, entries_small, entries_pass, entries_stand}
 use Rattle.cms_edf.proofs.open.read_listing.Given as given
 use Rattle.cms_edf.proofs.open.read_listing.Goals as goal
@@ -149,3 +150,18 @@ returns-clause-entries g c =
     let leaves = c.in_ok-walked.ensures.count ∙ ap (λ (x : TreeAt). x.count) at in
     entries_stand _ c.in_ok-directory.directory.count c.in_ok-directory.directory.blocks _ c.args.place.now.bsize
     (search rules) c.in_ok-directory.ensures.count.0 c.in_ok-directory.ensures.count.2 leaves
+
+pub returns-clause-leaves : goal.returns-clause-leaves
+returns-clause-leaves g c =
+    let at : c.system_at-at.result ≡ system_at c.args.place.now c.in_ok-directory.directory (Some c.args.place.now.origin) = search rules in
+    (c.in_ok-directory.ensures.shape.0, c.in_ok-walked.ensures.count ∙ ap (λ (x : TreeAt). x.count) at)
+
+pub returns-clause-pointers : goal.returns-clause-pointers
+returns-clause-pointers g c =
+    let at : c.system_at-at.result ≡ system_at c.args.place.now c.in_ok-directory.directory (Some c.args.place.now.origin) = search rules in
+    c.in_ok-walked.ensures.pointers ∙ ap (λ (x : TreeAt). pointer_count (x.bsize / x.psize) x.count) at
+
+pub returns-clause-counts : goal.returns-clause-counts
+returns-clause-counts g c =
+    counts_are c.args.place.now.bsize c.args.place.now.origin c.args.place.now.total _ c.in_ok-first.first.items (drop 64 c.in_ok-first.first.items) c.in_ok-directory.directory c.in_ok-map.map
+    c.in_ok-directory.ensures.size (search rules) (search rules) (search rules)

@@ -1,18 +1,20 @@
-use Rattle.std.proofs.Common.{rules, ◌≡◌, ◌/◌, List, Ok, Some, map, refl, ◌∙◌, subst}
+use Rattle.std.proofs.Common.{rules, ◌≡◌, ◌/◌, List, Ok, Some, length, map, refl, sym, ◌∙◌, ap, subst}
 use Rattle.std.proofs.lemmas.Result.{err_from_is_err_and}
 use Rattle.indexmap.specs.IndexMap.{values}
-use Rattle.cms_journal.specs.Journal.{contents_of}
+use Rattle.cms_journal.specs.Journal.{IsBlockSize, contents_of}
 use Rattle.cms_fields.specs.declared.entry.Entry.{Entry}
 use Rattle.cms_model.specs.Trees.{image_of, bytes_at}
 use Rattle.cms_model.specs.Volumes.{tree_blocks, contents_in}
 use Rattle.cms_tree.specs.Walks.{nodes_at}
 use Rattle.cms_edf.specs.declared.open.Place.{Place}
-use Rattle.cms_held.specs.Opening.{IsFaultOf}
-use Rattle.cms_model.specs.Sizes.{levels}
+use Rattle.cms_held.specs.Opening.{HeldTree, IsFaultOf}
+use Rattle.cms_fields.specs.Numbers.{up}
+use Rattle.cms_model.specs.DirectoryParts.{directory_count}
+use Rattle.cms_model.specs.Sizes.{levels, pointer_count}
 use Rattle.cms_map.specs.Bits.{bits_in}
 use Rattle.cms_edf.specs.OpeningSteps.{system_at, listed, met_in, listed_in, trees_in, lost_in}
-use Rattle.cms_edf.specs.OpeningFiles.{HasTrees, HasContents, read_trees, opened}
-use Rattle.cms_edf.proofs.VolumeOpened.{listing_bad, trees_bad, marks_bad, records_bad, opens, held_so}
+use Rattle.cms_edf.specs.OpeningFiles.{HasTrees, HasContents, read_trees, opened, told_files}
+use Rattle.cms_edf.proofs.VolumeOpened.{listing_bad, trees_bad, marks_bad, records_bad, opens, held_so, walked_shape}
 use Rattle.cms_edf.proofs.opening.open_labelled.Goals as goal
 
 pub returns-in_err-listing-clause-fault : goal.returns-in_err-listing-clause-fault
@@ -109,8 +111,66 @@ returns-clause-read g c = λ j told.
           (subst (λ (q : Place). HasTrees q (image_of (contents_of j q.unit)) l t) at trees)
           (subst (λ (q : Place). l.map.levels ≡ levels (q.bsize / 4) l.map.blocks) at c.in_ok-listing.ensures.map.1)
           (subst (λ (q : Place). m.map ≡ bits_in q.total (bytes_at (image_of (contents_of j q.unit)) t.map.leaves.items)) at bits)
-          has.files_are);
+          (subst (λ (q : Place). values c.in_ok-files.files ≡ told_files q.bsize l.entries.items t.files.items has.contents) at has.files_are));
     }
 
 pub invariant_of-result : goal.invariant_of-result
-invariant_of-result g c = record { named = search rules; kept = search rules }
+invariant_of-result g c =
+    let l = c.in_ok-listing.ensures in
+    let t = c.in_ok-trees.ensures in
+    let place = c.place_of-place.ensures in
+    let entries : c.deref.result.now ≡ c.in_ok-listing.listing.entries.items = search rules in
+    let files : length (values c.in_ok-files.files) ≡ length c.in_ok-listing.listing.entries.items = c.in_ok-files.ensures.total ∙ ap (λ (es : List Entry). length es) entries in
+    record {
+      named = search rules;
+      kept = record {
+        within = search rules;
+        size = search rules;
+        small = search rules;
+        sized = subst (λ (q : Place). IsBlockSize q.bsize) place l.size;
+        origin_low = search rules;
+        origin_high = search rules;
+        label_long = search rules;
+        directory_shape = walked_shape c.args.bsize c.in_ok-listing.listing.directory.blocks _ c.in_ok-listing.listing.walked c.tree_held.ensures l.leaves l.small.0
+            (subst (λ (q : Place). length c.in_ok-listing.listing.walked.pointers.items ≡ pointer_count (q.bsize / 4) c.in_ok-listing.listing.directory.blocks) place l.pointers);
+        directory_is = ap (λ (t : HeldTree). length t.leaves) c.tree_held.ensures ∙ (l.leaves.1
+            ∙ (subst (λ (q : Place). c.in_ok-listing.listing.directory.blocks ≡ directory_count q.bsize (length c.in_ok-listing.listing.entries.items)) place l.counts.0
+            ∙ ap (directory_count c.args.bsize) (sym files)));
+        map_is = ap (λ (t : HeldTree). length t.leaves) c.tree_held-2.ensures ∙ (t.map.0
+            ∙ subst (λ (q : Place). c.in_ok-listing.listing.map.blocks ≡ up (up q.total 8) q.bsize) place l.counts.1);
+        map_shape = walked_shape c.args.bsize c.in_ok-listing.listing.map.blocks _ c.in_ok-trees.trees.map c.tree_held-2.ensures (l.map.0, t.map.0) l.small.1
+            (subst (λ (q : Place). length c.in_ok-trees.trees.map.pointers.items ≡ pointer_count (q.bsize / 4) c.in_ok-listing.listing.map.blocks) place t.pointers);
+        bits_are = search rules;
+        few = search rules;
+        each = search rules;
+      };
+    }
+
+pub returns-clause-kept : goal.returns-clause-kept
+returns-clause-kept g c =
+    let l = c.in_ok-listing.ensures in
+    let t = c.in_ok-trees.ensures in
+    let place = c.place_of-place.ensures in
+    let entries : c.deref.result.now ≡ c.in_ok-listing.listing.entries.items = search rules in
+    let files : length (values c.in_ok-files.files) ≡ length c.in_ok-listing.listing.entries.items = c.in_ok-files.ensures.total ∙ ap (λ (es : List Entry). length es) entries in
+    record {
+      within = search rules;
+      size = search rules;
+      small = search rules;
+      sized = subst (λ (q : Place). IsBlockSize q.bsize) place l.size;
+      origin_low = search rules;
+      origin_high = search rules;
+      label_long = search rules;
+      directory_shape = walked_shape c.args.bsize c.in_ok-listing.listing.directory.blocks _ c.in_ok-listing.listing.walked c.tree_held.ensures l.leaves l.small.0
+          (subst (λ (q : Place). length c.in_ok-listing.listing.walked.pointers.items ≡ pointer_count (q.bsize / 4) c.in_ok-listing.listing.directory.blocks) place l.pointers);
+      directory_is = ap (λ (t : HeldTree). length t.leaves) c.tree_held.ensures ∙ (l.leaves.1
+          ∙ (subst (λ (q : Place). c.in_ok-listing.listing.directory.blocks ≡ directory_count q.bsize (length c.in_ok-listing.listing.entries.items)) place l.counts.0
+          ∙ ap (directory_count c.args.bsize) (sym files)));
+      map_is = ap (λ (t : HeldTree). length t.leaves) c.tree_held-2.ensures ∙ (t.map.0
+          ∙ subst (λ (q : Place). c.in_ok-listing.listing.map.blocks ≡ up (up q.total 8) q.bsize) place l.counts.1);
+      map_shape = walked_shape c.args.bsize c.in_ok-listing.listing.map.blocks _ c.in_ok-trees.trees.map c.tree_held-2.ensures (l.map.0, t.map.0) l.small.1
+          (subst (λ (q : Place). length c.in_ok-trees.trees.map.pointers.items ≡ pointer_count (q.bsize / 4) c.in_ok-listing.listing.map.blocks) place t.pointers);
+      bits_are = search rules;
+      few = search rules;
+      each = search rules;
+    }

@@ -1,45 +1,97 @@
-use Rattle.std.proofs.Common.{◌*◌, ℕ, ap, sym, ◌∙◌, length, subst, arith}
+use Rattle.std.proofs.Common.{rules, ◌≡◌, ◌*◌, ◌<◌, ℕ, List, All, map, get_or, ap, sym, ◌∙◌, length, refl, subst}
+use Rattle.std.specs.List.{concat}
+use Rattle.cms_fields.specs.Labels.{with_label}
 use Rattle.cms_fields.specs.declared.label.Label.{Label}
+use Rattle.cms_tree.proofs.Own.{in_at}
 use Rattle.cms_held.specs.Kept.{Keeps}
 use Rattle.cms_held.specs.Opening.{Holding}
-use Rattle.cms_held.specs.Systems.{Systems}
+use Rattle.cms_held.specs.Renewing.{label_for}
+use Rattle.cms_held.specs.Systems.{Systems, directory_piece}
 use Rattle.cms_edf.specs.Doubts.{IsReady}
-use Rattle.cms_edf.proofs.Planned.{is_ready, new_bits}
+use Rattle.cms_edf.proofs.NodesKept.{all_at}
+use Rattle.cms_edf.proofs.Planned.{allotted_bits, directory_may, is_ready}
 use Rattle.cms_edf.proofs.planning.fill_systems.Goals as goal
 
 pub label_for-requires-clause-count : goal.label_for-requires-clause-count
 label_for-requires-clause-count c =
     let v = c.args.held.now.volume in
-    let a = c.args.allotment in
-    let t = c.requires.allotted in
     let kept : Keeps v = subst (λ (h : Holding). Keeps h.volume) c.held.view_is c.held.invariant.kept in
-    new_bits v (length c.args.entries.now) t.0 t.1 a.directory a.map_tree a.map t.2 ∙ (kept.bits_are ∙ sym (ap (λ (h : Holding). h.volume.label.blocks) c.held.view_is))
+    allotted_bits v c.args.exchange.now c.args.allotment c.requires.allotted ∙ (kept.bits_are ∙ sym (ap (λ (h : Holding). h.volume.label.blocks) c.held.view_is))
 
 pub invariant_of-result : goal.invariant_of-result
 invariant_of-result c =
     let v = c.args.held.now.volume in
     let a = c.args.allotment in
-    let t = c.requires.allotted in
     let s : Systems = record {
       label = c.in_ok-new.new.label;
       label_bytes = c.in_ok-new.new.bytes.items;
       directory = a.directory;
-      directory_bytes = c.in_ok-bytes.bytes.items;
+      directory_part = a.directory_part;
+      directory_bytes = c.in_ok-directory_bytes.directory_bytes.items;
       map = a.map_tree;
+      map_part = a.map_part;
       bits = a.map;
     } in
     let size = ap (λ (h : Holding). h.volume.disk.bsize) c.held.view_is in
     let total = ap (λ (h : Holding). h.volume.label.blocks) c.held.view_is in
+    let places : c.deref.result.now ≡ a.directory_part.leaves = search rules in
     let label = c.in_ok-new.ensures.label ∙ c.label_for.ensures.label in
     subst (λ (n : ℕ). IsReady n s) (sym size)
-    (is_ready v (length c.args.entries.now) t.0 t.1 s
+    (is_ready v c.args.exchange.now a c.args.entries.now s
     (record {
       kept = subst (λ (h : Holding). Keeps h.volume) c.held.view_is c.held.invariant.kept;
-      bsize = c.in_ok-new.ensures.size;
-      small = (let small = c.label_for.ensures.small in omega arith);
       few = c.requires.few;
-      blocks = t.2;
+      files = c.requires.files;
+      enough = c.requires.enough;
+      allotted = c.requires.allotted;
       label = ap (λ (l : Label). l.blocks) label ∙ total;
       label_long = c.in_ok-new.ensures.long;
-      directory_long = c.in_ok-bytes.ensures.long ∙ ap (λ (n : ℕ). length a.directory.leaves * n) size;
+      directory_is = refl;
+      directory_part_is = refl;
+      map_is = refl;
+      map_part_is = refl;
+      directory_long = c.in_ok-directory_bytes.ensures.long ∙ (ap (λ (l : List ℕ). length l * c.held.inside.bsize) places ∙ ap (λ (n : ℕ). length a.directory_part.leaves * n) size);
     }))
+
+-- the data blocks of the directory that are written are some of it
+pub directory_bytes-requires-clause-at : goal.directory_bytes-requires-clause-at
+directory_bytes-requires-clause-at c =
+    let v = c.args.held.now.volume in
+    let a = c.args.allotment in
+    let written = a.directory_part.leaves in
+    let places : c.deref.result.now ≡ written = search rules in
+    let kept : Keeps v = subst (λ (h : Holding). Keeps h.volume) c.held.view_is c.held.invariant.kept in
+    let may = directory_may v c.args.exchange.now a c.args.entries.now kept c.requires.allotted c.requires.files c.requires.enough in
+    subst (All (λ j. j < length a.directory.leaves)) (sym places) (all_at (λ j. j < length a.directory.leaves) written (λ j less. may.within (get_or written j 0) (in_at written j less)))
+
+pub returns : goal.returns
+returns c =
+    let v = c.args.held.now.volume in
+    let a = c.args.allotment in
+    let s : Systems = record {
+      label = c.in_ok-new.new.label;
+      label_bytes = c.in_ok-new.new.bytes.items;
+      directory = a.directory;
+      directory_part = a.directory_part;
+      directory_bytes = c.in_ok-directory_bytes.directory_bytes.items;
+      map = a.map_tree;
+      map_part = a.map_part;
+      bits = a.map;
+    } in
+    let size : c.held.inside.bsize ≡ v.disk.bsize = ap (λ (h : Holding). h.volume.disk.bsize) c.held.view_is in
+    let old : c.held.inside.label ≡ v.label = ap (λ (h : Holding). h.volume.label) c.held.view_is in
+    let places : c.deref.result.now ≡ a.directory_part.leaves = search rules in
+    record {
+      directory_is = refl;
+      directory_part_is = refl;
+      map_is = refl;
+      map_part_is = refl;
+      bits_are = refl;
+      systems = record {
+        label = c.in_ok-new.ensures.label ∙ (c.label_for.ensures.label ∙ ap (λ (l : Label). label_for l a.map) old);
+        label_bytes = c.in_ok-new.ensures.bytes ∙ ap (λ (l : Label). with_label l v.label_bytes) (sym c.in_ok-new.ensures.label);
+        label_long = c.in_ok-new.ensures.long;
+        directory_bytes = c.in_ok-directory_bytes.ensures.bytes s refl refl ∙ (λ i. concat (map (directory_piece (size i) s c.args.entries.now c.args.stamp.now) (places i)));
+        back = c.in_ok-directory_bytes.ensures.back;
+      };
+    }

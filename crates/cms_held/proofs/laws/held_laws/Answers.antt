@@ -1,9 +1,13 @@
 use Rattle.cms_held.proofs.HeldTrees.{opened_has_held}
 use Rattle.cms_held.proofs.HeldFiles.{opened_is_held, opened_has_room, place_is_told}
+use Rattle.cms_held.proofs.OpenedTrees.{opened_trees_stand}
 use Rattle.cms_held.proofs.laws.held_laws.Goals as goal
 
 pub returns-clause-trees : goal.returns-clause-trees
 returns-clause-trees c = opened_has_held
+
+pub returns-clause-stand : goal.returns-clause-stand
+returns-clause-stand c = opened_trees_stand
 
 pub returns-clause-held : goal.returns-clause-held
 returns-clause-held c = opened_is_held

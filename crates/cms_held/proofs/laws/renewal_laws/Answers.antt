@@ -1,6 +1,6 @@
 use Rattle.cms_held.proofs.Keeping.{front_keeps_held}
 use Rattle.cms_held.proofs.Relabelling.{relabel_is_held}
-use Rattle.cms_held.proofs.Renewals.{update_renews}
+use Rattle.cms_held.proofs.PlannedWrites.{update_renews}
 use Rattle.cms_held.proofs.Answering.{edit_is_answered, renewed_is_changed}
 use Rattle.cms_held.proofs.Edits.{drop_edits, rename_edits}
 use Rattle.cms_held.proofs.laws.renewal_laws.Goals as goal

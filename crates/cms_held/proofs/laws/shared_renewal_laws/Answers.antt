@@ -1,5 +1,6 @@
 use Rattle.cms_held.proofs.SharedNeed.{takes_the_need, written_is_enough}
-use Rattle.cms_held.proofs.SharedRenewals.{part_update_is_small, part_update_renews}
+use Rattle.cms_held.proofs.PartWrites.{part_update_is_small}
+use Rattle.cms_held.proofs.SharedRenewals.{part_update_renews}
 use Rattle.cms_held.proofs.laws.shared_renewal_laws.Goals as goal
 
 pub returns-clause-renews : goal.returns-clause-renews

@@ -1,4 +1,3 @@
-use Rattle.cms_held.proofs.DirectoryNeed.{directory_is_needed, place_is_named}
 use Rattle.cms_held.proofs.EntryPlaces.{edits_have_places, entries_by_place, places_are_enough}
 use Rattle.cms_held.proofs.MapPlaces.{map_by_place, map_is_shared}
 use Rattle.cms_held.proofs.MapShares.{turned_is_enough}
@@ -15,12 +14,6 @@ returns-clause-places c = edits_have_places
 
 pub returns-clause-enough : goal.returns-clause-enough
 returns-clause-enough c = places_are_enough
-
-pub returns-clause-named : goal.returns-clause-named
-returns-clause-named c = place_is_named
-
-pub returns-clause-needed : goal.returns-clause-needed
-returns-clause-needed c = directory_is_needed
 
 pub returns-clause-counted : goal.returns-clause-counted
 returns-clause-counted c = fresh_is_counted

@@ -1,3 +1,4 @@
+use Rattle.cms_model.proofs.DirectoryNeed.{directory_is_needed, place_is_named}
 use Rattle.cms_model.proofs.Needing.{need_taken, changed_where_made, full_where_lacking, limited_where_passing, room_kept}
 use Rattle.cms_model.proofs.laws.room_laws.Goals as goal
 
@@ -15,3 +16,9 @@ returns-clause-limited c = limited_where_passing
 
 pub returns-clause-room : goal.returns-clause-room
 returns-clause-room c = room_kept
+
+pub returns-clause-named : goal.returns-clause-named
+returns-clause-named c = place_is_named
+
+pub returns-clause-needed : goal.returns-clause-needed
+returns-clause-needed c = directory_is_needed

@@ -1,3 +1,4 @@
+use Rattle.cms_model.proofs.Exchanging.{size_is_exchanged, takes_its_size}
 use Rattle.cms_model.proofs.Sharing.{all_is_whole, takes_no_more, behind_is_written}
 use Rattle.cms_model.proofs.ByLevels.{read_is_heaped}
 use Rattle.cms_model.proofs.SharedTiers.{shared_stands}
@@ -27,3 +28,9 @@ returns-clause-leaves c = leaves_times
 
 pub returns-clause-came : goal.returns-clause-came
 returns-clause-came c = came_is_fresh
+
+pub returns-clause-exchanged : goal.returns-clause-exchanged
+returns-clause-exchanged c = size_is_exchanged
+
+pub returns-clause-few : goal.returns-clause-few
+returns-clause-few c = takes_its_size

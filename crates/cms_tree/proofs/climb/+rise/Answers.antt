@@ -1,18 +1,20 @@
-use Rattle.std.proofs.Common.{◌≡◌, ℕ, suc, ◌+◌, ◌-◌, ◌/◌, ◌≤◌, List, [], ◌∷◌, length, take, drop, Option, IfSome, Some, None, Ok, Err, All, refl, sym, ◌∙◌, ap, subst, arith}
+use Rattle.std.proofs.Common.{◌≡◌, ℕ, suc, ◌+◌, ◌-◌, ◌/◌, ◌≤◌, List, [], ◌∷◌, ◌++◌, length, take, drop, Option, IfSome, Some, None, Ok, Err, All, refl, sym, ◌∙◌, ap, subst, arith}
 use Rattle.std.proofs.lemmas.Result.{err_from_is_err_and}
 use Rattle.std.proofs.lemmas.List.{drop-drop, length-drop, length-take, take_all}
 use Rattle.std.proofs.lemmas.List.Elements.{All-head, All-tail, All-cons, All-take, All-drop}
 use Rattle.cms_journal.specs.Journal.{HasBlock, IsWritable}
+use Rattle.cms_journal.specs.Told.{Told}
 use Rattle.cms_fields.specs.Numbers.{up}
 use Rattle.cms_tree.specs.declared.climb.Level.{Level}
 use Rattle.cms_tree.specs.declared.climb.Child.{Child}
 use Rattle.cms_tree.specs.Levels.{over_count}
 use Rattle.cms_tree.specs.Kept.{kept_here, kept_above}
 use Rattle.cms_tree.specs.Tiers.{tier_above, IsTier, IsParent, Stand, Lifts, Rises}
-use Rattle.cms_tree.specs.Climbs.{HasSize, HasEach}
-use Rattle.cms_tree.proofs.Lifting.{some_fan, tier_next}
+use Rattle.cms_tree.specs.Climbs.{AddsOwn, HasSize, HasEach, numbers_behind}
+use Rattle.cms_tree.proofs.Lifting.{div_mono, some_fan, tier_next}
 use Rattle.cms_tree.proofs.Stepping.{rises_nothing, rises_no_more, rises_on, rises_failed, units_kept}
-use Rattle.cms_tree.proofs.Own.{own_none, own_twice, own_grown, in_drop, in_take}
+use Rattle.cms_model.proofs.Members.{In-left, In-right}
+use Rattle.cms_tree.proofs.Own.{own_none, own_some, own_twice, own_grown}
 use Rattle.cms_tree.proofs.climb.+rise.Goals as goal
 
 pub returns-in_default-clause-rises : goal.returns-in_default-clause-rises
@@ -27,7 +29,32 @@ returns-in_default-clause-rises g t c = λ leaves marks numbers node tier es fre
     empty (x ∷ l) is = absurd (omega arith)
 
 pub returns-in_default-clause-own : goal.returns-in_default-clause-own
-returns-in_default-clause-own g t c = own_none (g.W.World.told c.args.world.now) c.args.unit c.args.bsize c.args.fresh.now
+returns-in_default-clause-own g t c = λ kept low.
+    own_none (g.W.World.told c.args.world.now) c.args.unit c.args.bsize
+    (numbers_behind (c.args.bsize / c.args.psize) (length c.args.levels.now) c.args.child.now.count kept c.args.fresh.now)
+
+-- what a level writes is written of it and those above
+lifted_own : (old new : Told) (u bsize fan : ℕ) (level : Level) (above levels : List Level) (child : Child) (fresh : List ℕ) → levels ≡ level ∷ above
+    → ((kept : ℕ) → kept ≤ child.nth → AddsOwn old new u bsize (drop (kept / fan) (take (up child.count fan) fresh)))
+    → (kept : ℕ) → kept ≤ child.nth → AddsOwn old new u bsize (numbers_behind fan (length levels) child.count kept fresh)
+unfolding numbers_behind
+lifted_own old new u bsize fan level above levels child fresh whole own kept low =
+    let here = drop (kept / fan) (take (up child.count fan) fresh) in
+    let more = numbers_behind fan (length above) (up child.count fan) (kept / fan) (drop (up child.count fan) fresh) in
+    subst (λ (l : List Level). AddsOwn old new u bsize (numbers_behind fan (length l) child.count kept fresh)) (sym whole)
+    (own_some old new u bsize here (here ++ more) (λ n is_in. In-left n here more is_in) (own kept low))
+
+pub returns-in_err-parent-clause-own : goal.returns-in_err-parent-clause-own
+returns-in_err-parent-clause-own g t c =
+    let a = c.args in
+    lifted_own (g.W.World.told a.world.now) (g.W.World.told c.lift.new.world) a.unit a.bsize (a.bsize / a.psize) c.in-Some.level.now c.in-Some.above.now a.levels.now a.child.now a.fresh.now
+    c.in-Some.ensures.cases.0 c.lift.ensures.own
+
+pub returns-in-None-clause-own : goal.returns-in-None-clause-own
+returns-in-None-clause-own g t c =
+    let a = c.args in
+    lifted_own (g.W.World.told a.world.now) (g.W.World.told c.lift.new.world) a.unit a.bsize (a.bsize / a.psize) c.in-Some.level.now c.in-Some.above.now a.levels.now a.child.now a.fresh.now
+    c.in-Some.ensures.cases.0 c.lift.ensures.own
 
 pub lift-requires-clause-level : goal.lift-requires-clause-level
 lift-requires-clause-level g t c = All-head (HasSize c.args.bsize) c.in-Some.level.now c.in-Some.above.now (subst (All (HasSize c.args.bsize)) c.in-Some.ensures.cases.0 c.requires.levels)
@@ -70,7 +97,8 @@ rise-requires g t c κs within =
     subst (λ (l : List Level). over_count fan (length l) a.child.now.count ≤ length a.fresh.now) whole c.requires.fresh in
     let same : over_count fan (length above) parent.count ≡ over_count fan (length above) (up a.child.now.count fan) = ap (over_count fan (length above)) p.count in
     let rest = drop parent.count a.fresh.now in
-    let grown = own_grown (g.W.World.told a.world.now) (g.W.World.told c.lift.new.world) a.unit a.bsize a.fresh.now c.lift.ensures.own in
+    let grown = own_grown (g.W.World.told a.world.now) (g.W.World.told c.lift.new.world) a.unit a.bsize
+    (drop (0 / (a.bsize / a.psize)) (take (up a.child.now.count (a.bsize / a.psize)) a.fresh.now)) (c.lift.ensures.own 0 (omega arith)) in
     let kept = units_kept (λ units. HasEach units a.unit a.bsize a.fresh.now) (g.W.World.told a.world.now) (g.W.World.told c.lift.new.world) grown c.requires.blocks in (
       omega arith,
       (
@@ -98,12 +126,37 @@ rise-requires g t c κs within =
       ),
     )
 
+-- and those above write behind it
+risen_own : (old mid new : Told) (u bsize fan : ℕ) (level : Level) (above levels : List Level) (child parent : Child) (fresh : List ℕ) → levels ≡ level ∷ above
+    → parent.count ≡ up child.count fan
+    → ((kept : ℕ) → kept ≤ child.nth → AddsOwn old mid u bsize (drop (kept / fan) (take (up child.count fan) fresh)))
+    → ((kept : ℕ) → kept ≤ child.nth → kept / fan ≤ parent.nth)
+    → ((kept : ℕ) → kept ≤ parent.nth
+    → AddsOwn mid new u bsize (numbers_behind fan (length above) parent.count kept (take (length fresh - parent.count) (drop parent.count fresh))))
+    → (kept : ℕ) → kept ≤ child.nth → AddsOwn old new u bsize (numbers_behind fan (length levels) child.count kept fresh)
+unfolding numbers_behind
+risen_own old mid new u bsize fan level above levels child parent fresh whole count own low_above own' kept low =
+    let here = drop (kept / fan) (take (up child.count fan) fresh) in
+    let more = numbers_behind fan (length above) (up child.count fan) (kept / fan) (drop (up child.count fan) fresh) in
+    let rest : take (length fresh - parent.count) (drop parent.count fresh) ≡ drop parent.count fresh =
+    take_all (length fresh - parent.count) (drop parent.count fresh) (let long = length-drop parent.count fresh in omega arith) in
+    let above_own : AddsOwn mid new u bsize more =
+    subst (λ (n : ℕ). AddsOwn mid new u bsize (numbers_behind fan (length above) n (kept / fan) (drop n fresh))) count
+    (subst (λ (l : List ℕ). AddsOwn mid new u bsize (numbers_behind fan (length above) parent.count (kept / fan) l)) rest (own' (kept / fan) (low_above kept low))) in
+    subst (λ (l : List Level). AddsOwn old new u bsize (numbers_behind fan (length l) child.count kept fresh)) (sym whole)
+    (own_twice old mid new u bsize more (here ++ more) (λ n is_in. In-right n here more is_in)
+    (own_some old mid u bsize here (here ++ more) (λ n is_in. In-left n here more is_in) (own kept low)) above_own)
+
 pub returns-in-Some-2-clause-own : goal.returns-in-Some-2-clause-own
 returns-in-Some-2-clause-own g t c =
     let a = c.args in
-    let count = c.in-Some-2.parent.count in
-    own_twice (g.W.World.told a.world.now) (g.W.World.told c.lift.new.world) (g.W.World.told c.rise.new.world) a.unit a.bsize (take (length a.fresh.now - count) (drop count a.fresh.now)) a.fresh.now
-    (λ n is_in. in_drop n count a.fresh.now (in_take n (length a.fresh.now - count) (drop count a.fresh.now) is_in)) c.lift.ensures.own c.rise.ensures.own
+    let fan = a.bsize / a.psize in
+    let parent = c.in-Some-2.parent in
+    let some = some_fan a.bsize a.psize c.requires.size c.requires.psize in
+    let p : IsParent fan a.child.now parent = subst (λ (o : Option Child). IfSome o (IsParent fan a.child.now)) c.in-Some-2.is c.in_ok-parent.ensures.parent in
+    risen_own (g.W.World.told a.world.now) (g.W.World.told c.lift.new.world) (g.W.World.told c.rise.new.world) a.unit a.bsize fan c.in-Some.level.now c.in-Some.above.now a.levels.now a.child.now
+    parent a.fresh.now c.in-Some.ensures.cases.0 p.count c.lift.ensures.own
+    (λ kept low. subst (λ (n : ℕ). kept / fan ≤ n) (sym p.nth) (div_mono fan kept a.child.now.nth some low)) c.rise.ensures.own
 
 pub returns-in-Some-2-clause-rises : goal.returns-in-Some-2-clause-rises
 returns-in-Some-2-clause-rises g t c = λ leaves marks numbers node tier es fresh_is is_tier stand is_child.

@@ -1,4 +1,4 @@
-use Rattle.std.proofs.Common.{◌≡◌, inr, ◌≤◌, ℕ, ◌/◌, ◌<◌, List, length, get_or, true, refl, sym, ◌∙◌, ap, subst, arith}
+use Rattle.std.proofs.Common.{◌≡◌, inr, ◌≤◌, ℕ, ◌/◌, ◌<◌, List, length, take, drop, get_or, true, refl, sym, ◌∙◌, ap, subst, arith}
 use Rattle.std.specs.Prelude.{replicate}
 use Rattle.std.proofs.lemmas.Result.{err_from_is_err_and}
 use Rattle.std.proofs.lemmas.List.Elements.{All-get_or}
@@ -6,8 +6,9 @@ use Rattle.cms_journal.specs.Journal.{HasBlock}
 use Rattle.cms_journal.specs.Told.{plus}
 use Rattle.cms_fields.specs.Numbers.{up}
 use Rattle.cms_tree.specs.Tiers.{ends_group}
-use Rattle.cms_tree.proofs.Lifting.{Pointed, Stands, some_fan, stands_on, stands_whole, stands_parent, stands_next, stands_ends, may_add_front, group_within}
-use Rattle.cms_tree.proofs.Own.{may_add_own, own_none, in_at}
+use Rattle.cms_tree.proofs.Lifting.{Pointed, Stands, some_fan, stands_on, stands_whole, stands_parent, stands_next, stands_ends, may_add_front, group_within, div_mono}
+use Rattle.cms_model.specs.Lists.{In}
+use Rattle.cms_tree.proofs.Own.{may_add_own, own_none, in_behind}
 use Rattle.cms_tree.proofs.Sums.{div_ceil_is}
 use Rattle.cms_tree.proofs.climb.lift.Given as given
 use Rattle.cms_tree.proofs.climb.lift.Goals as goal
@@ -24,7 +25,9 @@ returns-then-not-ends_group-clause-lifts g c = λ leaves marks numbers node tier
     stands_on (g.W.World.told a.world.now) a.bsize a.psize fan leaves marks numbers node tier es levels a.child.now a.level.now c.point-place.new.self c.point-place.result s p (sym c.ends_group.ensures ∙ c.if-not-ends_group.true)
 
 pub returns-then-not-ends_group-clause-own : goal.returns-then-not-ends_group-clause-own
-returns-then-not-ends_group-clause-own g c = own_none (g.W.World.told c.args.world.now) c.args.unit c.args.bsize c.args.fresh.now
+returns-then-not-ends_group-clause-own g c = λ kept low.
+    let a = c.args in
+    own_none (g.W.World.told a.world.now) a.unit a.bsize (drop (kept / (a.bsize / a.psize)) (take (up a.child.now.count (a.bsize / a.psize)) a.fresh.now))
 
 -- the fresh block is there, and what is written into it has its size
 has_fresh : (g : given.Over) (c : After-deref g)
@@ -37,6 +40,19 @@ has_fresh g c =
     let low = group_within fan a.child.now.count a.child.now.nth some c.requires.within in
     let enough : up a.child.now.count fan ≤ length a.fresh.now = rw fan_is c.requires.fresh in
     (omega arith, ap (λ (l : List ℕ). length l) c.deref.ensures.value ∙ c.point-place.ensures.size ∙ c.requires.level)
+
+-- it ends behind the kept blocks of the level below
+block_behind : (g : given.Over) (c : After-deref g) (kept : ℕ) → kept ≤ c.args.child.now.nth
+    → In (get_or c.args.fresh.now (c.args.child.now.nth / (c.bytes.result / c.from.result)) 0)
+    (drop (kept / (c.args.bsize / c.args.psize)) (take (up c.args.child.now.count (c.args.bsize / c.args.psize)) c.args.fresh.now))
+block_behind g c kept low =
+    let a = c.args in
+    let fan = c.bytes.result / c.from.result in
+    let fan_is : fan ≡ a.bsize / a.psize = rw (c.bytes.ensures.value, c.from.ensures) refl in
+    let some : 1 ≤ fan = rw fan_is (some_fan a.bsize a.psize c.requires.size c.requires.psize) in
+    subst (λ (n : ℕ). In (get_or a.fresh.now (a.child.now.nth / fan) 0) (drop (kept / n) (take (up a.child.now.count n) a.fresh.now))) fan_is
+    (in_behind a.fresh.now (kept / fan) (up a.child.now.count fan) (a.child.now.nth / fan) (div_mono fan kept a.child.now.nth some low)
+    (group_within fan a.child.now.count a.child.now.nth some c.requires.within) (has_fresh g c).0)
 
 pub write_block-requires-clause-block : goal.write_block-requires-clause-block
 write_block-requires-clause-block g c = λ j told.
@@ -64,13 +80,14 @@ returns-in_err-write_block-clause-lifts g c = λ leaves marks numbers node tier 
     )
 
 pub returns-in_err-write_block-clause-own : goal.returns-in_err-write_block-clause-own
-returns-in_err-write_block-clause-own g c =
+returns-in_err-write_block-clause-own g c = λ kept low.
     let a = c.args in
     let fan = c.bytes.result / c.from.result in
-    let fresh = has_fresh g (goal.at.returns-in_err-write_block-clause-own g c).After-deref in
+    let d = (goal.at.returns-in_err-write_block-clause-own g c).After-deref in
     may_add_own (g.W.World.told a.world.now) (g.W.World.told c.write_block.new.self) a.unit a.bsize
-    (record { block = get_or a.fresh.now (a.child.now.nth / fan) 0; bytes = c.deref.result.now }) a.fresh.now
-    (in_at a.fresh.now (a.child.now.nth / fan) fresh.0) fresh.1 c.in_err-write_block.ensures.failed
+    (record { block = get_or a.fresh.now (a.child.now.nth / fan) 0; bytes = c.deref.result.now })
+    (drop (kept / (a.bsize / a.psize)) (take (up a.child.now.count (a.bsize / a.psize)) a.fresh.now))
+    (block_behind g d kept low) (has_fresh g d).1 c.in_err-write_block.ensures.failed
 
 pub returns-clause-parent : goal.returns-clause-parent
 returns-clause-parent g c =
@@ -87,13 +104,14 @@ returns-clause-parent g c =
     }
 
 pub returns-clause-own : goal.returns-clause-own
-returns-clause-own g c =
+returns-clause-own g c = λ kept low.
     let a = c.args in
     let fan = c.bytes.result / c.from.result in
-    let fresh = has_fresh g (goal.at.returns-clause-own g c).After-deref in
+    let d = (goal.at.returns-clause-own g c).After-deref in
     may_add_own (g.W.World.told a.world.now) (g.W.World.told c.write_block.new.self) a.unit a.bsize
-    (record { block = get_or a.fresh.now (a.child.now.nth / fan) 0; bytes = c.deref.result.now }) a.fresh.now
-    (in_at a.fresh.now (a.child.now.nth / fan) fresh.0) fresh.1 (inr c.in_ok-write_block.ensures.wrote)
+    (record { block = get_or a.fresh.now (a.child.now.nth / fan) 0; bytes = c.deref.result.now })
+    (drop (kept / (a.bsize / a.psize)) (take (up a.child.now.count (a.bsize / a.psize)) a.fresh.now))
+    (block_behind g d kept low) (has_fresh g d).1 (inr c.in_ok-write_block.ensures.wrote)
 
 pub returns-clause-lifts : goal.returns-clause-lifts
 returns-clause-lifts g c = λ leaves marks numbers node tier es levels fresh_is is_tier is_open is_child.

@@ -1,4 +1,4 @@
-use Rattle.std.proofs.Common.{◌≡◌, ℕ, []}
+use Rattle.std.proofs.Common.{◌≡◌, []}
 use Rattle.std.specs.Prelude.{replicate}
 use Rattle.cms_tree.specs.Parts.{blocks_in}
 use Rattle.cms_tree.proofs.read.empty_tiers.Given as goal

@@ -28,7 +28,7 @@ returns-in_err-plan-clause-fault g c =
     let p = err_from_is_err_and c.from_residual.result c.from_residual.ensures.1 in
     let view = ap (λ (a : Accessed). a.volume) c.self.view_is in
     let why = c.in_err-plan.field-0.0 in
-    rw (p.1, p.2) (plan_fault c.args.self.now.volume c.args.change.now why (subst (λ (v : HeldVolume). IsFullFor v c.args.change.now why) view c.in_err-plan.ensures.full))
+    rw (p.1, p.2) (plan_fault c.args.self.now.volume c.args.change.now why c.requires.change (subst (λ (v : HeldVolume). IsFullFor v c.args.change.now why) view c.in_err-plan.ensures.full))
 
 pub carry_out-requires-clause-plan : goal.carry_out-requires-clause-plan
 carry_out-requires-clause-plan g c = record {

@@ -35,14 +35,14 @@ invariant_of-self-2 g c =
 pub returns-in_err-commit-clause-alters : goal.returns-in_err-commit-clause-alters
 returns-in_err-commit-clause-alters g c =
     let p = err_from_is_err_and c.from_residual.result c.from_residual.ensures.1 in
-    rw (← c.self.view_is) (λ start m name shape stamp records goes is long.
+    rw (← c.self.view_is) (λ start m change stamp records goes.
     let s = c.self.inside in
     let d : Accessed = record { vdev = s.unit.vdev; writable = s.unit.writable; volume = s.held.volume; spare = s.held.spare } in
     let e : Accessed = record { vdev = s.unit.vdev; writable = s.unit.writable; volume = c.commit.new.held.volume; spare = c.commit.new.held.spare } in
-    let x : Ending start (g.W.World.told c.args.world.now) d m c.args.draft name shape stamp records = record { goes = goes; is = is; sound = c.commit.ensures.sound; long = long } in
+    let x : Ending start (g.W.World.told c.args.world.now) d m c.args.draft change stamp records = record { goes = goes; sound = c.commit.ensures.sound } in
     let failed = c.in_err-commit.ensures in
-    rw (p.1, p.2) (ends_so start (g.W.World.told c.args.world.now) (g.W.World.told c.commit.new.world) d e m c.args.draft name shape stamp records (Err c.in_err-commit.field-0.0) x
-    (failed.events records goes.drafts) failed.commits tt (ap (λ (h : Holding). h.volume) failed.kept)))
+    rw (p.1, p.2) (ends_so start (g.W.World.told c.args.world.now) (g.W.World.told c.commit.new.world) d e m c.args.draft change stamp records (Err c.in_err-commit.field-0.0) x
+    (record { events = failed.events; puts = failed.puts; adds = failed.adds; leads = tt; kept = ap (λ (h : Holding). h.volume) failed.kept })))
 
 pub returns-in_err-commit-clause-fault : goal.returns-in_err-commit-clause-fault
 returns-in_err-commit-clause-fault g c =
@@ -61,14 +61,14 @@ returns-in_err-commit-clause-changes g c =
     })
 
 pub returns-clause-alters : goal.returns-clause-alters
-returns-clause-alters g c = rw (← c.self.view_is) (λ start m name shape stamp records goes is long.
+returns-clause-alters g c = rw (← c.self.view_is) (λ start m change stamp records goes.
     let s = c.self.inside in
     let d : Accessed = record { vdev = s.unit.vdev; writable = s.unit.writable; volume = s.held.volume; spare = s.held.spare } in
     let e : Accessed = record { vdev = s.unit.vdev; writable = s.unit.writable; volume = c.commit.new.held.volume; spare = c.commit.new.held.spare } in
-    let x : Ending start (g.W.World.told c.args.world.now) d m c.args.draft name shape stamp records = record { goes = goes; is = is; sound = c.commit.ensures.sound; long = long } in
+    let x : Ending start (g.W.World.told c.args.world.now) d m c.args.draft change stamp records = record { goes = goes; sound = c.commit.ensures.sound } in
     let made = c.in_ok-commit.ensures in
-    ends_so start (g.W.World.told c.args.world.now) (g.W.World.told c.commit.new.world) d e m c.args.draft name shape stamp records (Ok tt) x (made.events records goes.drafts) made.commits made.volume
-    tt)
+    ends_so start (g.W.World.told c.args.world.now) (g.W.World.told c.commit.new.world) d e m c.args.draft change stamp records (Ok tt) x
+    (record { events = made.events; puts = made.puts; adds = made.adds; leads = made.volume; kept = tt }))
 
 pub returns-clause-changes : goal.returns-clause-changes
 returns-clause-changes g c =

@@ -7,6 +7,7 @@ use Rattle.cms_held.specs.Making.{made_writes}
 use Rattle.cms_held.specs.Opening.{HeldVolume}
 use Rattle.cms_edf.specs.Doubts.{IsCutOff}
 use Rattle.cms_edf.specs.declared.doubt.Doubt.{Doubt}
+use Rattle.cms_edf.proofs.Listings.{fewer_on}
 use Rattle.cms_disk.specs.Changing.{fault_of}
 use Rattle.cms_disk.specs.Making.{Formats, IsReady}
 use Rattle.cms_disk.proofs.Formatting.{IsPlanned, failed_grown, failed_quiet, grown_cut_wipe, made, made_grown, made_quiet, make_failed, make_fault, not_memory, wipe_doubted}
@@ -28,6 +29,11 @@ planned g c j before is ready = record {
   disk_is = c.in_ok-plan.ensures.disk;
   empty = c.in_ok-plan.ensures.empty;
 }
+
+pub wipe-requires-clause-blocks : goal.wipe-requires-clause-blocks
+wipe-requires-clause-blocks g c = λ j told.
+    let least = c.requires.least in
+    fewer_on j.units c.args.unit.now.unit.number 3 c.args.unit.now.unit.blocks c.args.unit.now.bsize (omega (arith, least)) (c.requires.blocks j told)
 
 -- ---- the wiping failed
 

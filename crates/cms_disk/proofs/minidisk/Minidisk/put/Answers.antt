@@ -1,4 +1,4 @@
-use Rattle.std.proofs.Common.{◌≡◌, Result, Err, false, List, [], refl, sym, ◌∙◌, ap, subst}
+use Rattle.std.proofs.Common.{◌≡◌, Result, Err, Some, false, List, [], refl, sym, ◌∙◌, ap, subst}
 use Rattle.std.specs.Prelude.{IfErr, ⊤}
 use Rattle.std.proofs.lemmas.Result.{err_from_is_err_and}
 use Rattle.cms_journal.specs.Journal.{HasBlocks, IsWritable}
@@ -8,18 +8,20 @@ use Rattle.cms_model.specs.Changes.{Put}
 use Rattle.cms_tree.proofs.Stepping.{units_kept}
 use Rattle.cms_held.proofs.Fronts.{if_err}
 use Rattle.cms_held.specs.Opening.{HeldVolume}
+use Rattle.cms_held.specs.Putting.{count_put, limit_put}
+use Rattle.cms_edf.specs.FileDrafts.{IsSomeDraft}
 use Rattle.cms_edf.proofs.Committed.{can_write}
-use Rattle.cms_edf.specs.FileDrafts.{IsDraftFor}
+use Rattle.cms_journal.specs.Told.{Told}
+use Rattle.cms_draft.specs.Drafting.{HaveShape}
 use Rattle.cms_edf.specs.declared.draft.Draft.{Draft}
 use Rattle.cms_draft.specs.declared.shape.DraftShape.{DraftShape}
 use Rattle.cms_disk.specs.Changing.{Alters, IsDevices}
 use Rattle.cms_disk.specs.Disks.{Accessed}
-use Rattle.cms_disk.specs.Drafts.{HaveCounts, IsDraftFault, IsPutFault, file_with, shape_of}
+use Rattle.cms_disk.specs.Drafts.{GoesOn, HaveCounts, IsDraftFault, IsPutFault, file_with, shape_of}
 use Rattle.cms_disk.specs.declared.fault.DiskFault.{DiskFault}
-use Rattle.cms_disk.specs.declared.fault.DiskFault.TheVariants.{ReadOnly}
-use Rattle.cms_disk.proofs.DraftSteps.{some_draft}
-use Rattle.cms_disk.proofs.Filling.{same_draft}
-use Rattle.cms_disk.proofs.FilePut.{Start, alters_same, are_last, begins, changed_behind, device_is_fault, draft_is_fault, given_up, has_counts, long_so, not_read_only, refused_so}
+use Rattle.cms_disk.specs.declared.fault.DiskFault.TheVariants.{Limit, ReadOnly}
+use Rattle.cms_disk.proofs.FilePut.{alters_same, are_last, changed_behind, device_is_fault, draft_is_fault, file_none, given_up, has_counts, has_shape, long_so, not_made, not_read_only, refused_so}
+use Rattle.cms_disk.proofs.Filling.{same_some}
 use Rattle.cms_disk.proofs.minidisk.Minidisk.put.Goals as goal
 
 pub returns-in_err-draft-clause-alters : goal.returns-in_err-draft-clause-alters
@@ -52,9 +54,7 @@ put_records-requires-clause-last g c = are_last c.args.file.now c.requires.file 
 
 pub put_records-requires-clause-ready : goal.put_records-requires-clause-ready
 put_records-requires-clause-ready g c = λ j told.
-    let v = c.args.self.now.volume in
-    let some = some_draft v c.args.name.now c.shape_of-shape.result c.args.stamp.now c.in_ok-draft.draft c.in_ok-draft.ensures.planned in
-    can_write j.units v c.in_ok-draft.draft some (c.requires.blocks j told) (c.requires.writable c.in_ok-draft.ensures.writable j told)
+    can_write j.units c.args.self.now.volume c.in_ok-draft.draft c.in_ok-draft.ensures.some (c.requires.blocks j told) (c.requires.writable c.in_ok-draft.ensures.writable j told)
 
 pub returns-in_err-put_records-clause-alters : goal.returns-in_err-put_records-clause-alters
 returns-in_err-put_records-clause-alters g c = λ j m records told is looked stands.
@@ -69,15 +69,15 @@ returns-in_err-put_records-clause-alters g c = λ j m records told is looked sta
     let draft = c.in_ok-draft.draft in
     let made = c.in_ok-draft.ensures in
     let eq = c.shape_of-shape.ensures.shape in
-    let volume = ap (λ (a : Accessed). a.volume) made.kept in
-    let x : Start j old d e m draft name shape stamp c.args.file.now records =
-    record { told_is = told; is = is; readable = c.requires.blocks j told; looked = looked; volume = volume; planned = made.planned; fresh = made.fresh; stands = stands; shape_is = eq } in
-    let some = some_draft e.volume name shape stamp draft (subst (λ (v : HeldVolume). IsDraftFor v name shape stamp draft) (sym volume) made.planned) in
-    let g' = c.in_err-put_records.ensures.puts old e m [] records some stands (begins j old d e m draft name shape stamp c.args.file.now records x) in
+    let change = Put (file_with name shape records) in
+    let have = subst (λ (s : DraftShape). HaveShape s records) (sym eq) (has_shape c.args.file.now records stands) in
+    let goes = subst (λ (t : Told). GoesOn t t e m draft change stamp [] records) (sym told)
+    (made.begins j m records is (c.requires.blocks j told) looked have (long_so c.args.file.now shape records eq stands)) in
+    let g' = c.in_err-put_records.ensures.puts old e m change stamp [] records stands goes in
     let counts = subst (λ (s : DraftShape). HaveCounts s records) (sym eq) (has_counts c.args.file.now records stands) in
     subst (λ (s : DraftShape). Alters old new d e m (Put (file_with name s records)) stamp c.from_residual-in_err-put_records.result) eq
     (subst (Alters old new d e m (Put (file_with name shape records)) stamp) (sym (p.1 ∙ ap Err (p.2 ∙ c.in_err-put_records.ensures.fault)))
-    (given_up old new e e m (file_with name shape records) stamp _ g' (made.answers j m records is (c.requires.blocks j told) counts) refl))
+    (given_up old new e e m change stamp _ g' (made.answers j m records is (c.requires.blocks j told) counts) (file_none (file_with name shape records)) (refl, refl) refl))
 
 pub commit-requires-clause-blocks : goal.commit-requires-clause-blocks
 commit-requires-clause-blocks g c = λ k told.
@@ -102,20 +102,37 @@ returns-clause-alters g c = λ j m records told is looked stands.
     let shape = c.shape_of-shape.result in
     let stamp = c.args.stamp.now in
     let draft = c.in_ok-draft.draft in
-    let full = c.put_records.new.draft in
     let made = c.in_ok-draft.ensures in
     let put = c.in_ok-put_records.ensures in
     let eq = c.shape_of-shape.ensures.shape in
     let volume = ap (λ (a : Accessed). a.volume) made.kept in
     let writable = ap (λ (a : Accessed). a.writable) made.kept in
-    let x : Start j old d e m draft name shape stamp c.args.file.now records =
-    record { told_is = told; is = is; readable = c.requires.blocks j told; looked = looked; volume = volume; planned = made.planned; fresh = made.fresh; stands = stands; shape_is = eq } in
-    let planned = subst (λ (v : HeldVolume). IsDraftFor v name shape stamp draft) (sym volume) made.planned in
-    let some = some_draft e.volume name shape stamp draft planned in
-    let goes = put.puts old e m [] records some stands (begins j old d e m draft name shape stamp c.args.file.now records x) in
+    let change = Put (file_with name shape records) in
+    let have = subst (λ (s : DraftShape). HaveShape s records) (sym eq) (has_shape c.args.file.now records stands) in
+    let begun = subst (λ (t : Told). GoesOn t t e m draft change stamp [] records) (sym told)
+    (made.begins j m records is (c.requires.blocks j told) looked have (long_so c.args.file.now shape records eq stands)) in
+    let goes = put.puts old e m change stamp [] records stands begun in
     subst (λ (s : DraftShape). Alters old new d c.commit.new.self m (Put (file_with name s records)) stamp c.commit.result) eq
     (alters_same old new d e c.commit.new.self m (Put (file_with name shape records)) stamp c.commit.result volume writable
-    (c.commit.ensures.alters old m name shape stamp records goes (same_draft e.volume name shape stamp draft full put.same planned) (long_so c.args.file.now shape records eq stands)))
+    (c.commit.ensures.alters old m change stamp records goes))
+
+pub returns-in_err-put_records-clause-limited : goal.returns-in_err-put_records-clause-limited
+returns-in_err-put_records-clause-limited g c = λ writable which limit.
+    let shape = c.shape_of-shape.ensures.shape in
+    absurd (not_made c.in_ok-draft.draft (Limit which) (c.in_ok-draft.ensures.limited writable which
+    (subst (λ (s : DraftShape). limit_put (count_put c.args.self.now.volume c.args.name.now) s.count s.bytes ≡ Some which) (sym shape) limit)))
+
+pub returns-clause-limited : goal.returns-clause-limited
+returns-clause-limited g c = λ writable which limit.
+    let shape = c.shape_of-shape.ensures.shape in
+    absurd (not_made c.in_ok-draft.draft (Limit which) (c.in_ok-draft.ensures.limited writable which
+    (subst (λ (s : DraftShape). limit_put (count_put c.args.self.now.volume c.args.name.now) s.count s.bytes ≡ Some which) (sym shape) limit)))
+
+pub commit-requires-clause-planned : goal.commit-requires-clause-planned
+commit-requires-clause-planned g c =
+    let volume = ap (λ (a : Accessed). a.volume) c.in_ok-draft.ensures.kept in
+    subst (λ (v : HeldVolume). IsSomeDraft v c.put_records.new.draft) (sym volume)
+    (same_some c.args.self.now.volume c.in_ok-draft.draft c.put_records.new.draft c.in_ok-put_records.ensures.same c.in_ok-draft.ensures.some)
 
 pub returns-clause-fault : goal.returns-clause-fault
 returns-clause-fault g c =

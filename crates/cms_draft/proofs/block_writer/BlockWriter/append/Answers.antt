@@ -14,7 +14,7 @@ append-init g c =
       unfilled = c.requires.unfilled;
       last = refl;
       begun = record { at = refl; before = omega arith; rest_is = ap (λ (n : ℕ). drop n text) (sym none); same = same_none w; mark = sym (mark_here w w.whole refl); later = omega arith };
-      writes = λ bytes marks s next are. wrote_none told w w bytes marks refl s;
+      writes = λ es bytes marks s next are. wrote_none told w w es bytes marks refl s;
       own = own_kept told w;
       ready = c.requires.ready;
       faults = omega arith;
@@ -38,7 +38,7 @@ append-preserved g c =
       unfilled = e.later.unfilled;
       last = e.later.last ∙ i.last;
       begun = begun_more w w1 w2 c.in-Ok.taken text rest c.after-rest.result.now i.begun e.taken.1 e.taken.2 c.after-rest.ensures.bytes e.later.same e.mark e.later.later;
-      writes = λ bytes marks s next are. appended_on old mid new w w1 w2 text rest bytes marks i.begun next are (i.writes bytes marks s next are) (e.writes bytes marks);
+      writes = λ es bytes marks s next are. appended_on old mid new w w1 w2 text rest es bytes marks i.begun next are (i.writes es bytes marks s next are) (e.writes es bytes marks);
       own = own_on old mid new w w1 i.begun.same i.own e.own;
       ready = e.still;
       faults = let faults = i.faults in let cause = e.counts.cause in omega arith;
@@ -46,10 +46,10 @@ append-preserved g c =
     }
 
 pub returns-in-Err-clause-writes : goal.returns-in-Err-clause-writes
-returns-in-Err-clause-writes g c = λ bytes marks s next are.
+returns-in-Err-clause-writes g c = λ es bytes marks s next are.
     let i = c.append.invariant in
-    appended_stops (g.W.World.told c.args.world.now) (g.W.World.told c.append.world) (g.W.World.told c.take.new.world) c.args.self.now c.append.self c.args.bytes.now c.append.rest.now bytes marks
-    i.begun next are (i.writes bytes marks s next are) (c.in-Err.ensures.writes bytes marks)
+    appended_stops (g.W.World.told c.args.world.now) (g.W.World.told c.append.world) (g.W.World.told c.take.new.world) c.args.self.now c.append.self c.args.bytes.now c.append.rest.now es bytes marks
+    i.begun next are (i.writes es bytes marks s next are) (c.in-Err.ensures.writes es bytes marks)
 
 pub returns-in-Err-clause-own : goal.returns-in-Err-clause-own
 returns-in-Err-clause-own g c =

@@ -16,6 +16,7 @@ returns c =
         psize_is = refl;
         size_is = refl;
         tree_is = c.tree.view_is;
+        kept = refl;
         whole = refl;
         filled = refl;
         mark = refl;

@@ -8,12 +8,12 @@ pub returns-in-Ok-clause-finishes : goal.returns-in-Ok-clause-finishes
 returns-in-Ok-clause-finishes g c =
     let s = c.self.inside in
     let d : Drafting = record { shape = s.shape; put = s.put; writer = s.writer } in
-    rw (← c.self.view_is) (λ records drafts.
-    file_finishes (g.W.World.told c.args.world.now) (g.W.World.told c.finish.new.world) d records (Ok c.in-Ok.field-0) c.self.invariant drafts c.in-Ok.ensures.writes)
+    rw (← c.self.view_is) (λ front records drafts.
+    file_finishes (g.W.World.told c.args.world.now) (g.W.World.told c.finish.new.world) d front records (Ok c.in-Ok.field-0) c.self.invariant drafts c.in-Ok.ensures.writes)
 
 pub returns-in-Err-clause-finishes : goal.returns-in-Err-clause-finishes
 returns-in-Err-clause-finishes g c =
     let s = c.self.inside in
     let d : Drafting = record { shape = s.shape; put = s.put; writer = s.writer } in
-    rw (← c.self.view_is) (λ records drafts.
-    file_finishes {A = ⊤} (g.W.World.told c.args.world.now) (g.W.World.told c.finish.new.world) d records (Err c.in-Err.field-0) c.self.invariant drafts c.in-Err.ensures.writes)
+    rw (← c.self.view_is) (λ front records drafts.
+    file_finishes {A = ⊤} (g.W.World.told c.args.world.now) (g.W.World.told c.finish.new.world) d front records (Err c.in-Err.field-0) c.self.invariant drafts c.in-Err.ensures.writes)

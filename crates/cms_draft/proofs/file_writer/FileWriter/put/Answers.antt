@@ -11,9 +11,9 @@ returns-in-F-clause-puts g c =
     let s = c.self.inside in
     let d : Drafting = record { shape = s.shape; put = s.put; writer = s.writer } in
     let e = c.append.ensures in
-    rw (← c.self.view_is) (λ records more drafts.
+    rw (← c.self.view_is) (λ front records more drafts.
     put_fixed (g.W.World.told c.args.world.now)
-    (g.W.World.told c.append.new.world) d c.append.new.self records more c.args.text.now c.append.result c.in-F.is c.self.invariant drafts e.later.same e.all e.writes)
+    (g.W.World.told c.append.new.world) d c.append.new.self front records more c.args.text.now c.append.result c.in-F.is c.self.invariant drafts e.later.same e.all e.writes)
 
 pub returns-in-Ok-clause-puts : goal.returns-in-Ok-clause-puts
 returns-in-Ok-clause-puts g c =
@@ -27,10 +27,10 @@ returns-in-Ok-clause-puts g c =
     let first = c.in-Ok.ensures in
     let e = c.append-in-Ok.ensures in
     let room = rw (← c.self.view_is) at c.requires.room in
-    rw (← c.self.view_is) (λ records more drafts.
-    let p : Putting d records more text size = record { is = c.in-V.is; drafting = c.self.invariant; drafts = drafts; room = room; size_is = c.write_u16.ensures } in
+    rw (← c.self.view_is) (λ front records more drafts.
+    let p : Putting d front records more text size = record { is = c.in-V.is; drafting = c.self.invariant; drafts = drafts; room = room; size_is = c.write_u16.ensures } in
     let z : Sized old mid d.writer w2 size (Ok tt) = sized old mid d.writer c.begin.new.self w2 size (Ok tt) c.begin.ensures first.later.same first.all first.mark first.later.later first.writes in
-    put_varying old mid (g.W.World.told c.append-in-Ok.new.world) d w2 c.append-in-Ok.new.self records more text size tt c.append-in-Ok.result p z e.later.same e.all e.mark e.later.later e.writes)
+    put_varying old mid (g.W.World.told c.append-in-Ok.new.world) d w2 c.append-in-Ok.new.self front records more text size tt c.append-in-Ok.result p z e.later.same e.all e.mark e.later.later e.writes)
 
 pub returns-in-Ok-clause-own : goal.returns-in-Ok-clause-own
 returns-in-Ok-clause-own g c =
@@ -53,8 +53,8 @@ returns-in-Err-clause-puts g c =
     let w2 = c.append-in-V.new.self in
     let first = c.in-Err.ensures in
     let room = rw (← c.self.view_is) at c.requires.room in
-    rw (← c.self.view_is) (λ records more drafts.
-    let p : Putting d records more text size = record { is = c.in-V.is; drafting = c.self.invariant; drafts = drafts; room = room; size_is = c.write_u16.ensures } in
+    rw (← c.self.view_is) (λ front records more drafts.
+    let p : Putting d front records more text size = record { is = c.in-V.is; drafting = c.self.invariant; drafts = drafts; room = room; size_is = c.write_u16.ensures } in
     let z : Sized old mid d.writer w2 size (Err c.in-Err.field-0) =
     sized old mid d.writer c.begin.new.self w2 size (Err c.in-Err.field-0) c.begin.ensures first.later.same tt tt first.later.later first.writes in
-    put_size_fails old mid d w2 records more text size c.in-Err.field-0 p z)
+    put_size_fails old mid d w2 front records more text size c.in-Err.field-0 p z)

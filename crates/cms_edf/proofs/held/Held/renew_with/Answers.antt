@@ -14,12 +14,12 @@ invariant_of-self c =
     let i = c.self.inside in
     let file = c.args.file in
     let fs = list_with (values i.files) (position (same_name file.entry.name) (names_in (values i.files))) file in
-    let edit : Edit = record { files = fs; given = []; taken = [] } in
+    let edit : Edit = record { files = fs; made = []; given = []; taken = [] } in
     let kept = subst (λ (h : Holding). (edit : Edit) → edit.files ≡ list_with h.volume.files (position (same_name file.entry.name) (names_in h.volume.files)) file
     → Keeps (renewed h.volume edit c.args.systems))
     (sym c.self.view_is) c.requires.kept in
-    let new = subst (λ (s : Systems). IsKept i.bsize i.blocks s.label (length s.label_bytes) s.bits fs) (sym c.systems.view_is) (kept edit refl) in
+    let new = subst (λ (s : Systems). IsKept i.bsize i.blocks s.label (length s.label_bytes) s.directory s.map s.bits fs) (sym c.systems.view_is) (kept edit refl) in
     record {
       named = c.put_file.ensures.named;
-      kept = subst (λ (l : List HeldFile). IsKept i.bsize i.blocks c.systems.inside.label (length c.systems.inside.label_bytes.items) c.systems.inside.map l) (sym c.put_file.ensures.files) new;
+      kept = subst (λ (l : List HeldFile). IsKept i.bsize i.blocks c.systems.inside.label (length c.systems.inside.label_bytes.items) c.systems.inside.directory c.systems.inside.map_tree c.systems.inside.map l) (sym c.put_file.ensures.files) new;
     }

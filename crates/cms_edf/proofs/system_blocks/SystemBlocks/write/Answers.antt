@@ -15,7 +15,7 @@ use Rattle.cms_edf.proofs.system_blocks.SystemBlocks.write.Goals.{After-write_di
 pub write_directory-requires-clause-may : goal.write_directory-requires-clause-may
 write_directory-requires-clause-may g c =
     let i = c.self.inside in
-    let v : Systems = record { label = i.label; label_bytes = i.label_bytes.items; directory = i.directory; directory_bytes = i.directory_bytes.items; map = i.map_tree; bits = i.map } in
+    let v : Systems = record { label = i.label; label_bytes = i.label_bytes.items; directory = i.directory; directory_part = i.directory_part; directory_bytes = i.directory_bytes.items; map = i.map_tree; map_part = i.map_part; bits = i.map } in
     subst (λ (t : Target). MayWrite (g.W.World.told c.args.world.now) t) (target_held c.args.unit v c.args.self.now i.bsize c.self.view_is c.self.invariant.label_long) c.requires.may
 
 -- where they are written
@@ -25,20 +25,20 @@ target g c = record { unit = c.args.unit; total = c.self.inside.label.blocks; bs
 -- the parts, written as they are held, are what an update writes
 written : (g : given.Over) (c : After-write_directory g) (now : Seen) (r : Result ⊤ Failed)
     → Writes (seen g.W.World c.args.world.now) now (target g c)
-    (directory_writes c.self.inside.bsize c.self.inside.directory c.self.inside.directory_bytes.items
-    ++ (map_writes c.self.inside.bsize c.self.inside.map_tree c.self.inside.map ++ first_writes c.self.inside.bsize c.self.inside.directory c.self.inside.directory_bytes.items)) r
+    (directory_writes c.self.inside.bsize c.self.inside.directory c.self.inside.directory_part c.self.inside.directory_bytes.items
+    ++ (map_writes c.self.inside.bsize c.self.inside.map_tree c.self.inside.map_part c.self.inside.map ++ first_writes c.self.inside.bsize c.self.inside.directory c.self.inside.directory_part c.self.inside.directory_bytes.items)) r
     → Writes (seen g.W.World c.args.world.now) now (target_of c.args.unit c.args.self.now) (system_writes (length c.args.self.now.label_bytes) c.args.self.now) r
 written g c now r =
     let i = c.self.inside in
-    let v : Systems = record { label = i.label; label_bytes = i.label_bytes.items; directory = i.directory; directory_bytes = i.directory_bytes.items; map = i.map_tree; bits = i.map } in
+    let v : Systems = record { label = i.label; label_bytes = i.label_bytes.items; directory = i.directory; directory_part = i.directory_part; directory_bytes = i.directory_bytes.items; map = i.map_tree; map_part = i.map_part; bits = i.map } in
     held_made c.args.unit v c.args.self.now i.bsize (seen g.W.World c.args.world.now) now r c.self.view_is c.self.invariant.label_long
 
 -- the directory's part, of the bytes that are held
 directory_done : (g : given.Over) (c : After-write_directory g) (r : Result ⊤ Failed)
-    → Writes (seen g.W.World c.args.world.now) (seen g.W.World c.write_directory.new.world) (target g c) (directory_writes c.self.inside.bsize c.self.inside.directory c.deref.result.now) r
+    → Writes (seen g.W.World c.args.world.now) (seen g.W.World c.write_directory.new.world) (target g c) (directory_writes c.self.inside.bsize c.self.inside.directory c.self.inside.directory_part c.deref.result.now) r
     → Writes (seen g.W.World c.args.world.now) (seen g.W.World c.write_directory.new.world) (target g c)
-    (directory_writes c.self.inside.bsize c.self.inside.directory c.self.inside.directory_bytes.items) r
-directory_done g c r = same_made _ _ (target g c) _ _ r (ap (directory_writes c.self.inside.bsize c.self.inside.directory) c.deref.ensures.value)
+    (directory_writes c.self.inside.bsize c.self.inside.directory c.self.inside.directory_part c.self.inside.directory_bytes.items) r
+directory_done g c r = same_made _ _ (target g c) _ _ r (ap (directory_writes c.self.inside.bsize c.self.inside.directory c.self.inside.directory_part) c.deref.ensures.value)
 
 pub returns-in-Err : goal.returns-in-Err
 returns-in-Err g c =
@@ -59,7 +59,7 @@ returns-in-Ok-write_map_tree g c =
     let at = (goal.at.returns-in-Ok-write_map_tree g c).After-write_directory in
     let one = seen g.W.World c.write_directory.new.world in
     let two = seen g.W.World c.write_map_tree.new.world in
-    let is_last = ap (first_writes c.self.inside.bsize c.self.inside.directory) c.deref-in-Ok-write_map_tree.ensures.value in
+    let is_last = ap (first_writes c.self.inside.bsize c.self.inside.directory c.self.inside.directory_part) c.deref-in-Ok-write_map_tree.ensures.value in
     record {
       writes = written g at _ _ (then_made _ one _ (target g at) _ _ _ (directory_done g at _ c.in-Ok.ensures.writes)
           (then_made one two _ (target g at) _ _ _ c.in-Ok-write_map_tree.ensures.writes (same_made two _ (target g at) _ _ _ is_last c.write_first.ensures.writes)));

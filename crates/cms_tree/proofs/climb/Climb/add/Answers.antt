@@ -7,7 +7,7 @@ use Rattle.cms_tree.specs.declared.climb.Child.{Child}
 use Rattle.cms_tree.specs.Levels.{over_count}
 use Rattle.cms_tree.specs.Builds.{node_at}
 use Rattle.cms_tree.specs.Tiers.{lowest, node_on, IsTier, Stand, Rises}
-use Rattle.cms_tree.specs.Climbs.{Climbing, Adds, AddsOn}
+use Rattle.cms_tree.specs.Climbs.{Climbing, Adds, AddsOn, AddsOwn, numbers_behind}
 use Rattle.cms_tree.proofs.Lifting.{some_fan}
 use Rattle.cms_tree.proofs.Stepping.{over_all, tier_lowest, tier_lowest_on, leaf_child, leaf_added, leaf_added_on}
 use Rattle.cms_tree.proofs.climb.Climb.add.Goals as goal
@@ -72,3 +72,13 @@ returns-clause-adds_on g c =
     i.held.levels
     (subst (λ (l : List Level). Rises (g.W.World.told c.args.world.now) (g.W.World.told c.rise.new.world) c.args.unit s.bsize s.psize leaves marks fresh node
     (lowest base leaves) es leaf l c.rise.new.levels c.rise.result) d risen)))
+
+pub returns-clause-own : goal.returns-clause-own
+returns-clause-own g c =
+    let s = c.self.inside in
+    let i = c.self.invariant in
+    let fan = s.bsize / s.psize in
+    let long : length c.deref_mut.result.now ≡ levels fan s.leaves = ap (λ (l : List Level). length l) c.deref_mut.ensures.value ∙ i.held.levels in
+    rw (← c.self.view_is) (λ base low.
+    subst (λ (n : ℕ). AddsOwn (g.W.World.told c.args.world.now) (g.W.World.told c.rise.new.world) c.args.unit s.bsize (numbers_behind fan n s.leaves base c.args.fresh.now)) long
+    (c.rise.ensures.own base low))

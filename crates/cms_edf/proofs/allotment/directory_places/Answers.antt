@@ -1,0 +1,53 @@
+-- The data blocks in which the entries stand, and the pointer blocks over them.
+use Rattle.std.proofs.Common.{◌≡◌, ◌+◌, ◌*◌, ◌/◌, ℕ, List, length, ◌∙◌, ap, rules, arith}
+use Rattle.std.proofs.lemmas.Result.{IfOk-weaker}
+use Rattle.cms_fields.specs.Numbers.{up}
+use Rattle.cms_model.specs.DirectoryParts.{blocks_made, directory_count}
+use Rattle.cms_model.proofs.DirectoryParts.{blocks_ascend}
+use Rattle.cms_tree.specs.Paths.{fresh_places}
+use Rattle.cms_held.specs.Opening.{Holding}
+use Rattle.cms_held.specs.Systems.{TreePart}
+use Rattle.cms_held.proofs.Allotting.{directory_some}
+use Rattle.cms_edf.proofs.allotment.directory_places.Goals as goal
+
+pub overflow_cast-before : goal.overflow_cast-before
+overflow_cast-before c =
+    let few = c.held.invariant.kept.directory_shape.few in
+    let long = ap (λ (l : List ℕ). length l) c.leaves.ensures in
+    omega (arith, few, long)
+
+pub of_shared-requires-clause-some_before : goal.of_shared-requires-clause-some_before
+of_shared-requires-clause-some_before c =
+    let some = c.held.invariant.kept.directory_shape.some in
+    let long = ap (λ (l : List ℕ). length l) c.leaves.ensures in
+    omega (arith, some, long)
+
+pub of_shared-requires-clause-some : goal.of_shared-requires-clause-some
+of_shared-requires-clause-some c =
+    let count : c.div_ceil-count.result ≡ up (64 * (c.args.exchange.now.files + 2)) c.bytes-bsize.result = search rules in
+    let some = directory_some c.args.exchange.now.files c.bytes-bsize.result c.bytes-bsize.ensures.least in
+    omega (arith, count, some)
+
+pub of_shared-requires-clause-ascends : goal.of_shared-requires-clause-ascends
+of_shared-requires-clause-ascends c =
+    rw c.in_ok-written.ensures (blocks_ascend c.held.inside.bsize (directory_count c.held.inside.bsize c.args.exchange.now.files) c.args.exchange.now.made.now)
+
+pub returns-clause-leaves : goal.returns-clause-leaves
+returns-clause-leaves c =
+    let x = c.args.exchange.now in
+    let v = c.args.held.now.volume in
+    let written = c.in_ok-written.ensures ∙ ap (λ (h : Holding). blocks_made h.volume.disk.bsize x.files x.made.now) c.held.view_is in
+    IfOk-weaker c.of_shared.result _ (λ (p : TreePart). p.leaves ≡ blocks_made v.disk.bsize x.files x.made.now) (λ p is. is ∙ written) c.of_shared.ensures.leaves
+
+pub returns-clause-nodes : goal.returns-clause-nodes
+returns-clause-nodes c =
+    let x = c.args.exchange.now in
+    let v = c.args.held.now.volume in
+    let written = c.in_ok-written.ensures ∙ ap (λ (h : Holding). blocks_made h.volume.disk.bsize x.files x.made.now) c.held.view_is in
+    let size = c.bytes-bsize.ensures.value ∙ ap (λ (h : Holding). h.volume.disk.bsize) c.held.view_is in
+    let before = c.leaves.ensures ∙ ap (λ (h : Holding). h.volume.directory.leaves) c.held.view_is in
+    let count : c.div_ceil-count.result ≡ up (64 * (x.files + 2)) c.bytes-bsize.result = search rules in
+    let count' = count ∙ ap (up (64 * (x.files + 2))) size in
+    IfOk-weaker c.of_shared.result _
+    (λ (p : TreePart). p.nodes ≡ fresh_places (v.disk.bsize / 4) (length v.directory.leaves) (directory_count v.disk.bsize x.files) (blocks_made v.disk.bsize x.files x.made.now))
+    (λ p is. is ∙ (λ i. fresh_places (size i / 4) (length (before i)) (count' i) (written i))) c.of_shared.ensures.nodes

@@ -1,0 +1,82 @@
+use Rattle.std.proofs.Common.{rules, ◌≡◌, inl, inr, ◌-◌, ◌/◌, ◌%◌, ℕ, List, Some, length, slice_get, get_or, refl, sym, ◌∙◌, ap, subst}
+use Rattle.std.proofs.lemmas.Option.{same_Some}
+use Rattle.cms_journal.specs.Journal.{HasBlock}
+use Rattle.cms_fields.specs.Entries.{pointer_size}
+use Rattle.cms_model.specs.Lists.{In}
+use Rattle.cms_model.specs.Sizes.{pointer_count}
+use Rattle.cms_held.specs.Kept.{Keeps}
+use Rattle.cms_held.specs.Opening.{HeldFile, Holding}
+use Rattle.cms_held.proofs.Drafted.{fan_is}
+use Rattle.cms_draft.specs.declared.begun.Begun.{Begun}
+use Rattle.cms_edf.specs.Growing.{IsBegunOf}
+use Rattle.cms_edf.proofs.Begun.{begun_of, file_block, in_place, resumed_as}
+use Rattle.cms_edf.proofs.GrownNumbers.{kept_at}
+use Rattle.cms_edf.proofs.growing.begin.Goals as goal
+
+pub read_rest-requires-clause-blocks : goal.read_rest-requires-clause-blocks
+read_rest-requires-clause-blocks g c = λ j told k less.
+    let v = c.args.held.now.volume in
+    let file = c.index-file.result.now in
+    let at : slice_get v.files c.args.place ≡ Some file = subst (λ (h : Holding). slice_get h.volume.files c.args.place ≡ Some file) c.held.view_is c.index-file.ensures in
+    let kept : Keeps v = subst (λ (h : Holding). Keeps h.volume) c.held.view_is c.held.invariant.kept in
+    file_block j.units v c.args.place file kept at (c.requires.blocks j told) (get_or file.tree.leaves k 0) (inl (in_place file.tree.leaves k 0 less))
+
+pub resume-requires-clause-pointers : goal.resume-requires-clause-pointers
+resume-requires-clause-pointers g c =
+    let v = c.args.held.now.volume in
+    let file = c.index-file.result.now in
+    let at : slice_get v.files c.args.place ≡ Some file = subst (λ (h : Holding). slice_get h.volume.files c.args.place ≡ Some file) c.held.view_is c.index-file.ensures in
+    let kept : Keeps v = subst (λ (h : Holding). Keeps h.volume) c.held.view_is c.held.invariant.kept in
+    let size : c.held.inside.bsize ≡ v.disk.bsize = ap (λ (h : Holding). h.volume.disk.bsize) c.held.view_is in
+    let k = kept_at v c.args.place file kept at in
+    let grown = c.requires.grown file at in
+    let pointers : c.pointers.result.now ≡ file.tree.pointers = search rules in
+    let format : c.pointer_size.result ≡ pointer_size file.entry.format = search rules in
+    ap (λ (l : List ℕ). length l) pointers ∙ k.shape.nodes
+    ∙ (λ i. pointer_count (sym (fan_is v.disk.bsize file.entry.format) i) (length file.tree.leaves))
+    ∙ (λ i. pointer_count (sym size i / sym format i) (sym grown.2.before_is i))
+
+pub resume-requires-clause-blocks : goal.resume-requires-clause-blocks
+resume-requires-clause-blocks g c = λ j told k d less.
+    let v = c.args.held.now.volume in
+    let file = c.index-file.result.now in
+    let at : slice_get v.files c.args.place ≡ Some file = subst (λ (h : Holding). slice_get h.volume.files c.args.place ≡ Some file) c.held.view_is c.index-file.ensures in
+    let kept : Keeps v = subst (λ (h : Holding). Keeps h.volume) c.held.view_is c.held.invariant.kept in
+    let size : c.held.inside.bsize ≡ v.disk.bsize = ap (λ (h : Holding). h.volume.disk.bsize) c.held.view_is in
+    let unit : c.held.inside.unit ≡ v.unit = ap (λ (h : Holding). h.volume.unit) c.held.view_is in
+    let pointers : c.pointers.result.now ≡ file.tree.pointers = search rules in
+    let before = c.requires.blocks j (sym c.in_ok-block.ensures.reads.told ∙ told) in
+    let n = get_or c.pointers.result.now k d in
+    subst (λ (u : ℕ). HasBlock j.units u n c.held.inside.bsize) (sym unit) (subst (λ (b : ℕ). HasBlock j.units v.unit n b) (sym size)
+    (file_block j.units v c.args.place file kept at before n (inr (subst (In n) pointers (in_place c.pointers.result.now k d less)))))
+
+pub returns-clause-begun : goal.returns-clause-begun
+returns-clause-begun g c = λ f there.
+    let v = c.args.held.now.volume in
+    let file = c.index-file.result.now in
+    let at : slice_get v.files c.args.place ≡ Some file = subst (λ (h : Holding). slice_get h.volume.files c.args.place ≡ Some file) c.held.view_is c.index-file.ensures in
+    let kept : Keeps v = subst (λ (h : Holding). Keeps h.volume) c.held.view_is c.held.invariant.kept in
+    let size : c.held.inside.bsize ≡ v.disk.bsize = ap (λ (h : Holding). h.volume.disk.bsize) c.held.view_is in
+    let unit : c.held.inside.unit ≡ v.unit = ap (λ (h : Holding). h.volume.unit) c.held.view_is in
+    let k = kept_at v c.args.place file kept at in
+    let grown = c.requires.grown file at in
+    let pointers : c.pointers.result.now ≡ file.tree.pointers = search rules in
+    let leaves : c.leaves.result.now ≡ file.tree.leaves = search rules in
+    let format : c.pointer_size.result ≡ pointer_size file.entry.format = search rules in
+    let before = grown.2.before_is in
+    let b : Begun = record {
+      climb = c.in_ok-climb.climb;
+      kept = c.args.growth.now.kept;
+      block = c.in_ok-block.block;
+      filled = c.file.inside.size % c.bytes.result;
+      mark = record { last = c.file.inside.entry.count; place = c.file.inside.start };
+    } in
+    subst (λ (x : HeldFile). IsBegunOf (g.W.World.told c.args.world.now) v x c.args.growth.now b) (same_Some file f (sym at ∙ there))
+    (begun_of (g.W.World.told c.args.world.now) v file c.args.growth.now grown.0 b kept.sized k.high grown.1 grown.2 refl
+    ((λ i. ap (λ (x : HeldFile). x.size) c.file.view_is i % (c.bytes.ensures.value ∙ size) i)
+    ) (λ i. record { last = ap (λ (x : HeldFile). x.entry.count) c.file.view_is i; place = ap (λ (x : HeldFile). x.start) c.file.view_is i })
+    c.in_ok-block.ensures.long c.in_ok-block.ensures.bytes c.in_ok-block.ensures.zeros
+    (resumed_as _ _ _ _ _ _ _ _ _ _ _ _ _ _ _ _ _ _ _ c.in_ok-block.ensures.reads.told unit size format before pointers
+    (λ i. get_or (leaves i) (before i - 1) 0)
+    (λ i. record { last = ap (λ (x : HeldFile). x.entry.count) c.file.view_is i; place = ap (λ (x : HeldFile). x.start) c.file.view_is i })
+    c.in_ok-climb.ensures.resumed))

@@ -1,0 +1,127 @@
+use Rattle.std.proofs.Common.{◌≡◌, ◌<◌, ℕ, ◌≤◌, List, [], length, Some, slice_get, refl, sym, ap, subst}
+use Rattle.std.proofs.lemmas.Map.Entries.{length-values_of}
+use Rattle.std.proofs.lemmas.Result.{err_from_is_err_and}
+use Rattle.cms_journal.specs.Journal.{HasBlocks}
+use Rattle.cms_draft.specs.Continuing.{HaveShapeOn, IsBegun, IsContinued, bytes_before}
+use Rattle.cms_draft.specs.Drafting.{Drafts}
+use Rattle.cms_fields.specs.Entries.{fan_of, pointer_size}
+use Rattle.cms_fields.specs.Numbers.{up}
+use Rattle.cms_model.specs.Sizes.{pointer_count}
+use Rattle.cms_held.specs.Drafts.{Front}
+use Rattle.cms_held.specs.Opening.{HeldFile, HeldVolume, Holding}
+use Rattle.cms_edf.specs.FileDrafts.{FileDraft, tree_of}
+use Rattle.cms_edf.specs.Growing.{IsBehind, IsFileOf, IsFrontOf, IsMoreFor, IsMoreRefused}
+use Rattle.cms_edf.proofs.GrownDraft.{GoesOn, WantsOn, on_behind, on_drafts, on_planned, on_refused, on_some, wants_on}
+use Rattle.cms_edf.proofs.Planned.{named_at}
+use Rattle.cms_edf.proofs.growing.plan_more.Given as given
+use Rattle.cms_edf.proofs.growing.plan_more.Goals as goal
+use Rattle.cms_edf.proofs.growing.plan_more.Goals.{After-resume-arg-1, After-resume}
+
+pub begin-requires-clause-place : goal.begin-requires-clause-place
+begin-requires-clause-place g c = (named_at c.reserve.new.self.volume.files c.args.name.now c.place-place.result c.place-place.ensures).within
+
+pub begin-requires-clause-grown : goal.begin-requires-clause-grown
+begin-requires-clause-grown g c = λ f is. (let p = c.in_ok-planned.ensures.planned in (c.args.asked.now, (p.file f is 0).grows, p.growth f is))
+
+pub begin-requires-clause-blocks : goal.begin-requires-clause-blocks
+begin-requires-clause-blocks g c = λ j told.
+    subst (λ (x : HeldVolume). HasBlocks j.units x.unit x.disk.count x.disk.bsize) (sym c.reserve.ensures.volume) (c.requires.blocks j told)
+
+pub returns-in_err-begun-clause-refused : goal.returns-in_err-begun-clause-refused
+returns-in_err-begun-clause-refused g c =
+    let p = err_from_is_err_and c.from_residual-in_err-begun.result c.from_residual-in_err-begun.ensures.1 in
+    rw (p.1, p.2) (subst (λ (x : HeldVolume). (f : HeldFile) → (at : IsFileOf x c.args.name.now f) → IsMoreRefused x at.place f c.args.asked.now c.in_err-begun.field-0.0) c.reserve.ensures.volume
+    (λ f at. on_refused c.reserve.new.self.volume c.args.name.now c.place-place.result c.args.asked.now c.args.stamp.now c.in_ok-planned.planned c.in_err-begun.field-0.0 c.place-place.ensures
+    c.in_ok-planned.ensures.planned c.in_err-begun.ensures.fault f at))
+
+pub index-requires : goal.index-requires
+index-requires g c =
+    subst (λ (n : ℕ). c.place-place.result < n) (length-values_of c.held.inside.files.entries)
+    (subst (λ (h : Holding). c.place-place.result < length h.volume.files) (sym c.held.view_is)
+    (named_at c.reserve.new.self.volume.files c.args.name.now c.place-place.result c.place-place.ensures).within)
+
+-- the file in its place, and what a draft wants that goes on with it
+at_place : (g : given.Over) (c : After-resume-arg-1 g) → slice_get c.reserve.new.self.volume.files c.place-place.result ≡ Some c.index.result.now
+at_place g c = subst (λ (h : Holding). slice_get h.volume.files c.place-place.result ≡ Some c.index.result.now) c.held.view_is c.index.ensures
+
+wants : (g : given.Over) (c : After-resume-arg-1 g) → WantsOn c.reserve.new.self.volume c.index.result.now c.args.asked.now c.in_ok-planned.planned.tree c.in_ok-begun.begun
+wants g c =
+    let at = at_place g c in
+    wants_on (g.W.World.told c.args.world.now) c.reserve.new.self.volume c.args.name.now c.place-place.result c.index.result.now c.args.asked.now c.args.stamp.now c.in_ok-planned.planned
+    c.in_ok-begun.begun at c.in_ok-planned.ensures.planned (c.in_ok-begun.ensures.begun c.index.result.now at)
+
+size_is : (g : given.Over) (c : After-resume-arg-1 g) → c.held.inside.bsize ≡ c.reserve.new.self.volume.disk.bsize
+size_is g c = ap (λ (h : Holding). h.volume.disk.bsize) c.held.view_is
+
+pub resume-requires-clause-some : goal.resume-requires-clause-some
+resume-requires-clause-some g c = (wants g c).some
+
+pub resume-requires-clause-bytes : goal.resume-requires-clause-bytes
+resume-requires-clause-bytes g c = (wants g c).bytes
+
+pub resume-requires-clause-records : goal.resume-requires-clause-records
+resume-requires-clause-records g c = (wants g c).records
+
+pub resume-requires-clause-put : goal.resume-requires-clause-put
+resume-requires-clause-put g c = subst (λ (f : HeldFile). f.entry.count ≤ c.args.asked.now.count) (sym c.behind-held.view_is) (wants g c).put
+
+pub resume-requires-clause-leaves : goal.resume-requires-clause-leaves
+resume-requires-clause-leaves g c = subst (λ (n : ℕ). length c.in_ok-planned.planned.tree.leaves ≡ up c.args.asked.now.bytes n) (sym (size_is g c)) (wants g c).leaves
+
+pub resume-requires-clause-pointers : goal.resume-requires-clause-pointers
+resume-requires-clause-pointers g c =
+    let tree = c.in_ok-planned.planned.tree in
+    subst (λ (n : ℕ). length tree.pointers ≡ pointer_count (fan_of n c.args.asked.now.format) (length tree.leaves)) (sym (size_is g c)) (wants g c).pointers
+
+pub resume-requires-clause-begun : goal.resume-requires-clause-begun
+resume-requires-clause-begun g c =
+    subst (λ (n : ℕ). IsBegun n (pointer_size c.args.asked.now.format) c.in_ok-planned.planned.tree c.in_ok-begun.begun) (sym (size_is g c)) (wants g c).begun
+
+pub resume-requires-clause-within : goal.resume-requires-clause-within
+resume-requires-clause-within g c = subst (λ (n : ℕ). bytes_before n c.in_ok-begun.begun ≤ c.args.asked.now.bytes) (sym (size_is g c)) (wants g c).within
+
+pub resume-requires-clause-mark : goal.resume-requires-clause-mark
+resume-requires-clause-mark g c = subst (λ (f : HeldFile). c.in_ok-begun.begun.mark.last ≤ f.entry.count) (sym c.behind-held.view_is) (wants g c).mark
+
+-- the draft, which goes on with what was planned and read
+abbrev draft_of : (g : given.Over) → After-resume g → FileDraft
+draft_of g c = record { entry = c.in_ok-planned.planned.entry; writer = c.resume.result; systems = c.in_ok-planned.planned.systems }
+
+goes : (g : given.Over) (c : After-resume g)
+    → GoesOn (g.W.World.told c.args.world.now) c.reserve.new.self.volume c.args.name.now c.place-place.result c.index.result.now c.args.asked.now c.args.stamp.now c.in_ok-planned.planned c.in_ok-begun.begun
+    (draft_of g c)
+goes g c =
+    let u = c.reserve.new.self.volume in
+    let file = c.index.result.now in
+    let plan = c.in_ok-planned.planned in
+    let b = c.in_ok-begun.begun in
+    let at : slice_get u.files c.place-place.result ≡ Some file = subst (λ (h : Holding). slice_get h.volume.files c.place-place.result ≡ Some file) c.held.view_is c.index.ensures in
+    record {
+      kept = c.reserve.ensures.kept;
+      there = c.place-place.ensures;
+      is = at;
+      planned = c.in_ok-planned.ensures.planned;
+      begun = c.in_ok-begun.ensures.begun file at;
+      continued = subst (λ (h : Holding). IsContinued h.volume.unit h.volume.disk.bsize file.entry.count c.args.asked.now plan.tree b c.resume.result) c.held.view_is
+          (subst (λ (f : HeldFile). IsContinued c.held.inside.unit c.held.inside.bsize f.entry.count c.args.asked.now plan.tree b c.resume.result) c.behind-held.view_is c.resume.ensures.continued);
+      drafting = c.resume.ensures.kept;
+      entry = refl;
+      systems = refl;
+    }
+
+pub returns-clause-planned : goal.returns-clause-planned
+returns-clause-planned g c =
+    subst (λ (x : HeldVolume). (f : HeldFile) → IsFileOf x c.args.name.now f → IsMoreFor x c.args.name.now f c.args.asked.now c.args.stamp.now (draft_of g c)) c.reserve.ensures.volume
+    (on_planned _ _ _ _ _ _ _ _ _ _ (goes g c))
+
+pub returns-clause-some : goal.returns-clause-some
+returns-clause-some g c = on_some _ _ _ _ _ _ _ _ _ _ (goes g c)
+
+pub returns-clause-behind : goal.returns-clause-behind
+returns-clause-behind g c =
+    subst (λ (x : HeldVolume). (f : HeldFile) → IsFileOf x c.args.name.now f → IsBehind f c.args.asked.now (draft_of g c)) c.reserve.ensures.volume (on_behind _ _ _ _ _ _ _ _ _ _ (goes g c))
+
+pub returns-clause-drafts : goal.returns-clause-drafts
+returns-clause-drafts g c = λ j told.
+    subst (λ (x : HeldVolume). (f : HeldFile) (front : Front) (records : List (List ℕ)) → IsFileOf x c.args.name.now f → IsFrontOf j x f (tree_of (draft_of g c)) front
+    → HaveShapeOn c.args.asked.now front records → Drafts c.resume.result front [] records) c.reserve.ensures.volume (on_drafts _ _ _ _ _ _ _ _ _ _ (goes g c) j told)

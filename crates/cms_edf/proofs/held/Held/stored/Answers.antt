@@ -1,0 +1,15 @@
+-- What is stored of the file at a place is what is stored of that of the map.
+use Rattle.std.proofs.Common.{◌≡◌, List, Some, slice_get, sym, ◌∙◌, ap}
+use Rattle.std.specs.Prelude.{option_map}
+use Rattle.std.proofs.lemmas.Option.{slice_get-map}
+use Rattle.indexmap.specs.IndexMap.{values}
+use Rattle.cms_held.specs.Opening.{HeldFile, Holding}
+use Rattle.cms_edf.proofs.held.Held.stored.Goals as goal
+
+pub returns-clause-stored : goal.returns-clause-stored
+returns-clause-stored c =
+    let v = c.args.self.now.volume in
+    let size = λ (f : HeldFile). f.size in
+    let files : values c.self.inside.files ≡ v.files = ap (λ (h : Holding). h.volume.files) c.self.view_is in
+    slice_get-map size v.files c.args.nth ∙ (ap (λ (l : List HeldFile). option_map size (slice_get l c.args.nth)) (sym files)
+    ∙ (ap (option_map size) c.index.ensures ∙ ap Some (sym c.size.ensures)))
