@@ -1,7 +1,11 @@
 # Where the built program lies, and whether it is that of the sources; and which line of the toolchain is here. Read by the other
-# scripts, which set `home` to the top of the repository.
-crate=$home/crates/cms_cli
-program=$crate/out/cms_cli
+# scripts, which set `home` to the top of the repository, and `tool` to the program's name, else it is cms.
+case ${tool:=cms} in
+    cms) crate_name=cms_cli ;;
+    *) crate_name=$tool ;;
+esac
+crate=$home/crates/$crate_name
+program=$crate/out/$crate_name
 built=$crate/out/built
 
 # Whether a source was changed, added or removed after a file.
@@ -29,7 +33,7 @@ keeps_proofs() {
 # Ends the script where the toolchain isn't there.
 need_toolchain() {
     if ! command -v rt >/dev/null; then
-        echo "cms: the program isn't built, and there is no rt: put the Rattle kit's folder bin into PATH" >&2
+        echo "$tool: the program isn't built, and there is no rt: put the Rattle kit's folder bin into PATH" >&2
         exit 1
     fi
 }

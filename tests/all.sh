@@ -5,10 +5,11 @@
 #     tests/all.sh NAME ..      some, as crash.py
 #     tests/all.sh --needs      says what each needs, and runs nothing
 #
-# Each wants the built program and Python 3. One whose further needs aren't there is left out, and said so. The status is 0 where every
+# Each wants the built program, `cms` or `minidisk`, and Python 3. One whose further needs aren't there is left out, and said so. The status is 0 where every
 # script that was to run was run and passed. tests/wrong/try is apart: it proves, for up to an hour.
 home=$(dirname -- "$(readlink -f -- "$0")")/..
 program=$home/crates/cms_cli/out/cms_cli
+minidisk=$home/crates/minidisk/out/minidisk
 folder=$(mktemp -d)
 trap 'rm -rf "$folder"' EXIT
 
@@ -29,6 +30,12 @@ memory.py        strace  calls for memory that the system refuses
 memory_paths.py  gdb     answers of want of memory that no session of the tests passes by; wants rt too
 hostile.py       -       10,000 damaged images, and single cases; the one of a full file system wants leave to mount
 volume.py        -       makes one large volume, as bench/bench.py reads it
+commands.py      -       random commands of minidisk: what each types, says and leaves
+roundtrips.py    -       texts and records that minidisk puts and gets again, and the limits
+damaged.py       -       damaged images under check, list, info, get and dump of minidisk
+statuses.py      -       words that are refused, images in use, and files and streams that fail, of minidisk
+transcripts.py   -       the commands of README.md and docs/TUTORIAL.md answer what these show
+update_crash.py  strace  a put, an erase and a rename of minidisk, stopped at each write and each sync
 LIST
     for path in "$home"/tests/*.py "$home"/tests/*.sh; do
         [ -x "$path" ] && printf '%s\n' "$(basename "$path")"
@@ -42,6 +49,23 @@ list() {
 
 crash_on() {
     "$home/tests/crash.py" "$folder/$1.img" 512 "$2" DATA
+}
+
+# Whether a script runs `minidisk`.
+is_of_minidisk() {
+    case $1 in
+        commands.py | roundtrips.py | damaged.py | statuses.py | transcripts.py | update_crash.py) ;;
+        *) return 1 ;;
+    esac
+}
+
+# Why a script with this need can't be run, if for something.
+lack() {
+    if is_of_minidisk "$1" && [ ! -x "$minidisk" ]; then
+        echo 'the program minidisk, by ./minidisk --build'
+    elif [ "$2" != - ] && ! command -v "$2" >/dev/null; then
+        echo "$2"
+    fi
 }
 
 run() {
@@ -87,8 +111,9 @@ failed=0
 left=0
 while read -r name need _; do
     is_wanted "$name" "$@" || continue
-    if [ "$need" != - ] && ! command -v "$need" >/dev/null; then
-        echo "all: $name is left out: it needs $need"
+    lack=$(lack "$name" "$need")
+    if [ -n "$lack" ]; then
+        echo "all: $name is left out: it needs $lack"
         left=$((left + 1))
         continue
     fi

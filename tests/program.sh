@@ -2,7 +2,7 @@
 # Runs the program on the example's image, and looks at its statuses, what it types and what it says on standard error; then `./cms` in a
 # fresh clone, where it isn't built, in both ways; and installs it. It is no part of the gate.
 # It needs `git`, the commit that is to be tried, and the toolchain. The program is built first, here and in the clone: where `rt ci` proved
-# this commit on the machine that takes minutes, and else what ./cms says. The four unproved runs take a minute or more each.
+# this commit on the machine that takes minutes, and else what ./cms and ./minidisk say. Each unproved run takes a minute or more.
 home=$(readlink -f -- "$(dirname -- "$(readlink -f -- "$0")")/..")
 cms=$home/cms
 "$cms" --build || exit 1
@@ -138,6 +138,15 @@ expect 'more than it may type' 1 error 'gave no answer' 191,512,ro,disk.img
 holds 'unproved runs leave nothing' test ! -e clone/crates/cms_cli/out
 holds 'and change no image' cmp -s disk.img "$home/examples/disk.img"
 
+# `minidisk` looks into images in the same way.
+cms=$folder/clone/minidisk
+expect 'unproved list' 0 output 'HELLO.TEXT' list disk.img
+holds 'it says how minidisk is built' grep -qF './minidisk --build' error
+expect 'unproved check of two images' 0 output 'sound, 1 files, 0 blocks lost' check disk.img "an image.img"
+expect 'unproved get of what is not there' 1 error 'no file of the image has such a name' get -f records disk.img no.text
+holds 'unproved runs of minidisk leave nothing' test ! -e clone/crates/minidisk/out
+cms=$folder/clone/cms
+
 # Where a word writes, the program is built first. The places of the crates go up by one.
 printf 'TYPE HELLO TEXT A\n' >script
 expect 'built at a word that writes' 0 error 'cms: the program is built' 191,512,rw,disk.img
@@ -151,6 +160,9 @@ clone/install "$folder/prefix" >output 2>error
 cms=$folder/prefix/bin/cms
 expect 'it is installed' 0 output 'HELLO' 191,512,ro,disk.img
 holds 'its manual page is installed' cmp -s prefix/share/man/man1/cms.1 "$home/docs/cms.1"
+holds 'that of minidisk too' cmp -s prefix/share/man/man1/minidisk.1 "$home/docs/minidisk.1"
+cms=$folder/prefix/bin/minidisk
+expect 'minidisk is installed' 0 output 'HELLO.TEXT' list disk.img
 
 echo "$passed passed, $failed failed"
 [ "$failed" = 0 ]

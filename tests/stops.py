@@ -110,12 +110,16 @@ class Trial:
                 return number - 1
             print(f"killed at {call} {number}: {states}")
 
+    def is_whole(self, ended):
+        """Whether a session that wasn't stopped came to its end."""
+        return ended.returncode == 0 and ended.stdout.endswith(READY)
+
     def recorded(self):
         """The writes, syncs and typed bytes of a whole session, in order."""
         folder, log = self.laid("recorded"), self.folder / "log"
         traced = ["strace", "-qq", "-y", "-xx", "-s", "65536", "-o", str(log), "-e", "trace=pwrite64,fsync,fdatasync,write"]
         ended = self.session(folder, "rw", self.script, traced)
-        if ended.returncode != 0 or not ended.stdout.endswith(READY):
+        if not self.is_whole(ended):
             sys.exit(f"the session failed: status {ended.returncode}, {ended.stdout!r}")
         for line in log.read_text().splitlines():
             if found := WRITE.search(line):
@@ -158,9 +162,9 @@ class Trial:
         return count
 
 
-def run(make):
-    """Builds the program, and runs a trial that is made in a new folder."""
-    subprocess.run([ROOT / "cms", "--build"], stdout=subprocess.DEVNULL, check=True)
+def run(make, tool="cms"):
+    """Builds the program, or that of another tool, and runs a trial that is made in a new folder."""
+    subprocess.run([ROOT / tool, "--build"], stdout=subprocess.DEVNULL, check=True)
     with tempfile.TemporaryDirectory() as folder:
         trial = make(pathlib.Path(folder))
         stops = trial.killed("pwrite64") + trial.killed("fdatasync")

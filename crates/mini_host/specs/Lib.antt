@@ -1,0 +1,3 @@
+pub mod Files
+pub mod Plan
+pub mod Memory

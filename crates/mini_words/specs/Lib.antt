@@ -1,0 +1,6 @@
+pub mod Commands
+pub mod Names
+pub mod Words
+pub mod Requests
+pub mod Ranges
+pub mod Readings

@@ -1,0 +1,19 @@
+//! The words with which `minidisk` is called, read by `clap`: nine commands, each with its words.
+//!
+//! [`read_requests`] gives what they ask for, or the first word that is refused.
+#![tactic(auto)]
+
+mod building;
+mod command;
+mod fault;
+mod lists;
+mod names;
+mod numbers;
+mod reading;
+mod request;
+mod values;
+
+pub use fault::{Refused, WordFault};
+pub use names::{NamePattern, name};
+pub use reading::read_requests;
+pub use request::{Get, Image, Put, Request, Target};

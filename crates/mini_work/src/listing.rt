@@ -1,0 +1,247 @@
+// Files of an image are listed, and what the image is.
+ghost use Rattle.std.specs.Prelude.{◌≡◌, ◌+◌, ◌/◌, ◌%◌, ◌++◌, ℕ, map, IfOk};
+ghost use Rattle.cms_journal.specs.declared.event.Access.TheVariants.{ReadOnly};
+ghost use Rattle.cms_edf.specs.Asking.{infos_in};
+ghost use Rattle.cms_machine.specs.Acts.{typed_line};
+ghost use Rattle.cms_search.specs.Telling.{spaced};
+ghost use Rattle.cms_text.specs.Numbers.{decimal_of};
+ghost use Rattle.mini_work.specs.Causes.{HasEnd, counts, on_world};
+ghost use Rattle.mini_work.specs.Changing.{IsTold};
+ghost use Rattle.mini_work.specs.Checking.{IsShowing, Shows};
+ghost use Rattle.mini_work.specs.Going.{Continues, Goes};
+ghost use Rattle.mini_work.specs.Listing as spec;
+ghost use Rattle.mini_work.specs.Listing.{facts_text};
+ghost use Rattle.mini_work.specs.Opening.{HasRoom, IsNew};
+ghost use Rattle.mini_work.specs.Saying.{OnlyTypes};
+ghost use Rattle.mini_work.specs.Working.{IsListing, IsWorked};
+
+use crate::choosing::{fits_any, names_of, refuse_idle};
+use crate::fault::Fault;
+use crate::opening::{open_disk, open_held};
+use crate::saying::{name_text, say_if, say_line};
+use crate::status::Status;
+use cms_disk::{FileInfo, Minidisk};
+use cms_edf::Held;
+use cms_fields::Stamp;
+use cms_names::Format;
+use cms_search::{add_left, add_right, first_column};
+use cms_text::{BLANK, COLON, ZERO, coded, decimal, without_trailing_blanks};
+use cms_world::{Access, World};
+use mini_host::Host;
+use mini_words::{Image, NamePattern};
+use std::alloc::{AllocError, Global};
+
+// The hyphen of code page 037.
+const HYPHEN: u8 = 0x60;
+
+/// Lists the files of an image that any of the names fits, or all where there are no names, in the order of the directory.
+pub(crate) fn list<W: World, H: Host>(
+    alloc: Global,
+    world: &mut W,
+    host: &mut H,
+    image: &Image,
+    long: bool,
+    names: &[NamePattern],
+) -> Result<Status, Fault>
+    requires room { HasRoom (W.told world.old) }
+    ensures goes { IsNew (W.told world.old) → IsWorked image.now.name ReadOnly (IsListing long names.now) (W.told world.new) result }
+    ensures cause { HasEnd (counts W.World H.Host world.old host.old) (counts W.World H.Host world.new host.new) result }
+{
+    match open_disk(alloc, world, host, image, Access::ReadOnly)? {
+        Some(disk) => list_fitting(alloc, world, host, &disk, long, names),
+        None => Ok(Status::Refused),
+    }
+}
+
+// Lists the files of a minidisk that names fit, and says which names fit none.
+fn list_fitting<W: World, H: Host>(
+    alloc: Global,
+    world: &mut W,
+    host: &mut H,
+    disk: &Minidisk,
+    long: bool,
+    names: &[NamePattern],
+) -> Result<Status, Fault>
+    ensures goes { Continues (IsListing long names.now) (W.told world.old) disk.now (W.told world.new) disk.now result }
+    ensures cause { HasEnd (counts W.World H.Host world.old host.old) (counts W.World H.Host world.new host.new) result }
+{
+    let listed = list_files(alloc, world, disk, long, names)?;
+    let all = names_of(alloc, disk)?;
+    let idle = refuse_idle(alloc, host, &all, names)?;
+    Ok(listed.and(idle))
+}
+
+// Lists the files of a minidisk.
+fn list_files<W: World>(
+    alloc: Global,
+    world: &mut W,
+    disk: &Minidisk,
+    long: bool,
+    names: &[NamePattern],
+) -> Result<Status, Fault>
+    ensures goes { Continues (Goes (λ info. IsTold (spec.is_listed names.now info) (typed_line (spec.file_line long info)))
+        (infos_in disk.now.volume)) (W.told world.old) disk.now (W.told world.new) disk.now result }
+    ensures cause { (n : ℕ) → HasEnd (on_world W.World world.old n) (on_world W.World world.new n) result }
+{
+    let mut status = Status::Done;
+    for nth in 0..disk.count() {
+        let info = disk.info(nth);
+        let line = file_line(alloc, &info, long)?;
+        let one = say_if(world, &line, is_listed(names, &info))?;
+        status = status.and(one);
+    }
+    Ok(status)
+}
+
+// Whether a file is listed.
+fn is_listed(names: &[NamePattern], info: &FileInfo) -> bool
+    ensures { result ≡ spec.is_listed names.now info.now }
+{
+    names.is_empty() || fits_any(names, &info.name)
+}
+
+// The line of a file.
+fn file_line(alloc: Global, info: &FileInfo, long: bool) -> Result<Vec<u8>, AllocError>
+    ensures { IfOk result (λ line. line.items ≡ spec.file_line long info.now) }
+{
+    if long {
+        long_line(alloc, info)
+    } else {
+        name_text(alloc, &info.name)
+    }
+}
+
+// Its name, format, record length, records, data blocks, date and mode number.
+fn long_line(alloc: Global, info: &FileInfo) -> Result<Vec<u8>, AllocError>
+    ensures { IfOk result (λ line. line.items ≡ spaced (spec.columns info.now)) }
+{
+    let mut line = first_column(alloc, 17, &name_text(alloc, &info.name)?)?;
+    add_left(alloc, &mut line, 1, &format_text(info.format))?;
+    add_right(alloc, &mut line, 5, decimal(alloc, info.length)?.bytes())?;
+    add_right(alloc, &mut line, 7, decimal(alloc, info.count)?.bytes())?;
+    add_right(alloc, &mut line, 8, decimal(alloc, info.blocks)?.bytes())?;
+    add_left(alloc, &mut line, 19, &stamp_text(&info.stamp))?;
+    add_left(alloc, &mut line, 1, &[ones(u16::from(info.number))])?;
+    Ok(line)
+}
+
+fn format_text(format: Format) -> [u8; 1]
+    ensures { result ≡ spec.format_text format }
+{
+    match format {
+        Format::F => coded(b"F"),
+        Format::V => coded(b"V"),
+    }
+}
+
+// The tens of a number, and its ones.
+fn tens(number: u16) -> u8
+    ensures { result ≡ 0xF0 + number / 10 % 10 }
+{
+    ZERO + (number / 10 % 10) as u8
+}
+
+fn ones(number: u16) -> u8
+    ensures { result ≡ 0xF0 + number % 10 }
+{
+    ZERO + (number % 10) as u8
+}
+
+// YYYY-MM-DD HH:MM:SS
+fn stamp_text(stamp: &Stamp) -> [u8; 19]
+    ensures { result ≡ spec.stamp_text stamp.now }
+{
+    let month = u16::from(stamp.month);
+    let day = u16::from(stamp.day);
+    let hour = u16::from(stamp.hour);
+    let minute = u16::from(stamp.minute);
+    let second = u16::from(stamp.second);
+    [
+        tens(stamp.year / 100),
+        ones(stamp.year / 100),
+        tens(stamp.year),
+        ones(stamp.year),
+        HYPHEN,
+        tens(month),
+        ones(month),
+        HYPHEN,
+        tens(day),
+        ones(day),
+        BLANK,
+        tens(hour),
+        ones(hour),
+        COLON,
+        tens(minute),
+        ones(minute),
+        COLON,
+        tens(second),
+        ones(second),
+    ]
+}
+
+/// Says the label of an image, its room and how many files it has.
+pub(crate) fn info<W: World, H: Host>(
+    alloc: Global,
+    world: &mut W,
+    host: &mut H,
+    image: &Image,
+) -> Result<Status, Fault>
+    requires { HasRoom (W.told world.old) }
+    ensures goes { IsNew (W.told world.old) → IsShowing image.now.name facts_text (W.told world.new) result }
+    ensures cause { HasEnd (counts W.World H.Host world.old host.old) (counts W.World H.Host world.new host.new) result }
+{
+    match open_held(alloc, world, host, image)? {
+        Some(held) => say_facts(alloc, world, &held),
+        None => Ok(Status::Refused),
+    }
+}
+
+// Says a line for each fact.
+fn say_facts<W: World>(alloc: Global, world: &mut W, held: &Held) -> Result<Status, Fault>
+    ensures shows { Shows (W.told world.old) (W.told world.new) (facts_text held.now.volume) result }
+    ensures typed { OnlyTypes (W.told world.old) (W.told world.new) }
+    ensures cause { (n : ℕ) → HasEnd (on_world W.World world.old n) (on_world W.World world.new n) result }
+{
+    let lines = fact_lines(alloc, held)?;
+    for line in &lines {
+        say_line(world, line)?;
+    }
+    Ok(Status::Done)
+}
+
+// What is said of a volume.
+fn fact_lines(alloc: Global, held: &Held) -> Result<Vec<Vec<u8>>, AllocError>
+    ensures { IfOk result (λ lines. map (λ line. line.items) lines.items ≡ spec.facts held.now.volume) }
+{
+    let space = held.space();
+    let used = space.total.saturating_sub(space.free);
+    let mut lines = Vec::new(alloc);
+    lines.push(fact(
+        alloc,
+        &coded(b"label: "),
+        without_trailing_blanks(&space.volid),
+    )?)?;
+    lines.push(count(alloc, &coded(b"block size: "), space.bsize)?)?;
+    lines.push(count(alloc, &coded(b"blocks: "), space.total)?)?;
+    lines.push(count(alloc, &coded(b"used: "), used)?)?;
+    lines.push(count(alloc, &coded(b"free: "), space.free)?)?;
+    lines.push(count(alloc, &coded(b"lost: "), held.lost())?)?;
+    lines.push(count(alloc, &coded(b"files: "), held.count())?)?;
+    Ok(lines)
+}
+
+// A value behind its key.
+fn fact(alloc: Global, key: &[u8], value: &[u8]) -> Result<Vec<u8>, AllocError>
+    ensures { IfOk result (λ line. line.items ≡ key.now ++ value.now) }
+{
+    let mut line = key.to_vec(alloc)?;
+    line.extend_from_slice(value)?;
+    Ok(line)
+}
+
+// A number behind its key.
+fn count(alloc: Global, key: &[u8], number: u32) -> Result<Vec<u8>, AllocError>
+    ensures { IfOk result (λ line. line.items ≡ key.now ++ decimal_of number) }
+{
+    fact(alloc, key, decimal(alloc, number)?.bytes())
+}

@@ -1,0 +1,141 @@
+//! Host files in and out of the images of CMS minidisks.
+#![tactic(auto)]
+
+ghost use Rattle.std.specs.Prelude.{All};
+ghost use Rattle.mini_words.specs.Ranges.{IsWithin};
+
+mod ending;
+
+use cms_host::{FileWorld, Host, Trouble};
+use cms_text::Series;
+use cms_world::Argv;
+use ending::Ending;
+use mini_files::HostFiles;
+use mini_words::{Refused, Request, WordFault, read_requests};
+use mini_work::{Status, work};
+use std::fs::File;
+use std::io::{ErrorKind, IsTerminal};
+use std::process::ExitCode;
+use std::{env, io};
+
+const FOLDER: &str = "/";
+
+/// The words with which the program was called.
+fn arguments(rt: &HostRuntime) -> io::Result<Argv> {
+    let mut words = Argv::new(rt.alloc());
+    for word in env::args(rt)? {
+        words.push(word.as_str())?;
+    }
+    Ok(words)
+}
+
+/// Opens a folder three times, so that no image and no host file gets the place of a standard stream that isn't open.
+fn hold_streams(rt: &HostRuntime) -> io::Result<[File; 3]> {
+    Ok([
+        File::open(rt, FOLDER)?,
+        File::open(rt, FOLDER)?,
+        File::open(rt, FOLDER)?,
+    ])
+}
+
+/// Says why an image failed. One that is in use is refused.
+fn tell_image(rt: &HostRuntime, image: &str, trouble: Option<&Trouble>) -> Ending {
+    match trouble {
+        Some(Trouble::InUse) => {
+            let _ = eprintln!(rt;
+                "minidisk: {image}: it is in use; try again when the other program has ended"
+            );
+            Ending::Refused
+        }
+        Some(Trouble::Image(error)) => {
+            let _ = eprintln!(rt; "minidisk: {image}: {error}; what stands behind isn't done");
+            Ending::Failed
+        }
+        _ => {
+            let _ = eprintln!(rt;
+                "minidisk: {image}: a block can't be read or written; what stands behind isn't done"
+            );
+            Ending::Failed
+        }
+    }
+}
+
+/// What a command came to, where its output could be written or not.
+fn ending_of(rt: &HostRuntime, status: Status, written: bool) -> Ending {
+    match status {
+        Status::Failed => Ending::Failed,
+        Status::Done | Status::Refused if !written => {
+            let _ = eprintln!(rt; "minidisk: standard output can't be written");
+            Ending::Failed
+        }
+        Status::Refused => Ending::Refused,
+        Status::Done => Ending::Done,
+    }
+}
+
+/// One request, in a world of its own.
+fn answer(rt: &HostRuntime, request: &Request) -> Ending
+    requires { IsWithin request.now }
+{
+    let lines = rt.stdout().is_terminal();
+    let host = Host::new(rt.alloc(), rt);
+    let Ok(mut world) = FileWorld::new(rt.alloc(), host, lines) else {
+        return Ending::Memory;
+    };
+    let mut files = HostFiles::new(rt.alloc(), rt);
+    let came = work(rt.alloc(), &mut world, &mut files, request);
+    let written = world.finish();
+    match (came, files.failed_image()) {
+        (Err(_), _) => Ending::Memory,
+        (Ok(Status::Failed), Some(image)) => tell_image(rt, image, world.trouble()),
+        (Ok(status), _) => ending_of(rt, status, written),
+    }
+}
+
+/// All requests, one behind another: the gravest ending of theirs.
+fn answer_all(rt: &HostRuntime, requests: &Series<Request>) -> Ending
+    requires { All IsWithin requests.now }
+{
+    let Ok(_streams) = hold_streams(rt) else {
+        let _ = eprintln!(rt; "minidisk: {FOLDER} can't be opened");
+        return Ending::Failed;
+    };
+    let mut ending = Ending::Done;
+    for request in requests.as_slice() {
+        ending = ending.and(answer(rt, request));
+    }
+    ending
+}
+
+/// Says why words are refused.
+fn tell_refusal(rt: &HostRuntime, refused: Refused) -> Ending {
+    match refused {
+        Refused::Clap(error) => {
+            let printed = error.print(rt);
+            Ending::of_clap(&error, printed.is_ok())
+        }
+        Refused::Word(WordFault::Memory) => Ending::Memory,
+        Refused::Word(fault) => {
+            let _ = eprintln!(rt; "minidisk: {fault}");
+            Ending::Usage
+        }
+    }
+}
+
+fn main(rt: HostRuntime) -> ExitCode {
+    let ending = match arguments(&rt) {
+        Ok(words) => match read_requests(rt.alloc(), &words) {
+            Ok(requests) => answer_all(&rt, &requests),
+            Err(refused) => tell_refusal(&rt, refused),
+        },
+        Err(error) if error.kind() == ErrorKind::OutOfMemory => Ending::Memory,
+        Err(_) => {
+            let _ = eprintln!(rt; "minidisk: a word isn't text in UTF-8");
+            Ending::Usage
+        }
+    };
+    if let Ending::Memory = ending {
+        let _ = eprintln!(rt; "minidisk: there is no memory");
+    }
+    ExitCode::from(ending.code())
+}
