@@ -1,15 +1,17 @@
 #!/bin/sh
-# Runs the program on the example's image, and looks at its statuses, what it types and what it says on standard error; then `./cms` in a
-# fresh clone, where it isn't built, in both ways; and installs it. It is no part of the gate.
-# It needs `git`, the commit that is to be tried, and the toolchain. The program is built first, here and in the clone: where `rt ci` proved
-# this commit on the machine that takes minutes, and else what ./cms and ./minidisk say. Each unproved run takes a minute or more.
+# Runs `./cms` and `./minidisk` in a fresh clone: first where nothing is built, unproved; then it builds the program by a word that writes, and
+# looks at the statuses, what is typed and what is said on standard error, on the example's image; and installs both. It is no part of the gate.
+# It needs `git`, the commit that is to be tried, and the toolchain. Where `rt ci` keeps what it proved and has proved this commit on the
+# machine, the build takes minutes; in the line of the toolchain that keeps nothing it takes as long as README.md says of a first call. Each
+# unproved run takes a minute or more.
 home=$(readlink -f -- "$(dirname -- "$(readlink -f -- "$0")")/..")
-cms=$home/cms
-"$cms" --build || exit 1
 folder=$(mktemp -d)
 trap 'rm -rf "$folder"' EXIT
-cp "$home/examples/disk.img" "$folder/disk.img"
 cd "$folder" || exit 1
+git clone -q "$home" clone || exit 1
+home=$folder/clone
+cms=$home/cms
+cp "$home/examples/disk.img" disk.img
 passed=0
 failed=0
 
@@ -38,6 +40,52 @@ same() {
         cat output
     fi
 }
+
+# A command passes.
+holds() {
+    title=$1
+    shift
+    if "$@"; then
+        passed=$((passed + 1))
+    else
+        failed=$((failed + 1))
+        printf 'FAILED: %s\n' "$title"
+        cat error
+    fi
+}
+
+# Where nothing is built, words that only read run at once, on copies and unproved, and leave nothing.
+cp "$home/examples/disk.img" 'an image.img'
+printf 'TYPE HELLO TEXT A\nACCESS 192 B\nTYPE HELLO TEXT B\n' >script
+expect 'unproved on two images' 0 error 'an unproved run' 191,512,ro,disk.img "192,512,ro,an image.img"
+same 'what it types' "$(printf 'HELLO\nWORLD\nR;\nCMS723I B (192) R/O\nR;\nHELLO\nWORLD\nR;')"
+holds 'it says how to build' grep -qF './cms --build' error
+holds 'it says how an image is named' grep -qF 'an image.img is read as a copy named unit-2.img' error
+expect 'unproved help' 0 output 'usage: cms' --help
+expect 'unproved without an image' 4 error 'missing.img' 191,512,ro,missing.img
+awk 'BEGIN { for (i = 0; i < 30000; i++) print "FROB" }' >script
+expect 'more than it may type' 1 error 'gave no answer' 191,512,ro,disk.img
+holds 'unproved runs leave nothing' test ! -e clone/crates/cms_cli/out
+holds 'and change no image' cmp -s disk.img "$home/examples/disk.img"
+
+# `minidisk` looks into images in the same way.
+cms=$home/minidisk
+expect 'unproved list' 0 output 'HELLO.TEXT' list disk.img
+holds 'it says how minidisk is built' grep -qF './minidisk --build' error
+expect 'unproved check of two images' 0 output 'sound, 1 files, 0 blocks lost' check disk.img "an image.img"
+expect 'unproved get of what is not there' 1 error 'no file of the image has such a name' get -f records disk.img no.text
+holds 'unproved runs of minidisk leave nothing' test ! -e clone/crates/minidisk/out
+cms=$home/cms
+
+# Where a word writes, the program is built first. The places of the crates go up by one.
+printf 'TYPE HELLO TEXT A\n' >script
+echo 'program: the clone is built now' >&2
+expect 'built at a word that writes' 0 error 'cms: the program is built' 191,512,rw,disk.img
+same 'what the built program types' "$(printf 'HELLO\nWORLD\nR;')"
+holds 'the places go up' \
+    awk '$3 == "of" && $4 ~ /:$/ { if ($2 != ++place) bad = 1; all = $4 + 0 } END { exit bad || !place || place != all }' error
+expect 'and runs from then on' 0 output 'HELLO' 191,512,ro,disk.img
+holds 'with no word of the building' test ! -s error
 
 : >script
 expect 'an empty script' 0 output '' 191,512,ro,disk.img
@@ -108,53 +156,6 @@ if [ $? = 4 ] && cmp -s streams.img "$home/examples/files.img"; then passed=$((p
 if [ $? = 4 ] && [ ! -s output ]; then passed=$((passed + 1)); else failed=$((failed + 1)); echo 'FAILED: no input'; fi
 mkfifo pipe.img
 expect 'a pipe' 4 error 'plain file' 191,512,ro,pipe.img
-
-# A command passes.
-holds() {
-    title=$1
-    shift
-    if "$@"; then
-        passed=$((passed + 1))
-    else
-        failed=$((failed + 1))
-        printf 'FAILED: %s\n' "$title"
-        cat error
-    fi
-}
-
-# A clone in which nothing is built: words that only read run at once, on copies and unproved, and leave nothing.
-git clone -q "$home" clone || exit 1
-cms=$folder/clone/cms
-cp "$home/examples/disk.img" 'an image.img'
-printf 'TYPE HELLO TEXT A\nACCESS 192 B\nTYPE HELLO TEXT B\n' >script
-expect 'unproved on two images' 0 error 'an unproved run' 191,512,ro,disk.img "192,512,ro,an image.img"
-same 'what it types' "$(printf 'HELLO\nWORLD\nR;\nCMS723I B (192) R/O\nR;\nHELLO\nWORLD\nR;')"
-holds 'it says how to build' grep -qF './cms --build' error
-holds 'it says how an image is named' grep -qF 'an image.img is read as a copy named unit-2.img' error
-expect 'unproved help' 0 output 'usage: cms' --help
-expect 'unproved without an image' 4 error 'missing.img' 191,512,ro,missing.img
-awk 'BEGIN { for (i = 0; i < 30000; i++) print "FROB" }' >script
-expect 'more than it may type' 1 error 'gave no answer' 191,512,ro,disk.img
-holds 'unproved runs leave nothing' test ! -e clone/crates/cms_cli/out
-holds 'and change no image' cmp -s disk.img "$home/examples/disk.img"
-
-# `minidisk` looks into images in the same way.
-cms=$folder/clone/minidisk
-expect 'unproved list' 0 output 'HELLO.TEXT' list disk.img
-holds 'it says how minidisk is built' grep -qF './minidisk --build' error
-expect 'unproved check of two images' 0 output 'sound, 1 files, 0 blocks lost' check disk.img "an image.img"
-expect 'unproved get of what is not there' 1 error 'no file of the image has such a name' get -f records disk.img no.text
-holds 'unproved runs of minidisk leave nothing' test ! -e clone/crates/minidisk/out
-cms=$folder/clone/cms
-
-# Where a word writes, the program is built first. The places of the crates go up by one.
-printf 'TYPE HELLO TEXT A\n' >script
-expect 'built at a word that writes' 0 error 'cms: the program is built' 191,512,rw,disk.img
-same 'what the built program types' "$(printf 'HELLO\nWORLD\nR;')"
-holds 'the places go up' \
-    awk '$3 == "of" && $4 ~ /:$/ { if ($2 != ++place) bad = 1; all = $4 + 0 } END { exit bad || !place || place != all }' error
-expect 'and runs from then on' 0 output 'HELLO' 191,512,ro,disk.img
-holds 'with no word of the building' test ! -s error
 
 clone/install "$folder/prefix" >output 2>error
 cms=$folder/prefix/bin/cms
