@@ -11,7 +11,7 @@ use Rattle.cms_text.specs.Texts.{Text}
 use Rattle.exec2_run.specs.Given.{behind_name, ends_name}
 use Rattle.exec2_run.specs.Steps.{begun}
 use Rattle.exec2_run.specs.Variables.{all_arguments, numbered, with_arguments}
-use Rattle.exec2_run.specs.Words.{is_blank, is_empty, words_of}
+use Rattle.exec2_parse.specs.Words.{is_blank, is_empty, words_of}
 use Rattle.exec2_run.specs.declared.exec.Exec.{Exec}
 use Rattle.cms_exec.specs.LawsExec.{AlwaysBegins}
 

@@ -4,7 +4,8 @@ ghost use Rattle.exec2_funcs.specs.Calls as spec;
 ghost use Rattle.exec2_funcs.specs.Calls.{Answers};
 
 use crate::FuncFault;
-use cms_text::{Word, number, written};
+use cms_text::{Word, number};
+use exec2_parse::written;
 use std::alloc::Global;
 
 /// An operation on signed numbers of 64 bits.

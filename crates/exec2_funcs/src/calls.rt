@@ -10,7 +10,8 @@ use crate::arithmetic::{Operation, arithmetic};
 use crate::bytes::{first_bytes, first_filled, from_place, last_filled, location, translated};
 use crate::join::{concat, literal, string};
 use crate::{FuncFault, Function};
-use cms_text::{Word, WordList, number, without_trailing_blanks, written};
+use cms_text::{Word, WordList, number, without_trailing_blanks};
+use exec2_parse::written;
 use std::alloc::Global;
 
 /// The value of a function at these words, which are what follows its OF, expanded. The faults are those of VM/SP EXEC 2's

@@ -1,8 +1,9 @@
 // The function words.
-ghost use Rattle.std.specs.Prelude.{◌≡◌};
+ghost use Rattle.std.specs.Prelude.{◌≡◌, length};
+ghost use Rattle.cms_text.specs.Texts.{ebcdic};
 ghost use Rattle.exec2_funcs.specs.Functions as spec;
 
-use cms_text::is_keyword;
+use exec2_parse::is_spelled;
 
 /// A function of EXEC 2. Its word is its name with an ampersand before it.
 #[derive(Clone, Copy, Debug)]
@@ -53,12 +54,13 @@ impl Function {
         FUNCTIONS
             .iter()
             .copied()
-            .find(|function| is_keyword(word, function.name()))
+            .find(|function| is_spelled(word, function.name()))
     }
 
     /// The function's word, in ASCII.
     pub fn name(self) -> &'static str
-        ensures { result.now ≡ spec.name_of self }
+        ensures name { result.now ≡ spec.name_of self }
+        ensures coded { length (ebcdic result.now) ≡ length result.now }
     {
         match self {
             Function::Concat => "&CONCAT",

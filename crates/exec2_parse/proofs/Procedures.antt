@@ -8,6 +8,8 @@ use Rattle.cms_model.specs.Records.{StandsFor}
 use Rattle.cms_model.specs.declared.file.FileData.{FileData}
 use Rattle.cms_text.specs.Texts.{Text, without_trailing_blanks}
 use Rattle.cms_records.specs.Stored.{records_in}
+use Rattle.exec2_parse.specs.Statements.{lines_in}
+use Rattle.exec2_parse.specs.declared.statement.Statement.{Statement}
 use Rattle.exec2_parse.specs.Procedures.{begins_with_trace, lines_of, number_of_long_line, procedure_of}
 use Rattle.exec2_parse.specs.declared.procedure.ProcFault.TheVariants.{LineTooLong, NotExec2, TooManyLines}
 use Rattle.cms_records.proofs.Reading.{length-records_at, records_are}
@@ -59,6 +61,14 @@ module _ (f : FileData) (records : List Text) (stands : StandsFor f records) whe
 
 pub few_lines : (f : FileData) (lines : List Text) → f.count ≤ 4096 → lines ≡ lines_of (records_in f) → length lines ≤ 4096
 few_lines f lines few are = rw (are, length-lines_of (records_in f), length-records_in f) few
+
+pub few_kept : (f : FileData) (statements : List Statement) → f.count ≤ 4096 → lines_in statements ≡ lines_of (records_in f) → length statements ≤ 4096
+few_kept f statements few are = omega (arith, length-map statements (λ statement. statement.line), few_lines f (lines_in statements) few are)
+
+-- a line that is kept last
+pub kept_last : (statements : List Statement) (statement : Statement) (text : Text) → statement.line ≡ text → lines_in (statements ++ statement ∷ []) ≡ lines_in statements ++ text ∷ []
+kept_last [] statement text is = ap (λ (line : Text). line ∷ []) is
+kept_last (first ∷ more) statement text is = ap (λ (lines : List Text). first.line ∷ lines) (kept_last more statement text is)
 
 -- ---- lines that aren't too long
 

@@ -1,11 +1,11 @@
 // The expansion of a word.
-ghost use Rattle.std.specs.Prelude.{◌≡◌, ◌≤◌, ◌+◌, ◌++◌, length, Ok, Err, IfOk, MatchOption};
+ghost use Rattle.std.specs.Prelude.{◌≡◌, ◌≤◌, ◌+◌, ◌++◌, length, true, Ok, Err, IfOk, MatchOption};
 ghost use Rattle.exec2_parse.specs.Expansion.{KeepsPlainWords, ReplacesFromTheRight, SplitsAtLast, ampersands, expanded};
 ghost use Rattle.exec2_parse.specs.Expansion as spec;
 ghost use Rattle.exec2_parse.specs.Variables.{value_of};
 ghost use Rattle.cms_text.specs.Limits.{longest_text};
 
-use crate::fold::folded;
+use crate::fold::{folded, is_folded};
 use crate::{Scope, Vars};
 use cms_text::{LONGEST_TEXT, Word};
 use std::alloc::{AllocError, Global};
@@ -56,14 +56,13 @@ pub fn expand_in<S: Scope>(alloc: Global, word: &[u8], scope: &S) -> Result<Word
     let mut left = word;
     let mut value = Word::take(Vec::new(alloc));
     while let Some((front, name)) = split_at_last_ampersand(left) {
-        let name = name_of(alloc, name, value.bytes())?;
-        value = scope.value(alloc, name.bytes())?;
+        value = value_named(alloc, name, value.bytes(), scope)?;
         left = front;
         if left.len() + value.bytes().len() > LONGEST_TEXT {
             return Err(ExpandFault::TooLong);
         }
     }
-    Ok(joined(alloc, left, value.bytes())?)
+    Ok(followed(alloc, left, value)?)
 }
 
 /// What the expansion of a word is, at all variables and words.
@@ -90,6 +89,34 @@ fn split_at_last_ampersand(word: &[u8]) -> Option<(&[u8], &[u8])>
     None
 }
 
+/// The value of the variable whose name is what follows an ampersand, and a text. A name that stands in capital letters isn't copied.
+fn value_named<S: Scope>(
+    alloc: Global,
+    first: &[u8],
+    second: &[u8],
+    scope: &S,
+) -> Result<Word, AllocError>
+    requires { length first.now + length second.now ≤ longest_text }
+    ensures { IfOk result (λ value. value ≡ S.binding scope.now (spec.name_of first.now second.now)) }
+{
+    if is_whole_name(first, second) {
+        return scope.value(alloc, first);
+    }
+    let name = name_of(alloc, first, second)?;
+    scope.value(alloc, name.bytes())
+}
+
+/// Whether no text follows, and what follows the ampersand has no small letter.
+#[tactic(auto, using(crate::proofs::Folds::plain_name))]
+fn is_whole_name(first: &[u8], second: &[u8]) -> bool
+    ensures { result ≡ true → spec.name_of first.now second.now ≡ first.now }
+{
+    if !second.is_empty() {
+        return false;
+    }
+    is_folded(first)
+}
+
 /// The name of a variable, in capital letters: what follows an ampersand, and a text.
 fn name_of(alloc: Global, first: &[u8], second: &[u8]) -> Result<Word, AllocError>
     requires { length first.now + length second.now ≤ longest_text }
@@ -98,11 +125,23 @@ fn name_of(alloc: Global, first: &[u8], second: &[u8]) -> Result<Word, AllocErro
     folded(alloc, joined(alloc, first, second)?.bytes())
 }
 
+/// A text, followed by a value, which takes no memory where the text is empty.
+fn followed(alloc: Global, text: &[u8], value: Word) -> Result<Word, AllocError>
+    requires { length text.now + length value ≤ longest_text }
+    ensures { IfOk result (λ word. word ≡ text.now ++ value) }
+{
+    if text.is_empty() {
+        return Ok(value);
+    }
+    joined(alloc, text, value.bytes())
+}
+
 fn joined(alloc: Global, first: &[u8], second: &[u8]) -> Result<Word, AllocError>
     requires { length first.now + length second.now ≤ longest_text }
     ensures { IfOk result (λ word. word ≡ first.now ++ second.now) }
 {
-    let mut bytes = first.to_vec(alloc)?;
+    let mut bytes = Vec::with_capacity(alloc, first.len() + second.len())?;
+    bytes.extend_from_slice(first)?;
     bytes.extend_from_slice(second)?;
     Ok(Word::take(bytes))
 }

@@ -1,15 +1,22 @@
 // EXEC 2 procedures.
-ghost use Rattle.std.specs.Prelude.{◌≡◌, ◌==◌, ◌≤◌, ◌⊎◌, List, ℕ, length, option_map, slice_get, Ok, Err, IfOk, IfErr};
-ghost use Rattle.std.specs.Option.{option_copied};
+ghost use Rattle.std.specs.Prelude.{◌≡◌, ◌==◌, ◌≤◌, ◌⊎◌, ◌++◌, ◌∷◌, [], List, ℕ, length, option_map, slice_get, Ok, Err, IfOk, IfErr, OnOk};
+ghost use Rattle.std.specs.Option.{option_copied, option_map_or};
 ghost use Rattle.cms_model.specs.Records.{IsValid, StandsFor};
 ghost use Rattle.exec2_parse.specs.Procedures as spec;
+ghost use Rattle.exec2_parse.specs.Kinds.{kind_of};
+ghost use Rattle.exec2_parse.specs.Statements.{lines_in};
+ghost use Rattle.exec2_parse.specs.Words.{statement_on};
 ghost use Rattle.cms_records.specs.Stored.{records_in};
+ghost use Rattle.cms_text.specs.Limits.{longest_text};
 
+use crate::kind::Kind;
+use crate::statement::Statement;
 use cms_model::FileData;
 use cms_records::Records;
-use cms_text::{LONGEST_TEXT, Line, Lines, first_word, is_keyword, without_trailing_blanks};
+use cms_text::{LONGEST_TEXT, Line, Word, first_word, is_keyword, without_trailing_blanks};
 use std::alloc::{AllocError, Global};
 use std::marker::Model;
+use std::rc::Rc;
 use thiserror::Error;
 
 /// The most lines of a procedure.
@@ -45,30 +52,42 @@ impl From<AllocError> for ProcFault {
     }
 }
 
-/// A procedure, seen as the list of its lines. They have no blanks at their ends, and there are at most 4,096.
+/// A procedure, seen as the list of its lines. They have no blanks at their ends, and there are at most 4,096. Each is kept with the words
+/// of its statement and what that is, so that these are found once, however often it runs.
 #[derive(Drop)]
 pub struct Procedure {
-    lines: Lines,
+    statements: Rc<Vec<Statement>>,
 }
 
 impl Model for Procedure {
     ghost use Rattle.std.specs.Prelude.{List, ℕ, length, ◌≤◌};
     ghost use Rattle.exec2_parse.specs.Procedures.{most_lines};
+    ghost use Rattle.exec2_parse.specs.Kinds.{kind_of};
+    ghost use Rattle.exec2_parse.specs.Statements.{lines_in};
 
     ghost Value = { List (List ℕ) };
 
-    ghost view = { λ p. p.lines };
+    ghost view = { λ p. lines_in p.statements.value.items };
 
-    ghost invariant = { λ p. length p.lines ≤ most_lines };
+    ghost invariant = { λ p. length p.statements.value.items ≤ most_lines };
 }
 
 impl Procedure {
+    /// The procedure of these lines.
+    fn of(alloc: Global, statements: Vec<Statement>) -> Result<Procedure, AllocError>
+        requires { length statements.items ≤ spec.most_lines }
+        ensures { IfOk result (λ procedure. procedure ≡ lines_in statements.items) }
+    {
+        let statements = Rc::new(alloc, statements)?;
+        Ok(Procedure { statements })
+    }
+
     /// How many lines there are.
     pub fn len(&self) -> usize
         ensures count { result ≡ length self.now }
         ensures most { length self.now ≤ spec.most_lines }
     {
-        self.lines.len()
+        self.statements.len()
     }
 
     /// Whether there are no lines.
@@ -82,7 +101,39 @@ impl Procedure {
     pub fn get(&self, place: usize) -> Option<&Line>
         ensures { option_copied result ≡ slice_get self.now place }
     {
-        self.lines.get(place)
+        match self.statements.get(place) {
+            Some(statement) => Some(statement.line()),
+            None => None,
+        }
+    }
+
+    /// The words of the statement on the line at a place, from 0; none past the last.
+    pub fn statement(&self, place: usize) -> &[Word]
+        ensures { result.now ≡ option_map_or statement_on (slice_get self.now place) [] }
+    {
+        match self.statements.get(place) {
+            Some(statement) => statement.words(),
+            None => &[],
+        }
+    }
+
+    /// What the statement on the line at a place is, from 0; one without words past the last.
+    #[tactic(auto, unfolding(crate::specs::Kinds::kind_of))]
+    pub fn kind(&self, place: usize) -> Kind
+        ensures { result ≡ kind_of (option_map_or statement_on (slice_get self.now place) []) }
+    {
+        match self.statements.get(place) {
+            Some(statement) => statement.kind(),
+            None => Kind::Nothing,
+        }
+    }
+
+    /// The same procedure a second time, which takes no memory.
+    pub fn share(&self) -> Result<Procedure, AllocError>
+        ensures { IfOk result (λ shared. shared ≡ self.now) }
+    {
+        let statements = self.statements.clone()?;
+        Ok(Procedure { statements })
     }
 }
 
@@ -103,11 +154,21 @@ pub fn read_procedure(alloc: Global, file: &FileData) -> Result<Procedure, ProcF
     if file.count > MOST_LINES {
         return Err(ProcFault::TooManyLines);
     }
-    let mut lines = Lines::new(alloc);
+    let mut statements = Vec::new(alloc);
     for record in Records::of(file) {
-        lines.push(Line::of(alloc, without_trailing_blanks(record))?)?;
+        keep(alloc, &mut statements, without_trailing_blanks(record))?;
     }
-    Ok(Procedure { lines })
+    Ok(Procedure::of(alloc, statements)?)
+}
+
+/// Keeps a line behind the others.
+#[tactic(auto, using(crate::proofs::Procedures::kept_last))]
+fn keep(alloc: Global, statements: &mut Vec<Statement>, text: &[u8]) -> Result<(), AllocError>
+    requires { length text.now ≤ longest_text }
+    ensures { OnOk result (lines_in statements.new.items ≡ lines_in statements.old.items ++ text.now ∷ []) }
+{
+    statements.push(Statement::of(alloc, text)?)?;
+    Ok(())
 }
 
 /// Whether the first line that is neither blank nor a comment begins with &TRACE.

@@ -4,17 +4,17 @@ use Rattle.std.specs.Prelude.{false}
 use Rattle.cms_text.specs.Texts.{Text}
 use Rattle.exec2_run.specs.Cases.{Runs, RunsAreSteps, StepsAreRuns, nothing, assignment, command, trace, type_, beg_type, stack, beg_stack, end, command_word, subcommand, presume, presumed_command, read_line, args, goto, skip, loop, call, return_, error, exit}
 use Rattle.exec2_run.specs.Destinations.{sent, sent_to}
-use Rattle.exec2_run.specs.Kinds.{guards, kind_of}
+use Rattle.exec2_parse.specs.Kinds.{guards, kind_of}
 use Rattle.exec2_run.specs.Outputs.{issued}
 use Rattle.exec2_run.specs.State.{Step, still}
 use Rattle.exec2_run.specs.Steps.{run_by, run_control, run_kind}
 use Rattle.exec2_run.specs.declared.destination.Destination.{Destination}
 use Rattle.exec2_run.specs.declared.destination.Destination.TheVariants.{Cms, Extension}
 use Rattle.exec2_run.specs.declared.exec.Exec.{Exec}
-use Rattle.exec2_run.specs.declared.kind.Control.{Control}
-use Rattle.exec2_run.specs.declared.kind.Control.TheVariants as control
-use Rattle.exec2_run.specs.declared.kind.Kind.{Kind}
-use Rattle.exec2_run.specs.declared.kind.Kind.TheVariants as kind
+use Rattle.exec2_parse.specs.declared.kind.Control.{Control}
+use Rattle.exec2_parse.specs.declared.kind.Control.TheVariants as control
+use Rattle.exec2_parse.specs.declared.kind.Kind.{Kind}
+use Rattle.exec2_parse.specs.declared.kind.Kind.TheVariants as kind
 use Rattle.exec2_run.proofs.ByLabels.{calls_are, calls_of, goes_are, goes_of}
 
 -- ---- statements

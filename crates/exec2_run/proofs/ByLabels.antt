@@ -9,7 +9,7 @@ use Rattle.exec2_run.specs.Given.{seen}
 use Rattle.exec2_run.specs.Jumps.{gone, gone_by, label_from, label_place, or_else}
 use Rattle.exec2_run.specs.State.{Step}
 use Rattle.exec2_run.specs.Values.{ended, operands, whole}
-use Rattle.exec2_run.specs.Words.{is_label}
+use Rattle.exec2_parse.specs.Words.{is_label}
 use Rattle.exec2_run.specs.declared.exec.Exec.{Exec}
 use Rattle.exec2_run.specs.declared.fault.Fault.TheVariants.{BadStatement, NoLabel}
 use Rattle.exec2_run.specs.declared.want.Want.TheVariants.{Next}

@@ -9,7 +9,7 @@ use Rattle.cms_text.specs.Texts.{Text}
 use Rattle.exec2_parse.specs.Expansion.{Binding}
 use Rattle.exec2_run.specs.Comparisons.{test_holds}
 use Rattle.exec2_run.specs.Given.{seen, seen_at}
-use Rattle.exec2_run.specs.Kinds.{is_if, kind_of}
+use Rattle.exec2_parse.specs.Kinds.{is_if, kind_of}
 use Rattle.exec2_run.specs.Loops as looping
 use Rattle.exec2_run.specs.Loops.{begins, begins_by, has, settled_from}
 use Rattle.exec2_run.specs.Readings.{taken_for}

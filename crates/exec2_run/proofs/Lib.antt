@@ -2,8 +2,8 @@ mod Blocks
 mod ByCases
 mod ByLabels
 mod ByRelation
-mod Cuts
-mod Encoded
+mod Fronts
+mod OneWord
 pub mod Places
 mod Searches
 mod Settled

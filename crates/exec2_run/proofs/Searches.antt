@@ -5,7 +5,7 @@ use Rattle.std.specs.List.{position_from}
 use Rattle.cms_text.specs.Texts.{Text}
 use Rattle.exec2_run.specs.Cases.{FindsFirst, Labels, Search}
 use Rattle.exec2_run.specs.Jumps.{label_from}
-use Rattle.exec2_run.specs.Words.{has_label}
+use Rattle.exec2_parse.specs.Words.{has_label}
 
 -- what a search from the head of a list finds
 abbrev Found : Text → List Text → ℕ → Option ℕ → Type 0

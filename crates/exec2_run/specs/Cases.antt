@@ -7,20 +7,20 @@ use Rattle.exec2_run.specs.Calls.{entered, returned}
 use Rattle.exec2_run.specs.Destinations.{presumed, sent_to, subcommanded}
 use Rattle.exec2_run.specs.Given.{seen}
 use Rattle.exec2_run.specs.Jumps.{label_from, skipped}
-use Rattle.exec2_run.specs.Kinds.{is_if, kind_of}
+use Rattle.exec2_parse.specs.Kinds.{is_if, kind_of}
 use Rattle.exec2_run.specs.Loops.{looped}
 use Rattle.exec2_run.specs.Outputs.{issued, stacked, stacked_block, typed, typed_block}
 use Rattle.exec2_run.specs.Readings.{args_given, read}
 use Rattle.exec2_run.specs.State.{Step, still}
 use Rattle.exec2_run.specs.Steps.{exited, run_kind, with_error}
 use Rattle.exec2_run.specs.Values.{ended, missing, operands}
-use Rattle.exec2_run.specs.Words.{has_label, is_label}
+use Rattle.exec2_parse.specs.Words.{has_label, is_label}
 use Rattle.exec2_run.specs.declared.destination.Destination.TheVariants.{Cms, Extension}
 use Rattle.exec2_run.specs.declared.exec.Exec.{Exec}
 use Rattle.exec2_run.specs.declared.fault.Fault.{Fault}
 use Rattle.exec2_run.specs.declared.fault.Fault.TheVariants.{BadStatement, NoLabel, TooLong}
-use Rattle.exec2_run.specs.declared.kind.Control.TheVariants as control
-use Rattle.exec2_run.specs.declared.kind.Kind.TheVariants as kind
+use Rattle.exec2_parse.specs.declared.kind.Control.TheVariants as control
+use Rattle.exec2_parse.specs.declared.kind.Kind.TheVariants as kind
 use Rattle.exec2_run.specs.declared.want.Want.TheVariants.{Next}
 
 -- ---- labels

@@ -3,14 +3,14 @@ use Rattle.std.specs.Prelude.{Bool, if◌then◌else◌, List, [], ◌∷◌, Re
 use Rattle.cms_fields.specs.Steps.{◌>>=◌, ◌>>◌}
 use Rattle.cms_text.specs.Texts.{Text, is_keyword}
 use Rattle.exec2_run.specs.Given.{seen}
-use Rattle.exec2_run.specs.Kinds.{name_of}
+use Rattle.exec2_parse.specs.Kinds.{name_of}
 use Rattle.exec2_run.specs.Outputs.{no_words}
 use Rattle.exec2_run.specs.State.{Step}
 use Rattle.exec2_run.specs.Values.{ended, joined, missing, operands, text, whole}
 use Rattle.exec2_run.specs.declared.destination.Destination.{Destination}
 use Rattle.exec2_run.specs.declared.destination.Destination.TheVariants.{Cms, Extension}
 use Rattle.exec2_run.specs.declared.exec.Exec.{Exec}
-use Rattle.exec2_run.specs.declared.kind.Control.TheVariants as control
+use Rattle.exec2_parse.specs.declared.kind.Control.TheVariants as control
 use Rattle.exec2_run.specs.declared.want.Want.{Want}
 use Rattle.exec2_run.specs.declared.want.Want.TheVariants.{Next, Command, Sub}
 use Rattle.exec2_run.specs.declared.fault.Fault.{Fault}

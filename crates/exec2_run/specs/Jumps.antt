@@ -7,7 +7,7 @@ use Rattle.cms_text.specs.Numbers.{number_of}
 use Rattle.exec2_run.specs.Given.{seen}
 use Rattle.exec2_run.specs.State.{Step}
 use Rattle.exec2_run.specs.Values.{ended, missing, operands, whole}
-use Rattle.exec2_run.specs.Words.{has_label, is_label}
+use Rattle.exec2_parse.specs.Words.{has_label, is_label}
 use Rattle.exec2_run.specs.declared.exec.Exec.{Exec}
 use Rattle.exec2_run.specs.declared.want.Want.TheVariants.{Next}
 use Rattle.exec2_run.specs.declared.fault.Fault.{Fault}

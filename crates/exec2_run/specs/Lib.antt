@@ -1,6 +1,5 @@
 pub mod Faults
 pub mod State
-pub mod Words
 pub mod Values
 pub mod Given
 pub mod Variables
@@ -12,8 +11,8 @@ pub mod Calls
 pub mod Open
 pub mod Outputs
 pub mod Destinations
+pub mod Due
 pub mod Readings
 pub mod Relation
-pub mod Kinds
 pub mod Steps
 pub mod Cases

@@ -13,7 +13,7 @@ use Rattle.exec2_run.specs.Given.{seen}
 use Rattle.exec2_run.specs.Open.{with_pass}
 use Rattle.exec2_run.specs.State.{Step}
 use Rattle.exec2_run.specs.Values.{ended, missing, operands, value}
-use Rattle.exec2_run.specs.Words.{is_label}
+use Rattle.exec2_parse.specs.Words.{is_label}
 use Rattle.exec2_run.specs.declared.exec.Exec.{Exec}
 use Rattle.exec2_run.specs.declared.loops.Loop.{Loop}
 use Rattle.exec2_run.specs.declared.loops.Passes.{Passes}

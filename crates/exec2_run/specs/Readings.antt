@@ -8,7 +8,7 @@ use Rattle.exec2_run.specs.Given.{seen}
 use Rattle.exec2_run.specs.State.{Step}
 use Rattle.exec2_run.specs.Values.{operands, whole}
 use Rattle.exec2_run.specs.Variables.{each_set, target, with_arguments, with_variable, with_variables}
-use Rattle.exec2_run.specs.Words.{words_of}
+use Rattle.exec2_parse.specs.Words.{words_of}
 use Rattle.exec2_run.specs.declared.exec.Exec.{Exec}
 use Rattle.exec2_run.specs.declared.reading.Reading.{Reading}
 use Rattle.exec2_run.specs.declared.reading.Reading.TheVariants as reading

@@ -7,13 +7,13 @@ use Rattle.exec2_parse.specs.Expansion.{Binding}
 use Rattle.exec2_run.specs.Cases.{Runs}
 use Rattle.exec2_run.specs.Comparisons.{test_holds}
 use Rattle.exec2_run.specs.Given.{seen, seen_at}
-use Rattle.exec2_run.specs.Kinds.{is_if}
+use Rattle.exec2_parse.specs.Kinds.{is_if}
 use Rattle.exec2_run.specs.Loops as looping
 use Rattle.exec2_run.specs.Loops.{has}
 use Rattle.exec2_run.specs.State.{Step}
 use Rattle.exec2_run.specs.Steps.{Takes, action_words, at_line, code_taken, compared, incomplete, is_due, is_running, line_taken, refused, settled, turned, with_next, words_at}
 use Rattle.exec2_run.specs.Variables.{each_set, with_arguments, with_variable, with_variables}
-use Rattle.exec2_run.specs.Words.{words_of}
+use Rattle.exec2_parse.specs.Words.{words_of}
 use Rattle.exec2_run.specs.declared.exec.ErrorAction.TheVariants.{Idle, Due, Running}
 use Rattle.exec2_run.specs.declared.exec.Exec.{Exec}
 use Rattle.exec2_run.specs.declared.loops.Loop.{Loop}

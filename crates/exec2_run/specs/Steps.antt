@@ -18,24 +18,24 @@ use Rattle.exec2_run.specs.Comparisons.{comparison_of, holds}
 use Rattle.exec2_run.specs.Destinations.{presumed, sent, subcommanded}
 use Rattle.exec2_run.specs.Given.{at_start, behind_name}
 use Rattle.exec2_run.specs.Jumps.{gone, skipped}
-use Rattle.exec2_run.specs.Kinds.{is_if, kind_of}
+use Rattle.exec2_parse.specs.Kinds.{is_if, kind_of}
 use Rattle.exec2_run.specs.Loops.{looped, settled_loops}
 use Rattle.exec2_run.specs.Outputs.{issued, stacked, stacked_block, typed, typed_block}
 use Rattle.exec2_run.specs.Readings.{args_given, read, taken_for}
 use Rattle.exec2_run.specs.State.{Step, still}
 use Rattle.exec2_run.specs.Values.{ended, operands, value, whole}
 use Rattle.exec2_run.specs.Variables.{with_arguments}
-use Rattle.exec2_run.specs.Words.{statement_on, words_of}
+use Rattle.exec2_parse.specs.Words.{statement_on, words_of}
 use Rattle.exec2_run.specs.declared.destination.Destination.TheVariants as destination
 use Rattle.exec2_run.specs.declared.exec.ErrorAction.{ErrorAction}
 use Rattle.exec2_run.specs.declared.exec.ErrorAction.TheVariants.{Idle, Due, Running}
 use Rattle.exec2_run.specs.declared.exec.Exec.{Exec}
 use Rattle.exec2_run.specs.declared.exec.FileName.{FileName}
 use Rattle.exec2_run.specs.declared.exec.Place.{Place}
-use Rattle.exec2_run.specs.declared.kind.Control.{Control}
-use Rattle.exec2_run.specs.declared.kind.Control.TheVariants as control
-use Rattle.exec2_run.specs.declared.kind.Kind.{Kind}
-use Rattle.exec2_run.specs.declared.kind.Kind.TheVariants as kind
+use Rattle.exec2_parse.specs.declared.kind.Control.{Control}
+use Rattle.exec2_parse.specs.declared.kind.Control.TheVariants as control
+use Rattle.exec2_parse.specs.declared.kind.Kind.{Kind}
+use Rattle.exec2_parse.specs.declared.kind.Kind.TheVariants as kind
 use Rattle.exec2_run.specs.declared.reading.Reading.TheVariants as reading
 use Rattle.exec2_run.specs.declared.want.Want.{Want}
 use Rattle.exec2_run.specs.declared.want.Want.TheVariants.{Next, Ended, Failed}

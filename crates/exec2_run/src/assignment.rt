@@ -1,16 +1,17 @@
 // Assignments: the value of a right side.
-ghost use Rattle.std.specs.Prelude.{◌≡◌, IfOk, Ok, drop};
+ghost use Rattle.std.specs.Prelude.{◌≡◌, ◌∷◌, [], IfOk, IfSome, Ok, drop};
 ghost use Rattle.exec2_run.specs.Assignments as spec;
 ghost use Rattle.exec2_run.specs.Given.{bound};
 ghost use Rattle.exec2_run.specs.Faults.{Answers, Does};
 
+use crate::exec::ExecState;
 use crate::given::Seen;
-use crate::values::{Operands, arguments, expanded_words, missing, whole};
+use crate::values::{Operands, arguments, expanded_words, value, whole};
 use crate::variables::target;
-use crate::words::copied;
-use crate::{Exec, Fault, Want};
-use cms_text::{Word, WordList, is_keyword, number, written};
+use crate::{Fault, Want};
+use cms_text::{Word, WordList, is_keyword, number};
 use exec2_funcs::{FuncFault, Function, call};
+use exec2_parse::{copied, written};
 use std::alloc::{AllocError, Global};
 
 const PLUS: u8 = 0x4E;
@@ -32,7 +33,7 @@ pub struct Sum {
     pub sign: Option<Sign>,
 }
 
-impl Exec {
+impl ExecState {
     /// Sets a variable to the value of a right side.
     #[tactic(auto, unfolding(crate::specs::Assignments::assigned))]
     pub fn assign(&mut self, words: &[Word]) -> Result<Want, Fault>
@@ -60,14 +61,27 @@ impl Exec {
 }
 
 /// The value of what stands behind the equal sign.
-#[tactic(auto, unfolding(crate::specs::Assignments::right_side))]
+#[tactic(auto, using(crate::proofs::OneWord::one_word), unfolding(crate::specs::Assignments::right_side))]
 fn right_side(alloc: Global, seen: &Seen<'_>, words: &[Word]) -> Result<Word, Fault>
     ensures { Answers (spec.right_side (bound seen.now) words.now) result }
 {
+    if let Some(word) = only(words) {
+        return value(alloc, seen, word);
+    }
     if let Some(function) = function_of(words) {
         return function_value(alloc, seen, function, behind_of(words));
     }
     plain_value(alloc, &expanded_words(alloc, seen, words)?)
+}
+
+/// The only word.
+fn only(words: &[Word]) -> Option<&Word>
+    ensures { IfSome result (λ word. words.now ≡ word.now ∷ []) }
+{
+    match words {
+        [word] => Some(word),
+        _ => None,
+    }
 }
 
 /// The function that is called: a function word stands first, and OF behind it.

@@ -4,10 +4,11 @@ ghost use Rattle.exec2_run.specs.Calls as spec;
 ghost use Rattle.exec2_run.specs.Faults.{Does};
 
 use crate::calls::Call;
+use crate::exec::ExecState;
 use crate::loops::Loops;
 use crate::values::{ended, expanded_words, missing, whole};
 use crate::variables::numbered;
-use crate::{Exec, Fault, Want};
+use crate::{Fault, Want};
 use cms_text::Word;
 use exec2_parse::Vars;
 use std::alloc::AllocError;
@@ -15,7 +16,7 @@ use std::alloc::AllocError;
 /// The most calls that may be open.
 const MOST: usize = 100;
 
-impl Exec {
+impl ExecState {
     /// &CALL, with a label and the arguments.
     #[tactic(auto, unfolding(crate::specs::Calls::called))]
     pub fn call(&mut self, words: &[Word]) -> Result<Want, Fault>

@@ -2,11 +2,11 @@
 ghost use Rattle.exec2_run.specs.Destinations as spec;
 ghost use Rattle.exec2_run.specs.Faults.{Answers, Does};
 
-use crate::kind::Control;
+use crate::exec::ExecState;
 use crate::values::{ended, expanded_words, joined, missing, text, whole};
-use crate::words::copied;
-use crate::{Exec, Fault, Want};
+use crate::{Fault, Want};
 use cms_text::{Word, is_keyword};
+use exec2_parse::{Control, copied};
 
 /// Where the commands of a procedure go.
 #[derive(Drop)]
@@ -16,7 +16,7 @@ pub enum Destination {
     Extension(Word),
 }
 
-impl Exec {
+impl ExecState {
     /// A command: its text goes where &PRESUME said last, and at first to CMS.
     #[tactic(auto, unfolding(crate::specs::Destinations::sent))]
     pub fn send(&self, words: &[Word]) -> Result<Want, Fault>

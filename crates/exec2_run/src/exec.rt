@@ -1,27 +1,28 @@
 // A procedure that runs.
-ghost use Rattle.std.specs.Prelude.{◌≡◌, ◌≢◌, IfOk, IfErr, OnOk, OnErr, Ok, Err, ◌⊎◌, MatchResult, length, unwrap_or, slice_get};
+ghost use Rattle.std.specs.Prelude.{◌≡◌, ◌≢◌, [], IfOk, IfErr, OnOk, OnErr, Ok, Err, ◌⊎◌, MatchResult, length, unwrap_or, slice_get};
 ghost use Rattle.exec2_run.specs.Faults.{Answers, Does, Leads, number_of_fault};
 ghost use Rattle.exec2_run.specs.Given.{bound, seen, seen_at};
 ghost use Rattle.exec2_run.specs.Steps as spec;
-ghost use Rattle.exec2_run.specs.Kinds.{is_if};
+ghost use Rattle.exec2_parse.specs.Kinds.{guards, kind_of};
+ghost use Rattle.exec2_run.specs.Due.{words_due};
 ghost use Rattle.exec2_run.specs.Steps.{Takes};
 
 use crate::calls::{Calls, line_of_last};
 use crate::comparison::{Comparison, holds};
 use crate::destination::Destination;
 use crate::given::{AtStart, Seen, Standing, behind_name};
-use crate::kind::{Control, Kind, kind_of};
 use crate::loops::Loops;
 use crate::reading::Reading;
 use crate::values::{ended, expanded_words, value, whole};
 use crate::variables::Variables;
-use crate::words::{behind_first, copied, is_comment, statement_of, words_of};
+use crate::words::behind_first;
 use crate::{Fault, Want};
 use cms_fields::{FIRST_MOMENT, Moment};
 use cms_names::Name;
 use cms_text::{Line, Word, WordList, number};
-use exec2_parse::Procedure;
+use exec2_parse::{Control, Kind, Procedure, copied, kind_of, words_of};
 use std::alloc::{AllocError, Global};
+use std::marker::Model;
 
 /// The file of a procedure as it was found.
 #[derive(Clone, Copy)]
@@ -43,6 +44,56 @@ pub enum ErrorAction {
     Running,
 }
 
+/// The statement that is due.
+#[derive(Drop)]
+enum Due {
+    /// The error action, which has these words.
+    Action(WordList),
+    /// That on the line at a place of these lines.
+    Line(Procedure, u32),
+}
+
+impl Due {
+    /// The words of the statement.
+    fn words(&self) -> &[Word]
+        ensures { result.now ≡ words_due self.now }
+    {
+        match self {
+            Due::Action(words) => words.as_slice(),
+            Due::Line(lines, place) => lines.statement(*place as usize),
+        }
+    }
+
+    /// What the statement is.
+    fn kind(&self) -> Kind
+        ensures { result ≡ kind_of (words_due self.now) }
+    {
+        match self {
+            Due::Action(words) => kind_of(words.as_slice()),
+            Due::Line(lines, place) => lines.kind(*place as usize),
+        }
+    }
+}
+
+/// A statement behind its &IFs.
+#[derive(Clone, Copy)]
+struct Unguarded<'w> {
+    kind: Kind,
+    words: &'w [Word],
+}
+
+/// A statement without words.
+#[tactic(auto, unfolding(exec2_parse::specs::Kinds::kind_of))]
+fn nothing<'w>() -> Unguarded<'w>
+    ensures words { result.words.now ≡ [] }
+    ensures kind { result.kind ≡ kind_of [] }
+{
+    Unguarded {
+        kind: Kind::Nothing,
+        words: &[],
+    }
+}
+
 /// Where a procedure stands: what a turn changes before its statement runs.
 #[derive(Clone, Copy)]
 struct Place {
@@ -52,9 +103,9 @@ struct Place {
     action: ErrorAction,
 }
 
-/// A procedure that runs, a statement at a time.
+/// What there is of a procedure that runs.
 #[derive(Drop)]
-pub struct Exec {
+pub struct ExecState {
     pub(crate) alloc: Global,
     pub(crate) lines: Procedure,
     /// The place of the next line, from 0.
@@ -78,9 +129,26 @@ pub struct Exec {
     pub(crate) reading: Reading,
 }
 
+/// A procedure that runs, a statement at a time, seen as its state. It is one pointer, so that nothing is copied where it is handed on.
+#[derive(Drop)]
+pub struct Exec {
+    state: Box<ExecState>,
+}
+
+impl Model for Exec {
+    ghost use Rattle.exec2_parse.specs.contracts.vars.Vars as vars;
+    ghost use Rattle.std.specs.Coded.{codes};
+    ghost use Rattle.exec2_run.specs.declared.exec.ExecState.{ExecState};
+
+    ghost Value = { ExecState };
+
+    ghost coded = { Prim.hlevel (codes, vars.the_row.coded) };
+
+    ghost view = { λ e. e.state.value };
+}
+
 impl Exec {
     /// A procedure that begins, called by a line, which goes from the procedure's name on, and found in a file.
-    #[tactic(auto, unfolding(crate::specs::Steps::begun))]
     pub fn start(
         alloc: Global,
         procedure: Procedure,
@@ -89,7 +157,80 @@ impl Exec {
     ) -> Result<Exec, AllocError>
         ensures { IfOk result (λ exec. spec.begun alloc procedure called.now found.now ≡ Ok exec) }
     {
-        let mut exec = Exec {
+        let state = ExecState::start(alloc, procedure, called, found)?;
+        let state = Box::new(alloc, state)?;
+        Ok(Exec { state })
+    }
+
+    /// The procedure's name.
+    pub fn name(&self) -> &Word
+        ensures { result.now ≡ self.now.start.name }
+    {
+        self.state.start.name()
+    }
+
+    /// The moment of the statement that ran last; 1970-01-01 00:00:00 before the first.
+    pub fn moment(&self) -> Moment
+        ensures { result ≡ self.now.moment }
+    {
+        self.state.moment
+    }
+
+    /// Finds the next line, and makes the loops' tests that are due at the moment of the last statement. It spends no turn. It answers
+    /// `Next` where a statement is due, `Ended(0)` past the last line, and `Failed` where a test has a fault. After that, and without
+    /// memory, the procedure stands as before.
+    pub fn settle(&mut self, moment: &Moment) -> Result<Want, AllocError>
+        ensures step { IfOk result (λ want. Takes (spec.settled moment.now self.old) self.old self.new want) }
+        ensures err { OnErr result (self.new ≡ self.old) }
+    {
+        self.state.settle(moment)
+    }
+
+    /// Runs one statement at a turn's moment: the error action where it is due, else that of the next line. After `Failed`, and without
+    /// memory, the procedure stands as before.
+    pub fn turn(&mut self, moment: &Moment) -> Result<Want, AllocError>
+        ensures step { IfOk result (λ want. Takes (spec.turned moment.now self.old) self.old self.new want) }
+        ensures err { OnErr result (self.new ≡ self.old) }
+    {
+        self.state.turn(moment)
+    }
+
+    /// Takes the line that `Read` asked for. After `Failed`, and without memory, it is still asked for.
+    pub fn take_line(&mut self, line: &Line) -> Result<Want, AllocError>
+        ensures step { IfOk result (λ want. Takes (spec.line_taken self.old line.now) self.old self.new want) }
+        ensures err { OnErr result (self.new ≡ self.old) }
+    {
+        self.state.take_line(line)
+    }
+
+    /// Takes the code of the command that was issued, or of the text that was sent. With one other than 0 the error action is due, unless it
+    /// issued the command or sent the text.
+    pub fn take_code(&mut self, code: i32)
+        ensures { self.new ≡ spec.code_taken self.old code }
+    {
+        self.state.take_code(code);
+    }
+
+    /// What follows where the program stack has no room for the lines: fault 13 at this line, and the procedure stays as it was.
+    pub fn refuse_stack(&mut self) -> Want
+        ensures { Takes (spec.refused self.old) self.old self.new result }
+    {
+        self.state.refuse_stack()
+    }
+}
+
+impl ExecState {
+    /// A procedure that begins, called by a line, which goes from the procedure's name on, and found in a file.
+    #[tactic(auto, unfolding(crate::specs::Steps::begun))]
+    pub fn start(
+        alloc: Global,
+        procedure: Procedure,
+        called: &Line,
+        found: &FileName,
+    ) -> Result<ExecState, AllocError>
+        ensures { IfOk result (λ exec. spec.begun alloc procedure called.now found.now ≡ Ok exec) }
+    {
+        let mut exec = ExecState {
             alloc,
             lines: procedure,
             next: 0,
@@ -112,20 +253,6 @@ impl Exec {
             Ok(()) => Ok(exec),
             Err(_) => Err(AllocError),
         }
-    }
-
-    /// The procedure's name.
-    pub fn name(&self) -> &Word
-        ensures { result.now ≡ self.now.start.name }
-    {
-        self.start.name()
-    }
-
-    /// The moment of the statement that ran last; 1970-01-01 00:00:00 before the first.
-    pub fn moment(&self) -> Moment
-        ensures { result ≡ self.now.moment }
-    {
-        self.moment
     }
 
     /// Finds the next line, and makes the loops' tests that are due at the moment of the last statement. It spends no turn. It answers
@@ -188,10 +315,10 @@ impl Exec {
         ensures step { IfOk result (λ want. Takes (spec.turned moment.now self.old) self.old self.new want) }
         ensures err { OnErr result (self.new ≡ self.old) }
     {
-        let words = self.statement_due()?;
+        let due = self.statement_due()?;
         let before = self.place();
         self.advance(moment);
-        match self.run(words.as_slice()) {
+        match self.run(due.kind(), due.words()) {
             Ok(want) => Ok(want),
             Err(fault) => {
                 let line = self.line;
@@ -286,14 +413,14 @@ impl Exec {
         }
     }
 
-    fn statement_due(&self) -> Result<WordList, AllocError>
-        ensures { IfOk result (λ words. words ≡ spec.due_words self.now) }
+    fn statement_due(&self) -> Result<Due, AllocError>
+        ensures { IfOk result (λ due. words_due due ≡ spec.due_words self.now) }
     {
         if self.is_due() {
-            self.error_words()
-        } else {
-            self.words_at_next()
+            return Ok(Due::Action(self.error_words()?));
         }
+        let lines = self.lines.share()?;
+        Ok(Due::Line(lines, self.next))
     }
 
     /// Goes to the statement that is due.
@@ -328,27 +455,14 @@ impl Exec {
         }
     }
 
-    /// The words of the statement on the next line.
-    #[tactic(auto, unfolding(crate::specs::Words::statement_on))]
-    fn words_at_next(&self) -> Result<WordList, AllocError>
-        ensures { IfOk result (λ words. words ≡ spec.words_at self.now) }
-    {
-        let Some(line) = self.lines.get(self.next as usize) else {
-            return Ok(WordList::new(self.alloc));
-        };
-        if is_comment(line.bytes()) {
-            return Ok(WordList::new(self.alloc));
-        }
-        let words = words_of(self.alloc, line.bytes())?;
-        copied(self.alloc, statement_of(words.as_slice()))
-    }
-
-    #[tactic(auto, unfolding(crate::specs::Steps::run))]
-    fn run(&mut self, words: &[Word]) -> Result<Want, Fault>
+    /// Runs a statement, which is of this kind.
+    #[tactic(auto, unfolding(crate::specs::Steps::run, crate::specs::Steps::run_kind))]
+    fn run(&mut self, kind: Kind, words: &[Word]) -> Result<Want, Fault>
+        requires { kind ≡ kind_of words.now }
         ensures { Does (spec.run self.old words.now) self.old self.new result }
     {
-        let statement = self.guarded(words)?;
-        match self.run_kind(statement) {
+        let statement = self.guarded(kind, words)?;
+        match self.run_kind(statement.kind, statement.words) {
             Ok(want) => Ok(want),
             Err(fault) => Err(fault),
         }
@@ -356,21 +470,25 @@ impl Exec {
 
     /// The statement that runs: of &IF and a comparison what follows it, or nothing where that doesn't hold.
     #[tactic(auto, unfolding(crate::specs::Steps::guarded))]
-    fn guarded<'w>(&self, words: &'w [Word]) -> Result<&'w [Word], Fault>
-        ensures { MatchResult result (λ statement. spec.guarded (seen self.now) words.now ≡ Ok statement.now)
+    fn guarded<'w>(&self, kind: Kind, words: &'w [Word]) -> Result<Unguarded<'w>, Fault>
+        requires { kind ≡ kind_of words.now }
+        ensures statement { MatchResult result (λ statement. spec.guarded (seen self.now) words.now ≡ Ok statement.words.now)
             (λ fault. (fault ≡ Fault.Memory) ⊎ (spec.guarded (seen self.now) words.now ≡ Err fault)) }
+        ensures kind { IfOk result (λ statement. statement.kind ≡ kind_of statement.words.now) }
     {
         let mut rest = words;
-        while is_if(rest) {
+        let mut kind = kind;
+        while is_if(kind) {
             let [_, left, sign, right, statement @ ..] = rest else {
                 return Err(self.fault_of_if(rest)?);
             };
             if !self.compare(left, sign, right)? {
-                return Ok(&[]);
+                return Ok(nothing());
             }
             rest = statement;
+            kind = kind_of(rest);
         }
-        Ok(rest)
+        Ok(Unguarded { kind, words: rest })
     }
 
     /// The fault of an &IF without three words behind it.
@@ -392,12 +510,11 @@ impl Exec {
         Ok(holds(self.alloc, comparison, &left, &right)?)
     }
 
-    /// Runs a statement that no &IF guards.
-    #[tactic(auto, unfolding(crate::specs::Steps::run_kind))]
-    fn run_kind(&mut self, words: &[Word]) -> Result<Want, Fault>
-        ensures { Does (spec.run_kind self.old words.now) self.old self.new result }
+    /// Runs a statement of this kind that no &IF guards.
+    fn run_kind(&mut self, kind: Kind, words: &[Word]) -> Result<Want, Fault>
+        ensures { Does (spec.run_by kind self.old words.now) self.old self.new result }
     {
-        match kind_of(words) {
+        match kind {
             Kind::Nothing => Ok(Want::Next),
             Kind::Assignment => self.assign(words),
             Kind::Control(control) => self.run_control(control, behind_first(words)),
@@ -478,13 +595,10 @@ fn exit_code(word: &[u8]) -> Result<i32, Fault>
 }
 
 /// Whether a statement is an &IF.
-fn is_if(words: &[Word]) -> bool
-    ensures { result ≡ is_if words.now }
+fn is_if(kind: Kind) -> bool
+    ensures { result ≡ guards kind }
 {
-    match kind_of(words) {
-        Kind::Control(Control::If) => true,
-        _ => false,
-    }
+    matches!(kind, Kind::Control(Control::If))
 }
 
 /// What a fault of a line is for the session.

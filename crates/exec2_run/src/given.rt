@@ -1,18 +1,14 @@
 // The variables that are given.
 ghost use Rattle.std.specs.Prelude.{◌≡◌, ◌≤◌, length, IfOk};
-ghost use Rattle.cms_text.specs.Numbers.{decimal_of};
 ghost use Rattle.cms_text.specs.Texts as texts;
 ghost use Rattle.exec2_run.specs.Given as spec;
-ghost use Rattle.cms_text.specs.Limits.{longest_text};
 
 use crate::FileName;
 use crate::variables::Variables;
 use cms_fields::Moment;
 use cms_names::Part;
-use cms_text::{
-    BLANK, COLON, Line, STROKE, Word, ZERO, decimal, ebcdic, is_keyword, without_one_blank, written,
-};
-use exec2_parse::Scope;
+use cms_text::{BLANK, COLON, Line, STROKE, Word, ZERO, decimal, without_one_blank};
+use exec2_parse::{Scope, is_spelled, numeral, written};
 use std::alloc::{AllocError, Global};
 
 /// A variable that is given and can't be set (VM/SP EXEC 2 Reference, predefined variables).
@@ -64,12 +60,12 @@ impl Predefined {
     {
         ALL.iter()
             .copied()
-            .find(|given| is_keyword(name, given.name()))
+            .find(|given| is_spelled(name, given.name()))
     }
 
     fn name(self) -> &'static str
         ensures name { result.now ≡ spec.name_of self }
-        ensures short { length result.now ≤ longest_text }
+        ensures coded { length (texts.ebcdic result.now) ≡ length result.now }
     {
         match self {
             Predefined::Procedure => "0",
@@ -98,23 +94,6 @@ pub fn is_given(name: &[u8]) -> bool
     ensures { result ≡ spec.is_given name.now }
 {
     Predefined::read(name).is_some()
-}
-
-/// An ASCII text as a word.
-fn word_of(alloc: Global, text: &str) -> Result<Word, AllocError>
-    requires { length text.now ≤ longest_text }
-    ensures { IfOk result (λ word. word ≡ texts.ebcdic text.now) }
-{
-    Ok(Word::take(ebcdic(alloc, text)?))
-}
-
-/// A count as a word.
-#[tactic(auto, unfolding(cms_text::specs::Numbers::decimal_of, cms_text::specs::Numbers::written))]
-pub fn numeral(alloc: Global, number: usize) -> Result<Word, AllocError>
-    ensures { IfOk result (λ word. word ≡ decimal_of number) }
-{
-    let text = number.to_string(alloc)?;
-    word_of(alloc, text.as_str())
 }
 
 /// What is fixed where a procedure begins.

@@ -1,26 +1,34 @@
 // Labels, &GOTO and &SKIP.
-ghost use Rattle.std.specs.Prelude.{◌≡◌, ◌≤◌, ◌<◌, ◌^◌, length, drop, IfSome};
+ghost use Rattle.std.specs.Prelude.{◌≡◌, ◌≤◌, ◌<◌, ◌^◌, length, drop, true, IfSome};
 ghost use Rattle.std.specs.List.{position_from};
 ghost use Rattle.exec2_run.specs.Faults.{Does};
 ghost use Rattle.exec2_run.specs.Jumps as spec;
-ghost use Rattle.exec2_run.specs.Words.{has_label};
+ghost use Rattle.exec2_parse.specs.Words.{has_label, is_label};
 
+use crate::exec::ExecState;
 use crate::values::{ended, expanded_words, missing, whole};
-use crate::words::is_label;
-use crate::{Exec, Fault, Want};
-use cms_text::{Word, first_word, number};
-use exec2_parse::Procedure;
+use crate::{Fault, Want};
+use cms_text::{BLANK, Word, first_word, number};
+use exec2_parse::{Procedure, is_label};
 
-/// Whether a line has a label.
+const HYPHEN: u8 = 0x60;
+
+/// Whether a line has a label. One that begins neither with a hyphen nor with a blank isn't read further.
+#[tactic(auto, using(crate::proofs::Fronts::no_label))]
 fn has_label(line: &[u8], label: &[u8]) -> bool
+    requires { is_label label.now ≡ true }
     ensures { result ≡ has_label label.now line.now }
 {
-    first_word(line) == label
+    match line {
+        [HYPHEN | BLANK, ..] => first_word(line) == label,
+        _ => false,
+    }
 }
 
 /// The place of the first line with a label, from a place on.
 #[tactic(auto, unfolding(crate::specs::Jumps::label_from))]
 pub fn label_from(lines: &Procedure, label: &[u8], from: u32) -> Option<u32>
+    requires { is_label label.now ≡ true }
     ensures place { result ≡ spec.label_from label.now from lines.now }
     ensures within { IfSome result (λ place. (place < length lines.now) × (place < 4096)) }
 {
@@ -36,9 +44,10 @@ pub fn label_from(lines: &Procedure, label: &[u8], from: u32) -> Option<u32>
     None
 }
 
-impl Exec {
+impl ExecState {
     /// The place of the first line with a label, from the next line to the end and then from the top.
     fn label_place(&self, label: &[u8]) -> Option<u32>
+        requires { is_label label.now ≡ true }
         ensures { result ≡ spec.label_place label.now self.now.next self.now.lines }
     {
         match label_from(&self.lines, label, self.next) {

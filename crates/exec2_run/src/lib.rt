@@ -10,7 +10,6 @@ mod exec;
 mod fault;
 mod given;
 mod jumps;
-mod kind;
 mod laws;
 mod looping;
 mod loops;

@@ -1,19 +1,22 @@
 // &LOOP, and the passes of loops.
 ghost use Rattle.std.specs.Prelude.{◌≡◌, ◌⊎◌, Ok, Err, true, drop, MatchResult};
+ghost use Rattle.exec2_parse.specs.Words.{is_label};
 ghost use Rattle.exec2_run.specs.Given.{bound, seen};
 ghost use Rattle.exec2_run.specs.Faults.{Answers, Does};
 ghost use Rattle.exec2_run.specs.Faults.{Settles};
 ghost use Rattle.exec2_run.specs.Loops as spec;
 
 use crate::comparison::{Comparison, test_holds};
+use crate::exec::ExecState;
 use crate::given::Seen;
 use crate::jumps::label_from;
 use crate::loops::{Loop, Loops, Passes, Test};
 use crate::values::{ended, expanded_words, missing, value};
-use crate::words::{ASTERISK, is_label};
-use crate::{Exec, Fault, Want};
+use crate::words::ASTERISK;
+use crate::{Fault, Want};
 use cms_fields::Moment;
 use cms_text::{Word, is_keyword, number};
+use exec2_parse::is_label;
 use std::alloc::{AllocError, Global};
 
 /// The most loops that may be open.
@@ -26,7 +29,7 @@ struct First<'w> {
     behind: &'w [Word],
 }
 
-impl Exec {
+impl ExecState {
     /// &LOOP, with a number of lines or a label, and how often they are repeated.
     #[tactic(auto, unfolding(crate::specs::Loops::looped))]
     pub fn repeat(&mut self, words: &[Word]) -> Result<Want, Fault>
@@ -64,6 +67,7 @@ impl Exec {
     }
 
     fn end_at_label(&self, label: &[u8]) -> Result<u32, Fault>
+        requires { is_label label.now ≡ true }
         ensures { result ≡ spec.end_at_label self.now label.now }
     {
         match label_from(&self.lines, label, self.next) {

@@ -3,8 +3,9 @@ ghost use Rattle.std.specs.Prelude.{◌≡◌};
 ghost use Rattle.exec2_run.specs.Faults.{Answers, Does};
 ghost use Rattle.exec2_run.specs.Outputs as spec;
 
+use crate::exec::ExecState;
 use crate::values::{ended, expanded_words, text};
-use crate::{Exec, Fault, Side, Want};
+use crate::{Fault, Side, Want};
 use cms_text::{Line, Lines, Word, first_word, is_keyword};
 
 /// The lines up to an &END, and the place behind it.
@@ -14,7 +15,7 @@ struct Block {
     past: u32,
 }
 
-impl Exec {
+impl ExecState {
     /// &TYPE text.
     #[tactic(auto, unfolding(crate::specs::Outputs::typed))]
     pub fn type_text(&self, words: &[Word]) -> Result<Want, Fault>

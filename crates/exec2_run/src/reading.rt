@@ -3,12 +3,13 @@ ghost use Rattle.exec2_run.specs.Given.{bound};
 ghost use Rattle.exec2_run.specs.Faults.{Answers, Does, Leads};
 ghost use Rattle.exec2_run.specs.Readings as spec;
 
+use crate::exec::ExecState;
 use crate::given::Seen;
 use crate::values::{expanded_words, whole};
 use crate::variables::target;
-use crate::words::words_of;
-use crate::{Exec, Fault, Want};
+use crate::{Fault, Want};
 use cms_text::{Line, Word, WordList, is_keyword};
+use exec2_parse::words_of;
 use std::alloc::Global;
 
 /// What a line is asked for.
@@ -23,7 +24,7 @@ pub enum Reading {
     Text(Word),
 }
 
-impl Exec {
+impl ExecState {
     /// &ARGS, with the words that become the arguments.
     #[tactic(auto, unfolding(crate::specs::Readings::args_given))]
     pub fn args(&mut self, words: &[Word]) -> Result<Want, Fault>

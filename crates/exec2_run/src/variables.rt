@@ -8,11 +8,12 @@ ghost use Rattle.exec2_run.specs.Faults.{Answers, Does, Leads};
 ghost use Rattle.exec2_run.specs.Given as given;
 ghost use Rattle.exec2_run.specs.Variables as spec;
 
-use crate::given::{Seen, is_given, numeral};
+use crate::exec::ExecState;
+use crate::given::{Seen, is_given};
 use crate::words::behind_first;
-use crate::{Exec, Fault, Want};
+use crate::{Fault, Want};
 use cms_text::Word;
-use exec2_parse::{Scope, Vars, expand_in, folded};
+use exec2_parse::{Scope, Vars, capitals, expand_in, numeral};
 use std::alloc::{AllocError, Global};
 
 /// The most variables that may be set.
@@ -31,7 +32,7 @@ pub fn target(alloc: Global, seen: &Seen<'_>, word: &Word) -> Result<Word, Fault
         return Err(Fault::BadStatement);
     };
     let name = expand_in(alloc, name, seen)?;
-    let name = folded(alloc, name.bytes())?;
+    let name = capitals(alloc, name)?;
     if is_given(name.bytes()) {
         return Err(Fault::Given);
     }
@@ -244,7 +245,7 @@ pub fn numbered(alloc: Global, values: &[Word]) -> Result<Vars, AllocError>
     Ok(arguments)
 }
 
-impl Exec {
+impl ExecState {
     /// Sets a variable that isn't given.
     pub fn set_variable(&mut self, name: Word, value: Word) -> Result<(), Fault>
         ensures { Leads (spec.with_variable self.old name value) self.old self.new result }

@@ -1,5 +1,6 @@
 use Rattle.std.proofs.Common.{◌≡◌, ◌∙◌, ◌++◌, length, sym, ap, arith, rules}
 use Rattle.std.specs.Prelude.{Ok}
+use Rattle.cms_text.specs.Texts.{Text}
 use Rattle.exec2_parse.specs.Expansion.{name_of}
 use Rattle.exec2_parse.proofs.Splits.{expanded_end, expanded_past, expanded_start, expanded_step}
 use Rattle.exec2_parse.proofs.expansion.expand_in.Goals as goal
@@ -13,23 +14,23 @@ pub returns-then-left-bytes-gt-LONGEST_TEXT-clause-too_long : goal.returns-then-
 returns-then-left-bytes-gt-LONGEST_TEXT-clause-too_long g c = λ _.
     let names = g.S.Scope.binding c.args.scope.now in
     let value : c.in_ok-value.value ≡ names (name_of c.in-Some.name.now c.loop-front.value) = c.in_ok-value.ensures
-    ∙ ap names (c.bytes-in-Some.ensures.bytes ∙ c.in_ok-name.ensures ∙ ap (name_of c.in-Some.name.now) c.bytes.ensures.bytes) in
+    ∙ ap (λ (text : Text). names (name_of c.in-Some.name.now text)) c.bytes.ensures.bytes in
     sym c.loop-front.invariant.same
     ∙ expanded_past names c.loop-front.left.now c.loop-front.value c.in-Some.front.now c.in-Some.name.now c.in_ok-value.value (search rules) value
-    (omega (arith, ap length c.bytes-in-Some-2.ensures.bytes))
+    (omega (arith, ap length c.bytes-in-Some.ensures.bytes))
 
 pub loop-front-preserved : goal.loop-front-preserved
 loop-front-preserved g c =
     let names = g.S.Scope.binding c.args.scope.now in
     let value : c.in_ok-value.value ≡ names (name_of c.in-Some.name.now c.loop-front.value) = c.in_ok-value.ensures
-    ∙ ap names (c.bytes-in-Some.ensures.bytes ∙ c.in_ok-name.ensures ∙ ap (name_of c.in-Some.name.now) c.bytes.ensures.bytes) in
+    ∙ ap (λ (text : Text). names (name_of c.in-Some.name.now text)) c.bytes.ensures.bytes in
     record {
-      short = omega (arith, ap length c.bytes-in-Some-2.ensures.bytes);
+      short = omega (arith, ap length c.bytes-in-Some.ensures.bytes);
       same = sym (expanded_step names c.loop-front.left.now c.loop-front.value c.in-Some.front.now c.in-Some.name.now c.in_ok-value.value (search rules) value
-          (omega (arith, ap length c.bytes-in-Some-2.ensures.bytes))) ∙ c.loop-front.invariant.same;
+          (omega (arith, ap length c.bytes-in-Some.ensures.bytes))) ∙ c.loop-front.invariant.same;
     }
 
 pub returns-clause-value : goal.returns-clause-value
 returns-clause-value g c =
     sym c.loop-front.invariant.same ∙ expanded_end (g.S.Scope.binding c.args.scope.now) c.loop-front.left.now c.loop-front.value c.in_default.ensures
-    ∙ ap (λ text. Ok (c.loop-front.left.now ++ text)) (sym c.bytes-2.ensures.bytes) ∙ ap Ok (sym c.in_ok-joined.ensures)
+    ∙ ap Ok (sym c.in_ok-followed.ensures)

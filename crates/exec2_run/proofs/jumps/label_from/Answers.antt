@@ -1,6 +1,6 @@
 use Rattle.std.proofs.Common.{◌≡◌, ◌∙◌, sym, ap, rules, refl, true, false}
 use Rattle.std.specs.List.{position_from}
-use Rattle.exec2_run.specs.Words.{has_label}
+use Rattle.exec2_parse.specs.Words.{has_label}
 use Rattle.exec2_run.proofs.Places.{from_place, past_end}
 use Rattle.exec2_run.proofs.jumps.label_from.Goals as goal
 

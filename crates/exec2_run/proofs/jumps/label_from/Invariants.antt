@@ -1,6 +1,6 @@
 use Rattle.std.proofs.Common.{◌≡◌, drop}
 use Rattle.std.specs.List.{position_from}
-use Rattle.exec2_run.specs.Words.{has_label}
+use Rattle.exec2_parse.specs.Words.{has_label}
 use Rattle.exec2_run.specs.Jumps.{label_from}
 use Rattle.exec2_run.proofs.jumps.label_from.Given as goal
 
