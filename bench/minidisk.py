@@ -11,7 +11,8 @@ listing    10,000 files listed, and with all columns
 
 The program is built first by `./minidisk --build`, where it isn't built. mtools (mformat, mcopy, mdir) is wanted. All files are made in a
 folder of their own in the folder in which this is started, so its file system is the one that is measured. mtools sync nothing, so each of
-its writes is measured with a `sync` of its image behind it.
+its writes is measured with a `sync` of its image, or of each file that it wrote, behind it. `put` syncs the image twice for each file: what
+as many syncs take by themselves stands beside it.
 """
 
 import os
@@ -21,6 +22,7 @@ import shutil
 import subprocess
 import sys
 import tempfile
+import time
 
 from bench import HOME, MEBIBYTE, beside, said, spent
 
@@ -43,6 +45,24 @@ def new_fat(name):
 def synced(words, image):
     """The seconds of a command of mtools and a sync of its image."""
     return spent(words)[0] + spent(["sync", image])[0]
+
+
+def syncs_alone(count):
+    """The seconds of as many updates that do nothing: each writes three blocks, syncs, writes a label and syncs."""
+    block = bytes(4096)
+    with open("syncs", "wb") as image:
+        image.truncate(BLOCKS * 4096)
+        os.fsync(image.fileno())
+        begun = time.monotonic()
+        for nth in range(count):
+            for place in (8 + nth, BLOCKS // 3 + nth, BLOCKS // 3 * 2 + nth):
+                os.pwrite(image.fileno(), block, place * 4096)
+            os.fdatasync(image.fileno())
+            os.pwrite(image.fileno(), block, 8192)
+            os.fdatasync(image.fileno())
+        seconds = time.monotonic() - begun
+    os.unlink("syncs")
+    return seconds
 
 
 def measured(what, words, plain_what, plain):
@@ -91,10 +111,13 @@ def small():
     new_fat("a.fat")
     plain = synced(["mcopy", "-i", "a.fat", *names, "::"], "a.fat")
     measured(f"put of {COUNT:,} texts", ["put", "a.img", *names], "mcopy of them into a FAT image", plain)
+    said(f"{2 * COUNT:,} syncs alone", syncs_alone(COUNT))
     for folder in ("out", "out.fat"):
         os.mkdir(folder)
     plain = spent(["mcopy", "-n", "-i", "a.fat", "::*", "out.fat"])[0]
-    measured(f"get of {COUNT:,} texts", ["get", "-d", "out", "a.img", "*.*"], "mcopy of them out of it", plain)
+    said("mcopy of them out of it, with no sync", plain)
+    plain += spent(["sync", *[f"out.fat/{name}" for name in os.listdir("out.fat")]])[0]
+    measured(f"get of {COUNT:,} texts", ["get", "-d", "out", "a.img", "*.*"], "mcopy of them out of it, and a sync of each", plain)
     listing_of("a.img", "a.fat")
     for folder in ("many", "out", "out.fat"):
         shutil.rmtree(folder)

@@ -30,6 +30,11 @@ pub fn folder_of(name: &str) -> &str {
     }
 }
 
+/// Makes sure that the names in the folder of this one stay.
+pub fn sync_folder<R: Files<File = File>>(rt: &R, name: &str) -> io::Result<()> {
+    File::open(rt, folder_of(name))?.sync_all()
+}
+
 // The last component of a name.
 fn last_of(name: &str) -> &str {
     match Path::new(name).file_name() {
@@ -135,14 +140,20 @@ impl Written {
         self.file.write_all(from)
     }
 
-    /// Gives it its name, to stay, and says whether it has it: another program may have put a file there.
-    pub fn keep<R: Files<File = File>>(mut self, rt: &R) -> io::Result<bool> {
-        let named = self.give_name(rt);
-        match named {
-            Ok(true) => {}
-            Ok(false) | Err(_) => self.discard(rt),
+    /// Gives it its name, and tells that name; none where another program has put a file there. It stays with the name once the folder
+    /// is synced.
+    pub fn keep<R: Files<File = File>>(mut self, rt: &R) -> io::Result<Option<String>> {
+        match self.give_name(rt) {
+            Ok(true) => Ok(Some(self.name)),
+            Ok(false) => {
+                self.discard(rt);
+                Ok(None)
+            }
+            Err(error) => {
+                self.discard(rt);
+                Err(error)
+            }
         }
-        named
     }
 
     fn give_name<R: Files<File = File>>(&mut self, rt: &R) -> io::Result<bool> {
@@ -150,14 +161,11 @@ impl Written {
         self.file.get_ref().sync_all()?;
         let beside = self.beside.as_str();
         let name = self.name.as_str();
-        let named = if self.over {
+        if self.over {
             fs::rename(rt, beside, name)?;
-            true
-        } else {
-            give_free_name(rt, beside, name)?
-        };
-        File::open(rt, folder_of(name))?.sync_all()?;
-        Ok(named)
+            return Ok(true);
+        }
+        give_free_name(rt, beside, name)
     }
 
     /// Throws it away, with what isn't written yet.

@@ -3,9 +3,9 @@ ghost use Rattle.std.specs.Prelude.{◌≡◌, ◌≤◌, ◌+◌, None, length,
 ghost use Rattle.cms_journal.specs.Causes.{Rose};
 ghost use Rattle.mini_files.specs.Sources.{left_of};
 
-use crate::draft::Written;
+use crate::draft::{Written, folder_of, sync_folder};
 use crate::source::{Source, gather, is_absent, open_plain};
-use crate::telling::{tell, tell_failure};
+use crate::telling::{tell, tell_failure, tell_unsettled};
 use cms_world::ImageName;
 use mini_host::{Failed, Host, Note, Refusal};
 use std::alloc::Global;
@@ -25,8 +25,9 @@ struct Trouble {
 
 /// Host files over std. They tell nothing: no contract can name what a real file has.
 ///
-/// A file that is begun is written under another name in the folder of the one that it is to have, `.NAME.K.tmp`. Standard input is
-/// gathered when it is opened first, to 268,435,456 bytes.
+/// A file that is begun is written under another name in the folder of the one that it is to have, `.NAME.K.tmp`. It is synced before
+/// it gets that name, and the folder of all files that got theirs is synced once, by [`HostFiles::finish`]. Standard input is gathered
+/// when it is opened first, to 268,435,456 bytes.
 #[derive(Drop)]
 pub struct HostFiles<R: Files<File = File> + io::Input + Eprint + Drop> {
     alloc: Global,
@@ -34,6 +35,8 @@ pub struct HostFiles<R: Files<File = File> + io::Input + Eprint + Drop> {
     input: Option<Vec<u8>>,
     source: Option<Source>,
     draft: Option<Written>,
+    // the first file that got its name; the folder isn't synced since
+    named: Option<String>,
     trouble: Option<Trouble>,
     image: Option<ImageName>,
     faults: u64,
@@ -50,6 +53,7 @@ impl<R: Files<File = File> + io::Input + Eprint + Drop> HostFiles<R> {
             input: None,
             source: None,
             draft: None,
+            named: None,
             trouble: None,
             image: None,
             faults: 0,
@@ -61,6 +65,21 @@ impl<R: Files<File = File> + io::Input + Eprint + Drop> HostFiles<R> {
         match &self.image {
             Some(image) => Some(image.text()),
             None => None,
+        }
+    }
+
+    /// Makes sure that the files which got their names keep them, and says whether they do. Where they may not, that is said on standard
+    /// error.
+    pub fn finish(&mut self) -> bool {
+        let Some(name) = self.named.take() else {
+            return true;
+        };
+        match sync_folder(&self.rt, name.as_str()) {
+            Ok(()) => true,
+            Err(error) => {
+                let _ = tell_unsettled(&self.rt, folder_of(name.as_str()), &error);
+                false
+            }
         }
     }
 
@@ -89,6 +108,21 @@ impl<R: Files<File = File> + io::Input + Eprint + Drop> HostFiles<R> {
             Some(draft) => ImageName::of(self.alloc, draft.name()).ok(),
             None => None,
         }
+    }
+
+    // Gives a file its name, and says whether it has it. Its folder is synced later, but at once where it isn't that of the files before.
+    fn name_draft(&mut self, draft: Written) -> io::Result<bool>
+        ensures { self.new.faults ≡ self.old.faults }
+    {
+        let Some(name) = draft.keep(&self.rt)? else {
+            return Ok(false);
+        };
+        match &self.named {
+            Some(first) if folder_of(first.as_str()) == folder_of(name.as_str()) => {}
+            Some(_) => sync_folder(&self.rt, name.as_str())?,
+            None => self.named = Some(name),
+        }
+        Ok(true)
     }
 
     fn open_input(&mut self) -> io::Result<Source>
@@ -235,7 +269,7 @@ impl<R: Files<File = File> + io::Input + Eprint + Drop> Host for HostFiles<R> {
     fn keep(&mut self) -> Result<bool, Failed> {
         let file = self.begun();
         let kept = match self.draft.take() {
-            Some(draft) => draft.keep(&self.rt),
+            Some(draft) => self.name_draft(draft),
             None => Err(io::Error::other("no file is begun")),
         };
         match kept {

@@ -138,6 +138,11 @@ pub fn tell_failure<R: Eprint>(rt: &R, word: &str, error: &io::Error) -> io::Res
     eprintln!(rt; "minidisk: {word}: {error}; what stands behind isn't done")
 }
 
+/// Says that a folder couldn't be synced in which files got their names.
+pub fn tell_unsettled<R: Eprint>(rt: &R, folder: &str, error: &io::Error) -> io::Result<()> {
+    eprintln!(rt; "minidisk: {folder}: {error}; files that were written there may not stay")
+}
+
 /// Says a note on standard error, in one line.
 pub fn tell<R: Eprint>(rt: &R, note: &Note) -> io::Result<()> {
     let word = note.word.text();

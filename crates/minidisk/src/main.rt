@@ -84,12 +84,14 @@ fn answer(rt: &HostRuntime, request: &Request) -> Ending
     };
     let mut files = HostFiles::new(rt.alloc(), rt);
     let came = work(rt.alloc(), &mut world, &mut files, request);
+    let settled = files.finish();
     let written = world.finish();
-    match (came, files.failed_image()) {
+    let ending = match (came, files.failed_image()) {
         (Err(_), _) => Ending::Memory,
         (Ok(Status::Failed), Some(image)) => tell_image(rt, image, world.trouble()),
         (Ok(status), _) => ending_of(rt, status, written),
-    }
+    };
+    if settled { ending } else { Ending::Failed }
 }
 
 /// All requests, one behind another: the gravest ending of theirs.
