@@ -5,21 +5,27 @@
     bench/bench.py NAME ..      some: opening, files, copy, append, execio, procedure
 
 opening    a volume of 10,000 files in 262,144 blocks of 4,096 bytes, beside `dd` that reads the blocks that describe it
-files      10,000 files of a volume listed with all columns, beside `ls -l` of as many; and one of them erased, beside `dd` that writes and
-           syncs as many blocks, and beside one of 100 files
+files      10,000 files of a volume listed with all columns, beside `ls -l` of as many; and one of them erased, beside as many blocks that
+           are written with two syncs. Then one of 100, 1,000 and 10,000 files erased, and a line added to a small file among them, in
+           volumes of 20,000 and of 200,000 blocks of 512 bytes that are in order: the blocks that are written, and the time. And one of
+           10,000 files erased that sessions wrote one by one, and one where the blocks of the volume are scattered, which writes what
+           tests/updates.py foretells
 copy       a file of F 80 records of 64 MiB, and one of 1 MiB, by COPYFILE, beside `cp` and `sync` of a file of that size
 append     a record added to a file of 64 MiB and to one of 1 MiB, with blocks of 4,096 and of 512 bytes: the blocks that are written, and
-           those that are read beside an opening
+           those that are read beside an opening, at most one of each level of the file's pointer blocks and one more
 execio     2,000 lines of one record each, `EXECIO 1 DISKW`, beside as many transactions of one row in SQLite with synchronous=FULL; and
            10,000 beside 1,000
 procedure  procedures of 1,000,000 turns, two of them beside the same loop in REXX, where Regina's `rexx` is installed
 
-Blocks that are written and read are counted by strace, where it is installed. The program is built first by `./cms --build`, where it isn't built. All files are made in a folder of their own in the folder in which
-this is started, so its file system is the one that is measured. Memory is told by /usr/bin/time.
+Blocks that are written and read are counted by strace, where it is installed. Where a count or a ratio is more than it may be at most,
+that is told on standard error, and the status is 1. The program is built first by `./cms --build`, where it isn't built. All files are made
+in a folder of their own in the folder in which this is started, so its file system is the one that is measured. Memory is told by
+/usr/bin/time.
 """
 
 import os
 import pathlib
+import random
 import shutil
 import sqlite3
 import subprocess
@@ -65,23 +71,37 @@ def beside(seconds, plain):
     print(f"  ratio {seconds / plain:.2f}")
 
 
+PASSED = []
+
+
+def at_most(what, value, most):
+    """What is said of a value that may be no more than a bound; where it is, the run fails."""
+    if value > most:
+        PASSED.append(what)
+        print(f"bench: {what}: {value:,}, which is more than {most:,}", file=sys.stderr)
+    return f"at most {most:,}"
+
+
 def counted(unit, lines):
     """How many blocks a session of these lines writes, and how many it reads beside one of none; nothing without strace."""
     if not shutil.which("strace"):
         return None
     counts = []
-    for script in (lines, []):
+    # the opening is that of the image before: an erased file is none that the next opening reads
+    for script in ([], lines):
         traced = ["strace", "-qq", "-o", "calls", "-e", "trace=pwrite64,pread64", PROGRAM, unit]
         subprocess.run(traced, input="".join(line + "\n" for line in script), capture_output=True, text=True, check=True)
         calls = pathlib.Path("calls").read_text().splitlines()
         counts.append([sum(name in call for call in calls) for name in ("pwrite64(", "pread64(")])
-    (written, read), (none, opened) = counts
+    (none, opened), (written, read) = counts
     return written - none, read - opened
 
 
-def said_counts(counts, most=None):
+def said_counts(what, counts, written, read=None):
+    """Tells how many blocks were written and read, and how many may be at most."""
     if counts:
-        print(f"  {counts[0]:,} blocks written" + (f", at most {most}" if most else "") + f", {counts[1]:,} read")
+        told = f"{counts[0]:,} blocks written, {at_most(what + ', blocks written', counts[0], written)}; {counts[1]:,} read"
+        print(f"  {told}" + (f", {at_most(what + ', blocks read', counts[1], read)}" if read is not None else ""))
 
 
 def opening():
@@ -96,36 +116,104 @@ def opening():
     os.unlink("large.img")
 
 
-def files():
+# The most blocks that the erasure of one of 10,000 files writes, with blocks of 512 bytes, where the volume is in order. Of the directory it
+# writes the first data block, that of the file and that of the last entry, and over these at most three pointer blocks of the lower level
+# and the root: 7. The label is one more. Of the map it writes the data blocks with the bits of the file's block, of the directory's and the
+# map's old blocks, and of the lowest free ones. The latter three stand one behind another here, within fewer blocks than a data block of the
+# map has bits for, so they are in one data block or two. With the pointer block over them that is 4 at most, and 12 in all.
+MOST_ERASED = 15
+
+# A line that is added to a small file, and files that are erased.
+ADDED = "EXECIO 1 DISKW F00050 DATA A (STRING one line more"
+ERASED = [f"ERASE F{nth:05} DATA A" for nth in range(7, 57)]
+
+
+def in_order(blocks, count):
+    """A volume of so many blocks with so many files of a line, whose blocks stand one behind another: the files, the map, the directory."""
+    import volumes
+
+    files = {(f"F{nth:05}", "DATA"): volumes.File("V", [f"FILE {nth}".encode("cp037")]) for nth in range(count)}
+    kind = volumes.Kind(blocks=blocks, origin=4, files=count, lost=0, in_order=True)
+    pathlib.Path("order.img").write_bytes(volumes.made(kind, files, random.Random(1)))
+
+
+def said_each(what, unit, lines):
+    """The time that each of these lines takes, by a session of them beside one of none."""
+    opened = min(session(unit, [])[0] for _ in range(3))
+    each = max(session(unit, lines)[0] - opened, 1e-6) / len(lines)
+    print(f"{what:<70} {1000 * each:8.3f} ms")
+    return each
+
+
+def flatness():
+    """A line added to a small file, and files erased, among more and more files and blocks."""
+    unit, times = "191,512,rw,order.img", []
+    for blocks in (20_000, 200_000):
+        for count in (100, 1_000, FILES):
+            where = f"{count:,} files in {blocks:,} blocks"
+            in_order(blocks, count)
+            counts = counted(unit, [ADDED])
+            added = said_each(f"a line added to one of {where}", unit, [ADDED] * 100)
+            said_counts(f"a line added to one of {where}", counts, MOST_WRITTEN[512], 1)
+            in_order(blocks, count)
+            counts = counted(unit, ERASED[:1])
+            in_order(blocks, count)
+            times.append((added, said_each(f"one of {where} erased", unit, ERASED)))
+            said_counts(f"one of {where} erased", counts, MOST_ERASED, 0)
+    for what, few, many in zip(("additions", "erasures"), times[0], times[-1]):
+        print(f"  {what} among the most files and blocks beside those among the fewest: {many / few:.2f}")
+    os.unlink("order.img")
+
+
+def by_sessions():
+    """One of 10,000 files erased that were written one by one, in a volume of 200,000 blocks."""
+    unit = "191,512,rw,written.img"
+    session("191,512,n200000,written.img", ["FORMAT 191 A", "YES", "BENCH"])
+    seconds = session(unit, [f"EXECIO 1 DISKW F{nth:05} DATA A (STRING FILE {nth}" for nth in range(FILES)])[0]
+    print(f"{f'{FILES:,} files of a line written one by one, each':<70} {1000 * seconds / FILES:8.3f} ms")
+    said_counts("one of 10,000 files erased that sessions wrote", counted(unit, ERASED[:1]), MOST_ERASED, 0)
+    os.unlink("written.img")
+
+
+def scattered():
+    """One of 10,000 files erased in a volume whose blocks are in a mixed order: the map's blocks that it writes are many."""
     import updates
     import volumes
 
-    for count in (100, FILES):
-        image, _ = volumes.make(volumes.Kind(blocks=200_000, origin=4, files=count, lost=0))
-        pathlib.Path(f"many{count}.img").write_bytes(image)
+    image, _ = volumes.make(volumes.Kind(blocks=200_000, origin=4, files=FILES, lost=0))
     written = len(updates.erase(image, volumes.SIZE, ("F00007", "DATA"), volumes.DATE))
-    shutil.copy(f"many{FILES}.img", "many.img")
+    pathlib.Path("many.img").write_bytes(image)
+    said_counts("one of 10,000 files erased in a scattered volume", counted("191,512,rw,many.img", ERASED[:1]), written, 0)
+    os.unlink("many.img")
+
+
+def files():
+    in_order(200_000, FILES)
     os.mkdir("many")
     for nth in range(FILES):
         pathlib.Path(f"many/F{nth:05}.DATA").touch()
     os.sync()
-    listed = session("191,512,ro,many.img", ["LISTFILE * * A (LABEL"])
+    listed = session("191,512,ro,order.img", ["LISTFILE * * A (LABEL"])
     said(f"{FILES:,} files listed with all columns", *listed)
     plain = spent(["ls", "-l", "many"])[0]
     said(f"{FILES:,} files by ls -l", plain)
     beside(listed[0], plain)
-    erased = session("191,512,rw,many.img", ["ERASE F00007 DATA A"])
-    said(f"one of them erased: {written:,} blocks", *erased)
-    plain = spent(["dd", "if=/dev/zero", "of=blocks", "bs=512", f"count={written}", "conv=fdatasync", "status=none"])[0]
-    said(f"{written:,} blocks written and synced by dd", plain)
-    beside(erased[0], plain)
-    few = session("191,512,rw,many100.img", ["ERASE F00007 DATA A"])
-    said("one of 100 files erased", *few)
-    beside(erased[0], few[0])
-    said_counts(counted(f"191,512,rw,many{FILES}.img", ["ERASE F00007 DATA A"]), written)
+    each = said_each(f"one of {FILES:,} files erased", "191,512,rw,order.img", ERASED)
+    begun = time.monotonic()
+    with open("blocks", "wb", buffering=0) as blocks:
+        for _ in ERASED:
+            blocks.write(bytes(512 * (MOST_ERASED - 1)))
+            os.fdatasync(blocks.fileno())
+            blocks.write(bytes(512))
+            os.fdatasync(blocks.fileno())
+    plain = (time.monotonic() - begun) / len(ERASED)
+    print(f"{f'{MOST_ERASED} blocks written with two syncs':<70} {1000 * plain:8.3f} ms")
+    beside(each, plain)
     shutil.rmtree("many")
-    for name in ("many.img", "many100.img", f"many{FILES}.img"):
-        os.unlink(name)
+    os.unlink("blocks")
+    flatness()
+    by_sessions()
+    scattered()
 
 
 def with_records(count):
@@ -166,6 +254,14 @@ def copy():
 MOST_WRITTEN = {4096: 10, 512: 16}
 
 
+def height(size, stored):
+    """The levels of pointer blocks over so many bytes at F."""
+    levels, reached = 0, size
+    while reached < stored:
+        levels, reached = levels + 1, reached * (size // 4)
+    return levels
+
+
 def append():
     """A line is added to a file of F 80 records, ten short of the size, since no file is larger than 64 MiB."""
     line = "EXECIO 1 DISKW BIG FILE A (STRING one line more"
@@ -177,7 +273,8 @@ def append():
             session(f"191,{size},n{blocks},{image}", with_records(mebibytes * MEBIBYTE // RECORD - 10))
             times[mebibytes] = session(f"191,{size},rw,{image}", [line])
             said(f"a line added to {mebibytes} MiB of F {RECORD} records, blocks of {size} bytes", *times[mebibytes])
-            said_counts(counted(f"191,{size},rw,{image}", [line]), most)
+            what = f"a line added to {mebibytes} MiB, blocks of {size} bytes"
+            said_counts(what, counted(f"191,{size},rw,{image}", [line]), most, height(size, mebibytes * MEBIBYTE) + 1)
             os.unlink(image)
         beside(times[64][0], times[1][0])
 
@@ -192,9 +289,13 @@ def lines_written(count):
     return seconds
 
 
+# The most that ten times as many lines may take: ten times the time, and something for what else the machine does.
+MOST_TIMES = 12
+
+
 def execio():
     few, many = lines_written(1_000), lines_written(10_000)
-    print(f"  10,000 lines beside 1,000: {many / few:.1f}")
+    print(f"  10,000 lines beside 1,000: {many / few:.1f}, {at_most('10,000 lines beside 1,000', round(many / few, 1), MOST_TIMES)}")
     count = 2_000
     seconds = lines_written(count)
     base = sqlite3.connect("execio.db", isolation_level=None)
@@ -260,6 +361,8 @@ def main():
         for name in names:
             BENCHES[name]()
         os.chdir("..")
+    if PASSED:
+        sys.exit(f"bench: {len(PASSED)} of what is measured is more than it may be: {'; '.join(PASSED)}")
 
 
 if __name__ == "__main__":

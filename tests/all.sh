@@ -23,6 +23,7 @@ updates.py       -       foretells what updates of such volumes write, and looks
 exact.py         strace  updates on volumes, whose writes must be those that updates.py foretells
 crash.py         strace  an ERASE, stopped at each write and each sync, on the example and on volumes of volumes.py
 append_crash.py  strace  additions to files by COPYFILE and EXECIO, stopped so
+century_crash.py strace  two CENTURYs over a directory of two levels, stopped so
 format_crash.py  strace  a FORMAT and a relabelling, stopped so
 files_crash.py   strace  a COPYFILE, an ERASE, a RENAME and a LISTFILE with EXEC, stopped so
 edge.py          cc      files, folders, streams, locks and syncs that fail
@@ -72,7 +73,7 @@ run() {
     case $1 in
         crash.py)
             "$home/tests/crash.py" && "$home/tests/volumes.py" "$folder" && crash_on wide F00003 && crash_on deep F00003 &&
-                crash_on enough F00003 && crash_on shrinking F00302
+                crash_on enough F00003 && crash_on shrinking F00302 && crash_on narrowing F00003
             ;;
         volumes.py) "$home/tests/volumes.py" "$folder" ;;
         volume.py) "$home/tests/volume.py" "$folder/large.img" ;;

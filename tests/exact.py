@@ -4,8 +4,8 @@
     tests/exact.py [SEEDS]       on 10 small volumes by default, and on those of tests/volumes.py
 
 Needs strace; it is no part of the gate. The updates are a file that is put, one that takes the place of another, records that are added to a
-file, a file that is erased and one that is renamed. Each volume is taken as it is made, and again with bytes of another writer where none is
-read: what is kept keeps these, and what is written has those that it must have. An update that finds too few free blocks is to write nothing.
+file, a file that is erased, one that is renamed, and stamps that are moved by a century. Each volume is taken as it is made, and again with
+bytes of another writer where none is read, and stamps of both centuries: what is kept keeps these, and what is written has those that it must have. An update that finds too few free blocks is to write nothing.
 """
 
 import pathlib
@@ -45,6 +45,8 @@ def updates_of(files, chosen):
     yield Update(f"COPYFILE {said(other)} {said(key)} (REPLACE", lambda image, date: updates.put(image, SIZE, key, file, date))
     yield Update(f"ERASE {said(key)}", lambda image, date: updates.erase(image, SIZE, key, date))
     yield Update(f"RENAME {said(key)} {said(NEW)}", lambda image, date: updates.rename(image, SIZE, key, NEW, date))
+    pivot = chosen.choice((0, 1, 70, 100))
+    yield Update(f"CENTURY A {pivot}", lambda image, date: updates.century(image, SIZE, pivot, date))
 
 
 class Trial(stops.Trial):

@@ -1,10 +1,10 @@
 #!/usr/bin/env python3
 """Foretells what an update of a volume writes, block by block from docs/FORMAT.md: a file that is put, records that are added to one, a file
-that is erased and one that is renamed.
+that is erased, one that is renamed, and stamps that are moved by a century.
 
     tests/updates.py [SEEDS]       tries each of them on volumes of tests/volumes.py and on small ones, and looks at what stands then
 
-Other tests take `put`, `append`, `erase` and `rename` from here. Each gives the blocks with their bytes in the order in which they are
+Other tests take `put`, `append`, `erase`, `rename` and `century` from here. Each gives the blocks with their bytes in the order in which they are
 written: all but the last, a sync, the last, which is the label, a sync. They raise Full where too few blocks are free. A file that is put
 or added to gets the date of the update.
 
@@ -289,6 +289,28 @@ def rename(image, size, key, name, date):
     return writes(reader, found, Edit(rows, {0, place + 2}, set()), date)
 
 
+def year(row):
+    """The year of an entry's stamp."""
+    return (2000 if row[31] & 8 else 1900) + 10 * (row[54] >> 4) + row[54] % 16
+
+
+def moved(row, pivot):
+    """An entry whose stamp is a century later where it lies before the pivot."""
+    return row[:31] + b"\x08" + row[32:] if year(row) < 1900 + pivot else row
+
+
+def century(image, size, pivot, date):
+    """The writes of stamps that are moved: all entries are made anew."""
+    reader, found = opened(image, size)
+    rows = [moved(row, pivot) for row in reader.rows[2:]]
+    return writes(reader, found, Edit(rows, set(range(len(rows) + 2)), set()), date)
+
+
+def years(image, size):
+    """The years of the files' stamps."""
+    return [year(row) for row in opened(image, size)[0].rows[2:]]
+
+
 def done(image, size, blocks):
     """The image with these blocks."""
     after = bytearray(image)
@@ -299,10 +321,14 @@ def done(image, size, blocks):
 
 # ---- tries
 
+# Years of a century, as two digits.
+YEARS = (0x00, 0x01, 0x69, 0x70, 0x99)
+
 
 def odd(image, size, chosen):
     """The image with other bytes where none is read: in the words of V's pointers, behind a pointer block's last pointer and a file's last
-    record, in entries between their fields and behind the last, and in the bits of blocks 1 to 5 and behind the last block."""
+    record, in entries between their fields and behind the last, in the bits of their flags that tell nothing, and in the bits of blocks 1 to 5
+    and behind the last block. Its files have stamps of some years of both centuries."""
     reader, found = opened(image, size)
     after = bytearray(image)
 
@@ -327,6 +353,8 @@ def odd(image, size, chosen):
         entry_at = (reader.levels(Row.of(reader.rows[0]))[0][0][ENTRY * place // size], ENTRY * place % size)
         for start, end in ((16, 25), (26, 30), (36, 40), (60, 64)):
             scatter(entry_at[0], entry_at[1] + start, entry_at[1] + end)
+        stamp = (entry_at[0] - 1) * size + entry_at[1]
+        after[stamp + 31], after[stamp + 54] = chosen.randrange(256), chosen.choice(YEARS)
     leaves = reader.levels(Row.of(reader.rows[0]))[0][0]
     scatter(leaves[-1], (ENTRY * len(reader.rows) - 1) % size + 1, size)
     marks = reader.levels(Row.of(reader.rows[1]))[0][0]
@@ -382,6 +410,7 @@ class Try(NamedTuple):
     name: str
     blocks: list
     files: dict
+    years: list = None
 
 
 def tries(image, size, chosen):
@@ -396,6 +425,9 @@ def tries(image, size, chosen):
     yield Try("replace", put(image, size, key, file, DATE), {**files, key: file})
     yield Try("erase", erase(image, size, key, DATE), dropped(files, key))
     yield Try("rename", rename(image, size, key, new, DATE), renamed)
+    for pivot in (0, 70, 100):
+        later = [each + 100 if each < 1900 + pivot else each for each in years(image, size)]
+        yield Try(f"century {pivot}", century(image, size, pivot, DATE), files, later)
 
 
 def is_wrong(image, size, update):
@@ -405,6 +437,8 @@ def is_wrong(image, size, update):
     stands = {number for tree in reader.trees for number in tree} | {before.origin}
     if list(after.files.items()) != list(update.files.items()):
         return "the files are others"
+    if update.years not in (None, years(done(image, size, update.blocks), size)):
+        return "the years are others"
     if stands & {number for number, _ in update.blocks}:
         return "a block is written in which the volume before stands"
     if before.lost != after.lost:

@@ -5,7 +5,7 @@
     tests/volumes.py IMAGE BLOCK-SIZE     says what is on an image, or the reason why it is no minidisk
 
 Other tests take `make` and `read` from here; tests/updates.py foretells what an update of such a volume writes. Blocks are taken in a
-mixed order, so that free ones lie between them.
+mixed order, so that free ones lie between them, but where a volume is to be in order.
 """
 
 import pathlib
@@ -42,7 +42,7 @@ class File(NamedTuple):
 class Kind(NamedTuple):
     """What a volume is to be: its blocks, its origin, how many files it has, and how many blocks are to be free or lost.
 
-    Of as many files as `odd` says, one has the type ODD.
+    Of as many files as `odd` says, one has the type ODD. In order, block 6 and those behind it are taken one after another.
     """
 
     blocks: int
@@ -51,6 +51,7 @@ class Kind(NamedTuple):
     lost: int
     free: int = -1
     odd: int = 0
+    in_order: bool = False
 
 
 # With blocks of 512 bytes a map block has the bits of 4,096 blocks, and the fan is 128 at F and 42 at V.
@@ -65,6 +66,8 @@ VOLUMES = {
     "full": Kind(blocks=8200, origin=4, files=300, lost=0, free=5),
     # the erase of the last entry leaves a directory of one block fewer
     "shrinking": Kind(blocks=40000, origin=5, files=303, lost=1),
+    # the erase of any file leaves the second of its directory's lower pointer blocks a data block fewer, and none of these is written
+    "narrowing": Kind(blocks=12000, origin=4, files=1031, lost=2),
     # three of its files have a type of their own
     "listed": Kind(blocks=8200, origin=5, files=40, lost=2, odd=13),
 }
@@ -117,7 +120,9 @@ class Writer:
 
 
 def front(kind, files, chosen):
-    """The blocks from 6 on in the order in which they are taken: mixed, with about a third of the front left free."""
+    """The blocks from 6 on in the order in which they are taken: mixed, with about a third of the front left free, or in their order."""
+    if kind.in_order:
+        return range(6, kind.blocks + 1)
     data = sum(up(len(file.data()[0]), SIZE) + 2 for file in files.values())
     last = min(kind.blocks, 300 + (data + kind.files // 8) * 3 // 2)
     numbers = list(range(6, last + 1))

@@ -1,5 +1,5 @@
--- Worked examples of ACCESS, RELEASE, QUERY and FORMAT.
-use Rattle.std.proofs.Common.{◌≡◌, ℕ, pos, true, false, List, [], ◌∷◌, replicate, slice_get, Option, Some, None, codes, refl}
+-- Worked examples of ACCESS, RELEASE, QUERY, FORMAT and CENTURY.
+use Rattle.std.proofs.Common.{◌≡◌, ℕ, pos, Bool, true, false, map, List, [], ◌∷◌, replicate, slice_get, Option, Some, None, codes, refl}
 use Rattle.std.specs.Fmt.{digits}
 use Rattle.cms_ebcdic.specs.CodePage.{character_of, code_of, code_page, host_of, upper_of}
 use Rattle.cms_names.specs.Modes.{letter_of, mode_number_of, mode_word_of, short_mode_of}
@@ -10,7 +10,8 @@ use Rattle.cms_model.specs.Changes.{answer_of, changed, changed_files, entries_m
 use Rattle.cms_model.specs.Lists.{holds}
 use Rattle.cms_model.specs.DirectoryParts.{blocks_with, directory_taken}
 use Rattle.cms_model.specs.Sharing.{any_within, fresh_count, fresh_on, fresh_to, is_kept}
-use Rattle.cms_model.specs.Minidisks.{State, Volume, Not}
+use Rattle.cms_model.specs.Minidisks.{File, State, Volume, Not}
+use Rattle.cms_names.specs.declared.name.Format.TheVariants.{F}
 use Rattle.cms_model.specs.Sizes.{directory_more, file_size, free_count, map_size, stored_size, tree_size, used_count, levels, levels_from, pointer_count, pointers_to}
 use Rattle.cms_machine.specs.Acts.{Act, typed_line}
 use Rattle.cms_machine.specs.Feeds.{Close, Over, WaitsForScript, WaitsForMoment, WaitsForObject, feed}
@@ -20,8 +21,8 @@ use Rattle.cms_machine.specs.Steps.{Outcome, Good, SyncFault, ReadFault, OldFaul
 use Rattle.cms_line.specs.Messages.{message_text}
 use Rattle.cms_line.specs.Options.{options_from, options_of}
 use Rattle.cms_line.specs.Tokens.{tokens_from, tokens_of}
-use Rattle.cms_operands.specs.Choices.{all_valued, chosen_of, last_among, setting_in, valued}
-use Rattle.cms_operands.specs.Operands.{access_mode, access_mode_in, device, device_of, device_or_letter, ended, given, given_or, hexadecimal_of, letter, letter_or_all, needed, number_within, operands_of}
+use Rattle.cms_operands.specs.Choices.{all_valued, chosen_of, setting_in, valued}
+use Rattle.cms_operands.specs.Operands.{access_mode, access_mode_in, device, device_of, device_or_letter, ended, given, given_or, hexadecimal_of, letter, letter_or_all, needed, number, number_within, operands_of}
 use Rattle.cms_operands.specs.Refusals.{message_of}
 use Rattle.cms_search.specs.Asking.{asking}
 use Rattle.cms_search.specs.Machine.{Letter, Machine, Course, Went, OutOfTurns, typing}
@@ -29,6 +30,7 @@ use Rattle.cms_search.specs.Searches.{places_from}
 use Rattle.cms_search.specs.declared.state.Device.{Device}
 use Rattle.cms_search.proofs.Machines.{Answer, answer, answer_asked, machine, moment, types, words}
 use Rattle.cms_access.specs.Access.{access, access_operands}
+use Rattle.cms_access.specs.Century.{century, century_operands}
 use Rattle.cms_access.specs.Format.{format, format_operands, goes_on, is_label}
 use Rattle.cms_access.specs.Query.{query, query_operands}
 use Rattle.cms_access.specs.Release.{release, release_operands}
@@ -74,13 +76,13 @@ second_question = codes "CMS605R Enter disk label"
 
 formatted : formats new_machine (codes "FORMAT 191 A") (text (codes "YES") ∷ text (codes "TEST01") ∷ []) []
     ≡ types (first_question ∷ second_question ∷ codes "CMS733I 9 blocks formatted on A (191)" ∷ []) 0
-unfolding format_operands operands_of needed given device device_of hexadecimal_of letter mode_word_of short_mode_of letter_of ended chosen_of options_of all_valued last_among asking
+unfolding format_operands operands_of needed given device device_of hexadecimal_of letter mode_word_of short_mode_of letter_of ended chosen_of options_of all_valued asking
     is_keyword ebcdic code_of code_page host_of upper_of character_of is_name_character goes_on is_label message_text typed_line tokens_of tokens_from decimal_of written digits moment
 formatted = refl
 
 -- the first line that is asked for isn't yes
 refused_to_go_on : formats new_machine (codes "FORMAT 191 A") (text (codes "NO") ∷ []) [] ≡ types (first_question ∷ []) 8
-unfolding format_operands operands_of needed given device device_of hexadecimal_of letter mode_word_of short_mode_of letter_of ended chosen_of options_of all_valued last_among asking
+unfolding format_operands operands_of needed given device device_of hexadecimal_of letter mode_word_of short_mode_of letter_of ended chosen_of options_of all_valued asking
     is_keyword ebcdic code_of code_page host_of upper_of character_of is_name_character goes_on is_label message_text typed_line tokens_of tokens_from
 refused_to_go_on = refl
 
@@ -88,20 +90,20 @@ refused_to_go_on = refl
 dropped : formats new_machine (codes "FORMAT 191 A") (Bad ∷ Long ∷ Rest ∷ text (codes " yes ") ∷ text (codes "A label") ∷ []) []
     ≡ types (first_question ∷ codes "CMS010E Line has an invalid character" ∷ codes "CMS011E Line is longer than 255 bytes"
     ∷ second_question ∷ codes "CMS062E Name A LABEL is not valid" ∷ []) 20
-unfolding format_operands operands_of needed given device device_of hexadecimal_of letter mode_word_of short_mode_of letter_of ended chosen_of options_of all_valued last_among asking
+unfolding format_operands operands_of needed given device device_of hexadecimal_of letter mode_word_of short_mode_of letter_of ended chosen_of options_of all_valued asking
     is_keyword ebcdic code_of code_page host_of upper_of character_of is_name_character goes_on is_label message_text typed_line tokens_of tokens_from
 dropped = refl
 
 -- the device fails at the wiping, and at the making
 wiping_failed : formats new_machine (codes "FORMAT 191 A") (text (codes "1") ∷ text (codes "TEST01") ∷ []) (EitherFault After ∷ [])
     ≡ types (first_question ∷ second_question ∷ codes "CMS105E Device fault on 191" ∷ []) 100
-unfolding format_operands operands_of needed given device device_of hexadecimal_of letter mode_word_of short_mode_of letter_of ended chosen_of options_of all_valued last_among asking
+unfolding format_operands operands_of needed given device device_of hexadecimal_of letter mode_word_of short_mode_of letter_of ended chosen_of options_of all_valued asking
     is_keyword ebcdic code_of code_page host_of upper_of character_of is_name_character goes_on is_label message_text typed_line tokens_of tokens_from
 wiping_failed = refl
 
 making_failed : formats new_machine (codes "FORMAT 191 A") (text (codes "1") ∷ text (codes "TEST01") ∷ []) (Good ∷ OldFault ∷ [])
     ≡ types (first_question ∷ second_question ∷ codes "CMS105E Device fault on 191" ∷ []) 100
-unfolding format_operands operands_of needed given device device_of hexadecimal_of letter mode_word_of short_mode_of letter_of ended chosen_of options_of all_valued last_among asking
+unfolding format_operands operands_of needed given device device_of hexadecimal_of letter mode_word_of short_mode_of letter_of ended chosen_of options_of all_valued asking
     is_keyword ebcdic code_of code_page host_of upper_of character_of is_name_character goes_on is_label message_text typed_line tokens_of tokens_from moment
 making_failed = refl
 
@@ -121,7 +123,7 @@ refused_words : refuses new_machine (codes "FORMAT 19 *") (codes "CMS070E Operan
     × refuses new_machine (codes "FORMAT 199 A (BLKSIZE X") (codes "CMS029E Parameter X of option BLKSIZE is not valid") 24
     × refuses new_machine (codes "FORMAT 191 A (BLKSIZE 1024") (codes "CMS029E Parameter 1024 of option BLKSIZE is not valid") 24
 unfolding format_operands operands_of needed given device device_of hexadecimal_of letter mode_word_of short_mode_of letter_of ended chosen_of options_of options_from all_valued valued
-    setting_in number_within magnitude_of last_among message_of ebcdic code_of code_page host_of upper_of character_of message_text typed_line tokens_of tokens_from
+    setting_in number_within magnitude_of message_of ebcdic code_of code_page host_of upper_of character_of message_text typed_line tokens_of tokens_from
 refused_words = (refl, refl, refl, refl, refl)
 
 refused_disks : refuses new_machine (codes "FORMAT 199 A (BLKSIZE 512") (codes "CMS113E Device 199 does not exist") 36
@@ -131,7 +133,7 @@ refused_disks : refuses new_machine (codes "FORMAT 199 A (BLKSIZE 512") (codes "
     × refuses (of_unit in_doubt (unit 0x191)) (codes "FORMAT 191 A (LABEL") (codes "CMS115E Device 191 is in doubt") 36
     × refuses new_machine (codes "FORMAT 191 A (LABEL") (codes "CMS069E Disk A is not accessed") 36
 unfolding format_operands operands_of needed given device device_of hexadecimal_of letter mode_word_of short_mode_of letter_of ended chosen_of options_of options_from all_valued valued
-    setting_in number_within magnitude_of last_among ebcdic code_of code_page host_of upper_of character_of message_text typed_line tokens_of tokens_from
+    setting_in number_within magnitude_of ebcdic code_of code_page host_of upper_of character_of message_text typed_line tokens_of tokens_from
 refused_disks = (refl, refl, refl, refl, refl, refl)
 
 -- the volume id is changed, and nothing is typed then but the ready line; in doubt the letter is released
@@ -165,14 +167,14 @@ relabelled : (formats (labelled (as_a 0)) (codes "FORMAT 191 A (LABEL") (text (c
     × (left_in (course_of (format (labelled (as_a 0)) (words (codes "FORMAT 191 A (LABEL"))) (text (codes "new") ∷ []) (EitherFault Before ∷ []))
     ≡ record { volid = []; letters = no_letters })
 unfolding format_operands operands_of needed given device device_of hexadecimal_of letter mode_word_of short_mode_of letter_of ended chosen_of options_of options_from all_valued valued
-    setting_in last_among asking is_keyword ebcdic code_of code_page host_of upper_of character_of is_name_character goes_on is_label message_text typed_line tokens_of tokens_from moment answer_of
+    setting_in asking is_keyword ebcdic code_of code_page host_of upper_of character_of is_name_character goes_on is_label message_text typed_line tokens_of tokens_from moment answer_of
     limit changed_files written_file is_full free_count used_count directory_more tree_size pointer_count pointers_to levels levels_from map_size need changed
     place_named entries_made directory_taken blocks_with holds fresh_count fresh_to fresh_on is_kept any_within
 relabelled = (refl, refl, refl)
 
 -- no turn is left for a line that is to be dropped
 out_of_turns : course_of (format (record new_machine { left = 0 }) (words (codes "FORMAT 191 A"))) (Bad ∷ []) [] ≡ Over OutOfTurns
-unfolding format_operands operands_of needed given device device_of hexadecimal_of letter mode_word_of short_mode_of letter_of ended chosen_of options_of all_valued last_among asking
+unfolding format_operands operands_of needed given device device_of hexadecimal_of letter mode_word_of short_mode_of letter_of ended chosen_of options_of all_valued asking
     ebcdic code_of code_page host_of upper_of character_of message_text typed_line tokens_of tokens_from
 out_of_turns = refl
 
@@ -270,3 +272,69 @@ released_or_not : (releases (two_units (as_a 0)) (codes "REL A") ≡ types [] 0)
 unfolding release_operands operands_of needed given device_or_letter device_of hexadecimal_of mode_word_of short_mode_of letter_of ended chosen_of options_of options_from all_valued
     message_of ebcdic code_of code_page host_of upper_of character_of message_text typed_line tokens_of tokens_from
 released_or_not = (refl, refl, refl, refl, refl, refl, refl)
+
+-- ---- CENTURY
+
+abbrev centuries : Machine → List ℕ → List Outcome → Answer
+centuries s line outcomes = answer (century s (words line)) outcomes
+
+-- a file of one record, with a stamp of this year
+abbrev of_year : ℕ → File
+of_year year = record {
+  name = record { file = year ∷ []; kind = 0xC6 ∷ [] };
+  number = 1;
+  format = F;
+  length = 1;
+  stamp = record { year = year; month = 2; day = 29; hour = 23; minute = 59; second = 59 };
+  records = (0xC1 ∷ []) ∷ [];
+}
+
+-- a volume with files of these years on unit 191, accessed as A
+abbrev with_years : Bool → List ℕ → Machine
+with_years read_only years =
+    machine (Settled (Volume (record { volid = ebcdic (codes "TEST01"); bsize = 512; total = 20; lost = 0; files = map of_year years })) ∷ [])
+    (unit 0x191 ∷ []) (Some (record { unit = 0; parent = None; read_only = read_only }) ∷ replicate 25 None)
+
+abbrev years_in : Option Slot → List ℕ
+years_in (Some (Settled (Volume m))) = map (λ f. f.stamp.year) m.files
+years_in (Some (Settled (Not k))) = []
+years_in (Some (Doubt before after side)) = []
+years_in None = []
+
+-- the years of the first unit's files
+abbrev years_left : Close Course → List ℕ
+years_left (Over (Went s code)) = years_in (slice_get s.units 0)
+years_left (Over OutOfTurns) = []
+years_left WaitsForScript = []
+years_left WaitsForMoment = []
+years_left WaitsForObject = []
+
+abbrev dated : Machine
+dated = with_years false (1900 ∷ 1969 ∷ 1970 ∷ 2000 ∷ [])
+
+abbrev leaves : List ℕ → List ℕ → Type 0
+leaves line years = years_left (course_of (century dated (words line)) [] []) ≡ years
+
+-- the pivot is 70 where none is given
+stamps_moved : leaves (codes "CENTURY A") (2000 ∷ 2069 ∷ 1970 ∷ 2000 ∷ []) × leaves (codes "CENTURY A 0") (1900 ∷ 1969 ∷ 1970 ∷ 2000 ∷ [])
+    × leaves (codes "CENTURY A 071") (2000 ∷ 2069 ∷ 2070 ∷ 2000 ∷ []) × leaves (codes "CENTURY A 101") (1900 ∷ 1969 ∷ 1970 ∷ 2000 ∷ [])
+unfolding century_operands operands_of needed given given_or letter mode_word_of short_mode_of letter_of number number_within magnitude_of ended chosen_of options_of options_from all_valued
+    message_of ebcdic code_of code_page host_of upper_of character_of message_text typed_line tokens_of tokens_from moment answer_of
+    limit changed_files written_file is_full free_count used_count file_size stored_size directory_more tree_size pointer_count pointers_to levels levels_from map_size need changed
+    place_named entries_made directory_taken blocks_with holds fresh_count fresh_to fresh_on is_kept any_within
+stamps_moved = (refl, refl, refl, refl)
+
+century_refused : (centuries dated (codes "CENTURY A 70") [] ≡ types [] 0)
+    × (centuries dated (codes "CENTURY A") (OldFault ∷ []) ≡ types (codes "CMS105E Device fault on 191" ∷ []) 100)
+    × (centuries (with_years true []) (codes "CENTURY A") [] ≡ types (codes "CMS037E Disk A is read-only" ∷ []) 36)
+    × (centuries dated (codes "CENTURY B") [] ≡ types (codes "CMS069E Disk B is not accessed" ∷ []) 36)
+    × (centuries dated (codes "CENTURY") [] ≡ types (codes "CMS054E Operand is missing" ∷ []) 24)
+    × (centuries dated (codes "CENTURY *") [] ≡ types (codes "CMS048E Mode * is not valid" ∷ []) 24)
+    × (centuries dated (codes "CENTURY A 101 X") [] ≡ types (codes "CMS070E Operand 101 is not valid" ∷ []) 24)
+    × (centuries dated (codes "CENTURY A 70 70") [] ≡ types (codes "CMS070E Operand 70 is not valid" ∷ []) 24)
+    × (centuries dated (codes "CENTURY A (DATE") [] ≡ types (codes "CMS003E Option DATE is not valid" ∷ []) 24)
+unfolding century_operands operands_of needed given given_or letter mode_word_of short_mode_of letter_of number number_within magnitude_of ended chosen_of options_of options_from all_valued
+    message_of ebcdic code_of code_page host_of upper_of character_of message_text typed_line tokens_of tokens_from moment answer_of
+    limit changed_files written_file is_full free_count used_count file_size stored_size directory_more tree_size pointer_count pointers_to levels levels_from map_size need changed
+    place_named entries_made directory_taken blocks_with holds fresh_count fresh_to fresh_on is_kept any_within
+century_refused = (refl, refl, refl, refl, refl, refl, refl, refl, refl)

@@ -162,7 +162,7 @@ abbrev pub IsTold : State → ℕ → Seat → Type 0
 IsTold st n told = (s : Seated) → item_at st.table.seats n ≡ Some s → (told.parent ≡ s.letter.parent) × (told.read_only ≡ s.letter.read_only)
     × (option_map (λ (unit : UnitInfo). unit.vdev) (slice_get st.table.units s.letter.unit) ≡ Some told.vdev)
 
-there : (x : Option Seated) → (x ≡ None → ⊥) → (s : Seated) × (x ≡ Some s)
+pub there : (x : Option Seated) → (x ≡ None → ⊥) → (s : Seated) × (x ≡ Some s)
 there None some = absurd (some refl)
 there (Some s) some = (s, refl)
 

@@ -7,14 +7,13 @@ use Rattle.cms_names.specs.Modes.{letter_of, mode_number_of, mode_word_of, numbe
 use Rattle.cms_names.specs.Names.{is_between}
 use Rattle.cms_names.specs.declared.mode.ModeWord.TheVariants.{Any, Same, Letter}
 use Rattle.cms_line.specs.declared.token.Token.{Token}
-use Rattle.cms_operands.specs.Choices.{chosen_of}
-use Rattle.cms_operands.specs.Operands.{access_mode, access_mode_in, device, ended, given_or, letter_in, letter_of_word, operands_of, or_refused, with_ext, without_ext}
+use Rattle.cms_operands.specs.Choices.{chosen_of, no_forms}
+use Rattle.cms_operands.specs.Optional.{access_mode_or_a, device_or, read_or}
+use Rattle.cms_operands.specs.Operands.{access_mode, access_mode_in, ended, given, letter_in, letter_of_word, operands_of, or_refused, with_ext, without_ext}
 use Rattle.cms_operands.specs.declared.choosing.ChosenOption.{ChosenOption}
 use Rattle.cms_operands.specs.declared.operand.AccessMode.{AccessMode}
 use Rattle.cms_operands.specs.declared.refusal.Refusal.{Refusal}
 use Rattle.cms_operands.specs.declared.refusal.Refusal.TheVariants.{BadMode}
-use Rattle.cms_text.specs.Texts.{coded}
-use Rattle.std.specs.Prelude.{codes}
 use Rattle.cms_access.specs.Access.{access_line, access_operands}
 use Rattle.cms_access.specs.declared.access.AccessLine.{AccessLine}
 
@@ -83,25 +82,29 @@ access_mode_below place text mode is = cases (access_mode_in text) refl is
     cases None at is = absurd (cc is)
     cases (Some m) at is = let same : m ≡ mode = cc is in subst (λ (x : AccessMode). x.letter < 26) same (mode_below text m at)
 
+given_mode_below : (place : ℕ) (text : Option (List ℕ)) (mode : AccessMode) → read_or (without_ext 0) (access_mode place) text ≡ Ok mode → mode.letter < 26
+given_mode_below place None mode is = let same : without_ext 0 ≡ mode = cc is in subst (λ (m : AccessMode). m.letter < 26) same (omega arith)
+given_mode_below place (Some text) mode is = access_mode_below place text mode is
+
 operands_below : (operands : List Token) (line : AccessLine) → access_operands operands ≡ Ok line → line.mode.letter < 26
 unfolding access_operands
 operands_below operands line is =
-    cases (device 1 (given_or operands 1 (coded (codes "191")))) (access_mode 2 (given_or operands 2 (coded (codes "A")))) refl (ended operands 3) is
+    cases (device_or operands 1 0x191) (access_mode_or_a operands 2) refl (ended operands 3) is
   where
-    cases : (x : Result ℕ Refusal) (y : Result AccessMode Refusal) → access_mode 2 (given_or operands 2 (coded (codes "A"))) ≡ y → (z : Result ⊤ Refusal)
+    cases : (x : Result ℕ Refusal) (y : Result AccessMode Refusal) → access_mode_or_a operands 2 ≡ y → (z : Result ⊤ Refusal)
         → (x >>= λ vdev. y >>= λ mode. z >> Ok (record { vdev = vdev; mode = mode })) ≡ Ok line → line.mode.letter < 26
     cases (Err e) y at z is = absurd (cc is)
     cases (Ok vdev) (Err e) at z is = absurd (cc is)
     cases (Ok vdev) (Ok mode) at (Err e) is = absurd (cc is)
     cases (Ok vdev) (Ok mode) at (Ok t) is =
         let same : ◌≡◌ {A = AccessLine} (record { vdev = vdev; mode = mode }) line = cc is in
-        subst (λ (l : AccessLine). l.mode.letter < 26) same (access_mode_below 2 (given_or operands 2 (coded (codes "A"))) mode at)
+        subst (λ (l : AccessLine). l.mode.letter < 26) same (given_mode_below 2 (given operands 2) mode at)
 
 -- that of ACCESS's line
 pub line_below : (words : List Token) (line : AccessLine) → access_line words ≡ Ok line → line.mode.letter < 26
-line_below words line is = cases (access_operands (operands_of words)) refl (chosen_of [] words) is
+line_below words line is = cases (access_operands (operands_of words)) refl (chosen_of no_forms words) is
   where
-    cases : (x : Result AccessLine Refusal) → access_operands (operands_of words) ≡ x → (y : Result (List ChosenOption) Refusal) → (x >>= λ l. y >> Ok l) ≡ Ok line → line.mode.letter < 26
+    cases : (x : Result AccessLine Refusal) → access_operands (operands_of words) ≡ x → (y : Result (List (ChosenOption ⊤)) Refusal) → (x >>= λ l. y >> Ok l) ≡ Ok line → line.mode.letter < 26
     cases (Err e) at y is = absurd (cc is)
     cases (Ok l) at (Err e) is = absurd (cc is)
     cases (Ok l) at (Ok chosen) is = let same : l ≡ line = cc is in subst (λ (x : AccessLine). x.mode.letter < 26) same (operands_below (operands_of words) l at)

@@ -8,3 +8,4 @@ mod Remade
 mod Questioned
 mod Made
 mod Formats
+mod Centuries

@@ -1,5 +1,5 @@
 -- ACCESS [vdev [mode[/ext]]]
-use Rattle.std.specs.Prelude.{ℕ, pos, Bool, List, codes, Result, Ok, if◌then◌else◌}
+use Rattle.std.specs.Prelude.{ℕ, pos, Bool, List, Result, Ok, if◌then◌else◌}
 use Rattle.cms_fields.specs.Steps.{◌>>=◌, ◌>>◌}
 use Rattle.cms_text.specs.Numbers.{decimal_of}
 use Rattle.cms_machine.specs.Acts.{Act, Done, Out, bind, typed_line}
@@ -7,11 +7,11 @@ use Rattle.cms_line.specs.Messages.{message_text}
 use Rattle.cms_line.specs.declared.message.Message.TheVariants.{M112, M723}
 use Rattle.cms_line.specs.declared.token.Token.{Token}
 use Rattle.cms_operands.specs.Choices.{without_options}
-use Rattle.cms_text.specs.Texts.{coded}
 use Rattle.cms_access.specs.declared.access.AccessLine.{AccessLine}
 use Rattle.cms_search.specs.Accessing.{accessing}
 use Rattle.cms_search.specs.Machine.{Machine, Course, Went, refusal}
-use Rattle.cms_operands.specs.Operands.{access_mode, device, ended, given_or, operands_of}
+use Rattle.cms_operands.specs.Operands.{ended, operands_of}
+use Rattle.cms_operands.specs.Optional.{access_mode_or_a, device_or}
 use Rattle.cms_operands.specs.declared.refusal.Refusal.{Refusal}
 use Rattle.cms_search.specs.Refusing.{device_fault, no_device, no_disk, not_accessed, on_line}
 use Rattle.cms_search.specs.Telling.{device_text, letter_text}
@@ -23,8 +23,8 @@ use Rattle.cms_search.specs.declared.accessing.AccessEnd.TheVariants as ends
 -- a device, 191 where it isn't given, and the letter as which it is accessed, A where it isn't
 unfoldable pub access_operands : List Token → Result AccessLine Refusal
 access_operands operands = do
-  vdev ← device 1 (given_or operands 1 (coded (codes "191")))
-  mode ← access_mode 2 (given_or operands 2 (coded (codes "A")))
+  vdev ← device_or operands 1 0x191
+  mode ← access_mode_or_a operands 2
   ended operands 3
   Ok (record { vdev = vdev; mode = mode })
 

@@ -1,5 +1,5 @@
 -- FORMAT vdev mode [(LABEL] [BLKSIZE n]
-use Rattle.std.specs.Prelude.{ℕ, pos, ◌==◌, ◌&&◌, ◌||◌, Bool, true, nat_lt, if◌then◌else◌, List, [], ◌∷◌, codes, length, is_some, map, slice_get, slice_set, Option, Some, None, Result, Ok}
+use Rattle.std.specs.Prelude.{ℕ, pos, ◌==◌, ◌&&◌, ◌||◌, Bool, true, false, nat_lt, if◌then◌else◌, List, [], ◌∷◌, codes, fold, length, map, slice_get, slice_set, Option, Some, None, Result, Ok}
 use Rattle.std.specs.List.{list_all}
 use Rattle.std.specs.Option.{option_and_then, option_map}
 use Rattle.cms_ebcdic.specs.CodePage.{upper_of}
@@ -18,16 +18,19 @@ use Rattle.cms_line.specs.declared.message.Message.TheVariants.{M062, M114, M115
 use Rattle.cms_line.specs.declared.token.Token.{Token}
 use Rattle.cms_search.specs.Asking.{Asked, Given, Spent, ask}
 use Rattle.cms_search.specs.ChangeTold.{change_told}
-use Rattle.cms_operands.specs.Choices.{chosen_of, flag, form, last_among}
+use Rattle.cms_operands.specs.Choices.{chosen_of, flag, form}
 use Rattle.cms_search.specs.Machine.{Letter, Machine, Course, Went, OutOfTurns, after_step, letter_at, refusal}
 use Rattle.cms_operands.specs.Operands.{device, ended, largest, letter, needed, operands_of}
 use Rattle.cms_search.specs.Tables.{letter_for}
+use Rattle.cms_operands.specs.declared.choosing.ChosenOption.{ChosenOption}
 use Rattle.cms_operands.specs.declared.choosing.OptionForm.{OptionForm}
 use Rattle.cms_operands.specs.declared.choosing.Parameter.{Parameter}
 use Rattle.cms_operands.specs.declared.choosing.Parameter.TheVariants as takes
 use Rattle.cms_operands.specs.declared.refusal.Refusal.{Refusal}
 use Rattle.cms_search.specs.declared.state.Device.{Device}
 use Rattle.cms_access.specs.declared.format.FormatLine.{FormatLine}
+use Rattle.cms_access.specs.declared.format.FormatOption.{FormatOption}
+use Rattle.cms_access.specs.declared.format.FormatOption.TheVariants as option
 use Rattle.cms_access.specs.declared.format.Formatting.{Formatting}
 use Rattle.cms_search.specs.Refusing.{no_device, no_disk, not_accessed, on_line, read_only, unless_fault}
 use Rattle.cms_search.specs.Releasing.{left_by, released, unit_with, vdev_of}
@@ -52,14 +55,27 @@ block_size None = takes.Number 0 largest
 block_size (Some bsize) = takes.Number bsize bsize
 
 -- LABEL, and BLKSIZE with the device's block size
-abbrev pub options : Option ℕ → List OptionForm
-options bsize = flag (codes "LABEL   ") 5 ∷ form (codes "BLKSIZE ") 7 (block_size bsize) ∷ []
+abbrev pub options : Option ℕ → List (OptionForm FormatOption)
+options bsize = flag option.Label (codes "LABEL   ") 5 ∷ form option.Blksize (codes "BLKSIZE ") 7 (block_size bsize) ∷ []
+
+-- whether only the volume id is changed, by one option more
+abbrev pub relabels_by : Bool → FormatOption → Bool
+relabels_by relabels option.Label = true
+relabels_by relabels option.Blksize = relabels
+
+-- the same, by an option that was chosen
+abbrev pub relabels_with : Bool → ChosenOption FormatOption → Bool
+relabels_with relabels chosen = relabels_by relabels chosen.option
+
+-- LABEL is among the options
+abbrev pub relabels_of : List (ChosenOption FormatOption) → Bool
+relabels_of chosen = fold relabels_with false chosen
 
 -- whether only the volume id is changed, where the device has this block size
 abbrev pub relabels : Option ℕ → List Token → Result Bool Refusal
 relabels bsize words = do
   chosen ← chosen_of (options bsize) words
-  Ok (is_some (last_among (0 ∷ []) chosen))
+  Ok (relabels_of chosen)
 
 -- the block size of a device, where a unit has it
 abbrev pub size_of : List Device → ℕ → Option ℕ

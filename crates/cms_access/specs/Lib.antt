@@ -2,6 +2,7 @@ pub mod Access
 pub mod Release
 pub mod Query
 pub mod Format
+pub mod Century
 pub mod Questions
 pub mod Remaking
 pub mod Shown

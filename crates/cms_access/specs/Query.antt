@@ -4,7 +4,7 @@ use Rattle.std.specs.List.{flat_map}
 use Rattle.std.specs.Option.{option_map_or}
 use Rattle.cms_fields.specs.Steps.{◌>>=◌, ◌>>◌}
 use Rattle.cms_text.specs.Numbers.{decimal_of}
-use Rattle.cms_text.specs.Texts.{ebcdic, is_keyword}
+use Rattle.cms_text.specs.Texts.{coded, ebcdic, is_keyword}
 use Rattle.cms_model.specs.Minidisks.{Minidisk}
 use Rattle.cms_model.specs.Sizes.{free_count}
 use Rattle.cms_machine.specs.Acts.{Act, Done}
@@ -13,9 +13,9 @@ use Rattle.cms_operands.specs.Choices.{without_options}
 use Rattle.cms_access.specs.declared.query.Question.{Question}
 use Rattle.cms_access.specs.declared.query.Question.TheVariants.{Disks, Search}
 use Rattle.cms_search.specs.Machine.{Letter, Machine, Course, Went, is_seen, letter_at, minidisk_in, typing}
-use Rattle.cms_operands.specs.Operands.{ended, given_or, letter_or_all, needed, operands_of}
+use Rattle.cms_operands.specs.Operands.{ended, needed, operands_of}
+use Rattle.cms_operands.specs.Optional.{given_letter_or_all}
 use Rattle.cms_search.specs.Searches.{places_where}
-use Rattle.cms_text.specs.Texts.{coded}
 use Rattle.cms_operands.specs.declared.refusal.Refusal.{Refusal}
 use Rattle.cms_operands.specs.declared.refusal.Refusal.TheVariants.{BadOperand}
 use Rattle.cms_search.specs.Refusing.{not_accessed, on_line}
@@ -27,7 +27,7 @@ use Rattle.cms_search.specs.Telling.{device_text, left_in, letter_text, right_in
 -- the disk of a letter, or all where there is none
 abbrev pub disk_operands : List Token → Result Question Refusal
 disk_operands operands = do
-  letter ← letter_or_all 2 (given_or operands 2 (coded (codes "*")))
+  letter ← given_letter_or_all operands 2
   ended operands 3
   Ok (Disks letter)
 

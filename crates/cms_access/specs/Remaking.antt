@@ -5,8 +5,9 @@ use Rattle.cms_disk.specs.declared.fault.DiskFault.{DiskFault}
 use Rattle.cms_disk.specs.declared.fault.DiskFault.TheVariants as failed
 use Rattle.cms_disk.specs.declared.unit.UnitInfo.{UnitInfo}
 use Rattle.cms_search.specs.Machine.{Places}
-use Rattle.cms_search.specs.Reading.{without_device}
+use Rattle.cms_search.specs.Reading.{after}
 use Rattle.cms_search.specs.Tables.{Accesses, place_of_device, unit_of_device}
+use Rattle.cms_search.specs.declared.place_event.PlaceEvent.TheVariants as event
 use Rattle.cms_search.specs.declared.state.End.{End}
 use Rattle.cms_search.specs.declared.state.End.TheVariants.{Memory}
 use Rattle.cms_search.specs.declared.state.State.{State}
@@ -35,4 +36,4 @@ made_of (Err why) = Err Memory
 -- without the reading places on the disk of a letter
 abbrev pub forgotten_in : Option Seat → Places → Places
 forgotten_in None places = places
-forgotten_in (Some seat) places = without_device seat.vdev places
+forgotten_in (Some seat) places = after (event.Left seat.vdev) places

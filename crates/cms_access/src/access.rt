@@ -14,7 +14,7 @@ ghost use Rattle.cms_access.specs.Access as spec;
 
 use cms_line::{Message, Token, Tokens};
 use cms_operands::{
-    AccessMode, CommandFault, Refusal, access_mode, coded, device, ended, given_or, operands,
+    AccessMode, CommandFault, Refusal, access_mode_or_a, device_or, ended, operands,
     without_options,
 };
 use cms_search::{
@@ -36,8 +36,8 @@ pub struct AccessLine {
 fn access_operands(operands: &[Token]) -> Result<AccessLine, Refusal>
     ensures { result ≡ spec.access_operands operands.now }
 {
-    let vdev = device(1, given_or(operands, 1, &coded(b"191")))?;
-    let mode = access_mode(2, given_or(operands, 2, &coded(b"A")))?;
+    let vdev = device_or(operands, 1, 0x191)?;
+    let mode = access_mode_or_a(operands, 2)?;
     ended(operands, 3)?;
     Ok(AccessLine { vdev, mode })
 }

@@ -6,8 +6,8 @@ ghost use Rattle.cms_access.specs.Format as spec;
 
 use cms_line::{Token, Tokens};
 use cms_operands::{
-    CommandFault, LARGEST, OptionForm, Parameter, Refusal, chosen_options, device, ended,
-    last_among, letter, needed, operands,
+    ChosenOption, CommandFault, LARGEST, OptionForm, Parameter, Refusal, chosen_options, device,
+    ended, letter, needed, operands,
 };
 use cms_search::Table;
 use std::alloc::Global;
@@ -17,6 +17,14 @@ use std::alloc::Global;
 pub struct FormatLine {
     pub vdev: u16,
     pub letter: u8,
+}
+
+/// An option of FORMAT.
+#[derive(Clone, Copy)]
+pub enum FormatOption {
+    Label,
+    /// BLKSIZE n
+    Blksize,
 }
 
 /// What FORMAT's line says.
@@ -48,13 +56,30 @@ fn block_size(bsize: Option<u32>) -> Parameter
     }
 }
 
-fn options(bsize: Option<u32>) -> [OptionForm; 2]
+fn options(bsize: Option<u32>) -> [OptionForm<FormatOption>; 2]
     ensures { result ≡ spec.options bsize }
 {
     [
-        OptionForm::flag(b"LABEL   ", 5),
-        OptionForm::new(b"BLKSIZE ", 7, block_size(bsize)),
+        OptionForm::flag(FormatOption::Label, b"LABEL   ", 5),
+        OptionForm::new(FormatOption::Blksize, b"BLKSIZE ", 7, block_size(bsize)),
     ]
+}
+
+// Whether only the volume id is changed, by one option more.
+fn relabels_with(relabels: bool, chosen: &ChosenOption<FormatOption>) -> bool
+    ensures { result ≡ spec.relabels_with relabels chosen.now }
+{
+    match chosen.option {
+        FormatOption::Label => true,
+        FormatOption::Blksize => relabels,
+    }
+}
+
+// Whether LABEL is among the options.
+fn relabels_of(chosen: &[ChosenOption<FormatOption>]) -> bool
+    ensures { result ≡ spec.relabels_of chosen.now }
+{
+    chosen.iter().fold(false, relabels_with)
 }
 
 // Whether FORMAT's line asks that only the volume id is changed, or why an option is refused, where the device has this block size,
@@ -63,7 +88,7 @@ fn relabels(alloc: Global, bsize: Option<u32>, words: &Tokens) -> Result<bool, C
     ensures { AnswersLine (spec.relabels bsize words.now) result }
 {
     let chosen = chosen_options(alloc, &options(bsize), words)?;
-    Ok(last_among(&[0], chosen.as_slice()).is_some())
+    Ok(relabels_of(chosen.as_slice()))
 }
 
 // The block size of a device, where a unit has it.

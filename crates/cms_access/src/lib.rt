@@ -1,7 +1,8 @@
-//! The commands on whole disks: ACCESS, RELEASE, QUERY and FORMAT.
+//! The commands on whole disks: ACCESS, RELEASE, QUERY, FORMAT and CENTURY.
 #![tactic(auto)]
 
 mod access;
+mod century;
 mod format;
 mod formatting;
 mod query;
@@ -11,6 +12,7 @@ mod remaking;
 mod shown;
 
 pub use access::{AccessLine, access_line, run_access};
+pub use century::{CenturyLine, century_line, run_century};
 pub use format::{FormatLine, Formatting, format_line};
 pub use formatting::run_format;
 pub use query::{Question, query_line, run_query};

@@ -14,7 +14,7 @@ ghost use Rattle.cms_access.specs.declared.shown.Shown.TheVariants as shown;
 use crate::shown::{Shown, type_disk, type_disks};
 use cms_line::{Token, Tokens};
 use cms_operands::{
-    CommandFault, Refusal, coded, ended, given_or, letter_or_all, needed, operands, without_options,
+    CommandFault, Refusal, coded, ended, given_letter_or_all, needed, operands, without_options,
 };
 use cms_search::{Course, End, State, Table, refuse_command, refuse_not_accessed, say};
 use cms_text::is_keyword;
@@ -33,7 +33,7 @@ pub enum Question {
 fn disk_operands(operands: &[Token]) -> Result<Question, Refusal>
     ensures { result ≡ spec.disk_operands operands.now }
 {
-    let letter = letter_or_all(2, given_or(operands, 2, &coded(b"*")))?;
+    let letter = given_letter_or_all(operands, 2)?;
     ended(operands, 3)?;
     Ok(Question::Disks(letter))
 }

@@ -6,9 +6,10 @@ ghost use Rattle.cms_line.specs.Messages.{message_text};
 ghost use Rattle.cms_line.specs.declared.message.Message.TheVariants.{M733};
 ghost use Rattle.cms_text.specs.Numbers.{decimal_of};
 ghost use Rattle.cms_search.specs.Calls.{Acts, Does, IsUsable, course_of, machine_of, said, spot};
-ghost use Rattle.cms_search.specs.Reading.{without_device};
+ghost use Rattle.cms_search.specs.Reading.{after};
 ghost use Rattle.cms_search.specs.Tables.{unit_of_device};
 ghost use Rattle.cms_search.specs.Telling.{device_text, letter_text};
+ghost use Rattle.cms_search.specs.declared.place_event.PlaceEvent.TheVariants as event;
 ghost use Rattle.cms_search.specs.declared.state.Course.TheVariants.{Went};
 ghost use Rattle.cms_world.specs.Seen.{seen};
 ghost use Rattle.cms_access.specs.Format as spec;
@@ -19,7 +20,8 @@ use cms_disk::{DiskFault, UnitInfo};
 use cms_fields::Stamp;
 use cms_line::Message;
 use cms_search::{
-    Course, End, Places, Seat, State, device_word, letter_word, refuse_device, say_message,
+    Course, End, PlaceEvent, Places, Seat, State, device_word, letter_word, refuse_device,
+    say_message,
 };
 use cms_text::decimal;
 use cms_world::World;
@@ -38,12 +40,12 @@ fn is_made(made: Result<(), DiskFault>) -> Result<bool, End>
 
 // Forgets the reading places on a device, and on the disk of a letter.
 fn forget(places: &mut Places, seat: Option<Seat>, vdev: u16)
-    ensures { places.new ≡ without_device vdev (forgotten_in seat places.old) }
+    ensures { places.new ≡ after (event.Formatted vdev) (forgotten_in seat places.old) }
 {
     if let Some(seat) = seat {
-        places.forget_disk(seat.vdev);
+        places.after(PlaceEvent::Left(seat.vdev));
     }
-    places.forget_disk(vdev);
+    places.after(PlaceEvent::Formatted(vdev));
 }
 
 // Types that so many blocks were formatted, and gives the code.

@@ -1,7 +1,7 @@
 // The cases of each module, and the test that tries them.
 use crate::{
     climbs, code_page, decks, fields, files, generator, maps, names, operands, pieces, records,
-    trees, words,
+    resumes, trees, words,
 };
 use cms_cases::{Subject, try_rows};
 use std::alloc::{AllocError, Global};
@@ -20,6 +20,7 @@ enum Cases {
     Decks,
     Trees,
     Climbs,
+    Resumes,
     Words,
     Operands,
     Generator,
@@ -37,6 +38,7 @@ const ROWS: &[(Cases, &str)] = &[
     (Cases::Decks, decks::ROWS),
     (Cases::Trees, trees::ROWS),
     (Cases::Climbs, climbs::ROWS),
+    (Cases::Resumes, resumes::ROWS),
     (Cases::Words, words::ROWS),
     (Cases::Operands, operands::ROWS),
     (Cases::Generator, generator::ROWS),
@@ -55,6 +57,7 @@ impl Subject for Cases {
             Cases::Decks => decks::answer(alloc, case),
             Cases::Trees => trees::answer(alloc, case),
             Cases::Climbs => climbs::answer(alloc, case),
+            Cases::Resumes => resumes::answer(alloc, case),
             Cases::Words => words::answer(alloc, case),
             Cases::Operands => operands::answer(alloc, case),
             Cases::Generator => generator::answer(alloc, case),

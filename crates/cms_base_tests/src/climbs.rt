@@ -25,11 +25,12 @@ order => (true, 132, Some([136, 137, 1000000, 138, 1000001, 1000002]))
 fails/128 => (false, 128, 1)
 fails/131 => (false, 131, 1)";
 
-// A world that tells nothing, and keeps the numbers and bytes of the blocks that are written. One of the writes fails.
+/// A world that tells nothing, and keeps the numbers and bytes of the blocks that are written. One of the writes fails.
 #[derive(Drop)]
-struct Paper {
-    blocks: Vec<u32>,
-    bytes: Vec<u8>,
+pub struct Paper {
+    pub blocks: Vec<u32>,
+    pub bytes: Vec<u8>,
+    pub reads: usize,
     failing: usize,
     failures: u64,
 }
@@ -48,7 +49,13 @@ impl World for Paper {
         })
     }
 
-    fn read_block(&mut self, _unit: u8, _block: u32, _into: &mut [u8]) -> Result<(), Failed> {
+    fn read_block(&mut self, _unit: u8, block: u32, into: &mut [u8]) -> Result<(), Failed> {
+        self.reads = self.reads.saturating_add(1);
+        if let Some(bytes) = written_once(self, block) {
+            for (to, from) in into.iter_mut().zip(bytes) {
+                *to = *from;
+            }
+        }
         Ok(())
     }
 
@@ -81,20 +88,21 @@ impl World for Paper {
     }
 }
 
-fn blank_paper(alloc: Global, failing: usize) -> Paper {
+pub fn blank_paper(alloc: Global, failing: usize) -> Paper {
     Paper {
         blocks: Vec::new(alloc),
         bytes: Vec::new(alloc),
+        reads: 0,
         failing,
         failures: 0,
     }
 }
 
-// The number of the first pointer block; the leaves are numbered from 10.
-const FIRST: u32 = 1_000_000;
+/// The number of the first pointer block; the leaves are numbered from 10.
+pub const FIRST: u32 = 1_000_000;
 
-// So many numbers, one after another.
-fn numbers(alloc: Global, first: u32, count: u32) -> Result<Vec<u32>, AllocError>
+/// So many numbers, one after another.
+pub fn numbers(alloc: Global, first: u32, count: u32) -> Result<Vec<u32>, AllocError>
     requires first { first ≤ 1000000 }
     requires count { count ≤ 1000000 }
     ensures { IfOk result (λ v. length v.items ≡ count) }
@@ -106,15 +114,16 @@ fn numbers(alloc: Global, first: u32, count: u32) -> Result<Vec<u32>, AllocError
     Ok(numbers)
 }
 
-// A mark of its own for each leaf.
-fn mark_of(place: u32) -> Mark {
+/// A mark of its own for each leaf.
+pub fn mark_of(place: u32) -> Mark {
     Mark {
         last: place / 3,
         place: place % 511,
     }
 }
 
-fn marks(alloc: Global, count: u32) -> Result<Vec<Mark>, AllocError>
+/// The marks of so many leaves.
+pub fn marks(alloc: Global, count: u32) -> Result<Vec<Mark>, AllocError>
     ensures { IfOk result (λ v. length v.items ≡ count) }
 {
     let mut marks = Vec::new(alloc);
@@ -124,8 +133,8 @@ fn marks(alloc: Global, count: u32) -> Result<Vec<Mark>, AllocError>
     Ok(marks)
 }
 
-// Writes leaves by the world, and with them the pointer blocks over them; whether all were written.
-fn climbs(alloc: Global, world: &mut Paper, leaves: u32, psize: u8) -> Result<bool, AllocError>
+/// Writes leaves by the world, and with them the pointer blocks over them; whether all were written.
+pub fn climbs(alloc: Global, world: &mut Paper, leaves: u32, psize: u8) -> Result<bool, AllocError>
     requires some { 1 ≤ leaves }
     requires few { leaves ≤ 100000 }
     requires psize { (psize ≡ 4) ⊎ (psize ≡ 12) }
@@ -148,8 +157,8 @@ fn climbs(alloc: Global, world: &mut Paper, leaves: u32, psize: u8) -> Result<bo
     Ok(true)
 }
 
-// The bytes of a block, where it was written once.
-fn written_once(world: &Paper, number: u32) -> Option<&[u8]> {
+/// The bytes of a block, where it was written once.
+pub fn written_once(world: &Paper, number: u32) -> Option<&[u8]> {
     let mut found = None;
     for (block, bytes) in world.blocks.iter().zip(world.bytes.chunks(512)) {
         if *block == number {

@@ -26,6 +26,8 @@ mod pieces;
 #[cfg(test)]
 mod records;
 #[cfg(test)]
+mod resumes;
+#[cfg(test)]
 mod trees;
 #[cfg(test)]
 mod words;

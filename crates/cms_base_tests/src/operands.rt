@@ -5,21 +5,20 @@ use cms_commands::command_named;
 use cms_line::{Line, Message, Tokens, tokens, write_message};
 use cms_operands::{
     ChosenOptions, CommandFault, OptionForm, Parameter, Refusal, access_mode, chosen_options,
-    device_or_letter, ended, given_or, last_among, letter_or_all, name, name_or_all, name_or_same,
-    needed, number, number_or_all, operands, output_mode, pattern, reading_mode, writing_mode,
+    device_or_letter, ended, given_or, letter_or_all, name, name_or_all, name_or_same, needed,
+    number, number_or_all, operands, output_mode, pattern, reading_mode, writing_mode,
 };
 use cms_text::{LONGEST_TEXT, ebcdic};
 use std::alloc::{AllocError, Global};
 
 /// `line/LINE`: the options that the line chooses, or what is typed and the code.
 /// `command/WORD`: the command that the word names. `KIND/WORD`: what the word is, read by its kind.
-/// `last/LINE`: the last of the line's options that are LRECL, and of those that are FILL or COL.
 pub const ROWS: &str = "\
 line/X Y A 100 => []
 line/X Y A 007 ( => []
-line/x y b2 1 (ty lr 080 rec v fi 40 col 2-14) => [ChosenOption { nth: 0, setting: Nothing }, \
-ChosenOption { nth: 1, setting: Number(80) }, ChosenOption { nth: 2, setting: Format(V) }, \
-ChosenOption { nth: 3, setting: Byte(64) }, ChosenOption { nth: 4, setting: Columns(2, 14) }]
+line/x y b2 1 (ty lr 080 rec v fi 40 col 2-14) => [ChosenOption { option: TypeWord, setting: Nothing }, \
+ChosenOption { option: Lrecl, setting: Number(80) }, ChosenOption { option: Recfm, setting: Format(V) }, \
+ChosenOption { option: Fill, setting: Byte(64) }, ChosenOption { option: Col, setting: Columns(2, 14) }]
 line/X Y! B9 0 => CMS062E Name Y! is not valid 20
 line/X Y B9 0 => CMS048E Mode B9 is not valid 24
 line/X Y B 0 => CMS070E Operand 0 is not valid 24
@@ -39,8 +38,8 @@ line/X Y A 1 (LRECL ( => CMS029E Parameter ( of option LRECL is not valid 24
 line/X Y A 1 (TYPE ( => CMS003E Option ( is not valid 24
 line/X Y A 1 (T => CMS003E Option T is not valid 24
 line/X Y A 1 (FU => CMS003E Option FU is not valid 24
-line/X Y A 1 (FUL FULLDAT fulldate => [ChosenOption { nth: 5, setting: Nothing }, \
-ChosenOption { nth: 5, setting: Nothing }, ChosenOption { nth: 5, setting: Nothing }]
+line/X Y A 1 (FUL FULLDAT fulldate => [ChosenOption { option: Fulldate, setting: Nothing }, \
+ChosenOption { option: Fulldate, setting: Nothing }, ChosenOption { option: Fulldate, setting: Nothing }]
 line/X Y A 1 (FULLDATES => CMS003E Option FULLDATES is not valid 24
 line/X Y A 1 (TYPE) Z => CMS070E Operand Z is not valid 24
 command/A => None
@@ -49,6 +48,8 @@ command/RE => Some(Rename)
 command/REL => Some(Release)
 command/FORMA => None
 command/FORMAT => Some(Format)
+command/CENTURY => Some(Century)
+command/CENTUR => None
 command/Q => Some(Query)
 command/L => Some(Listfile)
 command/COP => None
@@ -83,8 +84,7 @@ device or letter/A1 => Err(BadOperand(1))
 device or letter/* => Err(BadMode(1))
 device or letter/1AF => Ok(Device(431))
 access mode/B/A => Ok(AccessMode { letter: 1, ext: Some(0) })
-access mode/A1 => Err(BadMode(2))
-last/X (LR 1 TYPE LR 2 REC F => (Some(ChosenOption { nth: 1, setting: Number(2) }), None)";
+access mode/A1 => Err(BadMode(2))";
 
 const A: u8 = 0xC1;
 
@@ -94,19 +94,30 @@ fn words_of(alloc: Global, text: &str) -> Result<Tokens, AllocError> {
     tokens(alloc, &Line::take(bytes))
 }
 
-fn forms() -> [OptionForm; 6] {
+#[derive(Clone, Copy, Debug)]
+enum LineOption {
+    TypeWord,
+    Lrecl,
+    Recfm,
+    Fill,
+    Col,
+    Fulldate,
+}
+
+fn forms() -> [OptionForm<LineOption>; 6] {
+    let length = Parameter::Number(1, 65535);
     [
-        OptionForm::flag(b"TYPE    ", 2),
-        OptionForm::new(b"LRECL   ", 1, Parameter::Number(1, 65535)),
-        OptionForm::new(b"RECFM   ", 3, Parameter::Format),
-        OptionForm::new(b"FILL    ", 2, Parameter::Fill),
-        OptionForm::new(b"COL     ", 3, Parameter::Columns),
-        OptionForm::flag(b"FULLDATE", 3),
+        OptionForm::flag(LineOption::TypeWord, b"TYPE    ", 2),
+        OptionForm::new(LineOption::Lrecl, b"LRECL   ", 1, length),
+        OptionForm::new(LineOption::Recfm, b"RECFM   ", 3, Parameter::Format),
+        OptionForm::new(LineOption::Fill, b"FILL    ", 2, Parameter::Fill),
+        OptionForm::new(LineOption::Col, b"COL     ", 3, Parameter::Columns),
+        OptionForm::flag(LineOption::Fulldate, b"FULLDATE", 3),
     ]
 }
 
 // X name [mode] number, the mode A where it isn't given with the number.
-fn read(alloc: Global, words: &Tokens) -> Result<ChosenOptions, CommandFault> {
+fn read(alloc: Global, words: &Tokens) -> Result<ChosenOptions<LineOption>, CommandFault> {
     let operands = operands(words.as_slice());
     name(1, needed(operands, 1)?)?;
     reading_mode(2, given_or(operands, 2, &[A]))?;
@@ -145,20 +156,6 @@ fn line(alloc: Global, text: &str) -> Result<String, AllocError> {
     }
 }
 
-fn last(alloc: Global, text: &str) -> Result<String, AllocError> {
-    let words = words_of(alloc, text)?;
-    match chosen_options(alloc, &forms(), &words) {
-        Ok(chosen) => {
-            let chosen = chosen.as_slice();
-            told(
-                alloc,
-                &(last_among(&[1], chosen), last_among(&[3, 4], chosen)),
-            )
-        }
-        Err(_) => told(alloc, &"refused"),
-    }
-}
-
 // What a word is by its kind.
 fn word(alloc: Global, kind: &str, word: &[u8]) -> Result<String, AllocError> {
     match kind {
@@ -188,7 +185,6 @@ pub fn answer(alloc: Global, case: &str) -> Result<String, AllocError> {
     let (kind, text) = case.split_once("/").unwrap_or((case, ""));
     match kind {
         "line" => line(alloc, text),
-        "last" => last(alloc, text),
         _ => word(alloc, kind, &ebcdic(alloc, text)?),
     }
 }

@@ -1,11 +1,11 @@
 // Shapes, and trees that are built and read again.
-ghost use Rattle.std.specs.Prelude.{◌≡◌, ◌≤◌, IfSome};
+ghost use Rattle.std.specs.Prelude.{◌≡◌, ◌≤◌, vec_len, IfOk, IfSome};
 ghost use Rattle.cms_journal.specs.Journal.{HasBlocks};
 ghost use Rattle.cms_world.specs.Mem.{journal_of};
 
 use cms_cases::{number, told, word};
 use cms_journal::BlockSize;
-use cms_tree::{Mark, TreeAt, build, leaves, shape};
+use cms_tree::{Mark, TreeAt, build, leaves, left_out, path, shape};
 use cms_world::{Access, MemWorld, Unit, World};
 use std::alloc::{AllocError, Global};
 
@@ -15,6 +15,8 @@ use std::alloc::{AllocError, Global};
 /// of the world with this number fails: the answer; the pointer blocks, behind the number 1; of the leaves, behind the number 2, this
 /// number, how many numbers there are, and whether they are as they were built; and how many calls there were, of which the first
 /// attaches the unit and the others read blocks.
+/// `path/OLD/NEW/FAN/WRITTEN`: the pointer blocks of a tree over NEW data blocks that keeps what it can of one over OLD, where this data
+/// block is written, and the old ones that it leaves out: these have the numbers from 100 on, and the fresh ones from 1000 on.
 pub const ROWS: &str = "\
 shape/1/128 => Shape { levels: 0, pointers: 0 }
 shape/128/128 => Shape { levels: 1, pointers: 1 }
@@ -32,7 +34,13 @@ tree/51/43/7/0 => (Err(Pointer { holder: 49, value: 4 }), [1], Some(2), 1, true,
 tree/52/43/4/0 => (Err(Pointer { holder: 3, value: 52 }), [1], Some(2), 1, true, 1)
 tree/5/43/4/0 => (Err(Pointer { holder: 3, value: 5 }), [1], Some(2), 1, true, 1)
 tree/51/44/4/0 => (Err(Pointer { holder: 50, value: 0 }), [1], Some(2), 1, true, 4)
-tree/51/43/4/3 => (Err(Device), [1], Some(2), 1, true, 3)";
+tree/51/43/4/3 => (Err(Device), [1], Some(2), 1, true, 3)
+path/1/2/128/1 => ([1000], [])
+path/128/129/128/128 => ([100, 1000, 1001], [])
+path/42/43/42/42 => ([100, 1000, 1001], [])
+path/300/301/128/300 => ([100, 101, 1000, 1001], [102, 103])
+path/130/129/128/0 => ([1000, 1001, 1002], [100, 101, 102])
+path/2/1/128/0 => ([], [100])";
 
 fn shape_told(alloc: Global, leaves: u32, fan: u32) -> Result<String, AllocError> {
     if leaves < 1 || fan < 2 {
@@ -160,11 +168,48 @@ fn tree(alloc: Global, case: &str) -> Result<String, AllocError> {
     }
 }
 
+// So many numbers from one on.
+fn numbers_from(alloc: Global, first: u32, count: u32) -> Result<Vec<u32>, AllocError>
+    ensures { IfOk result (λ v. vec_len v ≡ count) }
+{
+    let mut numbers = Vec::with_capacity(alloc, count as usize)?;
+    for nth in 0..count {
+        numbers.push(first.wrapping_add(nth))?;
+    }
+    Ok(numbers)
+}
+
+fn path_told(
+    alloc: Global,
+    before: u32,
+    count: u32,
+    fan: u32,
+    written: u32,
+) -> Result<String, AllocError> {
+    if before < 1 || count < 1 || fan < 2 {
+        return told(alloc, &"no tree");
+    }
+    let olds = numbers_from(alloc, 100, shape(before, fan).pointers)?;
+    let fresh = numbers_from(alloc, 1000, shape(count, fan).pointers)?;
+    let mut blocks = Vec::with_capacity(alloc, fresh.len())?;
+    let mut left = Vec::with_capacity(alloc, olds.len())?;
+    path(before, &olds, count, fan, &[written], &fresh, &mut blocks);
+    left_out(before, &olds, count, fan, &[written], &mut left);
+    told(alloc, &(blocks.as_slice(), left.as_slice()))
+}
+
 /// What a case comes to.
 pub fn answer(alloc: Global, case: &str) -> Result<String, AllocError> {
     match word(case, 0) {
         "shape" => shape_told(alloc, number(word(case, 1)), number(word(case, 2))),
         "marks" => marks(alloc),
+        "path" => path_told(
+            alloc,
+            number(word(case, 1)),
+            number(word(case, 2)),
+            number(word(case, 3)),
+            number(word(case, 4)),
+        ),
         _ => tree(alloc, case),
     }
 }

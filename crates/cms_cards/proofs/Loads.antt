@@ -20,8 +20,9 @@ use Rattle.cms_machine.specs.Slots.{Slot}
 use Rattle.cms_line.specs.Messages.{message_text}
 use Rattle.cms_line.specs.declared.message.Message.TheVariants.{M124, M125}
 use Rattle.cms_line.specs.declared.token.Token.{Token}
-use Rattle.cms_operands.specs.Choices.{chosen_of}
-use Rattle.cms_operands.specs.Operands.{ended, operands_of, or_refused, writing_mode, writing_of}
+use Rattle.cms_operands.specs.Choices.{chosen_of, no_forms}
+use Rattle.cms_operands.specs.Operands.{ended, given, operands_of, or_refused, writing_mode, writing_of}
+use Rattle.cms_operands.specs.Optional.{on_a, read_or, writing_mode_or_a}
 use Rattle.cms_operands.specs.declared.operand.WriteMode.{WriteMode}
 use Rattle.cms_operands.specs.declared.refusal.Refusal.{Refusal}
 use Rattle.cms_operands.specs.declared.refusal.Refusal.TheVariants.{BadMode}
@@ -40,7 +41,7 @@ use Rattle.cms_search.proofs.Staying.{acts_refused}
 use Rattle.cms_files.specs.Files.{UnitFile, file_on, no_file_code}
 use Rattle.cms_files.specs.Gathering.{AreData, IsGathered}
 use Rattle.cms_files.specs.declared.gathering.Gathered.{Gathered}
-use Rattle.cms_files.specs.Identifiers.{full_name, mode_or_a}
+use Rattle.cms_files.specs.Identifiers.{full_name}
 use Rattle.cms_files.specs.Told.{info_named}
 use Rattle.cms_files.specs.Updating.{last_update}
 use Rattle.cms_files.proofs.FileTold.{IsTold, file_told}
@@ -109,22 +110,26 @@ last_is : {A : Type 0} (r : Result A Refusal) (x y : ReadTarget) → (r >> Ok x)
 last_is (Ok t) x y is = cc is
 last_is (Err e) x y is = absurd (cc is)
 
+mode_given : (text : Option (List ℕ)) (out : WriteMode) → read_or on_a (writing_mode 3) text ≡ Ok out → HasMode out.number
+mode_given None out is = let same : on_a ≡ out = cc is in subst (λ (m : WriteMode). HasMode m.number) same tt
+mode_given (Some text) out is = mode_written text out is
+
 operands_number : (operands : List Token) (target : ReadTarget) → read_operands operands ≡ Ok target → HasMode target.mode.number
 unfolding read_operands
 operands_number operands target is =
     let at_end : Name → WriteMode → Result ReadTarget Refusal = λ name m. ended operands 4 >> Ok (record { name = name; mode = m }) in
-    let at_name : Name → Result ReadTarget Refusal = λ name. writing_mode 3 (mode_or_a operands 3) >>= at_end name in
+    let at_name : Name → Result ReadTarget Refusal = λ name. writing_mode_or_a operands 3 >>= at_end name in
     let name = before (full_name operands 1) at_name target is in
-    let m = before (writing_mode 3 (mode_or_a operands 3)) (at_end name.0) target name.2 in
+    let m = before (writing_mode_or_a operands 3) (at_end name.0) target name.2 in
     let made : ReadTarget = record { name = name.0; mode = m.0 } in
     let same : made ≡ target = last_is (ended operands 4) made target m.2 in
-    subst (λ (t : ReadTarget). HasMode t.mode.number) {x = made} same (mode_written (mode_or_a operands 3) m.0 m.1)
+    subst (λ (t : ReadTarget). HasMode t.mode.number) {x = made} same (mode_given (given operands 3) m.0 m.1)
 
 pub line_number : (words : List Token) (target : ReadTarget) → read_line words ≡ Ok target → HasMode target.mode.number
 line_number words target is =
-    let at_target : ReadTarget → Result ReadTarget Refusal = λ t. chosen_of [] words >> Ok t in
+    let at_target : ReadTarget → Result ReadTarget Refusal = λ t. chosen_of no_forms words >> Ok t in
     let t = before (read_operands (operands_of words)) at_target target is in
-    let same : t.0 ≡ target = last_is (chosen_of [] words) t.0 target t.2 in
+    let same : t.0 ≡ target = last_is (chosen_of no_forms words) t.0 target t.2 in
     subst (λ (x : ReadTarget). HasMode x.mode.number) same (operands_number (operands_of words) t.0 t.1)
 
 -- ---- the first deck

@@ -1,21 +1,24 @@
 -- PUNCH fn ft [fm] [(HEADER or NOHEADER], READCARD fn ft [fm], DISK DUMP fn ft [fm] and DISK LOAD [mode]
-use Rattle.std.specs.Prelude.{ℕ, not, if◌then◌else◌, List, [], ◌∷◌, codes, Result, Ok, Err}
+use Rattle.std.specs.Prelude.{ℕ, Bool, true, false, if◌then◌else◌, List, [], ◌∷◌, codes, fold, Result, Ok, Err}
 use Rattle.cms_fields.specs.Steps.{◌>>=◌, ◌>>◌}
 use Rattle.cms_text.specs.Texts.{is_keyword}
 use Rattle.cms_line.specs.declared.token.Token.{Token}
 use Rattle.cms_operands.specs.Choices.{chosen_of, flag, without_options}
-use Rattle.cms_operands.specs.Operands.{ended, needed, operands_of, writing_mode}
+use Rattle.cms_operands.specs.Operands.{ended, needed, operands_of}
+use Rattle.cms_operands.specs.Optional.{writing_mode_or_a}
 use Rattle.cms_operands.specs.declared.choosing.ChosenOption.{ChosenOption}
 use Rattle.cms_operands.specs.declared.choosing.OptionForm.{OptionForm}
 use Rattle.cms_operands.specs.declared.refusal.Refusal.{Refusal}
 use Rattle.cms_operands.specs.declared.refusal.Refusal.TheVariants.{BadOperand}
-use Rattle.cms_files.specs.Identifiers.{file_input, full_name, is_last, mode_or_a}
+use Rattle.cms_files.specs.Identifiers.{file_input, full_name}
 use Rattle.cms_files.specs.declared.identifier.FileInput.{FileInput}
 use Rattle.cms_cards.specs.declared.line.DiskLine.{DiskLine}
 use Rattle.cms_cards.specs.declared.line.DiskLine.TheVariants as line
 use Rattle.cms_cards.specs.declared.line.DiskVerb.{DiskVerb}
 use Rattle.cms_cards.specs.declared.line.DiskVerb.TheVariants as verb
 use Rattle.cms_cards.specs.declared.line.PunchLine.{PunchLine}
+use Rattle.cms_cards.specs.declared.line.PunchOption.{PunchOption}
+use Rattle.cms_cards.specs.declared.line.PunchOption.TheVariants as option
 use Rattle.cms_cards.specs.declared.line.ReadTarget.{ReadTarget}
 
 -- ---- PUNCH
@@ -28,19 +31,28 @@ punch_operands operands = do
   Ok input
 
 -- HEADER and NOHEADER
-abbrev pub options : List OptionForm
-options = flag (codes "HEADER  ") 1 ∷ flag (codes "NOHEADER") 3 ∷ []
+abbrev pub options : List (OptionForm PunchOption)
+options = flag option.Header (codes "HEADER  ") 1 ∷ flag option.NoHeader (codes "NOHEADER") 3 ∷ []
 
--- a header, unless NOHEADER
-abbrev pub punch_of : FileInput → List ChosenOption → PunchLine
-punch_of input chosen = record { input = input; header = not (is_last 1 (0 ∷ 1 ∷ []) chosen) }
+-- whether there is a header, by an option
+abbrev pub header_by : PunchOption → Bool
+header_by option.Header = true
+header_by option.NoHeader = false
+
+-- whether there is a header, by one option more
+abbrev pub header_with : Bool → ChosenOption PunchOption → Bool
+header_with header chosen = header_by chosen.option
+
+-- a header, unless the last option is NOHEADER
+abbrev pub header_of : List (ChosenOption PunchOption) → Bool
+header_of chosen = fold header_with true chosen
 
 -- what PUNCH's line says
 abbrev pub punch_line : List Token → Result PunchLine Refusal
 punch_line words = do
   input ← punch_operands (operands_of words)
   chosen ← chosen_of options words
-  Ok (punch_of input chosen)
+  Ok (record { input = input; header = header_of chosen })
 
 -- ---- READCARD
 
@@ -48,7 +60,7 @@ punch_line words = do
 unfoldable pub read_operands : List Token → Result ReadTarget Refusal
 read_operands operands = do
   name ← full_name operands 1
-  mode ← writing_mode 3 (mode_or_a operands 3)
+  mode ← writing_mode_or_a operands 3
   ended operands 4
   Ok (record { name = name; mode = mode })
 
@@ -75,7 +87,7 @@ dump_operands operands = do
 -- the disk that is loaded onto
 unfoldable pub load_operands : List Token → Result DiskLine Refusal
 load_operands operands = do
-  mode ← writing_mode 2 (mode_or_a operands 2)
+  mode ← writing_mode_or_a operands 2
   ended operands 3
   Ok (line.Load mode)
 

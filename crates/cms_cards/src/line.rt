@@ -3,15 +3,22 @@ ghost use Rattle.std.specs.Prelude.{◌≡◌};
 ghost use Rattle.cms_operands.specs.Choices.{AnswersLine};
 ghost use Rattle.cms_cards.specs.Lines as spec;
 
-use cms_files::{FileInput, file_input, full_name, is_last};
+use cms_files::{FileInput, file_input, full_name};
 use cms_line::{Token, Tokens};
 use cms_names::Name;
 use cms_operands::{
-    ChosenOption, CommandFault, OptionForm, Refusal, WriteMode, chosen_options, coded, ended,
-    given_or, needed, operands, without_options, writing_mode,
+    ChosenOption, CommandFault, OptionForm, Refusal, WriteMode, chosen_options, ended, needed,
+    operands, without_options, writing_mode_or_a,
 };
 use cms_text::is_keyword;
 use std::alloc::Global;
+
+/// An option of PUNCH.
+#[derive(Clone, Copy)]
+pub enum PunchOption {
+    Header,
+    NoHeader,
+}
 
 /// What PUNCH's line says.
 #[derive(Clone, Copy)]
@@ -55,23 +62,30 @@ fn punch_operands(operands: &[Token]) -> Result<FileInput, Refusal>
     Ok(input)
 }
 
-fn options() -> [OptionForm; 2]
+fn options() -> [OptionForm<PunchOption>; 2]
     ensures { result ≡ spec.options }
 {
     [
-        OptionForm::flag(b"HEADER  ", 1),
-        OptionForm::flag(b"NOHEADER", 3),
+        OptionForm::flag(PunchOption::Header, b"HEADER  ", 1),
+        OptionForm::flag(PunchOption::NoHeader, b"NOHEADER", 3),
     ]
 }
 
-// A header, unless NOHEADER.
-fn punch_of(input: FileInput, chosen: &[ChosenOption]) -> PunchLine
-    ensures { result ≡ spec.punch_of input chosen.now }
+// Whether there is a header, by one option more.
+fn header_with(header: bool, chosen: &ChosenOption<PunchOption>) -> bool
+    ensures { result ≡ spec.header_with header chosen.now }
 {
-    PunchLine {
-        input,
-        header: !is_last(1, &[0, 1], chosen),
+    match chosen.option {
+        PunchOption::Header => true,
+        PunchOption::NoHeader => false,
     }
+}
+
+// A header, unless the last option is NOHEADER.
+fn header_of(chosen: &[ChosenOption<PunchOption>]) -> bool
+    ensures { result ≡ spec.header_of chosen.now }
+{
+    chosen.iter().fold(true, header_with)
 }
 
 /// What PUNCH's line says, or why it is refused.
@@ -80,7 +94,10 @@ pub fn punch_line(alloc: Global, words: &Tokens) -> Result<PunchLine, CommandFau
 {
     let input = punch_operands(operands(words.as_slice()))?;
     let chosen = chosen_options(alloc, &options(), words)?;
-    Ok(punch_of(input, chosen.as_slice()))
+    Ok(PunchLine {
+        input,
+        header: header_of(chosen.as_slice()),
+    })
 }
 
 // ---- READCARD
@@ -90,7 +107,7 @@ fn read_operands(operands: &[Token]) -> Result<ReadTarget, Refusal>
     ensures { result ≡ spec.read_operands operands.now }
 {
     let name = full_name(operands, 1)?;
-    let mode = writing_mode(3, given_or(operands, 3, &coded(b"A")))?;
+    let mode = writing_mode_or_a(operands, 3)?;
     ended(operands, 4)?;
     Ok(ReadTarget { name, mode })
 }
@@ -130,7 +147,7 @@ fn dump_operands(operands: &[Token]) -> Result<DiskLine, Refusal>
 fn load_operands(operands: &[Token]) -> Result<DiskLine, Refusal>
     ensures { result ≡ spec.load_operands operands.now }
 {
-    let mode = writing_mode(2, given_or(operands, 2, &coded(b"A")))?;
+    let mode = writing_mode_or_a(operands, 2)?;
     ended(operands, 3)?;
     Ok(DiskLine::Load(mode))
 }

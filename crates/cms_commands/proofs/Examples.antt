@@ -15,5 +15,6 @@ spelled : (named (codes "AC") ≡ Some command.Access) × (named (codes "A") ≡
     × (named (codes "NUCXDROP") ≡ Some command.Nucxdrop) × (named (codes "NUCXDRO") ≡ None)
     × (named (codes "PU") ≡ Some command.Punch) × (named (codes "P") ≡ None) × (named (codes "READ") ≡ Some command.Readcard)
     × (named (codes "REA") ≡ None) × (named (codes "DISK") ≡ Some command.Disk) × (named (codes "DIS") ≡ None)
+    × (named (codes "CENTURY") ≡ Some command.Century) × (named (codes "CENTUR") ≡ None)
 unfolding spellings ebcdic code_of code_page
-spelled = (refl, refl, refl, refl, refl, refl, refl, refl, refl, refl, refl, refl, refl, refl, refl, refl)
+spelled = (refl, refl, refl, refl, refl, refl, refl, refl, refl, refl, refl, refl, refl, refl, refl, refl, refl, refl)

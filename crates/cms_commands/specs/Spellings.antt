@@ -4,7 +4,7 @@ use Rattle.std.specs.Option.{option_map}
 use Rattle.cms_line.specs.Options.{is_named}
 use Rattle.cms_text.specs.Texts.{coded}
 use Rattle.cms_commands.specs.declared.spelling.CommandName.{CommandName}
-use Rattle.cms_commands.specs.declared.spelling.CommandName.TheVariants.{Access, Release, Format, Query, Listfile, Copyfile, Rename, Erase, TypeFile, State, Execio, Exec, Nucxdrop, Nucxmap, Punch, Readcard, Disk}
+use Rattle.cms_commands.specs.declared.spelling.CommandName.TheVariants.{Access, Release, Format, Century, Query, Listfile, Copyfile, Rename, Erase, TypeFile, State, Execio, Exec, Nucxdrop, Nucxmap, Punch, Readcard, Disk}
 use Rattle.cms_commands.specs.declared.spelling.Spelling.{Spelling}
 
 -- a command is named by each beginning of its word that is long enough
@@ -17,6 +17,7 @@ spellings =
     spelled (codes "ACCESS  ") 2 Access
     ∷ spelled (codes "RELEASE ") 3 Release
     ∷ spelled (codes "FORMAT  ") 6 Format
+    ∷ spelled (codes "CENTURY ") 7 Century
     ∷ spelled (codes "QUERY   ") 1 Query
     ∷ spelled (codes "LISTFILE") 1 Listfile
     ∷ spelled (codes "COPYFILE") 4 Copyfile

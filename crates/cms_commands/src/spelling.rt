@@ -11,6 +11,7 @@ pub enum CommandName {
     Access,
     Release,
     Format,
+    Century,
     Query,
     Listfile,
     Copyfile,
@@ -48,13 +49,14 @@ fn spelled(word: &[u8; 8], least: u8, command: CommandName) -> Spelling
 }
 
 #[tactic(auto, unfolding(crate::specs::Spellings::spellings))]
-fn spellings() -> [Spelling; 17]
+fn spellings() -> [Spelling; 18]
     ensures { result ≡ spec.spellings }
 {
     [
         spelled(b"ACCESS  ", 2, CommandName::Access),
         spelled(b"RELEASE ", 3, CommandName::Release),
         spelled(b"FORMAT  ", 6, CommandName::Format),
+        spelled(b"CENTURY ", 7, CommandName::Century),
         spelled(b"QUERY   ", 1, CommandName::Query),
         spelled(b"LISTFILE", 1, CommandName::Listfile),
         spelled(b"COPYFILE", 4, CommandName::Copyfile),

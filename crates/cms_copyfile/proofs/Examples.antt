@@ -25,7 +25,7 @@ use Rattle.cms_machine.specs.Steps.{Outcome, Good, ReadFault, OldFault, EitherFa
 use Rattle.cms_line.specs.Messages.{message_text}
 use Rattle.cms_line.specs.Options.{options_from, options_of}
 use Rattle.cms_line.specs.Tokens.{tokens_from, tokens_of}
-use Rattle.cms_operands.specs.Choices.{all_valued, chosen_of, fill_in, format_in, last_among, setting_in, valued}
+use Rattle.cms_operands.specs.Choices.{all_valued, chosen_of, fill_in, format_in, setting_in, valued}
 use Rattle.cms_operands.specs.Operands.{ended, given, given_or, hexadecimal_of, name, name_or_all, name_or_same, needed, number_within, operands_of, output_mode, reading_mode}
 use Rattle.cms_operands.specs.Refusals.{message_of}
 use Rattle.cms_search.specs.Machine.{Machine}
@@ -91,7 +91,7 @@ copied : (copies three (codes "COPYFILE L FILE A M FILE A (FROM 2 LOWCASE RECFM 
     ≡ left_of l_file ∷ left_of (varying (codes "N") (codes "FILE") 1 4 (codes "AB" ∷ codes "CDEF" ∷ codes "G" ∷ [])) ∷ [])
     × (copies three (codes "COPYFILE L FILE A O FILE A (FROM 4") ≡ types (codes "CMS121E File has only 3 records" ∷ []) 24)
 unfolding copy_operands given_output name_choice output_name name_or_all name_or_same output_mode reading_mode operands_of needed given given_or name text_of is_name_character mode_word_of
-    short_mode_of letter_of mode_number_of ended chosen_of options_of options_from all_valued valued setting_in fill_in format_in hexadecimal_of last_among number_within magnitude_of
+    short_mode_of letter_of mode_number_of ended chosen_of options_of options_from all_valued valued setting_in fill_in format_in hexadecimal_of number_within magnitude_of
     ebcdic code_of code_page host_of upper_of lower_of character_of tokens_of tokens_from message_of message_text typed_line decimal_of written digits places_from updating_each
     equal_signs answer_of limit changed_files written_file is_full free_count used_count directory_more tree_size pointer_count pointers_to levels levels_from map_size need changed
     place_named entries_made directory_taken blocks_with holds fresh_count fresh_to fresh_on is_kept any_within
@@ -112,7 +112,7 @@ chosen : (leaves_on 0 three (codes "COPY L FILE A M = A (FR 2 FOR 1") ≡ left_o
     × (leaves_on 0 three (codes "COPYFILE L FILE A M = A (RECFM V LRECL 1 LRECL 3")
     ≡ left_of l_file ∷ left_of (varying (codes "M") (codes "FILE") 1 3 (codes "AB " ∷ codes "CDE" ∷ codes "G" ∷ [])) ∷ [])
 unfolding copy_operands given_output name_choice output_name name_or_all name_or_same output_mode reading_mode operands_of needed given given_or name text_of is_name_character mode_word_of
-    short_mode_of letter_of mode_number_of ended chosen_of options_of options_from all_valued valued setting_in fill_in format_in hexadecimal_of last_among number_within magnitude_of
+    short_mode_of letter_of mode_number_of ended chosen_of options_of options_from all_valued valued setting_in fill_in format_in hexadecimal_of number_within magnitude_of
     ebcdic code_of code_page host_of upper_of lower_of character_of tokens_of tokens_from message_of message_text typed_line decimal_of written digits places_from updating_each
     equal_signs answer_of limit changed_files written_file is_full free_count used_count directory_more tree_size pointer_count pointers_to levels levels_from map_size need changed
     place_named entries_made directory_taken blocks_with holds fresh_count fresh_to fresh_on is_kept any_within
@@ -139,7 +139,7 @@ one_length_copied : (leaves_on 0 one_length (codes "COPYFILE P FILE A M = A (LRE
     × (leaves_on 0 one_length (codes "COPYFILE P FILE A M = A (TRUNC FILL 5C RECFM F")
     ≡ left_of p_file ∷ left_of (fixed (codes "M") (codes "FILE") 1 3 (codes "ab " ∷ codes "def" ∷ codes "   " ∷ [])) ∷ [])
 unfolding copy_operands given_output name_choice output_name name_or_all name_or_same output_mode reading_mode operands_of needed given given_or name text_of is_name_character mode_word_of
-    short_mode_of letter_of mode_number_of ended chosen_of options_of options_from all_valued valued setting_in fill_in format_in hexadecimal_of last_among number_within magnitude_of
+    short_mode_of letter_of mode_number_of ended chosen_of options_of options_from all_valued valued setting_in fill_in format_in hexadecimal_of number_within magnitude_of
     ebcdic code_of code_page host_of upper_of lower_of character_of tokens_of tokens_from message_of message_text typed_line decimal_of written digits places_from updating_each
     equal_signs answer_of limit changed_files written_file is_full free_count used_count directory_more tree_size pointer_count pointers_to levels levels_from map_size need changed
     place_named entries_made directory_taken blocks_with holds fresh_count fresh_to fresh_on is_kept any_within
@@ -160,7 +160,7 @@ options : (leaves_on 0 one_length (codes "COPYFILE P FILE A M = A (LOWCASE UPCAS
     × (leaves_on 0 one_length (codes "COPYFILE P FILE A M = A (LRECL 4 FILL A FI F0")
     ≡ left_of p_file ∷ left_of (fixed (codes "M") (codes "FILE") 1 4 (codes "ab 0" ∷ codes "def0" ∷ codes "   0" ∷ [])) ∷ [])
 unfolding copy_operands given_output name_choice output_name name_or_all name_or_same output_mode reading_mode operands_of needed given given_or name text_of is_name_character mode_word_of
-    short_mode_of letter_of mode_number_of ended chosen_of options_of options_from all_valued valued setting_in fill_in format_in hexadecimal_of last_among number_within magnitude_of
+    short_mode_of letter_of mode_number_of ended chosen_of options_of options_from all_valued valued setting_in fill_in format_in hexadecimal_of number_within magnitude_of
     ebcdic code_of code_page host_of upper_of lower_of character_of tokens_of tokens_from message_of message_text typed_line decimal_of written digits places_from updating_each
     equal_signs answer_of limit changed_files written_file is_full free_count used_count directory_more tree_size pointer_count pointers_to levels levels_from map_size need changed
     place_named entries_made directory_taken blocks_with holds fresh_count fresh_to fresh_on is_kept any_within
@@ -183,7 +183,7 @@ in_order : (leaves_on 0 steps (codes "COPYFILE S FILE A M = A (LRECL 2 TRUNC")
     × (leaves_on 0 steps (codes "COPYFILE S FILE A M = A (FILL C LOWCASE RECFM F LRECL 5")
     ≡ left_of steps_file ∷ left_of (fixed (codes "M") (codes "FILE") 1 5 (codes "a  bC" ∷ codes "abccC" ∷ [])) ∷ [])
 unfolding copy_operands given_output name_choice output_name name_or_all name_or_same output_mode reading_mode operands_of needed given given_or name text_of is_name_character mode_word_of
-    short_mode_of letter_of mode_number_of ended chosen_of options_of options_from all_valued valued setting_in fill_in format_in hexadecimal_of last_among number_within magnitude_of
+    short_mode_of letter_of mode_number_of ended chosen_of options_of options_from all_valued valued setting_in fill_in format_in hexadecimal_of number_within magnitude_of
     ebcdic code_of code_page host_of upper_of lower_of character_of tokens_of tokens_from message_of message_text typed_line decimal_of written digits places_from updating_each
     equal_signs answer_of limit changed_files written_file is_full free_count used_count directory_more tree_size pointer_count pointers_to levels levels_from map_size need changed
     place_named entries_made directory_taken blocks_with holds fresh_count fresh_to fresh_on is_kept any_within
@@ -222,7 +222,7 @@ existing : (copies both (codes "COPYFILE L FILE A O FILE A") ≡ types (codes "C
     × (leaves_on 0 both (codes "COPYFILE L FILE A NEW FILE A (APPEND FOR 1")
     ≡ left_of l_file ∷ left_of o_file ∷ left_of w_file ∷ left_of (varying (codes "NEW") (codes "FILE") 1 3 (codes "AB " ∷ [])) ∷ [])
 unfolding copy_operands given_output name_choice output_name name_or_all name_or_same output_mode reading_mode operands_of needed given given_or name text_of is_name_character mode_word_of
-    short_mode_of letter_of mode_number_of ended chosen_of options_of options_from all_valued valued setting_in fill_in format_in hexadecimal_of last_among number_within magnitude_of
+    short_mode_of letter_of mode_number_of ended chosen_of options_of options_from all_valued valued setting_in fill_in format_in hexadecimal_of number_within magnitude_of
     ebcdic code_of code_page host_of upper_of lower_of character_of tokens_of tokens_from message_of message_text typed_line decimal_of written digits places_from updating_each
     equal_signs answer_of limit changed_files written_file is_full free_count used_count directory_more tree_size pointer_count pointers_to levels levels_from map_size need growth_taken changed
     place_named entries_made directory_taken blocks_with holds fresh_count fresh_to fresh_on is_kept any_within
@@ -239,7 +239,7 @@ numbers : (leaves_on 0 both (codes "COPYFILE O FILE A NEW = A5")
     × (copies both (codes "COPYFILE O FILE A3 NEW = = (TYPE") ≡ types (codes "O FILE A3 TO NEW FILE A3" ∷ []) 0)
     × (copies both (codes "COPYFILE O FILE A W FILE A4 (TYPE REP") ≡ types (codes "O FILE A3 TO W FILE A2" ∷ []) 0)
 unfolding copy_operands given_output name_choice output_name name_or_all name_or_same output_mode reading_mode operands_of needed given given_or name text_of is_name_character mode_word_of
-    short_mode_of letter_of mode_number_of ended chosen_of options_of options_from all_valued valued setting_in fill_in format_in hexadecimal_of last_among number_within magnitude_of
+    short_mode_of letter_of mode_number_of ended chosen_of options_of options_from all_valued valued setting_in fill_in format_in hexadecimal_of number_within magnitude_of
     ebcdic code_of code_page host_of upper_of lower_of character_of tokens_of tokens_from message_of message_text typed_line decimal_of written digits places_from updating_each
     equal_signs answer_of limit changed_files written_file is_full free_count used_count directory_more tree_size pointer_count pointers_to levels levels_from map_size need changed
     place_named entries_made directory_taken blocks_with holds fresh_count fresh_to fresh_on is_kept any_within
@@ -255,7 +255,7 @@ to_itself : (copies both (codes "COPYFILE L FILE A (LOWCASE TYPE") ≡ types (co
     × (copies both (codes "COPYFILE L FILE A (NEWFILE") ≡ types (codes "CMS024E File L FILE A already exists" ∷ []) 28)
     × (copies both (codes "COPYFILE L FILE A = = = (TYPE") ≡ types (codes "CMS024E File L FILE A already exists" ∷ []) 28)
 unfolding copy_operands given_output name_choice output_name name_or_all name_or_same output_mode reading_mode operands_of needed given given_or name text_of is_name_character mode_word_of
-    short_mode_of letter_of mode_number_of ended chosen_of options_of options_from all_valued valued setting_in fill_in format_in hexadecimal_of last_among number_within magnitude_of
+    short_mode_of letter_of mode_number_of ended chosen_of options_of options_from all_valued valued setting_in fill_in format_in hexadecimal_of number_within magnitude_of
     ebcdic code_of code_page host_of upper_of lower_of character_of tokens_of tokens_from message_of message_text typed_line decimal_of written digits places_from updating_each
     equal_signs answer_of limit changed_files written_file is_full free_count used_count directory_more tree_size pointer_count pointers_to levels levels_from map_size need growth_taken changed
     place_named entries_made directory_taken blocks_with holds fresh_count fresh_to fresh_on is_kept any_within
@@ -276,7 +276,7 @@ stamped : (stamps (codes "COPYFILE L FILE A M = A") ≡ stamp ∷ now ∷ [])
     × (stamps (codes "COPYFILE L FILE A (APPEND") ≡ now ∷ [])
     × (stamps (codes "COPYFILE L FILE A (APPEND OLDDATE") ≡ stamp ∷ [])
 unfolding copy_operands given_output name_choice output_name name_or_all name_or_same output_mode reading_mode operands_of needed given given_or name text_of is_name_character mode_word_of
-    short_mode_of letter_of mode_number_of ended chosen_of options_of options_from all_valued valued setting_in fill_in format_in hexadecimal_of last_among number_within magnitude_of
+    short_mode_of letter_of mode_number_of ended chosen_of options_of options_from all_valued valued setting_in fill_in format_in hexadecimal_of number_within magnitude_of
     ebcdic code_of code_page host_of upper_of lower_of character_of tokens_of tokens_from message_of message_text typed_line decimal_of written digits places_from updating_each
     equal_signs answer_of limit changed_files written_file is_full free_count used_count directory_more tree_size pointer_count pointers_to levels levels_from map_size need growth_taken changed
     place_named entries_made directory_taken blocks_with holds fresh_count fresh_to fresh_on is_kept any_within
@@ -306,7 +306,7 @@ over_disks : (copies three_disks (codes "COPYFILE * X * = Y = (TYPE") ≡ types 
     × (copies guarded (codes "COPYFILE F2 X A G = C1 (TYPE") ≡ types (codes "F2 X B1 TO G X C1" ∷ []) 0)
     × (copies guarded (codes "COPYFILE F2 X A1 G = A (TYPE") ≡ types (codes "F2 X B1 TO G X A1" ∷ []) 0)
 unfolding copy_operands given_output name_choice output_name name_or_all name_or_same output_mode reading_mode operands_of needed given given_or name text_of is_name_character mode_word_of
-    short_mode_of letter_of mode_number_of ended chosen_of options_of options_from all_valued valued setting_in fill_in format_in hexadecimal_of last_among number_within magnitude_of
+    short_mode_of letter_of mode_number_of ended chosen_of options_of options_from all_valued valued setting_in fill_in format_in hexadecimal_of number_within magnitude_of
     ebcdic code_of code_page host_of upper_of lower_of character_of tokens_of tokens_from message_of message_text typed_line decimal_of written digits places_from updating_each
     equal_signs answer_of limit changed_files written_file is_full free_count used_count directory_more tree_size pointer_count pointers_to levels levels_from map_size need changed
     place_named entries_made directory_taken blocks_with holds fresh_count fresh_to fresh_on is_kept any_within
@@ -328,7 +328,7 @@ stopped : (copies filling (codes "COPYFILE * * A = = B") ≡ types (codes "CMS10
     × (copies filling (codes "COPYFILE * * A = = B (TYPE")
     ≡ types (codes "F1 D A1 TO F1 D B1" ∷ codes "F2 D A1 TO F2 D B1" ∷ codes "CMS107E Disk B is full, 2 blocks needed, 1 free" ∷ []) 100)
 unfolding copy_operands given_output name_choice output_name name_or_all name_or_same output_mode reading_mode operands_of needed given given_or name text_of is_name_character mode_word_of
-    short_mode_of letter_of mode_number_of ended chosen_of options_of options_from all_valued valued setting_in fill_in format_in hexadecimal_of last_among number_within magnitude_of
+    short_mode_of letter_of mode_number_of ended chosen_of options_of options_from all_valued valued setting_in fill_in format_in hexadecimal_of number_within magnitude_of
     ebcdic code_of code_page host_of upper_of lower_of character_of tokens_of tokens_from message_of message_text typed_line decimal_of written digits places_from updating_each
     equal_signs answer_of limit changed_files written_file is_full free_count used_count directory_more tree_size pointer_count pointers_to levels levels_from map_size need changed
     place_named entries_made directory_taken blocks_with holds fresh_count fresh_to fresh_on is_kept any_within
@@ -344,7 +344,7 @@ failed : (answer (copyfile filling (words (codes "COPYFILE * * A = = B (TYPE")))
     × (names_on 1 filling (codes "COPYFILE * * A = = B") (Good ∷ Good ∷ Good ∷ OldFault ∷ []) ≡ ebcdic (codes "F1") ∷ [])
     × (answer (copyfile filling (words (codes "COPYFILE F1 D A = = B (AP"))) (Good ∷ OldFault ∷ []) ≡ types (codes "CMS105E Device fault on 192" ∷ []) 100)
 unfolding copy_operands given_output name_choice output_name name_or_all name_or_same output_mode reading_mode operands_of needed given given_or name text_of is_name_character mode_word_of
-    short_mode_of letter_of mode_number_of ended chosen_of options_of options_from all_valued valued setting_in fill_in format_in hexadecimal_of last_among number_within magnitude_of
+    short_mode_of letter_of mode_number_of ended chosen_of options_of options_from all_valued valued setting_in fill_in format_in hexadecimal_of number_within magnitude_of
     ebcdic code_of code_page host_of upper_of lower_of character_of tokens_of tokens_from message_of message_text typed_line decimal_of written digits places_from updating_each
     equal_signs answer_of limit changed_files written_file is_full free_count used_count directory_more tree_size pointer_count pointers_to levels levels_from map_size need growth_taken changed
     place_named entries_made directory_taken blocks_with holds fresh_count fresh_to fresh_on is_kept any_within
@@ -371,7 +371,7 @@ erased : (copies once (codes "COPYFILE * X A = = B (TYPE") ≡ types (codes "P X
     × (names_on 0 once (codes "COPYFILE P X A (RECFM F") ([]) ≡ ebcdic (codes "P") ∷ ebcdic (codes "Q") ∷ ebcdic (codes "R") ∷ [])
     × (names_on 0 once (codes "COPYFILE * X A P X A (REPLACE") ([]) ≡ ebcdic (codes "P") ∷ ebcdic (codes "R") ∷ [])
 unfolding copy_operands given_output name_choice output_name name_or_all name_or_same output_mode reading_mode operands_of needed given given_or name text_of is_name_character mode_word_of
-    short_mode_of letter_of mode_number_of ended chosen_of options_of options_from all_valued valued setting_in fill_in format_in hexadecimal_of last_among number_within magnitude_of
+    short_mode_of letter_of mode_number_of ended chosen_of options_of options_from all_valued valued setting_in fill_in format_in hexadecimal_of number_within magnitude_of
     ebcdic code_of code_page host_of upper_of lower_of character_of tokens_of tokens_from message_of message_text typed_line decimal_of written digits places_from updating_each
     equal_signs answer_of limit changed_files written_file is_full free_count used_count directory_more tree_size pointer_count pointers_to levels levels_from map_size need changed
     place_named entries_made directory_taken blocks_with holds fresh_count fresh_to fresh_on is_kept any_within
@@ -385,7 +385,7 @@ not_erased : (names_on 0 (record once { letters = Some (record (disk 0) { read_o
     × (names_on 0 once (codes "COPYFILE * X A = = B") (Good ∷ Good ∷ OldFault ∷ []) ≡ ebcdic (codes "P") ∷ ebcdic (codes "Q") ∷ ebcdic (codes "R") ∷ [])
     × (names_on 1 once (codes "COPYFILE * X A = = B") (Good ∷ Good ∷ OldFault ∷ []) ≡ ebcdic (codes "P") ∷ [])
 unfolding copy_operands given_output name_choice output_name name_or_all name_or_same output_mode reading_mode operands_of needed given given_or name text_of is_name_character mode_word_of
-    short_mode_of letter_of mode_number_of ended chosen_of options_of options_from all_valued valued setting_in fill_in format_in hexadecimal_of last_among number_within magnitude_of
+    short_mode_of letter_of mode_number_of ended chosen_of options_of options_from all_valued valued setting_in fill_in format_in hexadecimal_of number_within magnitude_of
     ebcdic code_of code_page host_of upper_of lower_of character_of tokens_of tokens_from message_of message_text typed_line decimal_of written digits places_from updating_each
     equal_signs answer_of limit changed_files written_file is_full free_count used_count directory_more tree_size pointer_count pointers_to levels levels_from map_size need changed
     place_named entries_made directory_taken blocks_with holds fresh_count fresh_to fresh_on is_kept any_within
@@ -410,7 +410,7 @@ operands : (copies three (codes "COPYFILE L* FILE A") ≡ types (codes "CMS062E 
     × (copies three (codes "COPYFILE L FILE A M FILE (BLUE") ≡ types (codes "CMS054E Operand is missing" ∷ []) 24)
     × (copies three (codes "COPYFILE L FILE A M *") ≡ types (codes "CMS062E Name * is not valid" ∷ []) 20)
 unfolding copy_operands given_output name_choice output_name name_or_all name_or_same output_mode reading_mode operands_of needed given given_or name text_of is_name_character mode_word_of
-    short_mode_of letter_of mode_number_of ended chosen_of options_of options_from all_valued valued setting_in fill_in format_in hexadecimal_of last_among number_within magnitude_of
+    short_mode_of letter_of mode_number_of ended chosen_of options_of options_from all_valued valued setting_in fill_in format_in hexadecimal_of number_within magnitude_of
     ebcdic code_of code_page host_of upper_of lower_of character_of tokens_of tokens_from message_of message_text typed_line decimal_of written digits places_from
 operands = (refl, refl, refl, refl, refl, refl, refl, refl, refl, refl, refl, refl, refl, refl)
 
@@ -427,7 +427,7 @@ bad_options : (copies three (codes "COPYFILE L FILE A M = B (BLUE") ≡ types (c
     × (copies three (codes "COPYFILE L FILE A M = A (TRUNC FILL)") ≡ types (codes "CMS054E Operand is missing" ∷ []) 24)
     × (copies three (codes "COPYFILE L FILE A M = A (TYPE) FROM") ≡ types (codes "CMS070E Operand FROM is not valid" ∷ []) 24)
 unfolding copy_operands given_output name_choice output_name name_or_all name_or_same output_mode reading_mode operands_of needed given given_or name text_of is_name_character mode_word_of
-    short_mode_of letter_of mode_number_of ended chosen_of options_of options_from all_valued valued setting_in fill_in format_in hexadecimal_of last_among number_within magnitude_of
+    short_mode_of letter_of mode_number_of ended chosen_of options_of options_from all_valued valued setting_in fill_in format_in hexadecimal_of number_within magnitude_of
     ebcdic code_of code_page host_of upper_of lower_of character_of tokens_of tokens_from message_of message_text typed_line decimal_of written digits places_from
 bad_options = (refl, refl, refl, refl, refl, refl, refl, refl, refl, refl, refl)
 
@@ -444,7 +444,7 @@ disks : (copies three (codes "COPYFILE L FILE C M = B (LRECL 0") ≡ types (code
     × (copies three (codes "COPYFILE * FILE A2 M = A") ≡ types (codes "CMS002E File * FILE A2 not found" ∷ []) 28)
     × (copies three (codes "copyfile none file *") ≡ types (codes "CMS002E File NONE FILE * not found" ∷ []) 28)
 unfolding copy_operands given_output name_choice output_name name_or_all name_or_same output_mode reading_mode operands_of needed given given_or name text_of is_name_character mode_word_of
-    short_mode_of letter_of mode_number_of ended chosen_of options_of options_from all_valued valued setting_in fill_in format_in hexadecimal_of last_among number_within magnitude_of
+    short_mode_of letter_of mode_number_of ended chosen_of options_of options_from all_valued valued setting_in fill_in format_in hexadecimal_of number_within magnitude_of
     ebcdic code_of code_page host_of upper_of lower_of character_of tokens_of tokens_from message_of message_text typed_line decimal_of written digits places_from updating_each
     equal_signs answer_of limit changed_files written_file is_full free_count used_count directory_more tree_size pointer_count pointers_to levels levels_from map_size need changed
     place_named entries_made directory_taken blocks_with holds fresh_count fresh_to fresh_on is_kept any_within
@@ -462,7 +462,7 @@ files : (copies both (codes "COPYFILE L FILE A O FILE A (FROM 9") ≡ types (cod
     × (answer (copyfile tight (words (codes "COPYFILE L FILE A M FILE A"))) (ReadFault 1 ∷ []) ≡ types (codes "CMS105E Device fault on 191" ∷ []) 100)
     × (answer (copyfile tight (words (codes "COPYFILE L FILE A M FILE A"))) (Good ∷ []) ≡ types (codes "CMS107E Disk A is full, 2 blocks needed, 1 free" ∷ []) 100)
 unfolding copy_operands given_output name_choice output_name name_or_all name_or_same output_mode reading_mode operands_of needed given given_or name text_of is_name_character mode_word_of
-    short_mode_of letter_of mode_number_of ended chosen_of options_of options_from all_valued valued setting_in fill_in format_in hexadecimal_of last_among number_within magnitude_of
+    short_mode_of letter_of mode_number_of ended chosen_of options_of options_from all_valued valued setting_in fill_in format_in hexadecimal_of number_within magnitude_of
     ebcdic code_of code_page host_of upper_of lower_of character_of tokens_of tokens_from message_of message_text typed_line decimal_of written digits places_from updating_each
     equal_signs answer_of limit changed_files written_file is_full free_count used_count directory_more tree_size pointer_count pointers_to levels levels_from map_size need changed
     place_named entries_made directory_taken blocks_with holds fresh_count fresh_to fresh_on is_kept any_within

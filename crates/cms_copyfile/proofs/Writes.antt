@@ -10,7 +10,7 @@ use Rattle.cms_journal.specs.Told.{Grown, Told}
 use Rattle.cms_journal.proofs.Pieces.{grown_same}
 use Rattle.cms_names.specs.declared.name.Name.{Name}
 use Rattle.cms_fields.specs.declared.time.Stamp.{Stamp}
-use Rattle.cms_model.specs.Changes.{Add, Answer, Change, Changed, Drop, Full, Limited, Put, Relabel, Rename, changed, file_named}
+use Rattle.cms_model.specs.Changes.{Add, Answer, Century, Change, Changed, Drop, Full, Limited, Put, Relabel, Rename, changed, file_named}
 use Rattle.cms_model.specs.LawsUpdates.{now as now_of}
 use Rattle.cms_model.specs.Minidisks.{Minidisk}
 use Rattle.cms_model.specs.Volumes.{disk_of}
@@ -224,6 +224,7 @@ old_may (Put new) after other = (refl, refl)
 old_may (Add name more added) after other = (refl, refl)
 old_may (Drop name) after other = (refl, refl)
 old_may (Rename from to number) after other = (refl, refl)
+old_may (Century pivot) after other = (refl, refl)
 
 pub old_none : (change : Change) (answer : Answer) → is_relabel change ≡ false → put_syncs change answer OldFault ≡ 0
 old_none change (Limited k) other = refl
@@ -233,6 +234,7 @@ old_none (Put new) (Changed after) other = refl
 old_none (Add name more added) (Changed after) other = refl
 old_none (Drop name) (Changed after) other = refl
 old_none (Rename from to number) (Changed after) other = refl
+old_none (Century pivot) (Changed after) other = refl
 
 -- a draft is for a change of a file
 of_file : (j : Journal) (d : Accessed) (draft : FileDraft) (change : Change) (stamp : Stamp) (front : Front) (records : List (List ℕ)) → IsFor j d draft change stamp front records
@@ -242,6 +244,7 @@ of_file j d draft (Add name more added) stamp front records is = refl
 of_file j d draft (Drop name) stamp front records is = refl
 of_file j d draft (Rename from to number) stamp front records is = refl
 of_file j d draft (Relabel volid) stamp front records is = absurd is
+of_file j d draft (Century pivot) stamp front records is = absurd is
 
 pub unwritten_so : (before now : Seen) (d : Accessed) (draft draft' : FileDraft) (plan : CopyPlan) (c : Reading) (r : Result ⊤ CopyFault) → r ≡ Err why.Write
     → PutsAll before.told now.told draft draft' plan c r → ChangesUnits before now copies.IsDevices r → FillsTo before now d d draft plan c (Came (Err failed.Device))

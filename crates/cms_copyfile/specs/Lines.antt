@@ -1,11 +1,11 @@
 -- COPYFILE fn ft fm [fn ft fm] [(options]
-use Rattle.std.specs.Prelude.{ℕ, ◌==◌, ◌≤◌, if◌then◌else◌, List, [], ◌∷◌, codes, Option, None, Some, IfSome, Result, Ok}
-use Rattle.std.specs.Option.{option_and_then, option_map, option_map_or, unwrap_or}
+use Rattle.std.specs.Prelude.{ℕ, ◌≤◌, true, false, List, [], ◌∷◌, codes, fold, Option, None, Some, IfSome, Result, Ok}
+use Rattle.std.specs.Option.{option_map_or, unwrap_or}
 use Rattle.cms_names.specs.declared.name.Format.{Format}
 use Rattle.cms_fields.specs.Steps.{◌>>=◌, ◌>>◌}
 use Rattle.cms_fields.specs.Limits.{longest_record}
 use Rattle.cms_line.specs.declared.token.Token.{Token}
-use Rattle.cms_operands.specs.Choices.{chosen_of, flag, form, last_among}
+use Rattle.cms_operands.specs.Choices.{chosen_of, flag, form}
 use Rattle.cms_operands.specs.Operands.{ended, given, largest, needed, operands_of, output_mode, reading_mode}
 use Rattle.cms_operands.specs.declared.choosing.ChosenOption.{ChosenOption}
 use Rattle.cms_operands.specs.declared.choosing.OptionForm.{OptionForm}
@@ -13,14 +13,15 @@ use Rattle.cms_operands.specs.declared.choosing.Parameter.TheVariants as takes
 use Rattle.cms_operands.specs.declared.choosing.Setting.{Setting}
 use Rattle.cms_operands.specs.declared.choosing.Setting.TheVariants as says
 use Rattle.cms_operands.specs.declared.refusal.Refusal.{Refusal}
-use Rattle.cms_files.specs.Identifiers.{is_last, name_choice, output_name}
+use Rattle.cms_files.specs.Identifiers.{name_choice, output_name}
 use Rattle.cms_copyfile.specs.declared.line.CopyFiles.{CopyFiles}
 use Rattle.cms_copyfile.specs.declared.line.CopyLine.{CopyLine}
+use Rattle.cms_copyfile.specs.declared.line.CopyOption.{CopyOption}
+use Rattle.cms_copyfile.specs.declared.line.CopyOption.TheVariants as option
 use Rattle.cms_copyfile.specs.declared.line.CopyOutput.{CopyOutput}
 use Rattle.cms_copyfile.specs.declared.line.CopyStyle.{CopyStyle}
 use Rattle.cms_copyfile.specs.declared.line.Existing.{Existing}
 use Rattle.cms_copyfile.specs.declared.line.Existing.TheVariants.{Extended, Refused, Replaced}
-use Rattle.cms_copyfile.specs.declared.record.Fold.{Fold}
 use Rattle.cms_copyfile.specs.declared.record.Fold.TheVariants.{Lower, Upper}
 
 -- ---- the operands
@@ -54,74 +55,75 @@ copy_operands operands = do
 -- ---- the options
 
 -- COPYFILE's options with their parameters
-abbrev pub options : List OptionForm
+abbrev pub options : List (OptionForm CopyOption)
 options =
-    flag (codes "NEWFILE ") 4 ∷ flag (codes "REPLACE ") 3 ∷ flag (codes "APPEND  ") 2
-    ∷ form (codes "FROM    ") 2 (takes.Number 1 largest) ∷ form (codes "FOR     ") 3 (takes.Number 1 largest)
-    ∷ flag (codes "UPCASE  ") 2 ∷ flag (codes "LOWCASE ") 2
-    ∷ flag (codes "TRUNC   ") 2 ∷ flag (codes "NOTRUNC ") 4
-    ∷ form (codes "FILL    ") 2 takes.Fill
-    ∷ form (codes "RECFM   ") 3 takes.Format ∷ form (codes "LRECL   ") 2 (takes.Number 1 longest_record)
-    ∷ flag (codes "OLDDATE ") 4 ∷ flag (codes "NEWDATE ") 4
-    ∷ flag (codes "TYPE    ") 2 ∷ flag (codes "NOTYPE  ") 3 ∷ []
-
--- what becomes of a file that is there, by the option's place
-abbrev pub existing_by : ℕ → Existing
-existing_by nth = if nth == 0 then Refused else (if nth == 1 then Replaced else Extended)
-
--- the last of NEWFILE, REPLACE and APPEND says what becomes of a file that is there already
-abbrev pub existing_of : Existing → List ChosenOption → Existing
-existing_of default chosen = option_map_or (λ o. existing_by o.nth) (last_among (0 ∷ 1 ∷ 2 ∷ []) chosen) default
+    flag option.NewFile (codes "NEWFILE ") 4 ∷ flag option.Replace (codes "REPLACE ") 3
+    ∷ flag option.Append (codes "APPEND  ") 2
+    ∷ form option.From (codes "FROM    ") 2 (takes.Number 1 largest)
+    ∷ form option.For (codes "FOR     ") 3 (takes.Number 1 largest)
+    ∷ flag option.Upcase (codes "UPCASE  ") 2 ∷ flag option.Lowcase (codes "LOWCASE ") 2
+    ∷ flag option.Trunc (codes "TRUNC   ") 2 ∷ flag option.NoTrunc (codes "NOTRUNC ") 4
+    ∷ form option.Fill (codes "FILL    ") 2 takes.Fill ∷ form option.Recfm (codes "RECFM   ") 3 takes.Format
+    ∷ form option.Lrecl (codes "LRECL   ") 2 (takes.Number 1 longest_record)
+    ∷ flag option.OldDate (codes "OLDDATE ") 4 ∷ flag option.NewDate (codes "NEWDATE ") 4
+    ∷ flag option.TypeFiles (codes "TYPE    ") 2 ∷ flag option.NoType (codes "NOTYPE  ") 3 ∷ []
 
 -- the number that a parameter says
 abbrev pub number_in : Setting → Option ℕ
 number_in (says.Number n) = Some n
 number_in _ = None
 
--- the number of the last such option
-abbrev pub number_of : ℕ → List ChosenOption → Option ℕ
-number_of nth chosen = option_and_then (λ o. number_in o.setting) (last_among (nth ∷ []) chosen)
-
--- the last of UPCASE and LOWCASE
-abbrev pub fold_by : ℕ → Fold
-fold_by nth = if nth == 5 then Upper else Lower
-
--- how letters are folded, by the last of UPCASE and LOWCASE
-abbrev pub fold_of : List ChosenOption → Option Fold
-fold_of chosen = option_map (λ o. fold_by o.nth) (last_among (5 ∷ 6 ∷ []) chosen)
-
 -- the byte that a parameter says
 abbrev pub byte_in : Setting → Option ℕ
 byte_in (says.Byte c) = Some c
 byte_in _ = None
-
--- the byte of the last FILL
-abbrev pub given_fill : List ChosenOption → Option ℕ
-given_fill chosen = option_and_then (λ o. byte_in o.setting) (last_among (9 ∷ []) chosen)
 
 -- the format that a parameter says
 abbrev pub format_in : Setting → Option Format
 format_in (says.Format f) = Some f
 format_in _ = None
 
--- the format of the last RECFM
-abbrev pub format_of : List ChosenOption → Option Format
-format_of chosen = option_and_then (λ o. format_in o.setting) (last_among (10 ∷ []) chosen)
-
--- how the options say that files are copied
-abbrev pub style_of : Existing → List ChosenOption → CopyStyle
-style_of default chosen = record {
-  existing = existing_of default chosen;
-  first = unwrap_or (number_of 3 chosen) 1;
-  most = number_of 4 chosen;
-  fold = fold_of chosen;
-  truncates = is_last 7 (7 ∷ 8 ∷ []) chosen;
-  fill = unwrap_or (given_fill chosen) 0x40;
-  format = format_of chosen;
-  length = number_of 11 chosen;
-  old_stamp = is_last 12 (12 ∷ 13 ∷ []) chosen;
-  types = is_last 14 (14 ∷ 15 ∷ []) chosen;
+-- all records from the first on are copied as they are
+abbrev pub plain : Existing → CopyStyle
+plain existing = record {
+  existing = existing;
+  first = 1;
+  most = None;
+  fold = None;
+  truncates = false;
+  fill = 0x40;
+  format = None;
+  length = None;
+  old_stamp = false;
+  types = false;
 }
+
+-- how files are copied, by one option more with its parameter
+abbrev pub style_by : CopyStyle → CopyOption → Setting → CopyStyle
+style_by style option.NewFile says = record style { existing = Refused }
+style_by style option.Replace says = record style { existing = Replaced }
+style_by style option.Append says = record style { existing = Extended }
+style_by style option.From says = record style { first = unwrap_or (number_in says) style.first }
+style_by style option.For says = record style { most = number_in says }
+style_by style option.Upcase says = record style { fold = Some Upper }
+style_by style option.Lowcase says = record style { fold = Some Lower }
+style_by style option.Trunc says = record style { truncates = true }
+style_by style option.NoTrunc says = record style { truncates = false }
+style_by style option.Fill says = record style { fill = unwrap_or (byte_in says) style.fill }
+style_by style option.Recfm says = record style { format = format_in says }
+style_by style option.Lrecl says = record style { length = number_in says }
+style_by style option.OldDate says = record style { old_stamp = true }
+style_by style option.NewDate says = record style { old_stamp = false }
+style_by style option.TypeFiles says = record style { types = true }
+style_by style option.NoType says = record style { types = false }
+
+-- the same, by an option that was chosen
+abbrev pub style_with : CopyStyle → ChosenOption CopyOption → CopyStyle
+style_with style chosen = style_by style chosen.option chosen.setting
+
+-- how the options say that files are copied: of those that speak of the same the last decides
+abbrev pub style_of : Existing → List (ChosenOption CopyOption) → CopyStyle
+style_of default chosen = fold style_with (plain default) chosen
 
 -- the numbers lie where the options' forms say
 pub record IsCopyStyle (style : CopyStyle) : Type 0 where

@@ -5,13 +5,12 @@ ghost use Rattle.cms_copyfile.specs.Lines as spec;
 
 use crate::record::Fold;
 use cms_fields::LONGEST_RECORD;
-use cms_files::{NameChoice, is_last, name_choice, output_name};
+use cms_files::{NameChoice, name_choice, output_name};
 use cms_line::{Token, Tokens};
 use cms_names::{Format, OutId};
 use cms_operands::{
     ChosenOption, CommandFault, LARGEST, OptionForm, Parameter, ReadMode, Refusal, Setting,
-    WriteMode, chosen_options, ended, given, last_among, needed, operands, output_mode,
-    reading_mode,
+    WriteMode, chosen_options, ended, given, needed, operands, output_mode, reading_mode,
 };
 use cms_text::BLANK;
 use std::alloc::Global;
@@ -42,6 +41,33 @@ pub struct CopyFiles {
     pub names: NameChoice,
     pub mode: ReadMode,
     pub output: CopyOutput,
+}
+
+/// An option of COPYFILE.
+#[derive(Clone, Copy)]
+pub enum CopyOption {
+    NewFile,
+    Replace,
+    Append,
+    /// FROM n
+    From,
+    /// FOR n
+    For,
+    Upcase,
+    Lowcase,
+    Trunc,
+    NoTrunc,
+    /// FILL c
+    Fill,
+    /// RECFM f
+    Recfm,
+    /// LRECL n
+    Lrecl,
+    OldDate,
+    NewDate,
+    /// TYPE
+    TypeFiles,
+    NoType,
 }
 
 /// How files are copied.
@@ -117,47 +143,29 @@ fn copy_operands(operands: &[Token]) -> Result<CopyFiles, Refusal>
     })
 }
 
-fn options() -> [OptionForm; 16]
+fn options() -> [OptionForm<CopyOption>; 16]
     ensures { result ≡ spec.options }
 {
+    let number = Parameter::Number(1, LARGEST);
+    let length = Parameter::Number(1, LONGEST_RECORD);
     [
-        OptionForm::flag(b"NEWFILE ", 4),
-        OptionForm::flag(b"REPLACE ", 3),
-        OptionForm::flag(b"APPEND  ", 2),
-        OptionForm::new(b"FROM    ", 2, Parameter::Number(1, LARGEST)),
-        OptionForm::new(b"FOR     ", 3, Parameter::Number(1, LARGEST)),
-        OptionForm::flag(b"UPCASE  ", 2),
-        OptionForm::flag(b"LOWCASE ", 2),
-        OptionForm::flag(b"TRUNC   ", 2),
-        OptionForm::flag(b"NOTRUNC ", 4),
-        OptionForm::new(b"FILL    ", 2, Parameter::Fill),
-        OptionForm::new(b"RECFM   ", 3, Parameter::Format),
-        OptionForm::new(b"LRECL   ", 2, Parameter::Number(1, LONGEST_RECORD)),
-        OptionForm::flag(b"OLDDATE ", 4),
-        OptionForm::flag(b"NEWDATE ", 4),
-        OptionForm::flag(b"TYPE    ", 2),
-        OptionForm::flag(b"NOTYPE  ", 3),
+        OptionForm::flag(CopyOption::NewFile, b"NEWFILE ", 4),
+        OptionForm::flag(CopyOption::Replace, b"REPLACE ", 3),
+        OptionForm::flag(CopyOption::Append, b"APPEND  ", 2),
+        OptionForm::new(CopyOption::From, b"FROM    ", 2, number),
+        OptionForm::new(CopyOption::For, b"FOR     ", 3, number),
+        OptionForm::flag(CopyOption::Upcase, b"UPCASE  ", 2),
+        OptionForm::flag(CopyOption::Lowcase, b"LOWCASE ", 2),
+        OptionForm::flag(CopyOption::Trunc, b"TRUNC   ", 2),
+        OptionForm::flag(CopyOption::NoTrunc, b"NOTRUNC ", 4),
+        OptionForm::new(CopyOption::Fill, b"FILL    ", 2, Parameter::Fill),
+        OptionForm::new(CopyOption::Recfm, b"RECFM   ", 3, Parameter::Format),
+        OptionForm::new(CopyOption::Lrecl, b"LRECL   ", 2, length),
+        OptionForm::flag(CopyOption::OldDate, b"OLDDATE ", 4),
+        OptionForm::flag(CopyOption::NewDate, b"NEWDATE ", 4),
+        OptionForm::flag(CopyOption::TypeFiles, b"TYPE    ", 2),
+        OptionForm::flag(CopyOption::NoType, b"NOTYPE  ", 3),
     ]
-}
-
-fn existing_by(nth: u32) -> Existing
-    ensures { result ≡ spec.existing_by nth }
-{
-    match nth {
-        0 => Existing::Refused,
-        1 => Existing::Replaced,
-        _ => Existing::Extended,
-    }
-}
-
-// What the options say of a file that is there already, or what is meant without them.
-fn existing_of(default: Existing, chosen: &[ChosenOption]) -> Existing
-    ensures { result ≡ spec.existing_of default chosen.now }
-{
-    match last_among(&[0, 1, 2], chosen) {
-        Some(option) => existing_by(option.nth),
-        None => default,
-    }
 }
 
 fn number_in(setting: Setting) -> Option<u32>
@@ -169,25 +177,6 @@ fn number_in(setting: Setting) -> Option<u32>
     }
 }
 
-// The number of the last such option.
-fn number_of(nth: u32, chosen: &[ChosenOption]) -> Option<u32>
-    ensures { result ≡ spec.number_of nth chosen.now }
-{
-    number_in(last_among(&[nth], chosen)?.setting)
-}
-
-fn fold_by(nth: u32) -> Fold
-    ensures { result ≡ spec.fold_by nth }
-{
-    if nth == 5 { Fold::Upper } else { Fold::Lower }
-}
-
-fn fold_of(chosen: &[ChosenOption]) -> Option<Fold>
-    ensures { result ≡ spec.fold_of chosen.now }
-{
-    Some(fold_by(last_among(&[5, 6], chosen)?.nth))
-}
-
 fn byte_in(setting: Setting) -> Option<u8>
     ensures { result ≡ spec.byte_in setting }
 {
@@ -195,12 +184,6 @@ fn byte_in(setting: Setting) -> Option<u8>
         Setting::Byte(byte) => Some(byte),
         _ => None,
     }
-}
-
-fn given_fill(chosen: &[ChosenOption]) -> Option<u8>
-    ensures { result ≡ spec.given_fill chosen.now }
-{
-    byte_in(last_among(&[9], chosen)?.setting)
 }
 
 fn format_in(setting: Setting) -> Option<Format>
@@ -212,28 +195,55 @@ fn format_in(setting: Setting) -> Option<Format>
     }
 }
 
-fn format_of(chosen: &[ChosenOption]) -> Option<Format>
-    ensures { result ≡ spec.format_of chosen.now }
+// Files are copied as they are.
+fn plain(existing: Existing) -> CopyStyle
+    ensures { result ≡ spec.plain existing }
 {
-    format_in(last_among(&[10], chosen)?.setting)
+    CopyStyle {
+        existing,
+        first: 1,
+        most: None,
+        fold: None,
+        truncates: false,
+        fill: BLANK,
+        format: None,
+        length: None,
+        old_stamp: false,
+        types: false,
+    }
+}
+
+// How files are copied, by one option more.
+fn style_with(mut style: CopyStyle, chosen: &ChosenOption<CopyOption>) -> CopyStyle
+    ensures { result ≡ spec.style_with style chosen.now }
+{
+    let setting = chosen.setting;
+    match chosen.option {
+        CopyOption::NewFile => style.existing = Existing::Refused,
+        CopyOption::Replace => style.existing = Existing::Replaced,
+        CopyOption::Append => style.existing = Existing::Extended,
+        CopyOption::From => style.first = number_in(setting).unwrap_or(style.first),
+        CopyOption::For => style.most = number_in(setting),
+        CopyOption::Upcase => style.fold = Some(Fold::Upper),
+        CopyOption::Lowcase => style.fold = Some(Fold::Lower),
+        CopyOption::Trunc => style.truncates = true,
+        CopyOption::NoTrunc => style.truncates = false,
+        CopyOption::Fill => style.fill = byte_in(setting).unwrap_or(style.fill),
+        CopyOption::Recfm => style.format = format_in(setting),
+        CopyOption::Lrecl => style.length = number_in(setting),
+        CopyOption::OldDate => style.old_stamp = true,
+        CopyOption::NewDate => style.old_stamp = false,
+        CopyOption::TypeFiles => style.types = true,
+        CopyOption::NoType => style.types = false,
+    }
+    style
 }
 
 // How the options say that files are copied.
-fn style_of(default: Existing, chosen: &[ChosenOption]) -> CopyStyle
+fn style_of(default: Existing, chosen: &[ChosenOption<CopyOption>]) -> CopyStyle
     ensures { result ≡ spec.style_of default chosen.now }
 {
-    CopyStyle {
-        existing: existing_of(default, chosen),
-        first: number_of(3, chosen).unwrap_or(1),
-        most: number_of(4, chosen),
-        fold: fold_of(chosen),
-        truncates: is_last(7, &[7, 8], chosen),
-        fill: given_fill(chosen).unwrap_or(BLANK),
-        format: format_of(chosen),
-        length: number_of(11, chosen),
-        old_stamp: is_last(12, &[12, 13], chosen),
-        types: is_last(14, &[14, 15], chosen),
-    }
+    chosen.iter().fold(plain(default), style_with)
 }
 
 /// What COPYFILE's line says, or why it is refused.

@@ -10,7 +10,7 @@ use Rattle.cms_journal.proofs.Events.{all_join}
 use Rattle.cms_fields.specs.declared.time.Stamp.{Stamp}
 use Rattle.cms_model.specs.Lists.{cut}
 use Rattle.cms_model.specs.Minidisks.{File, Minidisk}
-use Rattle.cms_model.specs.Changes.{Change, Changed, Full, Drop, Rename, answer_of, changed, file_named}
+use Rattle.cms_model.specs.Changes.{Century, Change, Changed, Full, Drop, Rename, answer_of, changed, file_named}
 use Rattle.cms_model.specs.Settled.{update, writes}
 use Rattle.cms_model.specs.LawsUpdates.{IsFront, after, now, relabel, to_label, with_label}
 use Rattle.cms_model.proofs.Fronts.{none_front}
@@ -20,9 +20,11 @@ use Rattle.cms_machine.specs.Beats.{AreStamped, IsStamped}
 use Rattle.cms_machine.proofs.StepsFit.{syncs_counted}
 use Rattle.cms_map.specs.Bits.{free_blocks}
 use Rattle.cms_held.specs.Carrying.{IsEditOf, drops, renames}
+use Rattle.cms_held.specs.Carrying as edit_of
 use Rattle.cms_held.specs.LawsRenewing.{writes_of}
-use Rattle.cms_edf.specs.Planning.{CanChange, IsFullFor, IsPlanFor, change_of, edit_of, place_in}
-use Rattle.cms_held.specs.Renewing.{Edit, dropping, made_at, made_without, needed, renaming}
+use Rattle.cms_edf.specs.Planning.{CanChange, IsFullFor, IsPlanFor, change_of, place_in}
+use Rattle.cms_edf.specs.Planning as edits
+use Rattle.cms_held.specs.Renewing.{Edit, dropping, made_at, made_without, moving, needed, renaming}
 use Rattle.cms_edf.specs.declared.step.Step.TheVariants as step
 use Rattle.cms_held.specs.Opening.{HeldVolume}
 use Rattle.cms_held.specs.Carrying.{IsHeldMinidisk}
@@ -61,14 +63,15 @@ only_step v (step.Relabel label bytes) = (refl, (refl, tt))
 edit_stamp : (v : HeldVolume) (edit : Edit) (change : Change) (stamp : Stamp) → IsEditOf v edit change → put_stamp change stamp ≡ Some stamp
 edit_stamp v edit change stamp (drops place f there) = refl
 edit_stamp v edit change stamp (renames place f to number there small free) = refl
+edit_stamp v edit change stamp (edit_of.moves pivot small) = refl
 
 pub stamped_step : (j : Journal) (v : HeldVolume) (m : Minidisk) (change : Change) (stamp : Stamp) (s : Step) → IsHeldMinidisk j v m → IsPlanFor v change stamp s
     → AreStamped v.unit (put_stamp change stamp) (step_events v s)
 unfolding update
 stamped_step j v m change stamp (step.Edit e s) held p =
-    subst (λ (o : Option Stamp). AreStamped v.unit o (update v.unit (writes_of v s) s.label_bytes)) (sym (edit_stamp v (edit_of v.files e p.file) change stamp p.is))
+    subst (λ (o : Option Stamp). AreStamped v.unit o (update v.unit (writes_of v s) s.label_bytes)) (sym (edit_stamp v p.edit change stamp p.is))
     (all_join (IsStamped v.unit (Some stamp)) (writes v.unit (writes_of v s)) (Synced v.unit ∷ Wrote v.unit 3 s.label_bytes ∷ Synced v.unit ∷ [])
-    (stamped_writes v (edit_of v.files e p.file) stamp s held.at.whole.size (edit_writes j v (edit_of v.files e p.file) stamp s m change held p.is p.ready).aside) (tt, ((λ same at. absurd (label_aside at)), (tt, tt))))
+    (stamped_writes v p.edit stamp s held.at.whole.size (edit_writes j v p.edit stamp s m change held p.is p.ready).aside) (tt, ((λ same at. absurd (label_aside at)), (tt, tt))))
 stamped_step j v m change stamp (step.Relabel label bytes) held (volid, is, r) =
     subst (λ (k : Change). AreStamped v.unit (put_stamp k stamp) (relabel v.unit bytes.items)) (sym is) (λ same at. label_aside at, (tt, tt))
 
@@ -92,7 +95,7 @@ safe_front v (step.Relabel label bytes) = none_front (relabel v.unit bytes.items
 -- it writes whole blocks
 whole_step : (j : Journal) (v : HeldVolume) (m : Minidisk) (change : Change) (stamp : Stamp) (s : Step) → IsHeldMinidisk j v m → IsPlanFor v change stamp s → AreWhole v.unit v.disk.bsize (step_events v s)
 whole_step j v m change stamp (step.Edit e s) held p =
-    update_whole v.unit v.disk.bsize (writes_of v s) s.label_bytes (edit_writes j v (edit_of v.files e p.file) stamp s m change held p.is p.ready).long p.label_long
+    update_whole v.unit v.disk.bsize (writes_of v s) s.label_bytes (edit_writes j v p.edit stamp s m change held p.is p.ready).long p.label_long
 whole_step j v m change stamp (step.Relabel label bytes) held (volid, is, r) = ((refl, r.bytes_long), (refl, tt))
 
 course_of : (j : Journal) (old : Told) (d : Accessed) (m : Minidisk) (change : Change) (stamp : Stamp) (s : Step) → Setting j old d m change stamp s
@@ -115,20 +118,22 @@ course_of j old d m change stamp s x =
 edit_syncs : (v : HeldVolume) (edit : Edit) (change : Change) (m : Minidisk) (o : Outcome) → IsEditOf v edit change → put_syncs change (Changed m) o ≡ update_syncs o
 edit_syncs v edit change m o (drops place f is) = refl
 edit_syncs v edit change m o (renames place f to number is small free) = refl
+edit_syncs v edit change m o (edit_of.moves pivot small) = refl
 
 edit_is_none : (v : HeldVolume) (edit : Edit) (change : Change) → IsEditOf v edit change → is_relabel change ≡ false
 edit_is_none v edit change (drops place f is) = refl
 edit_is_none v edit change (renames place f to number is small free) = refl
+edit_is_none v edit change (edit_of.moves pivot small) = refl
 
 good_syncs : (v : HeldVolume) (change : Change) (stamp : Stamp) (m : Minidisk) (s : Step) → IsPlanFor v change stamp s → syncs (step_events v s) ≡ put_syncs change (Changed m) Good
 good_syncs v change stamp m (step.Edit e s) p =
     let c = (syncs_counted v.unit (writes_of v s) s.label_bytes 0).whole change m in
-    ap (λ (b : Bool). syncs (if b then relabel v.unit s.label_bytes else update v.unit (writes_of v s) s.label_bytes)) (sym (edit_is_none v (edit_of v.files e p.file) change p.is)) ∙ c
+    ap (λ (b : Bool). syncs (if b then relabel v.unit s.label_bytes else update v.unit (writes_of v s) s.label_bytes)) (sym (edit_is_none v p.edit change p.is)) ∙ c
 good_syncs v change stamp m (step.Relabel label bytes) (volid, is, r) = ap (λ (k : Change). put_syncs k (Changed m) Good) (sym is)
 
 -- the volume then is on the same unit
 pub leads_same : (v w : HeldVolume) (change : Change) (stamp : Stamp) (s : Step) → IsPlanFor v change stamp s → LeadsTo v s w → (w.unit ≡ v.unit) × (w.disk ≡ v.disk)
-leads_same v w change stamp (step.Edit e s) p leads = let is = leads p.file p.there in (ap (λ (x : HeldVolume). x.unit) is, ap (λ (x : HeldVolume). x.disk) is)
+leads_same v w change stamp (step.Edit e s) p leads = let is = leads p.edit p.done in (ap (λ (x : HeldVolume). x.unit) is, ap (λ (x : HeldVolume). x.disk) is)
 leads_same v w change stamp (step.Relabel label bytes) p leads = (ap (λ (x : HeldVolume). x.unit) leads, ap (λ (x : HeldVolume). x.disk) leads)
 
 -- all was done
@@ -149,7 +154,7 @@ kept j old new d e m change stamp (step.Edit f s) x cut same =
     let p = cut.front in
     let u = d.volume.unit in
     let ws = writes_of d.volume s in
-    let edit = edit_of d.volume.files f x.plan.file in
+    let edit = x.plan.edit in
     let none = (syncs_counted u ws s.label_bytes 0).update_old p cut.is in
     unmade j old new d e m change stamp (to_label u ws) (update u ws s.label_bytes) p x.told_is (course_of j old d m change stamp (step.Edit f s) x) cut.told (writes_to u ws p cut.is)
     (none ∙ sym (edit_syncs d.volume edit change (changed m change) OldFault x.plan.is)) (refl, ap not (edit_is_none d.volume edit change x.plan.is)) same
@@ -165,13 +170,13 @@ pub doubted : (j : Journal) (old new : Told) (d : Accessed) (m : Minidisk) (chan
 doubted j old new d m change stamp (step.Edit f s) x (inl told) =
     let u = d.volume.unit in
     let ws = writes_of d.volume s in
-    let edit = edit_of d.volume.files f x.plan.file in
+    let edit = x.plan.edit in
     doubted_at j old new d m change stamp (step.Edit f s) x (to_label u ws) told (to_front u ws s.label_bytes)
     (λ side. one_sync u ws ∙ sym (edit_syncs d.volume edit change (changed m change) (EitherFault side) x.plan.is))
 doubted j old new d m change stamp (step.Edit f s) x (inr told) =
     let u = d.volume.unit in
     let ws = writes_of d.volume s in
-    let edit = edit_of d.volume.files f x.plan.file in
+    let edit = x.plan.edit in
     doubted_at j old new d m change stamp (step.Edit f s) x (with_label u ws s.label_bytes) told (with_front u ws s.label_bytes)
     (λ side. (syncs_counted u ws s.label_bytes 0).update_either side ∙ sym (edit_syncs d.volume edit change (changed m change) (EitherFault side) x.plan.is))
 doubted j old new d m change stamp (step.Relabel label bytes) x (is, may) =
@@ -235,7 +240,7 @@ full_is j d m (ask.Drop name) need free x lacks =
     let n = named_in v.files name.now at.0 at.1 in
     let edit = dropping v.files at.0 n.file in
     let is : IsEditOf v edit (Drop name.now) = subst (λ (k : Name). IsEditOf v edit (Drop k)) n.named (drops at.0 n.file n.there) in
-    let count : length edit.files ≡ length v.files - 1 = count_is v.files (does.Drop at.0) n.file in
+    let count : length edit.files ≡ length v.files - 1 = count_is v.files (does.Drop at.0) edit (edits.drops at.0 n.file n.there) in
     lacking j v m edit (Drop name.now) need free (held_minidisk j d m x.is x.readable) is x.kept
     (subst (λ (k : ℕ). LacksRoom v (needed v k edit.made) (failed.Full need free)) (sym count) (lacks at.0 at.1))
 full_is j d m (ask.Rename from to number) need free x lacks =
@@ -246,10 +251,16 @@ full_is j d m (ask.Rename from to number) need free x lacks =
     let is : IsEditOf v (renaming v.files at.0 n.file to.now number) (Rename from.now to.now number) =
     subst (λ (k : Name). IsEditOf v (renaming v.files at.0 n.file to.now number) (Rename k to.now number)) n.named (renames at.0 n.file to.now number n.there x.can.1 own) in
     let edit = renaming v.files at.0 n.file to.now number in
-    let count : length edit.files ≡ length v.files = count_is v.files (does.Rename at.0 to.now number) n.file in
+    let count : length edit.files ≡ length v.files = count_is v.files (does.Rename at.0 to.now number) edit (edits.renames at.0 n.file to.now number n.there) in
     lacking j v m edit (Rename from.now to.now number) need free (held_minidisk j d m x.is x.readable) is x.kept
     (subst (λ (k : ℕ). LacksRoom v (needed v k edit.made) (failed.Full need free)) (sym count) (lacks at.0 at.1))
 full_is j d m (ask.Relabel volid) need free x lacks = absurd (cc lacks)
+full_is j d m (ask.Century pivot) need free x lacks =
+    let v = d.volume in
+    let edit = moving v.files pivot in
+    let count : length edit.files ≡ length v.files = count_is v.files (does.Century pivot) edit (edits.moves pivot) in
+    lacking j v m edit (Century pivot) need free (held_minidisk j d m x.is x.readable) (edit_of.moves pivot x.can) x.kept
+    (subst (λ (k : ℕ). LacksRoom v (needed v k edit.made) (failed.Full need free)) (sym count) lacks)
 
 -- with the file at its place
 told_at : (o : Option ℕ) (k : ℕ) → o ≡ Some k → unwrap_or o 0 ≡ k
@@ -264,11 +275,13 @@ room_is v (ask.Rename from to number) need free can lacks =
     let at = some_place (place_in from.now v.files) can.0 in
     subst (λ (k : ℕ). LacksRoom v (needed v (length v.files) (made_at k)) (failed.Full need free)) (sym (told_at (place_in from.now v.files) at.0 at.1)) (lacks at.0 at.1)
 room_is v (ask.Relabel volid) need free can lacks = absurd (cc lacks)
+room_is v (ask.Century pivot) need free can lacks = lacks
 
 never_limited : (v : HeldVolume) (change : asked.Change) (which : ℕ) → CanChange v.files change → IsFullFor v change (failed.Limit which) → ⊥
 never_limited v (ask.Drop name) which can lacks = let at = some_place (place_in name.now v.files) can in lacks at.0 at.1
 never_limited v (ask.Rename from to number) which can lacks = let at = some_place (place_in from.now v.files) can.0 in lacks at.0 at.1
 never_limited v (ask.Relabel volid) which can lacks = absurd (cc lacks)
+never_limited v (ask.Century pivot) which can lacks = lacks
 
 -- what it comes to that no plan is made
 pub not_planned : (j : Journal) (old : Told) (d e : Accessed) (m : Minidisk) (change : asked.Change) (stamp : Stamp) (why : PlanFault) → Asked j d m change → IsFullFor d.volume change why

@@ -16,7 +16,7 @@ use Rattle.cms_model.specs.LawsUpdates.{IsFront, after, now, to_label, with_labe
 use Rattle.cms_model.specs.Minidisks.{File, Minidisk, Volume}
 use Rattle.cms_model.specs.Records.{length_of, stored}
 use Rattle.cms_model.specs.Settled.{Write, update, writes}
-use Rattle.cms_model.specs.Changes.{Add, Change, Changed, Drop, Put, Relabel, Rename, changed}
+use Rattle.cms_model.specs.Changes.{Add, Century, Change, Changed, Drop, Put, Relabel, Rename, changed}
 use Rattle.cms_model.specs.Volumes.{disk_of}
 use Rattle.cms_model.proofs.Fronts.{front_nil}
 use Rattle.cms_machine.specs.Beats.{AreStamped, Covers}
@@ -411,6 +411,7 @@ comes_as j old new d e m draft front records (Add name more added) stamp r says 
 comes_as j old new d e m draft front records (Drop name) stamp r says told held sound drafts stands is = absurd is
 comes_as j old new d e m draft front records (Rename from to number) stamp r says told held sound drafts stands is = absurd is
 comes_as j old new d e m draft front records (Relabel volid) stamp r says told held sound drafts stands is = absurd is
+comes_as j old new d e m draft front records (Century pivot) stamp r says told held sound drafts stands is = absurd is
 
 pub ends_so : (start old new : Told) (d e : Accessed) (m : Minidisk) (draft : FileDraft) (change : Change) (stamp : Stamp) (records : List (List ℕ)) (r : Result ⊤ Doubt)
     → Ending start old d m draft change stamp records → CommitSays old new d.volume e.volume draft r → Alters start new d e m change stamp (answered r)

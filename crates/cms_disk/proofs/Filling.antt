@@ -13,7 +13,7 @@ use Rattle.cms_names.specs.declared.name.Format.{Format}
 use Rattle.cms_names.specs.declared.name.Format.TheVariants.{F, V}
 use Rattle.cms_fields.specs.declared.entry.Entry.{Entry}
 use Rattle.cms_fields.specs.declared.time.Stamp.{Stamp}
-use Rattle.cms_model.specs.Changes.{Add, Change, Drop, Put, Relabel, Rename}
+use Rattle.cms_model.specs.Changes.{Add, Century, Change, Drop, Put, Relabel, Rename}
 use Rattle.cms_model.specs.Minidisks.{Minidisk}
 use Rattle.cms_model.specs.Records.{Fits, StandsFor, stored}
 use Rattle.cms_model.specs.declared.file.FileData.{FileData}
@@ -55,6 +55,7 @@ some_for j d draft (Add name more added) stamp front records is = more_is_some d
 some_for j d draft (Drop name) stamp front records is = absurd is
 some_for j d draft (Rename from to number) stamp front records is = absurd is
 some_for j d draft (Relabel volid) stamp front records is = absurd is
+some_for j d draft (Century pivot) stamp front records is = absurd is
 
 -- it is so still, where what comes in front is still what the unit has
 pub for_still : (j k : Journal) (d : Accessed) (draft draft' : FileDraft) (change : Change) (stamp : Stamp) (front : Front) (records : List (List ℕ)) → IsSameDraft draft draft'
@@ -82,6 +83,7 @@ for_still j k d draft draft' (Add name more added) stamp front records same stay
 for_still j k d draft draft' (Drop name) stamp front records same stays is = absurd is
 for_still j k d draft draft' (Rename from to number) stamp front records same stays is = absurd is
 for_still j k d draft draft' (Relabel volid) stamp front records same stays is = absurd is
+for_still j k d draft draft' (Century pivot) stamp front records same stays is = absurd is
 
 -- where a record was put
 pub same_of : (d e : FileDraft) → e ≡ record d { writer = record d.writer { put = d.writer.put + 1; writer = e.writer.writer } } → IsSame d.writer.writer e.writer.writer → IsSameDraft d e

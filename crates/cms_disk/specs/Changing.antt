@@ -5,8 +5,9 @@ use Rattle.cms_journal.specs.Journal.{Journal}
 use Rattle.cms_journal.specs.Told.{Told, plus, OnlyOf}
 use Rattle.cms_fields.specs.declared.time.Stamp.{Stamp}
 use Rattle.cms_model.specs.Minidisks.{File, Minidisk, State, Volume}
-use Rattle.cms_model.specs.Changes.{Change, Put, Add, Drop, Rename, Relabel, Limited, Changed, answer_of, file_named}
+use Rattle.cms_model.specs.Changes.{Change, Put, Add, Drop, Rename, Relabel, Century, Limited, Changed, answer_of, file_named}
 use Rattle.cms_model.specs.Changes as model
+use Rattle.cms_model.specs.DirectoryParts.{all_entries}
 use Rattle.cms_model.specs.Volumes.{Disk, state_of}
 use Rattle.cms_model.specs.LawsSizes.{IsWhole}
 use Rattle.cms_model.specs.LawsUpdates.{now}
@@ -91,6 +92,7 @@ IsMissing m (Rename from to number) = file_named from m.files ≡ None
 IsMissing m (Put new) = ⊥
 IsMissing m (Add name more stamp) = file_named name m.files ≡ None
 IsMissing m (Relabel volid) = ⊥
+IsMissing m (Century pivot) = ⊥
 
 -- the new name is another file's
 abbrev pub IsTaken : Minidisk → Change → Type 0
@@ -99,6 +101,7 @@ IsTaken m (Put new) = ⊥
 IsTaken m (Add name more stamp) = ⊥
 IsTaken m (Drop name) = ⊥
 IsTaken m (Relabel volid) = ⊥
+IsTaken m (Century pivot) = ⊥
 
 -- what a change of the minidisk m, with this stamp, comes to, where d is the disk before it and e the disk then
 abbrev pub Alters : Told → Told → Accessed → Accessed → Minidisk → Change → Stamp → Result ⊤ DiskFault → Type 0
@@ -169,6 +172,7 @@ needed_for v (ask.Drop name) =
     needed v (length v.files - 1) (made_without (unwrap_or (place_of name.now v) 0) (length v.files))
 needed_for v (ask.Rename from to number) = needed v (length v.files) (made_at (unwrap_or (place_of from.now v) 0))
 needed_for v (ask.Relabel volid) = 0
+needed_for v (ask.Century pivot) = needed v (length v.files) (all_entries (length v.files))
 
 -- why a change of a writable minidisk whose file is there is refused, where it needs so many free blocks: there are fewer, there is no
 -- memory, or the device failed

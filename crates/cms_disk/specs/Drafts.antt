@@ -8,7 +8,7 @@ use Rattle.cms_names.specs.declared.name.Format.TheVariants.{F}
 use Rattle.cms_model.specs.Minidisks.{File, Minidisk, Volume}
 use Rattle.cms_fields.specs.declared.time.Stamp.{Stamp}
 use Rattle.cms_model.specs.Records.{length_of, stored}
-use Rattle.cms_model.specs.Changes.{Add, Answer, Change, Changed, Drop, Limited, Put, Relabel, Rename, answer_of, changed}
+use Rattle.cms_model.specs.Changes.{Add, Answer, Century, Change, Changed, Drop, Limited, Put, Relabel, Rename, answer_of, changed}
 use Rattle.cms_model.specs.Changes as model
 use Rattle.cms_model.specs.declared.file.FileData.{FileData}
 use Rattle.cms_map.specs.Bits.{free_blocks}
@@ -86,6 +86,7 @@ IsFor j d draft (Add name more added) stamp front records = (more ≡ records) �
 IsFor j d draft (Drop name) stamp front records = ⊥
 IsFor j d draft (Rename from to number) stamp front records = ⊥
 IsFor j d draft (Relabel volid) stamp front records = ⊥
+IsFor j d draft (Century pivot) stamp front records = ⊥
 
 -- a draft goes on for a change: the minidisk stands, from the start on only the draft was written, of its records the first were put and
 -- the others are to come, and what was written of it stands

@@ -5,7 +5,8 @@ ghost use Rattle.std.specs.Option.{ForSome};
 ghost use Rattle.cms_journal.specs.Journal.{Journal, IsWritable};
 ghost use Rattle.cms_fields.specs.Stamps.{is_stamp};
 ghost use Rattle.cms_model.specs.Minidisks as minidisks;
-ghost use Rattle.cms_model.specs.Changes.{Drop, Rename, Relabel};
+ghost use Rattle.cms_model.specs.Changes.{Drop, Rename, Relabel, Century};
+ghost use Rattle.cms_model.specs.DirectoryParts.{all_entries};
 ghost use Rattle.cms_held.specs.Renewing.{made_at, made_without, needed};
 ghost use Rattle.cms_edf.specs.Planning.{CanChange, change_of};
 ghost use Rattle.cms_disk.specs.Changing.{Alters, ChangesDisk, IsChangeFault, IsDevices, needed_for};
@@ -120,6 +121,36 @@ impl Minidisk {
             return Err(DiskFault::ReadOnly);
         }
         self.change(alloc, world, &Change::Relabel { volid }, stamp)
+    }
+
+    /// Moves the stamps of all files: those of a year below 1900 and the pivot, which is at most 100, are a century later. Every entry of
+    /// the directory is written anew, also where no stamp moves. The refusals are those of `erase` but `NotFound`; `Full` tells the
+    /// blocks that a whole new directory and a whole map need, and those that are free.
+    pub fn century<W: World>(
+        &mut self,
+        alloc: Global,
+        world: &mut W,
+        pivot: u32,
+        stamp: &Stamp,
+    ) -> Result<(), DiskFault>
+        requires stamp { is_stamp stamp.now ≡ true }
+        requires pivot { pivot ≤ 100 }
+        requires blocks { ForSome (W.told world.old) (λ j. IsReadable j self.old) }
+        requires writable { self.old.writable ≡ true → ForSome (W.told world.old) (λ j. IsWritable j.units self.old.volume.unit) }
+        ensures alters { (j : Journal) (m : minidisks.Minidisk) → W.told world.old ≡ Some j
+            → IsMinidisk j self.old m → IsLookedAt j self.old
+            → Alters (W.told world.old) (W.told world.new) self.old self.new m (Century pivot) stamp.now result }
+        ensures read_only { IfErr result (λ e. e ≡ ReadOnly → self.old.writable ≡ false) }
+        ensures locked { self.old.writable ≡ false → result ≡ Err ReadOnly }
+        ensures fault { IfErr result (λ e. (e ≡ ReadOnly)
+            ⊎ IsChangeFault self.old.volume (needed self.old.volume (length self.old.volume.files)
+            (all_entries (length self.old.volume.files))) e) }
+        ensures changes { ChangesDisk (seen W.World world.old) (seen W.World world.new) self.old self.new result }
+    {
+        if !self.is_writable() {
+            return Err(DiskFault::ReadOnly);
+        }
+        self.change(alloc, world, &Change::Century { pivot }, stamp)
     }
 
     // Makes a change.

@@ -1,5 +1,5 @@
 // The cases of each module, and the test that tries them.
-use crate::{changing, making, putting, reading};
+use crate::{changing, making, putting, reading, sharing};
 use cms_cases::{Subject, try_rows};
 use std::alloc::{AllocError, Global};
 use std::test::Fail;
@@ -10,6 +10,7 @@ enum Cases {
     Reading,
     Putting,
     Changing,
+    Sharing,
     Making,
 }
 
@@ -18,6 +19,7 @@ const ROWS: &[(Cases, &str)] = &[
     (Cases::Reading, reading::ROWS),
     (Cases::Putting, putting::ROWS),
     (Cases::Changing, changing::ROWS),
+    (Cases::Sharing, sharing::ROWS),
     (Cases::Making, making::ROWS),
 ];
 
@@ -27,6 +29,7 @@ impl Subject for Cases {
             Cases::Reading => reading::answer(alloc, case),
             Cases::Putting => putting::answer(alloc, case),
             Cases::Changing => changing::answer(alloc, case),
+            Cases::Sharing => sharing::answer(alloc, case),
             Cases::Making => making::answer(alloc, case),
         }
     }

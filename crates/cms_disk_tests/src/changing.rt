@@ -2,7 +2,9 @@
 use crate::disk::{access_of, info_of, letters, minidisk};
 use cms_cases::{number, told, word};
 use cms_disk::{DiskFault, Minidisk};
-use cms_images::{START, calls_of, file_named, image_left, image_named, world_of, world_with};
+use cms_images::{
+    START, calls_of, file_named, image_left, image_named, put_texts, world_of, world_with,
+};
 use cms_names::Name;
 use cms_world::{Access, MemWorld, World};
 use std::alloc::{AllocError, Global};
@@ -18,6 +20,8 @@ const NEW: [u8; 6] = [0xD5, 0xC5, 0xE6, 0xE5, 0xD6, 0xD3];
 /// - `crash`: the answer, and the files of what a crash leaves behind so many events, by a choice. The directory of seven files has two
 ///   blocks, that of six one.
 /// - `failing`: as `written`, where the call fails that stands so many before the last, and its write is lost or has landed.
+/// - `dated`: the answer, and of what is left the year, month and day of the first file's stamp and the flags byte of its entry; some bytes
+///   of the image are changed first.
 pub const ROWS: &str = "\
 written/one file/erase A => Ok(()) [] 5 []
 written/one file/erase B => Err(NotFound) [A] 0 [A]
@@ -29,6 +33,14 @@ written/two files/rename C B => Err(NotFound) [AB] 0 [AB]
 written/two files/relabel => Ok(()) [AB] 2 [AB]
 written/full/erase A => Err(Full { need: 1, free: 0 }) [A] 0 [A]
 written/full/relabel => Ok(()) [A] 2 [A]
+written/one file/century 70 => Ok(()) [A] 4 [A]
+written/empty/century 0 => Ok(()) [] 4 []
+written/full/century 0 => Err(Full { need: 1, free: 0 }) [A] 0 [A]
+written/long directory/century 70 => Err(Full { need: 3, free: 1 }) [ABCDEFG] 0 [ABCDEFG]
+written/long directory on 17/century 70 => Err(Full { need: 3, free: 2 }) [ABCDEFG] 0 [ABCDEFG]
+written/long directory on 20/century 70 => Ok(()) [ABCDEFG] 7 [ABCDEFG]
+written/sixteen files/century 70 => Err(Full { need: 4, free: 3 }) [ABCDEFGHIJKLMNOP] 0 [ABCDEFGHIJKLMNOP]
+written/wide map/century 70 => Ok(()) [A] 4 [A]
 written/long directory/erase G => Ok(()) [ABCDEF] 5 [ABCDEF]
 written/long directory/erase A => Ok(()) [GBCDEF] 5 [GBCDEF]
 written/long directory/rename A H => Err(Full { need: 2, free: 1 }) [ABCDEFG] 0 [ABCDEFG]
@@ -46,7 +58,21 @@ read/two files/rename C B => Err(NotFound) [AB] 0 [AB]
 read/two files/rename A B => Err(Exists) [AB] 0 [AB]
 read/two files/rename A C => Err(ReadOnly) [AB] 0 [AB]
 read/two files/relabel => Err(ReadOnly) [AB] 0 [AB]
+read/two files/century 70 => Err(ReadOnly) [AB] 0 [AB]
 seen/one file/erase A => Ok(()) 3 arrrrwwsws as erased
+dated/one file/relabel/5 159 00 => Ok(()) 1900-1-1 0
+dated/one file/century 70/5 159 00 => Ok(()) 2000-1-1 8
+dated/one file/century 0/5 159 00 => Ok(()) 1900-1-1 0
+dated/one file/century 1/5 159 00, 5 182 00 02 29 => Ok(()) 2000-2-29 8
+dated/one file/century 1/5 159 00, 5 182 01 => Ok(()) 1901-1-1 0
+dated/one file/century 70/5 159 00, 5 182 69 => Ok(()) 2069-1-1 8
+dated/one file/century 70/5 159 00, 5 182 70 => Ok(()) 1970-1-1 0
+dated/one file/century 99/5 159 00, 5 182 99 => Ok(()) 1999-1-1 0
+dated/one file/century 100/5 159 00, 5 182 99 => Ok(()) 2099-1-1 8
+dated/one file/century 100/5 159 00, 5 182 00 02 29 => Ok(()) 2000-2-29 8
+dated/one file/century 100/5 159 08 => Ok(()) 2000-1-1 8
+dated/one file/century 100/5 159 F7 => Ok(()) 2000-1-1 8
+dated/one file/century 100/5 159 FF, 5 182 99 => Ok(()) 2099-1-1 8
 crash/long directory/erase G/0/0 => Ok(()) ABCDEFG
 crash/long directory/erase G/0/1 => Ok(()) ABCDEFG
 crash/long directory/erase G/0/2 => Ok(()) ABCDEFG
@@ -87,9 +113,10 @@ enum Asked {
     Erase(Name),
     Rename(Name, Name),
     Relabel,
+    Century(u32),
 }
 
-// What a text asks for: `erase A`, `rename A B` or `relabel`.
+// What a text asks for: `erase A`, `rename A B`, `century 70` or `relabel`.
 fn asked_by(text: &str) -> Option<Asked> {
     let mut words = text.split(' ');
     match words.next()? {
@@ -99,6 +126,7 @@ fn asked_by(text: &str) -> Option<Asked> {
             let to = file_named(words.next()?)?;
             Some(Asked::Rename(from, to))
         }
+        "century" => Some(Asked::Century(number(words.next()?).min(100))),
         _ => Some(Asked::Relabel),
     }
 }
@@ -116,6 +144,7 @@ fn changed(alloc: Global, world: &mut MemWorld, access: Access, asked: &Asked) -
         Asked::Erase(name) => disk.erase(alloc, world, name, &START),
         Asked::Rename(from, to) => disk.rename(alloc, world, from, to, 1, &START),
         Asked::Relabel => disk.relabel(alloc, world, NEW, &START),
+        Asked::Century(pivot) => disk.century(alloc, world, (*pivot).min(100), &START),
     };
     Some((answer, disk))
 }
@@ -125,6 +154,30 @@ fn left(alloc: Global, world: &MemWorld, at: usize, choice: u64) -> Result<Strin
     let image = image_left(alloc, world, at, choice)?;
     match minidisk(alloc, &mut world_of(image), Access::ReadOnly) {
         Ok(disk) => letters(alloc, &disk),
+        Err(fault) => told(alloc, &fault),
+    }
+}
+
+// The flags byte of the first file's entry, in the one block of the directory that the label names.
+fn flags(image: &[u8]) -> Option<u8> {
+    let origin = usize::from(*image.get(2 * 512 + 19)?);
+    let at = origin
+        .saturating_sub(1)
+        .saturating_mul(512)
+        .saturating_add(159);
+    image.get(at).copied()
+}
+
+// The stamp of the first file of what is left, and the flags byte of its entry.
+fn dated(alloc: Global, world: &MemWorld) -> Result<String, AllocError> {
+    let image = image_left(alloc, world, world.events(), u64::MAX)?;
+    let flags = flags(&image).unwrap_or(0xFF);
+    match minidisk(alloc, &mut world_of(image), Access::ReadOnly) {
+        Ok(disk) if disk.count() > 0 => {
+            let stamp = disk.info(0).stamp;
+            format!(in alloc; "{}-{}-{} {flags}", stamp.year, stamp.month, stamp.day)
+        }
+        Ok(_) => String::from_str(alloc, "no file"),
         Err(fault) => told(alloc, &fault),
     }
 }
@@ -162,6 +215,7 @@ fn told_of(
     let (at, choice) = (number(word(case, 3)), number(word(case, 4)));
     match word(case, 0) {
         "seen" => seen(alloc, world, disk),
+        "dated" => dated(alloc, world),
         "crash" => left(alloc, world, at as usize, u64::from(choice)),
         _ => files(alloc, world, disk),
     }
@@ -204,7 +258,13 @@ fn answer_on(alloc: Global, image: &[u8], case: &str, asked: &Asked) -> Result<S
 /// What a case comes to.
 pub fn answer(alloc: Global, case: &str) -> Result<String, AllocError> {
     match asked_by(word(case, 2)) {
-        Some(asked) => answer_on(alloc, &image_named(alloc, word(case, 1))?, case, &asked),
+        Some(asked) => {
+            let mut image = image_named(alloc, word(case, 1))?;
+            if word(case, 0) == "dated" {
+                put_texts(image.as_mut_slice(), word(case, 3));
+            }
+            answer_on(alloc, &image, case, &asked)
+        }
         None => String::from_str(alloc, "nothing is asked"),
     }
 }

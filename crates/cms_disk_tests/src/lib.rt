@@ -8,6 +8,8 @@ mod changing;
 #[cfg(test)]
 mod disk;
 #[cfg(test)]
+mod filed;
+#[cfg(test)]
 mod making;
 #[cfg(test)]
 mod many_tests;
@@ -15,3 +17,5 @@ mod many_tests;
 mod putting;
 #[cfg(test)]
 mod reading;
+#[cfg(test)]
+mod sharing;

@@ -15,7 +15,7 @@ use Rattle.cms_held.specs.Opening.{HeldFile, HeldTree, HeldVolume}
 use Rattle.cms_held.specs.Renewing.{Edit, entries_held, needed, with_freed}
 use Rattle.cms_held.specs.SharedBlocks.{fresh_of, released_of}
 use Rattle.cms_held.specs.Systems.{Systems, TreePart, directory_piece}
-use Rattle.cms_edf.specs.Allotting.{IsAllottedFor, all_fresh, all_released, given_back, need_of, own_fresh, own_released}
+use Rattle.cms_edf.specs.Allotting.{IsAllottedFor, all_fresh, all_released, given_back, need_of, own_fresh, own_released, numbers_made}
 use Rattle.cms_edf.specs.Planning.{IsFilled}
 use Rattle.cms_edf.specs.declared.allotment.Allotment.{Allotment}
 use Rattle.cms_edf.specs.declared.allotment.Exchange.{Exchange}
@@ -24,7 +24,7 @@ use Rattle.cms_edf.specs.declared.allotment.Exchange.{Exchange}
 pub record Asks (v : HeldVolume) (x : Exchange) (a : Allotment) (entries : List Entry) (edit : Edit) : Type 0 where
   pub entries_are : entries_held edit.files ≡ entries
   pub files : x.files ≡ length entries
-  pub made : edit.made ≡ x.made.now
+  pub made : edit.made ≡ numbers_made x
   pub given : edit.given ≡ given_back x
   pub taken : edit.taken ≡ a.file.items
 
@@ -59,7 +59,7 @@ same_blocks v x a entries edit stamp s asks f =
     }
 
 allotted_of : (v : HeldVolume) (x : Exchange) (a : Allotment) (entries : List Entry) (edit : Edit) (stamp : Stamp) (s : Systems) → IsAllottedFor v x a → IsFilled v entries a stamp s → Asks v x a entries edit
-    → IsEnoughFor v.disk.bsize (entries_held v.files) entries (blocks_made v.disk.bsize (length entries) x.made.now) → IsPartAllotted v edit s (parts_of s)
+    → IsEnoughFor v.disk.bsize (entries_held v.files) entries (blocks_made v.disk.bsize (length entries) (numbers_made x)) → IsPartAllotted v edit s (parts_of s)
 allotted_of v x a entries edit stamp s al f asks enough =
     let bsize = v.disk.bsize in
     let fan = bsize / 4 in
@@ -69,7 +69,7 @@ allotted_of v x a entries edit stamp s al f asks enough =
     let dp = f.directory_part_is in
     let m = f.map_is in
     let mp = f.map_part_is in
-    let written : s.directory_part.leaves ≡ blocks_made bsize (length entries) x.made.now = ap (λ (p : TreePart). p.leaves) dp ∙ (al.written ∙ ap (λ (n : ℕ). blocks_made bsize n x.made.now) asks.files) in
+    let written : s.directory_part.leaves ≡ blocks_made bsize (length entries) (numbers_made x) = ap (λ (p : TreePart). p.leaves) dp ∙ (al.written ∙ ap (λ (n : ℕ). blocks_made bsize n (numbers_made x)) asks.files) in
     record {
       origin = subst (λ (t : HeldTree). t.leaves ≡ (9 - v.label.origin) ∷ drop 1 t.leaves) (sym d) al.origin;
       directory_is = ap (λ (t : HeldTree). length t.leaves) d ∙ (al.directory_is ∙ ap (directory_count bsize) (sym (files_are v x a entries edit asks)));
@@ -78,7 +78,7 @@ allotted_of v x a entries edit stamp s al f asks enough =
           (subst (λ (p : TreePart). KeepsTree fan p.leaves v.directory a.directory) (sym dp) al.directory);
       map = subst (λ (t : HeldTree). KeepsTree fan s.map_part.leaves v.map t) (sym m) (subst (λ (p : TreePart). KeepsTree fan p.leaves v.map a.map_tree) (sym mp) al.map);
       enough = subst (λ (l : List ℕ). IsEnoughFor bsize (entries_held v.files) (entries_held edit.files) l) (sym written)
-          (subst (λ (es : List Entry). IsEnoughFor bsize (entries_held v.files) es (blocks_made bsize (length entries) x.made.now)) (sym asks.entries_are) enough);
+          (subst (λ (es : List Entry). IsEnoughFor bsize (entries_held v.files) es (blocks_made bsize (length entries) (numbers_made x))) (sym asks.entries_are) enough);
       touched = subst (λ (l : List ℕ). AreTouched bsize
           (on_map total (turned (length (files_fresh v edit s (parts_of s)) + map_size bsize total) v.bits (files_fresh v edit s (parts_of s)) (files_released v edit s (parts_of s)) v.map)) l)
           (ap (λ (p : TreePart). p.leaves) (sym mp))
@@ -92,7 +92,7 @@ allotted_of v x a entries edit stamp s al f asks enough =
 
 -- with what is written for it, an update is planned
 pub planned_of : (v : HeldVolume) (x : Exchange) (a : Allotment) (entries : List Entry) (edit : Edit) (stamp : Stamp) (s : Systems) → IsAllottedFor v x a → IsFilled v entries a stamp s → Asks v x a entries edit
-    → IsEnoughFor v.disk.bsize (entries_held v.files) entries (blocks_made v.disk.bsize (length entries) x.made.now) → need_of v x ≤ length (free_blocks v.bits) → IsPlanned v edit stamp s
+    → IsEnoughFor v.disk.bsize (entries_held v.files) entries (blocks_made v.disk.bsize (length entries) (numbers_made x)) → need_of v x ≤ length (free_blocks v.bits) → IsPlanned v edit stamp s
 planned_of v x a entries edit stamp s al f asks enough room =
     let bsize = v.disk.bsize in
     let fan = bsize / 4 in
@@ -100,13 +100,13 @@ planned_of v x a entries edit stamp s al f asks enough room =
     let dp = f.directory_part_is in
     let mp = f.map_part_is in
     let own : length edit.taken ≡ x.file = ap (λ (l : List ℕ). length l) asks.taken ∙ al.file in
-    let need : needed v (length edit.files) edit.made ≡ needed v x.files x.made.now = ap (λ (n : ℕ). needed v n edit.made) count ∙ ap (needed v x.files) asks.made in
+    let need : needed v (length edit.files) edit.made ≡ needed v x.files (numbers_made x) = ap (λ (n : ℕ). needed v n edit.made) count ∙ ap (needed v x.files) asks.made in
     record {
       blocks = allotted_of v x a entries edit stamp s al f asks enough;
       room = omega arith;
       label = f.systems.label;
       label_bytes = f.systems.label_bytes;
-      written = ap (λ (p : TreePart). p.leaves) dp ∙ (al.written ∙ (ap (λ (n : ℕ). blocks_made bsize n x.made.now) (sym count) ∙ ap (blocks_made bsize (length edit.files)) (sym asks.made)));
+      written = ap (λ (p : TreePart). p.leaves) dp ∙ (al.written ∙ (ap (λ (n : ℕ). blocks_made bsize n (numbers_made x)) (sym count) ∙ ap (blocks_made bsize (length edit.files)) (sym asks.made)));
       directory_bytes = f.systems.directory_bytes ∙ ap (λ (es : List Entry). concat (map (directory_piece bsize s es stamp) s.directory_part.leaves)) (sym asks.entries_are);
       directory_nodes = subst (λ (t : HeldTree). s.directory_part.nodes ≡ nodes_fresh fan s.directory_part.leaves v.directory t) (sym f.directory_is)
           (subst (λ (p : TreePart). p.nodes ≡ nodes_fresh fan p.leaves v.directory a.directory) (sym dp) al.directory_nodes);

@@ -23,7 +23,7 @@ use Rattle.cms_held.specs.Systems.{TreePart}
 use Rattle.cms_held.proofs.Allotting.{directory_small, directory_some, freed_all, freed_none, map_small, nodes_few}
 use Rattle.cms_held.proofs.KeptTrees as kept
 use Rattle.cms_held.proofs.PiecesWritten.{take_both}
-use Rattle.cms_edf.specs.Allotting.{IsAllottedFor, MapIsShared, SharesDirectory, all_fresh, all_released, given_back, need_of, own_fresh, own_released}
+use Rattle.cms_edf.specs.Allotting.{IsAllottedFor, MapIsShared, SharesDirectory, all_fresh, all_released, given_back, need_of, own_fresh, own_released, numbers_made}
 use Rattle.cms_edf.specs.declared.allotment.Allotment.{Allotment}
 use Rattle.cms_edf.specs.declared.allotment.Exchange.{Exchange}
 use Rattle.cms_edf.proofs.SharedTaken.{begins_so, map_few, some_written}
@@ -81,7 +81,7 @@ pub record Splits (v : HeldVolume) (x : Exchange) (asked : TreePart) : Type 0 wh
   pub charge_low : map_size v.disk.bsize v.label.blocks ≤ 34603272
   pub need_is : need_of v x ≡ x.file + ((length asked.leaves + length asked.nodes - 1) + map_size v.disk.bsize v.label.blocks)
 
-pub splits_so : (v : HeldVolume) (x : Exchange) (asked : TreePart) → Keeps v → x.files ≤ 16384 → asked.leaves ≡ blocks_made v.disk.bsize x.files x.made.now
+pub splits_so : (v : HeldVolume) (x : Exchange) (asked : TreePart) → Keeps v → x.files ≤ 16384 → asked.leaves ≡ blocks_made v.disk.bsize x.files (numbers_made x)
     → asked.nodes ≡ fresh_places (v.disk.bsize / 4) (length v.directory.leaves) (directory_count v.disk.bsize x.files) asked.leaves → In 0 asked.leaves
     → MayBeWritten (length v.directory.leaves) (directory_count v.disk.bsize x.files) asked.leaves → Splits v x asked
 splits_so v x asked kept few leaves nodes first may =
@@ -93,7 +93,7 @@ splits_so v x asked kept few leaves nodes first may =
     let charge = map_is bsize total count (pointer_count (bsize / 4) count) kept.map_is refl in
     let most = map_low bsize total count (pointer_count (bsize / 4) count) bounds.0 bounds.1 kept.small kept.map_is refl in
     let some = kept.map_shape.some in
-    let taken = taken_is bsize (length v.files) x.files before x.made.now asked.leaves asked.nodes kept.directory_is leaves nodes in
+    let taken = taken_is bsize (length v.files) x.files before (numbers_made x) asked.leaves asked.nodes kept.directory_is leaves nodes in
     record {
       some = some_written 0 asked.leaves first;
       low = written_low bsize before x.files asked.leaves asked.nodes bounds.0 few may nodes;
@@ -103,17 +103,17 @@ splits_so v x asked kept few leaves nodes first may =
     }
 
 -- the same where the places were asked for
-pub splits_asked : (v : HeldVolume) (x : Exchange) (asked : TreePart) → Keeps v → x.files ≤ 16384 → asked.leaves ≡ blocks_made v.disk.bsize x.files x.made.now
-    → asked.nodes ≡ fresh_places (v.disk.bsize / 4) (length v.directory.leaves) (directory_count v.disk.bsize x.files) (blocks_made v.disk.bsize x.files x.made.now)
-    → In 0 (blocks_made v.disk.bsize x.files x.made.now)
-    → MayBeWritten (directory_count v.disk.bsize (length v.files)) (directory_count v.disk.bsize x.files) (blocks_made v.disk.bsize x.files x.made.now) → Splits v x asked
+pub splits_asked : (v : HeldVolume) (x : Exchange) (asked : TreePart) → Keeps v → x.files ≤ 16384 → asked.leaves ≡ blocks_made v.disk.bsize x.files (numbers_made x)
+    → asked.nodes ≡ fresh_places (v.disk.bsize / 4) (length v.directory.leaves) (directory_count v.disk.bsize x.files) (blocks_made v.disk.bsize x.files (numbers_made x))
+    → In 0 (blocks_made v.disk.bsize x.files (numbers_made x))
+    → MayBeWritten (directory_count v.disk.bsize (length v.files)) (directory_count v.disk.bsize x.files) (blocks_made v.disk.bsize x.files (numbers_made x)) → Splits v x asked
 splits_asked v x asked kept few leaves nodes first may =
     let bsize = v.disk.bsize in
     let before = length v.directory.leaves in
     let count = directory_count bsize x.files in
     let back = sym leaves in
     splits_so v x asked kept few leaves (nodes ∙ ap (fresh_places (bsize / 4) before count) back) (subst (In 0) back first)
-    (subst (λ (l : List ℕ). MayBeWritten before count l) back (subst (λ (n : ℕ). MayBeWritten n count (blocks_made bsize x.files x.made.now)) (sym kept.directory_is) may))
+    (subst (λ (l : List ℕ). MayBeWritten before count l) back (subst (λ (n : ℕ). MayBeWritten n count (blocks_made bsize x.files (numbers_made x))) (sym kept.directory_is) may))
 
 -- ---- a tree that may be shared
 
@@ -249,7 +249,7 @@ freed_both xs ys old mid new first second =
 
 pub allotted_so : (v : HeldVolume) (x : Exchange) (a : Allotment) (asked : TreePart) (lowest released written left gone : List ℕ) (need used all : ℕ)
     → length v.directory.leaves ≡ directory_count v.disk.bsize (length v.files) → length v.map.leaves ≡ up (up v.label.blocks 8) v.disk.bsize
-    → asked.leaves ≡ blocks_made v.disk.bsize x.files x.made.now
+    → asked.leaves ≡ blocks_made v.disk.bsize x.files (numbers_made x)
     → asked.nodes ≡ fresh_places (v.disk.bsize / 4) (length v.directory.leaves) (directory_count v.disk.bsize x.files) asked.leaves → 1 ≤ length asked.leaves
     → need ≡ need_of v x → need ≤ length (free_blocks v.bits) → lowest ≡ take need (free_blocks v.bits)
     → used ≡ x.file + (length asked.leaves + length asked.nodes) - 1 → a.file.items ≡ take x.file lowest
@@ -264,9 +264,9 @@ allotted_so v x a asked lowest released written left gone need used all director
     let free = free_blocks v.bits in
     let before = length v.directory.leaves in
     let parts = d.places_are in
-    let taken = taken_is bsize (length v.files) x.files before x.made.now asked.leaves asked.nodes directory_is leaves nodes in
+    let taken = taken_is bsize (length v.files) x.files before (numbers_made x) asked.leaves asked.nodes directory_is leaves nodes in
     let charge = map_size bsize total in
-    let needs : need ≡ x.file + (directory_taken bsize (length v.files) x.files x.made.now + charge) = need_is in
+    let needs : need ≡ x.file + (directory_taken bsize (length v.files) x.files (numbers_made x) + charge) = need_is in
     let whole : used + charge ≡ need = omega arith in
     let long : length lowest ≡ need = ap (λ (l : List ℕ). length l) low ∙ length-take-le need free enough in
     let size : length a.directory_part.leaves + length a.directory_part.nodes ≡ length asked.leaves + length asked.nodes = ap (λ (p : TreePart). length p.leaves + length p.nodes) parts in

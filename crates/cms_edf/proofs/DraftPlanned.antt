@@ -40,7 +40,7 @@ use Rattle.cms_held.proofs.MapMarks.{take_fewer}
 use Rattle.cms_draft.specs.declared.shape.DraftShape.{DraftShape}
 use Rattle.cms_held.specs.SharedBlocks.{fresh_of}
 use Rattle.cms_held.specs.Written.{ReadsBack}
-use Rattle.cms_edf.specs.Allotting.{IsAllottedFor, all_fresh, given_back, need_of, own_fresh}
+use Rattle.cms_edf.specs.Allotting.{IsAllottedFor, all_fresh, given_back, need_of, own_fresh, numbers_made}
 use Rattle.cms_edf.specs.declared.allotment.Allotment.{Allotment}
 use Rattle.cms_edf.specs.declared.allotment.Exchange.{Exchange}
 use Rattle.cms_edf.specs.FileDrafts.{CanDraft, GivenAt, IsFilePlanned, IsSized, list_with, entry_for, file_for}
@@ -176,7 +176,7 @@ taken_within v x a kept fixed al = all_of (λ n. (6 ≤ n) × (n ≤ v.label.blo
 -- an update that puts a file in a place
 pub record Exchanges (v : HeldVolume) (place : Option ℕ) (x : Exchange) : Type 0 where
   pub files : x.files ≡ count_with place (length v.files)
-  pub made : x.made.now ≡ made_with place (length v.files)
+  pub made : numbers_made x ≡ made_with place (length v.files)
   pub given : (given : List ℕ) → GivenAt v.files place given → given_back x ≡ given
 
 pub record Parts (v : HeldVolume) (name : Name) (asked : DraftShape) (stamp : Stamp) (place : Option ℕ) (tree : HeldTree) (x : Exchange) (a : Allotment) (e : Entry) (s : Systems) : Type 0 where
@@ -232,7 +232,7 @@ edits v g (Some k) at =
     }
 
 -- what is written for the entries with this one is enough
-pub enough_with : (v : HeldVolume) (place : Option ℕ) (entry : Entry) (x : Exchange) → IsBlockSize v.disk.bsize → x.made.now ≡ made_with place (length v.files)
+pub enough_with : (v : HeldVolume) (place : Option ℕ) (entry : Entry) (x : Exchange) → IsBlockSize v.disk.bsize → numbers_made x ≡ made_with place (length v.files)
     → AreEnoughFor v (list_with (entries_held v.files) place entry) x
 enough_with v place entry x size made =
     let entries = list_with (entries_held v.files) place entry in
@@ -240,9 +240,9 @@ enough_with v place entry x size made =
 
 -- the blocks that are needed
 same_need : (v : HeldVolume) (name : Name) (place : Option ℕ) (x : Exchange) → place ≡ position (same_name name) (names_in v.files) → x.files ≡ count_with place (length v.files)
-    → x.made.now ≡ made_with place (length v.files) → needed v x.files x.made.now ≡ needed v (count_put v name) (made_put v name)
+    → numbers_made x ≡ made_with place (length v.files) → needed v x.files (numbers_made x) ≡ needed v (count_put v name) (made_put v name)
 same_need v name place x at files made =
-    ap (λ (n : ℕ). needed v n x.made.now) files
+    ap (λ (n : ℕ). needed v n (numbers_made x)) files
     ∙ (ap (needed v (count_with place (length v.files))) made ∙ ap (λ (o : Option ℕ). needed v (count_with o (length v.files)) (made_with o (length v.files))) at)
 
 pub planned_parts : (v : HeldVolume) (name : Name) (asked : DraftShape) (stamp : Stamp) (place : Option ℕ) (tree : HeldTree) (x : Exchange) (a : Allotment) (e : Entry) (s : Systems)
@@ -296,7 +296,7 @@ planned_parts v name asked stamp place tree x a e s p start =
 
 pub need_is : (v : HeldVolume) (name : Name) (format : Format) (bytes bsize count nodes : ℕ) (place : Option ℕ) (x : Exchange) → bsize ≡ v.disk.bsize → count ≡ up bytes bsize
     → nodes ≡ pointer_count (fan_of bsize format) count
-    → place ≡ position (same_name name) (names_in v.files) → x.files ≡ count_with place (length v.files) → x.made.now ≡ made_with place (length v.files) → x.file ≡ count + nodes
+    → place ≡ position (same_name name) (names_in v.files) → x.files ≡ count_with place (length v.files) → numbers_made x ≡ made_with place (length v.files) → x.file ≡ count + nodes
     → need_of v x ≡ need_put v name format bytes
 unfolding tree_size
 need_is v name format bytes bsize count nodes place x size is pointers at files made own =
@@ -321,10 +321,10 @@ places_with v place many numbers e size files made =
           (subst (MayBeWritten (directory_count v.disk.bsize (length (entries_held v.files))) (directory_count v.disk.bsize (length (list_with (entries_held v.files) place e)))) is enough.may)),
     )
 
-pub put_places : (v : HeldVolume) (place : Option ℕ) (x : Exchange) (e : Entry) → IsBlockSize v.disk.bsize → x.files ≡ count_with place (length v.files) → x.made.now ≡ made_with place (length v.files)
-    → In 0 (blocks_made v.disk.bsize x.files x.made.now)
-    × MayBeWritten (directory_count v.disk.bsize (length v.files)) (directory_count v.disk.bsize x.files) (blocks_made v.disk.bsize x.files x.made.now)
-put_places v place x e size files made = places_with v place x.files x.made.now e size files made
+pub put_places : (v : HeldVolume) (place : Option ℕ) (x : Exchange) (e : Entry) → IsBlockSize v.disk.bsize → x.files ≡ count_with place (length v.files) → numbers_made x ≡ made_with place (length v.files)
+    → In 0 (blocks_made v.disk.bsize x.files (numbers_made x))
+    × MayBeWritten (directory_count v.disk.bsize (length v.files)) (directory_count v.disk.bsize x.files) (blocks_made v.disk.bsize x.files (numbers_made x))
+put_places v place x e size files made = places_with v place x.files (numbers_made x) e size files made
 
 -- a limit that is passed, or none
 pub count_files : (v : HeldVolume) (name : Name) (place : Option ℕ) (files : ℕ) → place ≡ position (same_name name) (names_in v.files) → files ≡ count_with place (length v.files)

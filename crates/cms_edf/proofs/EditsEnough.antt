@@ -1,31 +1,39 @@
 -- The data blocks of the directory in which the entries stand that an edit makes anew are enough.
-use Rattle.std.proofs.Common.{◌≡◌, ℕ, ◌+◌, ◌-◌, List, [], ◌∷◌, ◌++◌, length, None, Option, Some, subst}
-use Rattle.std.proofs.lemmas.List.{map-append, map-set}
+use Rattle.std.proofs.Common.{◌≡◌, ℕ, ◌+◌, ◌-◌, List, [], ◌∷◌, ◌++◌, length, None, Option, Some, subst, ◌∙◌, sym}
+use Rattle.std.proofs.lemmas.List.{length-map, map-append, map-set}
 use Rattle.cms_journal.specs.Journal.{IsBlockSize}
 use Rattle.cms_fields.specs.declared.entry.Entry.{Entry}
-use Rattle.cms_model.specs.DirectoryParts.{blocks_made}
+use Rattle.cms_model.specs.DirectoryParts.{all_entries, blocks_made}
 use Rattle.cms_held.specs.EntryPlaces.{IsEnoughFor}
 use Rattle.cms_held.specs.Opening.{HeldFile, HeldVolume}
 use Rattle.cms_held.specs.Putting.{made_with}
-use Rattle.cms_held.specs.Renewing.{dropping, entries_held, renamed, renaming}
-use Rattle.cms_held.proofs.EntryPlaces.{edits_have_places, places_are_enough}
+use Rattle.cms_held.specs.Renewing.{Edit, dropping, entries_held, moved_file, moving, renamed, renaming}
+use Rattle.cms_held.proofs.EntryPlaces.{all_are_enough, edits_have_places, places_are_enough}
 use Rattle.cms_edf.specs.FileDrafts.{list_with}
-use Rattle.cms_edf.specs.Planning.{Edited, edit_of, made_by}
+use Rattle.cms_edf.specs.Planning.{DoesTo, Edited, made_by}
+use Rattle.cms_edf.specs.Planning as edits
+use Rattle.cms_edf.proofs.Planned.{entries_count}
 use Rattle.cms_edf.specs.declared.change.FileEdit.{FileEdit}
-use Rattle.cms_edf.specs.declared.change.FileEdit.TheVariants as does
 
-enough_of : (v : HeldVolume) (e : FileEdit) (f : HeldFile) → IsBlockSize v.disk.bsize
-    → IsEnoughFor v.disk.bsize (entries_held v.files) (entries_held (edit_of v.files e f).files) (blocks_made v.disk.bsize (length (entries_held (edit_of v.files e f).files)) (made_by v.files e))
-enough_of v (does.Drop place) f size =
+enough_of : (v : HeldVolume) (e : FileEdit) (x : Edit) → IsBlockSize v.disk.bsize → DoesTo v.files e x
+    → IsEnoughFor v.disk.bsize (entries_held v.files) (entries_held x.files) (blocks_made v.disk.bsize (length (entries_held x.files)) (made_by v.files e))
+enough_of v e x size (edits.drops place f is) =
     places_are_enough v.disk.bsize (entries_held v.files) (entries_held (dropping v.files place f).files) place ((length v.files - 1 + 2) ∷ []) size (edits_have_places v.files place f f).gone
-enough_of v (does.Rename place to number) f size =
+enough_of v e x size (edits.renames place f to number is) =
     places_are_enough v.disk.bsize (entries_held v.files) (entries_held (renaming v.files place f to number).files) place [] size (edits_have_places v.files place f (renamed to number f)).other
+enough_of v e x size (edits.moves pivot) =
+    let olds = entries_held v.files in
+    let news = entries_held (moving v.files pivot).files in
+    let old : length olds ≡ length v.files = entries_count v.files in
+    let new : length news ≡ length v.files = entries_count (moving v.files pivot).files ∙ length-map v.files (moved_file pivot) in
+    subst (λ (n : ℕ). IsEnoughFor v.disk.bsize olds news (blocks_made v.disk.bsize (length news) (all_entries n))) old
+    (all_are_enough v.disk.bsize olds news size (new ∙ sym old))
 
 pub edit_enough : (v : HeldVolume) (e : FileEdit) (entries : List Entry) (numbers : List ℕ) → IsBlockSize v.disk.bsize → Edited v e entries → made_by v.files e ≡ numbers
     → IsEnoughFor v.disk.bsize (entries_held v.files) entries (blocks_made v.disk.bsize (length entries) numbers)
 edit_enough v e entries numbers size y made =
     subst (λ (l : List ℕ). IsEnoughFor v.disk.bsize (entries_held v.files) entries (blocks_made v.disk.bsize (length entries) l)) made
-    (subst (λ (es : List Entry). IsEnoughFor v.disk.bsize (entries_held v.files) es (blocks_made v.disk.bsize (length es) (made_by v.files e))) y.are (enough_of v e y.file size))
+    (subst (λ (es : List Entry). IsEnoughFor v.disk.bsize (entries_held v.files) es (blocks_made v.disk.bsize (length es) (made_by v.files e))) y.are (enough_of v e y.edit size y.done))
 
 -- ---- a file that is put
 

@@ -1,5 +1,5 @@
 -- A change that was planned and is carried out.
-use Rattle.std.proofs.Common.{◌≡◌, inl, inr, ⊎_elim, ℕ, ◌+◌, ◌≤◌, List, [], ◌∷◌, ◌++◌, All, length, slice_get, Some, Ok, Err, Result, OnOk, OnErr, Vec, Global, refl, sym, ◌∙◌, ap, subst, append_assoc, arith}
+use Rattle.std.proofs.Common.{◌≡◌, inl, inr, ⊎_elim, ℕ, ◌+◌, ◌≤◌, List, [], ◌∷◌, ◌++◌, All, length, Some, Ok, Err, Result, OnOk, OnErr, Vec, Global, refl, sym, ◌∙◌, ap, subst, append_assoc, arith}
 use Rattle.std.specs.Prelude.{IfErr, ⊤}
 use Rattle.std.specs.Option.{ForSome}
 use Rattle.std.proofs.lemmas.Option.{same_Some}
@@ -21,19 +21,19 @@ use Rattle.cms_model.specs.LawsUpdates.{HasEither, IsFront, after, relabel, to_l
 use Rattle.cms_model.proofs.Fronts.{after_is_told}
 use Rattle.cms_model.proofs.Opening.{state_opens}
 use Rattle.cms_model.proofs.Renewing.{minidisk_is}
-use Rattle.cms_held.specs.Opening.{HeldFile, HeldVolume}
+use Rattle.cms_held.specs.Opening.{HeldVolume}
 use Rattle.cms_held.specs.Kept.{IsKeptFile, Keeps}
 use Rattle.cms_held.specs.Carrying.{Carries, IsHeldMinidisk, written_count}
 use Rattle.cms_held.specs.LawsEdits.{relabelled, with_volid}
 use Rattle.cms_held.specs.LawsRenewing.{writes_of}
-use Rattle.cms_edf.specs.Planning.{IsEditFor, IsPlanFor, IsReadyLabel, edit_of, place_of}
+use Rattle.cms_edf.specs.Planning.{DoesTo, IsEditFor, IsPlanFor, IsReadyLabel}
 use Rattle.cms_edf.specs.Finishing.{CarriesOut, IsStopped, LeadsTo, Moves, step_events, with_label_bytes}
-use Rattle.cms_held.specs.Renewing.{renewed}
+use Rattle.cms_held.specs.Renewing.{Edit, renewed}
 use Rattle.cms_held.specs.Systems.{Systems, system_writes}
 use Rattle.cms_edf.specs.Doubts.{Updates, UpdatesSystems}
 use Rattle.cms_edf.proofs.CutOff.{updates_cut, updates_done}
 use Rattle.cms_edf.proofs.Listings.{fewer_on}
-use Rattle.cms_edf.proofs.Planned.{renewed_keeps}
+use Rattle.cms_edf.proofs.Planned.{one_edit, renewed_keeps}
 use Rattle.cms_edf.specs.declared.change.FileEdit.{FileEdit}
 use Rattle.cms_edf.specs.declared.doubt.Doubt.{Doubt}
 use Rattle.cms_edf.specs.declared.doubt.Doubt.TheVariants.{Old, Either}
@@ -62,8 +62,8 @@ with_front u ws label = record { rest = Synced u ∷ []; is = append_assoc (writ
 -- ---- an edit
 
 carries : (j : Journal) (v : HeldVolume) (m : Minidisk) (change : Change) (stamp : Stamp) (e : FileEdit) (s : Systems) → IsHeldMinidisk j v m → (p : IsEditFor v change stamp e s)
-    → Carries j v (edit_of v.files e p.file) s m change
-carries j v m change stamp e s held p = planned_is_carried j v (edit_of v.files e p.file) stamp s m change held p.is p.ready
+    → Carries j v p.edit s m change
+carries j v m change stamp e s held p = planned_is_carried j v p.edit stamp s m change held p.is p.ready
 
 -- ---- a relabelling
 
@@ -97,7 +97,7 @@ one_block u label n = omega arith
 pub moves : (j : Journal) (v : HeldVolume) (m : Minidisk) (change : Change) (stamp : Stamp) (s : Step) → Keeps v → IsHeldMinidisk j v m → IsPlanFor v change stamp s → Moves j v s m change
 moves j v m change stamp (step.Edit e s) kept held p =
     let c = carries j v m change stamp e s held p in
-    record { answer = c.answer; before = c.before; either = c.either; small = update_is_small j v (edit_of v.files e p.file) stamp s m change held p.is p.ready }
+    record { answer = c.answer; before = c.before; either = c.either; small = update_is_small j v p.edit stamp s m change held p.is p.ready }
 moves j v m change stamp (step.Relabel label bytes) kept held (volid, is, r) =
     let c = relabels j v m volid label bytes.items kept held r in
     let same : bytes.items ≡ (relabelled v volid).label_bytes = r.bytes_are in
@@ -120,7 +120,7 @@ pub carried : (j : Journal) (new : Told) (v w : HeldVolume) (m : Minidisk) (chan
 carried j new v w m change stamp (step.Edit e s) kept held p told leads =
     let c = carries j v m change stamp e s held p in
     told_so j new (step_events v (step.Edit e s)) (λ k. IsHeldMinidisk k w (changed m change)) told
-    (subst (λ (x : HeldVolume). IsHeldMinidisk (after j (step_events v (step.Edit e s))) x (changed m change)) (sym (leads p.file p.there)) c.done)
+    (subst (λ (x : HeldVolume). IsHeldMinidisk (after j (step_events v (step.Edit e s))) x (changed m change)) (sym (leads p.edit p.done)) c.done)
 carried j new v w m change stamp (step.Relabel label bytes) kept held (volid, is, r) told leads =
     let c = relabels j v m volid label bytes.items kept held r in
     let same : bytes.items ≡ (relabelled v volid).label_bytes = r.bytes_are in
@@ -164,14 +164,12 @@ stopped j new v w m change stamp (step.Relabel label bytes) Either kept held p (
 -- ---- what is known of a plan as it is carried out
 
 -- a volume that an edit or a label leaves is kept
-pub edit_keeps : (v : HeldVolume) (change : Change) (stamp : Stamp) (e e' : FileEdit) (s s' : Systems) → e' ≡ e → s' ≡ s → IsEditFor v change stamp e s → (f : HeldFile)
-    → slice_get v.files (place_of e') ≡ Some f → Keeps (renewed v (edit_of v.files e' f) s')
-edit_keeps v change stamp e e' s s' same_e same_s p f there =
-    let there' : slice_get v.files (place_of e) ≡ Some f = sym (ap (λ (x : FileEdit). slice_get v.files (place_of x)) same_e) ∙ there in
-    let has = renewed_keeps v e p.file stamp s p.may p.there p.ready p.label_long in
-    subst (λ (x : FileEdit). Keeps (renewed v (edit_of v.files x f) s')) (sym same_e)
-    (subst (λ (x : Systems). Keeps (renewed v (edit_of v.files e f) x)) (sym same_s)
-    (subst (λ (g : HeldFile). Keeps (renewed v (edit_of v.files e g) s)) (same_Some p.file f (sym p.there ∙ there')) has))
+pub edit_keeps : (v : HeldVolume) (change : Change) (stamp : Stamp) (e e' : FileEdit) (s s' : Systems) → e' ≡ e → s' ≡ s → IsEditFor v change stamp e s → (x : Edit) → DoesTo v.files e' x
+    → Keeps (renewed v x s')
+edit_keeps v change stamp e e' s s' same_e same_s p x done =
+    let has = renewed_keeps v e p.edit stamp s p.may p.done p.ready p.label_long in
+    subst (λ (y : Systems). Keeps (renewed v x y)) (sym same_s)
+    (subst (λ (y : Edit). Keeps (renewed v y s)) (one_edit v.files e p.edit x p.done (subst (λ (y : FileEdit). DoesTo v.files y x) same_e done)) has)
 
 pub label_keeps : (v : HeldVolume) (volid : List ℕ) (label : Label) (bytes bytes' : List ℕ) → bytes' ≡ bytes → IsReadyLabel v volid label bytes → Keeps (with_label_bytes v label bytes')
 label_keeps v volid label bytes bytes' same r =
@@ -227,14 +225,14 @@ pub record IsCarried (old new : Told) (v w : HeldVolume) (plan : Step) (r : Resu
 
 pub edit_carried : (old new : Told) (v w : HeldVolume) (change : Change) (stamp : Stamp) (plan : Step) (e e' : FileEdit) (s s' : Systems) (r : Result ⊤ Doubt) → IsPlanFor v change stamp plan
     → plan ≡ step.Edit e s → e' ≡ e → s' ≡ s → UpdatesSystems old new v.unit s' r
-    → OnOk r ((f : HeldFile) → slice_get v.files (place_of e') ≡ Some f → w ≡ renewed v (edit_of v.files e' f) s') → IsCarried old new v w plan r
+    → OnOk r ((x : Edit) → DoesTo v.files e' x → w ≡ renewed v x s') → IsCarried old new v w plan r
 edit_carried old new v w change stamp plan e e' s s' r p there same_e same_s ups leads =
     let q : IsEditFor v change stamp e s = subst (IsPlanFor v change stamp) there p in
     let size : system_writes (length s.label_bytes) s ≡ writes_of v s = ap (λ (n : ℕ). system_writes n s) q.label_long in
     let ups' : Updates old new v.unit (writes_of v s) s.label_bytes r = subst (λ (ws : List Write). Updates old new v.unit ws s.label_bytes r) size
     (subst (λ (x : Systems). UpdatesSystems old new v.unit x r) same_s ups) in
-    let leads' = subst (λ (x : FileEdit). OnOk r ((f : HeldFile) → slice_get v.files (place_of x) ≡ Some f → w ≡ renewed v (edit_of v.files x f) s)) same_e
-    (subst (λ (x : Systems). OnOk r ((f : HeldFile) → slice_get v.files (place_of e') ≡ Some f → w ≡ renewed v (edit_of v.files e' f) x)) same_s leads) in
+    let leads' = subst (λ (y : FileEdit). OnOk r ((x : Edit) → DoesTo v.files y x → w ≡ renewed v x s)) same_e
+    (subst (λ (y : Systems). OnOk r ((x : Edit) → DoesTo v.files e' x → w ≡ renewed v x y)) same_s leads) in
     subst (λ (x : Step). IsCarried old new v w x r) (sym there) (record {
       done = updates_done old new v.unit (writes_of v s) s.label_bytes r ups';
       cut_off = updates_cut old new v.unit (writes_of v s) s.label_bytes r ups';

@@ -37,7 +37,7 @@ use Rattle.cms_held.proofs.Grown.{behind_all, behind_low}
 use Rattle.cms_held.proofs.KeptTrees.{nodes_are}
 use Rattle.cms_held.proofs.NewMap.{row_within}
 use Rattle.cms_draft.specs.declared.shape.DraftShape.{DraftShape}
-use Rattle.cms_edf.specs.Allotting.{IsAllottedFor, given_back, need_of}
+use Rattle.cms_edf.specs.Allotting.{IsAllottedFor, given_back, need_of, numbers_made}
 use Rattle.cms_edf.specs.FileDrafts.{entry_for, file_for, list_with}
 use Rattle.cms_edf.specs.Growing.{GrowsAs, IsGrowthOf, IsGrowthPlanned, IsGrownPlan, IsMoreRefused, kept_in, more_fault, need_more}
 use Rattle.cms_edf.specs.Lacking.{LacksRoom}
@@ -116,7 +116,7 @@ pub record GrownParts (v : HeldVolume) (name : Name) (place : ℕ) (asked : Draf
   pub places_are : places.leaves ≡ places_behind g.kept g.count
   pub nodes_are : places.nodes ≡ fresh_places g.fan g.before g.count places.leaves
   pub files : x.files ≡ length v.files
-  pub made : x.made.now ≡ made_at place
+  pub made : numbers_made x ≡ made_at place
   pub own : x.file ≡ length places.leaves + length places.nodes
   pub given : (new : HeldTree) → length new.leaves ≡ g.count → length new.pointers ≡ pointer_count g.fan g.count → given_back x ≡ released_of g.fan places.leaves f.tree new
   pub allotted : IsAllottedFor v x a
@@ -183,9 +183,9 @@ grown_count v place asked f g places many numbers taken growth places_are nodes_
     omega arith
 
 pub grown_need : (v : HeldVolume) (place : ℕ) (asked : DraftShape) (f : HeldFile) (g : Growth) (places : TreePart) (x : Exchange) → IsGrowthOf v.disk.bsize f asked g
-    → places.leaves ≡ places_behind g.kept g.count → places.nodes ≡ fresh_places g.fan g.before g.count places.leaves → x.files ≡ length v.files → x.made.now ≡ made_at place
+    → places.leaves ≡ places_behind g.kept g.count → places.nodes ≡ fresh_places g.fan g.before g.count places.leaves → x.files ≡ length v.files → numbers_made x ≡ made_at place
     → x.file ≡ length places.leaves + length places.nodes → need_of v x ≡ need_more v place f asked
-grown_need v place asked f g places x growth places_are nodes_are files made own = grown_count v place asked f g places x.files x.made.now x.file growth places_are nodes_are files made own
+grown_need v place asked f g places x growth places_are nodes_are files made own = grown_count v place asked f g places x.files (numbers_made x) x.file growth places_are nodes_are files made own
 
 pub grown_planned : (v : HeldVolume) (name : Name) (place : ℕ) (asked : DraftShape) (stamp : Stamp) (f : HeldFile) (g : Growth) (places : TreePart) (x : Exchange) (a : Allotment) (tree : HeldTree)
     (e : Entry) (s : Systems) → GrownParts v name place asked stamp f g places x a tree e s → (start : ℕ) → IsGrowthPlanned v name f asked stamp tree s start
@@ -246,7 +246,7 @@ grown_planned v name place asked stamp f g places x a tree e s p start =
 
 -- all of it that is planned, by what was allotted for it
 pub grown_plan : (v : HeldVolume) (name : Name) (place : ℕ) (asked : DraftShape) (stamp : Stamp) (f : HeldFile) (g : Growth) (places : TreePart) (x : Exchange) (a : Allotment) (tree : HeldTree)
-    (e : Entry) (s : Systems) → IsAllottedFor v x a → need_of v x ≤ length (free_blocks v.bits) → x.files ≡ length v.files → x.made.now ≡ made_at place
+    (e : Entry) (s : Systems) → IsAllottedFor v x a → need_of v x ≤ length (free_blocks v.bits) → x.files ≡ length v.files → numbers_made x ≡ made_at place
     → x.file ≡ length places.leaves + length places.nodes → x.pointers.now ≡ [] → (left : List ℕ) → x.leaves.now ≡ left
     → (let old = f.tree in (new : HeldTree) → length new.leaves ≡ g.count → length new.pointers ≡ pointer_count g.fan g.count → left ≡ released_of g.fan places.leaves old new)
     → GrownRest v name place asked stamp f g places a tree e s → IsGrownPlan v name place asked stamp (record { growth = g; entry = e; tree = tree; systems = s })

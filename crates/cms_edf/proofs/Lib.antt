@@ -10,11 +10,13 @@ pub mod Lost
 pub mod Whole
 pub mod FileTrees
 pub mod EntryTests
+pub mod Spelled
 pub mod TreesRead
 pub mod RecordsRead
 pub mod VolumeOpened
 pub mod FilesNamed
 pub mod Renaming
+pub mod Stamping
 pub mod PlanParts
 pub mod Planned
 pub mod NewEntries

@@ -1,5 +1,5 @@
 -- What is planned for an edit is ready, and the volume after it is held.
-use Rattle.std.proofs.Common.{◌≡◌, ◌⊎◌, ⊎_elim, inl, inr, ℕ, zero, suc, ◌+◌, ◌-◌, ◌*◌, ◌/◌, ◌^◌, ◌<◌, ◌≤◌, Bool, true, List, [], ◌∷◌, ◌++◌, length, take, drop, slice_get, get_or, All, None, Some, Result, Ok, Err, refl, sym, ◌∙◌, ap, subst, arith}
+use Rattle.std.proofs.Common.{◌≡◌, ◌⊎◌, ⊎_elim, inl, inr, ℕ, zero, suc, ◌+◌, ◌-◌, ◌*◌, ◌/◌, ◌^◌, ◌<◌, ◌≤◌, Bool, true, List, [], ◌∷◌, ◌++◌, length, map, take, drop, slice_get, get_or, All, None, Some, Result, Ok, Err, refl, sym, ◌∙◌, ap, subst, arith}
 use Rattle.std.proofs.lemmas.List.{length-map, length-set, map-set, nil_from_length}
 use Rattle.std.proofs.lemmas.List.Elements.{All-nil, All-cons, All-get_or, All-head, All-tail, All-set, All-append, All-take}
 use Rattle.std.proofs.lemmas.Option.{get_or_from_slice_get, same_Some, slice_get-map, slice_get_within}
@@ -18,7 +18,7 @@ use Rattle.cms_model.specs.Sizes.{map_size, pointer_count}
 use Rattle.cms_map.specs.Bits.{free_blocks, with_marked}
 use Rattle.cms_map.proofs.Free.{free_are_unused, length-with_marked}
 use Rattle.cms_held.specs.Opening.{HeldFile, HeldTree, HeldVolume, names_in}
-use Rattle.cms_model.specs.Changes.{Change, Drop, Rename, Relabel}
+use Rattle.cms_model.specs.Changes.{Century, Change, Drop, Rename, Relabel}
 use Rattle.cms_model.specs.Minidisks.{same_name}
 use Rattle.cms_model.proofs.Changing.{name_from}
 use Rattle.std.proofs.lemmas.List.Quantifiers.{position-Some}
@@ -29,20 +29,22 @@ use Rattle.cms_held.specs.Systems.{Systems, TreePart}
 use Rattle.cms_held.specs.Written.{CanWrite, ReadsBack}
 use Rattle.cms_held.proofs.KeptTrees.{nodes_are}
 use Rattle.cms_held.specs.MapShares.{turned}
-use Rattle.cms_edf.specs.Allotting.{IsAllottedFor, all_fresh, all_released, given_back, need_of, own_fresh, own_released}
+use Rattle.cms_edf.specs.Allotting.{IsAllottedFor, all_fresh, all_released, given_back, need_of, own_fresh, own_released, numbers_made}
 use Rattle.cms_edf.specs.Doubts.{AreAt, IsReady}
 use Rattle.cms_edf.specs.Writing.{IsBlockOf}
-use Rattle.cms_held.specs.Renewing.{Edit, blocks_in, dropping, entries_held, renamed, renaming, renewed}
-use Rattle.cms_held.specs.Carrying.{IsEditOf, IsReadyFor, drops, renames}
-use Rattle.cms_edf.specs.Planning.{AreEnoughFor, Edited, IsEditFor, IsFilled, IsPlanFor, IsPrepared, IsReadyAt, IsRelabelOf, IsStepOf, MayEdit, count_after, edit_of, edited, made_by, place_in, place_of}
+use Rattle.cms_held.specs.Renewing.{Edit, blocks_in, dropping, entries_held, moved_entry, moved_file, moving, renamed, renaming, renewed}
+use Rattle.cms_held.specs.Carrying.{IsEditOf, IsReadyFor, drops, moves, renames}
+use Rattle.cms_edf.specs.Planning.{AreEnoughFor, DoesTo, Edited, IsEditFor, IsFilled, IsPlanFor, IsPrepared, IsReadyAt, IsRelabelOf, IsStepOf, MayEdit, count_after, made_by, place_in}
+use Rattle.cms_edf.specs.Planning as edits
 use Rattle.cms_edf.specs.declared.allotment.Allotment.{Allotment}
 use Rattle.cms_edf.specs.declared.allotment.Exchange.{Exchange}
 use Rattle.cms_edf.specs.declared.change.FileEdit.{FileEdit}
 use Rattle.cms_edf.specs.declared.change.FileEdit.TheVariants as does
 use Rattle.cms_edf.specs.declared.step.Step.{Step}
 use Rattle.cms_edf.specs.declared.step.Step.TheVariants as planned
-use Rattle.std.specs.Prelude.{IfOk, option_map}
+use Rattle.std.specs.Prelude.{IfOk, option_map, slice_set, swap_remove}
 use Rattle.cms_held.proofs.Allotting.{directory_small, directory_some, map_some}
+use Rattle.cms_held.proofs.Centuries.{kept_all_moved}
 use Rattle.cms_held.proofs.Edits.{passes_renamed}
 use Rattle.cms_held.proofs.MapMarks.{length_freed}
 use Rattle.cms_held.proofs.Removing.{All-removed, length-removed, map-removed}
@@ -71,15 +73,44 @@ more_back es k e there all one =
     subst (All ReadsBack) (sym (one_more es k e there))
     (All-append ReadsBack (take k es) (e ∷ []) all (All-cons ReadsBack e [] one (All-nil ReadsBack)))
 
--- the entries of the edited files are the edited entries
-pub edited_are : (fs : List HeldFile) (e : FileEdit) (f : HeldFile) → slice_get fs (place_of e) ≡ Some f → entries_held (edit_of fs e f).files ≡ edited (entries_held fs) e f.entry
-edited_are fs (does.Drop place) f is = map-removed (λ (g : HeldFile). g.entry) fs place f f.entry (slice_get_within fs place f is)
-edited_are fs (does.Rename place to number) f is = map-set (λ (g : HeldFile). g.entry) fs place (renamed to number f)
+-- these files are left by an edit
+abbrev pub FilesLeft : List HeldFile → FileEdit → List HeldFile → Type 0
+FilesLeft fs (does.Drop place) new = (f : HeldFile) → new ≡ swap_remove fs place f
+FilesLeft fs (does.Rename place to number) new = (f : HeldFile) → slice_get fs place ≡ Some f → new ≡ slice_set fs place (renamed to number f)
+FilesLeft fs (does.Century pivot) new = new ≡ map (moved_file pivot) fs
+
+pub files_left : (fs : List HeldFile) (e : FileEdit) (new : List HeldFile) (x : Edit) → DoesTo fs e x → FilesLeft fs e new → new ≡ x.files
+files_left fs e new x (edits.drops place f is) had = had f
+files_left fs e new x (edits.renames place f to number is) had = had f is
+files_left fs e new x (edits.moves pivot) had = had
+
+-- these entries are left by an edit, as the entry at its place tells
+abbrev pub Leaves : List HeldFile → FileEdit → List Entry → Type 0
+Leaves fs (does.Drop place) entries = (x : Entry) → slice_get (entries_held fs) place ≡ Some x → entries ≡ swap_remove (entries_held fs) place x
+Leaves fs (does.Rename place to number) entries =
+    (x : Entry) → slice_get (entries_held fs) place ≡ Some x → entries ≡ slice_set (entries_held fs) place (record x { name = to; number = number })
+Leaves fs (does.Century pivot) entries = entries ≡ map (moved_entry pivot) (entries_held fs)
+
+-- the file's entry at a place
+pub entry_at : (fs : List HeldFile) (k : ℕ) (f : HeldFile) → slice_get fs k ≡ Some f → slice_get (entries_held fs) k ≡ Some f.entry
+entry_at fs k f is = slice_get-map (λ (g : HeldFile). g.entry) fs k ∙ ap (option_map (λ (g : HeldFile). g.entry)) is
+
+-- the entries of files whose stamps are moved
+pub entries_moved : (pivot : ℕ) (fs : List HeldFile) → entries_held (map (moved_file pivot) fs) ≡ map (moved_entry pivot) (entries_held fs)
+entries_moved pivot [] = refl
+entries_moved pivot (f ∷ fs) = ap (λ (l : List Entry). moved_entry pivot f.entry ∷ l) (entries_moved pivot fs)
+
+-- the entries of the edited files are those that are left
+pub edited_are : (fs : List HeldFile) (e : FileEdit) (x : Edit) (entries : List Entry) → DoesTo fs e x → Leaves fs e entries → entries_held x.files ≡ entries
+edited_are fs e x entries (edits.drops place f is) had = map-removed (λ (g : HeldFile). g.entry) fs place f f.entry (slice_get_within fs place f is) ∙ sym (had f.entry (entry_at fs place f is))
+edited_are fs e x entries (edits.renames place f to number is) had = map-set (λ (g : HeldFile). g.entry) fs place (renamed to number f) ∙ sym (had f.entry (entry_at fs place f is))
+edited_are fs e x entries (edits.moves pivot) had = entries_moved pivot fs ∙ sym had
 
 -- they are as many
-pub count_is : (fs : List HeldFile) (e : FileEdit) (f : HeldFile) → length (edit_of fs e f).files ≡ count_after fs e
-count_is fs (does.Drop place) f = length-removed fs place f
-count_is fs (does.Rename place to number) f = length-set fs place (renamed to number f)
+pub count_is : (fs : List HeldFile) (e : FileEdit) (x : Edit) → DoesTo fs e x → length x.files ≡ count_after fs e
+count_is fs e x (edits.drops place f is) = length-removed fs place f
+count_is fs e x (edits.renames place f to number is) = length-set fs place (renamed to number f)
+count_is fs e x (edits.moves pivot) = length-map fs (moved_file pivot)
 
 pub entries_count : (fs : List HeldFile) → length (entries_held fs) ≡ length fs
 entries_count fs = length-map fs (λ (g : HeldFile). g.entry)
@@ -105,11 +136,11 @@ kept_at : (P : HeldFile → Type 0) (fs : List HeldFile) (k : ℕ) (f : HeldFile
 kept_at P fs k f is all = subst P (get_or_from_slice_get fs k f f is) (All-get_or P fs k f (slice_get_within fs k f is) all)
 
 -- the files after an edit are kept
-pub edited_kept : (bsize total : ℕ) (fs : List HeldFile) (e : FileEdit) (f : HeldFile) → slice_get fs (place_of e) ≡ Some f → MayEdit fs e → All (IsKeptFile bsize total) fs
-    → All (IsKeptFile bsize total) (edit_of fs e f).files
-edited_kept bsize total fs (does.Drop place) f is may all = All-removed (IsKeptFile bsize total) fs place f may all
-edited_kept bsize total fs (does.Rename place to number) f is may all =
+pub edited_kept : (bsize total : ℕ) (fs : List HeldFile) (e : FileEdit) (x : Edit) → DoesTo fs e x → MayEdit fs e → All (IsKeptFile bsize total) fs → All (IsKeptFile bsize total) x.files
+edited_kept bsize total fs e x (edits.drops place f is) may all = All-removed (IsKeptFile bsize total) fs place f may all
+edited_kept bsize total fs e x (edits.renames place f to number is) may all =
     All-set (IsKeptFile bsize total) fs place (renamed to number f) (kept_renamed bsize total f to number may.1 (kept_at (IsKeptFile bsize total) fs place f is all)) all
+edited_kept bsize total fs e x (edits.moves pivot) may all = kept_all_moved bsize total pivot fs may all
 
 -- ---- the edited entries
 
@@ -119,37 +150,37 @@ file_at [] k less = absurd (omega arith)
 file_at (f ∷ fs) zero less = (f, refl)
 file_at (f ∷ fs) (suc k) less = file_at fs k (omega arith)
 
--- and its entry
-pub entry_at : (fs : List HeldFile) (k : ℕ) (f : HeldFile) → slice_get fs k ≡ Some f → slice_get (entries_held fs) k ≡ Some f.entry
-entry_at fs k f is = slice_get-map (λ (g : HeldFile). g.entry) fs k ∙ ap (option_map (λ (g : HeldFile). g.entry)) is
+-- an edit does one thing to the files
+pub some_edit : (fs : List HeldFile) (e : FileEdit) → MayEdit fs e → (x : Edit) × DoesTo fs e x
+some_edit fs (does.Drop place) may = let at = file_at fs place may in (dropping fs place at.0, edits.drops place at.0 at.1)
+some_edit fs (does.Rename place to number) may = let at = file_at fs place may.0 in (renaming fs place at.0 to number, edits.renames place at.0 to number at.1)
+some_edit fs (does.Century pivot) may = (moving fs pivot, edits.moves pivot)
 
--- an edit is of a file that is there
-pub may_within : (fs : List HeldFile) (e : FileEdit) → MayEdit fs e → place_of e < length fs
-may_within fs (does.Drop place) may = may
-may_within fs (does.Rename place to number) may = may.0
+pub one_edit : (fs : List HeldFile) (e : FileEdit) (x y : Edit) → DoesTo fs e x → DoesTo fs e y → x ≡ y
+one_edit fs e x y (edits.drops place f is) (edits.drops place' g at) = ap (dropping fs place) (same_Some f g (sym is ∙ at))
+one_edit fs e x y (edits.renames place f to number is) (edits.renames place' g to' number' at) = ap (λ (h : HeldFile). renaming fs place h to number) (same_Some f g (sym is ∙ at))
+one_edit fs e x y (edits.moves pivot) (edits.moves pivot') = refl
 
 count_few : (fs : List HeldFile) (e : FileEdit) → length fs ≤ 16384 → count_after fs e ≤ 16384
 count_few fs (does.Drop place) few = omega arith
 count_few fs (does.Rename place to number) few = few
+count_few fs (does.Century pivot) few = few
 
-pub edited_of : (v : HeldVolume) (e : FileEdit) (before entries : List Entry) → Keeps v → MayEdit v.files e → before ≡ entries_held v.files
-    → ((x : Entry) → slice_get before (place_of e) ≡ Some x → entries ≡ edited before e x) → Edited v e entries
-edited_of v e before entries kept may had edits =
-    let at = file_at v.files (place_of e) (may_within v.files e may) in
-    let f = at.0 in
-    let there = entry_at v.files (place_of e) f at.1 in
-    let new : entries ≡ edited (entries_held v.files) e f.entry = subst (λ (l : List Entry). (x : Entry) → slice_get l (place_of e) ≡ Some x → entries ≡ edited l e x) had edits f.entry there in
-    let are : entries_held (edit_of v.files e f).files ≡ entries = edited_are v.files e f at.1 ∙ sym new in
-    let count : length entries ≡ count_after v.files e = ap length (sym are) ∙ (entries_count (edit_of v.files e f).files ∙ count_is v.files e f) in
+pub edited_of : (v : HeldVolume) (e : FileEdit) (entries : List Entry) → Keeps v → MayEdit v.files e → Leaves v.files e entries → Edited v e entries
+edited_of v e entries kept may had =
+    let at = some_edit v.files e may in
+    let x = at.0 in
+    let are : entries_held x.files ≡ entries = edited_are v.files e x entries at.1 had in
+    let count : length entries ≡ count_after v.files e = ap length (sym are) ∙ (entries_count x.files ∙ count_is v.files e x at.1) in
     let few = count_few v.files e kept.few in
     record {
-      file = f;
-      there = at.1;
+      edit = x;
+      done = at.1;
       are = are;
       count = count;
       few = omega arith;
       each = subst (All CanWrite) are
-          (can_write_all v.disk.bsize v.label.blocks (edit_of v.files e f).files (edited_kept v.disk.bsize v.label.blocks v.files e f at.1 may kept.each));
+          (can_write_all v.disk.bsize v.label.blocks x.files (edited_kept v.disk.bsize v.label.blocks v.files e x at.1 may kept.each));
     }
 
 -- ---- the volume after an edit
@@ -201,18 +232,18 @@ ready_keeps v edit ready stamp s r long most same each =
       each = subst (λ (n : ℕ). All (IsKeptFile v.disk.bsize n) edit.files) (sym blocks) each;
     }
 
-pub renewed_keeps : (v : HeldVolume) (e : FileEdit) (f : HeldFile) (stamp : Stamp) (s : Systems) → MayEdit v.files e → slice_get v.files (place_of e) ≡ Some f
-    → IsReadyFor v (edit_of v.files e f) stamp s → length s.label_bytes ≡ v.disk.bsize → Keeps (renewed v (edit_of v.files e f) s)
-renewed_keeps v e f stamp s may there r long =
-    let count = count_is v.files e f in
+pub renewed_keeps : (v : HeldVolume) (e : FileEdit) (x : Edit) (stamp : Stamp) (s : Systems) → MayEdit v.files e → DoesTo v.files e x → IsReadyFor v x stamp s → length s.label_bytes ≡ v.disk.bsize
+    → Keeps (renewed v x s)
+renewed_keeps v e x stamp s may done r long =
+    let count = count_is v.files e x done in
     let few = count_few v.files e r.kept.few in
-    ready_keeps v (edit_of v.files e f) (edit_of v.files e f) stamp s r long (omega arith) refl (edited_kept v.disk.bsize v.label.blocks v.files e f there may r.kept.each)
+    ready_keeps v x x stamp s r long (omega arith) refl (edited_kept v.disk.bsize v.label.blocks v.files e x done may r.kept.each)
 
 -- ---- what is prepared
 
 -- what is prepared for the entries of an edit is ready
 pub ready_for : (v : HeldVolume) (edit : Edit) (entries : List Entry) (x : Exchange) (stamp : Stamp) (s : Systems) → Keeps v → is_stamp stamp ≡ true → IsPrepared v entries x stamp s
-    → entries_held edit.files ≡ entries → edit.made ≡ x.made.now → edit.given ≡ given_back x → edit.taken ≡ [] → IsReadyFor v edit stamp s
+    → entries_held edit.files ≡ entries → edit.made ≡ numbers_made x → edit.given ≡ given_back x → edit.taken ≡ [] → IsReadyFor v edit stamp s
 ready_for v edit entries x stamp s kept stamped p are made gives takes =
     record { kept = kept; stamped = stamped; planned = p.planned edit are made gives takes; back = subst (All ReadsBack) (sym are) p.back }
 
@@ -226,37 +257,47 @@ prepared_of v x a entries stamp s allotted filled count none enough room = recor
       (record { entries_are = are; files = count; made = made; given = gives; taken = takes ∙ sym (nil_from_length a.file.items (allotted.file ∙ none)) }) enough room;
 }
 
-none_taken : (fs : List HeldFile) (e : FileEdit) (f : HeldFile) → (edit_of fs e f).taken ≡ []
-none_taken fs (does.Drop place) f = refl
-none_taken fs (does.Rename place to number) f = refl
+none_taken : (fs : List HeldFile) (e : FileEdit) (x : Edit) → DoesTo fs e x → x.taken ≡ []
+none_taken fs e x (edits.drops place f is) = refl
+none_taken fs e x (edits.renames place f to number is) = refl
+none_taken fs e x (edits.moves pivot) = refl
 
 -- the entries that it makes anew
-pub made_is : (fs : List HeldFile) (e : FileEdit) (f : HeldFile) → (edit_of fs e f).made ≡ made_by fs e
-made_is fs (does.Drop place) f = refl
-made_is fs (does.Rename place to number) f = refl
+pub made_is : (fs : List HeldFile) (e : FileEdit) (x : Edit) → DoesTo fs e x → x.made ≡ made_by fs e
+made_is fs e x (edits.drops place f is) = refl
+made_is fs e x (edits.renames place f to number is) = refl
+made_is fs e x (edits.moves pivot) = refl
 
 -- what a drop gives back, and a renaming
-pub given_drop : (v : HeldVolume) (e : FileEdit) (place : ℕ) (f file : HeldFile) → e ≡ does.Drop place → slice_get v.files place ≡ Some f → slice_get v.files (place_of e) ≡ Some file
-    → (leaves pointers : List ℕ) → leaves ≡ f.tree.leaves → pointers ≡ f.tree.pointers → (edit_of v.files e file).given ≡ leaves ++ pointers
-given_drop v e place f file is at there leaves pointers own above =
-    let same : file ≡ f = same_Some file f (sym there ∙ (ap (λ (x : FileEdit). slice_get v.files (place_of x)) is ∙ at)) in
-    ap (λ (x : FileEdit). (edit_of v.files x file).given) is
-    ∙ (ap (λ (x : HeldFile). blocks_in x.tree) same ∙ (ap (λ (l : List ℕ). l ++ f.tree.pointers) (sym own) ∙ ap (λ (l : List ℕ). leaves ++ l) (sym above)))
+pub given_drop : (v : HeldVolume) (e : FileEdit) (place : ℕ) (x : Edit) (y : Exchange) → e ≡ does.Drop place → DoesTo v.files e x
+    → ((f : HeldFile) → slice_get v.files place ≡ Some f → given_back y ≡ blocks_in f.tree) → x.given ≡ given_back y
+given_drop v e place x y is (edits.drops k f at) gives =
+    let same : k ≡ place = cc is in
+    sym (gives f (subst (λ (n : ℕ). slice_get v.files n ≡ Some f) same at))
+given_drop v e place x y is (edits.renames k f to number at) gives = absurd (cc is)
+given_drop v e place x y is (edits.moves pivot) gives = absurd (cc is)
 
-pub given_rename : (v : HeldVolume) (e : FileEdit) (place : ℕ) (to : Name) (number : ℕ) (file : HeldFile) → e ≡ does.Rename place to number → (edit_of v.files e file).given ≡ []
-given_rename v e place to number file is = ap (λ (x : FileEdit). (edit_of v.files x file).given) is
+pub given_rename : (v : HeldVolume) (e : FileEdit) (place : ℕ) (to : Name) (number : ℕ) (x : Edit) → e ≡ does.Rename place to number → DoesTo v.files e x → x.given ≡ []
+given_rename v e place to number x is (edits.drops k f at) = absurd (cc is)
+given_rename v e place to number x is (edits.renames k f to' number' at) = refl
+given_rename v e place to number x is (edits.moves pivot) = absurd (cc is)
+
+pub given_century : (v : HeldVolume) (e : FileEdit) (pivot : ℕ) (x : Edit) → e ≡ does.Century pivot → DoesTo v.files e x → x.given ≡ []
+given_century v e pivot x is (edits.drops k f at) = absurd (cc is)
+given_century v e pivot x is (edits.renames k f to number at) = absurd (cc is)
+given_century v e pivot x is (edits.moves pivot') = refl
 
 -- what is prepared for the edited entries is ready
 pub ready_at : (v : HeldVolume) (e : FileEdit) (stamp : Stamp) (s : Systems) (entries : List Entry) (x : Exchange) → Keeps v → is_stamp stamp ≡ true → (y : Edited v e entries)
-    → made_by v.files e ≡ x.made.now → (edit_of v.files e y.file).given ≡ given_back x → IsPrepared v entries x stamp s → IsReadyAt v e stamp s
+    → made_by v.files e ≡ numbers_made x → y.edit.given ≡ given_back x → IsPrepared v entries x stamp s → IsReadyAt v e stamp s
 ready_at v e stamp s entries x kept stamped y made gives p = (
   p.label_long,
-  λ f there. subst (λ (g : HeldFile). IsReadyFor v (edit_of v.files e g) stamp s) (same_Some y.file f (sym y.there ∙ there))
-      (ready_for v (edit_of v.files e y.file) entries x stamp s kept stamped p y.are (made_is v.files e y.file ∙ made) gives (none_taken v.files e y.file)),
+  λ z done. subst (λ (w : Edit). IsReadyFor v w stamp s) (one_edit v.files e y.edit z y.done done)
+      (ready_for v y.edit entries x stamp s kept stamped p y.are (made_is v.files e y.edit y.done ∙ made) gives (none_taken v.files e y.edit y.done)),
 )
 
 pub ready_ok : {E : Type 0} (v : HeldVolume) (e : FileEdit) (stamp : Stamp) (entries : List Entry) (r : Result Systems E) (x : Exchange) → Keeps v → is_stamp stamp ≡ true → (y : Edited v e entries)
-    → IfOk r (IsPrepared v entries x stamp) → made_by v.files e ≡ x.made.now → (edit_of v.files e y.file).given ≡ given_back x → IfOk r (IsReadyAt v e stamp)
+    → IfOk r (IsPrepared v entries x stamp) → made_by v.files e ≡ numbers_made x → y.edit.given ≡ given_back x → IfOk r (IsReadyAt v e stamp)
 ready_ok v e stamp entries (Ok s) x kept stamped y p made gives = ready_at v e stamp s entries x kept stamped y made gives p
 ready_ok v e stamp entries (Err why) x kept stamped y p made gives = tt
 
@@ -304,7 +345,7 @@ directory_may v x a entries kept al files enough =
     let bsize = v.disk.bsize in
     let old_is : length v.directory.leaves ≡ directory_count bsize (length (entries_held v.files)) = kept.directory_is ∙ ap (directory_count bsize) (sym (entries_count v.files)) in
     let new_is : length a.directory.leaves ≡ directory_count bsize (length entries) = al.directory_is ∙ ap (directory_count bsize) files in
-    let written : a.directory_part.leaves ≡ blocks_made bsize (length entries) x.made.now = al.written ∙ ap (λ (n : ℕ). blocks_made bsize n x.made.now) files in
+    let written : a.directory_part.leaves ≡ blocks_made bsize (length entries) (numbers_made x) = al.written ∙ ap (λ (n : ℕ). blocks_made bsize n (numbers_made x)) files in
     subst (λ (n : ℕ). MayBeWritten n (length a.directory.leaves) a.directory_part.leaves) (sym old_is)
     (subst (λ (n : ℕ). MayBeWritten (directory_count bsize (length (entries_held v.files))) n a.directory_part.leaves) (sym new_is)
     (subst (MayBeWritten (directory_count bsize (length (entries_held v.files))) (directory_count bsize (length entries))) (sym written) enough.may))
@@ -331,7 +372,7 @@ is_ready v x a entries s f =
     let of_map = fresh_of fan a.map_part.leaves v.map a.map_tree in
     let of_directory = fresh_of fan a.directory_part.leaves v.directory a.directory in
     let behind : All P (drop 1 of_directory) = right_of P a.file.items (drop 1 of_directory) (left_of P (own_fresh v a) of_map own) in
-    let written : a.directory_part.leaves ≡ blocks_made bsize (length entries) x.made.now = al.written ∙ ap (λ (n : ℕ). blocks_made bsize n x.made.now) f.files in
+    let written : a.directory_part.leaves ≡ blocks_made bsize (length entries) (numbers_made x) = al.written ∙ ap (λ (n : ℕ). blocks_made bsize n (numbers_made x)) f.files in
     let zero' : In 0 a.directory_part.leaves = subst (In 0) (sym written) f.enough.first in
     let first : P (9 - v.label.origin) = (omega arith, omega arith) in
     let directory_fresh : All P of_directory = subst (All P) (sym (fresh_first fan (9 - v.label.origin) a.directory_part.leaves v.directory a.directory al.origin zero'))
@@ -421,10 +462,10 @@ drop_for v name k stamp s is ready =
     let n = named_at v.files name k is in
     record {
       may = n.within;
-      file = n.file;
-      there = n.there;
+      edit = dropping v.files k n.file;
+      done = edits.drops k n.file n.there;
       is = subst (λ (x : Name). IsEditOf v (dropping v.files k n.file) (Drop x)) n.named (drops k n.file n.there);
-      ready = ready.1 n.file n.there;
+      ready = ready.1 (dropping v.files k n.file) (edits.drops k n.file n.there);
       label_long = ready.0;
     }
 
@@ -440,12 +481,23 @@ rename_for v from to number k stamp s is small free ready =
     let own : (place_in to v.files ≡ None) ⊎ (to ≡ n.file.entry.name) = ⊎_elim (λ none. inl none) (λ same. inr (same ∙ sym n.named)) free in
     record {
       may = may_rename v.files from to number k is small free;
-      file = n.file;
-      there = n.there;
+      edit = renaming v.files k n.file to number;
+      done = edits.renames k n.file to number n.there;
       is = subst (λ (x : Name). IsEditOf v (renaming v.files k n.file to number) (Rename x to number)) n.named (renames k n.file to number n.there small own);
-      ready = ready.1 n.file n.there;
+      ready = ready.1 (renaming v.files k n.file to number) (edits.renames k n.file to number n.there);
       label_long = ready.0;
     }
+
+-- the stamps of all
+pub century_for : (v : HeldVolume) (pivot : ℕ) (stamp : Stamp) (s : Systems) → pivot ≤ 100 → IsReadyAt v (does.Century pivot) stamp s → IsEditFor v (Century pivot) stamp (does.Century pivot) s
+century_for v pivot stamp s small ready = record {
+  may = small;
+  edit = moving v.files pivot;
+  done = edits.moves pivot;
+  is = moves pivot small;
+  ready = ready.1 (moving v.files pivot) (edits.moves pivot);
+  label_long = ready.0;
+}
 
 -- a step for a change
 pub step_for : (v : HeldVolume) (change : Change) (e : FileEdit) (stamp : Stamp) (step : Step) → ((s : Systems) → IsReadyAt v e stamp s → IsEditFor v change stamp e s) → IsStepOf v e stamp step

@@ -1,7 +1,7 @@
 -- The blocks that are allotted for an update of the files.
 use Rattle.std.specs.Prelude.{◌≡◌, ℕ, ◌+◌, ◌-◌, ◌/◌, ◌≤◌, List, ◌∷◌, ◌++◌, length, take, drop}
 use Rattle.cms_fields.specs.Numbers.{up}
-use Rattle.cms_model.specs.DirectoryParts.{blocks_made, directory_count}
+use Rattle.cms_model.specs.DirectoryParts.{all_entries, blocks_made, directory_count}
 use Rattle.cms_model.specs.Sizes.{map_size}
 use Rattle.cms_map.specs.Bits.{free_blocks, with_marked}
 use Rattle.cms_map.specs.Touched.{AreTouched}
@@ -13,14 +13,24 @@ use Rattle.cms_held.specs.SharedBlocks.{fresh_of, released_of}
 use Rattle.cms_held.specs.Systems.{TreePart}
 use Rattle.cms_edf.specs.declared.allotment.Allotment.{Allotment}
 use Rattle.cms_edf.specs.declared.allotment.Exchange.{Exchange}
+use Rattle.cms_edf.specs.declared.allotment.Made.{Made}
+use Rattle.cms_edf.specs.declared.allotment.Made.TheVariants.{Entries, Whole}
 
 -- the blocks of a file that are given back
 abbrev pub given_back : Exchange → List ℕ
 given_back x = x.leaves.now ++ x.pointers.now
 
+-- the numbers of the entries that are made anew, in a directory of so many files
+abbrev pub numbers_in : ℕ → Made → List ℕ
+numbers_in files (Entries numbers) = numbers.now
+numbers_in files Whole = all_entries files
+
+abbrev pub numbers_made : Exchange → List ℕ
+numbers_made x = numbers_in x.files x.made
+
 -- the free blocks that it needs
 abbrev pub need_of : HeldVolume → Exchange → ℕ
-need_of v x = x.file + needed v x.files x.made.now
+need_of v x = x.file + needed v x.files (numbers_made x)
 
 -- ---- what is allotted
 
@@ -42,7 +52,7 @@ all_released v x a = own_released v x a ++ released_of (v.disk.bsize / 4) a.map_
 -- the blocks are allotted for what an update does to the files: so many for a file, and what the directory and the map don't keep
 pub record IsAllottedFor (v : HeldVolume) (x : Exchange) (a : Allotment) : Type 0 where
   pub file : length a.file.items ≡ x.file
-  pub written : a.directory_part.leaves ≡ blocks_made v.disk.bsize x.files x.made.now
+  pub written : a.directory_part.leaves ≡ blocks_made v.disk.bsize x.files (numbers_made x)
   pub origin : a.directory.leaves ≡ (9 - v.label.origin) ∷ drop 1 a.directory.leaves
   pub directory_is : length a.directory.leaves ≡ directory_count v.disk.bsize x.files
   pub map_is : length a.map_tree.leaves ≡ up (up v.label.blocks 8) v.disk.bsize

@@ -1,5 +1,5 @@
 -- A change of a volume as it is held, once it is planned: its events, and what it comes to.
-use Rattle.std.specs.Prelude.{◌≡◌, ◌+◌, ◌≤◌, ℕ, List, [], slice_get, Some, Result, Ok, Err, ⊤}
+use Rattle.std.specs.Prelude.{◌≡◌, ◌+◌, ◌≤◌, ℕ, List, [], Result, Ok, Err, ⊤}
 use Rattle.std.specs.Option.{ForSome}
 use Rattle.cms_journal.specs.declared.event.Event.{Event}
 use Rattle.cms_journal.specs.declared.event.Event.TheVariants.{Wrote}
@@ -11,12 +11,12 @@ use Rattle.cms_model.specs.Changes.{Change, Changed, answer_of, changed, need}
 use Rattle.cms_model.specs.Minidisks.{Minidisk, Volume}
 use Rattle.cms_model.specs.Settled.{update}
 use Rattle.cms_model.specs.LawsUpdates.{HasEither, IsFront, after, relabel, to_label}
-use Rattle.cms_held.specs.Opening.{HeldFile, HeldVolume}
+use Rattle.cms_held.specs.Opening.{HeldVolume}
 use Rattle.cms_held.specs.Carrying.{IsHeldMinidisk, written_count}
 use Rattle.cms_edf.specs.Doubts.{IsCutOff}
 use Rattle.cms_held.specs.LawsRenewing.{writes_of}
-use Rattle.cms_edf.specs.Planning.{IsPlanFor, edit_of, place_of}
-use Rattle.cms_held.specs.Renewing.{renewed}
+use Rattle.cms_edf.specs.Planning.{DoesTo, IsPlanFor}
+use Rattle.cms_held.specs.Renewing.{Edit, renewed}
 use Rattle.cms_edf.specs.declared.doubt.Doubt.{Doubt}
 use Rattle.cms_edf.specs.declared.doubt.Doubt.TheVariants.{Old, Either}
 use Rattle.cms_edf.specs.declared.step.Step.{Step}
@@ -49,7 +49,7 @@ with_label_bytes v label bytes = record v { label = label; label_bytes = bytes }
 
 -- the volume after it
 abbrev pub LeadsTo : HeldVolume → Step → HeldVolume → Type 0
-LeadsTo v (step.Edit e s) w = (f : HeldFile) → slice_get v.files (place_of e) ≡ Some f → w ≡ renewed v (edit_of v.files e f) s
+LeadsTo v (step.Edit e s) w = (x : Edit) → DoesTo v.files e x → w ≡ renewed v x s
 LeadsTo v (step.Relabel label bytes) w = w ≡ with_label_bytes v label bytes.items
 
 -- the change is made; up to the write of its label the old minidisk is held as before, at every moment each crash image is the old minidisk

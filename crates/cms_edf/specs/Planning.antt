@@ -1,5 +1,5 @@
 -- A change of a volume as it is held: what is asked for, and its plan.
-use Rattle.std.specs.Prelude.{◌≡◌, ◌⊎◌, ℕ, ◌-◌, ◌^◌, ◌<◌, ◌≤◌, List, [], length, map, position, slice_get, slice_set, swap_remove, All, Option, None, Some, IsSome, ⊤}
+use Rattle.std.specs.Prelude.{◌≡◌, ◌⊎◌, ℕ, ◌-◌, ◌^◌, ◌<◌, ◌≤◌, List, [], length, map, position, slice_get, All, Option, None, Some, IsSome, ⊤}
 use Rattle.std.specs.List.{concat}
 use Rattle.cms_names.specs.declared.name.Name.{Name}
 use Rattle.cms_fields.specs.declared.entry.Entry.{Entry}
@@ -12,11 +12,11 @@ use Rattle.cms_model.specs.Changes.{Change}
 use Rattle.cms_model.specs.Changes as model
 use Rattle.cms_held.specs.Kept.{Keeps}
 use Rattle.cms_held.specs.Opening.{HeldFile, HeldVolume, names_in}
-use Rattle.cms_model.specs.DirectoryParts.{blocks_made}
+use Rattle.cms_model.specs.DirectoryParts.{all_entries, blocks_made}
 use Rattle.cms_held.specs.Allotting.{IsPlanned}
 use Rattle.cms_held.specs.EntryPlaces.{IsEnoughFor}
-use Rattle.cms_held.specs.Renewing.{Edit, dropping, entries_held, label_for, made_at, made_without, needed, renaming}
-use Rattle.cms_edf.specs.Allotting.{given_back}
+use Rattle.cms_held.specs.Renewing.{Edit, dropping, entries_held, label_for, made_at, made_without, moving, needed, renaming}
+use Rattle.cms_edf.specs.Allotting.{given_back, numbers_made}
 use Rattle.cms_edf.specs.declared.allotment.Allotment.{Allotment}
 use Rattle.cms_edf.specs.declared.allotment.Exchange.{Exchange}
 use Rattle.cms_edf.specs.Lacking.{LacksRoom}
@@ -40,59 +40,56 @@ abbrev pub change_of : asked.Change → Change
 change_of (ask.Drop name) = model.Drop name.now
 change_of (ask.Rename from to number) = model.Rename from.now to.now number
 change_of (ask.Relabel volid) = model.Relabel volid
+change_of (ask.Century pivot) = model.Century pivot
 
 -- the place of the file of a name
 abbrev pub place_in : Name → List HeldFile → Option ℕ
 place_in name files = position (same_name name) (names_in files)
 
--- the file that is to be changed is there, and its new name is no other file's
+-- a file that is to be changed is there, and its new name is no other file's; a pivot is at most 100
 abbrev pub CanChange : List HeldFile → asked.Change → Type 0
 CanChange files (ask.Drop name) = IsSome (place_in name.now files)
 CanChange files (ask.Rename from to number) = IsSome (place_in from.now files) × (number ≤ 6)
     × ((place_in to.now files ≡ None) ⊎ (to.now ≡ from.now))
 CanChange files (ask.Relabel volid) = ⊤
+CanChange files (ask.Century pivot) = pivot ≤ 100
 
--- ---- the edit of files, by their places
+-- ---- the edit of files, of one by its place or of all
 
--- the place of the file that is edited
-abbrev pub place_of : FileEdit → ℕ
-place_of (does.Drop place) = place
-place_of (does.Rename place to number) = place
-
--- what it does, where f is the file at its place
-abbrev pub edit_of : List HeldFile → FileEdit → HeldFile → Edit
-edit_of files (does.Drop place) f = dropping files place f
-edit_of files (does.Rename place to number) f = renaming files place f to number
-
--- and to the entries of the files, where e is that at its place
-abbrev pub edited : List Entry → FileEdit → Entry → List Entry
-edited entries (does.Drop place) e = swap_remove entries place e
-edited entries (does.Rename place to number) e = slice_set entries place (record e { name = to; number = number })
+-- what it does to the files
+pub data DoesTo (files : List HeldFile) : FileEdit → Edit → Type 0 where
+  drops : (place : ℕ) (f : HeldFile) → slice_get files place ≡ Some f → DoesTo files (does.Drop place) (dropping files place f)
+  renames : (place : ℕ) (f : HeldFile) (to : Name) (number : ℕ) → slice_get files place ≡ Some f
+      → DoesTo files (does.Rename place to number) (renaming files place f to number)
+  moves : (pivot : ℕ) → DoesTo files (does.Century pivot) (moving files pivot)
 
 -- a new name is no other file's
 abbrev pub IsFree : List HeldFile → ℕ → Name → Type 0
 IsFree files place to = (place_in to files ≡ None) ⊎ ((f : HeldFile) → slice_get files place ≡ Some f → to ≡ f.entry.name)
 
--- its place is that of a file, its mode number is one, and its new name is free
+-- its place is that of a file, its mode number is one, and its new name is free; its pivot is at most 100
 abbrev pub MayEdit : List HeldFile → FileEdit → Type 0
 MayEdit files (does.Drop place) = place < length files
 MayEdit files (does.Rename place to number) = (place < length files) × (number ≤ 6) × IsFree files place to
+MayEdit files (does.Century pivot) = pivot ≤ 100
 
 -- the numbers of the directory's entries that it makes anew
 abbrev pub made_by : List HeldFile → FileEdit → List ℕ
 made_by files (does.Drop place) = made_without place (length files)
 made_by files (does.Rename place to number) = made_at place
+made_by files (does.Century pivot) = all_entries (length files)
 
 -- how many files it leaves
 abbrev pub count_after : List HeldFile → FileEdit → ℕ
 count_after files (does.Drop place) = length files - 1
 count_after files (does.Rename place to number) = length files
+count_after files (does.Century pivot) = length files
 
 -- these are the entries after an edit of the files that are held
 pub record Edited (v : HeldVolume) (e : FileEdit) (entries : List Entry) : Type 0 where
-  pub file : HeldFile
-  pub there : slice_get v.files (place_of e) ≡ Some file
-  pub are : entries_held (edit_of v.files e file).files ≡ entries
+  pub edit : Edit
+  pub done : DoesTo v.files e edit
+  pub are : entries_held edit.files ≡ entries
   pub count : length entries ≡ count_after v.files e
   pub few : length entries ≤ most_files
   pub each : All CanWrite entries
@@ -120,19 +117,19 @@ pub record IsFilled (v : HeldVolume) (entries : List Entry) (a : Allotment) (sta
 -- these data blocks of the directory are enough for files with these entries
 abbrev pub AreEnoughFor : HeldVolume → List Entry → Exchange → Type 0
 AreEnoughFor v entries x = IsEnoughFor v.disk.bsize (entries_held v.files) entries
-    (blocks_made v.disk.bsize (length entries) x.made.now)
+    (blocks_made v.disk.bsize (length entries) (numbers_made x))
 
 -- what is written for an edit after which the files have these entries, and which takes no blocks for a file
 pub record IsPrepared (v : HeldVolume) (entries : List Entry) (x : Exchange) (stamp : Stamp) (s : Systems) : Type 0 where
   pub label_long : length s.label_bytes ≡ v.disk.bsize
   pub back : All ReadsBack entries
-  pub planned : (edit : Edit) → entries_held edit.files ≡ entries → edit.made ≡ x.made.now → edit.given ≡ given_back x
+  pub planned : (edit : Edit) → entries_held edit.files ≡ entries → edit.made ≡ numbers_made x → edit.given ≡ given_back x
       → edit.taken ≡ [] → IsPlanned v edit stamp s
 
 -- what is written for an edit
 abbrev pub IsReadyAt : HeldVolume → FileEdit → Stamp → Systems → Type 0
 IsReadyAt v e stamp s = (length s.label_bytes ≡ v.disk.bsize)
-    × ((f : HeldFile) → slice_get v.files (place_of e) ≡ Some f → IsReadyFor v (edit_of v.files e f) stamp s)
+    × ((x : Edit) → DoesTo v.files e x → IsReadyFor v x stamp s)
 
 -- a step that does this edit
 abbrev pub IsStepOf : HeldVolume → FileEdit → Stamp → Step → Type 0
@@ -156,10 +153,10 @@ IsRelabelOf v volid (step.Relabel label bytes) = IsReadyLabel v volid label byte
 -- the edit is that of the change, and what it writes is ready
 pub record IsEditFor (v : HeldVolume) (change : Change) (stamp : Stamp) (e : FileEdit) (s : Systems) : Type 0 where
   pub may : MayEdit v.files e
-  pub file : HeldFile
-  pub there : slice_get v.files (place_of e) ≡ Some file
-  pub is : IsEditOf v (edit_of v.files e file) change
-  pub ready : IsReadyFor v (edit_of v.files e file) stamp s
+  pub edit : Edit
+  pub done : DoesTo v.files e edit
+  pub is : IsEditOf v edit change
+  pub ready : IsReadyFor v edit stamp s
   pub label_long : length s.label_bytes ≡ v.disk.bsize
 
 -- a step is planned for a change
@@ -175,3 +172,4 @@ IsFullFor v (ask.Drop name) why = (place : ℕ) → place_in name.now v.files �
 IsFullFor v (ask.Rename from to number) why = (place : ℕ) → place_in from.now v.files ≡ Some place
     → LacksRoom v (needed v (length v.files) (made_at place)) why
 IsFullFor v (ask.Relabel volid) why = why ≡ failed.Memory
+IsFullFor v (ask.Century pivot) why = LacksRoom v (needed v (length v.files) (all_entries (length v.files))) why

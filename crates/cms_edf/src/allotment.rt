@@ -1,6 +1,7 @@
 // The blocks that an update takes and gives back.
 ghost use Rattle.std.specs.Prelude.{◌≡◌, ◌≤◌, ◌<◌, ◌+◌, ◌-◌, ◌/◌, ◌*◌, ◌^◌, ◌∷◌, ◌++◌, length, take, drop, nat_le, ◌==◌, ◌&&◌, IfOk, IfErr, OnOk};
 ghost use Rattle.std.specs.List.{list_any};
+ghost use Rattle.cms_journal.specs.Journal.{IsBlockSize};
 ghost use Rattle.cms_fields.specs.Numbers.{up};
 ghost use Rattle.cms_fields.specs.Limits.{most_files};
 ghost use Rattle.cms_model.specs.DirectoryParts.{blocks_made, directory_count};
@@ -13,13 +14,13 @@ ghost use Rattle.cms_tree.specs.Paths.{fresh_places};
 ghost use Rattle.cms_held.specs.Allotting.{KeepsTree, on_map};
 ghost use Rattle.cms_held.specs.MapShares.{turned};
 ghost use Rattle.cms_held.specs.Renewing.{with_freed};
-ghost use Rattle.cms_edf.specs.Allotting.{IsAllottedFor, MapIsShared, SharesDirectory, given_back, need_of};
+ghost use Rattle.cms_edf.specs.Allotting.{IsAllottedFor, MapIsShared, SharesDirectory, given_back, need_of, numbers_in, numbers_made};
 ghost use Rattle.cms_edf.specs.Lacking.{LacksRoom};
 ghost use Rattle.cms_edf.specs.declared.allotment.PlanFault.TheVariants.{Memory};
 
 use crate::held::{Held, TreeBlocks};
 use crate::system::ENTRY_SIZE;
-use crate::tree_part::{WrittenPlaces, left_blocks, shared_tree};
+use crate::tree_part::{WrittenPlaces, first_numbers, left_blocks, shared_tree};
 use cms_journal::BlockSize;
 use cms_map::Map;
 use cms_tree::shape;
@@ -50,13 +51,22 @@ impl From<AllocError> for PlanFault {
     }
 }
 
+/// The numbers of the directory's entries that an update makes anew.
+#[derive(Clone, Copy)]
+pub enum Made<'a> {
+    /// these, the directory's own among them
+    Entries(&'a [u32]),
+    /// all
+    Whole,
+}
+
 /// What an update does to the files, as far as its blocks go.
 #[derive(Clone, Copy)]
 pub struct Exchange<'a> {
     /// how many files there are then
     pub files: u32,
-    /// the numbers of the directory's entries that are made anew, its own among them
-    pub made: &'a [u32],
+    /// the directory's entries that are made anew
+    pub made: Made<'a>,
     /// how many blocks are taken for a file
     pub file: u32,
     /// the data blocks of a file that are given back
@@ -85,8 +95,17 @@ fn is_made(made: &[u32], each: u32, block: u32) -> bool
     made.iter().any(|number| block == *number / each)
 }
 
+// How many data blocks a directory of so many files has.
+fn directory_count(bsize: BlockSize, files: u32) -> u32
+    requires { files ≤ most_files }
+    ensures count { result ≡ directory_count bsize files }
+    ensures size { IsBlockSize bsize }
+{
+    (ENTRY_SIZE * (files + 2)).div_ceil(bsize.bytes())
+}
+
 // The data blocks of a directory of so many files in which the entries of these numbers stand.
-fn blocks_made(
+fn blocks_with(
     alloc: Global,
     bsize: BlockSize,
     files: u32,
@@ -104,6 +123,22 @@ fn blocks_made(
         }
     }
     Ok(blocks)
+}
+
+// The data blocks of a directory of so many files in which the entries stand that are made anew.
+fn blocks_made(
+    alloc: Global,
+    bsize: BlockSize,
+    files: u32,
+    made: Made<'_>,
+) -> Result<Vec<u32>, AllocError>
+    requires { files ≤ most_files }
+    ensures { IfOk result (λ v. v.items ≡ blocks_made bsize files (numbers_in files made.entry)) }
+{
+    match made {
+        Made::Entries(numbers) => blocks_with(alloc, bsize, files, numbers),
+        Made::Whole => first_numbers(alloc, directory_count(bsize, files)),
+    }
 }
 
 // Whether a block lies from 6 to the last.
@@ -330,7 +365,7 @@ fn allot_all(
     need: u32,
 ) -> Result<Allotment, AllocError>
     requires few { exchange.now.files ≤ most_files }
-    requires written { places.leaves ≡ blocks_made held.now.volume.disk.bsize exchange.now.files exchange.now.made.now }
+    requires written { places.leaves ≡ blocks_made held.now.volume.disk.bsize exchange.now.files (numbers_made exchange.now) }
     requires nodes { places.nodes ≡ fresh_places (held.now.volume.disk.bsize / 4)
         (length held.now.volume.directory.leaves) (directory_count held.now.volume.disk.bsize exchange.now.files) places.leaves }
     requires first { In 0 places.leaves }
@@ -369,10 +404,10 @@ fn directory_places(
 ) -> Result<WrittenPlaces, AllocError>
     requires few { exchange.now.files ≤ most_files }
     ensures leaves { IfOk result (λ p. p.leaves
-        ≡ blocks_made held.now.volume.disk.bsize exchange.now.files exchange.now.made.now) }
+        ≡ blocks_made held.now.volume.disk.bsize exchange.now.files (numbers_made exchange.now)) }
     ensures nodes { IfOk result (λ p. p.nodes ≡ fresh_places (held.now.volume.disk.bsize / 4)
         (length held.now.volume.directory.leaves) (directory_count held.now.volume.disk.bsize exchange.now.files)
-        (blocks_made held.now.volume.disk.bsize exchange.now.files exchange.now.made.now)) }
+        (blocks_made held.now.volume.disk.bsize exchange.now.files (numbers_made exchange.now))) }
 {
     let bsize = held.bsize.bytes();
     let written = blocks_made(alloc, held.bsize, exchange.files, exchange.made)?;
@@ -395,10 +430,10 @@ fn map_blocks(held: &Held) -> u32
 pub fn allot(alloc: Global, held: &Held, exchange: &Exchange<'_>) -> Result<Allotment, PlanFault>
     requires few { exchange.now.files ≤ most_files }
     requires small { exchange.now.file < 2 ^ 31 }
-    requires first { In 0 (blocks_made held.now.volume.disk.bsize exchange.now.files exchange.now.made.now) }
+    requires first { In 0 (blocks_made held.now.volume.disk.bsize exchange.now.files (numbers_made exchange.now)) }
     requires may { MayBeWritten (directory_count held.now.volume.disk.bsize (length held.now.volume.files))
         (directory_count held.now.volume.disk.bsize exchange.now.files)
-        (blocks_made held.now.volume.disk.bsize exchange.now.files exchange.now.made.now) }
+        (blocks_made held.now.volume.disk.bsize exchange.now.files (numbers_made exchange.now)) }
     ensures allotted { IfOk result (IsAllottedFor held.now.volume exchange.now) }
     ensures map_few { IfOk result (λ a. length a.map_tree.leaves < 2 ^ 32) }
     ensures room { OnOk result (need_of held.now.volume exchange.now ≤ length (free_blocks held.now.volume.bits)) }

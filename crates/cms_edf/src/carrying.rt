@@ -13,8 +13,8 @@ ghost use Rattle.cms_edf.specs.Finishing.{CarriesOut, IsPlan, IsStopped, LeadsTo
 ghost use Rattle.cms_edf.specs.Doubts.{UpdatesSystems};
 ghost use Rattle.cms_held.specs.Kept.{Keeps};
 ghost use Rattle.cms_held.specs.Opening.{HeldFile};
-ghost use Rattle.cms_edf.specs.Planning.{IsPlanFor, MayEdit, edit_of, place_of};
-ghost use Rattle.cms_held.specs.Renewing.{renewed};
+ghost use Rattle.cms_edf.specs.Planning.{DoesTo, IsPlanFor, MayEdit};
+ghost use Rattle.cms_held.specs.Renewing.{Edit, renewed};
 ghost use Rattle.cms_edf.specs.declared.doubt.Doubt.TheVariants.{Either};
 ghost use Rattle.cms_world.specs.Seen.{OnUnits, seen};
 
@@ -31,10 +31,8 @@ impl Held {
     fn renew(&mut self, edit: &FileEdit, systems: SystemBlocks)
         requires may { MayEdit self.old.volume.files edit.now }
         requires room { 1 ≤ self.old.spare }
-        requires kept { (f : HeldFile) → slice_get self.old.volume.files (place_of edit.now) ≡ Some f
-            → Keeps (renewed self.old.volume (edit_of self.old.volume.files edit.now f) systems) }
-        ensures { (f : HeldFile) → slice_get self.old.volume.files (place_of edit.now) ≡ Some f
-            → self.new.volume ≡ renewed self.old.volume (edit_of self.old.volume.files edit.now f) systems }
+        requires kept { (x : Edit) → DoesTo self.old.volume.files edit.now x → Keeps (renewed self.old.volume x systems) }
+        ensures { (x : Edit) → DoesTo self.old.volume.files edit.now x → self.new.volume ≡ renewed self.old.volume x systems }
     {
         edit.edit_files(&mut self.files);
         self.label = systems.label;
@@ -55,14 +53,13 @@ impl Held {
     ) -> Result<(), Doubt>
         requires may { MayEdit self.old.volume.files edit.now }
         requires room { 1 ≤ self.old.spare }
-        requires kept { (f : HeldFile) → slice_get self.old.volume.files (place_of edit.now) ≡ Some f
-            → Keeps (renewed self.old.volume (edit_of self.old.volume.files edit.now f) systems) }
+        requires kept { (x : Edit) → DoesTo self.old.volume.files edit.now x → Keeps (renewed self.old.volume x systems) }
         requires blocks { ForSome (W.told world.old) (λ j. HasBlocks j.units self.old.volume.unit systems.label.blocks
             (length systems.label_bytes)) }
         requires writable { ForSome (W.told world.old) (λ j. IsWritable j.units self.old.volume.unit) }
         ensures updates { UpdatesSystems (W.told world.old) (W.told world.new) self.old.volume.unit systems result }
-        ensures volume { OnOk result ((f : HeldFile) → slice_get self.old.volume.files (place_of edit.now) ≡ Some f
-            → self.new.volume ≡ renewed self.old.volume (edit_of self.old.volume.files edit.now f) systems) }
+        ensures volume { OnOk result ((x : Edit) → DoesTo self.old.volume.files edit.now x
+            → self.new.volume ≡ renewed self.old.volume x systems) }
         ensures kept { OnErr result (self.new ≡ self.old) }
         ensures counts { OnUnits (seen W.World world.old) (seen W.World world.new) result }
     {

@@ -1,10 +1,11 @@
 // A change of a volume, and what it does to the files that are held.
 ghost use Rattle.std.specs.Prelude.{◌≡◌, ◌≤◌, ◌<◌, length, slice_get, Some};
 ghost use Rattle.indexmap.specs.IndexMap.{spare, values};
-ghost use Rattle.cms_held.specs.Opening.{HeldFile, by_name};
-ghost use Rattle.cms_edf.specs.Planning.{MayEdit, edit_of, place_of};
+ghost use Rattle.cms_held.specs.Opening.{by_name};
+ghost use Rattle.cms_held.specs.Renewing.{Edit};
+ghost use Rattle.cms_edf.specs.Planning.{DoesTo, MayEdit};
 
-use crate::editing::{drop_file, rename_file};
+use crate::editing::{drop_file, move_stamps, rename_file};
 use crate::held::FileHeld;
 use cms_names::Name;
 use indexmap::IndexMap;
@@ -26,38 +27,34 @@ pub enum Change<'c> {
     Relabel {
         volid: [u8; 6],
     },
+    /// the stamps of all files are moved: those of a year before that of the pivot in the 1900s are a century later
+    Century {
+        /// 0 to 100
+        pivot: u32,
+    },
 }
 
-/// What a change does to the files, by their places.
+/// What a change does to the files: to one by its place, or to all.
 #[derive(Clone, Copy)]
 pub enum FileEdit {
     Drop { place: u32 },
     Rename { place: u32, to: Name, number: u8 },
+    Century { pivot: u32 },
 }
 
 impl FileEdit {
-    /// The place of the file.
-    pub fn place(&self) -> u32
-        ensures { result ≡ place_of self.now }
-    {
-        match self {
-            FileEdit::Drop { place } => *place,
-            FileEdit::Rename { place, .. } => *place,
-        }
-    }
-
     /// Edits the files.
     pub fn edit_files(&self, files: &mut IndexMap<Name, FileHeld>)
         requires may { MayEdit (values files.old) self.now }
         requires named { files.old.entries ≡ by_name (values files.old) }
         requires room { 1 ≤ spare files.old }
-        ensures files { (f : HeldFile) → slice_get (values files.old) (place_of self.now) ≡ Some f
-            → values files.new ≡ (edit_of (values files.old) self.now f).files }
+        ensures files { (x : Edit) → DoesTo (values files.old) self.now x → values files.new ≡ x.files }
         ensures named { files.new.entries ≡ by_name (values files.new) }
     {
         match self {
             FileEdit::Drop { place } => drop_file(files, *place),
             FileEdit::Rename { place, to, number } => rename_file(files, *place, to, *number),
+            FileEdit::Century { pivot } => move_stamps(files, *pivot),
         }
     }
 }

@@ -22,7 +22,7 @@ ghost use Rattle.cms_draft.specs.BlockWriting.{AddsOwnBlocks, CanWrite as CanWri
 ghost use Rattle.cms_draft.specs.Drafting.{Drafts, IsFresh, Puts};
 ghost use Rattle.cms_model.specs.Minidisks.{same_name};
 ghost use Rattle.cms_held.specs.Opening.{HeldFile, HeldVolume, names_in};
-ghost use Rattle.cms_edf.specs.Allotting.{IsAllottedFor, given_back};
+ghost use Rattle.cms_edf.specs.Allotting.{IsAllottedFor, given_back, numbers_made};
 ghost use Rattle.cms_edf.specs.Growing.{IsFrontOf, IsMoreFor};
 ghost use Rattle.cms_edf.specs.Lacking.{LacksRoom};
 ghost use Rattle.cms_names.specs.declared.name.Name as names;
@@ -31,7 +31,7 @@ ghost use Rattle.cms_draft.specs.declared.shape.DraftShape as shapes;
 ghost use Rattle.cms_edf.specs.Planning.{IsFilled};
 ghost use Rattle.cms_edf.specs.declared.allotment.PlanFault.TheVariants.{Limit};
 
-use crate::allotment::{Allotment, Exchange, PlanFault, allot};
+use crate::allotment::{Allotment, Exchange, Made, PlanFault, allot};
 use crate::blocks::tree_in;
 use crate::directory_bytes::root;
 use crate::held::{Held, TreeBlocks};
@@ -110,7 +110,7 @@ pub(crate) fn passed_limit(files: u32, asked: &DraftShape) -> Option<u32>
 fn exchange_of<'a>(held: &'a Held, place: Option<u32>, blocks: u32, made: &'a [u32]) -> Exchange<'a>
     requires place { IsPlaceIn held.now.volume.files place }
     ensures files { result.files ≡ count_with place (length held.now.volume.files) }
-    ensures made { result.made.now ≡ made.now }
+    ensures made { numbers_made result ≡ made.now }
     ensures file { result.file ≡ blocks }
     ensures given { (given : List ℕ) → GivenAt held.now.volume.files place given → given_back result ≡ given }
 {
@@ -119,7 +119,7 @@ fn exchange_of<'a>(held: &'a Held, place: Option<u32>, blocks: u32, made: &'a [u
             let tree = held.files[place as usize].tree();
             Exchange {
                 files: held.count(),
-                made,
+                made: Made::Entries(made),
                 file: blocks,
                 leaves: tree.leaves(),
                 pointers: tree.pointers(),
@@ -127,7 +127,7 @@ fn exchange_of<'a>(held: &'a Held, place: Option<u32>, blocks: u32, made: &'a [u
         }
         None => Exchange {
             files: held.count() + 1,
-            made,
+            made: Made::Entries(made),
             file: blocks,
             leaves: &[],
             pointers: &[],
@@ -182,7 +182,7 @@ pub(crate) fn plan_entry(
     requires few { count_with place (length held.now.volume.files) ≤ most_files }
     requires entry { CanWrite entry.now }
     requires files { exchange.now.files ≡ count_with place (length held.now.volume.files) }
-    requires made { exchange.now.made.now ≡ made_with place (length held.now.volume.files) }
+    requires made { numbers_made exchange.now ≡ made_with place (length held.now.volume.files) }
     requires allotted { IsAllottedFor held.now.volume exchange.now allotment }
     requires map_few { length allotment.map_tree.leaves < 2 ^ 32 }
     ensures { IfOk result (IsFilled held.now.volume (list_with (entries_held held.now.volume.files) place entry.now)

@@ -1,12 +1,13 @@
-// Files that go or have another name.
-ghost use Rattle.std.specs.Prelude.{◌≡◌, ◌⊎◌, ◌≤◌, ◌<◌, false, length, slice_get, slice_set, swap_remove, Some};
+// Files that go, have another name, or have their stamps moved.
+ghost use Rattle.std.specs.Prelude.{◌≡◌, ◌⊎◌, ◌≤◌, ◌<◌, false, length, map, slice_get, slice_set, swap_remove, Some};
 ghost use Rattle.indexmap.specs.IndexMap.{spare, values};
 ghost use Rattle.cms_model.specs.Minidisks.{is_named};
 ghost use Rattle.cms_held.specs.Opening.{HeldFile, by_name, names_in};
-ghost use Rattle.cms_held.specs.Renewing.{renamed};
+ghost use Rattle.cms_held.specs.Renewing.{moved_entry, moved_file, renamed};
+ghost use Rattle.cms_model.specs.Changes.{stamp_moved};
 
 use crate::held::FileHeld;
-use cms_fields::Entry;
+use cms_fields::{Entry, Stamp};
 use cms_names::Name;
 use indexmap::IndexMap;
 
@@ -52,4 +53,57 @@ pub fn rename_file(files: &mut IndexMap<Name, FileHeld>, place: u32, to: &Name, 
     files.insert(*to, file).unwrap();
     let last = files.len() - 1;
     files.swap_indices(place, last);
+}
+
+// A stamp of a year before that of the pivot in the 1900s is one of the same day a century later.
+fn moved_stamp(stamp: Stamp, pivot: u32) -> Stamp
+    requires { pivot ≤ 100 }
+    ensures { result ≡ stamp_moved pivot stamp }
+{
+    if u32::from(stamp.year) < 1900 + pivot {
+        Stamp {
+            year: stamp.year + 100,
+            ..stamp
+        }
+    } else {
+        stamp
+    }
+}
+
+/// The entry of a file whose stamp is moved.
+pub fn moved_entry(entry: &Entry, pivot: u32) -> Entry
+    requires { pivot ≤ 100 }
+    ensures { result ≡ moved_entry pivot entry.now }
+{
+    Entry {
+        stamp: moved_stamp(entry.stamp, pivot),
+        ..*entry
+    }
+}
+
+// The stamp of the file at a place is moved.
+fn move_stamp(files: &mut IndexMap<Name, FileHeld>, place: usize, pivot: u32)
+    requires pivot { pivot ≤ 100 }
+    requires within { place < length (values files.old) }
+    requires named { files.old.entries ≡ by_name (values files.old) }
+    ensures files { (f : HeldFile) → slice_get (values files.old) place ≡ Some f
+        → values files.new ≡ slice_set (values files.old) place (moved_file pivot f) }
+    ensures named { files.new.entries ≡ by_name (values files.new) }
+    ensures room { spare files.old ≤ spare files.new }
+{
+    let file = &mut files[place];
+    file.entry = moved_entry(&file.entry, pivot);
+}
+
+/// The stamps of all files are moved. Each file keeps its place.
+pub fn move_stamps(files: &mut IndexMap<Name, FileHeld>, pivot: u32)
+    requires pivot { pivot ≤ 100 }
+    requires named { files.old.entries ≡ by_name (values files.old) }
+    ensures files { values files.new ≡ map (moved_file pivot) (values files.old) }
+    ensures named { files.new.entries ≡ by_name (values files.new) }
+    ensures room { spare files.old ≤ spare files.new }
+{
+    for place in 0..files.len() {
+        move_stamp(files, place, pivot);
+    }
 }

@@ -21,7 +21,7 @@ ghost use Rattle.cms_edf.specs.declared.growing.MoreFault.TheVariants.{Device, L
 ghost use Rattle.cms_world.specs.Seen.{OnlyReads, seen};
 ghost use Rattle.cms_world.specs.declared.block.ReadFault.TheVariants as unread;
 
-use crate::allotment::{Exchange, PlanFault, allot, written_count};
+use crate::allotment::{Exchange, Made, PlanFault, allot, written_count};
 use crate::blocks::{ReadFault, read_block};
 use crate::draft::{Draft, entry_for, passed_limit, plan_entry};
 use crate::held::{FileHeld, Held, TreeBlocks};
@@ -165,7 +165,7 @@ fn plan_growth(
     let left = left_blocks(alloc, old, growth.count, growth.fan, &places.leaves)?;
     let exchange = Exchange {
         files: held.count(),
-        made: &[0, place + FIRST_FILE],
+        made: Made::Entries(&[0, place + FIRST_FILE]),
         file: written_count(&places),
         leaves: &left,
         pointers: &[],

@@ -1,26 +1,35 @@
 // The entries of a volume's files after an update.
-ghost use Rattle.std.specs.Prelude.{◌≡◌, ◌<◌, Some, length, slice_get, swap_remove};
+ghost use Rattle.std.specs.Prelude.{◌≡◌, ◌≤◌, ◌<◌, Some, length, map, slice_get, swap_remove};
 ghost use Rattle.cms_fields.specs.declared.entry.Entry.{Entry};
 ghost use Rattle.cms_held.specs.Kept.{Keeps};
-ghost use Rattle.cms_held.specs.Renewing.{entries_held};
+ghost use Rattle.cms_held.specs.Renewing.{entries_held, moved_entry};
 ghost use Rattle.cms_edf.specs.FileDrafts.{IsPlaceIn, list_with};
 ghost use Rattle.cms_edf.specs.Planning.{Edited, MayEdit};
 
 use crate::change::FileEdit;
+use crate::editing::moved_entry;
 use crate::held::{FileHeld, Held};
 use cms_fields::Entry;
 use cms_names::Name;
 use indexmap::IndexMap;
 use std::marker::Model;
 
-/// The entries of a volume's files after an update: the first `count` of the files as they are held, where another entry stands in a
-/// place or behind them. They are told one by one, and no list of them is made.
+/// How the entries of the files that are held become others.
+#[derive(Clone, Copy)]
+pub enum Alteration {
+    /// another stands in a place, or behind them
+    Other { place: u32, entry: Entry },
+    /// the stamps of all are moved
+    Moved { pivot: u32 },
+}
+
+/// The entries of a volume's files after an update: the first `count` of the files as they are held, altered. They are told one by one,
+/// and no list of them is made.
 #[derive(Drop)]
 pub struct NewEntries<'a> {
     files: &'a IndexMap<Name, FileHeld>,
     count: u32,
-    place: u32,
-    entry: Entry,
+    alteration: Alteration,
 }
 
 impl<'a> Model for NewEntries<'a> {
@@ -28,13 +37,13 @@ impl<'a> Model for NewEntries<'a> {
     ghost use Rattle.indexmap.specs.IndexMap.{values};
     ghost use Rattle.cms_fields.specs.declared.entry.Entry.{Entry};
     ghost use Rattle.cms_held.specs.Renewing.{entries_held};
-    ghost use Rattle.cms_edf.specs.NewEntries.{AreNewEntries, new_entries};
+    ghost use Rattle.cms_edf.specs.NewEntries.{AreAltered, altered};
 
     ghost Value = { List Entry };
 
-    ghost view = { λ l. new_entries (entries_held (values l.files.now)) l.count l.place l.entry };
+    ghost view = { λ l. altered (entries_held (values l.files.now)) l.count l.alteration };
 
-    ghost invariant = { λ l. AreNewEntries (length (values l.files.now)) l.count l.place };
+    ghost invariant = { λ l. AreAltered (length (values l.files.now)) l.count l.alteration };
 }
 
 impl<'a> NewEntries<'a> {
@@ -49,14 +58,18 @@ impl<'a> NewEntries<'a> {
             Some(place) => NewEntries {
                 files: &held.files,
                 count,
-                place,
-                entry: *entry,
+                alteration: Alteration::Other {
+                    place,
+                    entry: *entry,
+                },
             },
             None => NewEntries {
                 files: &held.files,
                 count: count + 1,
-                place: count,
-                entry: *entry,
+                alteration: Alteration::Other {
+                    place: count,
+                    entry: *entry,
+                },
             },
         }
     }
@@ -70,8 +83,22 @@ impl<'a> NewEntries<'a> {
         NewEntries {
             files: &held.files,
             count: last as u32,
-            place,
-            entry: *held.files[last].entry(),
+            alteration: Alteration::Other {
+                place,
+                entry: *held.files[last].entry(),
+            },
+        }
+    }
+
+    // The entries with the stamps of all moved.
+    fn moved(held: &'a Held, pivot: u32) -> NewEntries<'a>
+        requires { pivot ≤ 100 }
+        ensures { result ≡ map (moved_entry pivot) (entries_held held.now.volume.files) }
+    {
+        NewEntries {
+            files: &held.files,
+            count: held.files.len() as u32,
+            alteration: Alteration::Moved { pivot },
         }
     }
 
@@ -91,6 +118,7 @@ impl<'a> NewEntries<'a> {
                 };
                 NewEntries::with(held, Some(*place), &entry)
             }
+            FileEdit::Century { pivot } => NewEntries::moved(held, *pivot),
         }
     }
 
@@ -106,10 +134,15 @@ impl<'a> NewEntries<'a> {
         requires { nth < length self.now }
         ensures { slice_get self.now nth ≡ Some result }
     {
-        if nth == self.place {
-            self.entry
-        } else {
-            *self.files[nth as usize].entry()
+        match self.alteration {
+            Alteration::Other { place, entry } => {
+                if nth == place {
+                    entry
+                } else {
+                    *self.files[nth as usize].entry()
+                }
+            }
+            Alteration::Moved { pivot } => moved_entry(self.files[nth as usize].entry(), pivot),
         }
     }
 }

@@ -1,24 +1,25 @@
 // A change of a volume is planned.
-ghost use Rattle.std.specs.Prelude.{◌≡◌, ◌≤◌, ◌<◌, ◌+◌, ◌*◌, ◌++◌, ◌^◌, true, length, map, All, IfOk, IfErr, OnOk};
+ghost use Rattle.std.specs.Prelude.{◌≡◌, ◌≤◌, ◌<◌, ◌+◌, ◌-◌, ◌*◌, ◌++◌, ◌^◌, true, length, map, slice_get, All, IfOk, IfErr, OnOk, Some};
 ghost use Rattle.cms_journal.specs.Journal.{IsBlockSize};
 ghost use Rattle.cms_fields.specs.Labels.{with_label};
 ghost use Rattle.cms_fields.specs.Stamps.{is_stamp};
 ghost use Rattle.cms_fields.specs.Limits.{most_files};
-ghost use Rattle.cms_edf.specs.Allotting.{IsAllottedFor};
+ghost use Rattle.cms_edf.specs.Allotting.{IsAllottedFor, given_back, numbers_made};
 ghost use Rattle.cms_edf.specs.DirectoryFields.{block_fields, field_at};
 ghost use Rattle.cms_edf.specs.Planning.{AreEnoughFor, CanChange, IsFilled, IsFullFor, IsPlanFor, IsPrepared, IsReadyAt, IsRelabelOf, IsStepOf, MayEdit, change_of, count_after, made_by};
 ghost use Rattle.cms_edf.specs.Lacking.{LacksRoom};
 ghost use Rattle.cms_held.specs.Kept.{Keeps};
-ghost use Rattle.cms_held.specs.Renewing.{label_for, needed};
+ghost use Rattle.cms_held.specs.Opening.{HeldFile};
+ghost use Rattle.cms_held.specs.Renewing.{blocks_in, label_for, needed};
 ghost use Rattle.std.specs.List.{concat};
 ghost use Rattle.cms_model.specs.DirectoryParts.{directory_count};
 ghost use Rattle.cms_held.specs.Systems.{Systems, directory_piece};
 ghost use Rattle.cms_edf.specs.declared.allotment.PlanFault.TheVariants.{Memory};
 ghost use Rattle.cms_held.specs.Written.{CanWrite, ReadsBack};
 
-use crate::allotment::{Allotment, Exchange, PlanFault, allot};
+use crate::allotment::{Allotment, Exchange, Made, PlanFault, allot};
 use crate::change::{Change, FileEdit};
-use crate::directory_bytes::{SystemFields, file_field, system_fields};
+use crate::directory_bytes::{SystemFields, file_field, spell_entry, system_fields};
 use crate::held::{Held, TreeBlocks};
 use crate::new_entries::NewEntries;
 use crate::step::{Plan, Step};
@@ -67,11 +68,10 @@ fn append_block(
 
 // The entries of files spell them.
 fn spell_entries(entries: &NewEntries<'_>)
-    requires { All CanWrite entries.now }
     ensures { All ReadsBack entries.now }
 {
     for nth in 0..entries.count() {
-        let _field = file_field(&entries.get(nth));
+        spell_entry(&entries.get(nth));
     }
 }
 
@@ -206,12 +206,31 @@ fn plan_systems(
     requires enough { AreEnoughFor held.now.volume entries.now exchange.now }
     ensures prepared { IfOk result (IsPrepared held.now.volume entries.now exchange.now stamp.now) }
     ensures full { IfErr result (LacksRoom held.now.volume
-        (needed held.now.volume (length entries.now) exchange.now.made.now)) }
+        (needed held.now.volume (length entries.now) (numbers_made exchange.now))) }
 {
     let allotment = allot(alloc, held, exchange)?;
     match fill_systems(alloc, held, entries, exchange, allotment, stamp) {
         Ok(systems) => Ok(systems),
         Err(_) => Err(PlanFault::Memory),
+    }
+}
+
+// What becomes of the files where the one at a place goes: its blocks are given back, and the entries of these numbers are made anew.
+fn exchange_without<'a>(held: &'a Held, place: u32, numbers: &'a [u32]) -> Exchange<'a>
+    requires { place < length held.now.volume.files }
+    ensures files { result.files ≡ length held.now.volume.files - 1 }
+    ensures made { numbers_made result ≡ numbers.now }
+    ensures none { result.file ≡ 0 }
+    ensures given { (f : HeldFile) → slice_get held.now.volume.files place ≡ Some f
+        → given_back result ≡ blocks_in f.tree }
+{
+    let tree = held.files[place as usize].tree();
+    Exchange {
+        files: held.count() - 1,
+        made: Made::Entries(numbers),
+        file: 0,
+        leaves: tree.leaves(),
+        pointers: tree.pointers(),
     }
 }
 
@@ -231,20 +250,24 @@ fn plan_edit(
     let entries = NewEntries::edited(held, edit);
     match edit {
         FileEdit::Drop { place } => {
-            let tree = held.files[*place as usize].tree();
-            let exchange = Exchange {
-                files: entries.count(),
-                made: &[0, *place + FIRST_FILE, held.count() - 1 + FIRST_FILE],
-                file: 0,
-                leaves: tree.leaves(),
-                pointers: tree.pointers(),
-            };
+            let numbers = [0, *place + FIRST_FILE, held.count() - 1 + FIRST_FILE];
+            let exchange = exchange_without(held, *place, &numbers);
             plan_systems(alloc, held, &entries, &exchange, stamp)
         }
         FileEdit::Rename { place, .. } => {
             let exchange = Exchange {
                 files: entries.count(),
-                made: &[0, *place + FIRST_FILE],
+                made: Made::Entries(&[0, *place + FIRST_FILE]),
+                file: 0,
+                leaves: &[],
+                pointers: &[],
+            };
+            plan_systems(alloc, held, &entries, &exchange, stamp)
+        }
+        FileEdit::Century { .. } => {
+            let exchange = Exchange {
+                files: entries.count(),
+                made: Made::Whole,
                 file: 0,
                 leaves: &[],
                 pointers: &[],
@@ -286,7 +309,7 @@ fn relabel_step(alloc: Global, held: &Held, volid: [u8; 6]) -> Result<Step, Plan
 
 /// Plans a change: all that it writes, and all memory that it needs. Nothing is written, and the volume stays as it is held.
 ///
-/// The file that is changed is there, and its new name is no other file's. `Full` comes exactly where the new directory and the new map
+/// A file that is changed is there, and its new name is no other file's; a pivot is at most 100. `Full` comes exactly where the new directory and the new map
 /// need more blocks than are free, and never for another volume id.
 pub fn plan(
     alloc: Global,
@@ -320,6 +343,9 @@ pub fn plan(
             edit_step(alloc, held, edit, stamp)?
         }
         Change::Relabel { volid } => relabel_step(alloc, held, *volid)?,
+        Change::Century { pivot } => {
+            edit_step(alloc, held, FileEdit::Century { pivot: *pivot }, stamp)?
+        }
     };
     Ok(Plan { step })
 }

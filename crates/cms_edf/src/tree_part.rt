@@ -30,8 +30,8 @@ impl Model for WrittenPlaces {
     ghost view = { λ p. record { leaves = p.leaves.items; nodes = p.nodes.items } };
 }
 
-// The first so many numbers, from 0.
-fn first_numbers(alloc: Global, count: u32) -> Result<Vec<u32>, AllocError>
+/// The first so many numbers, from 0.
+pub fn first_numbers(alloc: Global, count: u32) -> Result<Vec<u32>, AllocError>
     ensures { IfOk result (λ v. v.items ≡ range_with_len 0 count) }
 {
     (0..count).collect(alloc)

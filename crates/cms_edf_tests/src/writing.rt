@@ -20,12 +20,15 @@ use std::alloc::{AllocError, Global};
 ///   128, a pointer block, the root, the map, the directory.
 /// - `marks`: records of 509 and 3 bytes are put: the first 24 bytes of the pointer block, which say where records begin, and whether all
 ///   others are zeros.
+/// - `move`: the stamps of all files of a directory of two blocks are moved: the blocks that are written up to the first sync. These are the
+///   second one of the directory, its pointer block, the map, and the first one of the directory.
 /// - What crashes leave where the tree of a file grows by a level, `grow`; where all that is free is taken, `fill`; and where the
 ///   directory shrinks to one data block, and has no pointer block, `shrink`. It is the volume as it was, or as it is since the label is
 ///   written.
 pub const ROWS: &str = "\
 tree => 7-134 136-136 135-135 137-139 5-5
 marks => [0, 0, 0, 7, 0, 0, 0, 2, 0, 0, 0, 0, 0, 0, 0, 8, 0, 0, 0, 2, 255, 255, 255, 255] true
+move => 16-18 5-5
 grow => the old volume or the new
 fill => the old volume or the new
 shrink => the old volume or the new";
@@ -144,6 +147,22 @@ fn drop_file(alloc: Global, world: &mut Disk, letter: &str) -> Option<()> {
     drop_in(alloc, world, &mut held, &name)
 }
 
+// Moves the stamps of all files in a volume.
+#[tactic(auto, unfolding(cms_fields::specs::Stamps::is_stamp, cms_fields::specs::Stamps::days_of_month))]
+fn move_in(alloc: Global, world: &mut Disk, held: &mut Held) -> Option<()> {
+    let change = Change::Century { pivot: 70 };
+    let Ok(made) = plan(alloc, held, &change, &NOON) else {
+        return None;
+    };
+    carry_out(world, held, made).ok()
+}
+
+// Moves the stamps of all files on a disk.
+fn move_stamps(alloc: Global, world: &mut Disk) -> Option<()> {
+    let mut held = volume_on(alloc, world)?;
+    move_in(alloc, world, &mut held)
+}
+
 // The end of a row of blocks, if there was one, and the start of the next.
 fn between(alloc: Global, last: u32, block: u32) -> Result<String, AllocError> {
     if last == 0 {
@@ -234,6 +253,7 @@ fn disk_of(alloc: Global, case: &str) -> Result<Disk, AllocError> {
         "tree" => empty_disk(alloc, 200),
         "fill" => Disk::logged(alloc, &image_named(alloc, "one file")?),
         "shrink" => Disk::logged(alloc, &image_named(alloc, "long directory")?),
+        "move" => Disk::logged(alloc, &image_named(alloc, "long directory on 20")?),
         _ => empty_disk(alloc, 20),
     }
 }
@@ -254,6 +274,7 @@ fn changed(alloc: Global, world: &mut Disk, case: &str) -> Option<()> {
         "marks" => put_file(alloc, world, "V", Format::V, 509, &[LONG, SHORT]),
         "fill" => put_file(alloc, world, "B", Format::F, 512, &[TEXT]),
         "shrink" => drop_file(alloc, world, "G"),
+        "move" => move_stamps(alloc, world),
         _ => grown(alloc, world),
     }
 }
@@ -261,7 +282,7 @@ fn changed(alloc: Global, world: &mut Disk, case: &str) -> Option<()> {
 // What is asked of a disk that was changed.
 fn asked(alloc: Global, world: &Disk, case: &str) -> Result<String, AllocError> {
     match case {
-        "tree" => written(alloc, world.events()),
+        "tree" | "move" => written(alloc, world.events()),
         "marks" => marks(alloc, &world.image, 9),
         _ => crashes(alloc, world),
     }

@@ -29,7 +29,7 @@ use Rattle.cms_machine.specs.Traces.{bytes_of}
 use Rattle.cms_line.specs.Messages.{message_text}
 use Rattle.cms_line.specs.Options.{options_from, options_of}
 use Rattle.cms_line.specs.Tokens.{tokens_from, tokens_of}
-use Rattle.cms_operands.specs.Choices.{all_valued, chosen_of, last_among, setting_in, valued}
+use Rattle.cms_operands.specs.Choices.{all_valued, chosen_of, setting_in, valued}
 use Rattle.cms_operands.specs.Operands.{ended, given, given_or, name, needed, number, number_or_all, number_within, operands_of, reading_mode, writing_mode}
 use Rattle.cms_operands.specs.Refusals.{message_of}
 use Rattle.cms_search.specs.Asking.{asking}
@@ -98,7 +98,7 @@ from_a_record : (p : Places) → get p key ≡ None → (reads p (codes "EXECIO 
     × (reads p (codes "EXECIO 0 DISKR A FILE") ≡ is_left [] 0 [] (insert p key 0))
 unfolding execio_operands read_operands file_input full_name operands_of needed given given_or name text_of is_name_character reading_mode mode_word_of short_mode_of
     letter_of mode_number_of number number_or_all number_within magnitude_of ended string_place text_in chosen_of options_of options_from all_valued valued setting_in
-    last_among ebcdic code_of code_page host_of upper_of character_of tokens_of tokens_from is_keyword places_from file_named same_name same
+    ebcdic code_of code_page host_of upper_of character_of tokens_of tokens_from is_keyword places_from file_named same_name same
 from_a_record p none = (rw none refl, rw none refl, rw none refl, rw none refl)
 
 -- a record that the line gives comes before the place that is kept; none is read behind the last, and * has no code 2
@@ -109,14 +109,14 @@ from_the_lines : (p : Places) → (reads p (codes "execio 01 diskr a file * 2") 
     × (reads p (codes "EXECIO * DISKR A FILE A 9") ≡ is_left [] 0 [] (insert p key 8))
 unfolding execio_operands read_operands file_input full_name operands_of needed given given_or name text_of is_name_character reading_mode mode_word_of short_mode_of
     letter_of mode_number_of number number_or_all number_within magnitude_of ended string_place text_in chosen_of options_of options_from all_valued valued setting_in
-    last_among ebcdic code_of code_page host_of upper_of character_of tokens_of tokens_from is_keyword places_from file_named same_name same
+    ebcdic code_of code_page host_of upper_of character_of tokens_of tokens_from is_keyword places_from file_named same_name same
 from_the_lines p = (refl, refl, refl, refl, refl)
 
 from_the_kept : (p : Places) → get p key ≡ Some 2 → (reads p (codes "EXECIO 1 DISKR A FILE") ≡ is_left [] 0 (codes "XY  " ∷ []) (insert p key 3))
     × (reads p (codes "EXECIO 2 DISKR A FILE *") ≡ is_left [] 2 (codes "XY  " ∷ []) (insert p key 3))
 unfolding execio_operands read_operands file_input full_name operands_of needed given given_or name text_of is_name_character reading_mode mode_word_of short_mode_of
     letter_of mode_number_of number number_or_all number_within magnitude_of ended string_place text_in chosen_of options_of options_from all_valued valued setting_in
-    last_among ebcdic code_of code_page host_of upper_of character_of tokens_of tokens_from is_keyword places_from file_named same_name same
+    ebcdic code_of code_page host_of upper_of character_of tokens_of tokens_from is_keyword places_from file_named same_name same
 from_the_kept p kept = (rw kept refl, rw kept refl)
 
 from_the_end : (p : Places) → get p key ≡ Some 3 → (reads p (codes "EXECIO 1 DISKR A FILE") ≡ is_left [] 2 [] (insert p key 3))
@@ -125,7 +125,7 @@ from_the_end : (p : Places) → get p key ≡ Some 3 → (reads p (codes "EXECIO
     × (reads p (codes "EXECIO 1 DISKR A FILE A (FINIS") ≡ is_left [] 2 [] (remove p key))
 unfolding execio_operands read_operands file_input full_name operands_of needed given given_or name text_of is_name_character reading_mode mode_word_of short_mode_of
     letter_of mode_number_of number number_or_all number_within magnitude_of ended string_place text_in chosen_of options_of options_from all_valued valued setting_in
-    last_among ebcdic code_of code_page host_of upper_of character_of tokens_of tokens_from is_keyword places_from file_named same_name same
+    ebcdic code_of code_page host_of upper_of character_of tokens_of tokens_from is_keyword places_from file_named same_name same
 from_the_end p kept = (rw kept refl, rw kept refl, rw kept refl, rw kept refl)
 
 -- behind the stacked lines, or one after another in front of them; without the blanks at the end; and no place is kept with FINIS
@@ -137,7 +137,7 @@ with_options : (p : Places) → (leaves (stacking (codes "Z" ∷ []) (three_reco
     × (reads p (codes "EXECIO 1 DISKR A FILE A 1 (LIFO STRING STRIP) BLUE") ≡ is_left [] 0 (codes "HELLO" ∷ []) (insert p key 1))
 unfolding execio_operands read_operands file_input full_name operands_of needed given given_or name text_of is_name_character reading_mode mode_word_of short_mode_of
     letter_of mode_number_of number number_or_all number_within magnitude_of ended string_place text_in chosen_of options_of options_from all_valued valued setting_in
-    last_among ebcdic code_of code_page host_of upper_of character_of tokens_of tokens_from is_keyword places_from file_named same_name same
+    ebcdic code_of code_page host_of upper_of character_of tokens_of tokens_from is_keyword places_from file_named same_name same
 with_options p = (refl, refl, refl, refl, refl)
 
 -- a fault of the device, also behind records that were handed out, stacks nothing and leaves the place, with FINIS too
@@ -147,7 +147,7 @@ failed_reads : (p : Places) → get p key ≡ Some 1 → (reads p (codes "EXECIO
     × (leaves (three_records p) (codes "EXECIO 0 DISKR A FILE") (ReadFault 0 ∷ []) ≡ is_left [] 0 [] (insert p key 1))
 unfolding execio_operands read_operands file_input full_name operands_of needed given given_or name text_of is_name_character reading_mode mode_word_of short_mode_of
     letter_of mode_number_of number number_or_all number_within magnitude_of ended string_place text_in chosen_of options_of options_from all_valued valued setting_in
-    last_among ebcdic code_of code_page host_of upper_of character_of tokens_of tokens_from is_keyword places_from file_named same_name same message_text typed_line
+    ebcdic code_of code_page host_of upper_of character_of tokens_of tokens_from is_keyword places_from file_named same_name same message_text typed_line
 failed_reads p kept = (rw kept refl, rw kept refl, rw kept refl, rw kept refl)
 
 -- a file of mode number 3 goes behind its last record, and no place is kept in it; where the device fails then the lines stay, and the place
@@ -160,7 +160,7 @@ read_once : (p : Places) → get p key ≡ Some 1 → (leaves (once p) (codes "E
     × (leaves (once p) (codes "EXECIO * DISKR A FILE (FINIS") (Good ∷ OldFault ∷ []) ≡ is_left (codes "CMS105E Device fault on 191" ∷ []) 100 (codes "Y" ∷ []) p)
 unfolding execio_operands read_operands file_input full_name operands_of needed given given_or name text_of is_name_character reading_mode mode_word_of short_mode_of
     letter_of mode_number_of number number_or_all number_within magnitude_of ended string_place text_in chosen_of options_of options_from all_valued valued setting_in
-    last_among ebcdic code_of code_page host_of upper_of character_of tokens_of tokens_from is_keyword places_from file_named same_name same message_text typed_line
+    ebcdic code_of code_page host_of upper_of character_of tokens_of tokens_from is_keyword places_from file_named same_name same message_text typed_line
     answer_of limit changed_files written_file is_full free_count used_count directory_more tree_size pointer_count pointers_to levels levels_from map_size need changed
     place_named entries_made directory_taken blocks_with holds fresh_count fresh_to fresh_on is_kept any_within file_size
     stored_size moment decimal_of written digits drop_file last_first
@@ -187,7 +187,7 @@ stack_full : (p : Places) → (tells p 9998 (codes "EXECIO 2 DISKR A FILE A 2") 
     × (tells p 9999 (codes "EXECIO 2 DISKR A FILE A 2") (ReadFault 2 ∷ []) ≡ is_told (codes "CMS105E Device fault on 191" ∷ []) 100 p)
 unfolding execio_operands read_operands file_input full_name operands_of needed given given_or name text_of is_name_character reading_mode mode_word_of short_mode_of
     letter_of mode_number_of number number_or_all number_within magnitude_of ended string_place text_in chosen_of options_of options_from all_valued valued setting_in
-    last_among ebcdic code_of code_page host_of upper_of character_of tokens_of tokens_from is_keyword places_from file_named same_name same message_text typed_line
+    ebcdic code_of code_page host_of upper_of character_of tokens_of tokens_from is_keyword places_from file_named same_name same message_text typed_line
     decimal_of written digits
 stack_full p = (refl, refl, refl)
 
@@ -204,7 +204,7 @@ by_device : (p : Places) → get p key_on_b ≡ Some 1 → (leaves (extended p) 
     × (leaves (extended p) (codes "EXECIO 1 DISKR A FILE * (FINIS") [] ≡ is_left [] 0 (codes "ABC" ∷ []) (remove p key_on_b))
 unfolding execio_operands read_operands file_input full_name operands_of needed given given_or name text_of is_name_character reading_mode mode_word_of short_mode_of
     letter_of mode_number_of number number_or_all number_within magnitude_of ended string_place text_in chosen_of options_of options_from all_valued valued setting_in
-    last_among ebcdic code_of code_page host_of upper_of character_of tokens_of tokens_from is_keyword places_from file_named same_name same
+    ebcdic code_of code_page host_of upper_of character_of tokens_of tokens_from is_keyword places_from file_named same_name same
 by_device p kept = (rw kept refl, rw kept refl, rw kept refl)
 
 -- ---- what is refused
@@ -225,7 +225,7 @@ refused_operands : (p : Places) → refuses p (codes "EXECIO") (codes "CMS054E O
     × refuses p (codes "EXECIO 1 DISKW A * B") (codes "CMS062E Name * is not valid") 20
 unfolding execio_operands read_operands write_operands file_input full_name operands_of needed given given_or name text_of is_name_character reading_mode writing_mode
     mode_word_of short_mode_of letter_of mode_number_of number number_or_all number_within magnitude_of ended string_place text_in chosen_of options_of options_from
-    all_valued valued setting_in last_among ebcdic code_of code_page host_of upper_of character_of tokens_of tokens_from is_keyword message_of message_text typed_line
+    all_valued valued setting_in ebcdic code_of code_page host_of upper_of character_of tokens_of tokens_from is_keyword message_of message_text typed_line
 refused_operands p = (refl, refl, refl, refl, refl, refl, refl, refl, refl)
 
 refused_places : (p : Places) → refuses p (codes "EXECIO 1 DISKR A FILE A7 0") (codes "CMS048E Mode A7 is not valid") 24
@@ -237,7 +237,7 @@ refused_places : (p : Places) → refuses p (codes "EXECIO 1 DISKR A FILE A7 0")
     × refuses p (codes "EXECIO 1 DISKW A (BLUE") (codes "CMS054E Operand is missing") 24
 unfolding execio_operands read_operands write_operands file_input full_name operands_of needed given given_or name text_of is_name_character reading_mode writing_mode
     mode_word_of short_mode_of letter_of mode_number_of number number_or_all number_within magnitude_of ended string_place text_in chosen_of options_of options_from
-    all_valued valued setting_in last_among ebcdic code_of code_page host_of upper_of character_of tokens_of tokens_from is_keyword message_of message_text typed_line
+    all_valued valued setting_in ebcdic code_of code_page host_of upper_of character_of tokens_of tokens_from is_keyword message_of message_text typed_line
 refused_places p = (refl, refl, refl, refl, refl, refl, refl)
 
 -- options in full spelling; STRING is a text's beginning only where an option may stand
@@ -247,7 +247,7 @@ refused_options : (p : Places) → refuses p (codes "EXECIO 1 DISKR A FILE C (FI
     × refuses p (codes "EXECIO 1 DISKW A FILE B (STRIN X") (codes "CMS003E Option STRIN is not valid") 24
 unfolding execio_operands read_operands write_operands file_input full_name operands_of needed given given_or name text_of is_name_character reading_mode writing_mode
     mode_word_of short_mode_of letter_of mode_number_of number number_or_all number_within magnitude_of ended string_place text_in chosen_of options_of options_from
-    all_valued valued setting_in last_among ebcdic code_of code_page host_of upper_of character_of tokens_of tokens_from is_keyword message_of message_text typed_line
+    all_valued valued setting_in ebcdic code_of code_page host_of upper_of character_of tokens_of tokens_from is_keyword message_of message_text typed_line
 refused_options p = (refl, refl, refl, refl)
 
 -- disks, then files; a file of number 0 isn't seen on a disk that may only be read
@@ -259,7 +259,7 @@ refused_files : (p : Places) → refuses p (codes "EXECIO 1 DISKR A FILE C 9") (
     × refuses p (codes "EXECIO 0 DISKW A FILE B2 (STRING X") (codes "CMS037E Disk B is read-only") 36
 unfolding execio_operands read_operands write_operands file_input full_name operands_of needed given given_or name text_of is_name_character reading_mode writing_mode
     mode_word_of short_mode_of letter_of mode_number_of number number_or_all number_within magnitude_of ended string_place text_in chosen_of options_of options_from
-    all_valued valued setting_in last_among ebcdic code_of code_page host_of upper_of character_of tokens_of tokens_from is_keyword places_from same_name same message_of
+    all_valued valued setting_in ebcdic code_of code_page host_of upper_of character_of tokens_of tokens_from is_keyword places_from same_name same message_of
     message_text typed_line
 refused_files p = (refl, refl, refl, refl, refl, refl)
 
@@ -329,7 +329,7 @@ string_given : (p : Places) → (writes (no_files p) (codes "EXECIO 1 DISKW A FI
     × (writes (no_files p) (codes "EXECIO 1 DISKW A FILE (STRING ") [] [] ≡ is_wrote [] 0 (new_file 1 (codes " " ∷ [])) [] (remove p key))
     × (writes (no_files p) (codes "EXECIO 1 DISKW A FILE (STRING  ") [] [] ≡ is_wrote [] 0 (new_file 1 (codes " " ∷ [])) [] (remove p key))
 unfolding execio_operands write_operands full_name operands_of needed given given_or name text_of is_name_character writing_mode mode_word_of short_mode_of letter_of
-    mode_number_of number_or_all number_within magnitude_of ended string_place text_in chosen_of options_of options_from all_valued valued setting_in last_among ebcdic
+    mode_number_of number_or_all number_within magnitude_of ended string_place text_in chosen_of options_of options_from all_valued valued setting_in ebcdic
     code_of code_page host_of upper_of character_of tokens_of tokens_from is_keyword file_named same_name same message_text typed_line answer_of limit changed_files
     written_file is_full free_count used_count directory_more tree_size pointer_count pointers_to levels levels_from map_size need changed
     place_named entries_made directory_taken blocks_with holds fresh_count fresh_to fresh_on is_kept any_within file_size stored_size moment
@@ -347,7 +347,7 @@ asked_for : (p : Places) → (writes (stacking (codes "One" ∷ codes "Two" ∷ 
     × (writes (no_files p) (codes "EXECIO 1 DISKW A FILE") (Bad ∷ line (codes "Hello") ∷ []) []
     ≡ is_wrote (codes "CMS010E Line has an invalid character" ∷ []) 0 (new_file 5 (codes "Hello" ∷ [])) [] (remove p key))
 unfolding execio_operands write_operands full_name operands_of needed given given_or name text_of is_name_character writing_mode mode_word_of short_mode_of letter_of
-    mode_number_of number_or_all number_within magnitude_of ended string_place text_in chosen_of options_of options_from all_valued valued setting_in last_among ebcdic
+    mode_number_of number_or_all number_within magnitude_of ended string_place text_in chosen_of options_of options_from all_valued valued setting_in ebcdic
     code_of code_page host_of upper_of character_of tokens_of tokens_from is_keyword file_named same_name same message_text typed_line answer_of limit changed_files
     written_file is_full free_count used_count directory_more tree_size pointer_count pointers_to levels levels_from map_size need changed
     place_named entries_made directory_taken blocks_with holds fresh_count fresh_to fresh_on is_kept any_within file_size stored_size moment
@@ -358,7 +358,7 @@ asked_for p = (refl, refl, refl)
 spent : (p : Places) → writes (record (no_files p) { left = 0 }) (codes "EXECIO 2 DISKW A FILE") (line (codes "Hello") ∷ Bad ∷ []) []
     ≡ record { typed = []; code = None; files = []; stack = []; places = empty }
 unfolding execio_operands write_operands full_name operands_of needed given given_or name text_of is_name_character writing_mode mode_word_of short_mode_of letter_of
-    mode_number_of number_or_all number_within magnitude_of ended string_place text_in chosen_of options_of options_from all_valued valued setting_in last_among ebcdic
+    mode_number_of number_or_all number_within magnitude_of ended string_place text_in chosen_of options_of options_from all_valued valued setting_in ebcdic
     code_of code_page host_of upper_of character_of tokens_of tokens_from is_keyword asking_lines asking
 spent p = refl
 
@@ -369,7 +369,7 @@ not_asked : (p : Places) → (writes (stacking (codes "One" ∷ []) (no_files p)
     ≡ is_wrote [] 0 (new_file 5 (codes "Hello" ∷ [])) (codes "One" ∷ []) p)
     × (writes (no_files p) (codes "EXECIO 0 DISKW Z FILE A (STRING X") [] [] ≡ is_wrote [] 0 [] [] p)
 unfolding execio_operands write_operands full_name operands_of needed given given_or name text_of is_name_character writing_mode mode_word_of short_mode_of letter_of
-    mode_number_of number_or_all number_within magnitude_of ended string_place text_in chosen_of options_of options_from all_valued valued setting_in last_among ebcdic
+    mode_number_of number_or_all number_within magnitude_of ended string_place text_in chosen_of options_of options_from all_valued valued setting_in ebcdic
     code_of code_page host_of upper_of character_of tokens_of tokens_from is_keyword message_text typed_line
 not_asked p = (refl, refl, refl)
 
@@ -386,7 +386,7 @@ added : (p : Places) → (adds p format.V 2 (codes "AB" ∷ []) (codes "EXECIO 1
     × (adds p format.F 2 (codes "AB" ∷ []) (codes "EXECIO 1 DISKW A FILE A (STRING")
     ≡ is_wrote [] 0 (a_file 2 format.F 2 (codes "AB" ∷ codes "  " ∷ []) ∷ []) [] (remove p key))
 unfolding execio_operands write_operands full_name operands_of needed given given_or name text_of is_name_character writing_mode mode_word_of short_mode_of letter_of
-    mode_number_of number_or_all number_within magnitude_of ended string_place text_in chosen_of options_of options_from all_valued valued setting_in last_among ebcdic
+    mode_number_of number_or_all number_within magnitude_of ended string_place text_in chosen_of options_of options_from all_valued valued setting_in ebcdic
     code_of code_page host_of upper_of character_of tokens_of tokens_from is_keyword file_named same_name same message_text typed_line answer_of limit changed_files
     written_file is_full free_count used_count directory_more tree_size pointer_count pointers_to levels levels_from map_size need growth_taken changed
     place_named entries_made directory_taken blocks_with holds fresh_count fresh_to fresh_on is_kept any_within file_size stored_size moment
@@ -403,7 +403,7 @@ two_files = a_file 1 format.V 5 (codes "HELLO" ∷ []) ∷ b_file ∷ []
 other_places : (p : Places) → writes (keeping p (one_disk (new_file 5 (codes "HELLO" ∷ [])))) (codes "EXECIO 1 DISKW B FILE A (STRING HELLO") [] []
     ≡ is_wrote [] 0 two_files [] (remove p (place_key 0x191 (name_of (codes "B") (codes "FILE"))))
 unfolding execio_operands write_operands full_name operands_of needed given given_or name text_of is_name_character writing_mode mode_word_of short_mode_of letter_of
-    mode_number_of number_or_all number_within magnitude_of ended string_place text_in chosen_of options_of options_from all_valued valued setting_in last_among ebcdic
+    mode_number_of number_or_all number_within magnitude_of ended string_place text_in chosen_of options_of options_from all_valued valued setting_in ebcdic
     code_of code_page host_of upper_of character_of tokens_of tokens_from is_keyword file_named same_name same message_text typed_line answer_of limit changed_files
     written_file is_full free_count used_count directory_more tree_size pointer_count pointers_to levels levels_from map_size need changed
     place_named entries_made directory_taken blocks_with holds fresh_count fresh_to fresh_on is_kept any_within file_size stored_size moment
@@ -423,7 +423,7 @@ not_written : (p : Places) → (writes (stacking (codes "One" ∷ []) (small p t
     × (writes (keeping p (one_disk two_files)) (codes "EXECIO 1 DISKW A FILE A (STRING X") [] (EitherFault After ∷ [])
     ≡ is_wrote (codes "CMS105E Device fault on 191" ∷ []) 100 [] [] (without_device 0x191 p))
 unfolding execio_operands write_operands full_name operands_of needed given given_or name text_of is_name_character writing_mode mode_word_of short_mode_of letter_of
-    mode_number_of number_or_all number_within magnitude_of ended string_place text_in chosen_of options_of options_from all_valued valued setting_in last_among ebcdic
+    mode_number_of number_or_all number_within magnitude_of ended string_place text_in chosen_of options_of options_from all_valued valued setting_in ebcdic
     code_of code_page host_of upper_of character_of tokens_of tokens_from is_keyword file_named same_name same message_text typed_line answer_of limit changed_files
     written_file is_full free_count used_count directory_more tree_size pointer_count pointers_to levels levels_from map_size need growth_taken changed
     place_named entries_made directory_taken blocks_with holds fresh_count fresh_to fresh_on is_kept any_within file_size stored_size moment

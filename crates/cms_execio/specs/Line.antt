@@ -1,18 +1,18 @@
 -- EXECIO n DISKR fn ft [fm [line]] and EXECIO n DISKW fn ft [fm], with [(FIFO or LIFO] [STRIP] [FINIS] [STRING text]
-use Rattle.std.specs.Prelude.{ℕ, ◌+◌, if◌then◌else◌, List, [], ◌∷◌, codes, drop, is_some, position, slice_get, take, Option, Some, None, Result, Ok, Err}
+use Rattle.std.specs.Prelude.{ℕ, ◌+◌, true, false, if◌then◌else◌, List, [], ◌∷◌, codes, drop, fold, position, slice_get, take, Option, Some, None, Result, Ok, Err}
 use Rattle.std.specs.Option.{option_and_then, option_map}
 use Rattle.cms_fields.specs.Steps.{◌>>=◌, ◌>>◌}
 use Rattle.cms_text.specs.Texts.{is_keyword, without_one_blank}
 use Rattle.cms_line.specs.Options.{first_left}
 use Rattle.cms_line.specs.declared.token.Token.{Token}
-use Rattle.cms_operands.specs.Choices.{chosen_of, flag, last_among}
-use Rattle.cms_operands.specs.Operands.{ended, given, largest, needed, number, number_or_all, operands_of, or_refused, writing_mode}
+use Rattle.cms_operands.specs.Choices.{chosen_of, flag}
+use Rattle.cms_operands.specs.Operands.{ended, given, largest, needed, number, number_or_all, operands_of, or_refused}
+use Rattle.cms_operands.specs.Optional.{writing_mode_or_a}
 use Rattle.cms_operands.specs.declared.choosing.ChosenOption.{ChosenOption}
 use Rattle.cms_operands.specs.declared.choosing.OptionForm.{OptionForm}
 use Rattle.cms_operands.specs.declared.refusal.Refusal.{Refusal}
 use Rattle.cms_operands.specs.declared.refusal.Refusal.TheVariants.{BadOperand}
-use Rattle.cms_files.specs.Identifiers.{file_input, full_name, is_last, mode_or_a}
-use Rattle.cms_files.specs.declared.stacking.StackEnd.{StackEnd}
+use Rattle.cms_files.specs.Identifiers.{file_input, full_name}
 use Rattle.cms_files.specs.declared.stacking.StackEnd.TheVariants.{Front, Back}
 use Rattle.cms_execio.specs.declared.line.Direction.{Direction}
 use Rattle.cms_execio.specs.declared.line.Direction.TheVariants as goes
@@ -23,6 +23,8 @@ use Rattle.cms_execio.specs.declared.line.StackStyle.{StackStyle}
 use Rattle.cms_execio.specs.declared.line.Transfer.{Transfer}
 use Rattle.cms_execio.specs.declared.line.Transfer.TheVariants as moves
 use Rattle.cms_execio.specs.declared.line.WriteTarget.{WriteTarget}
+use Rattle.cms_execio.specs.declared.options.ExecioOption.{ExecioOption}
+use Rattle.cms_execio.specs.declared.options.ExecioOption.TheVariants as option
 
 -- ---- operands
 
@@ -55,7 +57,7 @@ unfoldable pub write_operands : List Token → Option ℕ → Result WriteTarget
 write_operands operands count = do
   n ← or_refused count (BadOperand 1)
   name ← full_name operands 3
-  mode ← writing_mode 5 (mode_or_a operands 5)
+  mode ← writing_mode_or_a operands 5
   ended operands 6
   Ok (record { name = name; mode = mode; count = n })
 
@@ -76,10 +78,11 @@ execio_operands operands = do
 -- ---- options
 
 -- in full spelling
-abbrev pub options : List OptionForm
+abbrev pub options : List (OptionForm ExecioOption)
 options =
-    flag (codes "FIFO    ") 4 ∷ flag (codes "LIFO    ") 4 ∷ flag (codes "STRIP   ") 5 ∷ flag (codes "FINIS   ") 5
-    ∷ flag (codes "STRING  ") 6 ∷ []
+    flag option.Fifo (codes "FIFO    ") 4 ∷ flag option.Lifo (codes "LIFO    ") 4
+    ∷ flag option.Strip (codes "STRIP   ") 5 ∷ flag option.Finis (codes "FINIS   ") 5
+    ∷ flag option.Text (codes "STRING  ") 6 ∷ []
 
 -- the place of the first word STRING behind the first left parenthesis
 abbrev pub string_behind : List Token → ℕ → Option ℕ
@@ -110,22 +113,30 @@ string_word words = option_and_then (slice_get words) (string_place words)
 unfoldable pub text_in : List ℕ → List Token → Option (List ℕ)
 text_in line words = option_map (text_behind line) (string_word words)
 
--- FIFO unless LIFO
-abbrev pub end_of : List ChosenOption → StackEnd
-end_of chosen = if is_last 1 (0 ∷ 1 ∷ []) chosen then Front else Back
+-- lines go to the end of the stack as they are, and reading goes on behind them
+abbrev pub plain : StackStyle
+plain = record { end = Back; strips = false; forgets = false }
+
+-- how records are stacked, by one option more
+abbrev pub style_by : StackStyle → ExecioOption → StackStyle
+style_by style option.Fifo = record style { end = Back }
+style_by style option.Lifo = record style { end = Front }
+style_by style option.Strip = record style { strips = true }
+style_by style option.Finis = record style { forgets = true }
+style_by style option.Text = style
+
+-- the same, by an option that was chosen
+abbrev pub style_with : StackStyle → ChosenOption ExecioOption → StackStyle
+style_with style chosen = style_by style chosen.option
 
 -- how the options say that records are stacked
-abbrev pub style_of : List ChosenOption → StackStyle
-style_of chosen = record {
-  end = end_of chosen;
-  strips = is_some (last_among (2 ∷ []) chosen);
-  forgets = is_some (last_among (3 ∷ []) chosen);
-}
+abbrev pub style_of : List (ChosenOption ExecioOption) → StackStyle
+style_of chosen = fold style_with plain chosen
 
 -- ---- the line
 
 -- an option that the direction doesn't use has no effect
-abbrev pub line_of : Transfer → List ChosenOption → Option (List ℕ) → ExecioLine
+abbrev pub line_of : Transfer → List (ChosenOption ExecioOption) → Option (List ℕ) → ExecioLine
 line_of (moves.Read range) chosen text = line.Read (record { range = range; style = style_of chosen })
 line_of (moves.Write target) chosen text = line.Write target text
 

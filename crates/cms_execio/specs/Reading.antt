@@ -1,15 +1,17 @@
 -- DISKR: records of a file are stacked.
 use Rattle.std.specs.Prelude.{ℕ, zero, suc, pos, negsuc, ◌+◌, ◌-◌, ◌==◌, ◌&&◌, nat_lt, if◌then◌else◌, Bool, true, false, List, [], ◌∷◌, drop, length, map, min, take, Option, Some, None}
-use Rattle.std.specs.FinMap.{get, insert, remove}
+use Rattle.std.specs.FinMap.{get, insert}
 use Rattle.std.specs.Option.{option_map_or, unwrap_or}
 use Rattle.cms_names.specs.declared.name.Name.{Name}
 use Rattle.cms_model.specs.Changes.{Drop}
 use Rattle.cms_machine.specs.Acts.{Act, Done, bind}
 use Rattle.cms_line.specs.declared.token.Token.{Token}
 use Rattle.cms_search.specs.Machine.{Machine, Course, Places, Went, OutOfTurns, letter_at, place_key}
+use Rattle.cms_search.specs.Reading.{after}
 use Rattle.cms_search.specs.Refusing.{device_fault}
 use Rattle.cms_search.specs.Releasing.{vdev_of}
 use Rattle.cms_search.specs.Stepping.{reading, silently, unless_failed}
+use Rattle.cms_search.specs.declared.place_event.PlaceEvent.TheVariants as event
 use Rattle.cms_files.specs.Consuming.{is_consumed}
 use Rattle.cms_files.specs.Files.{UnitFile, file_found, file_on, on_found}
 use Rattle.cms_files.specs.Stacking.{stacking}
@@ -42,7 +44,7 @@ code_of_taken (Some n) taken = if nat_lt taken n then end_of_file else 0
 
 -- reading goes on behind so many records; with FINIS no place is kept
 abbrev pub going_on : Bool → ℕ → Name → ℕ → Places → Places
-going_on true vdev name next places = remove places (place_key vdev name)
+going_on true vdev name next places = after (event.Finished vdev name) places
 going_on false vdev name next places = insert places (place_key vdev name) next
 
 -- goes on where a part of the command came to code 0; any other ends it

@@ -4,13 +4,13 @@ ghost use Rattle.cms_operands.specs.Choices.{AnswersLine};
 ghost use Rattle.cms_operands.specs.Operands.{given};
 ghost use Rattle.cms_execio.specs.Line as spec;
 
-use crate::options::{options_before_text, style_of, text_in};
+use crate::options::{ExecioOption, options_before_text, style_of, text_in};
 use cms_files::{FileInput, StackEnd, file_input, full_name};
 use cms_line::{Line, Token, Tokens};
 use cms_names::Name;
 use cms_operands::{
-    ChosenOption, CommandFault, LARGEST, Refusal, WriteMode, coded, ended, given, given_or, needed,
-    number, number_or_all, operands, writing_mode,
+    ChosenOption, CommandFault, LARGEST, Refusal, WriteMode, ended, given, needed, number,
+    number_or_all, operands, writing_mode_or_a,
 };
 use cms_text::is_keyword;
 use std::alloc::Global;
@@ -123,7 +123,7 @@ fn write_operands(operands: &[Token], count: Option<u32>) -> Result<WriteTarget,
         return Err(Refusal::BadOperand(1));
     };
     let name = full_name(operands, 3)?;
-    let mode = writing_mode(5, given_or(operands, 5, &coded(b"A")))?;
+    let mode = writing_mode_or_a(operands, 5)?;
     ended(operands, 6)?;
     Ok(WriteTarget { name, mode, count })
 }
@@ -147,7 +147,11 @@ fn execio_operands(operands: &[Token]) -> Result<Transfer, Refusal>
 }
 
 // What operands and options say together.
-fn line_of(transfer: Transfer, chosen: &[ChosenOption], text: Option<Line>) -> ExecioLine
+fn line_of(
+    transfer: Transfer,
+    chosen: &[ChosenOption<ExecioOption>],
+    text: Option<Line>,
+) -> ExecioLine
     ensures { result ≡ spec.line_of transfer chosen.now text }
 {
     match transfer {

@@ -6,24 +6,33 @@ ghost use Rattle.cms_operands.specs.Choices.{AnswersLine, chosen_of};
 ghost use Rattle.cms_execio.specs.Line as spec;
 
 use crate::line::StackStyle;
-use cms_files::{StackEnd, is_last};
+use cms_files::StackEnd;
 use cms_line::{Line, Token, Tokens, Word, first_left};
-use cms_operands::{
-    ChosenOption, ChosenOptions, CommandFault, OptionForm, chosen_options, last_among,
-};
+use cms_operands::{ChosenOption, ChosenOptions, CommandFault, OptionForm, chosen_options};
 use cms_text::{is_keyword, without_one_blank};
 use std::alloc::{AllocError, Global};
 
+/// An option of EXECIO.
+#[derive(Clone, Copy)]
+pub enum ExecioOption {
+    Fifo,
+    Lifo,
+    Strip,
+    Finis,
+    /// STRING, with the text behind it
+    Text,
+}
+
 // Each in full spelling.
-fn options() -> [OptionForm; 5]
+fn options() -> [OptionForm<ExecioOption>; 5]
     ensures { result ≡ spec.options }
 {
     [
-        OptionForm::flag(b"FIFO    ", 4),
-        OptionForm::flag(b"LIFO    ", 4),
-        OptionForm::flag(b"STRIP   ", 5),
-        OptionForm::flag(b"FINIS   ", 5),
-        OptionForm::flag(b"STRING  ", 6),
+        OptionForm::flag(ExecioOption::Fifo, b"FIFO    ", 4),
+        OptionForm::flag(ExecioOption::Lifo, b"LIFO    ", 4),
+        OptionForm::flag(ExecioOption::Strip, b"STRIP   ", 5),
+        OptionForm::flag(ExecioOption::Finis, b"FINIS   ", 5),
+        OptionForm::flag(ExecioOption::Text, b"STRING  ", 6),
     ]
 }
 
@@ -72,7 +81,10 @@ fn copies_of(alloc: Global, words: &[Token]) -> Result<Tokens, AllocError>
 }
 
 /// The options that were chosen, or why a word among them is refused; the words behind STRING are none.
-pub fn options_before_text(alloc: Global, words: &Tokens) -> Result<ChosenOptions, CommandFault>
+pub fn options_before_text(
+    alloc: Global,
+    words: &Tokens,
+) -> Result<ChosenOptions<ExecioOption>, CommandFault>
     ensures { AnswersLine (chosen_of spec.options (spec.before_text words.now)) result }
 {
     match string_place(words.as_slice()) {
@@ -111,24 +123,28 @@ pub fn text_in(alloc: Global, line: &Line, words: &[Token]) -> Result<Option<Lin
     }
 }
 
-// Where lines are stacked.
-fn end_of(chosen: &[ChosenOption]) -> StackEnd
-    ensures { result ≡ spec.end_of chosen.now }
+// How records are stacked, by one option more.
+fn style_with(mut style: StackStyle, chosen: &ChosenOption<ExecioOption>) -> StackStyle
+    ensures { result ≡ spec.style_with style chosen.now }
 {
-    if is_last(1, &[0, 1], chosen) {
-        StackEnd::Front
-    } else {
-        StackEnd::Back
+    match chosen.option {
+        ExecioOption::Fifo => style.end = StackEnd::Back,
+        ExecioOption::Lifo => style.end = StackEnd::Front,
+        ExecioOption::Strip => style.strips = true,
+        ExecioOption::Finis => style.forgets = true,
+        ExecioOption::Text => {}
     }
+    style
 }
 
 /// How the options say that records are stacked.
-pub fn style_of(chosen: &[ChosenOption]) -> StackStyle
+pub fn style_of(chosen: &[ChosenOption<ExecioOption>]) -> StackStyle
     ensures { result ≡ spec.style_of chosen.now }
 {
-    StackStyle {
-        end: end_of(chosen),
-        strips: last_among(&[2], chosen).is_some(),
-        forgets: last_among(&[3], chosen).is_some(),
-    }
+    let plain = StackStyle {
+        end: StackEnd::Back,
+        strips: false,
+        forgets: false,
+    };
+    chosen.iter().fold(plain, style_with)
 }

@@ -4,7 +4,7 @@ ghost use Rattle.cms_execio.specs.Reading as spec;
 
 use crate::line::ReadRange;
 use cms_names::Name;
-use cms_search::Places;
+use cms_search::{PlaceEvent, Places};
 use std::alloc::AllocError;
 
 // The code where fewer records were left than a number asks for.
@@ -53,7 +53,7 @@ pub fn go_on(
     ensures err { OnErr result (places.new ≡ places.old) }
 {
     if forgets {
-        places.forget(vdev, name);
+        places.after(PlaceEvent::Finished(vdev, *name));
         return Ok(());
     }
     places.set(vdev, *name, next)

@@ -18,7 +18,7 @@ use Rattle.cms_machine.specs.Slots.{After}
 use Rattle.cms_line.specs.Messages.{message_text}
 use Rattle.cms_line.specs.Options.{options_from, options_of}
 use Rattle.cms_line.specs.Tokens.{tokens_from, tokens_of}
-use Rattle.cms_operands.specs.Choices.{all_valued, chosen_of, columns_in, last_among, setting_in, valued}
+use Rattle.cms_operands.specs.Choices.{all_valued, chosen_of, columns_in, setting_in, valued}
 use Rattle.cms_operands.specs.Operands.{ended, given, given_or, name, name_or_all, name_or_same, needed, number, number_or_all, number_within, operands_of, output_mode, reading_mode, writing_mode}
 use Rattle.cms_operands.specs.Refusals.{message_of}
 use Rattle.cms_search.specs.Machine.{Machine, typing}
@@ -92,7 +92,7 @@ records : (typed (codes "TYPE A FILE") ≡ types (codes "HELLO" ∷ codes "ABC" 
     × (typed (codes "TYPE A FILE A1 3 *") ≡ types (codes "XY" ∷ []) 0)
 unfolding type_operands file_input full_name reading_mode number number_or_all operands_of needed given given_or name text_of is_name_character mode_word_of short_mode_of letter_of mode_number_of
     ended chosen_of options_of options_from
-    all_valued valued setting_in last_among ebcdic code_of code_page host_of upper_of character_of tokens_of tokens_from message_of message_text typed_line magnitude_of number_within places_from
+    all_valued valued setting_in ebcdic code_of code_page host_of upper_of character_of tokens_of tokens_from message_of message_text typed_line magnitude_of number_within places_from
     file_named same_name same typing
 records = (refl, refl, refl, refl, refl)
 
@@ -102,7 +102,7 @@ styles : (typed (codes "TYPE A FILE (HEX") ≡ types (codes "C8C5D3D3D6" ∷ cod
     × (typed (codes "TYPE A FILE A 1 2 (COL 1-1 HEX COL 4-99") ≡ types (codes "D3D6" ∷ [] ∷ []) 0)
 unfolding type_operands file_input full_name reading_mode number number_or_all columns_in operands_of needed given given_or name text_of is_name_character mode_word_of short_mode_of letter_of
     mode_number_of ended chosen_of options_of options_from
-    all_valued valued setting_in last_among ebcdic code_of code_page host_of upper_of character_of tokens_of tokens_from message_of message_text typed_line magnitude_of number_within places_from
+    all_valued valued setting_in ebcdic code_of code_page host_of upper_of character_of tokens_of tokens_from message_of message_text typed_line magnitude_of number_within places_from
     file_named same_name same typing
 styles = (refl, refl, refl)
 
@@ -117,7 +117,7 @@ refused_records : (typed (codes "TYPE A FILE A 0 X") ≡ types (codes "CMS070E O
     × (typed (codes "TYPE A! FILE") ≡ types (codes "CMS062E Name A! is not valid" ∷ []) 20)
 unfolding type_operands file_input full_name reading_mode number number_or_all operands_of needed given given_or name text_of is_name_character mode_word_of short_mode_of letter_of mode_number_of
     ended chosen_of options_of options_from
-    all_valued valued setting_in last_among ebcdic code_of code_page host_of upper_of character_of tokens_of tokens_from message_of message_text typed_line magnitude_of number_within places_from
+    all_valued valued setting_in ebcdic code_of code_page host_of upper_of character_of tokens_of tokens_from message_of message_text typed_line magnitude_of number_within places_from
     file_named same_name same
 refused_records = (refl, refl, refl, refl, refl, refl, refl, refl)
 
@@ -128,7 +128,7 @@ refused_options : (typed (codes "TYPE A FILE (COL 0-1 BLUE") ≡ types (codes "C
     × (typed (codes "TYPE A FILE (HEX) COL 1-2") ≡ types (codes "CMS070E Operand COL is not valid" ∷ []) 24)
 unfolding type_operands file_input full_name reading_mode number number_or_all columns_in operands_of needed given given_or name text_of is_name_character mode_word_of short_mode_of letter_of
     mode_number_of ended chosen_of options_of options_from
-    all_valued valued setting_in last_among ebcdic code_of code_page host_of upper_of character_of tokens_of tokens_from message_of message_text typed_line magnitude_of number_within
+    all_valued valued setting_in ebcdic code_of code_page host_of upper_of character_of tokens_of tokens_from message_of message_text typed_line magnitude_of number_within
 refused_options = (refl, refl, refl, refl, refl)
 
 -- the device fails behind two records
@@ -136,7 +136,7 @@ failed_records : (answer (type_command three_records (words (codes "TYPE A FILE 
     × (answer (type_command three_records (words (codes "TYPE A FILE A 3"))) (ReadFault 2 ∷ []) ≡ types (codes "CMS105E Device fault on 191" ∷ []) 100)
 unfolding type_operands file_input full_name reading_mode number number_or_all operands_of needed given given_or name text_of is_name_character mode_word_of short_mode_of letter_of mode_number_of
     ended chosen_of options_of options_from
-    all_valued valued setting_in last_among ebcdic code_of code_page host_of upper_of character_of tokens_of tokens_from message_of message_text typed_line magnitude_of number_within places_from
+    all_valued valued setting_in ebcdic code_of code_page host_of upper_of character_of tokens_of tokens_from message_of message_text typed_line magnitude_of number_within places_from
     file_named same_name same typing
 failed_records = (refl, refl)
 
@@ -158,7 +158,7 @@ read_once : (types_once (codes "TYPE P FILE") [] ≡ types (codes "X" ∷ codes 
     × (types_once (codes "TYPE P FILE") (Good ∷ OldFault ∷ []) ≡ types (codes "X" ∷ codes "Y" ∷ codes "CMS105E Device fault on 191" ∷ []) 100)
 unfolding type_operands file_input full_name reading_mode number number_or_all operands_of needed given given_or name text_of is_name_character mode_word_of short_mode_of letter_of mode_number_of
     ended chosen_of options_of options_from
-    all_valued valued setting_in last_among ebcdic code_of code_page host_of upper_of character_of tokens_of tokens_from message_of message_text typed_line magnitude_of number_within places_from
+    all_valued valued setting_in ebcdic code_of code_page host_of upper_of character_of tokens_of tokens_from message_of message_text typed_line magnitude_of number_within places_from
     answer_of limit changed_files written_file is_full free_count used_count directory_more tree_size pointer_count pointers_to levels levels_from map_size need changed
     place_named entries_made directory_taken blocks_with holds fresh_count fresh_to fresh_on is_kept any_within file_size
     stored_size file_named same_name same moment decimal_of written digits drop_file last_first typing
@@ -187,7 +187,7 @@ erased : (erases (codes "ERASE AB FILE") [] ≡ types [] 0)
     × (erases (codes "ERASE * * A0 (TYPE NOT") [] ≡ types [] 0)
 unfolding erase_operands updating_each name_choice name_or_all writing_mode operands_of needed given given_or name text_of is_name_character mode_word_of short_mode_of letter_of mode_number_of
     ended chosen_of options_of options_from
-    all_valued valued setting_in last_among ebcdic code_of code_page host_of upper_of character_of tokens_of tokens_from message_of message_text typed_line magnitude_of number_within
+    all_valued valued setting_in ebcdic code_of code_page host_of upper_of character_of tokens_of tokens_from message_of message_text typed_line magnitude_of number_within
     answer_of limit changed_files written_file is_full free_count used_count directory_more tree_size pointer_count pointers_to levels levels_from map_size need changed
     place_named entries_made directory_taken blocks_with holds fresh_count fresh_to fresh_on is_kept any_within file_size
     stored_size file_named same_name same moment decimal_of written digits drop_file last_first
@@ -199,7 +199,7 @@ erasing_failed : (erases (codes "ERASE * FILE (TYPE") (Good ∷ OldFault ∷ [])
     × (leaves (codes "ERASE * FILE (TYPE") (Good ∷ OldFault ∷ []) ≡ named (codes "BX") (codes "FILE") 1 ∷ named (codes "AC") (codes "FILE") 2 ∷ named (codes "AD") (codes "FORM") 0 ∷ [])
 unfolding erase_operands updating_each name_choice name_or_all writing_mode operands_of needed given given_or name text_of is_name_character mode_word_of short_mode_of letter_of mode_number_of
     ended chosen_of options_of options_from
-    all_valued valued setting_in last_among ebcdic code_of code_page host_of upper_of character_of tokens_of tokens_from message_of message_text typed_line magnitude_of number_within
+    all_valued valued setting_in ebcdic code_of code_page host_of upper_of character_of tokens_of tokens_from message_of message_text typed_line magnitude_of number_within
     answer_of limit changed_files written_file is_full free_count used_count directory_more tree_size pointer_count pointers_to levels levels_from map_size need changed
     place_named entries_made directory_taken blocks_with holds fresh_count fresh_to fresh_on is_kept any_within file_size
     stored_size file_named same_name same moment decimal_of written digits drop_file last_first
@@ -215,7 +215,7 @@ erasing_refused : (erases (codes "ERASE A FILE B") [] ≡ types (codes "CMS069E 
     × (erases (codes "ERASE AB FILE B (FAST") [] ≡ types (codes "CMS003E Option FAST is not valid" ∷ []) 24)
 unfolding erase_operands name_choice name_or_all writing_mode operands_of needed given given_or name text_of is_name_character mode_word_of short_mode_of letter_of mode_number_of ended chosen_of
     options_of options_from
-    all_valued valued setting_in last_among ebcdic code_of code_page host_of upper_of character_of tokens_of tokens_from message_of message_text typed_line magnitude_of number_within
+    all_valued valued setting_in ebcdic code_of code_page host_of upper_of character_of tokens_of tokens_from message_of message_text typed_line magnitude_of number_within
 erasing_refused = (refl, refl, refl, refl, refl, refl, refl)
 
 -- ---- RENAME
@@ -235,7 +235,7 @@ renamed : (renames (codes "RENAME AB FILE A = NEW A2 (TYPE") [] ≡ types (codes
     × (renames (codes "RENAME AB FILE A AB FILE A (TYPE NOTYPE") [] ≡ types [] 0)
 unfolding rename_operands updating_each equal_signs name_choice output_name name_or_all name_or_same writing_mode output_mode operands_of needed given given_or name text_of is_name_character
     mode_word_of short_mode_of letter_of mode_number_of ended chosen_of options_of options_from
-    all_valued valued setting_in last_among ebcdic code_of code_page host_of upper_of character_of tokens_of tokens_from message_of message_text typed_line magnitude_of number_within
+    all_valued valued setting_in ebcdic code_of code_page host_of upper_of character_of tokens_of tokens_from message_of message_text typed_line magnitude_of number_within
     answer_of limit changed_files written_file is_full free_count used_count directory_more tree_size pointer_count pointers_to levels levels_from map_size need changed
     place_named entries_made directory_taken blocks_with holds fresh_count fresh_to fresh_on is_kept any_within file_size
     stored_size file_named same_name same moment decimal_of written digits change_file
@@ -250,7 +250,7 @@ taken : (renames (codes "RENAME AB FILE A BX FILE A") [] ≡ types (codes "CMS02
     × (renames (codes "RENAME * FILE A = OLD A (TYPE") (Good ∷ OldFault ∷ []) ≡ types (codes "AB OLD A1" ∷ codes "CMS105E Device fault on 191" ∷ []) 100)
 unfolding rename_operands updating_each equal_signs name_choice output_name name_or_all name_or_same writing_mode output_mode operands_of needed given given_or name text_of is_name_character
     mode_word_of short_mode_of letter_of mode_number_of ended chosen_of options_of options_from
-    all_valued valued setting_in last_among ebcdic code_of code_page host_of upper_of character_of tokens_of tokens_from message_of message_text typed_line magnitude_of number_within
+    all_valued valued setting_in ebcdic code_of code_page host_of upper_of character_of tokens_of tokens_from message_of message_text typed_line magnitude_of number_within
     answer_of limit changed_files written_file is_full free_count used_count directory_more tree_size pointer_count pointers_to levels levels_from map_size need changed
     place_named entries_made directory_taken blocks_with holds fresh_count fresh_to fresh_on is_kept any_within file_size
     stored_size file_named same_name same moment decimal_of written digits change_file
@@ -268,5 +268,5 @@ renaming_refused : (renames (codes "RENAME AB FILE A = * B") [] ≡ types (codes
     × (renames (codes "RENAME AX FILE A1 AB FILE A") [] ≡ types (codes "CMS002E File AX FILE A1 not found" ∷ []) 28)
 unfolding rename_operands equal_signs name_choice output_name name_or_all name_or_same writing_mode output_mode operands_of needed given given_or name text_of is_name_character mode_word_of
     short_mode_of letter_of mode_number_of ended chosen_of options_of options_from
-    all_valued valued setting_in last_among ebcdic code_of code_page host_of upper_of character_of tokens_of tokens_from message_of message_text typed_line magnitude_of number_within
+    all_valued valued setting_in ebcdic code_of code_page host_of upper_of character_of tokens_of tokens_from message_of message_text typed_line magnitude_of number_within
 renaming_refused = (refl, refl, refl, refl, refl, refl, refl, refl, refl)

@@ -21,12 +21,13 @@ use Rattle.cms_operands.specs.declared.refusal.Refusal.TheVariants.{BadMode}
 use Rattle.cms_search.specs.Searches.{Listed, Shelf, item_at}
 use Rattle.cms_search.specs.Tables.{Accesses, Seated, shelves_of}
 use Rattle.cms_search.proofs.Shown.{position_named, shelf_at, shelf_none}
-use Rattle.cms_files.specs.Identifiers.{is_last, name_choice, output_name}
+use Rattle.cms_files.specs.Identifiers.{name_choice, output_name}
 use Rattle.cms_files.specs.declared.identifier.NameChoice.{NameChoice}
 use Rattle.cms_files.proofs.OpenedFiles.{seat_with}
-use Rattle.cms_fileops.specs.Rename.{AreOthers, HasMode, is_others, number_for, options, rename_line, rename_operands, renaming_of}
+use Rattle.cms_fileops.specs.Rename.{AreOthers, HasMode, is_others, number_for, options, rename_line, rename_operands, renaming_of, types_of}
 use Rattle.cms_fileops.specs.declared.rename.RenameFiles.{RenameFiles}
 use Rattle.cms_fileops.specs.declared.rename.RenameLine.{RenameLine}
+use Rattle.cms_fileops.specs.declared.rename.RenameOption.{RenameOption}
 
 -- ---- the number of the line
 
@@ -115,11 +116,11 @@ operands_number operands files is =
 -- that of RENAME's line
 pub line_number : (words : List Token) (line : RenameLine) → rename_line words ≡ Ok line → HasMode line.files.number
 line_number words line is =
-    let at_chosen : RenameFiles → List ChosenOption → Result RenameLine Refusal = λ files chosen. Ok (record { files = files; types = is_last 0 (0 ∷ 1 ∷ []) chosen }) in
+    let at_chosen : RenameFiles → List (ChosenOption RenameOption) → Result RenameLine Refusal = λ files chosen. Ok (record { files = files; types = types_of chosen }) in
     let at_files : RenameFiles → Result RenameLine Refusal = λ files. chosen_of options words >>= at_chosen files in
     let files = before (rename_operands (operands_of words)) at_files line is in
     let chosen = before (chosen_of options words) (at_chosen files.0) line files.2 in
-    let same : ◌≡◌ {A = RenameLine} (record { files = files.0; types = is_last 0 (0 ∷ 1 ∷ []) chosen.0 }) line = cc chosen.2 in
+    let same : ◌≡◌ {A = RenameLine} (record { files = files.0; types = types_of chosen.0 }) line = cc chosen.2 in
     subst (λ (l : RenameLine). HasMode l.files.number) same (operands_number (operands_of words) files.0 files.1)
 
 -- ---- the numbers that files get

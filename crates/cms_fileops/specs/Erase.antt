@@ -1,12 +1,14 @@
 -- ERASE fn ft [fm] [(TYPE or NOTYPE]
-use Rattle.std.specs.Prelude.{ℕ, Bool, List, [], ◌∷◌, codes, Result, Ok}
+use Rattle.std.specs.Prelude.{ℕ, Bool, true, false, List, [], ◌∷◌, codes, fold, Result, Ok}
 use Rattle.cms_names.specs.declared.name.Name.{Name}
 use Rattle.cms_fields.specs.Steps.{◌>>=◌, ◌>>◌}
 use Rattle.cms_model.specs.Changes.{Drop}
 use Rattle.cms_machine.specs.Acts.{Act, bind}
 use Rattle.cms_line.specs.declared.token.Token.{Token}
 use Rattle.cms_operands.specs.Choices.{chosen_of, flag}
-use Rattle.cms_operands.specs.Operands.{ended, operands_of, writing_mode}
+use Rattle.cms_operands.specs.Operands.{ended, operands_of}
+use Rattle.cms_operands.specs.Optional.{writing_mode_or_a}
+use Rattle.cms_operands.specs.declared.choosing.ChosenOption.{ChosenOption}
 use Rattle.cms_operands.specs.declared.choosing.OptionForm.{OptionForm}
 use Rattle.cms_operands.specs.declared.refusal.Refusal.{Refusal}
 use Rattle.cms_search.specs.Machine.{Machine, Course}
@@ -14,10 +16,12 @@ use Rattle.cms_search.specs.Refusing.{on_line}
 use Rattle.cms_search.specs.Searches.{Listed, shelves_in}
 use Rattle.cms_search.specs.Stepping.{Stepped}
 use Rattle.cms_files.specs.Files.{file_text, shelf_with}
-use Rattle.cms_files.specs.Identifiers.{is_last, mode_or_a, name_choice}
+use Rattle.cms_files.specs.Identifiers.{name_choice}
 use Rattle.cms_files.specs.Updating.{on_step, telling, updating, updating_taken}
 use Rattle.cms_fileops.specs.declared.erase.EraseFiles.{EraseFiles}
 use Rattle.cms_fileops.specs.declared.erase.EraseLine.{EraseLine}
+use Rattle.cms_fileops.specs.declared.erase.EraseOption.{EraseOption}
+use Rattle.cms_fileops.specs.declared.erase.EraseOption.TheVariants as option
 
 -- ---- the line
 
@@ -25,20 +29,33 @@ use Rattle.cms_fileops.specs.declared.erase.EraseLine.{EraseLine}
 unfoldable pub erase_operands : List Token → Result EraseFiles Refusal
 erase_operands operands = do
   names ← name_choice operands 1
-  mode ← writing_mode 3 (mode_or_a operands 3)
+  mode ← writing_mode_or_a operands 3
   ended operands 4
   Ok (record { names = names; mode = mode })
 
 -- TYPE and NOTYPE
-abbrev pub options : List OptionForm
-options = flag (codes "TYPE    ") 2 ∷ flag (codes "NOTYPE  ") 3 ∷ []
+abbrev pub options : List (OptionForm EraseOption)
+options = flag option.TypeFiles (codes "TYPE    ") 2 ∷ flag option.NoType (codes "NOTYPE  ") 3 ∷ []
+
+-- whether files are typed, by an option
+abbrev pub types_by : EraseOption → Bool
+types_by option.TypeFiles = true
+types_by option.NoType = false
+
+-- whether files are typed, by one option more
+abbrev pub types_with : Bool → ChosenOption EraseOption → Bool
+types_with types chosen = types_by chosen.option
+
+-- whether files are typed: the last option says so
+abbrev pub types_of : List (ChosenOption EraseOption) → Bool
+types_of chosen = fold types_with false chosen
 
 -- what ERASE's line says, or the first refusal
 abbrev pub erase_line : List Token → Result EraseLine Refusal
 erase_line words = do
   files ← erase_operands (operands_of words)
   chosen ← chosen_of options words
-  Ok (record { files = files; types = is_last 0 (0 ∷ 1 ∷ []) chosen })
+  Ok (record { files = files; types = types_of chosen })
 
 -- ---- the command
 

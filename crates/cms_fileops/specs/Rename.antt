@@ -1,5 +1,5 @@
 -- RENAME fn ft fm fn ft fm [(TYPE or NOTYPE] [UPDIRT]
-use Rattle.std.specs.Prelude.{◌≡◌, ◌≤◌, ℕ, ◌==◌, ◌&&◌, not, Bool, if◌then◌else◌, List, [], ◌∷◌, codes, Option, Some, None, IfSome, Result, Ok, Err}
+use Rattle.std.specs.Prelude.{◌≡◌, ◌≤◌, ℕ, ◌==◌, ◌&&◌, not, Bool, true, false, if◌then◌else◌, List, [], ◌∷◌, codes, fold, Option, Some, None, IfSome, Result, Ok, Err}
 use Rattle.std.specs.Option.{unwrap_or}
 use Rattle.std.specs.Str.{bytes_eq}
 use Rattle.cms_names.specs.Modes.{equal_signs}
@@ -12,6 +12,7 @@ use Rattle.cms_line.specs.declared.token.Token.{Token}
 use Rattle.cms_operands.specs.Choices.{chosen_of, flag}
 use Rattle.cms_operands.specs.Operands.{ended, needed, operands_of, output_mode, writing_mode}
 use Rattle.cms_operands.specs.Refusals.{text_at}
+use Rattle.cms_operands.specs.declared.choosing.ChosenOption.{ChosenOption}
 use Rattle.cms_operands.specs.declared.choosing.OptionForm.{OptionForm}
 use Rattle.cms_operands.specs.declared.operand.WriteMode.{WriteMode}
 use Rattle.cms_operands.specs.declared.refusal.Refusal.{Refusal}
@@ -23,10 +24,12 @@ use Rattle.cms_search.specs.Stepping.{Stepped}
 use Rattle.cms_search.specs.Tables.{Accesses, shelves_of}
 use Rattle.cms_search.specs.Telling.{letter_text}
 use Rattle.cms_files.specs.Files.{file_exists, file_text, has_name, shelf_with}
-use Rattle.cms_files.specs.Identifiers.{is_last, name_choice, output_name}
+use Rattle.cms_files.specs.Identifiers.{name_choice, output_name}
 use Rattle.cms_files.specs.Updating.{on_step, stopping, telling, updating, updating_taken}
 use Rattle.cms_fileops.specs.declared.rename.RenameFiles.{RenameFiles}
 use Rattle.cms_fileops.specs.declared.rename.RenameLine.{RenameLine}
+use Rattle.cms_fileops.specs.declared.rename.RenameOption.{RenameOption}
+use Rattle.cms_fileops.specs.declared.rename.RenameOption.TheVariants as option
 use Rattle.cms_fileops.specs.declared.rename.Renaming.{Renaming}
 
 -- ---- the line
@@ -49,16 +52,32 @@ rename_operands operands = do
   ended operands 7
   Ok (record { names = names; mode = mode; output = output; number = number })
 
--- UPDIRT has no effect
-abbrev pub options : List OptionForm
-options = flag (codes "TYPE    ") 2 ∷ flag (codes "NOTYPE  ") 3 ∷ flag (codes "UPDIRT  ") 2 ∷ []
+-- TYPE, NOTYPE and UPDIRT
+abbrev pub options : List (OptionForm RenameOption)
+options =
+    flag option.TypeFiles (codes "TYPE    ") 2 ∷ flag option.NoType (codes "NOTYPE  ") 3
+    ∷ flag option.Updirt (codes "UPDIRT  ") 2 ∷ []
+
+-- whether files are typed, by one option more; UPDIRT has no effect
+abbrev pub types_by : Bool → RenameOption → Bool
+types_by types option.TypeFiles = true
+types_by types option.NoType = false
+types_by types option.Updirt = types
+
+-- the same, by an option that was chosen
+abbrev pub types_with : Bool → ChosenOption RenameOption → Bool
+types_with types chosen = types_by types chosen.option
+
+-- whether files are typed: the last of TYPE and NOTYPE says so
+abbrev pub types_of : List (ChosenOption RenameOption) → Bool
+types_of chosen = fold types_with false chosen
 
 -- what RENAME's line says, or the first refusal
 abbrev pub rename_line : List Token → Result RenameLine Refusal
 rename_line words = do
   files ← rename_operands (operands_of words)
   chosen ← chosen_of options words
-  Ok (record { files = files; types = is_last 0 (0 ∷ 1 ∷ []) chosen })
+  Ok (record { files = files; types = types_of chosen })
 
 -- ---- the command
 

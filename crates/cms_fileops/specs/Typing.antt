@@ -1,13 +1,13 @@
 -- TYPE fn ft [fm [first [last]]] [(HEX] [COL a-b]
-use Rattle.std.specs.Prelude.{⊤, ℕ, ◌-◌, ◌/◌, ◌%◌, ◌==◌, nat_lt, if◌then◌else◌, List, [], ◌∷◌, codes, drop, is_some, length, map, min, take, Option, Some, None, Result, Ok}
+use Rattle.std.specs.Prelude.{⊤, ℕ, ◌-◌, ◌/◌, ◌%◌, ◌==◌, nat_lt, true, false, if◌then◌else◌, List, [], ◌∷◌, codes, drop, fold, length, map, min, take, Option, Some, None, Result, Ok}
 use Rattle.std.specs.List.{flat_map}
-use Rattle.std.specs.Option.{option_and_then, option_map_or}
+use Rattle.std.specs.Option.{option_map_or}
 use Rattle.cms_fields.specs.Steps.{◌>>=◌, ◌>>◌}
-use Rattle.cms_text.specs.Texts.{coded}
 use Rattle.cms_machine.specs.Acts.{Act, Done, saying, typed_line}
 use Rattle.cms_line.specs.declared.token.Token.{Token}
-use Rattle.cms_operands.specs.Choices.{chosen_of, flag, form, last_among}
-use Rattle.cms_operands.specs.Operands.{ended, given_or, largest, number, number_or_all, operands_of}
+use Rattle.cms_operands.specs.Choices.{chosen_of, flag, form}
+use Rattle.cms_operands.specs.Operands.{ended, largest, operands_of}
+use Rattle.cms_operands.specs.Optional.{given_number_or_all, number_or}
 use Rattle.cms_operands.specs.declared.choosing.ChosenOption.{ChosenOption}
 use Rattle.cms_operands.specs.declared.choosing.OptionForm.{OptionForm}
 use Rattle.cms_operands.specs.declared.choosing.Parameter.TheVariants as takes
@@ -26,6 +26,8 @@ use Rattle.cms_files.specs.Identifiers.{file_input}
 use Rattle.cms_files.specs.Updating.{went}
 use Rattle.cms_fileops.specs.declared.typing.ColumnRange.{ColumnRange}
 use Rattle.cms_fileops.specs.declared.typing.TypeLine.{TypeLine}
+use Rattle.cms_fileops.specs.declared.typing.TypeOption.{TypeOption}
+use Rattle.cms_fileops.specs.declared.typing.TypeOption.TheVariants as option
 use Rattle.cms_fileops.specs.declared.typing.TypeRange.{TypeRange}
 use Rattle.cms_fileops.specs.declared.typing.TypeStyle.{TypeStyle}
 
@@ -35,26 +37,36 @@ use Rattle.cms_fileops.specs.declared.typing.TypeStyle.{TypeStyle}
 unfoldable pub type_operands : List Token → Result TypeRange Refusal
 type_operands operands = do
   input ← file_input operands 1
-  first ← number 1 largest 4 (given_or operands 4 (coded (codes "1")))
-  last ← number_or_all first largest 5 (given_or operands 5 (coded (codes "*")))
+  first ← number_or 1 largest operands 4 1
+  last ← given_number_or_all first largest operands 5
   ended operands 6
   Ok (record { input = input; first = first; last = last })
 
 -- HEX, and COL with two columns
-abbrev pub options : List OptionForm
-options = flag (codes "HEX     ") 3 ∷ form (codes "COL     ") 3 takes.Columns ∷ []
+abbrev pub options : List (OptionForm TypeOption)
+options = flag option.Hex (codes "HEX     ") 3 ∷ form option.Col (codes "COL     ") 3 takes.Columns ∷ []
 
 -- the columns that a parameter says
 abbrev pub columns_in : Setting → Option ColumnRange
 columns_in (says.Columns first last) = Some (record { first = first; last = last })
 columns_in _ = None
 
--- in digits; some columns, or all
-abbrev pub style_of : List ChosenOption → TypeStyle
-style_of chosen = record {
-  hexadecimal = is_some (last_among (0 ∷ []) chosen);
-  columns = option_and_then (λ o. columns_in o.setting) (last_among (1 ∷ []) chosen);
-}
+-- records as they are, and whole
+abbrev pub plain : TypeStyle
+plain = record { hexadecimal = false; columns = None }
+
+-- how records are typed, by one option more with its parameter: in digits; some columns
+abbrev pub style_by : TypeStyle → TypeOption → Setting → TypeStyle
+style_by style option.Hex says = record style { hexadecimal = true }
+style_by style option.Col says = record style { columns = columns_in says }
+
+-- the same, by an option that was chosen
+abbrev pub style_with : TypeStyle → ChosenOption TypeOption → TypeStyle
+style_with style chosen = style_by style chosen.option chosen.setting
+
+-- how the options say that records are typed
+abbrev pub style_of : List (ChosenOption TypeOption) → TypeStyle
+style_of chosen = fold style_with plain chosen
 
 -- what TYPE's line says, or the first refusal
 abbrev pub type_line : List Token → Result TypeLine Refusal

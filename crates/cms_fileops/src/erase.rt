@@ -8,14 +8,14 @@ ghost use Rattle.cms_fileops.specs.Erase as spec;
 
 use cms_edf::Change;
 use cms_files::{
-    FileUpdate, NameChoice, TakenFile, Updated, file_text, find_written, is_last, name_choice,
-    stop_search, tell_updated, update_disk, update_taken,
+    FileUpdate, NameChoice, TakenFile, Updated, file_text, find_written, name_choice, stop_search,
+    tell_updated, update_disk, update_taken,
 };
 use cms_line::{Token, Tokens};
 use cms_names::Name;
 use cms_operands::{
-    CommandFault, OptionForm, Refusal, WriteMode, chosen_options, coded, ended, given_or, operands,
-    writing_mode,
+    ChosenOption, CommandFault, OptionForm, Refusal, WriteMode, chosen_options, ended, operands,
+    writing_mode_or_a,
 };
 use cms_search::{Course, End, State, refuse_command};
 use cms_world::World;
@@ -26,6 +26,14 @@ use std::alloc::Global;
 pub struct EraseFiles {
     pub names: NameChoice,
     pub mode: WriteMode,
+}
+
+/// An option of ERASE.
+#[derive(Clone, Copy)]
+pub enum EraseOption {
+    /// TYPE
+    TypeFiles,
+    NoType,
 }
 
 /// What ERASE's line says.
@@ -41,18 +49,35 @@ fn erase_operands(operands: &[Token]) -> Result<EraseFiles, Refusal>
     ensures { result ≡ spec.erase_operands operands.now }
 {
     let names = name_choice(operands, 1)?;
-    let mode = writing_mode(3, given_or(operands, 3, &coded(b"A")))?;
+    let mode = writing_mode_or_a(operands, 3)?;
     ended(operands, 4)?;
     Ok(EraseFiles { names, mode })
 }
 
-fn options() -> [OptionForm; 2]
+fn options() -> [OptionForm<EraseOption>; 2]
     ensures { result ≡ spec.options }
 {
     [
-        OptionForm::flag(b"TYPE    ", 2),
-        OptionForm::flag(b"NOTYPE  ", 3),
+        OptionForm::flag(EraseOption::TypeFiles, b"TYPE    ", 2),
+        OptionForm::flag(EraseOption::NoType, b"NOTYPE  ", 3),
     ]
+}
+
+// Whether files are typed, by one option more.
+fn types_with(types: bool, chosen: &ChosenOption<EraseOption>) -> bool
+    ensures { result ≡ spec.types_with types chosen.now }
+{
+    match chosen.option {
+        EraseOption::TypeFiles => true,
+        EraseOption::NoType => false,
+    }
+}
+
+// Whether files are typed: the last option says so.
+fn types_of(chosen: &[ChosenOption<EraseOption>]) -> bool
+    ensures { result ≡ spec.types_of chosen.now }
+{
+    chosen.iter().fold(false, types_with)
 }
 
 /// What ERASE's line says, or why it is refused.
@@ -63,7 +88,7 @@ pub fn erase_line(alloc: Global, words: &Tokens) -> Result<EraseLine, CommandFau
     let chosen = chosen_options(alloc, &options(), words)?;
     Ok(EraseLine {
         files,
-        types: is_last(0, &[0, 1], chosen.as_slice()),
+        types: types_of(chosen.as_slice()),
     })
 }
 

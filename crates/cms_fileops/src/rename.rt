@@ -9,14 +9,14 @@ ghost use Rattle.cms_fileops.specs.Rename as spec;
 
 use cms_edf::Change;
 use cms_files::{
-    FileUpdate, NameChoice, TakenFile, Updated, file_text, find_written, is_last, name_choice,
-    output_name, stop_exists, stop_search, tell_updated, update_disk, update_taken,
+    FileUpdate, NameChoice, TakenFile, Updated, file_text, find_written, name_choice, output_name,
+    stop_exists, stop_search, tell_updated, update_disk, update_taken,
 };
 use cms_line::{Token, Tokens, Word};
 use cms_names::{Name, OutId, equal_signs};
 use cms_operands::{
-    CommandFault, OptionForm, Refusal, WriteMode, chosen_options, ended, needed, operands,
-    output_mode, writing_mode,
+    ChosenOption, CommandFault, OptionForm, Refusal, WriteMode, chosen_options, ended, needed,
+    operands, output_mode, writing_mode,
 };
 use cms_search::{Course, End, State, Table, letter_word, refuse_command};
 use cms_world::World;
@@ -43,6 +43,16 @@ pub struct Renaming {
     pub name: Name,
     /// 0 to 6
     pub number: u8,
+}
+
+/// An option of RENAME.
+#[derive(Clone, Copy)]
+pub enum RenameOption {
+    /// TYPE
+    TypeFiles,
+    NoType,
+    /// which has no effect
+    Updirt,
 }
 
 /// What RENAME's line says.
@@ -81,14 +91,32 @@ fn rename_operands(operands: &[Token]) -> Result<RenameFiles, Refusal>
     })
 }
 
-fn options() -> [OptionForm; 3]
+fn options() -> [OptionForm<RenameOption>; 3]
     ensures { result ≡ spec.options }
 {
     [
-        OptionForm::flag(b"TYPE    ", 2),
-        OptionForm::flag(b"NOTYPE  ", 3),
-        OptionForm::flag(b"UPDIRT  ", 2),
+        OptionForm::flag(RenameOption::TypeFiles, b"TYPE    ", 2),
+        OptionForm::flag(RenameOption::NoType, b"NOTYPE  ", 3),
+        OptionForm::flag(RenameOption::Updirt, b"UPDIRT  ", 2),
     ]
+}
+
+// Whether files are typed, by one option more.
+fn types_with(types: bool, chosen: &ChosenOption<RenameOption>) -> bool
+    ensures { result ≡ spec.types_with types chosen.now }
+{
+    match chosen.option {
+        RenameOption::TypeFiles => true,
+        RenameOption::NoType => false,
+        RenameOption::Updirt => types,
+    }
+}
+
+// Whether files are typed: the last of TYPE and NOTYPE says so.
+fn types_of(chosen: &[ChosenOption<RenameOption>]) -> bool
+    ensures { result ≡ spec.types_of chosen.now }
+{
+    chosen.iter().fold(false, types_with)
 }
 
 /// What RENAME's line says, or why it is refused.
@@ -99,7 +127,7 @@ pub fn rename_line(alloc: Global, words: &Tokens) -> Result<RenameLine, CommandF
     let chosen = chosen_options(alloc, &options(), words)?;
     Ok(RenameLine {
         files,
-        types: is_last(0, &[0, 1], chosen.as_slice()),
+        types: types_of(chosen.as_slice()),
     })
 }
 

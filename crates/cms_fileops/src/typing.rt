@@ -12,7 +12,7 @@ use cms_files::{FileInput, OpenFile, consume_last, file_input, open_file, refuse
 use cms_line::{Token, Tokens};
 use cms_operands::{
     ChosenOption, CommandFault, LARGEST, OptionForm, Parameter, Refusal, Setting, chosen_options,
-    coded, ended, given_or, last_among, number, number_or_all, operands,
+    ended, given_number_or_all, number_or, operands,
 };
 use cms_search::{
     Course, End, State, hexadecimal_digit, refuse_command, refuse_line, refuse_unread, say,
@@ -33,6 +33,14 @@ pub struct TypeRange {
     pub input: FileInput,
     pub first: u32,
     pub last: Option<u32>,
+}
+
+/// An option of TYPE.
+#[derive(Clone, Copy)]
+pub enum TypeOption {
+    Hex,
+    /// COL a-b
+    Col,
 }
 
 /// How a record is typed.
@@ -56,18 +64,18 @@ fn type_operands(operands: &[Token]) -> Result<TypeRange, Refusal>
     ensures { result ≡ spec.type_operands operands.now }
 {
     let input = file_input(operands, 1)?;
-    let first = number(1, LARGEST, 4, given_or(operands, 4, &coded(b"1")))?;
-    let last = number_or_all(first, LARGEST, 5, given_or(operands, 5, &coded(b"*")))?;
+    let first = number_or(1, LARGEST, operands, 4, 1)?;
+    let last = given_number_or_all(first, LARGEST, operands, 5)?;
     ended(operands, 6)?;
     Ok(TypeRange { input, first, last })
 }
 
-fn options() -> [OptionForm; 2]
+fn options() -> [OptionForm<TypeOption>; 2]
     ensures { result ≡ spec.options }
 {
     [
-        OptionForm::flag(b"HEX     ", 3),
-        OptionForm::new(b"COL     ", 3, Parameter::Columns),
+        OptionForm::flag(TypeOption::Hex, b"HEX     ", 3),
+        OptionForm::new(TypeOption::Col, b"COL     ", 3, Parameter::Columns),
     ]
 }
 
@@ -81,18 +89,31 @@ fn columns_in(setting: Setting) -> Option<ColumnRange>
     }
 }
 
-// How the options say that records are typed.
-fn style_of(chosen: &[ChosenOption]) -> TypeStyle
+// How records are typed, by one option more.
+fn style_with(style: TypeStyle, chosen: &ChosenOption<TypeOption>) -> TypeStyle
+    ensures { result ≡ spec.style_with style chosen.now }
+{
+    match chosen.option {
+        TypeOption::Hex => TypeStyle {
+            hexadecimal: true,
+            ..style
+        },
+        TypeOption::Col => TypeStyle {
+            columns: columns_in(chosen.setting),
+            ..style
+        },
+    }
+}
+
+// How the options say that records are typed: as they are and whole, unless one says more.
+fn style_of(chosen: &[ChosenOption<TypeOption>]) -> TypeStyle
     ensures { result ≡ spec.style_of chosen.now }
 {
-    let columns = match last_among(&[1], chosen) {
-        Some(option) => columns_in(option.setting),
-        None => None,
+    let plain = TypeStyle {
+        hexadecimal: false,
+        columns: None,
     };
-    TypeStyle {
-        hexadecimal: last_among(&[0], chosen).is_some(),
-        columns,
-    }
+    chosen.iter().fold(plain, style_with)
 }
 
 /// What TYPE's line says, or why it is refused.

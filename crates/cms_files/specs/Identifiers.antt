@@ -1,15 +1,13 @@
 -- File identifiers in the words of a line: which files a command takes.
-use Rattle.std.specs.Prelude.{ℕ, ◌+◌, ◌==◌, Bool, true, false, ◌&&◌, List, codes, Option, Some, None, Result, Ok}
-use Rattle.std.specs.Option.{option_map_or}
+use Rattle.std.specs.Prelude.{ℕ, ◌+◌, ◌==◌, Bool, true, ◌&&◌, List, codes, Option, Some, None, Result, Ok}
 use Rattle.std.specs.Str.{bytes_eq}
 use Rattle.cms_fields.specs.Steps.{◌>>=◌}
 use Rattle.cms_names.specs.declared.name.Name.{Name}
 use Rattle.cms_names.specs.declared.output.OutId.{OutId}
 use Rattle.cms_text.specs.Texts.{coded}
 use Rattle.cms_line.specs.declared.token.Token.{Token}
-use Rattle.cms_operands.specs.Choices.{last_among}
-use Rattle.cms_operands.specs.Operands.{given_or, name, name_or_all, name_or_same, needed, reading_mode}
-use Rattle.cms_operands.specs.declared.choosing.ChosenOption.{ChosenOption}
+use Rattle.cms_operands.specs.Operands.{given_or, name, name_or_all, name_or_same, needed}
+use Rattle.cms_operands.specs.Optional.{reading_mode_or_a}
 use Rattle.cms_operands.specs.declared.refusal.Refusal.{Refusal}
 use Rattle.cms_files.specs.declared.identifier.FileInput.{FileInput}
 use Rattle.cms_files.specs.declared.identifier.NameChoice.{NameChoice}
@@ -59,14 +57,8 @@ output_name operands place = do
 unfoldable pub file_input : List Token → ℕ → Result FileInput Refusal
 file_input operands place = do
   file ← full_name operands place
-  mode ← reading_mode (place + 2) (mode_or_a operands (place + 2))
+  mode ← reading_mode_or_a operands (place + 2)
   Ok (record { name = file; mode = mode })
-
--- ---- options
-
--- the last of some options that was chosen is this one
-abbrev pub is_last : ℕ → List ℕ → List ChosenOption → Bool
-is_last nth group chosen = option_map_or (λ o. o.nth == nth) (last_among group chosen) false
 
 -- ---- which files are meant
 

@@ -1,15 +1,15 @@
 -- Updates of files: one change of a minidisk each, behind which no reading place is kept in the files that it is of.
 use Rattle.std.specs.Prelude.{ℕ, pos, Bool, List, [], ◌∷◌, Option, Some, None, Result, Ok, Err}
-use Rattle.std.specs.FinMap.{remove}
 use Rattle.cms_names.specs.declared.name.Name.{Name}
 use Rattle.cms_text.specs.Numbers.{decimal_of}
-use Rattle.cms_model.specs.Changes.{Change, Put, Add, Drop, Rename, Relabel}
+use Rattle.cms_model.specs.Changes.{Change, Put, Add, Drop, Rename, Relabel, Century}
 use Rattle.cms_machine.specs.Acts.{Act, Done, bind}
 use Rattle.cms_line.specs.declared.message.Message.TheVariants.{M107, M120}
 use Rattle.cms_search.specs.ChangeTold.{limited}
-use Rattle.cms_search.specs.Machine.{Letter, Machine, Places, Course, Went, letter_at, place_key, refusal}
+use Rattle.cms_search.specs.Machine.{Letter, Machine, Places, Course, Went, letter_at, refusal}
 use Rattle.cms_operands.specs.declared.operand.WriteMode.{WriteMode}
 use Rattle.cms_search.specs.Refusing.{fault}
+use Rattle.cms_search.specs.Reading.{after}
 use Rattle.cms_search.specs.Releasing.{vdev_of}
 use Rattle.cms_search.specs.Searches.{Listed, shelves_in}
 use Rattle.cms_search.specs.Stepping.{Stepped, Did, Failed, Changing, IsChanged, IsLimited, IsFull, HasFailed, changing, unless_failed}
@@ -18,6 +18,7 @@ use Rattle.cms_search.specs.declared.fault.SearchFault.{SearchFault}
 use Rattle.cms_line.specs.declared.token.Token.{Token}
 use Rattle.cms_machine.specs.Slots.{Slot}
 use Rattle.cms_search.specs.Calls.{Meaning, course_of, machine_of}
+use Rattle.cms_search.specs.declared.place_event.PlaceEvent.TheVariants as event
 use Rattle.cms_search.specs.declared.state.Course as declared_course
 use Rattle.cms_search.specs.declared.state.End.{End}
 use Rattle.cms_search.specs.declared.state.State.{State}
@@ -26,18 +27,19 @@ use Rattle.cms_files.specs.declared.updating.Updated.TheVariants as came
 use Rattle.cms_files.specs.Files.{files_written, on_found, search_refused, told}
 use Rattle.cms_files.specs.declared.identifier.NameChoice.{NameChoice}
 
--- the files that a change is of
+-- the files that a change is of; where stamps are moved no records are others, and a reading place is a number of records
 abbrev pub names_of : Change → List Name
 names_of (Put f) = f.name ∷ []
 names_of (Add name more stamp) = name ∷ []
 names_of (Drop name) = name ∷ []
 names_of (Rename from to number) = from ∷ to ∷ []
 names_of (Relabel volid) = []
+names_of (Century pivot) = []
 
 -- no reading place is kept in these files of a device
 abbrev pub places_without : ℕ → List Name → Places → Places
 places_without vdev [] places = places
-places_without vdev (name ∷ names) places = places_without vdev names (remove places (place_key vdev name))
+places_without vdev (name ∷ names) places = places_without vdev names (after (event.Changed vdev name) places)
 
 -- no reading place is kept in the files of these names on a device
 abbrev pub forgetting : Machine → ℕ → List Name → Machine

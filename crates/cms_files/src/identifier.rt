@@ -5,8 +5,7 @@ ghost use Rattle.cms_files.specs.Identifiers as spec;
 use cms_line::Token;
 use cms_names::{Name, OutId, Part};
 use cms_operands::{
-    ChosenOption, ReadMode, Refusal, coded, given_or, last_among, name, name_or_all, name_or_same,
-    needed, reading_mode,
+    ReadMode, Refusal, coded, name, name_or_all, name_or_same, needed, reading_mode_or_a,
 };
 
 /// A file that is read: its name, and the disks on which it is looked for.
@@ -70,18 +69,8 @@ pub fn file_input(operands: &[Token], place: u8) -> Result<FileInput, Refusal>
 {
     let name = full_name(operands, place)?;
     let place = usize::from(place) + 2;
-    let mode = reading_mode(place, given_or(operands, place, &coded(b"A")))?;
+    let mode = reading_mode_or_a(operands, place)?;
     Ok(FileInput { name, mode })
-}
-
-/// Whether the last of some options that was chosen is this one, by the places of their forms.
-pub fn is_last(nth: u32, group: &[u32], chosen: &[ChosenOption]) -> bool
-    ensures { result ≡ spec.is_last nth group.now chosen.now }
-{
-    match last_among(group, chosen) {
-        Some(option) => option.nth == nth,
-        None => false,
-    }
 }
 
 // Whether a part of a name is the one that is given, or any is meant.

@@ -20,8 +20,7 @@ pub use consuming::{consume, consume_last, is_consumed};
 pub use each::{FileUpdate, update_each, update_taken};
 pub use gathering::Gathered;
 pub use identifier::{
-    FileInput, NameChoice, exec_kind, file_input, full_name, is_last, name_choice, output_name,
-    takes_number,
+    FileInput, NameChoice, exec_kind, file_input, full_name, name_choice, output_name, takes_number,
 };
 pub use opening::{OpenFile, open_file};
 pub use pushing::{has_room, stack_lines};

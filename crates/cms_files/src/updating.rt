@@ -13,7 +13,9 @@ use crate::searching::{refuse_exists, refuse_search};
 use cms_edf::Change;
 use cms_line::{Tokens, Word};
 use cms_names::Name;
-use cms_search::{Changed, Course, End, Places, SearchFault, State, change_disk, tell_change};
+use cms_search::{
+    Changed, Course, End, PlaceEvent, Places, SearchFault, State, change_disk, tell_change,
+};
 use cms_world::World;
 use std::alloc::Global;
 
@@ -71,12 +73,12 @@ fn forget_places(places: &mut Places, vdev: u16, change: &Change)
     ensures { places.new ≡ spec.places_without vdev (spec.names_of (change_of change.now)) places.old }
 {
     match change {
-        Change::Drop { name } => places.forget(vdev, name),
+        Change::Drop { name } => places.after(PlaceEvent::Changed(vdev, **name)),
         Change::Rename { from, to, .. } => {
-            places.forget(vdev, from);
-            places.forget(vdev, to);
+            places.after(PlaceEvent::Changed(vdev, **from));
+            places.after(PlaceEvent::Changed(vdev, **to));
         }
-        Change::Relabel { .. } => {}
+        Change::Relabel { .. } | Change::Century { .. } => {}
     }
 }
 

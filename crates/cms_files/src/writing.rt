@@ -13,7 +13,7 @@ ghost use Rattle.cms_files.specs.Updating as spec;
 
 use crate::updating::{Updated, stopped};
 use cms_names::Name;
-use cms_search::{Changed, Course, End, FileWrite, State, tell_change, update_file};
+use cms_search::{Changed, Course, End, FileWrite, PlaceEvent, State, tell_change, update_file};
 use cms_world::World;
 use std::alloc::Global;
 
@@ -35,7 +35,7 @@ pub fn end_writing<W: World>(
 {
     match changed {
         Changed::Done => {
-            state.places.forget(vdev, name);
+            state.places.after(PlaceEvent::Changed(vdev, *name));
             Ok(Updated::Done)
         }
         _ => stopped(tell_change(alloc, world, state, letter, changed)),

@@ -5,7 +5,7 @@ use Rattle.cms_fields.specs.declared.label.Label.{Label}
 use Rattle.cms_model.specs.Trees.{Image}
 use Rattle.cms_model.specs.Minidisks.{File, Minidisk}
 use Rattle.cms_model.specs.Sizes.{free_count, map_size}
-use Rattle.cms_model.specs.Changes.{Change, Put, Add, Drop, Rename, Relabel, changed, changed_files, changed_volid, directory_fresh, entries_made, need, written_file}
+use Rattle.cms_model.specs.Changes.{Change, Put, Add, Drop, Rename, Relabel, Century, changed, changed_files, changed_volid, directory_fresh, entries_made, need, written_file}
 use Rattle.cms_model.specs.Stands.{Kept, Layout, file_of, minidisk_in, opened}
 use Rattle.cms_model.specs.LawsRoom.{IsWithin}
 use Rattle.cms_model.specs.LawsUpdates.{now}
@@ -26,6 +26,7 @@ use Rattle.cms_held.proofs.PutAsides.{files_count}
 pub same_volid : (volid : List ℕ) (change : Change) → IsEdit change → changed_volid volid change ≡ volid
 same_volid volid (Drop name) is = refl
 same_volid volid (Rename from to number) is = refl
+same_volid volid (Century pivot) is = refl
 same_volid volid (Put new) is = absurd is
 same_volid volid (Add name more stamp) is = absurd is
 same_volid volid (Relabel new) is = absurd is
@@ -47,6 +48,7 @@ none_written : (m : Minidisk) (change : Change) → IsEdit change → (f : File)
 unfolding written_file
 none_written m (Drop name) is f e = absurd (cc)
 none_written m (Rename from to number) is f e = absurd (cc)
+none_written m (Century pivot) is f e = absurd (cc)
 none_written m (Put new) is f e = absurd is
 none_written m (Add name more stamp) is f e = absurd is
 none_written m (Relabel volid) is f e = absurd is
@@ -56,6 +58,7 @@ pub needs_so : (v : HeldVolume) (old : Layout) (change : Change) → v.label.blo
 unfolding need
 needs_so v old (Drop name) same count is = rw (same, count) refl
 needs_so v old (Rename from to number) same count is = rw (same, count) refl
+needs_so v old (Century pivot) same count is = rw (same, count) refl
 needs_so v old (Put new) same count is = absurd is
 needs_so v old (Add name more stamp) same count is = absurd is
 needs_so v old (Relabel volid) same count is = absurd is
@@ -66,6 +69,7 @@ pub edit_small : (v : HeldVolume) (old : Layout) (change : Change) (writes : ℕ
 unfolding need
 edit_small v old (Drop name) writes same is few = rw (sym same) few
 edit_small v old (Rename from to number) writes same is few = rw (sym same) few
+edit_small v old (Century pivot) writes same is few = rw (sym same) few
 edit_small v old (Put new) writes same is few = absurd is
 edit_small v old (Add name more stamp) writes same is few = absurd is
 edit_small v old (Relabel volid) writes same is few = absurd is

@@ -22,12 +22,13 @@ use Rattle.cms_map.specs.Bits.{free_blocks}
 use Rattle.cms_held.specs.Opening.{HeldVolume, names_in}
 use Rattle.cms_held.specs.Kept.{Keeps}
 use Rattle.cms_held.specs.LawsHeld.{IsFound}
-use Rattle.cms_held.specs.Renewing.{Edit, needed, renamed}
+use Rattle.cms_held.specs.Renewing.{Edit, moved_file, needed, renamed}
 use Rattle.cms_held.specs.LawsRenewing.{IsHeldAt, IsRenewal, later_of, writes_of}
 use Rattle.cms_held.specs.LawsEdits.{Edits, IsEdit, IsAnswered}
-use Rattle.cms_held.specs.Carrying.{Carries, IsEditOf, IsHeldMinidisk, IsReadyFor, LackingIsFull, PlannedIsCarried, UpdateIsSmall, drops, renames, written_count}
+use Rattle.cms_held.specs.Carrying.{Carries, IsEditOf, IsHeldMinidisk, IsReadyFor, LackingIsFull, PlannedIsCarried, UpdateIsSmall, drops, moves, renames, written_count}
 use Rattle.cms_held.specs.Systems.{Systems}
 use Rattle.cms_held.proofs.Answering.{edit_is_answered, edit_small, renewed_changed, same_volid}
+use Rattle.cms_held.proofs.Centuries.{century_moves}
 use Rattle.cms_held.proofs.Edits.{Moved, beside_count, drop_moves, rename_moves}
 use Rattle.cms_held.proofs.HeldFiles.{opened_is_held, place_is_told}
 use Rattle.cms_held.proofs.Keeping.{front_keeps_held}
@@ -41,6 +42,7 @@ use Rattle.cms_held.proofs.PlannedWrites.{WritesBlocks, planned_blocks, planned_
 is_edit : (v : HeldVolume) (edit : Edit) (change : Change) → IsEditOf v edit change → IsEdit change
 is_edit v edit change (drops place f there) = tt
 is_edit v edit change (renames place f to number there small free) = tt
+is_edit v edit change (moves pivot small) = tt
 
 -- a name that isn't found has no file
 none_named : (j : Journal) (v : HeldVolume) (old : Layout) (to : Name) → IsHeldAt j v old → position (same_name to) (names_in v.files) ≡ None → NoneNamed to (map file_of old.files)
@@ -54,6 +56,7 @@ moved_of : (j : Journal) (v : HeldVolume) (old : Layout) (later : Image) (edit :
 moved_of j v old later edit change x kept (drops place f there) = drop_moves j v old later place f x kept there
 moved_of j v old later edit change x kept (renames place f to number there small free) =
     rename_moves j v old later place f to number x kept there small (⊎_elim (λ none. inl (none_named j v old to x none)) (λ own. inr own) free)
+moved_of j v old later edit change x kept (moves pivot small) = century_moves j v old later pivot x kept small
 
 -- as many files as the change leaves
 pub same_count : (before later : Image) (v : HeldVolume) (old : Layout) (edit : Edit) (change : Change) → (e : Moved before later v edit old change)
@@ -64,6 +67,7 @@ same_count before later v old edit change e =
 few_files : (j : Journal) (v : HeldVolume) (old : Layout) (edit : Edit) (change : Change) → IsHeldAt j v old → Keeps v → IsEditOf v edit change → length edit.files ≤ 16384
 few_files j v old edit change x kept (drops place f there) = let few = kept.few in omega (arith, length-removed v.files place f)
 few_files j v old edit change x kept (renames place f to number there small free) = let few = kept.few in omega (arith, length-set v.files place (renamed to number f))
+few_files j v old edit change x kept (moves pivot small) = let few = kept.few in omega (arith, length-map v.files (moved_file pivot))
 
 -- ---- the room that it takes
 

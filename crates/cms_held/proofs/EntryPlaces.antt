@@ -6,7 +6,7 @@ use Rattle.cms_journal.specs.Journal.{IsBlockSize}
 use Rattle.cms_fields.specs.Steps.{◌>>=◌}
 use Rattle.cms_fields.specs.Entries.{entry_of}
 use Rattle.cms_fields.specs.declared.entry.Entry.{Entry}
-use Rattle.cms_model.specs.Lists.{cut}
+use Rattle.cms_model.specs.Lists.{In, cut}
 use Rattle.cms_model.specs.Trees.{Image, bytes_at}
 use Rattle.cms_model.specs.Volumes.{blamed, entries_of}
 use Rattle.cms_model.specs.declared.fault.OpenFault.{OpenFault}
@@ -14,10 +14,10 @@ use Rattle.cms_model.specs.declared.fault.OpenFault.TheVariants as failed
 use Rattle.cms_model.proofs.Results.{bind_then, ok_same}
 use Rattle.cms_held.specs.Opening.{HeldFile}
 use Rattle.cms_held.specs.Renewing.{dropping, entries_held}
-use Rattle.cms_model.specs.DirectoryParts.{directory_count, entry_block}
-use Rattle.cms_model.proofs.DirectoryParts.{blocks_may, entry_within, first_made, in_blocks, parts}
+use Rattle.cms_model.specs.DirectoryParts.{all_entries, blocks_with, directory_count, entry_block}
+use Rattle.cms_model.proofs.DirectoryParts.{all_blocks, blocks_ascend, blocks_may, blocks_within, entry_within, first_made, in_blocks, parts, some_blocks}
 use Rattle.cms_held.specs.SharedBlocks.{AreLong}
-use Rattle.cms_held.specs.EntryPlaces.{EntriesByPlace, IsChangedAt, PlacesAreEnough, entry_at}
+use Rattle.cms_held.specs.EntryPlaces.{AllAreEnough, EntriesByPlace, IsChangedAt, PlacesAreEnough, entry_at}
 use Rattle.cms_held.proofs.BlockBytes.{piece_by_place}
 use Rattle.cms_held.specs.SharedNeed.{EditsHavePlaces}
 
@@ -154,3 +154,19 @@ places_are_enough bsize olds news place more size at =
         let long = one.0 in
         let at' = one.1 in
         ⊎_elim (λ (lt : k < length olds). lt) (λ (ge : length olds ≤ k). absurd (apart (omega arith))) (cases_lt k (length olds))
+
+pub all_are_enough : AllAreEnough
+all_are_enough bsize olds news size same =
+    let count = directory_count bsize (length news) in
+    let made = all_entries (length olds) in
+    let counts : count ≡ directory_count bsize (length olds) = ap (directory_count bsize) same in
+    let all : (n : ℕ) → n < count → In n (blocks_with bsize count made) = λ n less. all_blocks bsize (length olds) count n size (omega (arith, less, counts)) less in
+    record {
+      may = record {
+        ascend = blocks_ascend bsize count made;
+        within = λ n there. blocks_within bsize count n made there;
+        grown = λ n low high. all n high;
+      };
+      first = all 0 (some_blocks bsize (length news) size);
+      stay = λ k d less isnt. absurd (isnt (all (entry_block bsize (k + 2)) (entry_within bsize (length news) k size less)));
+    }

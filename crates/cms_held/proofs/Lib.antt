@@ -12,6 +12,7 @@ pub mod Renewals
 pub mod PiecesWritten
 pub mod SystemsRead
 pub mod Edits
+pub mod Centuries
 pub mod Answering
 pub mod Allotting
 pub mod Relabelling

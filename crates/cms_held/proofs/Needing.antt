@@ -6,14 +6,14 @@ use Rattle.cms_fields.specs.declared.time.Stamp.{Stamp}
 use Rattle.cms_journal.specs.Journal.{Journal}
 use Rattle.cms_names.specs.declared.name.Name.{Name}
 use Rattle.cms_model.specs.Changes.{Change, Put, changed_files, directory_fresh, directory_written, entries_made}
-use Rattle.cms_model.specs.DirectoryParts.{blocks_made}
+use Rattle.cms_model.specs.DirectoryParts.{all_entries, blocks_made}
 use Rattle.cms_model.specs.LawsChanges.{IsPlace}
 use Rattle.cms_model.specs.Minidisks.{File}
 use Rattle.cms_model.specs.Sizes.{map_size}
 use Rattle.cms_model.specs.Stands.{Kept, Layout, file_of, minidisk_in}
 use Rattle.cms_model.proofs.DirectoryNeed.{place_is_named}
 use Rattle.cms_held.specs.Allotting.{parts_of}
-use Rattle.cms_held.specs.Carrying.{IsEditOf, drops, renames}
+use Rattle.cms_held.specs.Carrying.{IsEditOf, drops, moves, renames}
 use Rattle.cms_held.specs.LawsHeld.{IsFound}
 use Rattle.cms_held.specs.LawsRenewing.{IsHeldAt, IsRenewal, writes_of}
 use Rattle.cms_held.specs.Opening.{HeldFile, HeldVolume}
@@ -38,6 +38,7 @@ edit_made j v old edit change x (drops place f there) =
 edit_made j v old edit change x (renames place f to number there small free) =
     let st = stands_at j v old place f x there in
     ap (λ (n : ℕ). 0 ∷ (n + 2) ∷ []) (sym ((place_is_named f.entry.name (map file_of old.files)).found place st.at))
+edit_made j v old edit change x (moves pivot small) = ap all_entries (sym (files_count j v old x))
 
 pub edit_put : (j : Journal) (v : HeldVolume) (old : Layout) (g : HeldFile) (edit : Edit) (new : File) → IsHeldAt j v old → g.entry.name ≡ new.name → IsPutOf v g edit
     → edit.made ≡ entries_made (map file_of old.files) (Put new)

@@ -5,7 +5,7 @@ use Rattle.std.proofs.lemmas.Option.{slice_get_within}
 use Rattle.cms_journal.specs.Journal.{Journal}
 use Rattle.cms_names.specs.declared.name.Name.{Name}
 use Rattle.cms_fields.specs.declared.entry.Entry.{Entry}
-use Rattle.cms_model.specs.Changes.{Change, Put, Add, Drop, Rename, added_to, change_file, changed_files, put_file, directory_written, entries_made}
+use Rattle.cms_model.specs.Changes.{Century, Change, Put, Add, Drop, Rename, added_to, moved_to, change_file, changed_files, put_file, directory_written, entries_made}
 use Rattle.cms_model.specs.LawsChanges.{IsPlace, NoneNamed}
 use Rattle.cms_model.specs.Minidisks.{File}
 use Rattle.cms_model.specs.Sharing.{fresh_count}
@@ -16,11 +16,11 @@ use Rattle.cms_held.specs.LawsHeld.{IsFound}
 use Rattle.cms_held.specs.LawsRenewing.{IsHeldAt}
 use Rattle.cms_held.specs.Opening.{HeldFile, HeldVolume}
 use Rattle.cms_held.specs.Putting.{adding, replacing}
-use Rattle.cms_held.specs.Renewing.{dropping, entries_held, renamed, renaming}
+use Rattle.cms_held.specs.Renewing.{dropping, entries_held, moved_file, moving, renamed, renaming}
 use Rattle.cms_held.specs.SharedBlocks.{fresh_of}
 use Rattle.cms_held.specs.SharedNeed.{AreEnough, TakesTheNeed, WrittenIsEnough}
 use Rattle.cms_held.proofs.Edits.{at_place, found_at, names_distinct}
-use Rattle.cms_held.proofs.EntryPlaces.{edits_have_places, places_are_enough}
+use Rattle.cms_held.proofs.EntryPlaces.{all_are_enough, edits_have_places, places_are_enough}
 use Rattle.cms_held.proofs.PutAsides.{files_count, found_in}
 use Rattle.cms_held.proofs.Removing.{length-removed}
 use Rattle.cms_held.proofs.Renewals.{same_entries}
@@ -28,7 +28,7 @@ use Rattle.cms_held.proofs.SharedBlocks.{fresh_is_counted}
 use Rattle.cms_held.proofs.PartCases.{Case, case_of, directory_may, fresh_begins, held_count}
 use Rattle.cms_held.proofs.PartTrees.{directory_shape}
 use Rattle.cms_held.proofs.SystemsHeld.{held_has_systems}
-use Rattle.cms_model.specs.DirectoryParts.{blocks_with, directory_count, directory_taken}
+use Rattle.cms_model.specs.DirectoryParts.{all_entries, blocks_with, directory_count, directory_taken}
 use Rattle.cms_model.proofs.DirectoryNeed.{place_is_named}
 
 -- ---- the place of a file
@@ -64,6 +64,21 @@ enough_at v old files change place more j x at count made =
 same_count : (j : Journal) (v : HeldVolume) (old : Layout) (files : List HeldFile) (later : List File) → IsHeldAt j v old → length files ≡ length v.files → length later ≡ length (map file_of old.files)
     → length later ≡ length (entries_held files)
 same_count j v old files later x same same' = same' ∙ (files_count j v old x ∙ (sym same ∙ sym (held_count files)))
+
+-- all data blocks are written where stamps are moved
+enough_moved : (v : HeldVolume) (old : Layout) (pivot : ℕ) (j : Journal) → IsHeldAt j v old → AreEnough v old (moving v.files pivot).files (Century pivot)
+unfolding changed_files entries_made
+enough_moved v old pivot j x =
+    let files = map file_of old.files in
+    let news = entries_held (moving v.files pivot).files in
+    let count : length files ≡ length v.files = files_count j v old x in
+    let olds : length v.files ≡ length (entries_held v.files) = sym (held_count v.files) in
+    let moved : length news ≡ length v.files = held_count (moving v.files pivot).files ∙ length-map v.files (moved_file pivot) in
+    let later : length news ≡ length (map (moved_to pivot) files) = moved ∙ (sym count ∙ sym (length-map files (moved_to pivot))) in
+    subst (IsEnoughFor v.disk.bsize (entries_held v.files) news)
+    (ap (λ (n : ℕ). blocks_with v.disk.bsize (directory_count v.disk.bsize n) (all_entries (length (entries_held v.files)))) later
+    ∙ ap (λ (n : ℕ). blocks_with v.disk.bsize (directory_count v.disk.bsize (length (map (moved_to pivot) files))) (all_entries n)) (sym (count ∙ olds)))
+    (all_are_enough v.disk.bsize (entries_held v.files) news x.whole.size (moved ∙ olds))
 
 pub written_is_enough : WrittenIsEnough
 unfolding changed_files entries_made
@@ -110,6 +125,7 @@ written_is_enough j v old x = record {
       enough_at v old (adding v.files g).files (Put new) (length v.files) [] j x (edits_have_places v.files 0 g g).added
       (ap (λ (l : List File). length l) last ∙ (omega (arith, length-append files (new ∷ []), length-append v.files (g ∷ []), held_count (adding v.files g).files)))
       (ap (λ (n : ℕ). 0 ∷ (n + 2) ∷ []) ((place_is_named new.name files).none free ∙ total));
+  moved = λ pivot. enough_moved v old pivot j x;
 }
 
 -- ---- what is taken

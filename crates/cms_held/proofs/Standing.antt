@@ -20,7 +20,7 @@ use Rattle.cms_tree.proofs.Building.{built_whole, fan_wide}
 use Rattle.cms_held.specs.HeldAs.{AreHeld, IsHeldAs}
 use Rattle.cms_held.specs.HeldTrees.{FileStands, TreeComes, TreesStand}
 use Rattle.cms_held.specs.Opening.{HeldFile, HeldTree, HeldVolume}
-use Rattle.cms_held.specs.Renewing.{renamed}
+use Rattle.cms_held.specs.Renewing.{moved_file, renamed}
 use Rattle.cms_held.specs.SharedTrees.{IsStanding}
 use Rattle.cms_held.specs.Systems.{IsTree}
 use Rattle.cms_held.proofs.SharedTrees.{nodes_joined, standing_from}
@@ -76,6 +76,15 @@ pub comes_renamed : (bsize total : ℕ) (before later : Image) (blocks : List �
     → TreeComes bsize total before later blocks (renamed to number f)
 comes_renamed bsize total before later blocks f to number (inl (s, within)) = inl (file_renamed bsize total before f to number s, within)
 comes_renamed bsize total before later blocks f to number (inr s) = inr (file_renamed bsize total later f to number s)
+
+-- also with a moved stamp
+file_moved : (bsize total : ℕ) (image : Image) (f : HeldFile) (pivot : ℕ) → FileStands bsize total image f → FileStands bsize total image (moved_file pivot f)
+file_moved bsize total image f pivot s = record { tree = s.tree; start = s.start }
+
+pub comes_moved : (bsize total : ℕ) (before later : Image) (blocks : List ℕ) (f : HeldFile) (pivot : ℕ) → TreeComes bsize total before later blocks f
+    → TreeComes bsize total before later blocks (moved_file pivot f)
+comes_moved bsize total before later blocks f pivot (inl (s, within)) = inl (file_moved bsize total before f pivot s, within)
+comes_moved bsize total before later blocks f pivot (inr s) = inr (file_moved bsize total later f pivot s)
 
 -- the blocks of a tree as it is held are those that are read
 pub blocks_within : (t : HeldTree) (met : Met) → IsTree t met → (n : ℕ) → In n (t.leaves ++ t.pointers) → In n met.blocks

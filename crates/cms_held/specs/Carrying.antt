@@ -7,7 +7,7 @@ use Rattle.cms_names.specs.declared.name.Name.{Name}
 use Rattle.cms_fields.specs.Stamps.{is_stamp}
 use Rattle.cms_fields.specs.declared.time.Stamp.{Stamp}
 use Rattle.cms_model.specs.Minidisks.{Minidisk, Volume, same_name}
-use Rattle.cms_model.specs.Changes.{Change, Changed, Drop, Full, Rename, answer_of, changed, need}
+use Rattle.cms_model.specs.Changes.{Century, Change, Changed, Drop, Full, Rename, answer_of, changed, need}
 use Rattle.cms_model.specs.Settled.{update}
 use Rattle.cms_model.specs.Stands.{Layout, minidisk_in}
 use Rattle.cms_model.specs.LawsUpdates.{HasEither, IsFront, after, to_label}
@@ -17,7 +17,7 @@ use Rattle.cms_held.specs.Kept.{Keeps}
 use Rattle.cms_held.specs.Written.{ReadsBack}
 use Rattle.cms_held.specs.Systems.{Systems}
 use Rattle.cms_held.specs.Allotting.{IsPlanned}
-use Rattle.cms_held.specs.Renewing.{Edit, dropping, entries_held, needed, renaming, renewed}
+use Rattle.cms_held.specs.Renewing.{Edit, dropping, entries_held, moving, needed, renaming, renewed}
 use Rattle.cms_held.specs.LawsRenewing.{IsHeldAt, later_of, writes_of}
 
 -- at a journal a volume as it is held is this minidisk, and its unit is settled at it
@@ -26,12 +26,14 @@ pub record IsHeldMinidisk (j : Journal) (v : HeldVolume) (m : Minidisk) : Type 0
   pub at : IsHeldAt j v layout
   pub minidisk_is : m ≡ minidisk_in v.disk layout
 
--- the edit of a change: the file of the name goes, or has another name, which no file has or is its own
+-- the edit of a change: the file of the name goes, or has another name, which no file has or is its own, or the
+-- stamps of all files are moved
 pub data IsEditOf (v : HeldVolume) : Edit → Change → Type 0 where
   drops : (place : ℕ) (f : HeldFile) → slice_get v.files place ≡ Some f → IsEditOf v (dropping v.files place f) (Drop f.entry.name)
   renames : (place : ℕ) (f : HeldFile) (to : Name) (number : ℕ) → slice_get v.files place ≡ Some f → number ≤ 6
       → (position (same_name to) (names_in v.files) ≡ None) ⊎ (to ≡ f.entry.name)
       → IsEditOf v (renaming v.files place f to number) (Rename f.entry.name to number)
+  moves : (pivot : ℕ) → pivot ≤ 100 → IsEditOf v (moving v.files pivot) (Century pivot)
 
 -- an update that was planned for an edit
 pub record IsReadyFor (v : HeldVolume) (edit : Edit) (stamp : Stamp) (s : Systems) : Type 0 where

@@ -4,7 +4,7 @@ use Rattle.std.specs.Prelude.{◌≡◌, ◌⊎◌, ◌↔◌, ℕ, suc, ◌+◌
 use Rattle.cms_journal.specs.Journal.{IsBlockSize}
 use Rattle.cms_fields.specs.Entries.{entry_of}
 use Rattle.cms_fields.specs.declared.entry.Entry.{Entry}
-use Rattle.cms_model.specs.DirectoryParts.{blocks_with, directory_count, entry_block}
+use Rattle.cms_model.specs.DirectoryParts.{all_entries, blocks_with, directory_count, entry_block}
 use Rattle.cms_model.specs.Lists.{In, cut}
 use Rattle.cms_model.specs.Sharing.{MayBeWritten}
 use Rattle.cms_model.specs.Trees.{Image, bytes_at}
@@ -66,3 +66,10 @@ PlacesAreEnough =
     → IsChangedAt olds news place
     → IsEnoughFor bsize olds news
     (blocks_with bsize (directory_count bsize (length news)) (0 ∷ (place + 2) ∷ more))
+
+-- and so are all, where there are as many entries as there were
+abbrev pub AllAreEnough : Type 0
+AllAreEnough =
+    (bsize : ℕ) (olds news : List Entry) → IsBlockSize bsize → length news ≡ length olds
+    → IsEnoughFor bsize olds news
+    (blocks_with bsize (directory_count bsize (length news)) (all_entries (length olds)))

@@ -7,7 +7,7 @@ use Rattle.cms_fields.specs.Labels.{with_label}
 use Rattle.cms_fields.specs.declared.label.Label.{Label}
 use Rattle.cms_fields.specs.Limits.{most_files}
 use Rattle.cms_model.specs.Minidisks.{Minidisk}
-use Rattle.cms_model.specs.Changes.{Change, Put, Add, Drop, Rename, Relabel, Changed, Full, answer_of, changed, changed_files, entries_made}
+use Rattle.cms_model.specs.Changes.{Change, Put, Add, Drop, Rename, Relabel, Century, Changed, Full, answer_of, changed, changed_files, entries_made}
 use Rattle.cms_model.specs.Stands.{Kept, Layout, file_of, minidisk_in, opened}
 use Rattle.cms_model.specs.LawsChanges.{NoneNamed}
 use Rattle.cms_model.specs.LawsUpdates.{Relabels, after, now, relabel}
@@ -15,7 +15,7 @@ use Rattle.cms_map.specs.Bits.{free_blocks}
 use Rattle.cms_held.specs.Opening.{HeldFile, HeldVolume}
 use Rattle.cms_held.specs.Kept.{Keeps}
 use Rattle.cms_held.specs.Written.{ReadsBack}
-use Rattle.cms_held.specs.Renewing.{Edit, dropping, entries_held, needed, renaming}
+use Rattle.cms_held.specs.Renewing.{Edit, dropping, entries_held, moving, needed, renaming}
 use Rattle.cms_held.specs.Systems.{Systems}
 use Rattle.cms_held.specs.LawsRenewing.{IsHeldAt, LeavesFiles, Renews}
 
@@ -29,6 +29,7 @@ pub record Edits (before later : Image) (v : HeldVolume) (edit : Edit) (old : La
 abbrev pub IsEdit : Change → Type 0
 IsEdit (Drop name) = ⊤
 IsEdit (Rename from to number) = ⊤
+IsEdit (Century pivot) = ⊤
 IsEdit (Put new) = ⊥
 IsEdit (Add name more stamp) = ⊥
 IsEdit (Relabel volid) = ⊥
@@ -48,6 +49,12 @@ RenameEdits =
     → All ReadsBack (entries_held (renaming v.files place f to number).files)
     → Edits (now j v.unit) later v (renaming v.files place f to number) old (Rename f.entry.name to number)
 
+-- where the stamps of all files are moved, they are those after a Century
+abbrev pub CenturyEdits : Type 0
+CenturyEdits =
+    (j : Journal) (v : HeldVolume) (old : Layout) (later : Image) (pivot : ℕ) → IsHeldAt j v old → Keeps v → pivot ≤ 100
+    → All ReadsBack (entries_held (moving v.files pivot).files) → Edits (now j v.unit) later v (moving v.files pivot) old (Century pivot)
+
 -- the new volume is the minidisk after the change
 abbrev pub RenewedIsChanged : Type 0
 RenewedIsChanged =
@@ -62,7 +69,7 @@ pub record IsAnswered (m : Minidisk) (change : Change) (need free : ℕ) : Type 
   pub made : need ≤ free → answer_of m change ≡ Changed (changed m change)
   pub full : free < need → answer_of m change ≡ Full need free
 
--- where a file goes or has another name, the change is made exactly where the new directory and map have room
+-- where a file goes or has another name, or stamps are moved, the change is made exactly where the new directory and map have room
 abbrev pub EditIsAnswered : Type 0
 EditIsAnswered =
     (j : Journal) (v : HeldVolume) (old : Layout) (change : Change) → IsHeldAt j v old → IsEdit change

@@ -3,7 +3,8 @@ use Rattle.std.specs.Prelude.{ℕ, ◌+◌, ◌-◌, Bool, false, List, [], ◌�
 use Rattle.cms_names.specs.declared.name.Name.{Name}
 use Rattle.cms_fields.specs.declared.label.Label.{Label}
 use Rattle.cms_fields.specs.declared.entry.Entry.{Entry}
-use Rattle.cms_model.specs.DirectoryParts.{directory_taken}
+use Rattle.cms_model.specs.Changes.{stamp_moved}
+use Rattle.cms_model.specs.DirectoryParts.{all_entries, directory_taken}
 use Rattle.cms_model.specs.Sizes.{map_size}
 use Rattle.cms_map.specs.Bits.{free_blocks}
 use Rattle.cms_held.specs.Opening.{HeldTree, HeldFile, HeldVolume}
@@ -56,6 +57,18 @@ renaming files place f name number = record {
   given = [];
   taken = [];
 }
+
+-- an entry whose stamp is moved where it lies before a pivot
+abbrev pub moved_entry : ℕ → Entry → Entry
+moved_entry pivot e = record e { stamp = stamp_moved pivot e.stamp }
+
+-- a file with such an entry
+abbrev pub moved_file : ℕ → HeldFile → HeldFile
+moved_file pivot f = record f { entry = moved_entry pivot f.entry }
+
+-- the stamps of all files are moved: every entry is made anew, in its place
+abbrev pub moving : List HeldFile → ℕ → Edit
+moving files pivot = record { files = map (moved_file pivot) files; made = all_entries (length files); given = []; taken = [] }
 
 -- ---- the blocks
 

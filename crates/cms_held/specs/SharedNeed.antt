@@ -3,7 +3,7 @@ use Rattle.std.specs.Prelude.{◌≡◌, ℕ, ◌+◌, List, length, map, positi
 use Rattle.cms_journal.specs.Journal.{Journal}
 use Rattle.cms_names.specs.declared.name.Name.{Name}
 use Rattle.cms_fields.specs.declared.time.Stamp.{Stamp}
-use Rattle.cms_model.specs.Changes.{Change, Put, Add, Drop, Rename, changed_files, directory_fresh, directory_written}
+use Rattle.cms_model.specs.Changes.{Century, Change, Put, Add, Drop, Rename, changed_files, directory_fresh, directory_written}
 use Rattle.cms_model.specs.Minidisks.{File, same_name}
 use Rattle.cms_model.specs.Stands.{Kept, Layout, file_of, minidisk_in}
 use Rattle.cms_held.specs.Allotting.{Parts, files_fresh}
@@ -11,7 +11,7 @@ use Rattle.cms_held.specs.EntryPlaces.{IsChangedAt, IsEnoughFor}
 use Rattle.cms_held.specs.LawsRenewing.{IsHeldAt}
 use Rattle.cms_held.specs.Opening.{HeldFile, HeldVolume, names_in}
 use Rattle.cms_held.specs.Putting.{adding, replacing}
-use Rattle.cms_held.specs.Renewing.{Edit, dropping, entries_held, renaming}
+use Rattle.cms_held.specs.Renewing.{Edit, dropping, entries_held, moving, renaming}
 use Rattle.cms_held.specs.SharedRenewing.{IsPartRenewal}
 use Rattle.cms_held.specs.Systems.{Systems}
 
@@ -31,7 +31,8 @@ abbrev pub AreEnough : HeldVolume → Layout → List HeldFile → Change → Ty
 AreEnough v old files change = IsEnoughFor v.disk.bsize (entries_held v.files) (entries_held files)
     (directory_written (minidisk_in v.disk old) change)
 
--- so they are where a file goes, has another name, is put or added to in its place, or is put last
+-- so they are where a file goes, has another name, is put or added to in its place, or is put
+-- last, and where the stamps of all are moved
 pub record WritesEnough (v : HeldVolume) (old : Layout) : Type 0 where
   pub dropped : (place : ℕ) (f : HeldFile) → slice_get v.files place ≡ Some f
       → AreEnough v old (dropping v.files place f).files (Drop f.entry.name)
@@ -45,6 +46,7 @@ pub record WritesEnough (v : HeldVolume) (old : Layout) : Type 0 where
       → AreEnough v old (replacing v.files place f g).files (Add f.entry.name more stamp)
   pub added : (g : HeldFile) (new : File) → position (same_name new.name) (names_in v.files) ≡ None
       → AreEnough v old (adding v.files g).files (Put new)
+  pub moved : (pivot : ℕ) → AreEnough v old (moving v.files pivot).files (Century pivot)
 
 abbrev pub WrittenIsEnough : Type 0
 WrittenIsEnough =

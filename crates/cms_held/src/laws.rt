@@ -5,13 +5,13 @@ ghost use Rattle.cms_held.specs.Growing.{FrontStays, GrowEdits, GrownHolds, Grow
 ghost use Rattle.cms_held.specs.Drafts.{DraftHasAll, DraftHolds, DraftIsPut, DraftStays};
 ghost use Rattle.cms_held.specs.HeldAs.{OpenedHasHeld};
 ghost use Rattle.cms_held.specs.HeldTrees.{OpenedTreesStand};
-ghost use Rattle.cms_held.specs.LawsEdits.{DropEdits, EditIsAnswered, RelabelIsHeld, RenameEdits, RenewedIsChanged};
+ghost use Rattle.cms_held.specs.LawsEdits.{CenturyEdits, DropEdits, EditIsAnswered, RelabelIsHeld, RenameEdits, RenewedIsChanged};
 ghost use Rattle.cms_held.specs.LawsHeld.{OpenedHasRoom, OpenedIsHeld, PlaceIsTold};
 ghost use Rattle.cms_held.specs.Putting.{DraftGoesOn, FreeIsAside, PutIsAnswered, PutIsCarried, PutIsSmall};
 ghost use Rattle.cms_held.specs.LawsRenewing.{FrontKeepsHeld, UpdateRenews};
 ghost use Rattle.cms_held.specs.Making.{EmptyIsMade, EmptyIsPlaced};
 ghost use Rattle.cms_held.specs.Systems.{MapIsRead, WrittenIsRead};
-ghost use Rattle.cms_held.specs.EntryPlaces.{EntriesByPlace, PlacesAreEnough};
+ghost use Rattle.cms_held.specs.EntryPlaces.{AllAreEnough, EntriesByPlace, PlacesAreEnough};
 ghost use Rattle.cms_held.specs.MapPlaces.{MapByPlace, MapIsShared};
 ghost use Rattle.cms_held.specs.MapShares.{TurnedIsEnough};
 ghost use Rattle.cms_held.specs.SharedBlocks.{FreshIsCounted};
@@ -33,13 +33,14 @@ pub fn held_laws()
 {}
 
 /// An update of a volume as it is held: a crash leaves the old volume or the new one at every moment, and in the end the new one, which is
-/// held as the renewed one. Where a file goes or has another name, that is the minidisk after the change, which is made exactly where
+/// held as the renewed one. Where a file goes or has another name, or all stamps are moved, that is the minidisk after the change, which is made exactly where
 /// the new directory and map have room.
 pub fn renewal_laws()
     ensures kept { FrontKeepsHeld }
     ensures renews { UpdateRenews }
     ensures dropped { DropEdits }
     ensures renamed { RenameEdits }
+    ensures moved { CenturyEdits }
     ensures changed { RenewedIsChanged }
     ensures answered { EditIsAnswered }
     ensures relabelled { RelabelIsHeld }
@@ -101,6 +102,7 @@ pub fn shared_systems_laws()
     ensures entries { EntriesByPlace }
     ensures places { EditsHavePlaces }
     ensures enough { PlacesAreEnough }
+    ensures all { AllAreEnough }
     ensures counted { FreshIsCounted }
     ensures bits { MapByPlace }
     ensures map { MapIsShared }

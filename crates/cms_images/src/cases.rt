@@ -44,6 +44,7 @@ pub fn image_named(alloc: Global, name: &str) -> Result<Vec<u8>, AllocError> {
         "hello" => edited(alloc, 9, &[HELLO]),
         "long directory" => long_directory(alloc),
         "long directory on 17" => longer(alloc, 17),
+        "long directory on 20" => longer(alloc, 20),
         "sixteen files" => sixteen_files(alloc, 28),
         "sixteen files on 27" => sixteen_files(alloc, 27),
         "wide map" => wide_map(alloc),

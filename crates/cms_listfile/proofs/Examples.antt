@@ -23,7 +23,7 @@ use Rattle.cms_machine.specs.Steps.{EitherFault, ReadFault}
 use Rattle.cms_line.specs.Messages.{message_text}
 use Rattle.cms_line.specs.Options.{options_from, options_of}
 use Rattle.cms_line.specs.Tokens.{tokens_from, tokens_of}
-use Rattle.cms_operands.specs.Choices.{all_valued, chosen_of, last_among, setting_in, valued}
+use Rattle.cms_operands.specs.Choices.{all_valued, chosen_of, setting_in, valued}
 use Rattle.cms_operands.specs.Operands.{ended, given, given_or, operands_of, pattern, reading_mode}
 use Rattle.cms_operands.specs.Refusals.{message_of}
 use Rattle.cms_search.specs.Machine.{Machine, typing}
@@ -60,7 +60,7 @@ found : (lists both (codes "LISTFILE A%* F* * (FORMAT NOHEADER")
     × (lists both (codes "LISTFILE A * B") ≡ types (codes "A        FILE     B1" ∷ []) 0)
 unfolding list_operands operands_of given given_or pattern text_of is_pattern_character is_name_character reading_mode mode_word_of short_mode_of letter_of mode_number_of ended chosen_of
     options_of options_from
-    all_valued valued setting_in last_among ebcdic code_of code_page host_of upper_of character_of tokens_of tokens_from message_of message_text typed_line typing places_from fits
+    all_valued valued setting_in ebcdic code_of code_page host_of upper_of character_of tokens_of tokens_from message_of message_text typed_line typing places_from fits
     decimal_of written digits stored_size
 found = (refl, refl, refl, refl)
 
@@ -73,7 +73,7 @@ hidden : (lists (two_disks [] private (disk 1)) (codes "LISTFILE * * B (FTYPE") 
     × (lists (two_disks [] private (record (disk 1) { parent = Some 0; read_only = true })) (codes "LISTFILE * * A1 (FN") ≡ types (codes "Q" ∷ []) 0)
 unfolding list_operands operands_of given given_or pattern text_of is_pattern_character is_name_character reading_mode mode_word_of short_mode_of letter_of mode_number_of ended chosen_of
     options_of options_from
-    all_valued valued setting_in last_among ebcdic code_of code_page host_of upper_of character_of tokens_of tokens_from message_of message_text typed_line typing places_from fits
+    all_valued valued setting_in ebcdic code_of code_page host_of upper_of character_of tokens_of tokens_from message_of message_text typed_line typing places_from fits
     decimal_of written digits stored_size
 hidden = (refl, refl, refl)
 
@@ -98,7 +98,7 @@ columns : (lists (one_disk (other_format ∷ [])) (codes "LISTFILE (LABEL")
     × (lists (one_disk (other_format ∷ [])) (codes "LISTFILE (FT") ≡ types (codes "LONGNAME T" ∷ []) 0)
 unfolding list_operands operands_of given given_or pattern text_of is_pattern_character is_name_character reading_mode mode_word_of short_mode_of letter_of mode_number_of ended chosen_of
     options_of options_from
-    all_valued valued setting_in last_among ebcdic code_of code_page host_of upper_of character_of tokens_of tokens_from message_of message_text typed_line typing places_from fits
+    all_valued valued setting_in ebcdic code_of code_page host_of upper_of character_of tokens_of tokens_from message_of message_text typed_line typing places_from fits
     decimal_of written digits stored_size
 columns = (refl, refl, refl, refl, refl, refl, refl, refl)
 
@@ -113,7 +113,7 @@ whole_years : (lists (one_disk (other_format ∷ [])) (codes "LISTFILE (FULLDATE
     ≡ types (codes "LONGNAME T        A6 F    80       40        7 01/01/2000 00:01:09" ∷ []) 0)
 unfolding list_operands operands_of given given_or pattern text_of is_pattern_character is_name_character reading_mode mode_word_of short_mode_of letter_of mode_number_of ended chosen_of
     options_of options_from
-    all_valued valued setting_in last_among ebcdic code_of code_page host_of upper_of character_of tokens_of tokens_from message_of message_text typed_line typing places_from fits
+    all_valued valued setting_in ebcdic code_of code_page host_of upper_of character_of tokens_of tokens_from message_of message_text typed_line typing places_from fits
     decimal_of written digits stored_size
 whole_years = (refl, refl, refl)
 
@@ -141,7 +141,7 @@ stacked : (lists both (codes "LISTFILE A* * A (STACK") ≡ types [] 0)
     × (stacks (codes "LISTFILE AC * A (EXEC LI") ≡ ac ∷ ebcdic (codes "OLD") ∷ [])
 unfolding list_operands operands_of given given_or pattern text_of is_pattern_character is_name_character reading_mode mode_word_of short_mode_of letter_of mode_number_of ended chosen_of
     options_of options_from
-    all_valued valued setting_in last_among ebcdic code_of code_page host_of upper_of character_of tokens_of tokens_from message_of message_text typed_line typing places_from fits
+    all_valued valued setting_in ebcdic code_of code_page host_of upper_of character_of tokens_of tokens_from message_of message_text typed_line typing places_from fits
     decimal_of written digits stored_size
 stacked = (refl, refl, refl, refl, refl, refl, refl)
 
@@ -177,7 +177,7 @@ written_new : (lists both (codes "LISTFILE A* FILE A (EXEC") ≡ types [] 0)
     ≡ record { number = 1; length = 80; records = line_of (codes "&TRACE OFF") 70 ∷ line_of (codes "&1 &2 AC       FILE     A1 V     5") 46 ∷ [] } ∷ [])
 unfolding list_operands operands_of given given_or pattern text_of is_pattern_character is_name_character reading_mode mode_word_of short_mode_of letter_of mode_number_of ended chosen_of
     options_of options_from
-    all_valued valued setting_in last_among ebcdic code_of code_page host_of upper_of character_of tokens_of tokens_from message_of message_text typed_line typing places_from fits
+    all_valued valued setting_in ebcdic code_of code_page host_of upper_of character_of tokens_of tokens_from message_of message_text typed_line typing places_from fits
     decimal_of written digits stored_size answer_of limit changed_files written_file is_full free_count used_count directory_more tree_size pointer_count pointers_to levels levels_from
     map_size need changed
     place_named entries_made directory_taken blocks_with holds fresh_count fresh_to fresh_on is_kept any_within file_size
@@ -193,7 +193,7 @@ written_old : (writes (one_disk (procedure on_a)) (codes "LISTFILE AC FILE A (AP
     ≡ record { number = 1; length = 80; records = line_of (codes "&TRACE OFF") 70 ∷ line_of (codes "&1 &2 AC       FILE     A1") 54 ∷ [] } ∷ [])
 unfolding list_operands operands_of given given_or pattern text_of is_pattern_character is_name_character reading_mode mode_word_of short_mode_of letter_of mode_number_of ended chosen_of
     options_of options_from
-    all_valued valued setting_in last_among ebcdic code_of code_page host_of upper_of character_of tokens_of tokens_from message_of message_text typed_line typing places_from fits
+    all_valued valued setting_in ebcdic code_of code_page host_of upper_of character_of tokens_of tokens_from message_of message_text typed_line typing places_from fits
     decimal_of written digits stored_size answer_of limit changed_files written_file is_full free_count used_count directory_more tree_size pointer_count pointers_to levels levels_from
     map_size need growth_taken changed
     place_named entries_made directory_taken blocks_with holds fresh_count fresh_to fresh_on is_kept any_within file_size
@@ -207,7 +207,7 @@ written_itself : (writes (one_disk (procedure [])) (codes "LISTFILE (EXEC")
     × (answer (listfile both (words (codes "LISTFILE (EXEC"))) (EitherFault Before ∷ []) ≡ types (codes "CMS105E Device fault on 191" ∷ []) 100)
 unfolding list_operands operands_of given given_or pattern text_of is_pattern_character is_name_character reading_mode mode_word_of short_mode_of letter_of mode_number_of ended chosen_of
     options_of options_from
-    all_valued valued setting_in last_among ebcdic code_of code_page host_of upper_of character_of tokens_of tokens_from message_of message_text typed_line typing places_from fits
+    all_valued valued setting_in ebcdic code_of code_page host_of upper_of character_of tokens_of tokens_from message_of message_text typed_line typing places_from fits
     decimal_of written digits stored_size answer_of limit changed_files written_file is_full free_count used_count directory_more tree_size pointer_count pointers_to levels levels_from
     map_size need growth_taken changed
     place_named entries_made directory_taken blocks_with holds fresh_count fresh_to fresh_on is_kept any_within file_size
@@ -226,7 +226,7 @@ refused : (lists both (codes "LISTFILE A! * =") ≡ types (codes "CMS062E Name A
     × (lists both (codes "LISTFILE * * C (FU") ≡ types (codes "CMS003E Option FU is not valid" ∷ []) 24)
 unfolding list_operands operands_of given given_or pattern text_of is_pattern_character is_name_character reading_mode mode_word_of short_mode_of letter_of mode_number_of ended chosen_of
     options_of options_from
-    all_valued valued setting_in last_among ebcdic code_of code_page host_of upper_of character_of tokens_of tokens_from message_of message_text typed_line typing places_from fits
+    all_valued valued setting_in ebcdic code_of code_page host_of upper_of character_of tokens_of tokens_from message_of message_text typed_line typing places_from fits
 refused = (refl, refl, refl, refl, refl, refl, refl)
 
 -- the input's disk, the disk that is written, and then the files
@@ -244,7 +244,7 @@ refused_files : (lists both (codes "LISTFILE * * C (EXEC") ≡ types (codes "CMS
     × (lists both (codes "LISTFILE Z * A (APPEND") ≡ types (codes "CMS002E File Z * A not found" ∷ []) 28)
 unfolding list_operands operands_of given given_or pattern text_of is_pattern_character is_name_character reading_mode mode_word_of short_mode_of letter_of mode_number_of ended chosen_of
     options_of options_from
-    all_valued valued setting_in last_among ebcdic code_of code_page host_of upper_of character_of tokens_of tokens_from message_of message_text typed_line typing places_from fits
+    all_valued valued setting_in ebcdic code_of code_page host_of upper_of character_of tokens_of tokens_from message_of message_text typed_line typing places_from fits
     decimal_of written digits stored_size
 refused_files = (refl, refl, refl, refl, refl, refl)
 
@@ -255,6 +255,6 @@ nearly_full = record both { stack = replicate 9998 [] }
 limited : lists nearly_full (codes "LISTFILE (LIFO") ≡ types (codes "CMS120E Limit 4 reached" ∷ []) 40
 unfolding list_operands operands_of given given_or pattern text_of is_pattern_character is_name_character reading_mode mode_word_of short_mode_of letter_of mode_number_of ended chosen_of
     options_of options_from
-    all_valued valued setting_in last_among ebcdic code_of code_page host_of upper_of character_of tokens_of tokens_from message_of message_text typed_line typing places_from fits
+    all_valued valued setting_in ebcdic code_of code_page host_of upper_of character_of tokens_of tokens_from message_of message_text typed_line typing places_from fits
     decimal_of written digits stored_size
 limited = refl

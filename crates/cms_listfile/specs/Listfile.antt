@@ -1,6 +1,6 @@
 -- LISTFILE [fn [ft [fm]]] [(options]
-use Rattle.std.specs.Prelude.{ℕ, ◌==◌, nat_le, Bool, true, false, if◌then◌else◌, List, [], ◌∷◌, ◌++◌, codes, is_some, map, Result, Ok, Err, ⊤}
-use Rattle.std.specs.Option.{option_map_or}
+use Rattle.std.specs.Prelude.{ℕ, nat_le, Bool, true, false, if◌then◌else◌, List, [], ◌∷◌, ◌++◌, codes, fold, map, Option, None, Some, Result, Ok, Err, ⊤}
+use Rattle.std.specs.Option.{unwrap_or}
 use Rattle.cms_names.specs.declared.name.Format.{Format}
 use Rattle.cms_names.specs.declared.name.Format.TheVariants as format
 use Rattle.cms_names.specs.declared.name.Name.{Name}
@@ -11,8 +11,9 @@ use Rattle.cms_model.specs.Changes.{Change, Put, Add}
 use Rattle.cms_model.specs.Minidisks.{File}
 use Rattle.cms_machine.specs.Acts.{Act}
 use Rattle.cms_line.specs.declared.token.Token.{Token}
-use Rattle.cms_operands.specs.Choices.{chosen_of, flag, last_among}
-use Rattle.cms_operands.specs.Operands.{ended, operands_of, pattern, reading_mode}
+use Rattle.cms_operands.specs.Choices.{chosen_of, flag}
+use Rattle.cms_operands.specs.Operands.{ended, operands_of}
+use Rattle.cms_operands.specs.Optional.{pattern_or_all, reading_mode_or_a}
 use Rattle.cms_operands.specs.declared.choosing.ChosenOption.{ChosenOption}
 use Rattle.cms_operands.specs.declared.choosing.OptionForm.{OptionForm}
 use Rattle.cms_operands.specs.declared.refusal.Refusal.{Refusal}
@@ -23,10 +24,9 @@ use Rattle.cms_search.specs.declared.fault.SearchFault.{SearchFault}
 use Rattle.cms_search.specs.declared.search.Found.{Found}
 use Rattle.cms_files.specs.Files.{UnitFile, file_on, on_found, some_found, writable}
 use Rattle.cms_files.specs.Gathering.{record_in}
-use Rattle.cms_files.specs.Identifiers.{exec_kind, is_last, mode_or_a, part_or_all}
+use Rattle.cms_files.specs.Identifiers.{exec_kind}
 use Rattle.cms_files.specs.Stacking.{stacking}
 use Rattle.cms_files.specs.Updating.{last_update, went}
-use Rattle.cms_files.specs.declared.stacking.StackEnd.{StackEnd}
 use Rattle.cms_files.specs.declared.stacking.StackEnd.TheVariants.{Front, Back}
 use Rattle.cms_listfile.specs.Listing.{count_of, header, lines_of, whole_years}
 use Rattle.cms_listfile.specs.declared.columns.Columns.{Columns}
@@ -34,8 +34,11 @@ use Rattle.cms_listfile.specs.declared.columns.Columns.TheVariants as to
 use Rattle.cms_listfile.specs.declared.columns.Years.TheVariants.{Short}
 use Rattle.cms_listfile.specs.declared.listfile.Delivery.{Delivery}
 use Rattle.cms_listfile.specs.declared.listfile.Delivery.TheVariants as goes
+use Rattle.cms_listfile.specs.declared.listfile.ListChoices.{ListChoices}
 use Rattle.cms_listfile.specs.declared.listfile.ListFiles.{ListFiles}
 use Rattle.cms_listfile.specs.declared.listfile.ListLine.{ListLine}
+use Rattle.cms_listfile.specs.declared.listfile.ListOption.{ListOption}
+use Rattle.cms_listfile.specs.declared.listfile.ListOption.TheVariants as option
 use Rattle.cms_listfile.specs.declared.listfile.ListStyle.{ListStyle}
 
 -- ---- the line
@@ -43,65 +46,66 @@ use Rattle.cms_listfile.specs.declared.listfile.ListStyle.{ListStyle}
 -- two patterns and a mode: * * A
 unfoldable pub list_operands : List Token → Result ListFiles Refusal
 list_operands operands = do
-  file ← pattern 1 (part_or_all operands 1)
-  kind ← pattern 2 (part_or_all operands 2)
-  mode ← reading_mode 3 (mode_or_a operands 3)
+  file ← pattern_or_all operands 1
+  kind ← pattern_or_all operands 2
+  mode ← reading_mode_or_a operands 3
   ended operands 4
   Ok (record { file = file; kind = kind; mode = mode })
 
 -- LISTFILE's options
-abbrev pub options : List OptionForm
+abbrev pub options : List (OptionForm ListOption)
 options =
-    flag (codes "HEADER  ") 1 ∷ flag (codes "NOHEADER") 3
-    ∷ flag (codes "FNAME   ") 2 ∷ flag (codes "FTYPE   ") 2 ∷ flag (codes "FMODE   ") 2 ∷ flag (codes "FORMAT  ") 2
-    ∷ flag (codes "ALLOC   ") 2 ∷ flag (codes "DATE    ") 1 ∷ flag (codes "LABEL   ") 1
-    ∷ flag (codes "STACK   ") 2 ∷ flag (codes "FIFO    ") 2 ∷ flag (codes "LIFO    ") 2
-    ∷ flag (codes "EXEC    ") 2 ∷ flag (codes "APPEND  ") 2 ∷ flag (codes "FULLDATE") 3 ∷ []
+    flag option.Header (codes "HEADER  ") 1 ∷ flag option.NoHeader (codes "NOHEADER") 3
+    ∷ flag option.Fname (codes "FNAME   ") 2 ∷ flag option.Ftype (codes "FTYPE   ") 2
+    ∷ flag option.Fmode (codes "FMODE   ") 2 ∷ flag option.Format (codes "FORMAT  ") 2
+    ∷ flag option.Alloc (codes "ALLOC   ") 2 ∷ flag option.Date (codes "DATE    ") 1
+    ∷ flag option.Label (codes "LABEL   ") 1 ∷ flag option.Stack (codes "STACK   ") 2
+    ∷ flag option.Fifo (codes "FIFO    ") 2 ∷ flag option.Lifo (codes "LIFO    ") 2
+    ∷ flag option.Exec (codes "EXEC    ") 2 ∷ flag option.Append (codes "APPEND  ") 2
+    ∷ flag option.Fulldate (codes "FULLDATE") 3 ∷ []
 
--- the last column of an option
-abbrev pub column_of : ℕ → Columns
-column_of nth =
-    if nth == 2 then to.Name
-    else (if nth == 3 then to.Kind
-    else (if nth == 5 then to.Format
-    else (if nth == 6 then to.Alloc
-    else (if nth == 7 then to.Date Short
-    else (if nth == 8 then to.Label Short
-    else to.Mode)))))
+-- without options the columns go to the mode, and the lines are typed; FIFO unless LIFO
+abbrev pub no_choices : ListChoices
+no_choices = record { last = to.Mode; whole_years = false; header = None; delivery = goes.Typed; end = Back; appends = false }
 
--- FMODE where no column is given
-abbrev pub named_columns : List ChosenOption → Columns
-named_columns chosen = option_map_or (λ o. column_of o.nth) (last_among (2 ∷ 3 ∷ 4 ∷ 5 ∷ 6 ∷ 7 ∷ 8 ∷ []) chosen) to.Mode
+-- what the options say, with one more. The last of STACK, FIFO, LIFO, EXEC and APPEND says where the lines go: STACK to the end that
+-- FIFO or LIFO said before, EXEC into the file as APPEND said before
+abbrev pub choices_by : ListChoices → ListOption → ListChoices
+choices_by c option.Header = record c { header = Some true }
+choices_by c option.NoHeader = record c { header = Some false }
+choices_by c option.Fname = record c { last = to.Name }
+choices_by c option.Ftype = record c { last = to.Kind }
+choices_by c option.Fmode = record c { last = to.Mode }
+choices_by c option.Format = record c { last = to.Format }
+choices_by c option.Alloc = record c { last = to.Alloc }
+choices_by c option.Date = record c { last = to.Date Short }
+choices_by c option.Label = record c { last = to.Label Short }
+choices_by c option.Stack = record c { delivery = goes.Stacked c.end }
+choices_by c option.Fifo = record c { delivery = goes.Stacked Back; end = Back }
+choices_by c option.Lifo = record c { delivery = goes.Stacked Front; end = Front }
+choices_by c option.Exec = record c { delivery = goes.Written c.appends }
+choices_by c option.Append = record c { delivery = goes.Written true; appends = true }
+choices_by c option.Fulldate = record c { whole_years = true }
+
+-- the same, by an option that was chosen
+abbrev pub choices_with : ListChoices → ChosenOption ListOption → ListChoices
+choices_with c chosen = choices_by c chosen.option
 
 -- with FULLDATE the date has the whole year, and the columns go to it at least
-abbrev pub columns_of : List ChosenOption → Columns
-columns_of chosen = if is_some (last_among (14 ∷ []) chosen) then whole_years (named_columns chosen) else named_columns chosen
+abbrev pub columns_of : ListChoices → Columns
+columns_of c = if c.whole_years then whole_years c.last else c.last
 
 -- the header is on from FORMAT on; HEADER and NOHEADER set it
-abbrev pub header_of : Columns → List ChosenOption → Bool
-header_of last chosen = option_map_or (λ o. o.nth == 0) (last_among (0 ∷ 1 ∷ []) chosen) (nat_le (count_of to.Format) (count_of last))
+abbrev pub header_of : Columns → Option Bool → Bool
+header_of last given = unwrap_or given (nat_le (count_of to.Format) (count_of last))
 
--- FIFO unless LIFO
-abbrev pub end_of : List ChosenOption → StackEnd
-end_of chosen = if is_last 11 (10 ∷ 11 ∷ []) chosen then Front else Back
-
--- the lines are stacked, or written into a file, to which they are added with APPEND
-abbrev pub delivery_by : List ChosenOption → ℕ → Delivery
-delivery_by chosen nth =
-    if nat_le nth 11 then goes.Stacked (end_of chosen)
-    else goes.Written (is_some (last_among (13 ∷ []) chosen))
-
--- the last of STACK, FIFO, LIFO, EXEC and APPEND says which; without any of them the lines are typed
-abbrev pub delivery_of : List ChosenOption → Delivery
-delivery_of chosen = option_map_or (λ o. delivery_by chosen o.nth) (last_among (9 ∷ 10 ∷ 11 ∷ 12 ∷ 13 ∷ []) chosen) goes.Typed
+-- how they say that files are listed
+abbrev pub style_by : ListChoices → ListStyle
+style_by c = record { columns = columns_of c; header = header_of (columns_of c) c.header; delivery = c.delivery }
 
 -- how the options say that files are listed
-abbrev pub style_of : List ChosenOption → ListStyle
-style_of chosen = record {
-  columns = columns_of chosen;
-  header = header_of (columns_of chosen) chosen;
-  delivery = delivery_of chosen;
-}
+abbrev pub style_of : List (ChosenOption ListOption) → ListStyle
+style_of chosen = style_by (fold choices_with no_choices chosen)
 
 -- what LISTFILE's line says, or the first refusal
 abbrev pub list_line : List Token → Result ListLine Refusal

@@ -2,16 +2,37 @@
 ghost use Rattle.std.specs.Prelude.{◌≡◌};
 ghost use Rattle.cms_operands.specs.Choices.{AnswersLine};
 ghost use Rattle.cms_listfile.specs.Listfile as spec;
+ghost use Rattle.cms_listfile.specs.declared.listfile.Delivery.TheVariants as goes;
 
 use crate::columns::{Columns, Years};
-use cms_files::{StackEnd, is_last};
+use cms_files::StackEnd;
 use cms_line::{Token, Tokens};
 use cms_names::Pattern;
 use cms_operands::{
-    ChosenOption, CommandFault, OptionForm, ReadMode, Refusal, chosen_options, coded, ended,
-    given_or, last_among, operands, pattern, reading_mode,
+    ChosenOption, CommandFault, OptionForm, ReadMode, Refusal, chosen_options, ended, operands,
+    pattern_or_all, reading_mode_or_a,
 };
 use std::alloc::Global;
+
+/// An option of LISTFILE.
+#[derive(Clone, Copy)]
+pub enum ListOption {
+    Header,
+    NoHeader,
+    Fname,
+    Ftype,
+    Fmode,
+    Format,
+    Alloc,
+    Date,
+    Label,
+    Stack,
+    Fifo,
+    Lifo,
+    Exec,
+    Append,
+    Fulldate,
+}
 
 /// Where the lines go.
 #[derive(Clone, Copy)]
@@ -39,6 +60,22 @@ pub struct ListStyle {
     pub delivery: Delivery,
 }
 
+/// What the options say, one after another.
+#[derive(Clone, Copy)]
+pub struct ListChoices {
+    /// the last column
+    pub last: Columns,
+    /// FULLDATE is among them
+    pub whole_years: bool,
+    /// HEADER or NOHEADER
+    pub header: Option<bool>,
+    pub delivery: Delivery,
+    /// where lines are stacked, if they are
+    pub end: StackEnd,
+    /// APPEND is among them
+    pub appends: bool,
+}
+
 /// What LISTFILE's line says.
 #[derive(Clone, Copy)]
 pub struct ListLine {
@@ -50,122 +87,129 @@ pub struct ListLine {
 fn list_operands(operands: &[Token]) -> Result<ListFiles, Refusal>
     ensures { result ≡ spec.list_operands operands.now }
 {
-    let file = pattern(1, given_or(operands, 1, &coded(b"*")))?;
-    let kind = pattern(2, given_or(operands, 2, &coded(b"*")))?;
-    let mode = reading_mode(3, given_or(operands, 3, &coded(b"A")))?;
+    let file = pattern_or_all(operands, 1)?;
+    let kind = pattern_or_all(operands, 2)?;
+    let mode = reading_mode_or_a(operands, 3)?;
     ended(operands, 4)?;
     Ok(ListFiles { file, kind, mode })
 }
 
-fn options() -> [OptionForm; 15]
+fn options() -> [OptionForm<ListOption>; 15]
     ensures { result ≡ spec.options }
 {
     [
-        OptionForm::flag(b"HEADER  ", 1),
-        OptionForm::flag(b"NOHEADER", 3),
-        OptionForm::flag(b"FNAME   ", 2),
-        OptionForm::flag(b"FTYPE   ", 2),
-        OptionForm::flag(b"FMODE   ", 2),
-        OptionForm::flag(b"FORMAT  ", 2),
-        OptionForm::flag(b"ALLOC   ", 2),
-        OptionForm::flag(b"DATE    ", 1),
-        OptionForm::flag(b"LABEL   ", 1),
-        OptionForm::flag(b"STACK   ", 2),
-        OptionForm::flag(b"FIFO    ", 2),
-        OptionForm::flag(b"LIFO    ", 2),
-        OptionForm::flag(b"EXEC    ", 2),
-        OptionForm::flag(b"APPEND  ", 2),
-        OptionForm::flag(b"FULLDATE", 3),
+        OptionForm::flag(ListOption::Header, b"HEADER  ", 1),
+        OptionForm::flag(ListOption::NoHeader, b"NOHEADER", 3),
+        OptionForm::flag(ListOption::Fname, b"FNAME   ", 2),
+        OptionForm::flag(ListOption::Ftype, b"FTYPE   ", 2),
+        OptionForm::flag(ListOption::Fmode, b"FMODE   ", 2),
+        OptionForm::flag(ListOption::Format, b"FORMAT  ", 2),
+        OptionForm::flag(ListOption::Alloc, b"ALLOC   ", 2),
+        OptionForm::flag(ListOption::Date, b"DATE    ", 1),
+        OptionForm::flag(ListOption::Label, b"LABEL   ", 1),
+        OptionForm::flag(ListOption::Stack, b"STACK   ", 2),
+        OptionForm::flag(ListOption::Fifo, b"FIFO    ", 2),
+        OptionForm::flag(ListOption::Lifo, b"LIFO    ", 2),
+        OptionForm::flag(ListOption::Exec, b"EXEC    ", 2),
+        OptionForm::flag(ListOption::Append, b"APPEND  ", 2),
+        OptionForm::flag(ListOption::Fulldate, b"FULLDATE", 3),
     ]
 }
 
-// The last column of an option, by its place.
-fn column_of(nth: u32) -> Columns
-    ensures { result ≡ spec.column_of nth }
-{
-    match nth {
-        2 => Columns::Name,
-        3 => Columns::Kind,
-        5 => Columns::Format,
-        6 => Columns::Alloc,
-        7 => Columns::Date(Years::Short),
-        8 => Columns::Label(Years::Short),
-        _ => Columns::Mode,
+impl ListChoices {
+    // What holds without options.
+    fn none() -> ListChoices
+        ensures { result ≡ spec.no_choices }
+    {
+        ListChoices {
+            last: Columns::Mode,
+            whole_years: false,
+            header: None,
+            delivery: Delivery::Typed,
+            end: StackEnd::Back,
+            appends: false,
+        }
+    }
+
+    // The lines are stacked.
+    fn stacked(self, end: StackEnd) -> ListChoices
+        ensures { result ≡ record self { delivery = goes.Stacked end; end = end } }
+    {
+        let delivery = Delivery::Stacked(end);
+        ListChoices {
+            delivery,
+            end,
+            ..self
+        }
+    }
+
+    // The lines are written into a file.
+    fn written(self, appends: bool) -> ListChoices
+        ensures { result ≡ record self { delivery = goes.Written appends; appends = appends } }
+    {
+        let delivery = Delivery::Written(appends);
+        ListChoices {
+            delivery,
+            appends,
+            ..self
+        }
     }
 }
 
-// How far the columns go by the option that names the last.
-fn named_columns(chosen: &[ChosenOption]) -> Columns
-    ensures { result ≡ spec.named_columns chosen.now }
+// What the options say, with one more.
+fn choices_with(mut choices: ListChoices, chosen: &ChosenOption<ListOption>) -> ListChoices
+    ensures { result ≡ spec.choices_with choices chosen.now }
 {
-    match last_among(&[2, 3, 4, 5, 6, 7, 8], chosen) {
-        Some(option) => column_of(option.nth),
-        None => Columns::Mode,
+    match chosen.option {
+        ListOption::Header => choices.header = Some(true),
+        ListOption::NoHeader => choices.header = Some(false),
+        ListOption::Fname => choices.last = Columns::Name,
+        ListOption::Ftype => choices.last = Columns::Kind,
+        ListOption::Fmode => choices.last = Columns::Mode,
+        ListOption::Format => choices.last = Columns::Format,
+        ListOption::Alloc => choices.last = Columns::Alloc,
+        ListOption::Date => choices.last = Columns::Date(Years::Short),
+        ListOption::Label => choices.last = Columns::Label(Years::Short),
+        ListOption::Stack => choices = choices.stacked(choices.end),
+        ListOption::Fifo => choices = choices.stacked(StackEnd::Back),
+        ListOption::Lifo => choices = choices.stacked(StackEnd::Front),
+        ListOption::Exec => choices = choices.written(choices.appends),
+        ListOption::Append => choices = choices.written(true),
+        ListOption::Fulldate => choices.whole_years = true,
     }
+    choices
 }
 
 // How far the columns go.
-fn columns_of(chosen: &[ChosenOption]) -> Columns
-    ensures { result ≡ spec.columns_of chosen.now }
+fn columns_of(choices: &ListChoices) -> Columns
+    ensures { result ≡ spec.columns_of choices.now }
 {
-    let named = named_columns(chosen);
-    if last_among(&[14], chosen).is_some() {
-        return named.with_whole_years();
+    if choices.whole_years {
+        return choices.last.with_whole_years();
     }
-    named
+    choices.last
 }
 
-// Whether the lines have a header.
-fn header_of(columns: Columns, chosen: &[ChosenOption]) -> bool
-    ensures { result ≡ spec.header_of columns chosen.now }
+// Whether lines have a header, where they go to this column.
+fn header_of(columns: Columns, header: Option<bool>) -> bool
+    ensures { result ≡ spec.header_of columns header }
 {
-    match last_among(&[0, 1], chosen) {
-        Some(option) => option.nth == 0,
+    match header {
+        Some(header) => header,
         None => columns.count() >= Columns::Format.count(),
     }
 }
 
-// Where lines are stacked.
-fn end_of(chosen: &[ChosenOption]) -> StackEnd
-    ensures { result ≡ spec.end_of chosen.now }
-{
-    if is_last(11, &[10, 11], chosen) {
-        StackEnd::Front
-    } else {
-        StackEnd::Back
-    }
-}
-
-// Where the lines go, by the option in this place.
-fn delivery_by(chosen: &[ChosenOption], nth: u32) -> Delivery
-    ensures { result ≡ spec.delivery_by chosen.now nth }
-{
-    if nth <= 11 {
-        Delivery::Stacked(end_of(chosen))
-    } else {
-        Delivery::Written(last_among(&[13], chosen).is_some())
-    }
-}
-
-// Where the lines go.
-fn delivery_of(chosen: &[ChosenOption]) -> Delivery
-    ensures { result ≡ spec.delivery_of chosen.now }
-{
-    match last_among(&[9, 10, 11, 12, 13], chosen) {
-        Some(option) => delivery_by(chosen, option.nth),
-        None => Delivery::Typed,
-    }
-}
-
 // How the options say that files are listed.
-fn style_of(chosen: &[ChosenOption]) -> ListStyle
+fn style_of(chosen: &[ChosenOption<ListOption>]) -> ListStyle
     ensures { result ≡ spec.style_of chosen.now }
 {
-    let columns = columns_of(chosen);
+    let choices = chosen.iter().fold(ListChoices::none(), choices_with);
+    let columns = columns_of(&choices);
     ListStyle {
         columns,
-        header: header_of(columns, chosen),
-        delivery: delivery_of(chosen),
+        header: header_of(columns, choices.header),
+        delivery: choices.delivery,
     }
 }
 

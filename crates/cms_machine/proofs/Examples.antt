@@ -4,7 +4,7 @@ use Rattle.std.proofs.Common.{◌≡◌, inl, inr, ℕ, suc, ℤ, true, false, L
 use Rattle.cms_ebcdic.specs.CodePage as page
 use Rattle.cms_fields.specs.declared.time.Stamp.{Stamp}
 use Rattle.cms_model.specs.Minidisks.{File, Minidisk, State, Volume, Not}
-use Rattle.cms_model.specs.Changes.{Put, Relabel, Full, Changed, empty_minidisk}
+use Rattle.cms_model.specs.Changes.{Century, Put, Relabel, Full, Changed, empty_minidisk}
 use Rattle.cms_machine.specs.Slots.{Before, After, Slot, Settled, Doubt}
 use Rattle.cms_machine.specs.Steps.{Access, Get, Wipe, Make, Good, ReadFault, SyncFault, OldFault, EitherFault, IsOutcome, slot_after, put_syncs, sync_count}
 use Rattle.cms_machine.specs.Items.{Text}
@@ -107,6 +107,9 @@ put_good file = refl
 
 put_either : (file : File) → put_syncs (Put file) (Changed disk) (EitherFault Before) ≡ 1
 put_either file = refl
+
+century_good : (pivot : ℕ) → put_syncs (Century pivot) (Changed disk) Good ≡ 2
+century_good pivot = refl
 
 refused : (file : File) → put_syncs (Put file) (Full 9 7) Good ≡ 0
 refused file = refl

@@ -1,7 +1,7 @@
 -- Which steps may have which fault.
 use Rattle.std.proofs.Common.{◌≡◌, ◌≢◌, ℕ, not, IsTrue, List, refl, subst}
 use Rattle.cms_model.specs.Minidisks.{Minidisk}
-use Rattle.cms_model.specs.Changes.{Change, Put, Add, Drop, Rename, Relabel, Answer, Limited, Full, Changed, answer_of}
+use Rattle.cms_model.specs.Changes.{Change, Put, Add, Drop, Rename, Relabel, Century, Answer, Limited, Full, Changed, answer_of}
 use Rattle.cms_machine.specs.Slots.{Slot, Settled, Doubt}
 use Rattle.cms_machine.specs.Steps.{Access, Get, Wipe, Make, is_add, is_relabel, is_taken, is_doubt}
 use Rattle.cms_machine.specs.Steps as steps
@@ -13,6 +13,7 @@ addition (Add name more stamp) h = (name, more, stamp, refl)
 addition (Drop name) h = absurd (cc)
 addition (Rename from to number) h = absurd (cc)
 addition (Relabel volid) h = absurd (cc)
+addition (Century pivot) h = absurd (cc)
 
 changed_by : (answer : Answer) → IsTrue (is_taken answer) → (new : Minidisk) × (answer ≡ Changed new)
 changed_by (Changed m) h = (m, refl)

@@ -8,7 +8,7 @@ use Rattle.cms_model.specs.Minidisks.{Minidisk, State}
 use Rattle.cms_model.specs.Trees.{image_of}
 use Rattle.cms_model.specs.Volumes.{state_of}
 use Rattle.cms_model.specs.Settled.{Write, writes, update}
-use Rattle.cms_model.specs.Changes.{Change, Put, Add, Drop, Rename, Relabel, Answer, Limited, Full, Changed, answer_of}
+use Rattle.cms_model.specs.Changes.{Change, Put, Add, Drop, Rename, Relabel, Century, Answer, Limited, Full, Changed, answer_of}
 use Rattle.cms_model.specs.LawsUpdates.{now, IsFront, with_label}
 use Rattle.cms_model.proofs.Settling.{sync_settles}
 use Rattle.cms_machine.specs.Slots.{Slot, Settled, Doubt, named, set_of, IsAmong}
@@ -40,6 +40,7 @@ change_count u ws label (Add name more stamp) m = update_count u ws label
 change_count u ws label (Drop name) m = update_count u ws label
 change_count u ws label (Rename from to number) m = update_count u ws label
 change_count u ws label (Relabel volid) m = refl
+change_count u ws label (Century pivot) m = update_count u ws label
 
 pub syncs_counted : SyncsAreCounted
 syncs_counted u ws label size = record {

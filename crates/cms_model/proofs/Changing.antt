@@ -1,11 +1,11 @@
 -- Changes of a list of files, by the place of a name.
-use Rattle.std.proofs.Common.{◌≡◌, ◌≢◌, ◌⊎◌, ◌↔◌, inl, inr, ⊎_elim, ℕ, zero, suc, ◌-◌, ◌<◌, Bool, true, false, List, [], ◌∷◌, length, swap_remove, if◌then◌else◌, refl, sym, ◌∙◌, ap, subst, arith}
+use Rattle.std.proofs.Common.{◌≡◌, ◌≢◌, ◌⊎◌, ◌↔◌, inl, inr, ⊎_elim, ℕ, zero, suc, ◌-◌, ◌<◌, Bool, true, false, List, [], ◌∷◌, length, map, swap_remove, if◌then◌else◌, refl, sym, ◌∙◌, ap, subst, arith}
 use Rattle.std.specs.Cmp.Lexicographic.{bytes_decides}
 use Rattle.std.proofs.lemmas.Bool.{and_parts, cases_Bool}
 use Rattle.cms_names.specs.declared.name.Name.{Name}
 use Rattle.cms_model.specs.Lists.{same}
 use Rattle.cms_model.specs.Minidisks.{File, same_name}
-use Rattle.cms_model.specs.Changes.{Change, Put, Add, Drop, Rename, Relabel, file_named, put_file, added_to, change_file, behind_first, last_first, drop_file, changed_files}
+use Rattle.cms_model.specs.Changes.{Change, Put, Add, Drop, Rename, Relabel, Century, file_named, put_file, added_to, moved_to, change_file, behind_first, last_first, drop_file, changed_files}
 use Rattle.cms_model.specs.LawsChanges.{NoneNamed, AreDistinct, IsPlace, ChangesPlace, AddsLast, IsFree}
 
 -- ---- the test of names
@@ -204,6 +204,14 @@ drop_distinct name (f ∷ fs) d = go (same_name name f.name) (drop_distinct name
     go true more = last_distinct fs d.1
     go false more = (none_dropped name f.name fs d.0, more)
 
+none_moved : (name : Name) (pivot : ℕ) (files : List File) → NoneNamed name files → NoneNamed name (map (moved_to pivot) files)
+none_moved name pivot [] none = tt
+none_moved name pivot (f ∷ fs) none = (none.0, none_moved name pivot fs none.1)
+
+pub moved_distinct : (pivot : ℕ) (files : List File) → AreDistinct files → AreDistinct (map (moved_to pivot) files)
+moved_distinct pivot [] d = tt
+moved_distinct pivot (f ∷ fs) d = (none_moved f.name pivot fs d.0, moved_distinct pivot fs d.1)
+
 pub stay_distinct : (files : List File) (change : Change) → AreDistinct files → IsFree change files → AreDistinct (changed_files files change)
 unfolding changed_files
 stay_distinct files (Put new) d free = put_distinct new files d
@@ -211,3 +219,4 @@ stay_distinct files (Add name more stamp) d free = changed_distinct name name (a
 stay_distinct files (Drop name) d free = drop_distinct name files d
 stay_distinct files (Rename from to number) d free = changed_distinct from to (λ f. record f { name = to; number = number }) files (λ f is. refl) free d
 stay_distinct files (Relabel volid) d free = d
+stay_distinct files (Century pivot) d free = moved_distinct pivot files d

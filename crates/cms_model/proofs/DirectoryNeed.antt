@@ -1,11 +1,12 @@
 -- The data blocks of a directory that a change writes may be written, and are no more than all.
-use Rattle.std.proofs.Common.{◌≡◌, ◌⊎◌, inl, inr, ℕ, zero, suc, ◌+◌, ◌-◌, ◌/◌, ◌≤◌, Bool, true, false, if◌then◌else◌, List, [], ◌∷◌, length, refl, ◌∙◌, ap, arith}
+use Rattle.std.proofs.Common.{◌≡◌, ◌⊎◌, inl, inr, ℕ, zero, suc, ◌+◌, ◌-◌, ◌/◌, ◌≤◌, Bool, true, false, if◌then◌else◌, List, [], ◌∷◌, length, map, refl, ◌∙◌, ap, arith}
+use Rattle.std.proofs.lemmas.List.{length-map}
 use Rattle.cms_journal.specs.Journal.{IsBlockSize}
 use Rattle.cms_names.specs.declared.name.Name.{Name}
-use Rattle.cms_model.specs.Changes.{Change, Put, Add, Drop, Rename, Relabel, added_to, behind_first, change_file, changed_files, count_after, directory_written, drop_file, entries_made, last_first, place_named, put_file}
+use Rattle.cms_model.specs.Changes.{Change, Put, Add, Drop, Rename, Relabel, Century, added_to, behind_first, change_file, changed_files, count_after, directory_written, drop_file, entries_made, last_first, moved_to, place_named, put_file}
 use Rattle.cms_model.specs.LawsChanges.{IsPlace, NoneNamed}
 use Rattle.cms_model.specs.Minidisks.{File, Minidisk, same_name}
-use Rattle.cms_model.specs.DirectoryParts.{directory_count, directory_taken}
+use Rattle.cms_model.specs.DirectoryParts.{all_entries, directory_count, directory_taken}
 use Rattle.cms_model.specs.LawsRoom.{DirectoryIsNeeded, PlaceIsNamed}
 use Rattle.cms_model.specs.Sharing.{MayBeWritten}
 use Rattle.cms_model.specs.Sizes.{directory_more}
@@ -99,6 +100,14 @@ may_be m (Relabel volid) size = record {
   within = λ j there. blocks_within m.bsize (directory_count m.bsize (length m.files)) j [] there;
   grown = λ j low high. absurd (omega arith);
 }
+may_be m (Century pivot) size =
+    let same : directory_count m.bsize (length (map (moved_to pivot) m.files)) ≡ directory_count m.bsize (length m.files) = ap (directory_count m.bsize) (length-map m.files (moved_to pivot)) in
+    let made = all_entries (length m.files) in
+    record {
+      ascend = blocks_ascend m.bsize (directory_count m.bsize (length (map (moved_to pivot) m.files))) made;
+      within = λ j there. blocks_within m.bsize (directory_count m.bsize (length (map (moved_to pivot) m.files))) j made there;
+      grown = λ j low high. absurd (omega (arith, same, low, high));
+    }
 
 pub directory_is_needed : DirectoryIsNeeded
 unfolding directory_taken directory_more

@@ -10,7 +10,7 @@ use Rattle.std.proofs.Math.Nat.{div-lt_iff_lt-mul, div-eq_of_lt-le, zero-div}
 use Rattle.cms_journal.specs.Journal.{IsBlockSize}
 use Rattle.cms_journal.proofs.Sizes.{block_bounds}
 use Rattle.cms_fields.specs.Numbers.{up}
-use Rattle.cms_model.specs.DirectoryParts.{blocks_with, directory_count, entry_block}
+use Rattle.cms_model.specs.DirectoryParts.{all_entries, blocks_with, directory_count, entry_block}
 use Rattle.cms_model.specs.Lists.{In, holds}
 use Rattle.cms_model.specs.Sharing.{MayBeWritten}
 use Rattle.cms_model.proofs.Quotients.{up_spec, up_some}
@@ -134,6 +134,32 @@ blocks_may bsize before after place numbers size long there = record {
   within = λ j in'. blocks_within bsize (directory_count bsize after) j numbers in';
   grown = λ j low high. grown_places bsize before after place j numbers size long there low high;
 }
+
+-- ---- all entries
+
+in_mapped : (f : ℕ → ℕ) (n : ℕ) (xs : List ℕ) → In n xs → In (f n) (map f xs)
+in_mapped f n [] there = absurd there
+in_mapped f n (x ∷ xs) (inl e) = inl (ap f e)
+in_mapped f n (x ∷ xs) (inr more) = inr (in_mapped f n xs more)
+
+-- each data block has an entry
+pub made_all : (bsize files n : ℕ) → IsBlockSize bsize → n < directory_count bsize files → In n (map (entry_block bsize) (all_entries files))
+made_all bsize files n size less =
+    let p = parts bsize size in
+    let whole = p.0 in
+    let some = p.1 in
+    let each = bsize / 64 in
+    let after = (up_spec (64 * (files + 2)) bsize (omega arith)).1 in
+    let high : suc n * bsize ≤ directory_count bsize files * bsize = mul-le-mul_right bsize less in
+    let wide : n * bsize ≡ n * each * 64 = ap (λ (k : ℕ). n * k) (sym whole) ∙ (omega arith) in
+    let split : suc n * bsize ≡ n * bsize + bsize = omega arith in
+    let next : (n + 1) * each ≡ n * each + each = omega arith in
+    let there = in_mapped (entry_block bsize) (n * each) (all_entries files) (in_row 0 (n * each) (files + 2) (omega arith) (omega arith)) in
+    let is : n * each / each ≡ n = div-eq_of_lt-le {k = n} each {m = n * each} (omega arith) (omega arith) in
+    subst (λ (k : ℕ). In k (map (entry_block bsize) (all_entries files))) is there
+
+pub all_blocks : (bsize files count n : ℕ) → IsBlockSize bsize → n < directory_count bsize files → n < count → In n (blocks_with bsize count (all_entries files))
+all_blocks bsize files count n size less within = in_blocks bsize count n (all_entries files) (made_all bsize files n size less) within
 
 -- there is at least one
 pub some_blocks : (bsize files : ℕ) → IsBlockSize bsize → 0 < directory_count bsize files

@@ -1,7 +1,7 @@
 -- The directory's need on small examples, with blocks of 512 bytes.
 use Rattle.std.proofs.Common.{◌≡◌, ℕ, [], ◌∷◌, replicate, refl}
 use Rattle.cms_names.specs.declared.name.Format.TheVariants.{F}
-use Rattle.cms_model.specs.Changes.{Drop, Put, changed_files, directory_fresh, directory_written, drop_file, entries_made, last_first, place_named, put_file}
+use Rattle.cms_model.specs.Changes.{Century, Drop, Put, changed_files, directory_fresh, directory_written, drop_file, entries_made, last_first, place_named, put_file}
 use Rattle.cms_model.specs.DirectoryParts.{blocks_with, directory_count, directory_taken}
 use Rattle.cms_model.specs.Lists.{holds, same}
 use Rattle.cms_model.specs.Minidisks.{File, Minidisk, same_name}
@@ -50,3 +50,12 @@ shrinks = refl
 narrows : fresh_count 128 (directory_count 512 1031) (directory_count 512 1030) (0 ∷ []) ≡ 4
 unfolding fresh_count fresh_to fresh_on is_kept any_within levels levels_from
 narrows = refl
+
+-- moved stamps: with 16 files all three data blocks are written, and with none the one that there is
+moves_all : (directory_written (a_minidisk 15) (Century 70) ≡ 0 ∷ 1 ∷ 2 ∷ []) × (directory_fresh (a_minidisk 15) (Century 70) ≡ 3)
+unfolding directory_taken entries_made changed_files blocks_with holds fresh_count fresh_to fresh_on is_kept any_within levels levels_from a_file a_minidisk
+moves_all = (refl, refl)
+
+moves_none : (directory_written (record (a_minidisk 0) { files = [] }) (Century 0) ≡ 0 ∷ []) × (directory_fresh (record (a_minidisk 0) { files = [] }) (Century 0) ≡ 0)
+unfolding directory_taken entries_made changed_files blocks_with holds fresh_count fresh_to fresh_on is_kept any_within levels levels_from a_file a_minidisk
+moves_none = (refl, refl)

@@ -2,6 +2,7 @@
 use Rattle.std.proofs.Common.{◌≡◌, ℕ, if◌then◌else◌, List, [], ◌∷◌, replicate, true, false, Some, None, Ok, Err, refl}
 use Rattle.std.specs.Prelude.{◌==◌}
 use Rattle.cms_names.specs.declared.name.Format.{Format}
+use Rattle.cms_fields.specs.declared.time.Stamp.{Stamp}
 use Rattle.cms_names.specs.declared.name.Format.TheVariants.{F, V}
 use Rattle.cms_text.specs.Bytes.{word, half}
 use Rattle.cms_model.specs.Lists.{cut, holds, first_repeat, same}
@@ -12,7 +13,7 @@ use Rattle.cms_model.specs.Sizes.{levels_from, levels, pointers_to, pointer_coun
 use Rattle.cms_model.specs.Sharing.{any_within, is_kept, fresh_on, fresh_to, fresh_count}
 use Rattle.cms_model.specs.Minidisks.{File, Minidisk, same_name}
 use Rattle.cms_model.specs.DirectoryParts.{blocks_with, directory_taken}
-use Rattle.cms_model.specs.Changes.{Put, Drop, entries_made, place_named, empty_minidisk, changed_files, written_file, put_file, drop_file, last_first, need}
+use Rattle.cms_model.specs.Changes.{Put, Drop, Century, stamp_moved, entries_made, place_named, empty_minidisk, changed_files, written_file, put_file, drop_file, last_first, need}
 use Rattle.cms_model.specs.declared.fault.VarFault.TheVariants.{Zero, PastEnd, Left}
 use Rattle.cms_fields.specs.declared.entry.EntryFault.TheVariants as entry_fault
 use Rattle.cms_fields.specs.declared.label.LabelFault.TheVariants as label_fault
@@ -178,3 +179,27 @@ two_of_three = refl
 shorter_by_a_block : fresh_count 4 6 5 (0 ∷ []) ≡ 4
 unfolding fresh_count fresh_to fresh_on is_kept any_within levels levels_from
 shorter_by_a_block = refl
+
+-- ---- stamps that are moved
+
+a_stamp : ℕ → Stamp
+a_stamp year = record { year = year; month = 2; day = 29; hour = 23; minute = 59; second = 59 }
+
+-- the pivot's year stays, and that before it moves
+seventy : (stamp_moved 70 (a_stamp 1970) ≡ a_stamp 1970) × (stamp_moved 70 (a_stamp 1969) ≡ a_stamp 2069)
+unfolding a_stamp
+seventy = (refl, refl)
+
+-- with 0 none moves, and with 100 each of the 1900s
+none_moves : (stamp_moved 0 (a_stamp 1900) ≡ a_stamp 1900) × (stamp_moved 0 (a_stamp 2000) ≡ a_stamp 2000)
+unfolding a_stamp
+none_moves = (refl, refl)
+
+each_moves : (stamp_moved 100 (a_stamp 1900) ≡ a_stamp 2000) × (stamp_moved 100 (a_stamp 1999) ≡ a_stamp 2099) × (stamp_moved 100 (a_stamp 2000) ≡ a_stamp 2000)
+unfolding a_stamp
+each_moves = (refl, refl, refl)
+
+-- a full disk has no room for a map, though no stamp would move
+no_room_to_move : (need full_disk (Century 0) ≡ 1) × (free_count full_disk ≡ 0)
+unfolding need changed_files file_size stored_size used_count free_count directory_more map_size tree_size levels levels_from pointer_count pointers_to file_of entries_made directory_taken blocks_with holds fresh_count fresh_to fresh_on is_kept any_within full_disk
+no_room_to_move = (refl, refl)

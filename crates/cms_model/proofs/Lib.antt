@@ -37,6 +37,7 @@ pub mod WrittenBlocks
 pub mod Exchanging
 pub mod DirectoryParts
 pub mod DirectoryNeed
+pub mod Centuries
 mod DirectoryRows
 mod Examples
 mod SmallVolume

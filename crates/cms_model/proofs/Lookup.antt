@@ -1,11 +1,11 @@
 -- What is found by a name after a change.
-use Rattle.std.proofs.Common.{◌≡◌, ◌≢◌, ◌⊎◌, inl, inr, ⊎_elim, true, false, List, [], ◌∷◌, if◌then◌else◌, Option, Some, refl, sym, ◌∙◌, ap, subst}
-use Rattle.std.proofs.lemmas.Bool.{cases_Bool}
+use Rattle.std.proofs.Common.{◌≡◌, ◌≢◌, ◌⊎◌, inl, inr, ⊎_elim, ℕ, ◌+◌, Bool, true, false, List, [], ◌∷◌, map, if◌then◌else◌, Option, Some, None, refl, sym, ◌∙◌, ap, subst}
+use Rattle.std.proofs.lemmas.Bool.{cases_Bool, lt-ltb, le-ltb}
 use Rattle.cms_names.specs.declared.name.Name.{Name}
 use Rattle.cms_model.specs.Minidisks.{File, same_name}
-use Rattle.cms_model.specs.Changes.{Put, Add, Drop, Rename, Relabel, file_named, put_file, added_to, change_file, behind_first, last_first, drop_file, changed_files, changed}
+use Rattle.cms_model.specs.Changes.{Put, Add, Drop, Rename, Relabel, Century, file_named, put_file, added_to, moved_to, change_file, behind_first, last_first, drop_file, changed_files, changed}
 use Rattle.cms_model.specs.LawsChanges.{NoneNamed, AreDistinct}
-use Rattle.cms_model.specs.LawsLookup.{ChangedIsFound, OthersStay, RestIsLeft}
+use Rattle.cms_model.specs.LawsLookup.{ChangedIsFound, IsMoved, OthersStay, RestIsLeft}
 use Rattle.cms_model.proofs.Changing.{name_from, name_self, name_other, name_differs, none_added, none_same, none_last}
 
 -- ---- the name that is changed
@@ -42,6 +42,37 @@ none_left name (f ∷ fs) d = ⊎_elim
     (λ (other : same_name name f.name ≡ false). rw other (name_differs name f.name other, none_left name fs d.1))
     (cases_Bool (same_name name f.name))
 
+is_moved : (pivot : ℕ) (old : File) → IsMoved old pivot (moved_to pivot old)
+is_moved pivot old = record {
+  name_same = refl;
+  number_same = refl;
+  format_same = refl;
+  length_same = refl;
+  before = λ less. rw (lt-ltb old.stamp.year (1900 + pivot) less) refl;
+  from = λ past. rw (le-ltb old.stamp.year (1900 + pivot) past) refl;
+  records_same = refl;
+}
+
+moved_found : (name : Name) (pivot : ℕ) (files : List File) (old : File) → file_named name files ≡ Some old → file_named name (map (moved_to pivot) files) ≡ Some (moved_to pivot old)
+unfolding file_named
+moved_found name pivot [] old found = absurd (cc)
+moved_found name pivot (f ∷ fs) old found = go (same_name name f.name) found (λ is. moved_found name pivot fs old is)
+  where
+    go : (b : Bool) → (if b then Some f else file_named name fs) ≡ Some old → (file_named name fs ≡ Some old → file_named name (map (moved_to pivot) fs) ≡ Some (moved_to pivot old))
+        → (if b then Some (moved_to pivot f) else file_named name (map (moved_to pivot) fs)) ≡ Some (moved_to pivot old)
+    go true here deeper = let one : f ≡ old = cc in ap (λ (g : File). Some (moved_to pivot g)) one
+    go false there deeper = deeper there
+
+moved_absent : (name : Name) (pivot : ℕ) (files : List File) → file_named name files ≡ None → file_named name (map (moved_to pivot) files) ≡ None
+unfolding file_named
+moved_absent name pivot [] none = refl
+moved_absent name pivot (f ∷ fs) none = go (same_name name f.name) none (λ is. moved_absent name pivot fs is)
+  where
+    go : (b : Bool) → (if b then Some f else file_named name fs) ≡ None → (file_named name fs ≡ None → file_named name (map (moved_to pivot) fs) ≡ None)
+        → (if b then Some (moved_to pivot f) else file_named name (map (moved_to pivot) fs)) ≡ None
+    go true here deeper = absurd (cc)
+    go false there deeper = deeper there
+
 pub changed_is_found : ChangedIsFound
 unfolding changed_files
 changed_is_found files name = record {
@@ -57,6 +88,8 @@ changed_is_found files name = record {
     change_found name to (λ f. record f { name = to; number = number }) files old (λ f is. refl) found free,
   );
   dropped = λ d. (none_added name (drop_file name files) (none_left name files d)).absent;
+  moved = λ old pivot found. (moved_to pivot old, is_moved pivot old, moved_found name pivot files old found);
+  absent = λ pivot none. moved_absent name pivot files none;
 }
 
 -- ---- the others
@@ -119,9 +152,10 @@ others_stay files (Add name more stamp) other d ne = change_other other name (ad
 others_stay files (Drop name) other d ne = drop_other other name files d ne
 others_stay files (Rename from to number) other d ne = change_other other from (λ f. record f { name = to; number = number }) files ne.0 (λ f is. ne.1)
 others_stay files (Relabel volid) other d ne = refl
+others_stay files (Century pivot) other d ne = absurd ne
 
 -- ---- the minidisk
 
 pub rest_is_left : RestIsLeft
 unfolding changed changed_files
-rest_is_left m change = record { bsize_same = refl; total_same = refl; lost_same = refl; relabelled = λ volid. refl; put = λ new. refl; dropped = λ name. refl }
+rest_is_left m change = record { bsize_same = refl; total_same = refl; lost_same = refl; relabelled = λ volid. refl; put = λ new. refl; dropped = λ name. refl; moved = λ pivot. refl }

@@ -1,5 +1,5 @@
 -- What a change needs is what it takes; when a change is made.
-use Rattle.std.proofs.Common.{◌≡◌, ◌⊎◌, inl, inr, ⊎_elim, ℕ, zero, suc, ◌+◌, ◌-◌, ◌/◌, ◌<◌, ◌≤◌, Bool, true, false, if◌then◌else◌, nat_lt, List, [], ◌∷◌, ◌++◌, length, sum_by, Option, Some, None, refl, sym, ◌∙◌, ap, subst, arith}
+use Rattle.std.proofs.Common.{◌≡◌, ◌⊎◌, inl, inr, ⊎_elim, ℕ, zero, suc, ◌+◌, ◌-◌, ◌/◌, ◌<◌, ◌≤◌, Bool, true, false, if◌then◌else◌, nat_lt, List, [], ◌∷◌, ◌++◌, length, map, sum_by, Option, Some, None, refl, sym, ◌∙◌, ap, subst, arith}
 use Rattle.std.proofs.lemmas.Bool.{cases_Bool, ltb-true, ltb-false, lt-ltb, le-ltb}
 use Rattle.std.proofs.lemmas.List.Sums.{sum_by-cons}
 use Rattle.cms_journal.specs.Journal.{IsBlockSize}
@@ -13,10 +13,10 @@ use Rattle.cms_model.specs.Growth.{growth_given, growth_taken}
 use Rattle.cms_model.specs.LawsRoom.{added_given}
 use Rattle.cms_model.specs.Sharing.{MayBeWritten, fresh_count, fresh_on, fresh_to, released_count}
 use Rattle.cms_model.specs.Sizes.{directory_more, file_size, free_count, levels, pointer_count, stored_size, tree_size, used_count}
-use Rattle.cms_model.specs.Changes.{Change, Put, Add, Drop, Rename, Relabel, added_need, file_named, put_file, added_to, change_file, behind_first, last_first, drop_file, changed_files, changed, written_file, file_need, need, place_named, entries_made, count_after, directory_fresh, directory_written, is_full, file_limit, limit, Limited, Full, Changed, answer_of}
+use Rattle.cms_model.specs.Changes.{Change, Put, Add, Drop, Rename, Relabel, Century, moved_to, added_need, file_named, put_file, added_to, change_file, behind_first, last_first, drop_file, changed_files, changed, written_file, file_need, need, place_named, entries_made, count_after, directory_fresh, directory_written, is_full, file_limit, limit, Limited, Full, Changed, answer_of}
 use Rattle.cms_model.specs.LawsRoom.{NeedIsTaken, IsWithin, Makes, ChangedWhereMade, FullWhereLacking, PassesFirst, Files, Records, Bytes, LimitedWherePassing, RoomIsKept}
 use Rattle.cms_model.proofs.DirectoryNeed.{may_be}
-use Rattle.cms_model.proofs.DirectoryParts.{first_made, some_blocks}
+use Rattle.cms_model.proofs.DirectoryParts.{all_blocks, first_made, some_blocks}
 use Rattle.cms_model.proofs.Exchanging.{size_is_exchanged}
 use Rattle.cms_model.proofs.Growth.{growth_exchanged}
 use Rattle.cms_model.proofs.WrittenBlocks.{leaf_written}
@@ -133,6 +133,19 @@ rename_sizes bsize from to number (f ∷ fs) = go (same_name from f.name) (renam
     go false deeper =
         sizes_more bsize f (change_file from (λ f. record f { name = to; number = number }) fs) ∙ ap (λ (n : ℕ). file_size bsize f + n) deeper ∙ sym (sizes_more bsize f fs)
 
+-- nor does a stamp
+moved_size : (bsize pivot : ℕ) (f : File) → file_size bsize (moved_to pivot f) ≡ file_size bsize f
+unfolding file_size
+moved_size bsize pivot f = refl
+
+moved_sizes : (bsize pivot : ℕ) (files : List File) → sizes bsize (map (moved_to pivot) files) ≡ sizes bsize files
+moved_sizes bsize pivot [] = refl
+moved_sizes bsize pivot (f ∷ fs) =
+    let deeper = moved_sizes bsize pivot fs in
+    let one = moved_size bsize pivot f in
+    let a = sizes_more bsize (moved_to pivot f) (map (moved_to pivot) fs) in
+    let b = sizes_more bsize f fs in omega (arith, deeper, one, a, b)
+
 -- ---- the blocks of a minidisk
 
 -- the first data block of the tree before is given back where that of the new one is written
@@ -171,6 +184,12 @@ directory_exchanged m change size first =
     some_length n [] there = absurd there
     some_length n (x ∷ xs) there = omega arith
 
+-- where stamps are moved the first data block of the directory is written too
+first_moved : (m : Minidisk) (pivot : ℕ) → IsBlockSize m.bsize → In 0 (directory_written m (Century pivot))
+unfolding changed_files entries_made
+first_moved m pivot size =
+    all_blocks m.bsize (length m.files) (directory_count m.bsize (length (map (moved_to pivot) m.files))) 0 size (some_blocks m.bsize (length m.files) size) (some_blocks m.bsize (length (map (moved_to pivot) m.files)) size)
+
 pub need_taken : NeedIsTaken
 unfolding used_count need changed changed_files entries_made written_file
 need_taken m (Put new) size = let files = put_sizes m.bsize new m.files in let directory = directory_exchanged m (Put new) size (first_made m.bsize (count_after m (Put new)) ((place_named new.name m.files + 2) ∷ []) size) in omega (arith, files)
@@ -178,6 +197,7 @@ need_taken m (Add name more stamp) size = let files = add_sizes m.bsize name mor
 need_taken m (Drop name) size = let files = drop_sizes m.bsize name m.files in let directory = directory_exchanged m (Drop name) size (first_made m.bsize (count_after m (Drop name)) ((place_named name m.files + 2) ∷ (length m.files - 1 + 2) ∷ []) size) in omega (arith, files)
 need_taken m (Rename from to number) size = let files = rename_sizes m.bsize from to number m.files in let directory = directory_exchanged m (Rename from to number) size (first_made m.bsize (count_after m (Rename from to number)) ((place_named from m.files + 2) ∷ []) size) in omega (arith, files)
 need_taken m (Relabel volid) size = refl
+need_taken m (Century pivot) size = let files = moved_sizes m.bsize pivot m.files in let directory = directory_exchanged m (Century pivot) size (first_moved m pivot size) in omega (arith, files)
 
 -- ---- when a change is made
 

@@ -1,22 +1,23 @@
 -- Changes of a minidisk, and when there is no room for one.
-use Rattle.std.specs.Prelude.{ℕ, suc, ◌+◌, ◌-◌, Bool, if◌then◌else◌, nat_lt, List, [], ◌∷◌, ◌++◌, length, Option, Some, None}
+use Rattle.std.specs.Prelude.{ℕ, suc, ◌+◌, ◌-◌, Bool, if◌then◌else◌, nat_lt, List, [], ◌∷◌, ◌++◌, length, map, Option, Some, None}
 use Rattle.cms_names.specs.declared.name.Name.{Name}
 use Rattle.cms_fields.specs.declared.time.Stamp.{Stamp}
 use Rattle.cms_fields.specs.Limits.{most_records, most_bytes, most_files}
 use Rattle.cms_model.specs.Records.{length_of}
 use Rattle.cms_model.specs.Minidisks.{File, Minidisk, same_name}
-use Rattle.cms_model.specs.DirectoryParts.{blocks_made, directory_taken}
+use Rattle.cms_model.specs.DirectoryParts.{all_entries, blocks_made, directory_taken}
 use Rattle.cms_model.specs.Growth.{growth_taken}
 use Rattle.cms_model.specs.Sizes.{stored_size, file_size, map_size, free_count}
 
 -- Put: a whole file. Add: more records of a file, and its stamp. Drop: a file goes. Rename: from, to and the new mode
--- number. Relabel: the new volume id.
+-- number. Relabel: the new volume id. Century: the pivot, whose year and those behind it stay in the 1900s.
 pub data Change : Type 0 where
   Put : File → Change
   Add : Name → List (List ℕ) → Stamp → Change
   Drop : Name → Change
   Rename : Name → Name → ℕ → Change
   Relabel : List ℕ → Change
+  Century : ℕ → Change
 
 -- the file of a name
 unfoldable pub file_named : Name → List File → Option File
@@ -31,6 +32,14 @@ put_file new (f ∷ fs) = if same_name new.name f.name then new ∷ fs else f �
 -- a file with more records
 abbrev pub added_to : List (List ℕ) → Stamp → File → File
 added_to more stamp f = record f { records = f.records ++ more; length = length_of f.format f.length (f.records ++ more); stamp = stamp }
+
+-- a stamp of a year before that of the pivot in the 1900s is one of the same day a century later
+abbrev pub stamp_moved : ℕ → Stamp → Stamp
+stamp_moved pivot stamp = if nat_lt stamp.year (1900 + pivot) then record stamp { year = stamp.year + 100 } else stamp
+
+-- a file with such a stamp
+abbrev pub moved_to : ℕ → File → File
+moved_to pivot f = record f { stamp = stamp_moved pivot f.stamp }
 
 -- a file of a name is changed in its place
 unfoldable pub change_file : Name → (File → File) → List File → List File
@@ -59,6 +68,7 @@ changed_files files (Add name more stamp) = change_file name (added_to more stam
 changed_files files (Drop name) = drop_file name files
 changed_files files (Rename from to number) = change_file from (λ f. record f { name = to; number = number }) files
 changed_files files (Relabel volid) = files
+changed_files files (Century pivot) = map (moved_to pivot) files
 
 -- the volume id after a change
 abbrev pub changed_volid : List ℕ → Change → List ℕ
@@ -67,6 +77,7 @@ changed_volid volid (Put new) = volid
 changed_volid volid (Add name more stamp) = volid
 changed_volid volid (Drop name) = volid
 changed_volid volid (Rename from to number) = volid
+changed_volid volid (Century pivot) = volid
 
 -- the minidisk after a change
 unfoldable pub changed : Minidisk → Change → Minidisk
@@ -79,6 +90,7 @@ written_file m (Add name more stamp) = file_named name (changed_files m.files (A
 written_file m (Drop name) = None
 written_file m (Rename from to number) = None
 written_file m (Relabel volid) = None
+written_file m (Century pivot) = None
 
 -- the blocks that a new file needs
 abbrev pub file_need : ℕ → Option File → ℕ
@@ -97,13 +109,14 @@ place_named name [] = 0
 place_named name (f ∷ fs) = if same_name name f.name then 0 else suc (place_named name fs)
 
 -- the numbers of the directory's entries that a change makes anew: its own, that of the changed file, and where a file goes that of the
--- last, which takes its place
+-- last, which takes its place; where stamps are moved, all
 unfoldable pub entries_made : List File → Change → List ℕ
 entries_made files (Put new) = 0 ∷ (place_named new.name files + 2) ∷ []
 entries_made files (Add name more stamp) = 0 ∷ (place_named name files + 2) ∷ []
 entries_made files (Drop name) = 0 ∷ (place_named name files + 2) ∷ (length files - 1 + 2) ∷ []
 entries_made files (Rename from to number) = 0 ∷ (place_named from files + 2) ∷ []
 entries_made files (Relabel volid) = []
+entries_made files (Century pivot) = all_entries (length files)
 
 -- how many files there are after a change
 abbrev pub count_after : Minidisk → Change → ℕ
@@ -128,6 +141,7 @@ need m (Put new) = file_need m.bsize (written_file m (Put new)) + system_need m 
 need m (Add name more stamp) = added_need m.bsize more (file_named name m.files) + system_need m (Add name more stamp)
 need m (Drop name) = system_need m (Drop name)
 need m (Rename from to number) = system_need m (Rename from to number)
+need m (Century pivot) = system_need m (Century pivot)
 
 -- the change needs more blocks than are free
 unfoldable pub is_full : Minidisk → Change → Bool

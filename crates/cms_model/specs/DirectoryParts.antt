@@ -10,6 +10,10 @@ use Rattle.cms_model.specs.Sharing.{fresh_count, released_count}
 abbrev pub entry_block : ℕ → ℕ → ℕ
 entry_block bsize number = number / (bsize / 64)
 
+-- the numbers of all entries of a directory of so many files
+abbrev pub all_entries : ℕ → List ℕ
+all_entries files = range_with_len 0 (files + 2)
+
 -- the data blocks of a directory of so many files
 abbrev pub directory_count : ℕ → ℕ → ℕ
 directory_count bsize files = up (64 * (files + 2)) bsize

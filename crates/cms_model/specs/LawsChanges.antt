@@ -4,7 +4,7 @@ use Rattle.cms_names.specs.declared.name.Name.{Name}
 use Rattle.cms_model.specs.Trees.{Image}
 use Rattle.cms_model.specs.Minidisks.{File, same_name}
 use Rattle.cms_model.specs.Volumes.{Disk, Opened, open_of, minidisk_of}
-use Rattle.cms_model.specs.Changes.{Change, Put, Add, Drop, Rename, Relabel, file_named, put_file, change_file, drop_file, changed_files}
+use Rattle.cms_model.specs.Changes.{Change, Put, Add, Drop, Rename, Relabel, Century, file_named, put_file, change_file, drop_file, changed_files}
 
 -- the test of names tells whether they are the same
 abbrev pub NamesAreTold : Type 0
@@ -59,6 +59,7 @@ IsFree (Put new) files = ⊤
 IsFree (Add name more stamp) files = ⊤
 IsFree (Drop name) files = ⊤
 IsFree (Relabel volid) files = ⊤
+IsFree (Century pivot) files = ⊤
 
 -- names stay distinct
 abbrev pub NamesStayDistinct : Type 0

@@ -5,7 +5,7 @@ use Rattle.cms_names.specs.declared.name.Name.{Name}
 use Rattle.cms_fields.specs.Limits.{most_records, most_bytes, most_files}
 use Rattle.cms_model.specs.Minidisks.{File, Minidisk}
 use Rattle.cms_model.specs.Sizes.{stored_size, directory_more, map_size, used_count, free_count}
-use Rattle.cms_model.specs.Changes.{Change, Put, Add, Drop, Rename, Relabel, file_named, changed, written_file, file_need, need, place_named, entries_made, count_after, directory_written, directory_fresh, Limited, Full, Changed, answer_of}
+use Rattle.cms_model.specs.Changes.{Change, Put, Add, Drop, Rename, Relabel, Century, file_named, changed, written_file, file_need, need, place_named, entries_made, count_after, directory_written, directory_fresh, Limited, Full, Changed, answer_of}
 use Rattle.cms_model.specs.DirectoryParts.{directory_count, directory_released}
 use Rattle.cms_model.specs.Growth.{growth_given}
 use Rattle.cms_model.specs.LawsChanges.{IsPlace, NoneNamed}
@@ -47,6 +47,7 @@ given_back m (Add name more stamp) = added_given m.bsize more (file_named name m
 given_back m (Drop name) = file_need m.bsize (file_named name m.files) + system_given m (Drop name)
 given_back m (Rename from to number) = system_given m (Rename from to number)
 given_back m (Relabel volid) = 0
+given_back m (Century pivot) = system_given m (Century pivot)
 
 -- what a change needs is what it takes: the blocks in use after it are those before, and these, without those that it gives back
 abbrev pub NeedIsTaken : Type 0

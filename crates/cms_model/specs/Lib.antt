@@ -18,6 +18,7 @@ pub mod LawsVolumes
 pub mod LawsUpdates
 pub mod LawsSizes
 pub mod LawsChanges
+pub mod LawsCenturies
 pub mod LawsRoom
 pub mod LawsLookup
 pub mod Stands

@@ -1,6 +1,7 @@
 // What follows from the definitions of volumes.
 ghost use Rattle.cms_model.specs.Built.{BuiltIsRead};
 ghost use Rattle.cms_model.specs.ByLevels.{ReadIsHeaped};
+ghost use Rattle.cms_model.specs.LawsCenturies.{CenturyIsWhole, MovedIsLate, MovedIsStamp};
 ghost use Rattle.cms_model.specs.LawsChanges.{NamesAreTold, NamesStayDistinct, NoneIsAdded, OpenedAreDistinct, PlaceIsChanged, PlaceIsFound};
 ghost use Rattle.cms_model.specs.LawsLookup.{ChangedIsFound, OthersStay, RestIsLeft};
 ghost use Rattle.cms_model.specs.LawsRecords.{FixedAreCut, StandsForOne, StoredHasSize, ValidHasRecords, VaryingAreRead};
@@ -114,6 +115,16 @@ pub fn room_laws()
     ensures full { FullWhereLacking }
     ensures limited { LimitedWherePassing }
     ensures room { RoomIsKept }
+{}
+
+/// Stamps that are moved by a century.
+///
+/// - What is moved is a stamp again, and stays when stamps are moved again.
+/// - All data blocks of the directory are written, and it needs as many free blocks as a whole one.
+pub fn century_laws()
+    ensures stamps { MovedIsStamp }
+    ensures late { MovedIsLate }
+    ensures whole { CenturyIsWhole }
 {}
 
 /// What a crash may leave of a unit that is settled, synced, untouched or left alone.

@@ -1,51 +1,49 @@
 -- Options with their values, one after another.
-use Rattle.std.proofs.Common.{◌≡◌, ℕ, ◌+◌, ◌<◌, ◌≤◌, List, [], ◌∷◌, ◌++◌, length, drop, get_or, map, take, Bool, true, false, cond, Option, Some, None, Result, Ok, Err, refl, ap, sym, ◌∙◌, append_assoc, append-nil}
-use Rattle.std.specs.Prelude.{fold, IsErrAnd}
-use Rattle.std.proofs.lemmas.List.{drop_all, drop_more, take_all, take_more}
-use Rattle.std.proofs.lemmas.List.Sums.{fold-append}
+use Rattle.std.proofs.Common.{◌≡◌, ℕ, ◌+◌, ◌<◌, ◌≤◌, List, [], ◌∷◌, ◌++◌, length, drop, get_or, map, Option, Some, None, Result, Ok, Err, refl, ap, sym, ◌∙◌, append_assoc, append-nil}
+use Rattle.std.specs.Prelude.{⊤, IsErrAnd}
+use Rattle.std.proofs.lemmas.List.{drop_all, drop_more}
 use Rattle.cms_fields.specs.Steps.{◌>>=◌}
 use Rattle.cms_line.specs.declared.choices.Choice.{Choice}
 use Rattle.cms_line.specs.Options.{options_of}
 use Rattle.cms_line.specs.declared.choices.OptionFault.{OptionFault}
 use Rattle.cms_line.specs.declared.choices.OptionRule.{OptionRule}
 use Rattle.cms_line.specs.declared.token.Token.{Token}
-use Rattle.cms_operands.specs.Choices.{AnswersLine, without_options, all_valued, chosen_of, is_among, last_among, read_by, refusal_of, rule_of, unless_refused, valued}
+use Rattle.cms_operands.specs.Choices.{AnswersLine, without_options, all_valued, chosen_of, no_forms, read_by, refusal_of, rule_of, unless_refused, valued}
 use Rattle.cms_operands.specs.declared.choosing.ChosenOption.{ChosenOption}
 use Rattle.cms_operands.specs.declared.choosing.CommandFault.{CommandFault}
 use Rattle.cms_operands.specs.declared.choosing.CommandFault.TheVariants as line
 use Rattle.cms_operands.specs.declared.choosing.OptionForm.{OptionForm}
-use Rattle.cms_operands.specs.declared.choosing.Setting.TheVariants as setting
 use Rattle.cms_operands.specs.declared.refusal.Refusal.{Refusal}
 
 -- behind options that were read
-abbrev pub behind : List ChosenOption → Result (List ChosenOption) Refusal → Result (List ChosenOption) Refusal
+abbrev pub behind : {O : Type 0} → List (ChosenOption O) → Result (List (ChosenOption O)) Refusal → Result (List (ChosenOption O)) Refusal
 behind chosen (Ok more) = Ok (chosen ++ more)
 behind chosen (Err why) = Err why
 
-behind_none : (r : Result (List ChosenOption) Refusal) → r ≡ behind [] r
+behind_none : {O : Type 0} (r : Result (List (ChosenOption O)) Refusal) → r ≡ behind [] r
 behind_none (Ok more) = refl
 behind_none (Err why) = refl
 
-behind_one : (chosen : List ChosenOption) (o : ChosenOption) (r : Result (List ChosenOption) Refusal)
+behind_one : {O : Type 0} (chosen : List (ChosenOption O)) (o : ChosenOption O) (r : Result (List (ChosenOption O)) Refusal)
     → behind chosen (r >>= (λ more. Ok (o ∷ more))) ≡ behind (chosen ++ o ∷ []) r
 behind_one chosen o (Ok more) = ap Ok (sym (append_assoc chosen (o ∷ []) more))
 behind_one chosen o (Err why) = refl
 
 -- the whole, where the options up to a place were read
-abbrev pub IsWhole : List OptionForm → List Token → Option OptionFault → Result (List ChosenOption) Refusal → List ChosenOption → List Choice → Type 0
+abbrev pub IsWhole : {O : Type 0} → List (OptionForm O) → List Token → Option OptionFault → Result (List (ChosenOption O)) Refusal → List (ChosenOption O) → List Choice → Type 0
 IsWhole forms words refused whole chosen left = whole ≡ behind chosen (all_valued forms words refused left)
 
-one_more : (forms : List OptionForm) (words : List Token) (refused : Option OptionFault) (c : Choice) (left : List Choice) (o : ChosenOption) → valued forms words c ≡ Ok o
+one_more : {O : Type 0} (forms : List (OptionForm O)) (words : List Token) (refused : Option OptionFault) (c : Choice) (left : List Choice) (o : ChosenOption O) → valued forms words c ≡ Ok o
     → all_valued forms words refused (c ∷ left) ≡ (all_valued forms words refused left >>= (λ more. Ok (o ∷ more)))
 unfolding all_valued
 one_more forms words refused c left o is = rw is refl
 
-none_more : (forms : List OptionForm) (words : List Token) (refused : Option OptionFault) (c : Choice) (left : List Choice) (why : Refusal) → valued forms words c ≡ Err why
+none_more : {O : Type 0} (forms : List (OptionForm O)) (words : List Token) (refused : Option OptionFault) (c : Choice) (left : List Choice) (why : Refusal) → valued forms words c ≡ Err why
     → all_valued forms words refused (c ∷ left) ≡ Err why
 unfolding all_valued
 none_more forms words refused c left why is = rw is refl
 
-nothing_left : (forms : List OptionForm) (words : List Token) (refused : Option OptionFault) → all_valued forms words refused [] ≡ unless_refused (refusal_of refused)
+nothing_left : {O : Type 0} (forms : List (OptionForm O)) (words : List Token) (refused : Option OptionFault) → all_valued forms words refused [] ≡ unless_refused (refusal_of refused)
 unfolding all_valued
 nothing_left forms words refused = refl
 
@@ -55,19 +53,19 @@ choice_at all i = get_or all i (record { nth = 0; next = 0 })
 left_at : (all : List Choice) (i : ℕ) → i < length all → drop i all ≡ choice_at all i ∷ drop (i + 1) all
 left_at all i here = drop_more all i (record { nth = 0; next = 0 }) here
 
-module _ (forms : List OptionForm) (words : List Token) (refused : Option OptionFault) (whole : Result (List ChosenOption) Refusal) (chosen : List ChosenOption)
+module _ {O : Type 0} (forms : List (OptionForm O)) (words : List Token) (refused : Option OptionFault) (whole : Result (List (ChosenOption O)) Refusal) (chosen : List (ChosenOption O))
     (all : List Choice) (i : ℕ) (so : IsWhole forms words refused whole chosen (drop i all)) where
   here_is : i < length all → whole ≡ behind chosen (all_valued forms words refused (choice_at all i ∷ drop (i + 1) all))
   here_is here = so ∙ ap (λ (cs : List Choice). behind chosen (all_valued forms words refused cs)) (left_at all i here)
 
   -- an option more
-  pub went_on : (chosen' : List ChosenOption) (o : ChosenOption) → i < length all → valued forms words (choice_at all i) ≡ Ok o → chosen' ≡ chosen ++ o ∷ []
+  pub went_on : (chosen' : List (ChosenOption O)) (o : ChosenOption O) → i < length all → valued forms words (choice_at all i) ≡ Ok o → chosen' ≡ chosen ++ o ∷ []
       → IsWhole forms words refused whole chosen' (drop (i + 1) all)
   went_on chosen' o here is now =
       here_is here
       ∙ ap (behind chosen) (one_more forms words refused (choice_at all i) (drop (i + 1) all) o is)
       ∙ behind_one chosen o (all_valued forms words refused (drop (i + 1) all))
-      ∙ ap (λ (xs : List ChosenOption). behind xs (all_valued forms words refused (drop (i + 1) all))) (sym now)
+      ∙ ap (λ (xs : List (ChosenOption O)). behind xs (all_valued forms words refused (drop (i + 1) all))) (sym now)
 
   -- an option whose parameter is refused
   pub stopped : (why : Refusal) → i < length all → valued forms words (choice_at all i) ≡ Err why → whole ≡ Err why
@@ -84,7 +82,7 @@ module _ (forms : List OptionForm) (words : List Token) (refused : Option Option
   ended_refused why past is = nothing_more past ∙ ap (λ (r : Option Refusal). behind chosen (unless_refused r)) is
 
 -- the line's options, by what was accepted
-pub as_read : (forms : List OptionForm) (words : List Token) (rules : List OptionRule) (chosen : List Choice) (refused : Option OptionFault) → rules ≡ map rule_of forms
+pub as_read : {O : Type 0} (forms : List (OptionForm O)) (words : List Token) (rules : List OptionRule) (chosen : List Choice) (refused : Option OptionFault) → rules ≡ map rule_of forms
     → options_of rules words ≡ record { chosen = chosen; refused = refused } → chosen_of forms words ≡ all_valued forms words refused chosen
 unfolding chosen_of
 as_read forms words rules chosen refused are is =
@@ -92,49 +90,19 @@ as_read forms words rules chosen refused are is =
 
 -- ---- answers
 
-pub is_refused : (whole : Result (List ChosenOption) Refusal) (r : Result (List ChosenOption) CommandFault) (why : Refusal)
+pub is_refused : {O : Type 0} (whole : Result (List (ChosenOption O)) Refusal) (r : Result (List (ChosenOption O)) CommandFault) (why : Refusal)
     → IsErrAnd r (λ e. e ≡ line.Refused why) → whole ≡ Err why → AnswersLine whole r
 is_refused whole (Ok chosen) why err is = absurd err
 is_refused whole (Err (line.Refused w)) why err is = let e : w ≡ why = cc in is ∙ ap Err (sym e)
 is_refused whole (Err line.Memory) why err is = tt
 
-pub answers_same : (whole whole' : Result (List ChosenOption) Refusal) (r : Result (List ChosenOption) CommandFault) → whole ≡ whole' → AnswersLine whole r → AnswersLine whole' r
+pub answers_same : {O : Type 0} (whole whole' : Result (List (ChosenOption O)) Refusal) (r : Result (List (ChosenOption O)) CommandFault) → whole ≡ whole' → AnswersLine whole r → AnswersLine whole' r
 answers_same whole whole' (Ok chosen) same is = sym same ∙ is
 answers_same whole whole' (Err (line.Refused why)) same is = sym same ∙ is
 answers_same whole whole' (Err line.Memory) same is = tt
 
--- ---- the last of some options
-
-abbrev at : List ChosenOption → ℕ → ChosenOption
-at chosen i = get_or chosen i (record { nth = 0; setting = setting.Nothing })
-
-last_more : (group : List ℕ) (chosen : List ChosenOption) (i : ℕ) → i < length chosen
-    → last_among group (take (i + 1) chosen) ≡ cond (is_among group (at chosen i).nth) (Some (at chosen i)) (last_among group (take i chosen))
-unfolding last_among
-last_more group chosen i here =
-    let step : Option ChosenOption → ChosenOption → Option ChosenOption = λ last o. cond (is_among group o.nth) (Some o) last in
-    ap (fold step None) (take_more chosen i (record { nth = 0; setting = setting.Nothing }) here) ∙ fold-append step None (take i chosen) (at chosen i ∷ [])
-
--- one option more, which is among them or isn't
-pub among_more : (group : List ℕ) (chosen : List ChosenOption) (i : ℕ) (last : Option ChosenOption) → i < length chosen → true ≡ is_among group (at chosen i).nth
-    → last ≡ Some (at chosen i) → last ≡ last_among group (take (i + 1) chosen)
-among_more group chosen i last here is now =
-    now ∙ ap (λ (b : Bool). cond b (Some (at chosen i)) (last_among group (take i chosen))) is ∙ sym (last_more group chosen i here)
-
-pub other_more : (group : List ℕ) (chosen : List ChosenOption) (i : ℕ) (before last : Option ChosenOption) → i < length chosen → false ≡ is_among group (at chosen i).nth
-    → last ≡ before → before ≡ last_among group (take i chosen) → last ≡ last_among group (take (i + 1) chosen)
-other_more group chosen i before last here is now so =
-    now ∙ so ∙ ap (λ (b : Bool). cond b (Some (at chosen i)) (last_among group (take i chosen))) is ∙ sym (last_more group chosen i here)
-
-pub all_of_them : (chosen : List ChosenOption) (i : ℕ) → length chosen ≤ i → take i chosen ≡ chosen
-all_of_them chosen i past = take_all i chosen past
-
-pub none_chosen : (group : List ℕ) → None ≡ last_among group []
-unfolding last_among
-none_chosen group = refl
-
 -- ---- lines without options
 
-pub said_so : {A : Type 0} (words : List Token) (operands : Result A Refusal) (x : A) (chosen : List ChosenOption) → operands ≡ Ok x → chosen_of [] words ≡ Ok chosen
+pub said_so : {A : Type 0} (words : List Token) (operands : Result A Refusal) (x : A) (chosen : List (ChosenOption ⊤)) → operands ≡ Ok x → chosen_of no_forms words ≡ Ok chosen
     → without_options words operands ≡ Ok x
 said_so words operands x chosen is none = rw (is, none) refl

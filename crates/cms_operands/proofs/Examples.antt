@@ -39,15 +39,16 @@ modes = (refl, refl, refl, refl)
 
 -- ---- options
 
-abbrev forms : List OptionForm
-forms = flag (codes "TYPE    ") 2 ∷ form (codes "LRECL   ") 1 (takes.Number 1 65535) ∷ form (codes "RECFM   ") 3 takes.Format
-    ∷ form (codes "FILL    ") 2 takes.Fill ∷ form (codes "COL     ") 3 takes.Columns ∷ []
+-- options that are numbered here
+abbrev forms : List (OptionForm ℕ)
+forms = flag 0 (codes "TYPE    ") 2 ∷ form 1 (codes "LRECL   ") 1 (takes.Number 1 65535) ∷ form 2 (codes "RECFM   ") 3 takes.Format
+    ∷ form 3 (codes "FILL    ") 2 takes.Fill ∷ form 4 (codes "COL     ") 3 takes.Columns ∷ []
 
-abbrev read : List ℕ → Result (List ChosenOption) Refusal
+abbrev read : List ℕ → Result (List (ChosenOption ℕ)) Refusal
 read line = chosen_of forms (tokens_of (ebcdic line))
 
-chosen : read (codes "X (TY LR 080 REC V FI 40 COL 2-14)") ≡ Ok (record { nth = 0; setting = setting.Nothing } ∷ record { nth = 1; setting = setting.Number 80 }
-    ∷ record { nth = 2; setting = setting.Format format.V } ∷ record { nth = 3; setting = setting.Byte 0x40 } ∷ record { nth = 4; setting = setting.Columns 2 14 } ∷ [])
+chosen : read (codes "X (TY LR 080 REC V FI 40 COL 2-14)") ≡ Ok (record { option = 0; setting = setting.Nothing } ∷ record { option = 1; setting = setting.Number 80 }
+    ∷ record { option = 2; setting = setting.Format format.V } ∷ record { option = 3; setting = setting.Byte 0x40 } ∷ record { option = 4; setting = setting.Columns 2 14 } ∷ [])
 unfolding chosen_of options_of options_from all_valued valued setting_in fill_in format_in number_within magnitude_of columns_in hexadecimal_of tokens_of tokens_from ebcdic code_of
     code_page character_of upper_of
 chosen = refl
@@ -63,7 +64,7 @@ refused = (refl, refl, refl, refl, refl, refl)
 -- ---- a whole line
 
 -- a name, a mode that is A where it isn't given, a number, and these options
-abbrev line : List Token → Result (List ChosenOption) Refusal
+abbrev line : List Token → Result (List (ChosenOption ℕ)) Refusal
 line words = do
   file ← needed (operands_of words) 1
   name 1 file
@@ -73,7 +74,7 @@ line words = do
   ended (operands_of words) 4
   chosen_of forms words
 
-abbrev lined : List ℕ → Result (List ChosenOption) Refusal
+abbrev lined : List ℕ → Result (List (ChosenOption ℕ)) Refusal
 lined text = line (tokens_of (ebcdic text))
 
 -- operands come from left to right, then one that is missing, then options

@@ -36,15 +36,15 @@ words_of takes.Format = 1
 words_of takes.Columns = 1
 
 -- an option, by its name of eight places in ASCII, the length of its shortest spelling, and what it takes
-abbrev pub form : List ℕ → ℕ → Parameter → OptionForm
-form word least parameter = record { name = coded word; least = least; parameter = parameter }
+abbrev pub form : {O : Type 0} → O → List ℕ → ℕ → Parameter → OptionForm O
+form option word least parameter = record { option = option; name = coded word; least = least; parameter = parameter }
 
 -- one without a parameter
-abbrev pub flag : List ℕ → ℕ → OptionForm
-flag word least = form word least takes.Nothing
+abbrev pub flag : {O : Type 0} → O → List ℕ → ℕ → OptionForm O
+flag option word least = form option word least takes.Nothing
 
 -- an option with how many words it takes, as lines are read
-abbrev pub rule_of : OptionForm → OptionRule
+abbrev pub rule_of : {O : Type 0} → OptionForm O → OptionRule
 rule_of form = record { name = form.name; least = form.least; takes = words_of form.parameter }
 
 -- one character, or two hexadecimal digits
@@ -89,19 +89,18 @@ setting_in takes.Columns text = columns_in text
 
 -- ---- the options of a line
 
--- the parameter of an option, by its place
-abbrev pub parameter_of : List OptionForm → ℕ → Parameter
-parameter_of forms nth = option_map_or (λ f. f.parameter) (slice_get forms nth) takes.Nothing
+-- an option that was chosen, with what its parameter says
+abbrev pub chosen_with : {O : Type 0} → O → Setting → ChosenOption O
+chosen_with option says = record { option = option; setting = says }
+
+-- an option by its form, with what the word in a place says as its parameter
+abbrev pub valued_by : {O : Type 0} → List Token → ℕ → OptionForm O → Result (ChosenOption O) Refusal
+valued_by words place f =
+    or_refused (option_map (chosen_with f.option) (setting_in f.parameter (text_at words place))) (BadParameter place)
 
 -- an option that was chosen, with what its parameter says
-abbrev pub chosen_with : ℕ → Setting → ChosenOption
-chosen_with nth says = record { nth = nth; setting = says }
-
--- an option that was chosen, with what its parameter says
-unfoldable pub valued : List OptionForm → List Token → Choice → Result ChosenOption Refusal
-valued forms words c =
-    or_refused (option_map (chosen_with c.nth) (setting_in (parameter_of forms c.nth) (text_at words c.next)))
-    (BadParameter c.next)
+unfoldable pub valued : {O : Type 0} → List (OptionForm O) → List Token → Choice → Result (ChosenOption O) Refusal
+valued forms words c = option_map_or (valued_by words c.next) (slice_get forms c.nth) (Err (UnknownOption c.next))
 
 -- why no further option is read, if a word is refused
 abbrev pub refusal_of : Option OptionFault → Option Refusal
@@ -112,12 +111,13 @@ refusal_of (Some (fault.After place)) = Some (BadOperand place)
 refusal_of (Some fault.Memory) = None
 
 -- no more options, or why a word is refused
-abbrev pub unless_refused : Option Refusal → Result (List ChosenOption) Refusal
+abbrev pub unless_refused : {O : Type 0} → Option Refusal → Result (List (ChosenOption O)) Refusal
 unless_refused None = Ok []
 unless_refused (Some why) = Err why
 
 -- the options in the order of the words, or the first refusal
-unfoldable pub all_valued : List OptionForm → List Token → Option OptionFault → List Choice → Result (List ChosenOption) Refusal
+unfoldable pub all_valued : {O : Type 0} → List (OptionForm O) → List Token → Option OptionFault → List Choice
+    → Result (List (ChosenOption O)) Refusal
 all_valued forms words refused [] = unless_refused (refusal_of refused)
 all_valued forms words refused (c ∷ cs) = do
   first ← valued forms words c
@@ -125,11 +125,11 @@ all_valued forms words refused (c ∷ cs) = do
   Ok (first ∷ more)
 
 -- the options that were chosen with what their parameters say, or the first refusal
-abbrev pub read_by : List OptionForm → List Token → Reading → Result (List ChosenOption) Refusal
+abbrev pub read_by : {O : Type 0} → List (OptionForm O) → List Token → Reading → Result (List (ChosenOption O)) Refusal
 read_by forms words r = all_valued forms words r.refused r.chosen
 
 -- the options of a line with their values, or why the first word among them is refused that is
-unfoldable pub chosen_of : List OptionForm → List Token → Result (List ChosenOption) Refusal
+unfoldable pub chosen_of : {O : Type 0} → List (OptionForm O) → List Token → Result (List (ChosenOption O)) Refusal
 chosen_of forms words = read_by forms words (options_of (map rule_of forms) words)
 
 -- the answer is what a line says, or its first refusal; memory may be wanted in either's place
@@ -138,19 +138,13 @@ AnswersLine wanted (Ok x) = wanted ≡ Ok x
 AnswersLine wanted (Err (line.Refused why)) = wanted ≡ Err why
 AnswersLine wanted (Err line.Memory) = ⊤
 
+-- no options
+abbrev pub no_forms : List (OptionForm ⊤)
+no_forms = []
+
 -- what the operands say, on a line that takes no options
 abbrev pub without_options : {A : Type 0} → List Token → Result A Refusal → Result A Refusal
 without_options words operands = do
   x ← operands
-  chosen_of [] words
+  chosen_of no_forms words
   Ok x
-
--- ---- what a command asks of them
-
--- an option is one of a group
-abbrev pub is_among : List ℕ → ℕ → Bool
-is_among group nth = list_any (λ one. one == nth) group
-
--- the last of these options that was chosen, by their places
-unfoldable pub last_among : List ℕ → List ChosenOption → Option ChosenOption
-last_among group chosen = fold (λ last o. if is_among group o.nth then Some o else last) None chosen

@@ -2,3 +2,4 @@ pub mod Refusals
 pub mod ReadModes
 pub mod Operands
 pub mod Choices
+pub mod Optional

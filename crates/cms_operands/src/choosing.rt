@@ -31,9 +31,11 @@ pub enum Parameter {
     Columns,
 }
 
-/// An option of a command: its name in EBCDIC, filled with blanks, the length of its shortest spelling, and what it takes.
+/// How an option of a command is written: which it is, its name in EBCDIC, filled with blanks, the length of its shortest spelling, and
+/// what it takes. Each command has a type of its own for its options.
 #[derive(Clone, Copy)]
-pub struct OptionForm {
+pub struct OptionForm<O> {
+    pub option: O,
     pub name: [u8; 8],
     pub least: u8,
     pub parameter: Parameter,
@@ -52,15 +54,15 @@ pub enum Setting {
     Columns(u32, u32),
 }
 
-/// An option that was chosen: the place of its form, and what its parameter says.
+/// An option that was chosen, and what its parameter says.
 #[derive(Clone, Copy, Debug)]
-pub struct ChosenOption {
-    pub nth: u32,
+pub struct ChosenOption<O> {
+    pub option: O,
     pub setting: Setting,
 }
 
 /// The options that were chosen, in the order of the words.
-pub type ChosenOptions = Series<ChosenOption>;
+pub type ChosenOptions<O> = Series<ChosenOption<O>>;
 
 /// Why a command's line isn't read.
 #[derive(Clone, Copy)]
@@ -86,12 +88,13 @@ impl From<Refusal> for CommandFault {
     }
 }
 
-impl OptionForm {
+impl<O> OptionForm<O> {
     /// An option, by its name in ASCII, filled with blanks.
-    pub fn new(name: &[u8; 8], least: u8, parameter: Parameter) -> OptionForm
-        ensures { result ≡ spec.form name.now least parameter }
+    pub fn new(option: O, name: &[u8; 8], least: u8, parameter: Parameter) -> Self
+        ensures { result ≡ spec.form option name.now least parameter }
     {
         OptionForm {
+            option,
             name: coded(name),
             least,
             parameter,
@@ -99,10 +102,10 @@ impl OptionForm {
     }
 
     /// An option without a parameter.
-    pub fn flag(name: &[u8; 8], least: u8) -> OptionForm
-        ensures { result ≡ spec.flag name.now least }
+    pub fn flag(option: O, name: &[u8; 8], least: u8) -> Self
+        ensures { result ≡ spec.flag option name.now least }
     {
-        OptionForm::new(name, least, Parameter::Nothing)
+        OptionForm::new(option, name, least, Parameter::Nothing)
     }
 }
 
@@ -211,25 +214,22 @@ fn text_at(words: &[Token], place: usize) -> &[u8]
     }
 }
 
-// What the option of a form takes.
-fn parameter_of(forms: &[OptionForm], nth: u32) -> Parameter
-    ensures { result ≡ spec.parameter_of forms.now nth }
-{
-    match forms.get(nth as usize) {
-        Some(form) => form.parameter,
-        None => Parameter::Nothing,
-    }
-}
-
 // An option with its parameter's value.
 #[tactic(auto, unfolding(crate::specs::Choices::valued))]
-fn valued(forms: &[OptionForm], words: &[Token], choice: Choice) -> Result<ChosenOption, Refusal>
+fn valued<O: Copy>(
+    forms: &[OptionForm<O>],
+    words: &[Token],
+    choice: Choice,
+) -> Result<ChosenOption<O>, Refusal>
     ensures { result ≡ spec.valued forms.now words.now choice }
 {
     let place = choice.next as usize;
-    match parameter_of(forms, choice.nth).setting(text_at(words, place)) {
+    let Some(form) = forms.get(choice.nth as usize) else {
+        return Err(Refusal::UnknownOption(place));
+    };
+    match form.parameter.setting(text_at(words, place)) {
         Some(setting) => Ok(ChosenOption {
-            nth: choice.nth,
+            option: form.option,
             setting,
         }),
         None => Err(Refusal::BadParameter(place)),
@@ -248,7 +248,7 @@ fn refusal_of(refused: Option<OptionFault>) -> Option<Refusal>
     }
 }
 
-fn rule_of(form: &OptionForm) -> OptionRule
+fn rule_of<O>(form: &OptionForm<O>) -> OptionRule
     ensures { result ≡ spec.rule_of form.now }
 {
     OptionRule {
@@ -258,19 +258,19 @@ fn rule_of(form: &OptionForm) -> OptionRule
     }
 }
 
-fn rules_of(alloc: Global, forms: &[OptionForm]) -> Result<Vec<OptionRule>, AllocError>
+fn rules_of<O>(alloc: Global, forms: &[OptionForm<O>]) -> Result<Vec<OptionRule>, AllocError>
     ensures { IfOk result (λ rules. rules.items ≡ map spec.rule_of forms.now) }
 {
     forms.iter().map(rule_of).collect(alloc)
 }
 
 // The accepted options with their values, or the first refusal.
-fn all_valued(
+fn all_valued<O: Copy>(
     alloc: Global,
-    forms: &[OptionForm],
+    forms: &[OptionForm<O>],
     words: &[Token],
     accepted: &Accepted,
-) -> Result<ChosenOptions, CommandFault>
+) -> Result<ChosenOptions<O>, CommandFault>
     ensures { spec.AnswersLine (spec.all_valued forms.now words.now accepted.now.refused accepted.now.chosen) result }
 {
     let mut chosen = ChosenOptions::new(alloc);
@@ -285,11 +285,11 @@ fn all_valued(
 
 /// The options of a line, each with its parameter's value, or why the first word among them is refused that is: from left to right an
 /// unknown option, a missing parameter, a bad one, and a word behind the right parenthesis.
-pub fn chosen_options(
+pub fn chosen_options<O: Copy>(
     alloc: Global,
-    forms: &[OptionForm],
+    forms: &[OptionForm<O>],
     words: &Tokens,
-) -> Result<ChosenOptions, CommandFault>
+) -> Result<ChosenOptions<O>, CommandFault>
     ensures { spec.AnswersLine (spec.chosen_of forms.now words.now) result }
 {
     let rules = rules_of(alloc, forms)?;
@@ -306,25 +306,7 @@ pub fn without_options<A: Copy>(
     ensures { spec.AnswersLine (spec.without_options words.now operands) result }
 {
     let said = operands?;
-    chosen_options(alloc, &[], words)?;
+    let forms: [OptionForm<()>; 0] = [];
+    chosen_options(alloc, &forms, words)?;
     Ok(said)
-}
-
-fn is_among(group: &[u32], nth: u32) -> bool
-    ensures { result ≡ spec.is_among group.now nth }
-{
-    group.iter().any(|one| *one == nth)
-}
-
-/// The last of some options that was chosen, by the places of their forms; none where none of them was.
-pub fn last_among(group: &[u32], chosen: &[ChosenOption]) -> Option<ChosenOption>
-    ensures { result ≡ spec.last_among group.now chosen.now }
-{
-    let mut last = None;
-    for option in chosen {
-        if is_among(group, option.nth) {
-            last = Some(*option);
-        }
-    }
-    last
 }

@@ -5,11 +5,12 @@
 mod choosing;
 mod mode;
 mod operand;
+mod optional;
 mod refusal;
 
 pub use choosing::{
     ChosenOption, ChosenOptions, CommandFault, OptionForm, Parameter, Setting, chosen_options,
-    last_among, without_options,
+    without_options,
 };
 pub use cms_text::coded;
 pub use mode::ReadMode;
@@ -17,5 +18,9 @@ pub use operand::{
     AccessMode, LARGEST, Target, WriteMode, access_mode, device, device_or_letter, ended, given,
     given_or, letter, letter_or_all, name, name_or_all, name_or_same, needed, number,
     number_or_all, number_within, operands, output_mode, pattern, reading_mode, writing_mode,
+};
+pub use optional::{
+    access_mode_or_a, device_or, given_letter_or_all, given_number_or_all, number_or,
+    pattern_or_all, reading_mode_or_a, writing_mode_or_a,
 };
 pub use refusal::Refusal;

@@ -4,7 +4,7 @@ use Rattle.std.specs.List.{list_all}
 use Rattle.cms_commands.specs.Spellings.{command_named}
 use Rattle.cms_commands.specs.declared.spelling.CommandName.{CommandName}
 use Rattle.cms_commands.specs.declared.spelling.CommandName.TheVariants as named
-use Rattle.cms_rounds.specs.declared.command.Command.TheVariants.{Access, Release, Format, Query, Listfile, Rename, Erase, TypeFile, State, Copyfile, Execio, Unknown}
+use Rattle.cms_rounds.specs.declared.command.Command.TheVariants.{Access, Release, Format, Century, Query, Listfile, Rename, Erase, TypeFile, State, Copyfile, Execio, Unknown}
 use Rattle.cms_rounds.specs.declared.command.Request.{Request}
 use Rattle.cms_rounds.specs.declared.command.Request.TheVariants.{Exec, Nucxdrop, Nucxmap, Cards, Command}
 use Rattle.cms_cards.specs.declared.command.CardCommand.TheVariants.{Punch, Readcard, Disk}
@@ -19,6 +19,7 @@ abbrev pub request_by : Option CommandName → Request
 request_by (Some named.Access) = Command Access
 request_by (Some named.Release) = Command Release
 request_by (Some named.Format) = Command Format
+request_by (Some named.Century) = Command Century
 request_by (Some named.Query) = Command Query
 request_by (Some named.Listfile) = Command Listfile
 request_by (Some named.Rename) = Command Rename

@@ -13,6 +13,7 @@ use Rattle.cms_operands.specs.Operands.{given}
 use Rattle.cms_search.specs.Machine.{Machine, Course}
 use Rattle.cms_search.specs.Machine as course
 use Rattle.cms_access.specs.Access.{access}
+use Rattle.cms_access.specs.Century.{century}
 use Rattle.cms_access.specs.Format.{format}
 use Rattle.cms_access.specs.Query.{query}
 use Rattle.cms_access.specs.Release.{release}
@@ -50,6 +51,7 @@ abbrev pub run_command : Machine → List ℕ → List Token → List ℕ → Co
 run_command s line words word command.Access = access s words
 run_command s line words word command.Release = release s words
 run_command s line words word command.Format = format s words
+run_command s line words word command.Century = century s words
 run_command s line words word command.Query = query s words
 run_command s line words word command.Listfile = listfile s words
 run_command s line words word command.Rename = rename s words

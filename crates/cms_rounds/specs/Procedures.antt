@@ -1,6 +1,5 @@
 -- The procedures of a session: a statement of the newest is run in a turn, and what it wants is met.
 use Rattle.std.specs.Prelude.{ℕ, zero, suc, ℤ, pos, ◌+◌, nat_le, if◌then◌else◌, List, [], ◌∷◌, length, Option, Some, None, Ok, Err}
-use Rattle.std.specs.FinMap.{empty}
 use Rattle.cms_text.specs.Numbers.{decimal_of}
 use Rattle.cms_machine.specs.Acts.{Act, Done, Out, Turn, bind, typed_line}
 use Rattle.cms_machine.specs.Objects.{Object}
@@ -9,7 +8,9 @@ use Rattle.cms_line.specs.Stack.{most_lines}
 use Rattle.cms_line.specs.declared.message.Message.TheVariants.{M085}
 use Rattle.cms_search.specs.Asking.{Asked, Given, Spent, ask}
 use Rattle.cms_search.specs.Machine.{Machine, turned, Course, Went, OutOfTurns, typing}
+use Rattle.cms_search.specs.Reading.{after}
 use Rattle.cms_search.specs.Ready.{ready_line}
+use Rattle.cms_search.specs.declared.place_event.PlaceEvent.TheVariants as event
 use Rattle.cms_files.specs.Stacking.{stacked}
 use Rattle.cms_files.specs.declared.stacking.StackEnd.{StackEnd}
 use Rattle.cms_files.specs.declared.stacking.StackEnd.TheVariants as end
@@ -50,7 +51,7 @@ pub data Round : Type 0 where
 -- the ready line, which forgets the reading places
 abbrev pub readied : Session → ℤ → Act Round
 readied s code =
-    Out (typed_line (ready_line code)) (Done (Ready (record { machine = record s.machine { places = empty }; procedures = s.procedures })))
+    Out (typed_line (ready_line code)) (Done (Ready (record { machine = record s.machine { places = after event.Ready s.machine.places }; procedures = s.procedures })))
 
 -- ---- how a procedure ends
 

@@ -16,6 +16,8 @@ pub enum Command {
     Release,
     /// that an empty volume is made, or a volume id changed
     Format,
+    /// that the stamps of a disk's files are moved
+    Century,
     /// that disks are told of
     Query,
     /// that files are listed
@@ -80,6 +82,7 @@ pub fn request_of(word: &[u8]) -> Request
         Some(CommandName::Access) => Request::Command(Command::Access),
         Some(CommandName::Release) => Request::Command(Command::Release),
         Some(CommandName::Format) => Request::Command(Command::Format),
+        Some(CommandName::Century) => Request::Command(Command::Century),
         Some(CommandName::Query) => Request::Command(Command::Query),
         Some(CommandName::Listfile) => Request::Command(Command::Listfile),
         Some(CommandName::Rename) => Request::Command(Command::Rename),

@@ -17,7 +17,7 @@ ghost use Rattle.cms_rounds.specs.Lines as spec;
 
 use crate::command::{Command, Request, is_comment, request_of};
 use crate::nucleus::{run_nucxdrop, run_nucxmap};
-use cms_access::{run_access, run_format, run_query, run_release};
+use cms_access::{run_access, run_century, run_format, run_query, run_release};
 use cms_cards::{Reader, run as run_cards};
 use cms_copyfile::run_copyfile;
 use cms_exec::{Started, find_called, run_called, run_exec};
@@ -76,6 +76,7 @@ fn run_command<W: World>(
         Command::Access => run_access(alloc, world, state, words),
         Command::Release => run_release(alloc, world, state, words),
         Command::Format => run_format(alloc, world, state, words),
+        Command::Century => run_century(alloc, world, state, words),
         Command::Query => run_query(alloc, world, state, words),
         Command::Listfile => run_listfile(alloc, world, state, words),
         Command::Rename => run_rename(alloc, world, state, words),

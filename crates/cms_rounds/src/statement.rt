@@ -22,7 +22,7 @@ use crate::subcommand::send;
 use cms_ext::{ExtList, Extension};
 use cms_files::{StackEnd, has_room, stack_lines};
 use cms_line::{Line, Lines, Message, Word};
-use cms_search::{Asked, Course, End, State, say, say_message, say_ready, turn};
+use cms_search::{Asked, Course, End, PlaceEvent, State, say, say_message, say_ready, turn};
 use cms_text::decimal;
 use cms_world::World;
 use exec2_run::{Exec, Side, Want};
@@ -101,7 +101,7 @@ fn ready<W: World>(world: &mut W, session: &mut Session, code: i32) -> Result<Ro
     ensures left { session.new.state.left ≡ session.old.state.left }
 {
     say_ready(world, code)?;
-    session.state.places.clear();
+    session.state.places.after(PlaceEvent::Ready);
     Ok(Round::Ready)
 }
 

@@ -11,9 +11,10 @@ use Rattle.cms_machine.specs.Slots.{Slot, state_in}
 use Rattle.cms_machine.specs.Steps.{Access, Outcome, Good, ReadFault, SyncFault, OldFault, EitherFault}
 use Rattle.cms_search.specs.Calls.{machine_of}
 use Rattle.cms_search.specs.Machine.{Letter, Machine, Places, after_step}
-use Rattle.cms_search.specs.Reading.{without_device}
+use Rattle.cms_search.specs.Reading.{after}
 use Rattle.cms_search.specs.Releasing.{seated, unit_with}
 use Rattle.cms_search.specs.Tables.{letter_for, missing_parent}
+use Rattle.cms_search.specs.declared.place_event.PlaceEvent.TheVariants as event
 use Rattle.cms_search.specs.declared.accessing.AccessEnd.{AccessEnd}
 use Rattle.cms_search.specs.declared.accessing.AccessEnd.TheVariants as ends
 use Rattle.cms_search.specs.declared.fault.SearchFault.{SearchFault}
@@ -86,5 +87,5 @@ refused_as fault = Err Memory
 
 -- the reading places on the disk of a device are forgotten, and those on the one whose letter it takes
 abbrev pub forgetting : Option Seat → ℕ → Places → Places
-forgetting None vdev places = without_device vdev places
-forgetting (Some left) vdev places = without_device left.vdev (without_device vdev places)
+forgetting None vdev places = after (event.Accessed vdev) places
+forgetting (Some left) vdev places = after (event.Left left.vdev) (after (event.Accessed vdev) places)

@@ -7,6 +7,7 @@ ghost use Rattle.cms_search.specs.Searches.{has, item_at};
 ghost use Rattle.cms_search.specs.Tables.{IsTable};
 
 use crate::fault::SearchFault;
+use crate::place_event::PlaceEvent;
 use crate::places::Places;
 use crate::state::{End, State};
 use crate::table::{Seat, Table};
@@ -90,9 +91,9 @@ fn is_read_only(table: &Table, letter: u8) -> bool
 fn forget_taken(places: &mut Places, vdev: u16, left: Option<Seat>)
     ensures { places.new ≡ forgetting left vdev places.old }
 {
-    places.forget_disk(vdev);
+    places.after(PlaceEvent::Accessed(vdev));
     if let Some(left) = left {
-        places.forget_disk(left.vdev);
+        places.after(PlaceEvent::Left(left.vdev));
     }
 }
 

@@ -5,6 +5,7 @@ ghost use Rattle.cms_search.specs.Searches.{item_at};
 ghost use Rattle.cms_search.specs.declared.fault.SearchFault.TheVariants.{NotAccessed};
 
 use crate::fault::SearchFault;
+use crate::place_event::PlaceEvent;
 use crate::state::State;
 
 impl State {
@@ -18,7 +19,7 @@ impl State {
         let seat = self.table.seat(letter);
         self.table.release(letter)?;
         if let Some(seat) = seat {
-            self.places.forget_disk(seat.vdev);
+            self.places.after(PlaceEvent::Left(seat.vdev));
         }
         Ok(())
     }

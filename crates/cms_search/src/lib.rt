@@ -10,6 +10,7 @@ mod finding;
 mod formatting;
 mod leaving;
 mod order;
+mod place_event;
 mod place_key;
 mod places;
 mod putting;
@@ -27,6 +28,7 @@ pub use accessing::AccessEnd;
 pub use asking::{Asked, ask, clock};
 pub use change_told::{LIMITED, refuse_full, refuse_limit, tell_change};
 pub use fault::SearchFault;
+pub use place_event::PlaceEvent;
 pub use places::Places;
 pub use putting::{FileWrite, update_file};
 pub use refusing::{

@@ -2,8 +2,9 @@
 ghost use Rattle.std.specs.Prelude.{◌≡◌, OnOk, OnErr};
 ghost use Rattle.std.specs.FinMap as finite;
 ghost use Rattle.cms_search.specs.Machine.{place_key};
-ghost use Rattle.cms_search.specs.Reading.{without_device};
+ghost use Rattle.cms_search.specs.Reading.{after, without_device};
 
+use crate::place_event::PlaceEvent;
 use crate::place_key::PlaceKey;
 use cms_names::Name;
 use std::alloc::{AllocError, Global};
@@ -54,24 +55,33 @@ impl Places {
         Ok(())
     }
 
-    /// Forgets the place in a file, if one is kept.
-    pub fn forget(&mut self, vdev: u16, name: &Name)
+    /// Forgets the places that an event makes worthless, and no others.
+    pub fn after(&mut self, event: PlaceEvent)
+        ensures { self.new ≡ after event self.old }
+    {
+        match event {
+            PlaceEvent::Changed(vdev, name) | PlaceEvent::Finished(vdev, name) => {
+                self.forget(vdev, &name);
+            }
+            PlaceEvent::Left(vdev)
+            | PlaceEvent::Accessed(vdev)
+            | PlaceEvent::Formatted(vdev)
+            | PlaceEvent::Doubted(vdev) => self.forget_disk(vdev),
+            PlaceEvent::Ready => self.places.clear(),
+        }
+    }
+
+    // Forgets the place in a file, if one is kept.
+    fn forget(&mut self, vdev: u16, name: &Name)
         ensures { self.new ≡ finite.remove self.old (place_key vdev name.now) }
     {
         self.places.remove(&PlaceKey::of(vdev, name));
     }
 
-    /// Forgets the places in all files of a device, and no others.
-    pub fn forget_disk(&mut self, vdev: u16)
+    // Forgets the places in all files of a device, and no others.
+    fn forget_disk(&mut self, vdev: u16)
         ensures { self.new ≡ without_device vdev self.old }
     {
         self.places.retain(|key, _| !key.is_of_device(vdev));
-    }
-
-    /// Forgets all places.
-    pub fn clear(&mut self)
-        ensures { self.new ≡ finite.empty }
-    {
-        self.places.clear();
     }
 }

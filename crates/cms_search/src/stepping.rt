@@ -19,6 +19,7 @@ ghost use Rattle.cms_search.specs.Tables.{Seated, letters_of, writing};
 ghost use Rattle.cms_search.specs.Telling.{device_text};
 ghost use Rattle.cms_search.specs.declared.state.Course.TheVariants.{Went};
 
+use crate::place_event::PlaceEvent;
 use crate::saying::refuse;
 use crate::state::{Course, End, State};
 use crate::telling::device_word;
@@ -111,7 +112,7 @@ pub fn end_update<W: World>(
             DiskFault::Device => Ok(Changed::Failed(refuse_device(alloc, world, vdev)?)),
             DiskFault::InDoubt => {
                 state.table.doubt(letter);
-                state.places.forget_disk(vdev);
+                state.places.after(PlaceEvent::Doubted(vdev));
                 Ok(Changed::Failed(refuse_device(alloc, world, vdev)?))
             }
             // the file is there, its new name is no other's, and the disk may be written, so this is want of memory

@@ -107,6 +107,7 @@ fn change_minidisk<W: World>(
         Change::Drop { name } => disk.erase(alloc, world, name, stamp),
         Change::Rename { from, to, number } => disk.rename(alloc, world, from, to, number, stamp),
         Change::Relabel { volid } => disk.relabel(alloc, world, volid, stamp),
+        Change::Century { pivot } => disk.century(alloc, world, pivot, stamp),
     }
 }
 

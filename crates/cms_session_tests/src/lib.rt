@@ -5,6 +5,8 @@
 #[cfg(test)]
 mod access_tests;
 #[cfg(test)]
+mod century_tests;
+#[cfg(test)]
 mod copy_tests;
 #[cfg(test)]
 mod deck_tests;

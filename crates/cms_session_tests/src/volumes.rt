@@ -1,7 +1,9 @@
 // The images of transcripts, by their names.
 use cms_images::hello::{ERASE_EXEC, HELLO, LONG, MARKED, NO_LABEL, TYPE_EXEC, hello, three};
 use cms_images::known::{empty, full, long_directory, one_file, spanning, two_files};
-use cms_images::{Edit, SmallFile, edited, many_files, put_edits, small_volume, wide_volume};
+use cms_images::{
+    Edit, SmallFile, edited, image_named, many_files, put_edits, small_volume, wide_volume,
+};
 use cms_world::MemWorld;
 use std::alloc::{AllocError, Global};
 
@@ -190,6 +192,44 @@ const FOUR: &[SmallFile] = &[
     },
 ];
 
+const FIVE: &[SmallFile] = &[
+    SmallFile {
+        name: "A",
+        kind: "FILE",
+        number: 1,
+        fixed: false,
+        records: &["HELLO"],
+    },
+    SmallFile {
+        name: "B",
+        kind: "FILE",
+        number: 1,
+        fixed: false,
+        records: &["HELLO"],
+    },
+    SmallFile {
+        name: "C",
+        kind: "FILE",
+        number: 1,
+        fixed: false,
+        records: &["HELLO"],
+    },
+    SmallFile {
+        name: "D",
+        kind: "FILE",
+        number: 1,
+        fixed: false,
+        records: &["HELLO"],
+    },
+    SmallFile {
+        name: "E",
+        kind: "FILE",
+        number: 1,
+        fixed: false,
+        records: &["HELLO"],
+    },
+];
+
 // HELLO TEXT has mode number 0.
 const HIDDEN_HELLO: &[Edit] = &[(4, 152, &[0xC1, 0xF0])];
 
@@ -226,6 +266,27 @@ const LEAP_DAY: &[Edit] = &[
     (5, 182, &[0x00, 0x02, 0x29, 0x23, 0x59, 0x59]),
 ];
 
+// Of five files of the last second of 1999 four are of other times: 1900, 1969, 1970, and 29 February 1900.
+const DATED: &[Edit] = &[
+    (4, 182, &[0x00, 0x01, 0x01, 0x00, 0x00, 0x00]),
+    (4, 246, &[0x69, 0x07, 0x20, 0x20, 0x17, 0x40]),
+    (4, 310, &[0x70, 0x01, 0x01, 0x00, 0x00, 0x00]),
+    (4, 438, &[0x00, 0x02, 0x29, 0x23, 0x59, 0x59]),
+];
+
+// Neither has an entry of the long directory, in its two blocks.
+const BEFORE_2000: &[Edit] = &[
+    (4, 31, &[0]),
+    (4, 95, &[0]),
+    (4, 159, &[0]),
+    (4, 223, &[0]),
+    (4, 287, &[0]),
+    (4, 351, &[0]),
+    (4, 415, &[0]),
+    (4, 479, &[0]),
+    (8, 31, &[0]),
+];
+
 // Block 9 is marked, and no file has it.
 const LAST_MARKED: &[Edit] = &[(6, 1, &[0x80])];
 
@@ -250,6 +311,8 @@ fn changes(name: &str) -> &'static [Edit] {
         "all marked" => MARKED,
         "last century" => LAST_CENTURY,
         "leap day" => LEAP_DAY,
+        "dated" => DATED,
+        "before 2000" => BEFORE_2000,
         "last marked" => LAST_MARKED,
         "hidden" => HIDDEN_HELLO,
         "varying" => VARYING,
@@ -277,6 +340,7 @@ fn files(name: &str) -> &'static [SmallFile] {
         "once" => ONCE,
         "letters" => LETTERS,
         "four files" => FOUR,
+        "five files" => FIVE,
         "texts" => TEXTS,
         _ => &[],
     }
@@ -291,6 +355,7 @@ fn original(alloc: Global, name: &str) -> Result<Vec<u8>, AllocError> {
         "full" => full(alloc),
         "spanning" => spanning(alloc),
         "long directory" => long_directory(alloc),
+        "long directory on 20" => image_named(alloc, name),
         "hello" => hello(alloc, &[]),
         "three hellos" => three(alloc),
         "long records" => edited(alloc, 20, &[HELLO, LONG]),

@@ -8,6 +8,7 @@ use Rattle.cms_tree.specs.Paths.{fresh_places}
 use Rattle.cms_held.specs.Opening.{Holding}
 use Rattle.cms_held.specs.Systems.{TreePart}
 use Rattle.cms_held.proofs.Allotting.{directory_some}
+use Rattle.cms_edf.specs.Allotting.{numbers_made}
 use Rattle.cms_edf.proofs.allotment.directory_places.Goals as goal
 
 pub overflow_cast-before : goal.overflow_cast-before
@@ -30,24 +31,24 @@ of_shared-requires-clause-some c =
 
 pub of_shared-requires-clause-ascends : goal.of_shared-requires-clause-ascends
 of_shared-requires-clause-ascends c =
-    rw c.in_ok-written.ensures (blocks_ascend c.held.inside.bsize (directory_count c.held.inside.bsize c.args.exchange.now.files) c.args.exchange.now.made.now)
+    rw c.in_ok-written.ensures (blocks_ascend c.held.inside.bsize (directory_count c.held.inside.bsize c.args.exchange.now.files) (numbers_made c.args.exchange.now))
 
 pub returns-clause-leaves : goal.returns-clause-leaves
 returns-clause-leaves c =
     let x = c.args.exchange.now in
     let v = c.args.held.now.volume in
-    let written = c.in_ok-written.ensures ∙ ap (λ (h : Holding). blocks_made h.volume.disk.bsize x.files x.made.now) c.held.view_is in
-    IfOk-weaker c.of_shared.result _ (λ (p : TreePart). p.leaves ≡ blocks_made v.disk.bsize x.files x.made.now) (λ p is. is ∙ written) c.of_shared.ensures.leaves
+    let written = c.in_ok-written.ensures ∙ ap (λ (h : Holding). blocks_made h.volume.disk.bsize x.files (numbers_made x)) c.held.view_is in
+    IfOk-weaker c.of_shared.result _ (λ (p : TreePart). p.leaves ≡ blocks_made v.disk.bsize x.files (numbers_made x)) (λ p is. is ∙ written) c.of_shared.ensures.leaves
 
 pub returns-clause-nodes : goal.returns-clause-nodes
 returns-clause-nodes c =
     let x = c.args.exchange.now in
     let v = c.args.held.now.volume in
-    let written = c.in_ok-written.ensures ∙ ap (λ (h : Holding). blocks_made h.volume.disk.bsize x.files x.made.now) c.held.view_is in
+    let written = c.in_ok-written.ensures ∙ ap (λ (h : Holding). blocks_made h.volume.disk.bsize x.files (numbers_made x)) c.held.view_is in
     let size = c.bytes-bsize.ensures.value ∙ ap (λ (h : Holding). h.volume.disk.bsize) c.held.view_is in
     let before = c.leaves.ensures ∙ ap (λ (h : Holding). h.volume.directory.leaves) c.held.view_is in
     let count : c.div_ceil-count.result ≡ up (64 * (x.files + 2)) c.bytes-bsize.result = search rules in
     let count' = count ∙ ap (up (64 * (x.files + 2))) size in
     IfOk-weaker c.of_shared.result _
-    (λ (p : TreePart). p.nodes ≡ fresh_places (v.disk.bsize / 4) (length v.directory.leaves) (directory_count v.disk.bsize x.files) (blocks_made v.disk.bsize x.files x.made.now))
+    (λ (p : TreePart). p.nodes ≡ fresh_places (v.disk.bsize / 4) (length v.directory.leaves) (directory_count v.disk.bsize x.files) (blocks_made v.disk.bsize x.files (numbers_made x)))
     (λ p is. is ∙ (λ i. fresh_places (size i / 4) (length (before i)) (count' i) (written i))) c.of_shared.ensures.nodes

@@ -5,9 +5,9 @@ use Rattle.cms_edf.specs.Planning.{CanChange, IsPlanFor, IsStepOf, IsRelabelOf, 
 use Rattle.cms_edf.specs.declared.change.Change as asked
 use Rattle.cms_edf.specs.declared.change.FileEdit.TheVariants as does
 use Rattle.cms_edf.specs.declared.step.Step.{Step}
-use Rattle.cms_edf.proofs.Planned.{drop_for, may_rename, relabel_for, rename_for, step_for}
+use Rattle.cms_edf.proofs.Planned.{century_for, drop_for, may_rename, relabel_for, rename_for, step_for}
 use Rattle.cms_edf.proofs.planning.plan.Goals as goal
-use Rattle.cms_edf.proofs.planning.plan.Goals.{in-Drop+in_ok-step-in-Drop, in-Rename+in_ok-step-in-Rename, in-Relabel+in_ok-step-in-Relabel}
+use Rattle.cms_edf.proofs.planning.plan.Goals.{in-Drop+in_ok-step-in-Drop, in-Rename+in_ok-step-in-Rename, in-Relabel+in_ok-step-in-Relabel, in-Century+in_ok-step-in-Century}
 
 pub edit_step-requires-in-Rename-clause-may : goal.edit_step-requires-in-Rename-clause-may
 edit_step-requires-in-Rename-clause-may c =
@@ -42,5 +42,12 @@ returns-clause-planned c =
           let step = subst (λ (x : HeldVolume). IsRelabelOf x w.in-Relabel.volid w.in_ok-step-in-Relabel.step) c.reserve.ensures.volume w.in_ok-step-in-Relabel.ensures.step in
           subst (P c.args.change.now) (sym w.step-is) (subst (λ (a : asked.Change). P a w.in_ok-step-in-Relabel.step) (sym w.in-Relabel.is)
           (relabel_for v w.in-Relabel.volid stamp w.in_ok-step-in-Relabel.step step))
+          )
+      | in-Century+in_ok-step-in-Century w ↦ (
+          let pivot = w.in-Century.pivot in
+          let small = subst (CanChange v.files) w.in-Century.is c.requires.change in
+          let step = subst (λ (x : HeldVolume). IsStepOf x (does.Century pivot) stamp w.in_ok-step-in-Century.step) c.reserve.ensures.volume w.in_ok-step-in-Century.ensures.step in
+          subst (P c.args.change.now) (sym w.step-is) (subst (λ (a : asked.Change). P a w.in_ok-step-in-Century.step) (sym w.in-Century.is)
+          (step_for v (model.Century pivot) (does.Century pivot) stamp w.in_ok-step-in-Century.step (λ s ready. century_for v pivot stamp s small ready) step))
           )
     ]

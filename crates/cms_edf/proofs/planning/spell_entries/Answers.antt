@@ -9,4 +9,4 @@ loop-nth-init c = record { back = All-nil ReadsBack }
 
 pub loop-nth-preserved : goal.loop-nth-preserved
 loop-nth-preserved c =
-    record { back = more_back c.args.entries.now c.loop-nth.nth c.get.result c.get.ensures c.loop-nth.invariant.back c.file_field-field.ensures.back }
+    record { back = more_back c.args.entries.now c.loop-nth.nth c.get.result c.get.ensures c.loop-nth.invariant.back c.spell_entry.ensures }

@@ -1,14 +1,5 @@
-use Rattle.std.proofs.Common.{◌≡◌, sym, subst}
-use Rattle.cms_fields.specs.declared.time.Stamp.{Stamp}
-use Rattle.cms_model.specs.Changes.{Change}
-use Rattle.cms_held.specs.Opening.{HeldVolume}
-use Rattle.cms_edf.specs.Finishing.{IsPlan}
-use Rattle.cms_edf.specs.Planning.{IsPlanFor}
-use Rattle.cms_edf.specs.declared.step.Step.{Step}
+use Rattle.cms_edf_tests.proofs.Planned.{still}
 use Rattle.cms_edf_tests.proofs.writing.drop_in.Goals as goal
-
-still : (v w : HeldVolume) (change : Change) (stamp : Stamp) (s : Step) → w ≡ v → IsPlanFor v change stamp s → IsPlan w s
-still v w change stamp s same is = record { change = change; stamp = stamp; is = subst (λ (x : HeldVolume). IsPlanFor x change stamp s) (sym same) is }
 
 pub carry_out-requires-clause-plan : goal.carry_out-requires-clause-plan
 carry_out-requires-clause-plan c = still _ _ _ _ _ c.plan.ensures.volume c.in-Ok.ensures.planned

@@ -9,9 +9,9 @@ use Rattle.cms_files.proofs.writing.end_writing.Goals as goal
 pub returns-in-Done-clause-acts : goal.returns-in-Done-clause-acts
 returns-in-Done-clause-acts g c = λ change names.
     let is = c.in-Done.is in
-    let places = c.forget.ensures in
+    let places = c.after.ensures in
     acts_stayed _ _ (λ units. updated c.args.letter c.args.vdev change (changing_of c.args.state.now units c.args.changed)) came.Done
-    (updated_of (record c.args.state.now { places = c.forget.new.self })) refl refl (λ units h. (h, rw (is, names, places) refl)) (λ usable. usable)
+    (updated_of (record c.args.state.now { places = c.after.new.self })) refl refl (λ units h. (h, rw (is, names, places) refl)) (λ usable. usable)
 
 pub returns-in_default-clause-acts : goal.returns-in_default-clause-acts
 returns-in_default-clause-acts g c = λ change names.

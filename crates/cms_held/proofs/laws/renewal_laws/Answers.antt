@@ -2,6 +2,7 @@ use Rattle.cms_held.proofs.Keeping.{front_keeps_held}
 use Rattle.cms_held.proofs.Relabelling.{relabel_is_held}
 use Rattle.cms_held.proofs.PlannedWrites.{update_renews}
 use Rattle.cms_held.proofs.Answering.{edit_is_answered, renewed_is_changed}
+use Rattle.cms_held.proofs.Centuries.{century_edits}
 use Rattle.cms_held.proofs.Edits.{drop_edits, rename_edits}
 use Rattle.cms_held.proofs.laws.renewal_laws.Goals as goal
 
@@ -13,6 +14,9 @@ returns-clause-dropped c = drop_edits
 
 pub returns-clause-renamed : goal.returns-clause-renamed
 returns-clause-renamed c = rename_edits
+
+pub returns-clause-moved : goal.returns-clause-moved
+returns-clause-moved c = century_edits
 
 pub returns-clause-changed : goal.returns-clause-changed
 returns-clause-changed c = renewed_is_changed

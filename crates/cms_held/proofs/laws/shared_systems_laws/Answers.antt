@@ -1,4 +1,4 @@
-use Rattle.cms_held.proofs.EntryPlaces.{edits_have_places, entries_by_place, places_are_enough}
+use Rattle.cms_held.proofs.EntryPlaces.{all_are_enough, edits_have_places, entries_by_place, places_are_enough}
 use Rattle.cms_held.proofs.MapPlaces.{map_by_place, map_is_shared}
 use Rattle.cms_held.proofs.MapShares.{turned_is_enough}
 use Rattle.cms_held.proofs.SharedBlocks.{fresh_is_counted}
@@ -14,6 +14,9 @@ returns-clause-places c = edits_have_places
 
 pub returns-clause-enough : goal.returns-clause-enough
 returns-clause-enough c = places_are_enough
+
+pub returns-clause-all : goal.returns-clause-all
+returns-clause-all c = all_are_enough
 
 pub returns-clause-counted : goal.returns-clause-counted
 returns-clause-counted c = fresh_is_counted

@@ -5,7 +5,7 @@ use Rattle.cms_operands.proofs.ChoiceLemmas.{answers_same, as_read}
 use Rattle.cms_operands.proofs.choosing.chosen_options.Goals as goal
 
 pub returns : goal.returns
-returns c =
+returns g c =
     answers_same _ _ c.all_valued.result
     (ap (λ (ws : List Token). all_valued c.args.forms.now ws c.in_ok-accepted.accepted.refused c.in_ok-accepted.accepted.chosen) c.as_slice.ensures
     ∙ sym (as_read c.args.forms.now c.args.words.now c.deref.result.now c.in_ok-accepted.accepted.chosen c.in_ok-accepted.accepted.refused

@@ -13,6 +13,9 @@ returns-in-Release-clause-acts g c = let is = c.in-Release.is in rw is c.run_rel
 pub returns-in-Format-clause-acts : goal.returns-in-Format-clause-acts
 returns-in-Format-clause-acts g c = let is = c.in-Format.is in rw is c.run_format.ensures.acts
 
+pub returns-in-Century-clause-acts : goal.returns-in-Century-clause-acts
+returns-in-Century-clause-acts g c = let is = c.in-Century.is in rw is c.run_century.ensures.acts
+
 pub returns-in-Query-clause-acts : goal.returns-in-Query-clause-acts
 returns-in-Query-clause-acts g c = let is = c.in-Query.is in rw is c.run_query.ensures
 

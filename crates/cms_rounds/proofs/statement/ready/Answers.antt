@@ -19,4 +19,4 @@ returns-clause-acts g c =
     let fits : FitsSigned w32 c.args.code = search rules in
     let same = to_z-of_z w32 c.args.code fits in
     let does = rw same at c.in_ok-say_ready.ensures in
-    readied_so _ _ s.procedures c.args.code _ does (ap (λ p. record s.state { places = p }) c.clear.ensures)
+    readied_so _ _ s.procedures c.args.code _ does (ap (λ p. record s.state { places = p }) c.after.ensures)

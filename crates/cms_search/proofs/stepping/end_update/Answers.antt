@@ -60,14 +60,14 @@ returns-in_err-refuse_device-in-InDoubt-clause-acts g c = λ old s change u.
     let mid = spot g.W.World c.args.world.now st in
     let n = c.args.letter in
     let vdev = c.args.vdev in
-    let state' = record st { table = c.doubt.new.self; places = c.forget_disk.new.self } in
+    let state' = record st { table = c.doubt.new.self; places = c.after.new.self } in
     let mid' = spot g.W.World c.args.world.now state' in
     let v = came_why old mid n s change c.args.done c.in-Err.fault failed.InDoubt c.in-Err.is c.in-InDoubt.is u in
     let device = device_was old mid n s change (Err failed.InDoubt) vdev v c.requires.device in
     let table = if_some _ _ _ (seat_is old mid n s change (Err failed.InDoubt) v) c.doubt.ensures in
     rw (p.1, p.2)
     (change_stops old mid' (spot g.W.World c.refuse_device-in-InDoubt.new.world state') n change vdev _
-    (change_doubted old mid mid' n s change vdev v device refl (doubted_so st n s.letter.unit vdev c.doubt.new.self c.forget_disk.new.self table c.forget_disk.ensures))
+    (change_doubted old mid mid' n s change vdev v device refl (doubted_so st n s.letter.unit vdev c.doubt.new.self c.after.new.self table c.after.ensures))
     c.in_err-refuse_device-in-InDoubt.ensures.does refl)
 
 pub returns-in_ok-refuse_device-in-InDoubt-clause-acts : goal.returns-in_ok-refuse_device-in-InDoubt-clause-acts
@@ -76,13 +76,13 @@ returns-in_ok-refuse_device-in-InDoubt-clause-acts g c = λ old s change u.
     let mid = spot g.W.World c.args.world.now st in
     let n = c.args.letter in
     let vdev = c.args.vdev in
-    let state' = record st { table = c.doubt.new.self; places = c.forget_disk.new.self } in
+    let state' = record st { table = c.doubt.new.self; places = c.after.new.self } in
     let mid' = spot g.W.World c.args.world.now state' in
     let v = came_why old mid n s change c.args.done c.in-Err.fault failed.InDoubt c.in-Err.is c.in-InDoubt.is u in
     let device = device_was old mid n s change (Err failed.InDoubt) vdev v c.requires.device in
     let table = if_some _ _ _ (seat_is old mid n s change (Err failed.InDoubt) v) c.doubt.ensures in
     change_failed old mid' (spot g.W.World c.refuse_device-in-InDoubt.new.world state') n change vdev _
-    (change_doubted old mid mid' n s change vdev v device refl (doubted_so st n s.letter.unit vdev c.doubt.new.self c.forget_disk.new.self table c.forget_disk.ensures))
+    (change_doubted old mid mid' n s change vdev v device refl (doubted_so st n s.letter.unit vdev c.doubt.new.self c.after.new.self table c.after.ensures))
     c.in_ok-refuse_device-in-InDoubt.ensures.does c.in_ok-refuse_device-in-InDoubt.ensures.went refl
 
 pub returns-in_default-clause-acts : goal.returns-in_default-clause-acts

@@ -8,3 +8,6 @@ returns-in-Rename g c = let is = c.in-Rename.is in rw is (record { alters = c.re
 
 pub returns-in-Relabel : goal.returns-in-Relabel
 returns-in-Relabel g c = let is = c.in-Relabel.is in rw is (record { alters = c.relabel.ensures.alters; changes = c.relabel.ensures.changes })
+
+pub returns-in-Century : goal.returns-in-Century
+returns-in-Century g c = let is = c.in-Century.is in rw is (record { alters = c.century.ensures.alters; changes = c.century.ensures.changes })

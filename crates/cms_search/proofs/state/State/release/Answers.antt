@@ -11,6 +11,6 @@ returns-in-Some-clause-released c =
     let seat = some_of (item_at s.table.seats n) left.0 in
     let told = c.in-Some.ensures.some seat.0 seat.1 in (
       left.0,
-      state_left s n c.release.new.self c.forget_disk.new.self left.1
-          (c.forget_disk.ensures ∙ sym (places_left s n c.in-Some.seat.vdev seat.0 seat.1 told.2)),
+      state_left s n c.release.new.self c.after.new.self left.1
+          (c.after.ensures ∙ sym (places_left s n c.in-Some.seat.vdev seat.0 seat.1 told.2)),
     )

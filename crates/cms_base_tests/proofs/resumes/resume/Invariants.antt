@@ -1,0 +1,10 @@
+use Rattle.std.proofs.Common.{◌≡◌}
+use Rattle.cms_base_tests.proofs.resumes.resume.Given as goal
+
+abbrev pub invariant-loop-place : goal.invariant-loop-place
+invariant-loop-place l = record {
+  count : l.climb.count ≡ l.trees.leaves;
+  added : l.climb.added ≡ l.place;
+  bsize : l.climb.bsize ≡ 512;
+  psize : l.climb.psize ≡ l.trees.psize;
+}

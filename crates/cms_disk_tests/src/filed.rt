@@ -1,0 +1,326 @@
+// Volumes made byte by byte from their layout, with blocks that are taken in order.
+ghost use Rattle.std.specs.Prelude.{◌≡◌, ◌⊎◌};
+
+use cms_cases::number;
+use cms_images::known::{put, put_number};
+use std::alloc::{AllocError, Global};
+
+const SIZE: usize = 512;
+
+const NOT_BEGUN: u32 = 0xFFFF_FFFF;
+
+// A pointer: a block, the number of the last record that begins up to the end of what is below it, and the place of the first record that
+// begins in the first data block below it.
+#[derive(Clone, Copy)]
+struct Cell {
+    block: u32,
+    last: u32,
+    place: u32,
+}
+
+// A tree: its root, its data blocks, and its levels of pointer blocks.
+#[derive(Clone, Copy)]
+struct Tree {
+    root: u32,
+    blocks: u32,
+    levels: u8,
+}
+
+// The fields of an entry that differ.
+#[derive(Clone, Copy)]
+struct Row {
+    name: [u8; 16],
+    is_wide: bool,
+    length: u32,
+    records: u32,
+    tree: Tree,
+}
+
+// A volume, and the next block that is taken.
+#[derive(Drop)]
+struct Paper {
+    alloc: Global,
+    image: Vec<u8>,
+    next: u32,
+}
+
+// A file: whether its records have any length, their stored bytes, where each begins in these, and the length of the longest.
+#[derive(Drop)]
+struct Filed {
+    is_wide: bool,
+    data: Vec<u8>,
+    begins: Vec<u32>,
+    longest: u32,
+}
+
+fn short(size: usize) -> u32 {
+    u32::try_from(size).unwrap_or(u32::MAX)
+}
+
+// The bytes of a pointer.
+fn pointer_size(is_wide: bool) -> usize
+    ensures { (result ≡ 4) ⊎ (result ≡ 12) }
+{
+    if is_wide { 12 } else { 4 }
+}
+
+impl Filed {
+    // Adds a record of this length, of the bytes 0, 1, 2 and so on.
+    fn add(&mut self, length: u32) -> Result<(), AllocError> {
+        self.begins.push(short(self.data.len()))?;
+        if self.is_wide {
+            let [_, _, high, low] = length.to_be_bytes();
+            self.data.extend_from_slice(&[high, low])?;
+        }
+        for nth in 0..length {
+            self.data.push((nth % 251) as u8)?;
+        }
+        self.longest = self.longest.max(length);
+        Ok(())
+    }
+
+    // Of a data block how many records begin up to its end, and where the first begins that begins in it.
+    fn mark(&self, nth: usize) -> (u32, u32) {
+        let start = nth.saturating_mul(SIZE);
+        let (mut last, mut place) = (0u32, NOT_BEGUN);
+        for begin in self.begins.iter() {
+            let begin = *begin as usize;
+            if begin < start.saturating_add(SIZE) {
+                last = last.saturating_add(1);
+                if begin >= start && place == NOT_BEGUN {
+                    place = short(begin % SIZE);
+                }
+            }
+        }
+        (last, place)
+    }
+}
+
+// The file of a text: its format, and the lengths of its records, each perhaps with how many have it, as `F 512*300` or `V 509 3`.
+fn read_file(alloc: Global, text: &str) -> Result<Filed, AllocError> {
+    let mut file = Filed {
+        is_wide: text.starts_with("V"),
+        data: Vec::new(alloc),
+        begins: Vec::new(alloc),
+        longest: 0,
+    };
+    for part in text.split(' ').skip(1) {
+        let mut words = part.split('*');
+        let length = number(words.next().unwrap_or(""));
+        let times = number(words.next().unwrap_or("1"));
+        for _ in 0..times {
+            file.add(length)?;
+        }
+    }
+    Ok(file)
+}
+
+impl Paper {
+    fn take(&mut self) -> u32 {
+        let block = self.next;
+        self.next = block.saturating_add(1);
+        block
+    }
+
+    // So many blocks, one after another, of which the first may be given.
+    fn take_all(&mut self, first: Option<u32>, count: u32) -> Result<Vec<Cell>, AllocError> {
+        let mut cells = Vec::new(self.alloc);
+        for nth in 0..count {
+            let block = match first {
+                Some(block) if nth == 0 => block,
+                _ => self.take(),
+            };
+            cells.push(Cell {
+                block,
+                last: 0,
+                place: 0,
+            })?;
+        }
+        Ok(cells)
+    }
+
+    // Puts a pointer block over some blocks, and gives the pointer to it.
+    fn node(&mut self, group: &[Cell], size: usize) -> Cell {
+        let block = self.take();
+        let mut above = Cell {
+            block,
+            last: 0,
+            place: NOT_BEGUN,
+        };
+        for (nth, cell) in group.iter().enumerate() {
+            let at = nth.saturating_mul(size);
+            put_number(self.image.as_mut_slice(), block as usize, at, cell.block);
+            if size == 12 {
+                let (last, place) = (at.saturating_add(4), at.saturating_add(8));
+                put_number(self.image.as_mut_slice(), block as usize, last, cell.last);
+                put_number(self.image.as_mut_slice(), block as usize, place, cell.place);
+            }
+            above.last = cell.last;
+            if nth == 0 {
+                above.place = cell.place;
+            }
+        }
+        above
+    }
+
+    // Puts the pointer blocks over the data blocks of a tree, the lowest level first.
+    fn hang(&mut self, leaves: &[Cell], is_wide: bool) -> Result<Tree, AllocError> {
+        let size = pointer_size(is_wide);
+        let mut below = leaves.to_vec(self.alloc)?;
+        let mut levels = 0u8;
+        for _ in 0..4 {
+            if below.len() > 1 {
+                let mut above = Vec::new(self.alloc);
+                for group in below.chunks(SIZE / size) {
+                    above.push(self.node(group, size))?;
+                }
+                below = above;
+                levels = levels.saturating_add(1);
+            }
+        }
+        let root = below.first().map_or(0, |cell| cell.block);
+        Ok(Tree {
+            root,
+            blocks: short(leaves.len()),
+            levels,
+        })
+    }
+
+    // Puts a file, and gives its entry.
+    fn put_file(&mut self, place: u32, file: &Filed) -> Result<Row, AllocError> {
+        let count = file.data.len().div_ceil(SIZE);
+        let mut leaves = self.take_all(None, short(count))?;
+        for (nth, cell) in leaves.iter_mut().enumerate() {
+            let start = nth.saturating_mul(SIZE);
+            let bytes = file.data.get(start..).unwrap_or(&[]);
+            let piece = bytes.get(..SIZE).unwrap_or(bytes);
+            put(self.image.as_mut_slice(), cell.block as usize, 0, piece);
+            (cell.last, cell.place) = file.mark(nth);
+        }
+        let tree = self.hang(&leaves, file.is_wide)?;
+        Ok(Row {
+            name: name_of(place),
+            is_wide: file.is_wide,
+            length: file.longest,
+            records: short(file.begins.len()),
+            tree,
+        })
+    }
+
+    // Puts an entry into the directory's data blocks by its number.
+    fn put_entry(&mut self, leaves: &[Cell], nth: usize, row: &Row) {
+        let Some(cell) = leaves.get(nth / 8) else {
+            return;
+        };
+        let (block, at) = (cell.block as usize, nth % 8 * 64);
+        let image = self.image.as_mut_slice();
+        put(image, block, at, &row.name);
+        put(image, block, at + 24, &[0xC1, 0xF1]);
+        let format = if row.is_wide { 0xE5 } else { 0xC6 };
+        put(image, block, at + 30, &[format, 0x08]);
+        put_number(image, block, at + 32, row.length);
+        put_number(image, block, at + 40, row.tree.root);
+        put_number(image, block, at + 44, row.tree.blocks);
+        put_number(image, block, at + 48, row.records);
+        let size = if row.is_wide { 12 } else { 4 };
+        let rest = [row.tree.levels, size, 0x00, 0x01, 0x01, 0x00, 0x00, 0x00];
+        put(image, block, at + 52, &rest);
+    }
+
+    // Marks the blocks that were taken, from block 6 on, and the first five.
+    fn put_marks(&mut self, leaves: &[Cell]) {
+        for place in 0..self.next.saturating_sub(1) {
+            let Some(cell) = leaves.get((place / 4096) as usize) else {
+                return;
+            };
+            let start = (cell.block as usize).saturating_sub(1).saturating_mul(SIZE);
+            let at = start.saturating_add((place % 4096 / 8) as usize);
+            if let Some(byte) = self.image.get_mut(at) {
+                *byte |= 0x80 >> (place % 8);
+            }
+        }
+    }
+
+    fn put_label(&mut self, blocks: u32) {
+        let in_use = self.next.saturating_sub(1);
+        let image = self.image.as_mut_slice();
+        put(image, 3, 0, &[0xC3, 0xD4, 0xE2, 0xF1]);
+        put(image, 3, 4, &[0xE3, 0xC5, 0xE2, 0xE3, 0xF0, 0xF1]);
+        put_number(image, 3, 12, 512);
+        put_number(image, 3, 16, 4);
+        put_number(image, 3, 28, blocks);
+        put_number(image, 3, 32, in_use);
+        put_number(image, 3, 36, 64);
+    }
+}
+
+// F0000 FILE, by the file's place.
+fn name_of(place: u32) -> [u8; 16] {
+    let digit = |power: u32| 0xF0 + (place / power % 10) as u8;
+    [
+        0xC6,
+        digit(1000),
+        digit(100),
+        digit(10),
+        digit(1),
+        0x40,
+        0x40,
+        0x40,
+        0xC6,
+        0xC9,
+        0xD3,
+        0xC5,
+        0x40,
+        0x40,
+        0x40,
+        0x40,
+    ]
+}
+
+const DIRECTOR: [u8; 16] = [
+    0, 0, 0, 1, 0, 0, 0, 0, 0xC4, 0xC9, 0xD9, 0xC5, 0xC3, 0xE3, 0xD6, 0xD9,
+];
+
+const ALLOCMAP: [u8; 16] = [
+    0, 0, 0, 2, 0, 0, 0, 0, 0xC1, 0xD3, 0xD3, 0xD6, 0xC3, 0xD4, 0xC1, 0xD7,
+];
+
+// The entries of the directory and of the map.
+fn own_row(name: [u8; 16], length: u32, records: u32, tree: Tree) -> Row {
+    Row {
+        name,
+        is_wide: false,
+        length,
+        records,
+        tree,
+    }
+}
+
+/// TEST01 on so many blocks of 512 bytes with these files, as `F 512*300, V 509 3`. Blocks are taken in order: block 4, and from block 6 on
+/// those of the map, of the directory and of each file, of each the data blocks and then the pointer blocks, lowest level first.
+pub fn volume_of(alloc: Global, blocks: u32, files: &str) -> Result<Vec<u8>, AllocError> {
+    let mut paper = Paper {
+        alloc,
+        image: vec![in alloc; 0; (blocks as usize).saturating_mul(SIZE)]?,
+        next: 6,
+    };
+    let count = short(files.split(", ").count()).saturating_add(2);
+    let map = paper.take_all(None, blocks.div_ceil(4096))?;
+    let map_tree = paper.hang(&map, false)?;
+    let listing = paper.take_all(Some(4), count.div_ceil(8))?;
+    let listing_tree = paper.hang(&listing, false)?;
+    paper.put_entry(&listing, 0, &own_row(DIRECTOR, 64, count, listing_tree));
+    paper.put_entry(
+        &listing,
+        1,
+        &own_row(ALLOCMAP, 512, map_tree.blocks, map_tree),
+    );
+    for (place, text) in files.split(", ").enumerate() {
+        let file = read_file(alloc, text)?;
+        let row = paper.put_file(short(place), &file)?;
+        paper.put_entry(&listing, place.saturating_add(2), &row);
+    }
+    paper.put_marks(&map);
+    paper.put_label(blocks);
+    Ok(paper.image)
+}

@@ -1,0 +1,7 @@
+use Rattle.std.proofs.Common.{ap, map}
+use Rattle.cms_held.specs.Opening.{Holding}
+use Rattle.cms_held.specs.Renewing.{entries_held, moved_entry}
+use Rattle.cms_edf.proofs.new_entries.NewEntries.moved.Goals as goal
+
+pub returns : goal.returns
+returns c = ap (λ (h : Holding). map (moved_entry c.args.pivot) (entries_held h.volume.files)) c.held.view_is
