@@ -16,7 +16,7 @@ use Rattle.cms_machine.specs.LawsObjects.{AreDistinct}
 use Rattle.cms_machine.specs.Objects.{Back, Object}
 use Rattle.cms_machine.specs.Steps.{Outcome}
 use Rattle.cms_machine.specs.Points.{LeavesIn, Leaves, HasNowIn, HasNow, Point, Sound}
-use Rattle.cms_machine.specs.Beats.{pieces, outcomes, backs}
+use Rattle.cms_machine.specs.Beats.{AreWellOn, pieces, outcomes, backs}
 use Rattle.cms_machine.specs.Runs.{Ran, Broke, events_of}
 use Rattle.cms_machine.proofs.Law.{at_of_within}
 use Rattle.cms_machine.proofs.Single.{broke_before}
@@ -36,7 +36,7 @@ use Rattle.cms_words.specs.declared.reading.Words.{Words}
 use Rattle.cms_world.specs.Seen.{Seen}
 use Rattle.cms_session.specs.Machine.{machine, started}
 use Rattle.cms_session.specs.Calls.{session_tree, finished}
-use Rattle.cms_session.specs.Headline.{Start, Headline, Came, Begins, EndsAs, IsAs, fresh, settled, first_console, first_machine, first_point, start_point, start_tree, run_on}
+use Rattle.cms_session.specs.Headline.{Start, Headline, Agrees, Came, Begins, EndsAs, IsAs, beats_in, fresh, settled, first_console, first_machine, first_point, start_point, start_tree, run_on}
 use Rattle.cms_session.specs.Sessions.{AttachesAll, HaveSizes, IsAsSeen, CameTo, WasCut, EndedAs, OnUnits, RunsOn, start_on, status_at, status_of}
 use Rattle.cms_session.specs.Words.{asked_of, given_by}
 use Rattle.cms_rounds.specs.declared.state.Finish.{Finish}
@@ -154,9 +154,11 @@ not_given (Some bytes) none = absurd (none refl)
 
 module _ (s : Start) (before now : Seen) (faults : before.faults ≡ s.faults) (distinct : AreDistinct s.objects) where
   headline_of : (status : Status) (q : Point) (b : Broke (start_point s) q (start_tree s)) → IsAsSeen q now
+      → (agrees : Agrees s (events_of b) (outcomes b.ran.beats) (backs b.ran.beats) q.units status)
+      → beats_in s agrees.last status agrees.run ≡ b.ran.beats
       → EndsAs s (events_of b) (outcomes b.ran.beats) (backs b.ran.beats) q.units before.edges now.edges status → Headline s before now status
   unfolding machine
-  headline_of status q b is ends =
+  headline_of status q b is agrees same ends =
       let follows = follows_tree (start_point s) q (start_tree s) b in
       let many = faults_in (outcomes b.ran.beats) in
       record {
@@ -166,7 +168,7 @@ module _ (s : Start) (before now : Seen) (faults : before.faults ≡ s.faults) (
         backs = backs b.ran.beats;
         counted = subst (λ (n : ℕ). Counted n many now.faults) (sym faults) (subst (λ (n : ℕ). Counted s.faults many n) is.faults follows.faults);
         units = q.units;
-        agrees = record { last = q; beats = b; events_are = refl; outcomes_are = refl; backs_are = refl; units_are = refl };
+        agrees = agrees;
         units_there = follows.as_many ∙ length-map s.units (λ (unit : Attached). Settled (first_state_of unit));
         stands = λ u slot there. as_its_slot q now.told u slot is.told (follows.sound (sound_start s)) there;
         ends = ends;
@@ -175,7 +177,7 @@ module _ (s : Start) (before now : Seen) (faults : before.faults ≡ s.faults) (
         between = λ front rest e u x leaves.
             at_of_within (run_on s (events_of b) (outcomes b.ran.beats) (backs b.ran.beats)).trace (length (typed front)) (length (moments front)) u
             (unit_set (settled s.units) u) x (follows.crash (sound_start s) front rest e u x leaves);
-        untouched = λ u well. follows.ones u well;
+        untouched = λ u well. follows.ones u (subst (AreWellOn u) same well);
         waits = λ front rest bytes e. follows.waits front rest bytes e;
         given = λ front rest bytes e. not_given s.given (λ ended. follows.given ended front rest bytes e);
         waits_before = λ front rest bytes e early later cut. follows.waits_before front rest bytes e early later cut;
@@ -191,40 +193,55 @@ module _ (s : Start) (before now : Seen) (faults : before.faults ≡ s.faults) (
   unfolding machine
   came_of q end r =
       let comes = comes_to (start_point s) q (start_tree s) end r in
-      record {
-        last = q;
-        ran = r;
-        events_are = refl;
-        outcomes_are = refl;
-        backs_are = refl;
-        units_are = refl;
-        close = comes.close;
-        bytes = comes.bytes;
-        turns = comes.turns;
-        sets = comes.sets;
-        states = comes.states (sound_start s);
-      }
+      record { close = comes.close; bytes = comes.bytes; turns = comes.turns; sets = comes.sets; states = comes.states (sound_start s) }
 
   came_whole : (q : Point) (end : Finish) (r : Ran (start_point s) q (start_tree s) (acts.Done end))
       → Came s (pieces r.beats ++ []) (outcomes r.beats) (backs r.beats) q.units end
   came_whole q end r =
       subst (λ (es : List Event). Came s es (outcomes r.beats) (backs r.beats) q.units end) (sym (append-nil (pieces r.beats))) (came_of q end r)
 
-  -- a session that came to an end, whose status is that end's
-  of_end : (status : Status) (end : Finish)
-      → ((events : List Event) (os : List Outcome) (bs : List Back) (units : List Slot) → Came s events os bs units end
-      → EndsAs s events os bs units before.edges now.edges status)
-      → CameTo (start_point s) now (start_tree s) end → Headline s before now status
-  of_end status end ends e =
-      let b = whole (start_point s) e.point (start_tree s) end e.ran in
-      headline_of status e.point b e.shown
-      (ends (events_of b) (outcomes b.ran.beats) (backs b.ran.beats) e.point.units (came_whole e.point end e.ran))
+  -- a session that came to its end is the whole run
+  of_done : CameTo (start_point s) now (start_tree s) finish.AtEnd → Headline s before now Done
+  of_done e =
+      let b = whole (start_point s) e.point (start_tree s) finish.AtEnd e.ran in
+      headline_of Done e.point b e.shown
+      (record {
+        last = e.point;
+        run = e.ran;
+        events_are = sym (append-nil (pieces e.ran.beats));
+        outcomes_are = refl;
+        backs_are = refl;
+        units_are = refl;
+      })
+      refl (came_whole e.point finish.AtEnd e.ran)
+
+  -- so is one whose turns are spent
+  of_turns : CameTo (start_point s) now (start_tree s) finish.AtTurns → Headline s before now Turns
+  of_turns e =
+      let b = whole (start_point s) e.point (start_tree s) finish.AtTurns e.ran in
+      headline_of Turns e.point b e.shown
+      (record {
+        last = e.point;
+        run = e.ran;
+        events_are = sym (append-nil (pieces e.ran.beats));
+        outcomes_are = refl;
+        backs_are = refl;
+        units_are = refl;
+      })
+      refl (came_whole e.point finish.AtTurns e.ran)
 
   pub headline : (status : Status) → EndedAs (start_point s) before.edges now (start_tree s) status → Headline s before now status
-  headline Done e = of_end Done finish.AtEnd (λ events os bs units came. came) e
-  headline Turns e = of_end Turns finish.AtTurns (λ events os bs units came. came) e
-  headline World e = headline_of World e.0.point e.0.broke e.0.shown (begins_of e.0.point e.0.broke, e.1)
-  headline Memory e = headline_of Memory e.point e.broke e.shown (begins_of e.point e.broke)
+  headline Done e = of_done e
+  headline Turns e = of_turns e
+  headline World e =
+      let b = e.0.broke in
+      headline_of World e.0.point b e.0.shown
+      (record { last = e.0.point; run = b; events_are = refl; outcomes_are = refl; backs_are = refl; units_are = refl })
+      refl (begins_of e.0.point b, e.1)
+  headline Memory e =
+      headline_of Memory e.point e.broke e.shown
+      (record { last = e.point; run = e.broke; events_are = refl; outcomes_are = refl; backs_are = refl; units_are = refl })
+      refl (begins_of e.point e.broke)
   headline (Usage fault) e = absurd e
 
 -- ---- on units

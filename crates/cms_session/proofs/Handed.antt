@@ -10,7 +10,9 @@ use Rattle.cms_machine.proofs.Asking.{asked_answers, asked_no_more, dropped_is_g
 use Rattle.cms_ext.specs.Objects.{Means, object_in, objects_of, words_of}
 use Rattle.cms_ext.specs.declared.list.ExtList.{ExtList}
 use Rattle.cms_ext.proofs.Lists.{distinct}
-use Rattle.cms_session.specs.Headline.{start_point}
+use Rattle.cms_session.specs.declared.status.Status.{Status}
+use Rattle.cms_session.specs.declared.status.Status.TheVariants.{Done, Usage, Memory, World, Turns}
+use Rattle.cms_session.specs.Headline.{RunTo, Start, beats_in, behind_beats, start_point}
 use Rattle.cms_session.specs.Laws.{AskedIsItself, DroppedIsLost}
 
 -- ---- their words differ
@@ -44,12 +46,21 @@ at_place [] n less = absurd (omega (arith, less))
 at_place (o ∷ os) zero less = (o, refl)
 at_place (o ∷ os) (suc n) less = at_place os n (omega (arith, less))
 
+-- the beats of a session lead from its start to the point behind them
+chain_of : (s : Start) (last : Point) (status : Status) (run : RunTo s last status)
+    → Chain (start_point s) (beats_in s last status run) (behind_beats s last status run)
+chain_of s last Done ran = ran.chain
+chain_of s last Turns ran = ran.chain
+chain_of s last World broke = broke.ran.chain
+chain_of s last Memory broke = broke.ran.chain
+chain_of s last (Usage fault) none = absurd none
+
 pub dropped_is_lost : DroppedIsLost
 dropped_is_lost s before now status h front rest n piece split =
     let p = start_point s in
-    let last = h.agrees.beats.mid in
+    let last = behind_beats s h.agrees.last status h.agrees.run in
     let b : Beat = record { deed = Dropped n; piece = piece } in
-    let x = splits_at p last front b rest (subst (λ (bs : List Beat). Chain p bs last) (sym split) h.agrees.beats.ran.chain) in
+    let x = splits_at p last front b rest (subst (λ (bs : List Beat). Chain p bs last) (sym split) (chain_of s h.agrees.last status h.agrees.run)) in
     let o = at_place x.before.objects n x.beat.objects.0 in
     let differ = stay_distinct p x.before front x.ahead h.distinct in
     let gone = dropped_is_gone x.before x.after n o.0 piece x.beat o.1 differ in
@@ -59,7 +70,7 @@ dropped_is_lost s before now status h front rest n piece split =
 pub asked_is_itself : AskedIsItself
 asked_is_itself s before now status h front rest n o reply back piece split =
     let p = start_point s in
-    let last = h.agrees.beats.mid in
+    let last = behind_beats s h.agrees.last status h.agrees.run in
     let b : Beat = record { deed = Asked n o reply back; piece = piece } in
-    let x = splits_at p last front b rest (subst (λ (bs : List Beat). Chain p bs last) (sym split) h.agrees.beats.ran.chain) in
+    let x = splits_at p last front b rest (subst (λ (bs : List Beat). Chain p bs last) (sym split) (chain_of s h.agrees.last status h.agrees.run)) in
     record { before = x.before; ran = x.ahead; after = x.after; answers = asked_answers x.before x.after n o reply back piece x.beat }

@@ -20,7 +20,7 @@ use Rattle.cms_machine.specs.Objects.{Back, Object}
 use Rattle.cms_machine.specs.Traces.{bytes_of, turns_of, last_set, At, AreOnes, Within}
 use Rattle.cms_machine.specs.Feeds.{Fed, Over, Waits, WaitsBehind}
 use Rattle.cms_machine.specs.Points.{Leaves, HasNow, Point}
-use Rattle.cms_machine.specs.Beats.{AreWellOn, backs, outcomes, pieces}
+use Rattle.cms_machine.specs.Beats.{AreWellOn, Beat, backs, outcomes, pieces}
 use Rattle.cms_machine.specs.Runs.{Broke, Ran, events_of}
 use Rattle.cms_search.specs.Machine.{Machine}
 use Rattle.cms_line.specs.ConsoleState.{ConsoleState}
@@ -109,16 +109,9 @@ run_before s bytes events os bs = machine (start_desk s) (given_bytes s.given ++
 
 -- ---- the end
 
--- the machine came to this end with these units: beats of its whole run have these events as their pieces, these outcomes, and this came
--- back in them; all bytes of its trace are typed, each of its turns has a moment, the sets of its units are the last of the trace, and a
--- crash leaves each unit in a state of its set
+-- the machine came to this end with these units: all bytes of its trace are typed, each of its turns has a moment, the sets of its units are
+-- the last of the trace, and a crash leaves each unit in a state of its set
 pub record Came (s : Start) (events : List Event) (os : List Outcome) (bs : List Back) (units : List Slot) (end : Finish) : Type 0 where
-  pub last : Point
-  pub ran : Ran (start_point s) last (start_tree s) (acts.Done end)
-  pub events_are : pieces ran.beats ≡ events
-  pub outcomes_are : outcomes ran.beats ≡ os
-  pub backs_are : backs ran.beats ≡ bs
-  pub units_are : last.units ≡ units
   pub close : (run_on s events os bs).close ≡ Over end
   pub bytes : bytes_of (run_on s events os bs).trace ≡ typed events
   pub turns : turns_of (run_on s events os bs).trace ≡ length (moments events)
@@ -144,17 +137,55 @@ pub record IsAs (told : Told) (u : ℕ) (slot : Slot) : Type 0 where
   pub crash : (x : State) → Leaves told u x → IsAmong x (set_of slot)
   pub now : (x : State) → HasNow told u x → state_in slot ≡ x
 
--- ---- all of it
+-- ---- the run
 
--- beats of the machine, with these events as their pieces, in which its steps have these outcomes and this comes back from the objects, each
--- by the test of the very object that was asked, and behind which it has these units
-pub record Agrees (s : Start) (events : List Event) (os : List Outcome) (bs : List Back) (units : List Slot) : Type 0 where
+-- what the machine did from a start, where a session ended so: all of it, to that end; or, at a failure of the world or of memory, as far
+-- as it was cut off
+abbrev pub RunTo : Start → Point → Status → Type 0
+RunTo s last Done = Ran (start_point s) last (start_tree s) (acts.Done finish.AtEnd)
+RunTo s last Turns = Ran (start_point s) last (start_tree s) (acts.Done finish.AtTurns)
+RunTo s last World = Broke (start_point s) last (start_tree s)
+RunTo s last Memory = Broke (start_point s) last (start_tree s)
+RunTo s last (Usage fault) = ⊥
+
+-- its beats
+abbrev pub beats_in : (s : Start) (last : Point) (status : Status) → RunTo s last status → List Beat
+beats_in s last Done ran = ran.beats
+beats_in s last Turns ran = ran.beats
+beats_in s last World broke = broke.ran.beats
+beats_in s last Memory broke = broke.ran.beats
+beats_in s last (Usage fault) none = []
+
+-- the point behind them
+abbrev pub behind_beats : (s : Start) (last : Point) (status : Status) → RunTo s last status → Point
+behind_beats s last Done ran = last
+behind_beats s last Turns ran = last
+behind_beats s last World broke = broke.mid
+behind_beats s last Memory broke = broke.mid
+behind_beats s last (Usage fault) none = last
+
+-- all its events: the pieces of the beats, and what happened of the deed in which it was cut off
+abbrev pub events_in : (s : Start) (last : Point) (status : Status) → RunTo s last status
+    → List Event
+events_in s last Done ran = pieces ran.beats
+events_in s last Turns ran = pieces ran.beats
+events_in s last World broke = events_of broke
+events_in s last Memory broke = events_of broke
+events_in s last (Usage fault) none = []
+
+-- a run of the machine, the whole one where the session came to an end, has these events, these outcomes of its steps, and these answers
+-- from the objects, each by the test of the very object that was asked; behind it the machine has these units
+pub record Agrees (s : Start) (events : List Event) (os : List Outcome) (bs : List Back)
+    (units : List Slot) (status : Status) :
+    Type 0 where
   pub last : Point
-  pub beats : Broke (start_point s) last (start_tree s)
-  pub events_are : events_of beats ≡ events
-  pub outcomes_are : outcomes beats.ran.beats ≡ os
-  pub backs_are : backs beats.ran.beats ≡ bs
+  pub run : RunTo s last status
+  pub events_are : events_in s last status run ≡ events
+  pub outcomes_are : outcomes (beats_in s last status run) ≡ os
+  pub backs_are : backs (beats_in s last status run) ≡ bs
   pub units_are : last.units ≡ units
+
+-- ---- all of it
 
 -- a session from a start is a run of the machine on the script and the moments told
 pub record Headline (s : Start) (before now : Seen) (status : Status) : Type 0 where
@@ -167,7 +198,7 @@ pub record Headline (s : Start) (before now : Seen) (status : Status) : Type 0 w
   pub counted : Counted before.faults (faults_in outcomes) now.faults
   -- what the machine knows of the units in the end, also where the session was cut off
   pub units : List Slot
-  pub agrees : Agrees s events outcomes backs units
+  pub agrees : Agrees s events outcomes backs units status
   pub ends : EndsAs s events outcomes backs units before.edges now.edges status
   -- no two objects were handed in under one word
   pub distinct : AreDistinct s.objects
@@ -182,7 +213,8 @@ pub record Headline (s : Start) (before now : Seen) (status : Status) : Type 0 w
       (front rest : List Event) → front ++ rest ≡ events → (u : ℕ) (x : State) → Leaves (plus (Some (fresh s.units)) front) u x
       → At (run_on s events outcomes backs).trace (length (typed front)) u (unit_set (settled s.units) u) x
   -- of a unit that no faulted step touches the machine says one state at a time
-  pub untouched : (u : ℕ) → AreWellOn u agrees.beats.ran.beats → AreOnes u (run_on s events outcomes backs).trace
+  pub untouched : (u : ℕ) → AreWellOn u (beats_in s agrees.last status agrees.run)
+      → AreOnes u (run_on s events outcomes backs).trace
   -- at each read the machine waits for the script, and all its bytes are typed
   pub waits : (front rest : List Event) (bytes : List ℕ) → front ++ Read bytes ∷ rest ≡ events
       → Waits (run_before s (script front) front outcomes backs) (typed front)

@@ -11,7 +11,7 @@ use Rattle.cms_machine.specs.Objects.{Back, Object, Reply}
 use Rattle.cms_machine.specs.Points.{Leaves, Point}
 use Rattle.cms_machine.specs.Feeds.{Over}
 use Rattle.cms_world.specs.Seen.{Seen}
-use Rattle.cms_session.specs.Headline.{Start, Came, Headline, run_on, start_point}
+use Rattle.cms_session.specs.Headline.{Start, Agrees, Came, Headline, beats_in, behind_beats, run_on, start_point}
 use Rattle.cms_session.specs.Sessions.{status_of}
 use Rattle.cms_rounds.specs.declared.state.Finish.{Finish}
 use Rattle.cms_rounds.specs.declared.state.Finish.TheVariants as finish
@@ -30,14 +30,16 @@ FaultsAreCounted =
     (s : Start) (before now : Seen) (status : Status) (h : Headline s before now status) → (Rose before.faults now.faults → ⊥)
     → faults_in h.outcomes ≡ 0
 
--- a session with memory, in which no call failed and whose machine comes to the script's end, says so: every outcome is good, all bytes of
--- the machine are typed, and each unit is in the machine's last state
+-- a session with memory, in which no call failed and whose machine comes to the script's end, says so: every outcome is good, the run is the
+-- machine's whole one, all its bytes are typed, and each unit is in the machine's last state
 abbrev pub Completes : Type 0
 Completes =
     (s : Start) (before now : Seen) (status : Status) (h : Headline s before now status) → (Rose before.edges now.edges → ⊥)
     → (Rose before.faults now.faults → ⊥) → (run_on s h.events h.outcomes h.backs).close ≡ Over finish.AtEnd
     → (faults_in h.outcomes ≡ 0)
-    × (((status ≡ Done) × Came s h.events h.outcomes h.backs h.units finish.AtEnd) ⊎ (status ≡ Memory))
+    × (((status ≡ Done) × Agrees s h.events h.outcomes h.backs h.units Done
+    × Came s h.events h.outcomes h.backs h.units finish.AtEnd)
+    ⊎ (status ≡ Memory))
 
 -- at every status a crash leaves each unit that isn't in doubt in one state
 abbrev pub SettledIsOne : Type 0
@@ -47,7 +49,7 @@ SettledIsOne =
 
 -- the beats of a session, and those in front of one of them and behind it
 abbrev pub BeatsOf : {s : Start} {before now : Seen} {status : Status} → Headline s before now status → List Beat
-BeatsOf h = h.agrees.beats.ran.beats
+BeatsOf {s = s} {status = status} h = beats_in s h.agrees.last status h.agrees.run
 
 abbrev pub SplitAt : {s : Start} {before now : Seen} {status : Status} → Headline s before now status → List Beat → Beat → List Beat → Type 0
 SplitAt h front b rest = front ++ b ∷ rest ≡ BeatsOf h
@@ -66,7 +68,7 @@ abbrev pub DroppedIsLost : Type 0
 DroppedIsLost =
     (s : Start) (before now : Seen) (status : Status) (h : Headline s before now status)
     → (front rest : List Beat) (n : ℕ) (piece : List Event) → SplitAt h front (record { deed = Dropped n; piece = piece }) rest
-    → IsLost s front n rest h.agrees.beats.mid
+    → IsLost s front n rest (behind_beats s h.agrees.last status h.agrees.run)
 
 -- an object that is asked stands in its place behind the beats in front; its own test holds of what it held there, what it was told, what came
 -- back, and what it holds from then on

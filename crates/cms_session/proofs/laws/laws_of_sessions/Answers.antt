@@ -6,7 +6,7 @@ use Rattle.cms_machine.specs.Objects.{Back}
 use Rattle.cms_machine.specs.Slots.{Slot, Settled}
 use Rattle.cms_machine.specs.Steps.{Outcome}
 use Rattle.cms_machine.specs.Feeds.{Fed, Over}
-use Rattle.cms_session.specs.Headline.{Start, Came, EndsAs, run_on}
+use Rattle.cms_session.specs.Headline.{Start, Agrees, Came, EndsAs, run_on}
 use Rattle.cms_session.specs.Sessions.{status_of}
 use Rattle.cms_rounds.specs.declared.state.Finish.{Finish}
 use Rattle.cms_rounds.specs.declared.state.Finish.TheVariants as finish
@@ -42,17 +42,20 @@ pub returns-clause-faults : goal.returns-clause-faults
 returns-clause-faults c = λ s before now status h still. none_counted before.faults now.faults _ h.counted still
 
 completed : (s : Start) (events : List Event) (os : List Outcome) (bs : List Back) (units : List Slot) (before now : ℕ) (status : Status)
-    → EndsAs s events os bs units before now status → (Rose before now → ⊥) → (run_on s events os bs).close ≡ Over finish.AtEnd
-    → ((status ≡ Done) × Came s events os bs units finish.AtEnd) ⊎ (status ≡ Memory)
-completed s events os bs units before now Done e still close = inl (refl, e)
-completed s events os bs units before now Turns e still close = let never = same_finish (run_on s events os bs) finish.AtTurns finish.AtEnd e.close close in absurd (cc never)
-completed s events os bs units before now World e still close = absurd (still e.1)
-completed s events os bs units before now Memory e still close = inr refl
-completed s events os bs units before now (Usage fault) e still close = absurd e
+    → Agrees s events os bs units status → EndsAs s events os bs units before now status → (Rose before now → ⊥)
+    → (run_on s events os bs).close ≡ Over finish.AtEnd
+    → ((status ≡ Done) × Agrees s events os bs units Done × Came s events os bs units finish.AtEnd) ⊎ (status ≡ Memory)
+completed s events os bs units before now Done a e still close = inl (refl, a, e)
+completed s events os bs units before now Turns a e still close = let never = same_finish (run_on s events os bs) finish.AtTurns finish.AtEnd e.close close in absurd (cc never)
+completed s events os bs units before now World a e still close = absurd (still e.1)
+completed s events os bs units before now Memory a e still close = inr refl
+completed s events os bs units before now (Usage fault) a e still close = absurd e
 
 pub returns-clause-complete : goal.returns-clause-complete
-returns-clause-complete c = λ s before now status h still good close.
-    (none_counted before.faults now.faults _ h.counted good, completed s h.events h.outcomes h.backs h.units before.edges now.edges status h.ends still close)
+returns-clause-complete c = λ s before now status h still good close. (
+  none_counted before.faults now.faults _ h.counted good,
+  completed s h.events h.outcomes h.backs h.units before.edges now.edges status h.agrees h.ends still close,
+)
 
 pub returns-clause-settled : goal.returns-clause-settled
 returns-clause-settled c = λ s before now status h u state slot x leaves. ⊎_elim (λ e. e) (λ none. absurd none) ((h.stands u (Settled state) slot).crash x leaves)
