@@ -1,5 +1,5 @@
 -- The second pass over a file, record by record.
-use Rattle.std.proofs.Common.{◌≡◌, ℕ, suc, ◌+◌, ◌-◌, ◌<◌, ◌≤◌, Bool, true, false, List, [], ◌∷◌, ◌++◌, drop, length, map, take, Some, Result, Ok, Err, refl, sym, ◌∙◌, ap, subst, arith, append_assoc, append-nil}
+use Rattle.std.proofs.Common.{◌≡◌, ◌⊎◌, inl, inr, ℕ, suc, ◌+◌, ◌-◌, ◌<◌, ◌≤◌, Bool, true, false, List, [], ◌∷◌, ◌++◌, drop, length, map, take, Some, Result, Ok, Err, refl, sym, ◌∙◌, ap, subst, arith, append_assoc, append-nil}
 use Rattle.std.specs.Prelude.{None, ⊤}
 use Rattle.std.specs.Option.{ForSome}
 use Rattle.std.proofs.Math.Seq.{drop-nil, take-append_seam, take-nil}
@@ -24,7 +24,7 @@ use Rattle.cms_disk.specs.Cursors.{HandsOut, HasLeft, Reading, SameFile, text_of
 use Rattle.cms_disk.specs.Disks.{Accessed}
 use Rattle.cms_disk.specs.Drafts.{GoesOn, IsGivenUp, WritesAside}
 use Rattle.cms_disk.specs.declared.fault.DiskFault.TheVariants as failed
-use Rattle.cms_copyfile.specs.Copies.{CopiesFrom, PutsCopies, StayBeside, copies_from, copies_to}
+use Rattle.cms_copyfile.specs.Copies.{CopiedTo, CopiesFrom, FailsOn, HasLast, PutsCopies, ReadsWell, StayBeside, copies_from, copies_to}
 use Rattle.cms_copyfile.specs.Outputs.{copies_in}
 use Rattle.cms_copyfile.specs.Records.{copied}
 use Rattle.cms_copyfile.specs.declared.copying.CopyFault.{CopyFault}
@@ -117,15 +117,6 @@ module _ (start old : Told) (d : Accessed) (m : Minidisk) (draft : FileDraft) (c
 
 -- ---- how far the pass has come
 
--- so many of the records were read, and the copies of those are put; the others are left to read, as they were at the start
-pub record CopiedTo (start now : Told) (d : Accessed) (m : Minidisk) (draft : FileDraft) (change : Change) (stamp : Stamp) (plan : CopyPlan) (first c : Reading) (records : List (List ℕ)) (place : ℕ) : Type 0 where
-  pub front : List (List ℕ)
-  pub rest : List (List ℕ)
-  pub split : records ≡ front ++ rest
-  pub long : length front ≡ place
-  pub goes : GoesOn start now d m draft change stamp (copies_to plan front) (copies_from plan place rest)
-  pub left : OfImage start first.unit (λ image. HasLeft image c rest)
-
 pub copied_first : (start now : Told) (d : Accessed) (m : Minidisk) (draft : FileDraft) (change : Change) (stamp : Stamp) (plan : CopyPlan) (c : Reading) (records : List (List ℕ))
     → CopiesFrom start now d m draft change stamp plan c records → CopiedTo start now d m draft change stamp plan c c records 0
 copied_first start now d m draft change stamp plan c records from =
@@ -210,6 +201,52 @@ only_told : (start : Told) (u : ℕ) (j : Journal) (c : Reading) (records : List
 only_told start u j c records is left k told =
     let same : j ≡ k = same_Some j k (sym is ∙ told) in
     subst (λ (x : Journal). HasLeft (now x u) c records) same left
+
+-- the next record was read
+pub last_read : (start now' : Told) (d : Accessed) (m : Minidisk) (draft : FileDraft) (change : Change) (stamp : Stamp) (plan : CopyPlan) (first c next : Reading) (records : List (List ℕ)) (place : ℕ)
+    → StayBeside start d m first.unit first.leaves → CopiedTo start now' d m draft change stamp plan first c records place → SameFile first c → SameFile first next → Hands now' first.unit c next true
+    → next.begun.whole ≡ true → HasLast start first.unit next records
+last_read start now' d m draft change stamp plan first c next records place stay to same later hands whole =
+    let out = hands_beside start now' d m draft change stamp (copies_to plan to.front) (copies_from plan place to.rest) first c next to.rest true stay to.goes same later hands to.left in
+    let handed : (more : List (List ℕ)) × (to.rest ≡ text_of next ∷ more) × HasLeft (now out.journal first.unit) next more = out.holds in
+    record {
+      front = to.front;
+      rest = handed.0;
+      split = to.split ∙ ap (λ (l : List (List ℕ)). to.front ++ l) handed.1;
+      whole = whole;
+      left = only_told start first.unit out.journal next handed.0 out.told handed.2;
+    }
+
+-- a read failed, and left the same records to read
+pub read_fails : (start now' : Told) (d : Accessed) (m : Minidisk) (draft : FileDraft) (change : Change) (stamp : Stamp) (plan : CopyPlan) (first c next : Reading) (records : List (List ℕ)) (place : ℕ)
+    → StayBeside start d m first.unit first.leaves → CopiedTo start now' d m draft change stamp plan first c records place → SameFile first c → SameFile first next
+    → OfImage now' first.unit (λ image. (all : List (List ℕ)) → HasLeft image c all → HandsOut image next all (Err failed.Device))
+    → CopiedTo start now' d m draft change stamp plan first next records place
+read_fails start now' d m draft change stamp plan first c next records place stay to same later hands =
+    let u = first.unit in
+    let goes = to.goes in
+    let k = goes.stands.at in
+    let then' = agree_then start now' d m draft change stamp (copies_to plan to.front) (copies_from plan place to.rest) first stay goes in
+    let j = then'.journal in
+    let on : Agree next.leaves (now k u) (now j u) = subst (λ (l : List ℕ). Agree l (now k u) (now j u)) (sym later.leaves) then'.holds in
+    let here = left_now start now' d m draft change stamp (copies_to plan to.front) (copies_from plan place to.rest) first c to.rest stay goes same to.left in
+    let left : HasLeft (now k u) next to.rest = hands k goes.stands.told_is to.rest here in
+    record {
+      front = to.front;
+      rest = to.rest;
+      split = to.split;
+      long = to.long;
+      goes = goes;
+      left = only_told start u j next to.rest then'.told (left_there (now k u) (now j u) next to.rest on left);
+    }
+
+-- the draft's device failed, or the records aren't those that were measured
+pub put_fails_on : (start now' : Told) (d : Accessed) (m : Minidisk) (draft : FileDraft) (change : Change) (stamp : Stamp) (plan : CopyPlan) (first c : Reading) (records : List (List ℕ)) (e : CopyFault)
+    → (e ≡ why.Write) ⊎ (e ≡ why.Altered) → ReadsWell start first c records → FailsOn start now' d m draft change stamp plan first c records (Err e)
+put_fails_on start now' d m draft change stamp plan first c records e (inl is) well =
+    subst (λ (x : CopyFault). FailsOn start now' d m draft change stamp plan first c records (Err x)) (sym is) well
+put_fails_on start now' d m draft change stamp plan first c records e (inr is) well =
+    subst (λ (x : CopyFault). FailsOn start now' d m draft change stamp plan first c records (Err x)) (sym is) tt
 
 -- ---- one record more
 

@@ -1,5 +1,5 @@
 -- Copies that are written as a file of the disk of a letter, or added to one.
-use Rattle.std.proofs.Common.{◌≡◌, inl, inr, ℕ, ◌+◌, false, List, [], ◌++◌, Option, Some, Result, Ok, Err, length, refl, sym, ◌∙◌, ap, subst, arith, append-nil}
+use Rattle.std.proofs.Common.{◌≡◌, ◌≢◌, inl, inr, ℕ, ◌+◌, false, List, [], ◌++◌, Option, Some, Result, Ok, Err, length, refl, sym, ◌∙◌, ap, subst, arith, append-nil}
 use Rattle.std.specs.Prelude.{⊤, IfErr, IfSome, None, option_map, slice_get}
 use Rattle.std.specs.Option.{ForSome, IsSome}
 use Rattle.std.proofs.lemmas.Option.{same_Some}
@@ -47,9 +47,9 @@ use Rattle.cms_search.proofs.Seats.{has_same, item_here, item_within, seat_there
 use Rattle.cms_search.proofs.Stepped.{has_device, if_some, written_at}
 use Rattle.cms_copyfile.proofs.CopyPasses.{units_grown}
 use Rattle.cms_copyfile.specs.Copies as copies
-use Rattle.cms_copyfile.specs.Copies.{CopiesFrom, PutsCopies, StayBeside}
+use Rattle.cms_copyfile.specs.Copies.{CopiesFrom, FailsOn, PutsCopies, ReadsWell, StayBeside}
 use Rattle.cms_copyfile.specs.Outputs.{copies_in}
-use Rattle.cms_copyfile.specs.Writing.{CameTo, FillsTo, FinishesTo, FitsVolume, HaveRecords, IsToHave, MayWrite, PlansAs, PlansSeat, PlansTo, WritesTo, answer_in, change_as, changing}
+use Rattle.cms_copyfile.specs.Writing.{CameTo, CopyFailsOn, FillFailsOn, FillsTo, FinishesTo, FitsVolume, HaveRecords, IsToHave, MayWrite, PlansAs, PlansSeat, PlansTo, StillGoes, WriteFailsOn, WritesTo, answer_in, change_as, changing}
 use Rattle.cms_copyfile.specs.declared.copying.CopyFault.{CopyFault}
 use Rattle.cms_copyfile.specs.declared.copying.CopyFault.TheVariants as why
 use Rattle.cms_copyfile.specs.declared.output.CopyPlan.{CopyPlan}
@@ -216,6 +216,29 @@ unread_so before now d draft draft' plan c r is puts units = record {
   };
   changes = failed_so before now d r why.Read is (inl refl) units;
 }
+
+-- on which unit a call failed
+pub well_so : (start now : Told) (d : Accessed) (m : Minidisk) (change : Change) (stamp : Stamp) (plan : CopyPlan) (first c : Reading) (records : List (List ℕ)) (written : Written) → written ≢ NotRead
+    → ReadsWell start first c records → WriteFailsOn start now d m change stamp plan first c records written
+well_so start now d m change stamp plan first c records (Came r) read well = well
+well_so start now d m change stamp plan first c records NotRead read well = absurd (read refl)
+well_so start now d m change stamp plan first c records Altered read well = tt
+
+pub still_goes : (start now : Told) (d : Accessed) (m : Minidisk) (draft : FileDraft) (change : Change) (stamp : Stamp) (plan : CopyPlan) (first c : Reading) (records : List (List ℕ))
+    → FailsOn start now d m draft change stamp plan first c records (Err why.Read) → StillGoes start now d m change stamp plan first c records
+still_goes start now d m draft change stamp plan first c records x = record { disk = d; volume = refl; draft = draft; place = x.0; to = x.1 }
+
+pub fails_on_same : (start now : Told) (d e : Accessed) (m : Minidisk) (change : Change) (stamp : Stamp) (plan : CopyPlan) (first c : Reading) (records : List (List ℕ)) (written : Written) → e.volume ≡ d.volume
+    → WriteFailsOn start now e m change stamp plan first c records written → WriteFailsOn start now d m change stamp plan first c records written
+fails_on_same start now d e m change stamp plan first c records (Came r) volume w = w
+fails_on_same start now d e m change stamp plan first c records NotRead volume w = record {
+  disk = w.disk;
+  volume = w.volume ∙ volume;
+  draft = w.draft;
+  place = w.place;
+  to = w.to;
+}
+fails_on_same start now d e m change stamp plan first c records Altered volume w = w
 
 -- a change of a file may leave the unit as before, with no sync
 pub old_may : (change : Change) (after : Minidisk) → is_relabel change ≡ false → MayPut change (Changed after) OldFault
@@ -459,3 +482,15 @@ written_none before now d e to plan c r fault is plans =
       came = λ m records x. made.plans m (copies_in plan records) x.to_have;
       changes = changes_from before now d e to r fault is plans;
     }
+
+-- on which unit a call failed, from the planning on
+pub failed_from : (before mid now : Seen) (d e : Accessed) (to : CopyTarget) (plan : CopyPlan) (first c : Reading) (r : Result FileDraft DiskFault) (draft : FileDraft) (written : Written) → r ≡ Ok draft
+    → PlansTo before mid d e to r → FillFailsOn mid.told now.told e draft plan first c written → CopyFailsOn before.told now.told d to plan first c written
+failed_from before mid now d e to plan first c r draft written is plans fill = λ m records x.
+    let made = subst (λ (q : Result FileDraft DiskFault). PlansTo before mid d e to q) is plans in
+    let volume : e.volume ≡ d.volume = ap (λ (a : Accessed). a.volume) made.kept in
+    let begun = made.plans m (copies_in plan records) x.to_have in
+    let from : CopiesFrom before.told mid.told e m draft (changing to (copies_in plan records)) to.stamp plan first records =
+    record { goes = begun.goes; stay = stay_same before.told d e m first.unit first.leaves volume x.stay; left = x.left } in
+    fails_on_same before.told now.told d e m (changing to (copies_in plan records)) to.stamp plan first c records written volume
+    (fill before.told m (changing to (copies_in plan records)) to.stamp records from)

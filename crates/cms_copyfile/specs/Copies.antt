@@ -1,5 +1,5 @@
 -- The second pass over a file that is copied: its records are read again, and their copies are put in a draft.
-use Rattle.std.specs.Prelude.{◌≡◌, ◌⊎◌, ℕ, ◌-◌, List, [], drop, map, take, Some, Result, Ok, Err, ⊤}
+use Rattle.std.specs.Prelude.{◌≡◌, ◌⊎◌, ℕ, ◌-◌, true, List, [], ◌∷◌, ◌++◌, drop, length, map, take, Some, Result, Ok, Err, ⊤}
 use Rattle.cms_journal.specs.Journal.{Journal}
 use Rattle.cms_journal.specs.Told.{Told}
 use Rattle.cms_fields.specs.declared.time.Stamp.{Stamp}
@@ -9,7 +9,7 @@ use Rattle.cms_model.specs.Changes.{Change}
 use Rattle.cms_model.specs.LawsUpdates.{now}
 use Rattle.cms_model.specs.Minidisks.{Minidisk}
 use Rattle.cms_model.specs.Settled.{Agree}
-use Rattle.cms_disk.specs.Cursors.{HasLeft, Reading}
+use Rattle.cms_disk.specs.Cursors.{HasLeft, Reading, text_of}
 use Rattle.cms_disk.specs.Disks.{Accessed, IsMinidisk}
 use Rattle.cms_disk.specs.Drafts.{GoesOn, IsGivenUp, WritesAside}
 use Rattle.cms_copyfile.specs.Outputs.{copies_in}
@@ -42,7 +42,43 @@ copies_to plan front = map (copied plan.style) (drop plan.skipped front)
 abbrev pub copies_from : CopyPlan → ℕ → List (List ℕ) → List (List ℕ)
 copies_from plan place rest = map (copied plan.style) (drop (plan.skipped - place) (take (plan.wanted - place) rest))
 
+-- so many of the records were read, and the copies of those are put; the others are left to read, as they were at the start
+pub record CopiedTo (start now : Told) (d : Accessed) (m : Minidisk) (draft : FileDraft)
+    (change : Change) (stamp : Stamp) (plan : CopyPlan) (first c : Reading)
+    (records : List (List ℕ)) (place : ℕ) :
+    Type 0 where
+  pub front : List (List ℕ)
+  pub rest : List (List ℕ)
+  pub split : records ≡ front ++ rest
+  pub long : length front ≡ place
+  pub goes : GoesOn start now d m draft change stamp
+      (copies_to plan front) (copies_from plan place rest)
+  pub left : OfImage start first.unit (λ image. HasLeft image c rest)
+
+-- the record that was read last stands in the cursor, and those behind it are left to read
+pub record HasLast (start : Told) (unit : ℕ) (c : Reading) (records : List (List ℕ)) : Type 0 where
+  pub front : List (List ℕ)
+  pub rest : List (List ℕ)
+  pub split : records ≡ front ++ text_of c ∷ rest
+  pub whole : c.begun.whole ≡ true
+  pub left : OfImage start unit (λ image. HasLeft image c rest)
+
+-- no read failed: there was none, or the last one read a record
+abbrev pub ReadsWell : Told → Reading → Reading → List (List ℕ) → Type 0
+ReadsWell start first c records = (c ≡ first) ⊎ HasLast start first.unit c records
+
 -- ---- what it comes to
+
+-- on which unit a call failed: at Read the draft still goes on, with the copies of all records that were read; at Write no read failed
+abbrev pub FailsOn : Told → Told → Accessed → Minidisk → FileDraft → Change → Stamp → CopyPlan
+    → Reading → Reading → List (List ℕ) → Result ⊤ CopyFault → Type 0
+FailsOn start now d m draft change stamp plan first c records (Ok x) =
+    ReadsWell start first c records
+FailsOn start now d m draft change stamp plan first c records (Err why.Read) =
+    (place : ℕ) × CopiedTo start now d m draft change stamp plan first c records place
+FailsOn start now d m draft change stamp plan first c records (Err why.Write) =
+    ReadsWell start first c records
+FailsOn start now d m draft change stamp plan first c records (Err why.Altered) = ⊤
 
 -- the draft goes on, or it is given up
 abbrev pub PutsCopies : Told → Told → Accessed → Minidisk → FileDraft → Change → Stamp → List (List ℕ) → List (List ℕ)

@@ -24,7 +24,7 @@ use Rattle.cms_disk.specs.declared.fault.DiskFault.TheVariants as failed
 use Rattle.cms_search.specs.Drafting.{IsPlannedOn}
 use Rattle.cms_search.specs.Seats.{HasDisk}
 use Rattle.cms_search.specs.Tables.{Accesses, Seated}
-use Rattle.cms_copyfile.specs.Copies.{CopiesFrom, StayBeside}
+use Rattle.cms_copyfile.specs.Copies.{CopiedTo, CopiesFrom, ReadsWell, StayBeside}
 use Rattle.cms_copyfile.specs.Outputs.{copies_in}
 use Rattle.cms_copyfile.specs.declared.output.CopyPlan.{CopyPlan}
 use Rattle.cms_copyfile.specs.declared.writing.CopyTarget.{CopyTarget}
@@ -66,6 +66,26 @@ abbrev pub CameTo : Told → Told → Accessed → Accessed → Minidisk → Cha
 CameTo old new d e m change stamp (Came r) = Appends old new d e m change stamp r
 CameTo old new d e m change stamp Unread = IsUnread old new d m change
 CameTo old new d e m change stamp Altered = ⊥
+
+-- a draft for the change goes on, on a disk of the same volume
+pub record StillGoes (start now : Told) (d : Accessed) (m : Minidisk) (change : Change)
+    (stamp : Stamp) (plan : CopyPlan) (first c : Reading) (records : List (List ℕ)) :
+    Type 0 where
+  pub disk : Accessed
+  pub volume : disk.volume ≡ d.volume
+  pub draft : FileDraft
+  pub place : ℕ
+  pub to : CopiedTo start now disk m draft change stamp plan first c records place
+
+-- on which unit a call failed: at Unread the draft still goes on, with the copies of all records that were read; where the writing came to
+-- an answer no read failed
+abbrev pub WriteFailsOn : Told → Told → Accessed → Minidisk → Change → Stamp → CopyPlan → Reading
+    → Reading → List (List ℕ) → Written → Type 0
+WriteFailsOn start now d m change stamp plan first c records (Came r) =
+    ReadsWell start first c records
+WriteFailsOn start now d m change stamp plan first c records Unread =
+    StillGoes start now d m change stamp plan first c records
+WriteFailsOn start now d m change stamp plan first c records Altered = ⊤
 
 -- the answer of the output's disk
 abbrev pub answer_in : Written → Result ⊤ DiskFault
@@ -139,6 +159,22 @@ pub record WritesTo (before now : Seen) (d e : Accessed) (to : CopyTarget) (plan
   pub came : (m : Minidisk) (records : List (List ℕ)) → CopiesInto before.told d m to plan c records
       → CameTo before.told now.told d e m (changing to (copies_in plan records)) to.stamp written
   pub changes : ChangesDisk before now d e (answer_in written)
+
+-- on which unit a call failed while the copies were put in a draft of the disk, and it was finished
+abbrev pub FillFailsOn : Told → Told → Accessed → FileDraft → CopyPlan → Reading → Reading → Written
+    → Type 0
+FillFailsOn old new d draft plan first c written =
+    (start : Told) (m : Minidisk) (change : Change) (stamp : Stamp) (records : List (List ℕ))
+    → CopiesFrom start old d m draft change stamp plan first records
+    → WriteFailsOn start new d m change stamp plan first c records written
+
+-- the same from the planning of the target's draft on
+abbrev pub CopyFailsOn : Told → Told → Accessed → CopyTarget → CopyPlan → Reading → Reading
+    → Written → Type 0
+CopyFailsOn old new d to plan first c written =
+    (m : Minidisk) (records : List (List ℕ)) → CopiesInto old d m to plan first records
+    → WriteFailsOn old new d m (changing to (copies_in plan records)) to.stamp plan first c records
+    written
 
 -- ---- on the disk of letter n, which is that of s
 

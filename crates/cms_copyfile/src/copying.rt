@@ -11,7 +11,7 @@ ghost use Rattle.cms_model.specs.Changes as model;
 ghost use Rattle.cms_disk.specs.Disks.{Accessed};
 ghost use Rattle.cms_disk.specs.Drafts.{GoesOn, IsSameDraft};
 ghost use Rattle.cms_world.specs.Seen.{ChangesUnits, seen};
-ghost use Rattle.cms_copyfile.specs.Copies.{CopiesFrom, IsDevices, PutsCopies, copies_from, copies_to};
+ghost use Rattle.cms_copyfile.specs.Copies.{CopiesFrom, FailsOn, IsDevices, PutsCopies, copies_from, copies_to};
 ghost use Rattle.cms_copyfile.specs.Outputs.{copies_in};
 ghost use Rattle.cms_copyfile.specs.Records.{longest_fit};
 ghost use Rattle.cms_copyfile.specs.declared.copying.CopyFault.TheVariants.{Altered, Write};
@@ -72,8 +72,9 @@ fn put_nth<W: World>(
 
 /// Reads the records that are wanted, and puts their copies in a draft. It takes no memory: the buffer has room for each copy.
 ///
-/// `Altered` says that they aren't the records that were measured, which is never in a world that tells its journal. Behind a fault the
-/// draft is of no more use, and its minidisk is as before.
+/// `Read` says that the device of the file failed, and the draft has the copies of all records that were read; `Write` that the device of
+/// the draft did, and no read failed. `Altered` says that they aren't the records that were measured, which is never in a world that tells
+/// its journal. Behind a fault the draft is of no more use, and its minidisk is as before.
 pub fn put_copies<W: World>(
     world: &mut W,
     cursor: &mut Cursor,
@@ -88,6 +89,11 @@ pub fn put_copies<W: World>(
     ensures puts { (start : Told) (d : Accessed) (m : minidisks.Minidisk) (change : model.Change) (stamp : stamps.Stamp)
         (records : List (List ℕ)) → CopiesFrom start (W.told world.old) d m draft.old change stamp plan.now cursor.old records
         → PutsCopies start (W.told world.new) d m draft.new change stamp (copies_in plan.now records) [] result }
+    ensures unit { (start : Told) (d : Accessed) (m : minidisks.Minidisk) (change : model.Change)
+        (stamp : stamps.Stamp) (records : List (List ℕ))
+        → CopiesFrom start (W.told world.old) d m draft.old change stamp plan.now cursor.old records
+        → FailsOn start (W.told world.new) d m draft.new change stamp plan.now
+        cursor.old cursor.new records result }
     ensures capacity { vec_capacity buffer.old ≤ vec_capacity buffer.new }
     ensures same { IsSameDraft draft.old draft.new }
     ensures still { ForSome (W.told world.new) (λ j. CanWrite j.units draft.new.writer.writer) }

@@ -1,15 +1,19 @@
 // What follows the update of the output's disk.
-ghost use Rattle.std.specs.Prelude.{◌≡◌, ◌∷◌, List, [], IsSome};
+ghost use Rattle.std.specs.Prelude.{◌≡◌, ◌∷◌, List, [], IsSome, Result, ⊤};
 ghost use Rattle.cms_line.specs.declared.token.Token as tokens;
 ghost use Rattle.cms_machine.specs.Slots.{Slot};
 ghost use Rattle.cms_model.specs.Changes as model;
 ghost use Rattle.cms_search.specs.Calls.{Acts, Spot, machine_of, spot, spot_at};
 ghost use Rattle.cms_search.specs.Putting as putting;
+ghost use Rattle.cms_search.specs.Refusing.{unread};
+ghost use Rattle.cms_disk.specs.declared.fault.DiskFault.{DiskFault};
+ghost use Rattle.cms_disk.specs.declared.fault.DiskFault.TheVariants.{Device};
+ghost use Rattle.cms_copyfile.specs.declared.writing.Written.TheVariants.{Came, Unread};
 ghost use Rattle.cms_search.specs.Searches.{item_at};
 ghost use Rattle.cms_search.specs.Seats.{HasDevice};
 ghost use Rattle.cms_search.specs.Tables.{Seated};
 ghost use Rattle.cms_search.specs.Stepping.{HasRead};
-ghost use Rattle.cms_files.specs.Updating.{names_of, updated_of, updating};
+ghost use Rattle.cms_files.specs.Updating.{names_of, stopping, updated_of, updating};
 ghost use Rattle.cms_copyfile.specs.Copyfile as spec;
 ghost use Rattle.cms_copyfile.specs.Ending.{IsWritten};
 ghost use Rattle.cms_copyfile.specs.declared.line.CopyLine as lines;
@@ -46,7 +50,8 @@ fn end_output<W: World>(
     end_writing(alloc, world, state, file.letter, vdev, &file.name, changed)
 }
 
-// Ends the update of the output's disk, where the writing of the copies came to this; the file that is copied is on the device `input`.
+// Ends the update of the output's disk, where the writing of the copies came to this; the file that is copied is on the device `input`,
+// which is named where that one failed.
 pub(crate) fn end_written<W: World>(
     alloc: Global,
     world: &mut W,
@@ -63,6 +68,18 @@ pub(crate) fn end_written<W: World>(
         → Acts (spot_at before mid.state) (spot W.World world.new state.new)
         (λ units. spec.with_copying words line (machine_of mid.state units) file.now.found
         (spec.copy_records (machine_of mid.state units) line)) result (updated_of state.new) }
+    ensures unread { written ≡ Unread
+        → Acts (spot W.World world.old state.old) (spot W.World world.new state.new)
+        (λ units. stopping (unread (machine_of state.old units) input Device)) result
+        (updated_of state.new) }
+    ensures output { (done : Result ⊤ DiskFault) → written ≡ Came done
+        → (old : Spot) (s : Seated) (change : List Slot → model.Change)
+        → putting.Updated old (spot W.World world.old state.old) file.now.letter s change done
+        → HasDevice old.state.table file.now.letter vdev
+        → ((units : List Slot) → names_of (change units) ≡ file.now.name ∷ [])
+        → Acts old (spot W.World world.new state.new)
+        (λ units. updating (machine_of old.state units) file.now.letter (change units)) result
+        (updated_of state.new) }
     ensures kept { state.new ≡ record state.old { table = state.new.table; places = state.new.places } }
 {
     match written {

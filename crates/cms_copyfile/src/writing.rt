@@ -1,5 +1,5 @@
 // Copies that are written as a file.
-ghost use Rattle.std.specs.Prelude.{◌≡◌, ◌≤◌, true, vec_capacity, IfSome, IsSome};
+ghost use Rattle.std.specs.Prelude.{◌≡◌, ◌≢◌, ◌≤◌, true, vec_capacity, IfSome, IsSome};
 ghost use Rattle.std.specs.Option.{ForSome};
 ghost use Rattle.cms_journal.specs.Journal.{HasBlocks};
 ghost use Rattle.cms_fields.specs.Limits.{longest_record};
@@ -8,7 +8,8 @@ ghost use Rattle.cms_search.specs.Drafting.{MayCommit};
 ghost use Rattle.cms_search.specs.Searches.{item_at};
 ghost use Rattle.cms_world.specs.Seen.{seen};
 ghost use Rattle.cms_copyfile.specs.Records.{longest_fit};
-ghost use Rattle.cms_copyfile.specs.Writing.{FillsSeat, FinishesSeat, MayWrite, PlansSeat, WritesSeat};
+ghost use Rattle.cms_copyfile.specs.Writing.{CopyFailsOn, FillFailsOn, FillsSeat, FinishesSeat, MayWrite, PlansSeat, WritesSeat};
+ghost use Rattle.cms_copyfile.specs.declared.writing.Written.TheVariants.{Unread};
 
 use crate::copying::{CopyFault, put_copies};
 use crate::output::CopyPlan;
@@ -56,8 +57,9 @@ pub enum Written {
 fn finish<W: World>(world: &mut W, table: &mut Table, letter: u8, draft: Draft) -> Written
     requires accessed { IsSome (item_at table.old.seats letter) }
     requires may { ForSome (item_at table.old.seats letter) (λ s. MayCommit (W.told world.old) s.disk draft) }
-    ensures { IfSome (item_at table.old.seats letter) (λ s. FinishesSeat (seen W.World world.old) (seen W.World world.new)
-        table.old table.new letter s draft result) }
+    ensures finishes { IfSome (item_at table.old.seats letter) (λ s. FinishesSeat
+        (seen W.World world.old) (seen W.World world.new) table.old table.new letter s draft result) }
+    ensures read { result ≢ Unread }
 {
     if draft.records_left() != 0 {
         return Written::Altered;
@@ -84,8 +86,11 @@ fn fill<W: World>(
     requires blocks { ForSome (W.told world.old) (λ j. HasBlocks j.units cursor.old.unit cursor.old.total cursor.old.bsize) }
     requires short { cursor.old.begun.longest ≤ longest_record }
     requires room { longest_fit plan.now.style.fit cursor.old.begun.longest ≤ vec_capacity buffer.old }
-    ensures { IfSome (item_at table.old.seats letter) (λ s. FillsSeat (seen W.World world.old) (seen W.World world.new)
-        table.old table.new letter s draft plan.now cursor.old result) }
+    ensures fills { IfSome (item_at table.old.seats letter) (λ s. FillsSeat
+        (seen W.World world.old) (seen W.World world.new) table.old table.new letter s draft plan.now
+        cursor.old result) }
+    ensures unit { ForSome (item_at table.old.seats letter) (λ s. FillFailsOn
+        (W.told world.old) (W.told world.new) s.disk draft plan.now cursor.old cursor.new result) }
 {
     match put_copies(world, cursor, plan, buffer, &mut draft) {
         Ok(()) => finish(world, table, letter, draft),
@@ -119,7 +124,8 @@ fn plan_target<W: World>(
 /// Reads the records that are wanted, and writes their copies as a file, or adds them to one. A limit and want of room come before the
 /// first write. The buffer has room for each copy.
 ///
-/// `Altered` is never in a world that tells its journal, where the copies were measured.
+/// `Unread` says that the device of the input failed while the draft went on, a `Device` that came that the output's did and no read of the
+/// input failed. `Altered` is never in a world that tells its journal, where the copies were measured.
 pub fn write_copies<W: World>(
     alloc: Global,
     world: &mut W,
@@ -135,8 +141,11 @@ pub fn write_copies<W: World>(
     requires blocks { ForSome (W.told world.old) (λ j. HasBlocks j.units cursor.old.unit cursor.old.total cursor.old.bsize) }
     requires short { cursor.old.begun.longest ≤ longest_record }
     requires room { longest_fit plan.now.style.fit cursor.old.begun.longest ≤ vec_capacity buffer.old }
-    ensures { IfSome (item_at table.old.seats to.now.letter) (λ s. WritesSeat (seen W.World world.old) (seen W.World world.new)
-        table.old table.new s to.now plan.now cursor.old result) }
+    ensures writes { IfSome (item_at table.old.seats to.now.letter) (λ s. WritesSeat
+        (seen W.World world.old) (seen W.World world.new) table.old table.new s to.now plan.now
+        cursor.old result) }
+    ensures unit { ForSome (item_at table.old.seats to.now.letter) (λ s. CopyFailsOn
+        (W.told world.old) (W.told world.new) s.disk to.now plan.now cursor.old cursor.new result) }
 {
     match plan_target(alloc, world, table, to) {
         Ok(draft) => fill(world, table, to.letter, draft, cursor, plan, buffer),

@@ -45,7 +45,7 @@ end_written-requires-clause-accessed g c =
     let s = written_at st.table c.args.file.now.letter c.requires.writing in
     let to : CopyTarget = record { letter = c.args.file.now.letter; name = c.args.file.now.name; write = c.args.write; shape = c.args.shape.now; stamp = c.of.result } in
     still_there (λ (x : Seated) (e : Accessed). WritesTo (seen g.W.World c.args.world.now) (seen g.W.World c.write_copies-written.new.world) x.disk e to c.args.plan.now c.in_ok-input.input.cursor
-    c.write_copies-written.result) st.table c.write_copies-written.new.table c.args.file.now.letter s.0 s.1 c.write_copies-written.ensures
+    c.write_copies-written.result) st.table c.write_copies-written.new.table c.args.file.now.letter s.0 s.1 c.write_copies-written.ensures.writes
 
 pub end_written-requires-clause-device : goal.end_written-requires-clause-device
 end_written-requires-clause-device g c =
@@ -53,7 +53,7 @@ end_written-requires-clause-device g c =
     let s = written_at st.table c.args.file.now.letter c.requires.writing in
     let to : CopyTarget = record { letter = c.args.file.now.letter; name = c.args.file.now.name; write = c.args.write; shape = c.args.shape.now; stamp = c.of.result } in
     still_device (λ (x : Seated) (e : Accessed). WritesTo (seen g.W.World c.args.world.now) (seen g.W.World c.write_copies-written.new.world) x.disk e to c.args.plan.now c.in_ok-input.input.cursor
-    c.write_copies-written.result) st.table c.write_copies-written.new.table c.args.file.now.letter s.0 c.vdev-vdev.result s.1 c.write_copies-written.ensures c.vdev-vdev.ensures.accessed
+    c.write_copies-written.result) st.table c.write_copies-written.new.table c.args.file.now.letter s.0 c.vdev-vdev.result s.1 c.write_copies-written.ensures.writes c.vdev-vdev.ensures.accessed
 
 pub returns-then-not-fits_disk-clause-acts : goal.returns-then-not-fits_disk-clause-acts
 returns-then-not-fits_disk-clause-acts g c = λ before words line read is shaped.
@@ -69,4 +69,4 @@ returns-clause-acts g c = λ before words line read is shaped.
     let to : CopyTarget = record { letter = f.letter; name = f.name; write = c.args.write; shape = c.args.shape.now; stamp = c.of.result } in
     c.end_written.ensures.acts before mid words line read
     (copies_written mid now line f c.in_ok-input.input to c.args.plan.now is c.in_ok-input.ensures.opened shaped refl refl s.0 c.vdev-vdev.result c.write_copies-written.result
-    c.vdev-vdev.ensures.accessed s.1 c.write_copies-written.ensures refl c.of.ensures.value)
+    c.vdev-vdev.ensures.accessed s.1 c.write_copies-written.ensures.writes refl c.of.ensures.value)

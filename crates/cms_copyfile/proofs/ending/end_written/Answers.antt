@@ -1,4 +1,5 @@
-use Rattle.std.proofs.Common.{◌∙◌, ℕ, List, [], ◌∷◌, ap, subst}
+use Rattle.std.proofs.Common.{◌≡◌, ◌∙◌, ℕ, List, [], ◌∷◌, Result, ap, subst, sym}
+use Rattle.std.specs.Prelude.{⊤}
 use Rattle.cms_names.specs.declared.name.Name.{Name}
 use Rattle.cms_machine.specs.Slots.{Slot}
 use Rattle.cms_model.specs.Changes.{Change}
@@ -11,6 +12,9 @@ use Rattle.cms_copyfile.specs.Ending.{WroteAll}
 use Rattle.cms_copyfile.specs.Writing.{changing}
 use Rattle.cms_copyfile.proofs.AllWritten.{all_altered, all_came, all_unread, names_as}
 use Rattle.cms_copyfile.proofs.OneRead.{first, read_then, whole}
+use Rattle.cms_disk.specs.declared.fault.DiskFault.{DiskFault}
+use Rattle.cms_copyfile.specs.declared.writing.Written.{Written}
+use Rattle.cms_copyfile.specs.declared.writing.Written.TheVariants.{Altered, Came, Unread}
 use Rattle.cms_copyfile.proofs.ending.end_written.Goals as goal
 
 pub returns-in-Came-clause-acts : goal.returns-in-Came-clause-acts
@@ -41,3 +45,38 @@ returns-in-Altered-clause-acts g c = λ before mid words line read w.
     let new = spot g.W.World c.stop_unread-in-Altered.new.world c.args.state.now in
     all_altered before mid now new words line c.args.file.now w.to w.all w.disk _ c.stop_unread-in-Altered.result read (subst (WroteAll mid now w.to w.all w.disk) c.in-Altered.is w.wrote)
     c.stop_unread-in-Altered.ensures
+
+-- ---- which device is named
+
+same_done : (written : Written) (a b : Result ⊤ DiskFault) → written ≡ Came a → written ≡ Came b → b ≡ a
+same_done written a b x y = let e : Came b ≡ Came a = sym y ∙ x in cc
+
+not_came : (written : Written) (a : Result ⊤ DiskFault) → written ≡ Unread → written ≡ Came a → ⊥
+not_came written a x y = let e : Unread ≡ Came a = sym x ∙ y in cc
+
+not_altered : (written : Written) (a : Result ⊤ DiskFault) → written ≡ Altered → written ≡ Came a → ⊥
+not_altered written a x y = let e : Altered ≡ Came a = sym x ∙ y in cc
+
+altered_unread : (written : Written) → written ≡ Altered → written ≡ Unread → ⊥
+altered_unread written x y = let e : Altered ≡ Unread = sym x ∙ y in cc
+
+pub returns-in-Came-clause-unread : goal.returns-in-Came-clause-unread
+returns-in-Came-clause-unread g c = λ is. absurd (not_came c.args.written c.in-Came.done is c.in-Came.is)
+
+pub returns-in-Came-clause-output : goal.returns-in-Came-clause-output
+returns-in-Came-clause-output g c = λ done is old s change up device names.
+    let same = same_done c.args.written c.in-Came.done done c.in-Came.is is in
+    c.end_output.ensures.acts old s change
+    (subst (λ (r : Result ⊤ DiskFault). Updated old (spot g.W.World c.args.world.now c.args.state.now) c.args.file.now.letter s change r) same up) device names
+
+pub returns-in-Unread-clause-unread : goal.returns-in-Unread-clause-unread
+returns-in-Unread-clause-unread g c = λ is. c.stop_unread.ensures
+
+pub returns-in-Unread-clause-output : goal.returns-in-Unread-clause-output
+returns-in-Unread-clause-output g c = λ done is. absurd (not_came c.args.written done c.in-Unread.is is)
+
+pub returns-in-Altered-clause-unread : goal.returns-in-Altered-clause-unread
+returns-in-Altered-clause-unread g c = λ is. absurd (altered_unread c.args.written c.in-Altered.is is)
+
+pub returns-in-Altered-clause-output : goal.returns-in-Altered-clause-output
+returns-in-Altered-clause-output g c = λ done is. absurd (not_altered c.args.written done c.in-Altered.is is)
