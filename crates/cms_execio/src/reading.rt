@@ -1,5 +1,5 @@
 // DISKR: records of a file are stacked.
-ghost use Rattle.std.specs.Prelude.{◌≡◌, ◌+◌, ◌-◌, ◌++◌, ◌==◌, ◌&&◌, ◌<◌, ◌≤◌, ◌^◌, IsSome, List, Ok, OnOk, false, nat_lt, pos, true};
+ghost use Rattle.std.specs.Prelude.{◌≡◌, ◌+◌, ◌-◌, ◌++◌, ◌==◌, ◌&&◌, ◌<◌, ◌≤◌, ◌^◌, IsSome, List, Ok, OnOk, false, length, nat_lt, pos, true};
 ghost use Rattle.std.specs.Option.{ForSome};
 ghost use Rattle.cms_disk.specs.Disks.{place_of};
 ghost use Rattle.cms_fields.specs.Moments.{is_moment};
@@ -9,7 +9,7 @@ ghost use Rattle.cms_search.specs.declared.state.Course.TheVariants.{Went};
 ghost use Rattle.cms_line.specs.declared.token.Token.{Token};
 ghost use Rattle.cms_search.specs.Calls.{Acts, IsUsable, course_of, machine_of, spot};
 ghost use Rattle.cms_files.specs.Opening.{IsOpened};
-ghost use Rattle.cms_disk.specs.Cursors.{IsUnread};
+ghost use Rattle.cms_disk.specs.Cursors.{IsUnread, block_behind};
 ghost use Rattle.cms_names.specs.declared.name.Format.TheVariants.{F};
 ghost use Rattle.cms_execio.specs.Passing.{IsPast};
 ghost use Rattle.cms_execio.specs.Reading as spec;
@@ -176,12 +176,15 @@ fn stack_read<W: World>(
     end_read(alloc, world, state, letter, line, vdev, span)
 }
 
-// Passes over the records in front of those that are stacked, where all of the file have one length. Says how many it passed over.
+// Passes over the records in front of those that are stacked, where all of the file have one length: none of their blocks is read, but that
+// in which the first of those begins. Says how many it passed over.
 fn pass_front(cursor: &mut Cursor, format: Format, front: u32) -> u32
     requires unread { format ≡ F → IsUnread cursor.old }
     requires few { front ≤ cursor.old.left }
     ensures past { IsPast result cursor.old cursor.new }
     ensures few { result ≤ front }
+    ensures blocks { format ≡ F → cursor.new.done
+        ≡ block_behind front cursor.old.begun.longest cursor.old.bsize (length cursor.old.leaves) }
 {
     match format {
         Format::F => {

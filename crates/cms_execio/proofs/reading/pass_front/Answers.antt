@@ -1,5 +1,6 @@
-use Rattle.std.proofs.Common.{inl, inr, refl, ap, arith}
+use Rattle.std.proofs.Common.{◌≡◌, ◌∙◌, inl, inr, refl, ap, sym, arith}
 use Rattle.cms_records.specs.Pieces.{Begun}
+use Rattle.cms_names.specs.declared.name.Format.TheVariants.{F, V}
 use Rattle.cms_execio.proofs.reading.pass_front.Goals as goal
 
 pub skip-requires-clause-unread : goal.skip-requires-clause-unread
@@ -23,3 +24,9 @@ returns-in-V-clause-past c = record {
   rest = λ image records has. has;
   file = record { unit = refl; total = refl; bsize = refl; leaves = refl; fixed = refl; longest = refl };
 }
+
+pub returns-in-F-clause-blocks : goal.returns-in-F-clause-blocks
+returns-in-F-clause-blocks c = λ is. c.skip.ensures.block
+
+pub returns-in-V-clause-blocks : goal.returns-in-V-clause-blocks
+returns-in-V-clause-blocks c = λ is. let e : F ≡ V = sym is ∙ c.in-V.is in absurd (cc e)
