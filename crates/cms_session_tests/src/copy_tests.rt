@@ -618,7 +618,7 @@ fn files_grow(rt: HostRuntime) -> Result<(), Fail> {
 }
 
 // The calls of the world in sessions. A file is read twice, the second time block by block as it is written; what is refused reads no more
-// than it must, and writes nothing.
+// than it must, and writes nothing. Where a call fails meanwhile the device is named on which it failed.
 const CALLS: &str = "# long records
 > COPYFILE L FILE A M FILE A
 R;
@@ -635,6 +635,46 @@ R(00100);
 CMS121E File has only 3 records
 R(00024);
 ! Done aarrrrinooi
+# long records + long records
+> ACCESS 192 B
+R;
+> COPYFILE L FILE A M FILE B (RECFM V TRUNC
+R;
+! Done aarrrrinrrrronrrrrwrwrwwwwwswsoi
+# long records + long records
+^ 18
+> ACCESS 192 B
+R;
+> COPYFILE L FILE A M FILE B (RECFM V TRUNC
+CMS105E Device fault on 191
+R(00100);
+# long records + long records
+^ 19
+> ACCESS 192 B
+R;
+> COPYFILE L FILE A M FILE B (RECFM V TRUNC
+CMS105E Device fault on 192
+R(00100);
+# long records + long records
+^ 22
+> ACCESS 192 B
+R;
+> COPYFILE L FILE A M FILE B (RECFM V TRUNC
+CMS105E Device fault on 191
+R(00100);
+> STATE M FILE B
+CMS002E File M FILE B not found
+R(00028);
+# long records + long records
+^ 23 landed
+> ACCESS 192 B
+R;
+> COPYFILE L FILE A M FILE B (RECFM V TRUNC
+CMS105E Device fault on 192
+R(00100);
+> STATE M FILE B
+CMS002E File M FILE B not found
+R(00028);
 ";
 
 #[test]
