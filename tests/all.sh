@@ -28,7 +28,7 @@ format_crash.py  strace  a FORMAT and a relabelling, stopped so
 files_crash.py   strace  a COPYFILE, an ERASE, a RENAME and a LISTFILE with EXEC, stopped so
 edge.py          cc      files, folders, streams, locks and syncs that fail
 memory.py        strace  calls for memory that the system refuses
-memory_paths.py  gdb     answers of want of memory that no session of the tests passes by; wants rt too
+memory_paths.py  gdb     answers of want of memory that no test of sessions passes by; wants rt too
 hostile.py       -       10,000 damaged images, and single cases; the one of a full file system wants leave to mount
 volume.py        -       makes one large volume, as bench/bench.py reads it
 commands.py      -       random commands of minidisk: what each types, says and leaves

@@ -1,5 +1,5 @@
 #!/usr/bin/env python3
-"""Lists the answers of want of memory that no session of the tests passes by, and those that one gives though there is memory.
+"""Lists the answers of want of memory that no test of sessions passes by, and those that one gives though there is memory.
 
     tests/memory_paths.py
 
@@ -7,8 +7,8 @@ Needs gdb, and rt with its kit; it is no part of the gate, and takes some minute
 answers it where a text is long or a number large is proved all the same: a test alone shows that it isn't so. Each `Err(..)` of `Memory`
 or `AllocError` in the sources, and each such `ok_or` or `map_err`, stands behind a decision: an `if`, a `let` with `else`, a `match`, or
 the statement itself. In a copy of the sources a call of a mark, a function that does nothing, stands right behind what is decided upon,
-and another one in the answer. The tests of the sessions are compiled from that copy without any proof, and run under gdb, which notes
-the marks that they come to.
+and another one in the answer. The tests of the sessions and of `minidisk` are compiled from that copy without any proof, and run under
+gdb, which notes the marks that they come to.
 
 A decision that is passed by says only that it was made once: that it went the right way for every text, the rows say.
 """
@@ -21,13 +21,15 @@ import sys
 import tempfile
 
 ROOT = pathlib.Path(__file__).resolve().parent.parent
-TESTS = "cms_session_tests"
-# No part of the product, or of its edge, of which sessions in memory know nothing.
-OTHERS = re.compile(r"_tests$|^cms_(cases|images|cli|host)$")
+TESTS = ("cms_session_tests", "mini_tests")
+# No part of the products, or of their edge, of which tests in memory know nothing.
+OTHERS = re.compile(r"_tests$|^cms_(cases|images|cli|host)$|^mini_files$|^minidisk$")
 MEMORY = r"(?:AllocError|\w+::Memory)"
 # Such an answer, and not the pattern of an arm.
 ANSWER = re.compile(rf"\bErr\({MEMORY}\)(?!\s*(?:=>|\|))|\.ok_or\({MEMORY}\)|\.map_err\(\|_\| {MEMORY}\)")
 WORDS = re.compile(r"^\s*// ?(.*)$")
+# A value of a struct, up to its brace.
+VALUE = re.compile(r"(?<![\w>] )(?<!\w)[A-Z]\w*[a-z]\w* $")
 # Why an answer is never given, where the source doesn't say so: by its file, and by what is decided upon.
 NEVER = {
     ("cms_search", "self.seats[letter as usize]"): "the letter is accessed, as each caller has it",
@@ -37,7 +39,7 @@ NEVER = {
     ("cms_ext", "gathered.data(form.number, stamp)"): "there is a record, and none of more than 65,535 bytes",
     ("cms_files", "self.count.checked_add(1)"): "fewer than 2^32 lines are gathered, 10,000 asked for or one a file",
     ("cms_records", "into.len().checked_add(size)"): "no memory has 2^64 bytes",
-    ("cms_disk", "front.count.checked_add(behind.count)"): "two files have at most 2,097,152 records",
+    ("cms_disk", "info.count.checked_add(more.count)"): "two files have at most 2,097,152 records",
     ("cms_line", "u32::try_from(place)"): "a line has fewer than 2^32 words",
     ("cms_line", "Err(LineFault::Memory)"): "no script has 2^64 pieces",
     ("cms_world", "u32::try_from(start.len())"): "a unit of 2^32 blocks would take 2 TB of memory",
@@ -61,10 +63,12 @@ def opening(text, at):
 
 
 def statement(text, at):
-    """Where the statement begins in which a place stands: behind a semicolon or a brace of its own depth."""
+    """Where the statement begins in which a place stands: behind a semicolon or a brace of its own depth, but that of a value."""
     depth = 0
     for place in range(at - 1, -1, -1):
         sign = text[place]
+        if sign == "{" and VALUE.search(text[:place]):
+            continue
         if depth == 0 and sign in ";{}":
             break
         depth += {")": 1, "]": 1, "(": -1, "[": -1}.get(sign, 0)
@@ -81,6 +85,9 @@ def decided(text, at):
     head = text[statement(text, brace) : brace]
     if re.search(r"=>\s*$", head):
         brace = opening(text, brace)
+        head = text[statement(text, brace) : brace]
+    if head.strip() == "else":
+        brace = opening(text, text.rindex("}", 0, brace))
         head = text[statement(text, brace) : brace]
     for pattern in (r"\bmatch\b", r"\blet\b(?:[^=]|=>)*=(?=.*\belse\s*$)", r"\bif let\b[^=]*=", r"\bif\b"):
         if found := list(re.finditer(pattern, head, re.DOTALL)):
@@ -206,14 +213,15 @@ def kit_with(folder, program):
     return folder / "bin/rt"
 
 
-def built(places, folder):
-    """The tests of the sessions, with the marks."""
+def built(places, folder, tests):
+    """The tests of a crate, with the marks."""
+    folder.mkdir()
     copied(places, folder / "copy")
     program = folder / "program"
     rt = kit_with(folder / "kit", program)
-    made = subprocess.run([rt, "try", "--test"], cwd=folder / "copy/crates" / TESTS, capture_output=True, text=True, check=False)
+    made = subprocess.run([rt, "try", "--test"], cwd=folder / "copy/crates" / tests, capture_output=True, text=True, check=False)
     if not program.exists():
-        sys.exit(f"memory_paths: the marked copy isn't compiled\n{made.stdout}{made.stderr}")
+        sys.exit(f"memory_paths: the marked copy of {tests} isn't compiled\n{made.stdout}{made.stderr}")
     return program
 
 
@@ -260,23 +268,24 @@ def main():
     places = found_places()
     seen = set()
     with tempfile.TemporaryDirectory() as name:
-        folder = pathlib.Path(name)
-        program = built(places, folder)
-        left = addresses(program)
-        for test in tests_of(program):
-            seen |= watched(program, test, left, folder)
-            left = {at: mark for at, mark in left.items() if mark not in seen}
-            print(f"{test}: {len(seen)} marks by now", flush=True)
+        for tests in TESTS:
+            folder = pathlib.Path(name) / tests
+            program = built(places, folder, tests)
+            left = {at: mark for at, mark in addresses(program).items() if mark not in seen}
+            for test in tests_of(program):
+                seen |= watched(program, test, left, folder)
+                left = {at: mark for at, mark in left.items() if mark not in seen}
+                print(f"{test}: {len(seen)} marks by now", flush=True)
     for place in places:
         if place.never:
             print(f"never given: {place.told()}: {place.never}")
-    missed = [place for place in places if ("passed", place.number) not in seen]
+    missed = [place for place in places if not place.never and ("passed", place.number) not in seen]
     given = [place for place in places if ("given", place.number) in seen]
     for place in missed:
         print(f"not passed by: {place.told()}")
     for place in given:
         print(f"given though there is memory: {place.told()}")
-    print(f"{len(places)} places, {len(places) - len(missed)} passed by, {len(given)} given")
+    print(f"{len(places)} places, {len(missed)} neither passed by nor known as never given, {len(given)} given")
     sys.exit(1 if given else 0)
 
 
