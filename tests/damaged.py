@@ -5,8 +5,8 @@
 
 The images are those of tests/hostile.py. `check` must say that an image is sound exactly where tests/volumes.py finds a minidisk, and what
 it says of files and lost blocks must be so; else it says one line of why. `list`, `info` and `get` must refuse the same images with the same
-line. `dump` must show a label and some entries of each. None may change the image, crash, hang, or have a status of its own. No part of the
-gate.
+line. `dump` must show the label of each, and its entries in order, all of them where it is sound. None may change the image, crash, hang,
+or have a status of its own. No part of the gate.
 """
 
 import pathlib
@@ -70,11 +70,15 @@ def looked_at(folder, size, image):
 
 
 def dumped(folder, size, image):
-    """`dump` shows the label of each image that has one, and each block."""
+    """`dump` shows the label of each image that has one, its entries by their numbers, and each block."""
     got = model.run(["dump", "-b", str(size), "a.img"], folder)
     held = len(image) // size
     if held >= 3:
         lines = got.output.decode().splitlines()
+        read = found(image, size)
+        numbers = [int(line[6:].split(":")[0]) for line in lines if line.startswith("entry ") and line[6].isdigit()]
+        if got.status or got.notes or numbers != list(range(len(read.files) + 2 if read else len(numbers))):
+            failed(f"dump answers {got}")
         keys = [line.split(":")[0] for line in lines if not line.startswith("label: ") or not line.endswith("is wrong")]
         if [key for key in keys if key in LABEL][:7] != LABEL:
             failed(f"dump answers {got}")

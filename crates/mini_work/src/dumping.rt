@@ -4,31 +4,24 @@ ghost use Rattle.mini_work.specs.Causes.{HasCause, HasEnd, counts, on_world};
 ghost use Rattle.mini_work.specs.Opening.{HasRoom, IsNew, IsUnwritten, MayUse};
 ghost use Rattle.mini_work.specs.Saying.{OnlyTypes};
 
+use crate::directory::{read_any, show_directory};
+use crate::entries::{MOST_ENTRIES, SYSTEM_ENTRIES, entry_line, push_bytes, push_codes};
 use crate::fault::Fault;
 use crate::looking::find_size;
 use crate::opening::attach;
-use crate::saying::{name_word, refuse, type_bytes};
+use crate::saying::{refuse, type_bytes};
 use crate::status::Status;
 use cms_disk::{OpenFault, UnitInfo};
-use cms_ebcdic::to_host;
 use cms_edf::{Held, open_volume};
-use cms_fields::{Entry, EntryFault, Label, LabelFault, read_entry, read_label};
-use cms_names::Format;
+use cms_fields::{LabelFault, read_label};
 use cms_text::bytes::word_at;
-use cms_world::{Access, ReadFault, World, read_block};
+use cms_world::{Access, World};
 use mini_host::{Host, Refusal};
 use mini_words::Image;
 use std::alloc::{AllocError, Global};
 
-// The block of the label, the bytes of it that are decoded, and those of an entry.
+// The block of the label.
 const LABEL: u32 = 3;
-
-const LABEL_BYTES: usize = 80;
-
-const ENTRY_BYTES: usize = 64;
-
-// The bytes of a line.
-const LINE_BYTES: usize = 16;
 
 /// Shows the label and the entries of an image, or some of its blocks.
 pub(crate) fn dump<W: World, H: Host>(
@@ -85,19 +78,17 @@ fn find_block<W: World, H: Host>(
     block: u32,
 ) -> Result<Option<Vec<u8>>, Fault>
     requires { MayUse (W.told world.old) unit.now }
-    ensures size { IfOk result (λ found. IfSome found (λ bytes. vec_len bytes ≡ unit.now.bsize)) }
     ensures least { IfOk result (λ found. IfSome found (λ bytes. 512 ≤ vec_len bytes)) }
     ensures told { W.told world.new ≡ W.told world.old }
-    ensures cause { HasCause (counts W.World H.Host world.old host.old) (counts W.World H.Host world.new host.new) result }
+    ensures cause { HasCause (counts W.World H.Host world.old host.old)
+        (counts W.World H.Host world.new host.new) result }
 {
-    if !(1..=unit.unit.blocks).contains(&block) {
-        refuse(alloc, host, image, Refusal::NoBlock(block))?;
-        return Ok(None);
-    }
-    match read_block(alloc, world, unit.unit.number, block, unit.bsize.bytes()) {
-        Ok(bytes) => Ok(Some(bytes)),
-        Err(ReadFault::Device) => Err(Fault::Image),
-        Err(ReadFault::Memory) => Err(Fault::Memory),
+    match read_any(alloc, world, unit, block)? {
+        Some(bytes) => Ok(Some(bytes)),
+        None => {
+            refuse(alloc, host, image, Refusal::NoBlock(block))?;
+            Ok(None)
+        }
     }
 }
 
@@ -117,35 +108,15 @@ fn dump_block<W: World, H: Host>(
     let Some(bytes) = find_block(alloc, world, host, image, unit, block)? else {
         return Ok(Status::Refused);
     };
-    let title = format!(in alloc; "block {block}:\n")?;
-    type_bytes(world, title.as_bytes())?;
-    show_bytes(alloc, world, &bytes)?;
+    let text = block_lines(alloc, block, &bytes)?;
+    type_bytes(world, text.as_bytes())?;
     Ok(Status::Done)
 }
 
-// Shows bytes in hexadecimal digits beside their characters.
-fn show_bytes<W: World>(alloc: Global, world: &mut W, bytes: &[u8]) -> Result<(), Fault>
-    ensures goes { OnlyTypes (W.told world.old) (W.told world.new) }
-    ensures cause { (n : ℕ) → HasCause (on_world W.World world.old n) (on_world W.World world.new n) result }
-{
-    for (place, line) in bytes.chunks(LINE_BYTES).enumerate() {
-        let text = bytes_line(alloc, place, line)?;
-        type_bytes(world, text.as_bytes())?;
-    }
-    Ok(())
-}
-
-// The offset of a line, its bytes, and their characters.
-fn bytes_line(alloc: Global, place: usize, bytes: &[u8]) -> Result<String, AllocError> {
-    let mut text = format!(in alloc; "{place:03x}0 ")?;
-    for byte in bytes {
-        write!(text, " {byte:02x}")?;
-    }
-    text.push_str("  ")?;
-    for byte in bytes {
-        text.push(char::from(to_host(*byte)))?;
-    }
-    text.push('\n')?;
+// The number of a block, and its bytes.
+fn block_lines(alloc: Global, block: u32, bytes: &[u8]) -> Result<String, AllocError> {
+    let mut text = format!(in alloc; "block {block}:\n")?;
+    push_bytes(&mut text, bytes)?;
     Ok(text)
 }
 
@@ -166,12 +137,29 @@ fn dump_volume<W: World, H: Host>(
     };
     let text = label_lines(alloc, &bytes, unit)?;
     type_bytes(world, text.as_bytes())?;
+    let origin = word_at(&bytes, 16);
     match open_volume(alloc, world, &unit.unit, unit.bsize) {
-        Ok(held) => show_entries(alloc, world, &held),
+        Ok(held) => show_held(alloc, world, unit, origin, &held),
         Err(OpenFault::Device) => Err(Fault::Image),
         Err(OpenFault::Memory) => Err(Fault::Memory),
-        Err(_) => show_raw(alloc, world, host, image, unit, word_at(&bytes, 16)),
+        Err(_) => show_directory(alloc, world, unit, origin, MOST_ENTRIES),
     }
+}
+
+// Shows the entries of a volume that opens: the directory's own and the map's, and those of the files.
+fn show_held<W: World>(
+    alloc: Global,
+    world: &mut W,
+    unit: &UnitInfo,
+    origin: u32,
+    held: &Held,
+) -> Result<Status, Fault>
+    requires { MayUse (W.told world.old) unit.now }
+    ensures goes { OnlyTypes (W.told world.old) (W.told world.new) }
+    ensures cause { (n : ℕ) → HasEnd (on_world W.World world.old n) (on_world W.World world.new n) result }
+{
+    show_directory(alloc, world, unit, origin, SYSTEM_ENTRIES)?;
+    show_entries(alloc, world, held)
 }
 
 // What a label says, and the first test that it fails.
@@ -194,13 +182,6 @@ fn label_lines(alloc: Global, bytes: &[u8], unit: &UnitInfo) -> Result<String, A
     Ok(text)
 }
 
-fn push_codes(text: &mut String, codes: &[u8]) -> Result<(), AllocError> {
-    for code in codes {
-        text.push(char::from(to_host(*code)))?;
-    }
-    Ok(())
-}
-
 fn label_test(why: LabelFault) -> &'static str {
     match why {
         LabelFault::Id => "the identifier",
@@ -211,106 +192,15 @@ fn label_test(why: LabelFault) -> &'static str {
     }
 }
 
-// Shows the entries of the files of a volume.
+// Shows the entries of the files of a volume, by their numbers in the directory.
 fn show_entries<W: World>(alloc: Global, world: &mut W, held: &Held) -> Result<Status, Fault>
     ensures goes { OnlyTypes (W.told world.old) (W.told world.new) }
     ensures cause { (n : ℕ) → HasEnd (on_world W.World world.old n) (on_world W.World world.new n) result }
 {
     for (place, file) in held.by_name().values().enumerate() {
-        let line = entry_line(alloc, place, file.entry())?;
+        let number = place.saturating_add(SYSTEM_ENTRIES);
+        let line = entry_line(alloc, number, file.entry())?;
         type_bytes(world, line.as_bytes())?;
     }
     Ok(Status::Done)
-}
-
-// An entry's fields.
-fn entry_line(alloc: Global, place: usize, entry: &Entry) -> Result<String, AllocError> {
-    let name = name_word(alloc, &entry.name)?;
-    let format = match entry.format {
-        Format::F => "F",
-        Format::V => "V",
-    };
-    let mut line = format!(in alloc; "entry {place}: {name} mode number {}", entry.number)?;
-    write!(line, ", format {format}, record length {}", entry.length)?;
-    write!(
-        line,
-        ", records {}, data blocks {}",
-        entry.count, entry.blocks
-    )?;
-    write!(line, ", levels {}, root {}", entry.levels, entry.root)?;
-    let stamp = &entry.stamp;
-    write!(
-        line,
-        ", {:04}-{:02}-{:02}",
-        stamp.year, stamp.month, stamp.day
-    )?;
-    writeln!(
-        line,
-        " {:02}:{:02}:{:02}",
-        stamp.hour, stamp.minute, stamp.second
-    )?;
-    Ok(line)
-}
-
-// Shows the entries in the first block of a directory as they stand.
-fn show_raw<W: World, H: Host>(
-    alloc: Global,
-    world: &mut W,
-    host: &mut H,
-    image: &str,
-    unit: &UnitInfo,
-    block: u32,
-) -> Result<Status, Fault>
-    requires { MayUse (W.told world.old) unit.now }
-    ensures goes { OnlyTypes (W.told world.old) (W.told world.new) }
-    ensures cause { HasEnd (counts W.World H.Host world.old host.old) (counts W.World H.Host world.new host.new) result }
-{
-    let Some(bytes) = find_block(alloc, world, host, image, unit, block)? else {
-        return Ok(Status::Refused);
-    };
-    for (place, entry) in bytes.chunks_exact(ENTRY_BYTES).enumerate() {
-        if entry.iter().all(|byte| *byte == 0) {
-            return Ok(Status::Done);
-        }
-        show_entry(alloc, world, unit, place, entry)?;
-    }
-    Ok(Status::Done)
-}
-
-fn show_entry<W: World>(
-    alloc: Global,
-    world: &mut W,
-    unit: &UnitInfo,
-    place: usize,
-    bytes: &[u8],
-) -> Result<(), Fault>
-    requires { 64 ≤ length bytes.now }
-    ensures goes { OnlyTypes (W.told world.old) (W.told world.new) }
-    ensures cause { (n : ℕ) → HasCause (on_world W.World world.old n) (on_world W.World world.new n) result }
-{
-    match read_entry(bytes, unit.bsize) {
-        Ok(entry) => {
-            let line = entry_line(alloc, place, &entry)?;
-            type_bytes(world, line.as_bytes())
-        }
-        Err(why) => {
-            let test = entry_test(why);
-            let line = format!(in alloc; "entry {place}: {test} is wrong\n")?;
-            type_bytes(world, line.as_bytes())?;
-            show_bytes(alloc, world, bytes)
-        }
-    }
-}
-
-fn entry_test(why: EntryFault) -> &'static str {
-    match why {
-        EntryFault::Name => "the name",
-        EntryFault::Mode => "the mode number",
-        EntryFault::Format => "the format",
-        EntryFault::Length => "the record length",
-        EntryFault::Counts => "the count of records or of data blocks",
-        EntryFault::Levels => "the count of levels",
-        EntryFault::PointerSize => "the size of pointers",
-        EntryFault::Date => "the date",
-    }
 }

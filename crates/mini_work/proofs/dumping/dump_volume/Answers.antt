@@ -19,7 +19,7 @@ returns-in_err-type_bytes-clause-goes g c = types_then _ _ _ (types_same _ _ c.f
 pub returns-in-Ok-clause-goes : goal.returns-in-Ok-clause-goes
 returns-in-Ok-clause-goes g c =
     types_then _ _ _ (types_read _ _ _ _ _ c.find_block.ensures.told c.in_ok-type_bytes.ensures.ok c.open_volume.ensures.reads.told)
-    c.show_entries.ensures.goes
+    c.show_held.ensures.goes
 
 pub returns-in-Err-Device-clause-goes : goal.returns-in-Err-Device-clause-goes
 returns-in-Err-Device-clause-goes g c = types_read _ _ _ _ _ c.find_block.ensures.told c.in_ok-type_bytes.ensures.ok c.open_volume.ensures.reads.told
@@ -27,15 +27,20 @@ returns-in-Err-Device-clause-goes g c = types_read _ _ _ _ _ c.find_block.ensure
 pub returns-in-Err-Memory-clause-goes : goal.returns-in-Err-Memory-clause-goes
 returns-in-Err-Memory-clause-goes g c = types_read _ _ _ _ _ c.find_block.ensures.told c.in_ok-type_bytes.ensures.ok c.open_volume.ensures.reads.told
 
-pub show_raw-requires : goal.show_raw-requires
-show_raw-requires g c =
+pub show_held-requires : goal.show_held-requires
+show_held-requires g c =
+    may_use_still _ _ c.args.unit.now
+    (grown_types _ _ (types_read _ _ _ _ _ c.find_block.ensures.told c.in_ok-type_bytes.ensures.ok c.open_volume.ensures.reads.told)) c.requires
+
+pub show_directory-requires : goal.show_directory-requires
+show_directory-requires g c =
     may_use_still _ _ c.args.unit.now
     (grown_types _ _ (types_read _ _ _ _ _ c.find_block.ensures.told c.in_ok-type_bytes.ensures.ok c.open_volume.ensures.reads.told)) c.requires
 
 pub returns-clause-goes : goal.returns-clause-goes
 returns-clause-goes g c =
     types_then _ _ _ (types_read _ _ _ _ _ c.find_block.ensures.told c.in_ok-type_bytes.ensures.ok c.open_volume.ensures.reads.told)
-    c.show_raw.ensures.goes
+    c.show_directory.ensures.goes
 
 pub label_lines-requires : goal.label_lines-requires
 label_lines-requires g c =
@@ -47,10 +52,10 @@ open_volume-requires g c =
     let types = types_read _ _ _ _ _ c.find_block.ensures.told c.in_ok-type_bytes.ensures.ok refl in
     record { blocks = (may_use_still _ _ c.args.unit.now (grown_types _ _ types) c.requires).blocks }
 
-pub word_at-requires : goal.word_at-requires
-word_at-requires g c =
+pub word_at-origin-requires : goal.word_at-origin-requires
+word_at-origin-requires g c =
     let least = subst (λ (o : Option (Vec ℕ Global)). IfSome o (λ b. 512 ≤ vec_len b)) c.in-Some.is c.in_ok-bytes.ensures.least in
-    omega (arith, least, c.deref-in-Err.ensures.len)
+    omega (arith, least, c.deref-2.ensures.len)
 
 pub returns-in_err-bytes-clause-cause : goal.returns-in_err-bytes-clause-cause
 returns-in_err-bytes-clause-cause g c = let x = c.in_err-bytes.ensures.cause in end_fails _ _ _ c.in_err-bytes.field-0.0 c.from_residual.result (later_same _) c.from_residual.ensures.1 x.later x.failed
@@ -71,7 +76,7 @@ pub returns-in-Err-Memory-clause-cause : goal.returns-in-Err-Memory-clause-cause
 returns-in-Err-Memory-clause-cause g c = record { later = later_then _ _ _ (later_then _ _ _ (c.in_ok-bytes.ensures.cause).later (c.in_ok-type_bytes.ensures.cause (g.H.Host.faults c.find_block.new.host)).later) (reads_later _ _ _ _ (g.H.Host.faults c.find_block.new.host) c.open_volume.ensures.reads); failed = λ e. absurd (cc e) }
 
 pub returns-in-Ok-clause-cause : goal.returns-in-Ok-clause-cause
-returns-in-Ok-clause-cause g c = end_then _ _ _ _ (later_then _ _ _ (later_then _ _ _ (c.in_ok-bytes.ensures.cause).later (c.in_ok-type_bytes.ensures.cause (g.H.Host.faults c.find_block.new.host)).later) (reads_later _ _ _ _ (g.H.Host.faults c.find_block.new.host) c.open_volume.ensures.reads)) (c.show_entries.ensures.cause (g.H.Host.faults c.find_block.new.host))
+returns-in-Ok-clause-cause g c = end_then _ _ _ _ (later_then _ _ _ (later_then _ _ _ (c.in_ok-bytes.ensures.cause).later (c.in_ok-type_bytes.ensures.cause (g.H.Host.faults c.find_block.new.host)).later) (reads_later _ _ _ _ (g.H.Host.faults c.find_block.new.host) c.open_volume.ensures.reads)) (c.show_held.ensures.cause (g.H.Host.faults c.find_block.new.host))
 
 pub returns-clause-cause : goal.returns-clause-cause
-returns-clause-cause g c = end_then _ _ _ _ (later_then _ _ _ (later_then _ _ _ (c.in_ok-bytes.ensures.cause).later (c.in_ok-type_bytes.ensures.cause (g.H.Host.faults c.find_block.new.host)).later) (reads_later _ _ _ _ (g.H.Host.faults c.find_block.new.host) c.open_volume.ensures.reads)) (c.show_raw.ensures.cause)
+returns-clause-cause g c = end_then _ _ _ _ (later_then _ _ _ (later_then _ _ _ (c.in_ok-bytes.ensures.cause).later (c.in_ok-type_bytes.ensures.cause (g.H.Host.faults c.find_block.new.host)).later) (reads_later _ _ _ _ (g.H.Host.faults c.find_block.new.host) c.open_volume.ensures.reads)) (c.show_directory.ensures.cause (g.H.Host.faults c.find_block.new.host))
