@@ -1,5 +1,5 @@
 -- The commands' forms, as clap reads them.
-use Rattle.std.specs.Prelude.{◌≡◌, ℕ, Bool, false, true, List, [], Option, Some, codes, unwrap_or}
+use Rattle.std.specs.Prelude.{◌≡◌, ℕ, Bool, false, true, List, [], ◌∷◌, Option, Some, codes, unwrap_or}
 use Rattle.std.specs.Option.{option_map_or}
 use Rattle.std.specs.Str.{bytes_eq}
 use Rattle.clap.specs.Walk.{is_empty}
@@ -8,6 +8,9 @@ use Rattle.clap.specs.Words.{App, Row, Rule, Text, all_of, app_of, fault_of, fir
 use Rattle.clap.specs.declared.builder.action.ArgAction.TheVariants.{SetTrue}
 use Rattle.clap.specs.declared.builder.command.Command.{Command}
 use Rattle.clap.specs.declared.parser.matches.ArgMatches.{ArgMatches}
+use Rattle.mini_words.specs.declared.building.Argument.{Argument}
+use Rattle.mini_words.specs.declared.building.Kind.{Kind}
+use Rattle.mini_words.specs.declared.building.Kind.TheVariants.{Value, Needed, Flag, One, Many, Any}
 
 -- an option that takes a value
 abbrev pub option_rule : Text → ℕ → Rule
@@ -35,6 +38,23 @@ many_rule id = record (new_rule id) {
 -- any number of such words
 abbrev pub any_rule : Text → Rule
 any_rule id = record (new_rule id) { range = Some (record { start_inclusive = 0; end_inclusive = usize_max }) }
+
+-- the rule of an argument that is given so
+abbrev pub rule_by : Text → Kind → Rule
+rule_by id (Value letter) = option_rule id letter
+rule_by id (Needed letter) = needed_rule id letter
+rule_by id (Flag letter) = flag_rule id letter
+rule_by id One = one_rule id
+rule_by id Many = many_rule id
+rule_by id Any = any_rule id
+
+abbrev pub rule_for : Argument → Rule
+rule_for argument = rule_by argument.id.now argument.kind
+
+-- a form with rules behind its own
+abbrev pub with_rules : App → List Rule → App
+with_rules form [] = form
+with_rules form (rule ∷ rules) = with_rules (with_rule form rule) rules
 
 -- list [-l] [-b SIZE] IMAGE [NAME ..]
 unfoldable pub list_form : App

@@ -5,21 +5,40 @@ ghost use Rattle.clap.specs.declared.error.kind.ErrorKind.TheVariants.{OutOfMemo
 ghost use Rattle.mini_words.specs.Commands.{HasForm, are_taken, check_form, command_in, dump_form, erase_form, get_form, info_form, list_form, make_form, minidisk, put_form, rename_form, top_form};
 
 use crate::building::{
-    new_command, new_command_with, with_any, with_command, with_flag, with_many, with_needed,
-    with_one, with_option,
+    Argument, Kind, new_command, new_command_with, with_arguments, with_command,
 };
 use clap::{ArgMatches, Command, Error};
 use std::alloc::{AllocError, Global};
 
-const SIZE: &str = "the image's block size: 512, 1024, 2048 or 4096; left out, it is looked for";
+const SIZE: Argument<'static> = Argument {
+    id: "SIZE",
+    kind: Kind::Value('b'),
+    help: "the image's block size: 512, 1024, 2048 or 4096; left out, it is looked for",
+};
 
-const IMAGE: &str = "the image of a minidisk";
+const FORM: Argument<'static> = Argument {
+    id: "FORM",
+    kind: Kind::Value('f'),
+    help: "text (the default), binary or records",
+};
 
-const ZONE: &str = "the time zone of new dates: E or W and hhmm, as W0500";
+const SAY: Argument<'static> = Argument {
+    id: "SAY",
+    kind: Kind::Flag('v'),
+    help: "say each file once it is done",
+};
 
-const SAY: &str = "say each file once it is done";
+const ZONE: Argument<'static> = Argument {
+    id: "ZONE",
+    kind: Kind::Value('z'),
+    help: "the time zone of new dates: E or W and hhmm, as W0500",
+};
 
-const FORM: &str = "text (the default), binary or records";
+const IMAGE: Argument<'static> = Argument {
+    id: "IMAGE",
+    kind: Kind::One,
+    help: "the image of a minidisk",
+};
 
 const NAMES: &str = "files, as FN.FT; * stands for any letters, % for one";
 
@@ -46,153 +65,213 @@ Forms:
   binary    the bytes of the records, joined
   records   each record behind its length: two bytes, the high one first";
 
+const LIST: [Argument<'static>; 4] = [
+    Argument {
+        id: "LONG",
+        kind: Kind::Flag('l'),
+        help: "with format, length, records, blocks and date",
+    },
+    SIZE,
+    IMAGE,
+    Argument {
+        id: "NAME",
+        kind: Kind::Any,
+        help: NAMES,
+    },
+];
+
+const INFO: [Argument<'static>; 2] = [SIZE, IMAGE];
+
+const GET: [Argument<'static>; 8] = [
+    SIZE,
+    FORM,
+    Argument {
+        id: "REPLACE",
+        kind: Kind::Flag('r'),
+        help: "replace host files that are there",
+    },
+    SAY,
+    Argument {
+        id: "FILE",
+        kind: Kind::Value('o'),
+        help: "the host file for all of them, joined",
+    },
+    Argument {
+        id: "DIR",
+        kind: Kind::Value('d'),
+        help: "the folder for a host file of each, as fn.ft",
+    },
+    IMAGE,
+    Argument {
+        id: "NAME",
+        kind: Kind::Many,
+        help: NAMES,
+    },
+];
+
+const PUT: [Argument<'static>; 10] = [
+    SIZE,
+    FORM,
+    Argument {
+        id: "N",
+        kind: Kind::Value('L'),
+        help: "records of this length, format F; else V",
+    },
+    Argument {
+        id: "DIGIT",
+        kind: Kind::Value('m'),
+        help: "the mode number of new files, 0 to 6; else 1",
+    },
+    Argument {
+        id: "NAME",
+        kind: Kind::Value('n'),
+        help: "the name in the image, FN.FT, of one host file",
+    },
+    Argument {
+        id: "REPLACE",
+        kind: Kind::Flag('r'),
+        help: "replace files that are there",
+    },
+    SAY,
+    ZONE,
+    IMAGE,
+    Argument {
+        id: "FILE",
+        kind: Kind::Many,
+        help: "host files; - is standard input, and wants -n",
+    },
+];
+
+const ERASE: [Argument<'static>; 5] = [
+    SIZE,
+    SAY,
+    ZONE,
+    IMAGE,
+    Argument {
+        id: "NAME",
+        kind: Kind::Many,
+        help: NAMES,
+    },
+];
+
+const RENAME: [Argument<'static>; 6] = [
+    SIZE,
+    SAY,
+    ZONE,
+    IMAGE,
+    Argument {
+        id: "NAME",
+        kind: Kind::One,
+        help: "the file, as FN.FT",
+    },
+    Argument {
+        id: "NEW",
+        kind: Kind::One,
+        help: "its new name, as FN.FT",
+    },
+];
+
+const MAKE: [Argument<'static>; 5] = [
+    Argument {
+        id: "SIZE",
+        kind: Kind::Needed('b'),
+        help: "the block size: 512, 1024, 2048 or 4096",
+    },
+    Argument {
+        id: "BLOCKS",
+        kind: Kind::Needed('n'),
+        help: "how many blocks, 8 to 1048576",
+    },
+    Argument {
+        id: "LABEL",
+        kind: Kind::Needed('l'),
+        help: "the volume's label, 1 to 6 characters",
+    },
+    ZONE,
+    Argument {
+        id: "IMAGE",
+        kind: Kind::One,
+        help: "the new image; none may be there",
+    },
+];
+
+const CHECK: [Argument<'static>; 2] = [
+    SIZE,
+    Argument {
+        id: "IMAGE",
+        kind: Kind::Many,
+        help: "images of minidisks",
+    },
+];
+
+const DUMP: [Argument<'static>; 3] = [
+    SIZE,
+    Argument {
+        id: "IMAGE",
+        kind: Kind::One,
+        help: "an image, sound or not",
+    },
+    Argument {
+        id: "BLOCK",
+        kind: Kind::Any,
+        help: "numbers of blocks, from 1",
+    },
+];
+
 fn list_command<'a>(alloc: Global) -> Result<Command<'a>, AllocError>
     ensures { IfOk result (λ c. HasForm c list_form) }
 {
     let list = new_command(alloc, "list", "List the files of an image");
-    let list = with_flag(
-        alloc,
-        list,
-        "LONG",
-        'l',
-        "with format, length, records, blocks and date",
-    )?;
-    let list = with_option(alloc, list, "SIZE", 'b', SIZE)?;
-    let list = with_one(alloc, list, "IMAGE", IMAGE)?;
-    with_any(alloc, list, "NAME", NAMES)
+    with_arguments(alloc, list, &LIST)
 }
 
 fn info_command<'a>(alloc: Global) -> Result<Command<'a>, AllocError>
     ensures { IfOk result (λ c. HasForm c info_form) }
 {
     let info = new_command(alloc, "info", "Tell the label, the blocks and the files");
-    let info = with_option(alloc, info, "SIZE", 'b', SIZE)?;
-    with_one(alloc, info, "IMAGE", IMAGE)
+    with_arguments(alloc, info, &INFO)
 }
 
 fn get_command<'a>(alloc: Global) -> Result<Command<'a>, AllocError>
     ensures { IfOk result (λ c. HasForm c get_form) }
 {
     let get = new_command_with(alloc, "get", "Copy files out of an image", FORMS);
-    let get = with_option(alloc, get, "SIZE", 'b', SIZE)?;
-    let get = with_option(alloc, get, "FORM", 'f', FORM)?;
-    let get = with_flag(
-        alloc,
-        get,
-        "REPLACE",
-        'r',
-        "replace host files that are there",
-    )?;
-    let get = with_flag(alloc, get, "SAY", 'v', SAY)?;
-    let get = with_option(
-        alloc,
-        get,
-        "FILE",
-        'o',
-        "the host file for all of them, joined",
-    )?;
-    let get = with_option(
-        alloc,
-        get,
-        "DIR",
-        'd',
-        "the folder for a host file of each, as fn.ft",
-    )?;
-    let get = with_one(alloc, get, "IMAGE", IMAGE)?;
-    with_many(alloc, get, "NAME", NAMES)
+    with_arguments(alloc, get, &GET)
 }
 
 fn put_command<'a>(alloc: Global) -> Result<Command<'a>, AllocError>
     ensures { IfOk result (λ c. HasForm c put_form) }
 {
     let put = new_command_with(alloc, "put", "Copy host files into an image", FORMS);
-    let put = with_option(alloc, put, "SIZE", 'b', SIZE)?;
-    let put = with_option(alloc, put, "FORM", 'f', FORM)?;
-    let put = with_option(
-        alloc,
-        put,
-        "N",
-        'L',
-        "records of this length, format F; else V",
-    )?;
-    let put = with_option(
-        alloc,
-        put,
-        "DIGIT",
-        'm',
-        "the mode number of new files, 0 to 6; else 1",
-    )?;
-    let put = with_option(
-        alloc,
-        put,
-        "NAME",
-        'n',
-        "the name in the image, FN.FT, of one host file",
-    )?;
-    let put = with_flag(alloc, put, "REPLACE", 'r', "replace files that are there")?;
-    let put = with_flag(alloc, put, "SAY", 'v', SAY)?;
-    let put = with_option(alloc, put, "ZONE", 'z', ZONE)?;
-    let put = with_one(alloc, put, "IMAGE", IMAGE)?;
-    with_many(
-        alloc,
-        put,
-        "FILE",
-        "host files; - is standard input, and wants -n",
-    )
+    with_arguments(alloc, put, &PUT)
 }
 
 fn erase_command<'a>(alloc: Global) -> Result<Command<'a>, AllocError>
     ensures { IfOk result (λ c. HasForm c erase_form) }
 {
     let erase = new_command(alloc, "erase", "Erase files of an image");
-    let erase = with_option(alloc, erase, "SIZE", 'b', SIZE)?;
-    let erase = with_flag(alloc, erase, "SAY", 'v', SAY)?;
-    let erase = with_option(alloc, erase, "ZONE", 'z', ZONE)?;
-    let erase = with_one(alloc, erase, "IMAGE", IMAGE)?;
-    with_many(alloc, erase, "NAME", NAMES)
+    with_arguments(alloc, erase, &ERASE)
 }
 
 fn rename_command<'a>(alloc: Global) -> Result<Command<'a>, AllocError>
     ensures { IfOk result (λ c. HasForm c rename_form) }
 {
     let rename = new_command(alloc, "rename", "Give a file of an image another name");
-    let rename = with_option(alloc, rename, "SIZE", 'b', SIZE)?;
-    let rename = with_flag(alloc, rename, "SAY", 'v', SAY)?;
-    let rename = with_option(alloc, rename, "ZONE", 'z', ZONE)?;
-    let rename = with_one(alloc, rename, "IMAGE", IMAGE)?;
-    let rename = with_one(alloc, rename, "NAME", "the file, as FN.FT")?;
-    with_one(alloc, rename, "NEW", "its new name, as FN.FT")
+    with_arguments(alloc, rename, &RENAME)
 }
 
 fn make_command<'a>(alloc: Global) -> Result<Command<'a>, AllocError>
     ensures { IfOk result (λ c. HasForm c make_form) }
 {
     let make = new_command(alloc, "make", "Make an image with an empty volume");
-    let make = with_needed(
-        alloc,
-        make,
-        "SIZE",
-        'b',
-        "the block size: 512, 1024, 2048 or 4096",
-    )?;
-    let make = with_needed(alloc, make, "BLOCKS", 'n', "how many blocks, 8 to 1048576")?;
-    let make = with_needed(
-        alloc,
-        make,
-        "LABEL",
-        'l',
-        "the volume's label, 1 to 6 characters",
-    )?;
-    let make = with_option(alloc, make, "ZONE", 'z', ZONE)?;
-    with_one(alloc, make, "IMAGE", "the new image; none may be there")
+    with_arguments(alloc, make, &MAKE)
 }
 
 fn check_command<'a>(alloc: Global) -> Result<Command<'a>, AllocError>
     ensures { IfOk result (λ c. HasForm c check_form) }
 {
     let check = new_command(alloc, "check", "Say whether images are sound");
-    let check = with_option(alloc, check, "SIZE", 'b', SIZE)?;
-    with_many(alloc, check, "IMAGE", "images of minidisks")
+    with_arguments(alloc, check, &CHECK)
 }
 
 fn dump_command<'a>(alloc: Global) -> Result<Command<'a>, AllocError>
@@ -203,38 +282,31 @@ fn dump_command<'a>(alloc: Global) -> Result<Command<'a>, AllocError>
         "dump",
         "Show the label, the directory and blocks as they stand",
     );
-    let dump = with_option(alloc, dump, "SIZE", 'b', SIZE)?;
-    let dump = with_one(alloc, dump, "IMAGE", "an image, sound or not")?;
-    with_any(alloc, dump, "BLOCK", "numbers of blocks, from 1")
+    with_arguments(alloc, dump, &DUMP)
 }
 
 fn top_command<'a>(alloc: Global) -> Command<'a>
     ensures { HasForm result top_form }
 {
-    new_command(
-        alloc,
-        "minidisk",
-        "Look into images of CMS minidisks, and copy files in and out",
-    )
-    .after_help(EXAMPLES)
-    .version("0.1.0")
-    .subcommand_required(true)
-    .disable_help_subcommand(true)
+    let about = "Look into images of CMS minidisks, and copy files in and out";
+    new_command_with(alloc, "minidisk", about, EXAMPLES)
+        .version("0.1.0")
+        .subcommand_required(true)
+        .disable_help_subcommand(true)
 }
 
 fn minidisk<'a>(alloc: Global) -> Result<Command<'a>, AllocError>
     ensures { IfOk result (λ c. HasForm c minidisk) }
 {
-    let top = top_command(alloc);
-    let top = with_command(top, list_command(alloc)?)?;
-    let top = with_command(top, info_command(alloc)?)?;
-    let top = with_command(top, get_command(alloc)?)?;
-    let top = with_command(top, put_command(alloc)?)?;
-    let top = with_command(top, erase_command(alloc)?)?;
-    let top = with_command(top, rename_command(alloc)?)?;
-    let top = with_command(top, make_command(alloc)?)?;
-    let top = with_command(top, check_command(alloc)?)?;
-    with_command(top, dump_command(alloc)?)
+    let top = with_command(top_command(alloc), list_command(alloc))?;
+    let top = with_command(top, info_command(alloc))?;
+    let top = with_command(top, get_command(alloc))?;
+    let top = with_command(top, put_command(alloc))?;
+    let top = with_command(top, erase_command(alloc))?;
+    let top = with_command(top, rename_command(alloc))?;
+    let top = with_command(top, make_command(alloc))?;
+    let top = with_command(top, check_command(alloc))?;
+    with_command(top, dump_command(alloc))
 }
 
 /// What clap finds in the program's words, its name first: a command with its words. The error is for [`Error::print`], which

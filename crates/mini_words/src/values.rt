@@ -5,7 +5,7 @@ ghost use Rattle.cms_words.specs.UnitWords.{bsize_of};
 ghost use Rattle.mini_forms.specs.Readers.{IsSize};
 ghost use Rattle.mini_forms.specs.Reading.{size_in, start_of};
 ghost use Rattle.mini_words.specs.Commands.{is_set, rows_in, text_in, value_in, values_in};
-ghost use Rattle.mini_words.specs.Words.{blocks_of, digit_of, form_of, label_word_of, layout_of, length_of, one_name_of, name_word_of, needed_size_of, size_of, zone_of};
+ghost use Rattle.mini_words.specs.Words.{blocks_of, digit_of, form_of, form_word, label_word_of, layout_of, length_of, one_name_of, name_word_of, needed_size_of, size_of, zone_of};
 
 use crate::WordFault;
 use crate::names::{label, name};
@@ -22,7 +22,6 @@ const LONGEST_RECORD: u32 = 65_535;
 const FEWEST_BLOCKS: u32 = 8;
 
 /// The value of an option, or a word that stands alone.
-#[tactic(auto, using(crate::proofs::Found::value_found))]
 pub fn value<'a>(matches: &ArgMatches<'a>, id: &str) -> Option<&'a str>
     ensures { option_map (λ s. s.now) result ≡ value_in id.now (rows_in matches.now) }
 {
@@ -86,17 +85,26 @@ pub fn needed_size(matches: &ArgMatches<'_>) -> Result<BlockSize, WordFault>
     block_size(text(matches, "SIZE")).ok_or(WordFault::Size)
 }
 
+fn form_word(word: &str) -> Option<Form>
+    ensures { result ≡ form_word word.now }
+{
+    match word {
+        "text" => Some(Form::Text),
+        "binary" => Some(Form::Binary),
+        "records" => Some(Form::Records),
+        _ => None,
+    }
+}
+
 /// The form of host files.
 #[tactic(auto, unfolding(crate::specs::Words::form_of))]
 pub fn form(matches: &ArgMatches<'_>) -> Result<Form, WordFault>
     ensures { result ≡ form_of (rows_in matches.now) }
 {
-    match value(matches, "FORM") {
-        None | Some("text") => Ok(Form::Text),
-        Some("binary") => Ok(Form::Binary),
-        Some("records") => Ok(Form::Records),
-        Some(_) => Err(WordFault::Form),
-    }
+    let Some(word) = value(matches, "FORM") else {
+        return Ok(Form::Text);
+    };
+    form_word(word).ok_or(WordFault::Form)
 }
 
 #[tactic(auto, unfolding(crate::specs::Words::length_of))]

@@ -4,4 +4,4 @@ use Rattle.mini_words.proofs.command.check_command.Goals as goal
 
 pub returns : goal.returns
 unfolding check_form
-returns c = IfOk-weaker c.with_many.result _ _ (λ whole has. has _ (c.in_ok-check.ensures _ (c.new_command-check.ensures))) c.with_many.ensures
+returns c = IfOk-weaker c.with_arguments.result _ _ (λ whole has. has _ c.new_command-check.ensures) c.with_arguments.ensures

@@ -4,4 +4,4 @@ use Rattle.mini_words.proofs.command.dump_command.Goals as goal
 
 pub returns : goal.returns
 unfolding dump_form
-returns c = IfOk-weaker c.with_any.result _ _ (λ whole has. has _ (c.in_ok-dump-2.ensures _ (c.in_ok-dump.ensures _ (c.new_command-dump.ensures)))) c.with_any.ensures
+returns c = IfOk-weaker c.with_arguments.result _ _ (λ whole has. has _ c.new_command-dump.ensures) c.with_arguments.ensures

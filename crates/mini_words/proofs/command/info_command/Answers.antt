@@ -4,4 +4,4 @@ use Rattle.mini_words.proofs.command.info_command.Goals as goal
 
 pub returns : goal.returns
 unfolding info_form
-returns c = IfOk-weaker c.with_one.result _ _ (λ whole has. has _ (c.in_ok-info.ensures _ (c.new_command-info.ensures))) c.with_one.ensures
+returns c = IfOk-weaker c.with_arguments.result _ _ (λ whole has. has _ c.new_command-info.ensures) c.with_arguments.ensures
