@@ -1,20 +1,27 @@
 -- The file that is copied, as a cursor reads it beside the output's draft.
-use Rattle.std.proofs.Common.{◌≡◌, ◌∙◌, inl, inr, ℕ, ◌≤◌, List, Option, Some, Ok, length, slice_get, sym, ap, subst}
+use Rattle.std.proofs.Common.{◌≡◌, ◌∙◌, inl, inr, ℕ, ◌≤◌, List, [], ◌∷◌, Option, Some, Ok, length, slice_get, refl, sym, ap, subst}
 use Rattle.std.specs.Prelude.{None}
+use Rattle.std.proofs.lemmas.Bool.{cases_Bool}
 use Rattle.std.proofs.lemmas.Bool.Decides.{eqb_tells}
 use Rattle.std.specs.Option.{ForSome}
 use Rattle.std.proofs.lemmas.Option.{same_Some}
 use Rattle.cms_journal.specs.Journal.{HasBlocks, Journal}
 use Rattle.cms_journal.specs.Told.{Told}
+use Rattle.cms_fields.specs.declared.entry.Entry.{Entry}
+use Rattle.cms_names.specs.declared.name.Format.{Format}
+use Rattle.cms_names.specs.declared.name.Format.TheVariants.{F, V}
 use Rattle.cms_names.specs.declared.name.Name.{Name}
 use Rattle.cms_edf.specs.OpeningSteps.{OfImage}
 use Rattle.cms_machine.specs.Slots.{Settled, Slot}
 use Rattle.cms_machine.specs.Steps.{Offers}
 use Rattle.cms_model.specs.Changes.{file_named}
 use Rattle.cms_model.specs.LawsUpdates.{now}
-use Rattle.cms_model.specs.Minidisks.{File, Minidisk, Volume}
+use Rattle.cms_model.specs.Minidisks.{File, Minidisk, Volume, same_name}
+use Rattle.cms_model.specs.Records.{length_of}
+use Rattle.cms_model.specs.Volumes.{Disk, Opened, files_of, minidisk_of}
 use Rattle.cms_model.specs.Settled.{Agree}
 use Rattle.cms_model.specs.Trees.{Image}
+use Rattle.cms_model.proofs.FileSizes.{file_of}
 use Rattle.cms_model.proofs.Results.{ok_same}
 use Rattle.cms_disk.specs.Cursors.{HasLeft}
 use Rattle.cms_disk.specs.Drafts.{WritesAside}
@@ -41,9 +48,31 @@ unit_file_is u (Some f) z is =
     let same : made ≡ z = ok_same made z is in
     (ap (λ (y : UnitFile). Some y.file) same, ap (λ (y : UnitFile). y.unit) same)
 
+-- the length of a file of a minidisk is that of its records
+long_again : (format : Format) (size : ℕ) (records : List (List ℕ)) → length_of format size records ≡ length_of format (length_of format size records) records
+long_again F size records = refl
+long_again V size records = refl
+
+long_in : (name : Name) (es : List Entry) (cs : List (List (List ℕ))) (f : File) → file_named name (files_of es cs) ≡ Some f → f.length ≡ length_of f.format f.length f.records
+unfolding files_of file_named
+long_in name [] cs f is = absurd (cc)
+long_in name (e ∷ es) [] f is = absurd (cc)
+long_in name (e ∷ es) (records ∷ more) f is = elim (cases_Bool (same_name name e.name)) [
+  | inl same ↦
+      let made = file_of e records in
+      let e' : Some made ≡ Some f = rw same at is in
+      subst (λ (x : File). x.length ≡ length_of x.format x.length x.records) (same_Some made f e') (long_again e.format e.length records)
+  | inr other ↦ long_in name es more f (rw other at is)
+]
+
+long_named : (disk : Disk) (v : Opened) (m : Minidisk) (name : Name) (f : File) → m ≡ minidisk_of disk v → file_named name m.files ≡ Some f → f.length ≡ length_of f.format f.length f.records
+unfolding minidisk_of
+long_named disk v m name f is at = long_in name v.entries v.contents f (subst (λ (x : Minidisk). file_named name x.files ≡ Some f) is at)
+
 -- what the machine has of it, and what a cursor has left of it
 pub record InputAt (old : Spot) (units : List Slot) (file : OpenFile) (u : ℕ) (x : UnitFile) : Type 0 where
   pub unit : u ≡ x.unit
+  pub long : x.file.length ≡ length_of x.file.format x.file.length x.file.records
   pub left : OfImage old.world.told file.cursor.unit (λ image. HasLeft image file.cursor x.file.records)
   pub offers : (wanted : ℕ) → wanted ≤ length x.file.records → Offers (slice_get units x.unit) x.file wanted
 
@@ -66,6 +95,7 @@ input_at old units line c file opened h x =
     let left : HasLeft image file.cursor x.file.file.records = subst (λ (y : File). HasLeft image file.cursor y.records) same o.2 in
     record {
       unit = f.1;
+      long = long_named seat.disk.volume.disk stands.opened m c.found.name x.file.file stands.minidisk_is f.0;
       left = λ j told.
           let one : k.journal ≡ j = same_Some k.journal j (sym k.told ∙ told) in
           subst (λ (u : ℕ). HasLeft (now j u) file.cursor x.file.file.records) (sym opened.starts.first.unit)

@@ -17,6 +17,8 @@ pub mod OneRead
 pub mod FirstPass
 pub mod AllWritten
 pub mod OneCopied
+pub mod ToldLengths
+pub mod InputTold
 pub mod CopiesMeasured
 pub mod CopyShaped
 pub mod OwnFile

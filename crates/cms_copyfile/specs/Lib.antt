@@ -7,6 +7,7 @@ pub mod Copyfile
 pub mod Puts
 pub mod Copies
 pub mod FileCopies
+pub mod Told
 pub mod Finding
 pub mod Shapes
 pub mod Writing

@@ -27,7 +27,7 @@ use crate::copy::FileCopy;
 use crate::ending::end_written;
 use crate::line::CopyLine;
 use crate::measure::Measure;
-use crate::measuring::measure_copies;
+use crate::measuring::measure_input;
 use crate::opening::open_input;
 use crate::output::{CopyPlan, plan_of, stamp_for};
 use crate::refusing::stop_unread;
@@ -270,7 +270,15 @@ pub(crate) fn copy_records<W: World>(
     let plan = plan_of(&line.style, form, file.input.count);
     let mut buffer = Vec::with_capacity(alloc, LONGEST_RECORD as usize)?;
     let mut input = open_input(alloc, &state.table, file)?;
-    match measure_copies(world, &mut input.cursor, &plan, &mut buffer) {
+    let measured = measure_input(
+        world,
+        &state.table,
+        file,
+        &mut input.cursor,
+        &plan,
+        &mut buffer,
+    );
+    match measured {
         Ok(measure) => put_measured(
             alloc,
             world,

@@ -17,6 +17,7 @@ mod refusing;
 mod running;
 mod shape;
 mod telling;
+mod told;
 mod writing;
 
 pub use copy::FileCopy;

@@ -1,4 +1,4 @@
-// The first pass over a file that is copied: its copies are measured.
+// The copies of a file are measured: as its disk tells them, or else by a first pass over it.
 ghost use Rattle.std.specs.Prelude.{◌≡◌, ◌⊎◌, ◌+◌, ◌*◌, ◌^◌, ◌<◌, ◌≤◌, ◌++◌, ℕ, List, [], ◌∷◌, drop, length, map, take, vec_capacity, All, IfOk, IfErr, OnOk};
 ghost use Rattle.std.specs.Option.{ForSome};
 ghost use Rattle.cms_journal.specs.Journal.{HasBlocks, contents_of};
@@ -9,15 +9,20 @@ ghost use Rattle.cms_model.specs.Trees.{image_of};
 ghost use Rattle.cms_edf.specs.OpeningSteps.{OfImage};
 ghost use Rattle.cms_disk.specs.Cursors.{HasLeft};
 ghost use Rattle.cms_disk.specs.declared.fault.DiskFault.TheVariants.{Altered, Device};
+ghost use Rattle.cms_files.specs.Files.{UnitFile};
 ghost use Rattle.cms_world.specs.Seen.{OnlyReads, seen};
 ghost use Rattle.cms_copyfile.specs.Measures.{measured};
 ghost use Rattle.cms_copyfile.specs.Outputs.{copies_in};
 ghost use Rattle.cms_copyfile.specs.Records.{copied, longest_fit};
+ghost use Rattle.cms_copyfile.specs.Told.{IsLeftAs};
 
+use crate::copy::FileCopy;
 use crate::measure::Measure;
 use crate::output::CopyPlan;
 use crate::record::copy_record;
+use crate::told::measure_told;
 use cms_disk::{Cursor, DiskFault};
+use cms_search::Table;
 use cms_world::World;
 
 // Measures the copy of the record at a place, where it is copied.
@@ -76,4 +81,35 @@ pub fn measure_copies<W: World>(
         measure_copy(plan, place, cursor.text(), buffer, &mut measure);
     }
     Ok(measure)
+}
+
+// The copies of a file, of which nothing was read yet, are measured: as its disk tells them, or else by reading it.
+pub(crate) fn measure_input<W: World>(
+    world: &mut W,
+    table: &Table,
+    file: &FileCopy,
+    cursor: &mut Cursor,
+    plan: &CopyPlan,
+    buffer: &mut Vec<u8>,
+) -> Result<Measure, DiskFault>
+    requires blocks { ForSome (W.told world.old) (λ j. HasBlocks j.units cursor.old.unit cursor.old.total cursor.old.bsize) }
+    requires short { cursor.old.begun.longest ≤ longest_record }
+    requires size { longest_fit plan.now.style.fit cursor.old.begun.longest ≤ longest_record }
+    requires room { longest_fit plan.now.style.fit cursor.old.begun.longest ≤ vec_capacity buffer.old }
+    ensures measured { IfOk result (λ m. OfImage (W.told world.old) cursor.old.unit (λ image. (x : UnitFile)
+        → IsLeftAs table.now file.now image cursor.old x
+        → m ≡ measured plan.now.format (copies_in plan.now x.file.records))) }
+    ensures records { OnOk result (OfImage (W.told world.old) cursor.old.unit (λ image. (x : UnitFile)
+        → IsLeftAs table.now file.now image cursor.old x
+        → All (Fits V longest_record) (take plan.now.wanted x.file.records))) }
+    ensures fault { IfErr result (λ e. (e ≡ Device) ⊎ (e ≡ Altered)) }
+    ensures never { IfErr result (λ e. e ≡ Altered → OfImage (W.told world.old) cursor.old.unit (λ image. (records : List (List ℕ))
+        → HasLeft image cursor.old records → ⊥)) }
+    ensures capacity { vec_capacity buffer.old ≤ vec_capacity buffer.new }
+    ensures reads { OnlyReads (seen W.World world.old) (seen W.World world.new) Device result }
+{
+    match measure_told(table, file, plan) {
+        Some(measure) => Ok(measure),
+        None => measure_copies(world, cursor, plan, buffer),
+    }
 }

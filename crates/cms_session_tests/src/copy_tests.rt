@@ -617,19 +617,20 @@ fn files_grow(rt: HostRuntime) -> Result<(), Fail> {
     check_sessions(rt.alloc(), GROWN)
 }
 
-// The calls of the world in sessions. A file is read twice, the second time block by block as it is written; what is refused reads no more
-// than it must, and writes nothing. Where a call fails meanwhile the device is named on which it failed.
+// The calls of the world in sessions. A file is read once, block by block as it is written, where its
+// disk tells how long the copies are; else it is read twice. What is refused reads no more than it
+// must, and writes nothing. Where a call fails meanwhile the device is named on which it failed.
 const CALLS: &str = "# long records
 > COPYFILE L FILE A M FILE A
 R;
-! Done aarrrrinrrrrwrwrwwwwswsoi
+! Done aarrrrinrwrwrwwwwswsoi
 # four files + empty
 > ACCESS 192 B
 R;
 > COPYFILE * * A = = B
 CMS107E Disk B is full, 2 blocks needed, 1 free
 R(00100);
-! Done aarrrrrrrinrrronrrwwwswsrrwwwswsrooi
+! Done aarrrrrrrinrrronrwwwswsrwwwswsooi
 # letters
 > COPYFILE L FILE A O FILE A (FROM 4
 CMS121E File has only 3 records
@@ -675,6 +676,30 @@ R(00100);
 > STATE M FILE B
 CMS002E File M FILE B not found
 R(00028);
+# letters
+> COPYFILE L FILE A M FILE A (LRECL 4 UPCASE
+R;
+! Done aarrrrinrwwwswsoi
+# letters
+> COPYFILE L FILE A M FILE A (LRECL 3
+R;
+! Done aarrrrinrrwwwswsoi
+# letters
+> COPYFILE L FILE A M FILE A (FROM 2
+R;
+! Done aarrrrinrrwwwswsoi
+# letters
+> COPYFILE L FILE A M FILE A (TRUNC
+R;
+! Done aarrrrinrrwwwswsoi
+# letters
+> COPYFILE L FILE A M FILE A (TRUNC RECFM F FROM 2
+R;
+! Done aarrrrinrwwwswsoi
+# letters
+> COPYFILE L FILE A L FILE A (APPEND
+R;
+! Done aarrrrinrrwwwswsoi
 ";
 
 #[test]

@@ -261,8 +261,8 @@ ERASED 0
 R;
 ",
     // the attaching, the opening of A and the script; B is accessed; the procedure is written; it is read, and more is written; it runs:
-    // the file is read twice and written to B, and erased from A
-    calls: b"aarrrrinrrronwwwswsonrwwwswsonrnnrrwwwswsnnwwswsnooi",
+    // the file is read and written to B, and erased from A
+    calls: b"aarrrrinrrronwwwswsonrwwwswsonrnnrwwwswsnnwwswsnooi",
     look: [
         "191,512,rw,A 192,512,rw,B",
         "ACCESS 192 B\nLISTFILE * * * (ALLOC NOHEADER\nTYPE L FILE A (HEX\nTYPE L FILE B (HEX\nTYPE P EXEC A\n",
@@ -468,53 +468,53 @@ R;
 CMS105E Device fault on 191
 R(00100);
 # 32 33 written written
-# 34 35 written written
+# 34 34 written written
 R;
 R;
 R;
 CMS105E Device fault on 191
 R(00100);
-# 36 39 written written
+# 35 38 written written
 R;
 R;
 R;
 CMS105E Device fault on 192
 R(00100);
-# 40 40 written written dropped
+# 39 39 written written dropped
 R;
 R;
 R;
 CMS105E Device fault on 192
 R(00100);
-# 40 41 written copied
+# 39 40 written copied
 R;
 R;
 R;
 CMS105E Device fault on 192
 R(00100);
-# 42 43 copied copied
-# 44 46 copied copied
+# 41 42 copied copied
+# 43 45 copied copied
 R;
 R;
 R;
 CMS105E Device fault on 191
 ERASED 100
 R;
-# 47 47 copied copied dropped
+# 46 46 copied copied dropped
 R;
 R;
 R;
 CMS105E Device fault on 191
 ERASED 100
 R;
-# 47 48 copied moved
+# 46 47 copied moved
 R;
 R;
 R;
 CMS105E Device fault on 191
 ERASED 100
 R;
-# 49 52 moved moved
+# 48 51 moved moved
 ",
 };
 

@@ -15,8 +15,8 @@ use Rattle.cms_copyfile.proofs.FirstPass.{read_unread}
 use Rattle.cms_copyfile.proofs.OneRead.{whole}
 use Rattle.cms_copyfile.proofs.copy_file.copy_records.Goals as goal
 
-pub measure_copies-requires-clause-blocks : goal.measure_copies-requires-clause-blocks
-measure_copies-requires-clause-blocks g c =
+pub measure_input-measured-requires-clause-blocks : goal.measure_input-measured-requires-clause-blocks
+measure_input-measured-requires-clause-blocks g c =
     opened_blocks _ c.args.state.now.table c.args.file.now.found.letter c.args.file.now.found.name c.in_ok-input.input c.in_ok-input.ensures.opened c.requires.usable
 
 pub put_measured-requires-clause-usable : goal.put_measured-requires-clause-usable
@@ -31,13 +31,13 @@ returns-in-Ok-clause-acts g c = λ words.
     let line = c.args.line.now in
     let input = c.in_ok-input.input in
     let opened = c.in_ok-input.ensures.opened in
-    let mid = spot g.W.World c.measure_copies.new.world c.args.state.now in
+    let mid = spot g.W.World c.measure_input-measured.new.world c.args.state.now in
     let e = c.in-Ok.ensures in
     let told = e.reads.told in
     let read : HasRead (seen g.W.World c.args.world.now) mid.world = only_read _ _ _ _ e.reads in
     let planned = c.plan_of-plan.ensures ∙ ap (λ (z : FileForm). plan_of line.style z f.input.count) c.form-form.ensures in
     c.put_measured.ensures.acts (seen g.W.World c.args.world.now) words read
-    (measured_as mid line f (form_into line f) input c.in-Ok.measure c.plan_of-plan.result planned opened c.requires.style (rw told e.measured) (rw told e.records))
+    (measured_as mid line f (form_into line f) input c.in-Ok.measure c.plan_of-plan.result planned c.requires.file opened c.in_ok-input.ensures.short c.requires.style (rw told e.measured) (rw told e.records))
 
 pub returns-then-form-gt-LONGEST_RECORD-clause-acts : goal.returns-then-form-gt-LONGEST_RECORD-clause-acts
 returns-then-form-gt-LONGEST_RECORD-clause-acts g c = λ words.
@@ -59,7 +59,7 @@ returns-in_err-input-clause-acts g c = λ words.
 
 pub returns-clause-acts : goal.returns-clause-acts
 returns-clause-acts g c = λ words.
-    let mid = spot g.W.World c.measure_copies.new.world c.args.state.now in
+    let mid = spot g.W.World c.measure_input-measured.new.world c.args.state.now in
     let new = spot g.W.World c.stop_unread.new.world c.args.state.now in
     let e = c.in-Err.ensures in
     read_unread (seen g.W.World c.args.world.now) mid words c.args.line.now c.args.file.now c.in_ok-input.input (only_read _ _ _ _ e.reads) c.requires.file c.in_ok-input.ensures.opened new

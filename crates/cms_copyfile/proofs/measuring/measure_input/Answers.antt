@@ -1,0 +1,21 @@
+use Rattle.std.proofs.Common.{◌≡◌, List, ℕ, All, take, refl}
+use Rattle.std.proofs.lemmas.List.Elements.{All-take}
+use Rattle.cms_fields.specs.Limits.{longest_record}
+use Rattle.cms_names.specs.declared.name.Format.TheVariants.{V}
+use Rattle.cms_model.specs.Records.{Fits}
+use Rattle.cms_disk.proofs.Finding.{ok_maps}
+use Rattle.cms_copyfile.proofs.ToldLengths.{each_told, on_ok_maps}
+use Rattle.cms_copyfile.proofs.measuring.measure_input.Goals as goal
+
+pub returns-in-Some-clause-measured : goal.returns-in-Some-clause-measured
+returns-in-Some-clause-measured g c = λ j is x left. c.in-Some.ensures.measured left.machine x left.shows left.found
+
+pub returns-in-Some-clause-records : goal.returns-in-Some-clause-records
+returns-in-Some-clause-records g c = λ j is x left.
+    All-take (Fits V longest_record) c.args.plan.now.wanted x.file.records (each_told left.machine c.args.file.now x c.in-Some.ensures.some c.in-Some.ensures.short left.found)
+
+pub returns-in-None-clause-measured : goal.returns-in-None-clause-measured
+returns-in-None-clause-measured g c = ok_maps _ _ c.measure_copies.result (λ m measures j is x left. measures j is x.file.records left.left) c.measure_copies.ensures.measured
+
+pub returns-in-None-clause-records : goal.returns-in-None-clause-records
+returns-in-None-clause-records g c = on_ok_maps c.measure_copies.result _ _ (λ each j is x left. each j is x.file.records left.left) c.measure_copies.ensures.records

@@ -1,0 +1,14 @@
+use Rattle.std.proofs.Common.{rules, ◌≡◌, ◌≤◌, ◌+◌, ◌*◌, ℕ, arith, refl}
+use Rattle.cms_copyfile.proofs.ToldLengths.{none_measure, some_measure}
+use Rattle.cms_copyfile.proofs.told.measure_equal.Goals as goal
+
+pub returns-then-count-eq0 : goal.returns-then-count-eq0
+returns-then-count-eq0 c = λ records each many.
+    none_measure c.args.format c.args.size c.args.count c.head_bytes.result _ records each many c.head_bytes.ensures.stored (rw (c.from.ensures, c.from-2.ensures, c.from-3.ensures) refl)
+    (search rules)
+
+pub returns-else-count-eq0 : goal.returns-else-count-eq0
+returns-else-count-eq0 c = λ records each many.
+    let other = c.if-count-eq0.false in
+    some_measure c.args.format c.args.size c.args.count c.head_bytes.result _ records each many c.head_bytes.ensures.stored (rw (c.from.ensures, c.from-2.ensures, c.from-3.ensures) refl)
+    (omega (arith, other))
