@@ -238,10 +238,16 @@ def opened(image, size):
     return reader, reader.read()
 
 
+def told(reader, found):
+    """The entries of files as they are written: at V each tells the length of its longest record, whatever stood there."""
+    longest = (max(map(len, file.records)) for file in found.files.values())
+    return [row[:32] + struct.pack(">I", length) + row[36:] for row, length in zip(reader.rows[2:], longest)]
+
+
 def put(image, size, key, file, date, mode=0xF1):
     """The writes of a file that is put: it takes the place of the one of its name, or stands last."""
     reader, found = opened(image, size)
-    rows, place, gone = list(reader.rows[2:]), len(found.files), set()
+    rows, place, gone = told(reader, found), len(found.files), set()
     if key in found.files:
         place = list(found.files).index(key)
         gone, mode = set(reader.trees[place + 2]), rows[place][25]
@@ -254,7 +260,7 @@ def put(image, size, key, file, date, mode=0xF1):
 def append(image, size, key, more, date):
     """The writes of records that are added to the file of a name: its full data blocks stay."""
     reader, found = opened(image, size)
-    rows, place, old = list(reader.rows[2:]), list(found.files).index(key), found.files[key]
+    rows, place, old = told(reader, found), list(found.files).index(key), found.files[key]
     file = File(old.form, [*old.records, *more])
     before, pointers = reader.levels(Row.of(rows[place]))
     kept, count = len(old.data()[0]) // size, up(len(file.data()[0]), size)
@@ -263,7 +269,7 @@ def append(image, size, key, more, date):
 
 
 def erased(reader, found, key):
-    rows, place = list(reader.rows[2:]), list(found.files).index(key)
+    rows, place = told(reader, found), list(found.files).index(key)
     made = {0, place + 2, len(rows) + 1}
     rows[place] = rows[-1]
     return Edit(rows[:-1], made, set(reader.trees[place + 2]))
@@ -284,7 +290,7 @@ def erase_needs(image, size, key):
 def rename(image, size, key, name, date):
     """The writes of a file that gets another name."""
     reader, found = opened(image, size)
-    rows, place = list(reader.rows[2:]), list(found.files).index(key)
+    rows, place = told(reader, found), list(found.files).index(key)
     rows[place] = b"".join(part.ljust(8).encode("cp037") for part in name) + rows[place][16:]
     return writes(reader, found, Edit(rows, {0, place + 2}, set()), date)
 
@@ -302,7 +308,7 @@ def moved(row, pivot):
 def century(image, size, pivot, date):
     """The writes of stamps that are moved: all entries are made anew."""
     reader, found = opened(image, size)
-    rows = [moved(row, pivot) for row in reader.rows[2:]]
+    rows = [moved(row, pivot) for row in told(reader, found)]
     return writes(reader, found, Edit(rows, set(range(len(rows) + 2)), set()), date)
 
 
@@ -327,8 +333,8 @@ YEARS = (0x00, 0x01, 0x69, 0x70, 0x99)
 
 def odd(image, size, chosen):
     """The image with other bytes where none is read: in the words of V's pointers, behind a pointer block's last pointer and a file's last
-    record, in entries between their fields and behind the last, in the bits of their flags that tell nothing, and in the bits of blocks 1 to 5
-    and behind the last block. Its files have stamps of some years of both centuries."""
+    record, in entries between their fields and behind the last, in the record length of V's, in the bits of their flags that tell nothing, and
+    in the bits of blocks 1 to 5 and behind the last block. Its files have stamps of some years of both centuries."""
     reader, found = opened(image, size)
     after = bytearray(image)
 
@@ -351,7 +357,7 @@ def odd(image, size, chosen):
             left = len(list(found.files.values())[place - 2].data()[0]) % size
             scatter(tiers[0][-1], left or size, size)
         entry_at = (reader.levels(Row.of(reader.rows[0]))[0][0][ENTRY * place // size], ENTRY * place % size)
-        for start, end in ((16, 25), (26, 30), (36, 40), (60, 64)):
+        for start, end in ((16, 25), (26, 30), (36 if row.form == 0xC6 else 32, 40), (60, 64)):
             scatter(entry_at[0], entry_at[1] + start, entry_at[1] + end)
         stamp = (entry_at[0] - 1) * size + entry_at[1]
         after[stamp + 31], after[stamp + 54] = chosen.randrange(256), chosen.choice(YEARS)
@@ -430,6 +436,16 @@ def tries(image, size, chosen):
         yield Try(f"century {pivot}", century(image, size, pivot, DATE), files, later)
 
 
+def untold(image, size, written):
+    """A file whose entry stands in a written block and tells another length than that of its longest record, if there is one."""
+    reader, found = opened(image, size)
+    leaves = reader.levels(Row.of(reader.rows[0]))[0][0]
+    for place, (row, should) in enumerate(zip(reader.rows[2:], told(reader, found)), 2):
+        if leaves[ENTRY * place // size] in written and row != should:
+            return list(found.files)[place - 2]
+    return None
+
+
 def is_wrong(image, size, update):
     """What is wrong with what is foretold of an update, if anything is."""
     reader, before = opened(image, size)
@@ -437,6 +453,8 @@ def is_wrong(image, size, update):
     stands = {number for tree in reader.trees for number in tree} | {before.origin}
     if list(after.files.items()) != list(update.files.items()):
         return "the files are others"
+    if untold(done(image, size, update.blocks), size, {number for number, _ in update.blocks}):
+        return "an entry tells another length than that of its longest record"
     if update.years not in (None, years(done(image, size, update.blocks), size)):
         return "the years are others"
     if stands & {number for number, _ in update.blocks}:

@@ -219,13 +219,14 @@ made_bad old now last t places line volid unit stamp r x may when formatted is k
 
 -- or there was no memory
 pub made_starved : (old : Spot) (now : Seen) (t : Accesses) (st : State) (line : FormatLine) (volid : List ℕ) (unit : UnitInfo) (stamp : Stamp) (r : Result ⊤ DiskFault) (e : End)
-    → MayRemake old.state line unit → Formatted old now t line volid unit stamp r → made_of r ≡ Err e
+    → MayRemake old.state line unit → Formatted old now t line volid unit stamp r → made_of r ≡ Err e → st.table ≡ t
     → Acts {T = declared.Course} old (spot_at now st) (remaking_tree old.state line volid) (Err e) (course_of st)
-made_starved old now t st line volid unit stamp r e may formatted is =
+made_starved old now t st line volid unit stamp r e may formatted is there =
     let p = placed old.state line unit may in
     let f = formatted p.place unit p.place_is p.unit_is in
     let w = was_starved f.made e (ap made_of (sym f.answer) ∙ is) f.fault in
     let told = subst (λ (x : Result Accessed DiskFault). IfErr x (λ why. why ≡ failed.Memory → now.told ≡ old.world.told)) w.0 f.nothing refl in
     let edges = f.changes.edges in
     let none = w.1 in
-    rw none (cut_off old (spot_at now st) (remaking_tree old.state line volid) (course_of st) told f.changes.faults (omega (arith, edges)))
+    let same = there ∙ f.table ∙ ap (λ (m : Result Accessed DiskFault). table_made old.state.table p.place unit line.letter m) w.0 in
+    rw none (cut_off old (spot_at now st) (remaking_tree old.state line volid) (course_of st) told f.changes.faults (omega (arith, edges)) same)

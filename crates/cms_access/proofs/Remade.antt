@@ -4,7 +4,6 @@ use Rattle.std.specs.Prelude.{IfOk, Bool, true, false, ◌==◌, Option, Some, N
 use Rattle.std.proofs.lemmas.Bool.{eq-eqb}
 use Rattle.std.proofs.lemmas.Option.{same_Some, slice_get_within}
 use Rattle.cms_journal.specs.declared.event.Event.{Event}
-use Rattle.cms_journal.specs.declared.event.Attached.{Attached}
 use Rattle.cms_journal.specs.Causes.{Counted}
 use Rattle.cms_journal.specs.Journal.{Journal}
 use Rattle.cms_journal.specs.Told.{IsOfUnit, OnlyOf, Told, plus}
@@ -35,11 +34,13 @@ use Rattle.cms_line.specs.declared.message.Message.TheVariants.{M105, M733}
 use Rattle.cms_world.specs.Seen.{ChangesUnits}
 use Rattle.cms_disk.specs.Changing.{HasState, IsDevices, IsWholeAt}
 use Rattle.cms_disk.specs.Disks.{Accessed, IsMinidisk, IsOn, IsQuiet, disk_on}
+use Rattle.cms_disk.specs.Leaving.{LooksAs}
 use Rattle.cms_disk.specs.Making as makes
 use Rattle.cms_disk.specs.Making.{Doubted, Emptied, Formats, IsReady, Made, empty_on}
 use Rattle.cms_disk.specs.declared.fault.DiskFault.{DiskFault}
 use Rattle.cms_disk.specs.declared.fault.DiskFault.TheVariants as failed
 use Rattle.cms_disk.specs.declared.unit.UnitInfo.{UnitInfo}
+use Rattle.cms_disk.proofs.Leaving.{covers_looked}
 use Rattle.cms_search.specs.Calls.{Comes, Holds, IsLater, IsSeatOf, IsUsable, IsUsableTable, Spot, Usable, at, holds, machine_of, refusal_tree}
 use Rattle.cms_search.specs.Formatting as formatting
 use Rattle.cms_search.specs.Formatting.{table_made}
@@ -173,7 +174,6 @@ found old units u unit has sure h =
       before = state_in line.slot;
       slot = line.there ∙ ap (λ (x : Slot). Some x) (is_settled line.slot stands.0);
       ready = record {
-        seen = line.seen;
         whole = subst (λ (v : ℕ). IsWhole (disk_on unit) (now j v)) (sym line.number) line.whole;
         quiet = subst (λ (v : ℕ). IsQuiet (disk_on unit) j v) (sym line.number) stands.1;
         state = ap (λ (v : ℕ). state_of (disk_on unit) (now j v)) line.number ∙ ap (λ (k : volumes.Disk). state_of k (now j u)) (sym seen) ∙ sym state;
@@ -188,7 +188,7 @@ found old units u unit has sure h =
 
 -- what is looked at of the unit
 abbrev Sees : Journal → ℕ → UnitInfo → Type 0
-Sees j u unit = (at : Attached) → slice_get j.units u ≡ Some at → volumes.disk_of at ≡ disk_on unit
+Sees j u unit = LooksAs j u (disk_on unit)
 
 -- its contents have the state that is told of them
 has_state : (new : Told) (j : Journal) (es : List Event) (u : ℕ) (unit : UnitInfo) (state x : disks.State) → new ≡ Some (after j es) → Sees j u unit → HasState new (disk_on unit) u state
@@ -214,7 +214,8 @@ did_ran p m j unit before s o k is sees d there speaks units counted console obj
     let slot : slice_get m.units u ≡ Some (slot_after (Settled before) s o) = ap (λ (l : List Slot). slice_get l u) units ∙ slot_then p.units before s o there in
     let first : unit_set p.units u ≡ set_of (Settled before) = rw there refl in
     let behind : unit_set m.units u ≡ set_of (slot_after (Settled before) s o) = rw slot refl in
-    let covers : Covers p.journal d.events u (unit_set p.units u) (unit_set m.units u) = rw (first, behind) d.covers in
+    let seen = covers_looked (disk_on unit) p.journal j d.events u (set_of (Settled before)) (set_of (slot_after (Settled before) s o)) is sees d.covers in
+    let covers : Covers p.journal d.events u (unit_set p.units u) (unit_set m.units u) = rw (first, behind) seen in
     ran_step p m s o k d.events d.told counted d.of_unit d.fits speaks units console objects (λ sound. covers)
     (λ sound x has. ap (λ (z : Option Slot). option_map state_in z) slot
     ∙ ap (λ (y : disks.State). Some y) (has_state m.journal j d.events u unit (state_in (slot_after (Settled before) s o)) x (told_after p.journal m.journal j d.events is d.told) sees d.left has))
@@ -243,7 +244,7 @@ touched old new j units unit before s o is sees d there = record {
   others = λ v apart. other_slot units (unit_of s) v (new_slot s o) apart;
   long = units_put units (unit_of s) (new_slot s o);
   whole = d.whole;
-  crash = λ x left. d.covers.whole x (subst (λ (t : Told). Leaves t (unit_of s) x) d.told left);
+  crash = λ x left. (covers_looked (disk_on unit) old j d.events (unit_of s) (set_of (Settled before)) (set_of (slot_after (Settled before) s o)) is sees d.covers).whole x (subst (λ (t : Told). Leaves t (unit_of s) x) d.told left);
   has = λ x has. has_state new j d.events (unit_of s) unit (state_in (slot_after (Settled before) s o)) x (told_after old new j d.events is d.told) sees d.left has;
 }
 

@@ -57,7 +57,8 @@ fn refuse_no_volume<W: World>(
     reason: u32,
 ) -> Result<Course, End>
     ensures does { Does (seen W.World world.old) (seen W.World world.new)
-        (saying (typed_line (message_text (M112 (device_text vdev) (decimal_of reason))))) result said }
+        (saying (typed_line (message_text (M112 (device_text vdev) (decimal_of reason))))) result
+        said }
     ensures went { IfOk result (λ course. course ≡ Went (pos no_disk)) }
 {
     let device = device_word(alloc, vdev)?;
@@ -73,7 +74,8 @@ fn tell_read_only<W: World>(
     letter: u8,
 ) -> Result<Course, End>
     ensures does { Does (seen W.World world.old) (seen W.World world.new)
-        (saying (typed_line (message_text (M723 (letter_text letter) (device_text vdev))))) result said }
+        (saying (typed_line (message_text (M723 (letter_text letter) (device_text vdev))))) result
+        said }
     ensures went { IfOk result (λ course. course ≡ Went (pos 0)) }
 {
     let word = letter_word(alloc, letter)?;
@@ -92,7 +94,8 @@ fn tell_done<W: World>(
     read_only: bool,
 ) -> Result<Course, End>
     ensures { Acts (spot W.World world.old state.now) (spot W.World world.new state.now)
-        (λ units. spec.told (machine_of state.now units) vdev letter read_only) result (course_of state.now) }
+        (λ units. spec.told (machine_of state.now units) vdev letter read_only) result
+        (course_of state.now) }
 {
     if read_only {
         return tell_read_only(alloc, world, vdev, letter);
@@ -110,7 +113,8 @@ fn tell<W: World>(
     end: AccessEnd,
 ) -> Result<Course, End>
     ensures { Acts (spot W.World world.old state.now) (spot W.World world.new state.now)
-        (λ units. spec.answered (machine_of state.now units) vdev letter end) result (course_of state.now) }
+        (λ units. spec.answered (machine_of state.now units) vdev letter end) result
+        (course_of state.now) }
 {
     match end {
         AccessEnd::NoUnit => refuse_no_device(alloc, world, vdev),
@@ -132,7 +136,10 @@ fn access_disk<W: World>(
     requires letter { line.mode.letter < 26 }
     ensures acts { Acts (spot W.World world.old state.old) (spot W.World world.new state.new)
         (λ units. spec.access_disk (machine_of state.old units) line) result (course_of state.new) }
-    ensures kept { state.new ≡ record state.old { table = state.new.table; places = state.new.places } }
+    ensures kept { state.new ≡ record state.old {
+      table = state.new.table;
+      places = state.new.places;
+    } }
 {
     let letter = line.mode.letter;
     let end = state.access(alloc, world, line.vdev, letter, line.mode.ext)?;
@@ -149,7 +156,10 @@ pub fn run_access<W: World>(
     requires { IsUsable (spot W.World world.old state.old) }
     ensures acts { Acts (spot W.World world.old state.old) (spot W.World world.new state.new)
         (λ units. spec.access (machine_of state.old units) words.now) result (course_of state.new) }
-    ensures kept { state.new ≡ record state.old { table = state.new.table; places = state.new.places } }
+    ensures kept { state.new ≡ record state.old {
+      table = state.new.table;
+      places = state.new.places;
+    } }
 {
     match access_line(alloc, words) {
         Ok(line) => access_disk(alloc, world, state, line),

@@ -53,12 +53,17 @@ fn move_stamps<W: World>(
     line: CenturyLine,
 ) -> Result<Course, End>
     requires usable { IsUsable (spot W.World world.old state.old) }
-    requires writing { writing (item_at (letters_of state.old.table) line.letter) line.letter ≡ Ok tt }
+    requires writing { writing (item_at (letters_of state.old.table) line.letter) line.letter
+        ≡ Ok tt }
     requires pivot { line.pivot ≤ 100 }
     requires moment { is_moment state.old.moment ≡ true }
     ensures acts { Acts (spot W.World world.old state.old) (spot W.World world.new state.new)
-        (λ units. spec.moving_stamps line (machine_of state.old units)) result (course_of state.new) }
-    ensures kept { state.new ≡ record state.old { table = state.new.table; places = state.new.places } }
+        (λ units. spec.moving_stamps line (machine_of state.old units)) result
+        (course_of state.new) }
+    ensures kept { state.new ≡ record state.old {
+      table = state.new.table;
+      places = state.new.places;
+    } }
 {
     let change = Change::Century { pivot: line.pivot };
     let changed = change_disk(alloc, world, state, line.letter, &change)?;
@@ -76,8 +81,12 @@ fn century_disk<W: World>(
     requires pivot { line.pivot ≤ 100 }
     requires moment { is_moment state.old.moment ≡ true }
     ensures acts { Acts (spot W.World world.old state.old) (spot W.World world.new state.new)
-        (λ units. spec.century_letter (machine_of state.old units) line) result (course_of state.new) }
-    ensures kept { state.new ≡ record state.old { table = state.new.table; places = state.new.places } }
+        (λ units. spec.century_letter (machine_of state.old units) line) result
+        (course_of state.new) }
+    ensures kept { state.new ≡ record state.old {
+      table = state.new.table;
+      places = state.new.places;
+    } }
 {
     let Some(seat) = state.table.seat(line.letter) else {
         return refuse_not_accessed(alloc, world, line.letter);
@@ -98,8 +107,12 @@ pub fn run_century<W: World>(
     requires usable { IsUsable (spot W.World world.old state.old) }
     requires moment { is_moment state.old.moment ≡ true }
     ensures acts { Acts (spot W.World world.old state.old) (spot W.World world.new state.new)
-        (λ units. spec.century (machine_of state.old units) words.now) result (course_of state.new) }
-    ensures kept { state.new ≡ record state.old { table = state.new.table; places = state.new.places } }
+        (λ units. spec.century (machine_of state.old units) words.now) result
+        (course_of state.new) }
+    ensures kept { state.new ≡ record state.old {
+      table = state.new.table;
+      places = state.new.places;
+    } }
 {
     match century_line(alloc, words) {
         Ok(line) => century_disk(alloc, world, state, line),

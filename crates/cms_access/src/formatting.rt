@@ -69,8 +69,12 @@ fn relabel_as<W: World>(
     requires writing { writing (item_at (letters_of state.old.table) letter) letter ≡ Ok tt }
     requires moment { is_moment state.old.moment ≡ true }
     ensures acts { Acts (spot W.World world.old state.old) (spot W.World world.new state.new)
-        (λ units. spec.relabelling letter (machine_of state.old units) volid) result (course_of state.new) }
-    ensures kept { state.new ≡ record state.old { table = state.new.table; places = state.new.places } }
+        (λ units. spec.relabelling letter (machine_of state.old units) volid) result
+        (course_of state.new) }
+    ensures kept { state.new ≡ record state.old {
+      table = state.new.table;
+      places = state.new.places;
+    } }
 {
     let changed = change_disk(alloc, world, state, letter, &Change::Relabel { volid })?;
     tell_change(alloc, world, state, letter, changed)
@@ -87,7 +91,8 @@ fn relabel_disk<W: World>(
     requires writing { writing (item_at (letters_of state.old.table) letter) letter ≡ Ok tt }
     requires moment { is_moment state.old.moment ≡ true }
     ensures acts { Acts (spot W.World world.old state.old) (spot W.World world.new state.new)
-        (λ units. spec.asking_relabel letter (machine_of state.old units)) result (course_of state.new) }
+        (λ units. spec.asking_relabel letter (machine_of state.old units)) result
+        (course_of state.new) }
     ensures moment { state.new.moment ≡ state.old.moment }
     ensures offset { state.new.offset ≡ state.old.offset }
     ensures left { state.new.left ≤ state.old.left }
@@ -108,7 +113,8 @@ fn relabel<W: World>(
     requires usable { IsUsable (spot W.World world.old state.old) }
     requires moment { is_moment state.old.moment ≡ true }
     ensures acts { Acts (spot W.World world.old state.old) (spot W.World world.new state.new)
-        (λ units. spec.relabel (machine_of state.old units) line (letter_at (machine_of state.old units) line.letter))
+        (λ units. spec.relabel (machine_of state.old units) line
+        (letter_at (machine_of state.old units) line.letter))
         result (course_of state.new) }
     ensures moment { state.new.moment ≡ state.old.moment }
     ensures offset { state.new.offset ≡ state.old.offset }
@@ -157,8 +163,13 @@ fn ask_whether<W: World>(
     line: FormatLine,
 ) -> Result<Asked, End>
     ensures acts { Acts (spot W.World world.old state.old) (spot W.World world.new state.new)
-        (question_tree state.old (M603 (letter_text line.letter) (device_text line.vdev))) result (asked_of state.new) }
-    ensures kept { state.new ≡ record state.old { stack = state.new.stack; console = state.new.console; left = state.new.left } }
+        (question_tree state.old (M603 (letter_text line.letter) (device_text line.vdev))) result
+        (asked_of state.new) }
+    ensures kept { state.new ≡ record state.old {
+      stack = state.new.stack;
+      console = state.new.console;
+      left = state.new.left;
+    } }
     ensures left { state.new.left ≤ state.old.left }
 {
     let letter = letter_word(alloc, line.letter)?;
@@ -178,7 +189,8 @@ fn ask_first<W: World>(
     requires may { MayRemake state.old line unit.now }
     requires moment { is_moment state.old.moment ≡ true }
     ensures acts { Acts (spot W.World world.old state.old) (spot W.World world.new state.new)
-        (λ units. spec.asking_first (machine_of state.old units) line (spec.erasing line)) result (course_of state.new) }
+        (λ units. spec.asking_first (machine_of state.old units) line (spec.erasing line)) result
+        (course_of state.new) }
     ensures moment { state.new.moment ≡ state.old.moment }
     ensures offset { state.new.offset ≡ state.old.offset }
     ensures left { state.new.left ≤ state.old.left }
@@ -208,7 +220,8 @@ fn format_unit<W: World>(
     requires letter { line.letter < 26 }
     requires moment { is_moment state.old.moment ≡ true }
     ensures acts { Acts (spot W.World world.old state.old) (spot W.World world.new state.new)
-        (λ units. spec.formatting (machine_of state.old units) line (device_of unit.now)) result (course_of state.new) }
+        (λ units. spec.formatting (machine_of state.old units) line (device_of unit.now)) result
+        (course_of state.new) }
     ensures moment { state.new.moment ≡ state.old.moment }
     ensures offset { state.new.offset ≡ state.old.offset }
     ensures left { state.new.left ≤ state.old.left }
@@ -233,7 +246,8 @@ fn format_disk<W: World>(
     requires letter { asked.line.letter < 26 }
     requires moment { is_moment state.old.moment ≡ true }
     ensures acts { Acts (spot W.World world.old state.old) (spot W.World world.new state.new)
-        (λ units. spec.format_disk (machine_of state.old units) asked) result (course_of state.new) }
+        (λ units. spec.format_disk (machine_of state.old units) asked) result
+        (course_of state.new) }
     ensures moment { state.new.moment ≡ state.old.moment }
     ensures offset { state.new.offset ≡ state.old.offset }
     ensures left { state.new.left ≤ state.old.left }

@@ -81,7 +81,8 @@ fn header() -> [u8; 56]
 // Types the rooms of all disks.
 fn tell_disks<W: World>(alloc: Global, world: &mut W, table: &Table) -> Result<Course, End>
     ensures does { Does (seen W.World world.old) (seen W.World world.new)
-        (typing (spec.header ∷ lines_from (λ n. seat_lines shown.Disk table.now n) 0 26) (Done tt)) result said }
+        (typing (spec.header ∷ lines_from (λ n. seat_lines shown.Disk table.now n) 0 26) (Done tt))
+        result said }
     ensures went { IfOk result (λ course. course ≡ Went (pos 0)) }
 {
     say(world, &header())?;
@@ -108,7 +109,8 @@ fn tell_disk<W: World>(
 // Types how all disks are searched.
 fn tell_search<W: World>(alloc: Global, world: &mut W, table: &Table) -> Result<Course, End>
     ensures does { Does (seen W.World world.old) (seen W.World world.new)
-        (typing (lines_from (λ n. seat_lines shown.Search table.now n) 0 26) (Done tt)) result said }
+        (typing (lines_from (λ n. seat_lines shown.Search table.now n) 0 26) (Done tt)) result
+        said }
     ensures went { IfOk result (λ course. course ≡ Went (pos 0)) }
 {
     type_disks(alloc, world, table, Shown::Search)?;
@@ -123,7 +125,8 @@ fn tell_letter<W: World>(
     letter: u8,
 ) -> Result<Course, End>
     ensures { Acts (spot W.World world.old state.now) (spot W.World world.new state.now)
-        (λ units. spec.query_letter (machine_of state.now units) letter (letter_at (machine_of state.now units) letter))
+        (λ units. spec.query_letter (machine_of state.now units) letter
+        (letter_at (machine_of state.now units) letter))
         result (course_of state.now) }
 {
     if let None = state.table.seat(letter) {
@@ -140,7 +143,8 @@ fn tell_rooms<W: World>(
     letter: Option<u8>,
 ) -> Result<Course, End>
     ensures { Acts (spot W.World world.old state.now) (spot W.World world.new state.now)
-        (λ units. spec.answer (machine_of state.now units) (asked.Disks letter)) result (course_of state.now) }
+        (λ units. spec.answer (machine_of state.now units) (asked.Disks letter)) result
+        (course_of state.now) }
 {
     match letter {
         None => tell_disks(alloc, world, &state.table),

@@ -108,7 +108,11 @@ pub fn question<W: World>(
 ) -> Result<Asked, End>
     ensures acts { Acts (spot W.World world.old state.old) (spot W.World world.new state.new)
         (question_tree state.old message) result (asked_of state.new) }
-    ensures kept { state.new ≡ record state.old { stack = state.new.stack; console = state.new.console; left = state.new.left } }
+    ensures kept { state.new ≡ record state.old {
+      stack = state.new.stack;
+      console = state.new.console;
+      left = state.new.left;
+    } }
     ensures left { state.new.left ≤ state.old.left }
 {
     say_message(alloc, world, message)?;
@@ -119,7 +123,11 @@ pub fn question<W: World>(
 pub fn ask_label<W: World>(alloc: Global, world: &mut W, state: &mut State) -> Result<Label, End>
     ensures acts { Acts (spot W.World world.old state.old) (spot W.World world.new state.new)
         (label_tree state.old) result (labelling_of state.new) }
-    ensures kept { state.new ≡ record state.old { stack = state.new.stack; console = state.new.console; left = state.new.left } }
+    ensures kept { state.new ≡ record state.old {
+      stack = state.new.stack;
+      console = state.new.console;
+      left = state.new.left;
+    } }
     ensures left { state.new.left ≤ state.old.left }
 {
     match question(alloc, world, state, Message::M605)? {

@@ -41,9 +41,13 @@ fn release_letter<W: World>(
     letter: u8,
 ) -> Result<Course, End>
     ensures acts { Acts (spot W.World world.old state.old) (spot W.World world.new state.new)
-        (λ units. spec.release_letter (machine_of state.old units) letter (letter_at (machine_of state.old units) letter))
+        (λ units. spec.release_letter (machine_of state.old units) letter
+        (letter_at (machine_of state.old units) letter))
         result (course_of state.new) }
-    ensures kept { state.new ≡ record state.old { table = state.new.table; places = state.new.places } }
+    ensures kept { state.new ≡ record state.old {
+      table = state.new.table;
+      places = state.new.places;
+    } }
 {
     match state.release(letter) {
         Ok(()) => Ok(Course::Went(0)),
@@ -59,7 +63,8 @@ fn refuse_unaccessed<W: World>(
     vdev: u16,
 ) -> Result<Course, End>
     ensures { Acts (spot W.World world.old state.now) (spot W.World world.new state.now)
-        (λ units. spec.release_unit (machine_of state.now units) vdev None) result (course_of state.now) }
+        (λ units. spec.release_unit (machine_of state.now units) vdev None) result
+        (course_of state.now) }
 {
     let device = device_word(alloc, vdev)?;
     refuse(alloc, world, Message::M069(device), NO_DISK)
@@ -73,9 +78,13 @@ fn release_device<W: World>(
     vdev: u16,
 ) -> Result<Course, End>
     ensures acts { Acts (spot W.World world.old state.old) (spot W.World world.new state.new)
-        (λ units. spec.release_device (machine_of state.old units) vdev (unit_with vdev (machine_of state.old units).devices))
+        (λ units. spec.release_device (machine_of state.old units) vdev
+        (unit_with vdev (machine_of state.old units).devices))
         result (course_of state.new) }
-    ensures kept { state.new ≡ record state.old { table = state.new.table; places = state.new.places } }
+    ensures kept { state.new ≡ record state.old {
+      table = state.new.table;
+      places = state.new.places;
+    } }
 {
     if let None = state.table.unit(vdev) {
         return refuse_no_device(alloc, world, vdev);
@@ -94,8 +103,12 @@ fn release_disk<W: World>(
     target: Target,
 ) -> Result<Course, End>
     ensures acts { Acts (spot W.World world.old state.old) (spot W.World world.new state.new)
-        (λ units. spec.release_disk (machine_of state.old units) target) result (course_of state.new) }
-    ensures kept { state.new ≡ record state.old { table = state.new.table; places = state.new.places } }
+        (λ units. spec.release_disk (machine_of state.old units) target) result
+        (course_of state.new) }
+    ensures kept { state.new ≡ record state.old {
+      table = state.new.table;
+      places = state.new.places;
+    } }
 {
     match target {
         Target::Device(vdev) => release_device(alloc, world, state, vdev),
@@ -111,8 +124,12 @@ pub fn run_release<W: World>(
     words: &Tokens,
 ) -> Result<Course, End>
     ensures acts { Acts (spot W.World world.old state.old) (spot W.World world.new state.new)
-        (λ units. spec.release (machine_of state.old units) words.now) result (course_of state.new) }
-    ensures kept { state.new ≡ record state.old { table = state.new.table; places = state.new.places } }
+        (λ units. spec.release (machine_of state.old units) words.now) result
+        (course_of state.new) }
+    ensures kept { state.new ≡ record state.old {
+      table = state.new.table;
+      places = state.new.places;
+    } }
 {
     match release_line(alloc, words) {
         Ok(target) => release_disk(alloc, world, state, target),

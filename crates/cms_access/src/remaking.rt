@@ -56,7 +56,10 @@ fn tell_made<W: World>(
     blocks: u32,
 ) -> Result<Course, End>
     ensures does { Does (seen W.World world.old) (seen W.World world.new)
-        (saying (typed_line (message_text (M733 (decimal_of blocks) (letter_text line.letter) (device_text line.vdev))))) result said }
+        (saying (typed_line
+        (message_text
+        (M733 (decimal_of blocks) (letter_text line.letter) (device_text line.vdev))))) result
+        said }
     ensures went { IfOk result (λ course. course ≡ Went (pos 0)) }
 {
     let blocks = decimal(alloc, blocks)?;
@@ -80,8 +83,12 @@ pub fn remake_disk<W: World>(
     requires may { MayRemake state.old line unit.now }
     requires moment { is_moment state.old.moment ≡ true }
     ensures acts { Acts (spot W.World world.old state.old) (spot W.World world.new state.new)
-        (λ units. spec.remaking line (machine_of state.old units) volid) result (course_of state.new) }
-    ensures kept { state.new ≡ record state.old { table = state.new.table; places = state.new.places } }
+        (λ units. spec.remaking line (machine_of state.old units) volid) result
+        (course_of state.new) }
+    ensures kept { state.new ≡ record state.old {
+      table = state.new.table;
+      places = state.new.places;
+    } }
 {
     let seat = state.table.seat(line.letter);
     let stamp = Stamp::of(&state.moment);

@@ -66,7 +66,8 @@ fn add_number(
     width: usize,
     number: u32,
 ) -> Result<(), AllocError>
-    ensures { OnOk result (line.new.items ≡ line.old.items ++ 0x40 ∷ right_in width (decimal_of number)) }
+    ensures { OnOk result (line.new.items
+        ≡ line.old.items ++ 0x40 ∷ right_in width (decimal_of number)) }
 {
     let digits = decimal(alloc, number)?;
     add_right(alloc, line, width, digits.bytes())
@@ -74,7 +75,8 @@ fn add_number(
 
 // The label and the device.
 fn disk_head(alloc: Global, vdev: u16, volid: &[u8; 6]) -> Result<Vec<u8>, AllocError>
-    ensures { IfOk result (λ line. line.items ≡ spaced (left_in 6 volid.now ∷ device_text vdev ∷ [])) }
+    ensures { IfOk result (λ line. line.items
+        ≡ spaced (left_in 6 volid.now ∷ device_text vdev ∷ [])) }
 {
     let mut line = first_column(alloc, 6, volid)?;
     add_left(alloc, &mut line, 3, &device_text(vdev))?;
@@ -88,7 +90,8 @@ fn disk_columns(
     seat: &Seat,
     volid: &[u8; 6],
 ) -> Result<Vec<u8>, AllocError>
-    ensures { IfOk result (λ line. line.items ≡ spaced (left_in 6 volid.now ∷ device_text seat.now.vdev ∷ letter_text letter
+    ensures { IfOk result (λ line. line.items
+        ≡ spaced (left_in 6 volid.now ∷ device_text seat.now.vdev ∷ letter_text letter
         ∷ spec.status seat.now.read_only ∷ [])) }
 {
     let mut line = disk_head(alloc, seat.vdev, volid)?;
@@ -99,8 +102,10 @@ fn disk_columns(
 
 // Adds the blocks that aren't free, that are free, and that there are.
 fn add_blocks(alloc: Global, line: &mut Vec<u8>, space: &Space) -> Result<(), AllocError>
-    ensures { OnOk result (line.new.items ≡ ((line.old.items ++ 0x40 ∷ right_in 8 (decimal_of (space.now.total - space.now.free)))
-        ++ 0x40 ∷ right_in 8 (decimal_of space.now.free)) ++ 0x40 ∷ right_in 8 (decimal_of space.now.total)) }
+    ensures { OnOk result (line.new.items
+        ≡ ((line.old.items ++ 0x40 ∷ right_in 8 (decimal_of (space.now.total - space.now.free)))
+        ++ 0x40 ∷ right_in 8 (decimal_of space.now.free)) ++ 0x40 ∷ right_in 8
+        (decimal_of space.now.total)) }
 {
     add_number(alloc, line, 8, space.total.saturating_sub(space.free))?;
     add_number(alloc, line, 8, space.free)?;
@@ -115,7 +120,8 @@ fn disk_text(
     space: &Space,
     files: u32,
 ) -> Result<Vec<u8>, AllocError>
-    ensures { IfOk result (λ line. line.items ≡ spec.disk_text letter seat.now.vdev seat.now.read_only
+    ensures { IfOk result (λ line. line.items
+        ≡ spec.disk_text letter seat.now.vdev seat.now.read_only
         space.now.volid space.now.bsize files space.now.free space.now.total) }
 {
     let mut line = disk_columns(alloc, letter, seat, &space.volid)?;
@@ -146,7 +152,8 @@ fn search_text(
     seat: &Seat,
     volid: &[u8; 6],
 ) -> Result<Vec<u8>, AllocError>
-    ensures { IfOk result (λ line. line.items ≡ spec.search_text letter seat.now.vdev seat.now.parent seat.now.read_only volid.now) }
+    ensures { IfOk result (λ line. line.items
+        ≡ spec.search_text letter seat.now.vdev seat.now.parent seat.now.read_only volid.now) }
 {
     let mut line = disk_head(alloc, seat.vdev, volid)?;
     add_left(
@@ -167,7 +174,8 @@ fn seat_text(
     seat: &Seat,
     disk: &Minidisk,
 ) -> Result<Vec<u8>, AllocError>
-    ensures { (s : Seated) → s.letter.parent ≡ seat.now.parent → s.letter.read_only ≡ seat.now.read_only → s.disk ≡ disk.now
+    ensures { (s : Seated) → s.letter.parent ≡ seat.now.parent
+        → s.letter.read_only ≡ seat.now.read_only → s.disk ≡ disk.now
         → IfOk result (λ line. line.items ≡ seat_text shown letter seat.now.vdev s) }
 {
     let space = disk.space();
@@ -191,7 +199,8 @@ pub fn type_disk<W: World>(
     shown: Shown,
     letter: u8,
 ) -> Result<(), End>
-    ensures { Does (seen W.World world.old) (seen W.World world.new) (typing (seat_lines shown table.now letter) (Done tt)) result said }
+    ensures { Does (seen W.World world.old) (seen W.World world.new)
+        (typing (seat_lines shown table.now letter) (Done tt)) result said }
 {
     let Some(seat) = table.seat(letter) else {
         return Ok(());

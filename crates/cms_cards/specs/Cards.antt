@@ -26,6 +26,7 @@ pub record Dealt : Type 0 where
   pub course : Course
   pub decks : Decks
 
+-- a command that ends so leaves these decks
 abbrev pub dealt : Decks → Course → Dealt
 dealt decks course = record { course = course; decks = decks }
 
@@ -49,6 +50,7 @@ abbrev pub adding : Decks → (ℕ → File → Deck) → Fetched → Act Dealt
 adding decks deck_of (HasFile s n f) = Done (dealt (decks ++ deck_of n f ∷ []) (Went s (pos 0)))
 adding decks deck_of (IsRefused course) = Done (dealt decks course)
 
+-- the file that the line says is read, and punched onto a deck
 abbrev pub punch_file : Machine → Decks → List Token → PunchLine → Act Dealt
 punch_file s decks words l = bind (fetching s words 1 true (is_full decks) l.input) (adding decks (punched l.header))
 
@@ -65,6 +67,7 @@ decks_behind decks (Went s (pos (suc code))) = decks
 decks_behind decks (Went s (negsuc code)) = decks
 decks_behind decks OutOfTurns = decks
 
+-- what a command does that writes a file from the first deck, beside the decks
 abbrev pub taking : Decks → Act Course → Act Dealt
 taking decks t = bind t (λ course. Done (dealt (decks_behind decks course) course))
 
@@ -86,15 +89,18 @@ dump_file s decks words input = bind (fetching s words 2 false (is_full decks) i
 abbrev pub load_deck : Machine → Decks → List Token → WriteMode → Act Dealt
 load_deck s decks words mode = taking decks (loading s words (slice_get decks 0) mode)
 
+-- DUMP or LOAD, as the line says
 abbrev pub disk_by : Machine → Decks → List Token → DiskLine → Act Dealt
 disk_by s decks words (line.Dump input) = dump_file s decks words input
 disk_by s decks words (line.Load mode) = load_deck s decks words mode
 
+-- DISK: a file is dumped onto a deck, or loaded from one
 abbrev pub disk : Machine → Decks → List Token → Act Dealt
 disk s decks words = on_said s decks words (disk_by s decks words) (disk_line words)
 
 -- ---- the command of a word
 
+-- PUNCH, READCARD or DISK, by the words of its line
 abbrev pub cards : Machine → Decks → List Token → CardCommand → Act Dealt
 cards s decks words command.Punch = punch s decks words
 cards s decks words command.Readcard = readcard s decks words

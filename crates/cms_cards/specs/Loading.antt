@@ -51,6 +51,7 @@ read_file s target deck =
 abbrev pub write_cards : Machine → ReadTarget → Deck → Act Course
 write_cards s target deck = last_update s target.mode.letter (Put (read_file s target deck))
 
+-- so they are where the disk of the letter may be written and a deck is there; else it is refused
 abbrev pub reading_cards : Machine → List Token → Option Deck → ReadTarget → Act Course
 reading_cards s words first target =
     on_found s words 1 (λ shelf. on_deck s (write_cards s target) first) (writable (shelves_in s) target.mode.letter)
@@ -66,6 +67,7 @@ on_dump s next (Some f) = next f
 abbrev pub write_dump : Machine → ℕ → Deck → Act Course
 write_dump s n deck = on_dump s (λ f. last_update s n (Put f)) (load deck)
 
+-- so it is where the disk of the letter may be written and a deck is there; else it is refused
 abbrev pub loading : Machine → List Token → Option Deck → WriteMode → Act Course
 loading s words first mode =
     on_found s words 2 (λ shelf. on_deck s (write_dump s mode.letter) first) (writable (shelves_in s) mode.letter)

@@ -48,7 +48,10 @@ pub fn run<W: World>(
     requires moment { is_moment state.old.moment ≡ true }
     ensures acts { Acts (spot W.World world.old state.old) (spot W.World world.new state.new)
         (cards_tree state.old reader.old words.now command) result (dealt_of state.new reader.new) }
-    ensures kept { state.new ≡ record state.old { table = state.new.table; places = state.new.places } }
+    ensures kept { state.new ≡ record state.old {
+      table = state.new.table;
+      places = state.new.places;
+    } }
 {
     match command {
         CardCommand::Punch => run_punch(alloc, world, state, reader, words),

@@ -59,7 +59,10 @@ fn load<W: World>(
     ensures acts { Acts (spot W.World world.old state.old) (spot W.World world.new state.new)
         (λ units. spec.load_deck (machine_of state.old units) reader.old words.now mode.now) result
         (dealt_of state.new reader.new) }
-    ensures kept { state.new ≡ record state.old { table = state.new.table; places = state.new.places } }
+    ensures kept { state.new ≡ record state.old {
+      table = state.new.table;
+      places = state.new.places;
+    } }
 {
     let course = load_file(alloc, world, state, reader, words, mode)?;
     take_deck(reader, course);
@@ -77,8 +80,12 @@ pub(crate) fn run_disk<W: World>(
     requires usable { IsUsable (spot W.World world.old state.old) }
     requires moment { is_moment state.old.moment ≡ true }
     ensures acts { Acts (spot W.World world.old state.old) (spot W.World world.new state.new)
-        (λ units. spec.disk (machine_of state.old units) reader.old words.now) result (dealt_of state.new reader.new) }
-    ensures kept { state.new ≡ record state.old { table = state.new.table; places = state.new.places } }
+        (λ units. spec.disk (machine_of state.old units) reader.old words.now) result
+        (dealt_of state.new reader.new) }
+    ensures kept { state.new ≡ record state.old {
+      table = state.new.table;
+      places = state.new.places;
+    } }
 {
     match disk_line(alloc, words) {
         Ok(DiskLine::Dump(input)) => dump(alloc, world, state, reader, words, &input),

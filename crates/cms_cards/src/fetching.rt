@@ -68,7 +68,8 @@ fn read_whole<W: World>(
 ) -> Result<Fetched, End>
     requires usable { IsUsable (spot W.World world.old state.now) }
     ensures acts { Acts (spot W.World world.old state.now) (spot W.World world.new state.now)
-        (λ units. spec.read_there (machine_of state.now units) letter (file_on (machine_of state.now units) name.now
+        (λ units. spec.read_there (machine_of state.now units) letter
+        (file_on (machine_of state.now units) name.now
         (letter_at (machine_of state.now units) letter))) result (fetched_of state.now name.now) }
     ensures taken { IfOk result (IsTaken false) }
 {
@@ -104,7 +105,8 @@ fn fetch_on<W: World>(
 ) -> Result<Fetched, End>
     requires usable { IsUsable (spot W.World world.old state.now) }
     ensures acts { Acts (spot W.World world.old state.now) (spot W.World world.new state.now)
-        (λ units. spec.fetch_on (machine_of state.now units) words.now place bounds.narrow bounds.full name.now letter)
+        (λ units. spec.fetch_on
+        (machine_of state.now units) words.now place bounds.narrow bounds.full name.now letter)
         result (fetched_of state.now name.now) }
     ensures taken { IfOk result (IsTaken bounds.full) }
 {
@@ -133,7 +135,8 @@ pub(crate) fn fetch<W: World>(
 ) -> Result<Fetched, End>
     requires usable { IsUsable (spot W.World world.old state.now) }
     ensures acts { Acts (spot W.World world.old state.now) (spot W.World world.new state.now)
-        (λ units. spec.fetching (machine_of state.now units) words.now place bounds.narrow bounds.full input.now)
+        (λ units. spec.fetching
+        (machine_of state.now units) words.now place bounds.narrow bounds.full input.now)
         result (fetched_of state.now input.now.name) }
     ensures taken { IfOk result (IsTaken bounds.full) }
 {

@@ -46,7 +46,8 @@ fn tells(card: &Card) -> bool
 
 // The first of some cards tells of the file behind it, and another follows.
 fn has_header(cards: &[Card]) -> bool
-    ensures header { result ≡ (nat_lt 1 (length cards.now) && tells (slice_index_or cards.now 0 [])) }
+    ensures header { result ≡ (nat_lt 1 (length cards.now) && tells
+        (slice_index_or cards.now 0 [])) }
     ensures some { result ≡ true → 1 ≤ length cards.now }
 {
     cards.len() > 1 && tells(&cards[0])
@@ -87,7 +88,8 @@ fn cards_data(alloc: Global, deck: &Deck, number: u8, stamp: &Stamp) -> Result<F
 // The mode number of the file: that of the one that is there, else the operand's, or 1.
 fn number_for(table: &Table, target: &ReadTarget) -> u8
     requires { IfSome target.now.mode.number (λ k. k ≤ 6) }
-    ensures told { result ≡ number_told target.now.mode.number (info_named table.now target.now.mode.letter target.now.name) }
+    ensures told { result ≡ number_told target.now.mode.number
+        (info_named table.now target.now.mode.letter target.now.name) }
     ensures number { result ≤ 6 }
 {
     let Some(disk) = table.disk(target.mode.letter) else {
@@ -108,12 +110,17 @@ fn write_cards<W: World>(
     target: &ReadTarget,
 ) -> Result<Course, End>
     requires usable { IsUsable (spot W.World world.old state.old) }
-    requires writing { writing (item_at (letters_of state.old.table) target.now.mode.letter) target.now.mode.letter ≡ Ok tt }
+    requires writing { writing (item_at (letters_of state.old.table) target.now.mode.letter)
+        target.now.mode.letter ≡ Ok tt }
     requires number { IfSome target.now.mode.number (λ k. k ≤ 6) }
     requires moment { is_moment state.old.moment ≡ true }
     ensures acts { Acts (spot W.World world.old state.old) (spot W.World world.new state.new)
-        (λ units. spec.write_cards (machine_of state.old units) target.now deck.now) result (course_of state.new) }
-    ensures kept { state.new ≡ record state.old { table = state.new.table; places = state.new.places } }
+        (λ units. spec.write_cards (machine_of state.old units) target.now deck.now) result
+        (course_of state.new) }
+    ensures kept { state.new ≡ record state.old {
+      table = state.new.table;
+      places = state.new.places;
+    } }
 {
     let number = number_for(&state.table, target);
     let stamp = Stamp::of(&state.moment);
@@ -137,13 +144,18 @@ fn write_first<W: World>(
     target: &ReadTarget,
 ) -> Result<Course, End>
     requires usable { IsUsable (spot W.World world.old state.old) }
-    requires writing { writing (item_at (letters_of state.old.table) target.now.mode.letter) target.now.mode.letter ≡ Ok tt }
+    requires writing { writing (item_at (letters_of state.old.table) target.now.mode.letter)
+        target.now.mode.letter ≡ Ok tt }
     requires number { IfSome target.now.mode.number (λ k. k ≤ 6) }
     requires moment { is_moment state.old.moment ≡ true }
     ensures acts { Acts (spot W.World world.old state.old) (spot W.World world.new state.new)
-        (λ units. spec.on_deck (machine_of state.old units) (spec.write_cards (machine_of state.old units) target.now)
+        (λ units. spec.on_deck (machine_of state.old units)
+        (spec.write_cards (machine_of state.old units) target.now)
         (slice_get reader.now 0)) result (course_of state.new) }
-    ensures kept { state.new ≡ record state.old { table = state.new.table; places = state.new.places } }
+    ensures kept { state.new ≡ record state.old {
+      table = state.new.table;
+      places = state.new.places;
+    } }
 {
     match reader.first() {
         Some(deck) => write_cards(alloc, world, state, deck, target),
@@ -165,9 +177,13 @@ pub(crate) fn read_cards<W: World>(
     requires number { IfSome target.now.mode.number (λ k. k ≤ 6) }
     requires moment { is_moment state.old.moment ≡ true }
     ensures acts { Acts (spot W.World world.old state.old) (spot W.World world.new state.new)
-        (λ units. spec.reading_cards (machine_of state.old units) words.now (slice_get reader.now 0) target.now) result
+        (λ units. spec.reading_cards (machine_of state.old units) words.now
+        (slice_get reader.now 0) target.now) result
         (course_of state.new) }
-    ensures kept { state.new ≡ record state.old { table = state.new.table; places = state.new.places } }
+    ensures kept { state.new ≡ record state.old {
+      table = state.new.table;
+      places = state.new.places;
+    } }
 {
     match state.table.find_write(target.mode.letter) {
         Ok(()) => write_first(alloc, world, state, reader, target),
@@ -189,8 +205,12 @@ fn write_dump<W: World>(
     requires writing { writing (item_at (letters_of state.old.table) letter) letter ≡ Ok tt }
     requires moment { is_moment state.old.moment ≡ true }
     ensures acts { Acts (spot W.World world.old state.old) (spot W.World world.new state.new)
-        (λ units. spec.write_dump (machine_of state.old units) letter deck.now) result (course_of state.new) }
-    ensures kept { state.new ≡ record state.old { table = state.new.table; places = state.new.places } }
+        (λ units. spec.write_dump (machine_of state.old units) letter deck.now) result
+        (course_of state.new) }
+    ensures kept { state.new ≡ record state.old {
+      table = state.new.table;
+      places = state.new.places;
+    } }
 {
     let read = read_deck(alloc, deck)?;
     match read {
@@ -213,9 +233,13 @@ fn load_first<W: World>(
     requires writing { writing (item_at (letters_of state.old.table) letter) letter ≡ Ok tt }
     requires moment { is_moment state.old.moment ≡ true }
     ensures acts { Acts (spot W.World world.old state.old) (spot W.World world.new state.new)
-        (λ units. spec.on_deck (machine_of state.old units) (spec.write_dump (machine_of state.old units) letter)
+        (λ units. spec.on_deck (machine_of state.old units)
+        (spec.write_dump (machine_of state.old units) letter)
         (slice_get reader.now 0)) result (course_of state.new) }
-    ensures kept { state.new ≡ record state.old { table = state.new.table; places = state.new.places } }
+    ensures kept { state.new ≡ record state.old {
+      table = state.new.table;
+      places = state.new.places;
+    } }
 {
     match reader.first() {
         Some(deck) => write_dump(alloc, world, state, deck, letter),
@@ -236,9 +260,13 @@ pub(crate) fn load_file<W: World>(
     requires usable { IsUsable (spot W.World world.old state.old) }
     requires moment { is_moment state.old.moment ≡ true }
     ensures acts { Acts (spot W.World world.old state.old) (spot W.World world.new state.new)
-        (λ units. spec.loading (machine_of state.old units) words.now (slice_get reader.now 0) mode.now) result
+        (λ units. spec.loading (machine_of state.old units) words.now
+        (slice_get reader.now 0) mode.now) result
         (course_of state.new) }
-    ensures kept { state.new ≡ record state.old { table = state.new.table; places = state.new.places } }
+    ensures kept { state.new ≡ record state.old {
+      table = state.new.table;
+      places = state.new.places;
+    } }
 {
     match state.table.find_write(mode.letter) {
         Ok(()) => load_first(alloc, world, state, reader, mode.letter),

@@ -54,7 +54,8 @@ fn header_deck(
     name: &Name,
     file: &FileData,
 ) -> Result<Deck, AllocError>
-    ensures { IfOk result (λ deck. deck ≡ cards.header_cards header letter (file_with name.now file.now (records_in file.now))) }
+    ensures { IfOk result (λ deck. deck
+        ≡ cards.header_cards header letter (file_with name.now file.now (records_in file.now))) }
 {
     let mut deck = Deck::new(alloc);
     if header {
@@ -83,7 +84,8 @@ fn punched(
     file: &FileData,
 ) -> Result<Deck, AllocError>
     requires { IsValid file.now }
-    ensures { IfOk result (λ deck. deck ≡ cards.punched header letter (file_with name.now file.now (records_in file.now))) }
+    ensures { IfOk result (λ deck. deck
+        ≡ cards.punched header letter (file_with name.now file.now (records_in file.now))) }
 {
     let mut deck = header_deck(alloc, header, letter, name, file)?;
     add_records(&mut deck, file)?;
@@ -129,7 +131,8 @@ pub(crate) fn run_punch<W: World>(
 ) -> Result<Course, End>
     requires usable { IsUsable (spot W.World world.old state.now) }
     ensures { Acts (spot W.World world.old state.now) (spot W.World world.new state.now)
-        (λ units. spec.punch (machine_of state.now units) reader.old words.now) result (dealt_of state.now reader.new) }
+        (λ units. spec.punch (machine_of state.now units) reader.old words.now) result
+        (dealt_of state.now reader.new) }
 {
     match punch_line(alloc, words) {
         Ok(line) => punch_file(alloc, world, state, reader, words, &line),

@@ -24,9 +24,13 @@ fn read_line_cards<W: World>(
     requires usable { IsUsable (spot W.World world.old state.old) }
     requires moment { is_moment state.old.moment ≡ true }
     ensures acts { Acts (spot W.World world.old state.old) (spot W.World world.new state.new)
-        (λ units. spec.read_first (machine_of state.old units) words.now (slice_get reader.now 0)) result
+        (λ units. spec.read_first (machine_of state.old units) words.now (slice_get reader.now 0))
+        result
         (course_of state.new) }
-    ensures kept { state.new ≡ record state.old { table = state.new.table; places = state.new.places } }
+    ensures kept { state.new ≡ record state.old {
+      table = state.new.table;
+      places = state.new.places;
+    } }
 {
     match read_line(alloc, words) {
         Ok(target) => read_cards(alloc, world, state, reader, words, &target),
@@ -45,8 +49,12 @@ pub(crate) fn run_readcard<W: World>(
     requires usable { IsUsable (spot W.World world.old state.old) }
     requires moment { is_moment state.old.moment ≡ true }
     ensures acts { Acts (spot W.World world.old state.old) (spot W.World world.new state.new)
-        (λ units. spec.readcard (machine_of state.old units) reader.old words.now) result (dealt_of state.new reader.new) }
-    ensures kept { state.new ≡ record state.old { table = state.new.table; places = state.new.places } }
+        (λ units. spec.readcard (machine_of state.old units) reader.old words.now) result
+        (dealt_of state.new reader.new) }
+    ensures kept { state.new ≡ record state.old {
+      table = state.new.table;
+      places = state.new.places;
+    } }
 {
     let course = read_line_cards(alloc, world, state, reader, words)?;
     take_deck(reader, course);

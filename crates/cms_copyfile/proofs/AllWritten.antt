@@ -125,9 +125,9 @@ all_came mid now to all s r w = record {
     disk = w.seat.disk;
     table = w.seat.table;
     does = record {
-      appends = λ units h j m told minidisk looked.
+      appends = λ units h j m told minidisk.
           subst (λ (z : Stamp). Appends mid.world.told now.world.told s.disk w.seat.disk m (changing to (all units)) z r) w.stamp
-          (w.seat.does.came units h j m told minidisk looked);
+          (w.seat.does.came units h j m told minidisk);
       changes = w.seat.does.changes;
     };
   };
@@ -138,7 +138,7 @@ all_came mid now to all s r w = record {
 all_never : (mid now : Spot) (to : CopyTarget) (all : List Slot → List (List ℕ)) (s : Seated) → WroteAll mid now to all s Altered → (units : List Slot) → holds mid units → ⊥
 all_never mid now to all s w units h =
     let k = meets_at mid units to.letter s w.there h in
-    w.seat.does.came units h k.journal k.met.minidisk k.told k.met.is k.met.looked
+    w.seat.does.came units h k.journal k.met.minidisk k.told k.met.is
 
 pub all_altered : (before : Seen) (mid now new : Spot) (words : List Token) (line : CopyLine) (c : FileCopy) (to : CopyTarget) (all : List Slot → List (List ℕ)) (s : Seated)
     (u : List Slot → Act Stepped) (r : Result declared.Updated End) → HasRead before mid.world → WroteAll mid now to all s Altered → Acts now new u r (updated_of new.state)
@@ -178,7 +178,7 @@ module _ (before : Seen) (mid now : Spot) (words : List Token) (line : CopyLine)
       let k = meets_at mid units to.letter s w.there h in
       let m = k.met.minidisk in
       let put = changing to (all units) in
-      let u = w.seat.does.came units h k.journal m k.told k.met.is k.met.looked in
+      let u = w.seat.does.came units h k.journal m k.told k.met.is in
       let volume : e.volume ≡ s.disk.volume = ap (λ (d : Accessed). d.volume) (w.seat.does.changes.kept (λ (d : failed.Device ≡ failed.InDoubt). absurd (cc d))) in
       let no = no_label to.write to.name to.shape (all units) in
       let kept = given_up mid.world.told now.world.told s.disk e m put stamp (changed m put) u.stands u.answer (λ a. old_none put a no) (old_may put (changed m put) no) volume in
@@ -191,8 +191,11 @@ module _ (before : Seen) (mid now : Spot) (words : List Token) (line : CopyLine)
       let console = ap (λ (st : State). st.console) w.state in
       let drafted : DraftedOn (at (first before mid) units) (at now units) s.disk m = record {
         slot = subst (λ (v : ℕ). slice_get units v ≡ Some (Settled (Volume m))) (sym k.met.own) k.met.slot;
+        before = k.journal;
+        told_is = sym told ∙ k.told;
+        looked = k.met.looked;
         stands = u.stands.stands;
-        aside = subst (λ (t : Told). WritesAside t now.world.told s.disk.volume.unit m) told u.stands.aside;
+        aside = subst (λ (t : Told). WritesAside t now.world.told s.disk.volume.disk s.disk.volume.unit m) told u.stands.aside;
         same = refl;
         objects = refl;
       } in

@@ -15,7 +15,7 @@ use Rattle.cms_model.specs.LawsUpdates.{after, now}
 use Rattle.cms_model.specs.Minidisks.{Minidisk}
 use Rattle.cms_model.specs.Settled.{Agree, MayLeave}
 use Rattle.cms_model.specs.Trees.{Image, Met, image_of}
-use Rattle.cms_model.specs.Volumes.{blocks_of}
+use Rattle.cms_model.specs.Volumes.{Disk, blocks_of}
 use Rattle.cms_model.proofs.Images.{crash_now}
 use Rattle.cms_model.proofs.Members.{In-right, agree_back}
 use Rattle.cms_model.proofs.Opening.{open_ok}
@@ -44,12 +44,12 @@ still_left (Now m ∷ es) events u start image only none crash = absurd only.0
 still_left (Typed b ∷ es) events u start image only none crash = absurd only.0
 still_left (Missed name size access ∷ es) events u start image only none crash = absurd only.0
 
-after_is : (j k : Journal) (u : ℕ) (m : Minidisk) → (aside : WritesAside (Some j) (Some k) u m) → k ≡ after j aside.events
-after_is j k u m aside = same_Some k (after j aside.events) (aside.told ∙ plus-some j aside.events)
+after_is : (j k : Journal) (disk : Disk) (u : ℕ) (m : Minidisk) → (aside : WritesAside (Some j) (Some k) disk u m) → k ≡ after j aside.events
+after_is j k disk u m aside = same_Some k (after j aside.events) (aside.told ∙ plus-some j aside.events)
 
-left_before : (j k : Journal) (u : ℕ) (m : Minidisk) → WritesAside (Some j) (Some k) u m → MayLeave k u (contents_of j u)
-left_before j k u m aside =
-    subst (λ (x : Journal). MayLeave x u (contents_of j u)) (sym (after_is j k u m aside))
+left_before : (j k : Journal) (disk : Disk) (u : ℕ) (m : Minidisk) → WritesAside (Some j) (Some k) disk u m → MayLeave k u (contents_of j u)
+left_before j k disk u m aside =
+    subst (λ (x : Journal). MayLeave x u (contents_of j u)) (sym (after_is j k disk u m aside))
     (still_left aside.events j.events u (start_of j.units u) (contents_of j u) aside.of_unit aside.unsynced (crash_now j.events u (start_of j.units u)))
 
 -- ---- a file's data blocks are among those that the minidisk rests on
@@ -66,7 +66,7 @@ file_inside (e ∷ es) (m ∷ ms) (c ∷ cs) (x ∷ hs) ns zero h held inside at
 file_inside (e ∷ es) (m ∷ ms) (c ∷ cs) (x ∷ hs) ns (suc k) h held inside at n in' = file_inside es ms cs hs ns k h held.1 inside.1 at n in'
 
 -- they are as they were, where the minidisk stands and was written beside
-pub leaves_agree : (j k : Journal) (d : Accessed) (m : Minidisk) (place : ℕ) (h : HeldFile) → IsMinidisk k d m → WritesAside (Some j) (Some k) d.volume.unit m
+pub leaves_agree : (j k : Journal) (d : Accessed) (m : Minidisk) (place : ℕ) (h : HeldFile) → IsMinidisk k d m → WritesAside (Some j) (Some k) d.volume.disk d.volume.unit m
     → slice_get d.volume.files place ≡ Some h → Agree h.tree.leaves (now k d.volume.unit) (now j d.volume.unit)
 leaves_agree j k d m place h is aside at n in' =
     let u = d.volume.unit in
@@ -75,7 +75,7 @@ leaves_agree j k d m place h is aside at n in' =
     let among : In n (blocks_of v.mets) =
     file_inside v.entries v.mets v.contents d.volume.files (blocks_of v.mets) place h is.stands.volume_is.files_are
     (trees_inside d.volume.disk.bsize v.label.blocks (now k u) v.directory_met.leaves 2 v.entries v.mets o.mets) at n in' in
-    crash_agrees d.volume.disk k u v is.settled (contents_of j u) (left_before j k u m aside) n
+    crash_agrees d.volume.disk k u v is.settled (contents_of j u) (left_before j k d.volume.disk u m aside) n
     (inr (inr (In-right n v.directory_met.blocks (v.map_met.blocks ++ blocks_of v.mets) (In-right n v.map_met.blocks (blocks_of v.mets) among))))
 
 -- ---- the records that are left
@@ -90,7 +90,7 @@ left_there before later c records agree left = record {
 
 -- of a file of the minidisk beside which was written, from one moment to another at which it stands
 pub left_beside : (j k : Journal) (d : Accessed) (m : Minidisk) (place : ℕ) (h : HeldFile) (c : Reading) (records : List (List ℕ)) → IsMinidisk k d m
-    → WritesAside (Some j) (Some k) d.volume.unit m → slice_get d.volume.files place ≡ Some h → c.leaves ≡ h.tree.leaves
+    → WritesAside (Some j) (Some k) d.volume.disk d.volume.unit m → slice_get d.volume.files place ≡ Some h → c.leaves ≡ h.tree.leaves
     → HasLeft (now k d.volume.unit) c records ↔ HasLeft (now j d.volume.unit) c records
 left_beside j k d m place h c records is aside at leaves =
     let u = d.volume.unit in
@@ -100,7 +100,7 @@ left_beside j k d m place h c records is aside at leaves =
 -- ---- another unit
 
 -- it is as it was
-pub else_same : (j k : Journal) (u w : ℕ) (m : Minidisk) → u ≢ w → WritesAside (Some j) (Some k) u m → now k w ≡ now j w
-else_same j k u w m other aside =
-    ap (λ (x : Journal). now x w) (after_is j k u m aside)
+pub else_same : (j k : Journal) (disk : Disk) (u w : ℕ) (m : Minidisk) → u ≢ w → WritesAside (Some j) (Some k) disk u m → now k w ≡ now j w
+else_same j k disk u w m other aside =
+    ap (λ (x : Journal). now x w) (after_is j k disk u m aside)
     ∙ ap image_of (aside_is_as_before j aside.events w (of_aside u aside.events w other aside.of_unit)).contents_same

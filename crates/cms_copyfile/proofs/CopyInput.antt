@@ -116,7 +116,7 @@ input_stays old units n s letter name file m h at opened = λ j k start there as
     let seat = opened.seat in
     let first = opened.starts.first in
     let u = s.disk.volume.unit in
-    let beside : WritesAside (Some j) (Some k) u m = subst (λ (t : Told). WritesAside t (Some k) u m) start aside in
+    let beside : WritesAside (Some j) (Some k) s.disk.volume.disk u m = subst (λ (t : Told). WritesAside t (Some k) s.disk.volume.disk u m) start aside in
     elim (eqb_tells u c.unit) [
       | inl is ↦
           let mine = meets_at old units n s at h in
@@ -128,7 +128,7 @@ input_stays old units n s letter name file m h at opened = λ j k start there as
           let agree : Agree opened.starts.file.tree.leaves (now k u) (now j u) = leaves_agree j k s.disk m opened.starts.place opened.starts.file there beside file_is in
           subst (λ (v : ℕ). Agree c.leaves (now k v) (now j v)) is.1 (subst (λ (l : List ℕ). Agree l (now k u) (now j u)) (sym first.leaves) agree)
       | inr other ↦
-          let same = else_same j k u c.unit m other.1 beside in
+          let same = else_same j k s.disk.volume.disk u c.unit m other.1 beside in
           λ p in'. ap (λ (i : Image). i p) same
     ]
 

@@ -17,6 +17,7 @@ use Rattle.cms_model.specs.LawsUpdates.{now}
 use Rattle.cms_model.specs.Minidisks.{Minidisk}
 use Rattle.cms_model.specs.Settled.{Agree}
 use Rattle.cms_model.specs.Trees.{Image}
+use Rattle.cms_model.specs.Volumes.{Disk}
 use Rattle.cms_model.proofs.Members.{agree_back}
 use Rattle.cms_held.specs.Drafts.{Front}
 use Rattle.cms_draft.specs.Drafting.{Drafts}
@@ -108,7 +109,7 @@ module _ (start old : Told) (d : Accessed) (m : Minidisk) (draft : FileDraft) (c
       copy_put start new d m draft' change stamp plan front rest text place g.long high
       (subst (λ (c : List ℕ). GoesOn start new d m draft' change stamp (copies_to plan front ++ c ∷ []) (copies_from plan (place + 1) rest)) is (puts before_it))
 
-  pub put_failed : (new : Told) → (GoesOn start old d m draft change stamp (copies_to plan front) (t ∷ copies_from plan (place + 1) rest) → IsGivenUp start new d m) → IsGivenUp start new d m
+  pub put_failed : (new : Told) → (GoesOn start old d m draft change stamp (copies_to plan front) (t ∷ copies_from plan (place + 1) rest) → IsGivenUp start new d m change) → IsGivenUp start new d m change
   put_failed new fails = fails before_it
 
   -- it is the record that is to come
@@ -142,9 +143,9 @@ record AtStart (start : Told) (P : Journal → Type 0) : Type 0 where
   told : start ≡ Some journal
   holds : P journal
 
-start_told : (start now' : Told) (u : ℕ) (m : Minidisk) (k : Journal) → now' ≡ Some k → WritesAside start now' u m → (j : Journal) × (start ≡ Some j)
-start_told (Some j) now' u m k told aside = (j, refl)
-start_told None now' u m k told aside = let e : None ≡ Some k = sym (plus-none aside.events) ∙ (sym aside.told ∙ told) in absurd (cc e)
+start_told : (start now' : Told) (disk : Disk) (u : ℕ) (m : Minidisk) (k : Journal) → now' ≡ Some k → WritesAside start now' disk u m → (j : Journal) × (start ≡ Some j)
+start_told (Some j) now' disk u m k told aside = (j, refl)
+start_told None now' disk u m k told aside = let e : None ≡ Some k = sym (plus-none aside.events) ∙ (sym aside.told ∙ told) in absurd (cc e)
 
 hands_there : (before later : Image) (c : Reading) (records : List (List ℕ)) (there : Bool) → Agree c.leaves before later → HandsOut before c records (Ok there) → HandsOut later c records (Ok there)
 hands_there before later c records true agree out = (out.0, out.1, left_there before later c out.0 agree out.2)
@@ -156,8 +157,8 @@ agree_then : (start now' : Told) (d : Accessed) (m : Minidisk) (draft : FileDraf
 agree_then start now' d m draft change stamp done more first stay goes =
     let k = goes.stands.at in
     let told : now' ≡ Some k = goes.stands.told_is in
-    let begun = start_told start now' d.volume.unit m k told goes.aside in
-    let aside : WritesAside start (Some k) d.volume.unit m = subst (λ (t : Told). WritesAside start t d.volume.unit m) told goes.aside in
+    let begun = start_told start now' d.volume.disk d.volume.unit m k told goes.aside in
+    let aside : WritesAside start (Some k) d.volume.disk d.volume.unit m = subst (λ (t : Told). WritesAside start t d.volume.disk d.volume.unit m) told goes.aside in
     record { journal = begun.0; told = begun.1; holds = stay begun.0 k begun.1 goes.stands.minidisk aside }
 
 -- what was left at the start is left now
@@ -355,8 +356,8 @@ copied_all start now' d m draft change stamp plan first c next records place sta
     (ap (take (plan.wanted - place)) none ∙ take-nil (plan.wanted - place))
 
 -- a read failed
-pub given_up : (start now' : Told) (d : Accessed) (m : Minidisk) (draft : FileDraft) (change : Change) (stamp : Stamp) (done more : List (List ℕ)) → GoesOn start now' d m draft change stamp done more → IsGivenUp start now' d m
-given_up start now' d m draft change stamp done more goes = record { stands = goes.stands; aside = goes.aside }
+pub given_up : (start now' : Told) (d : Accessed) (m : Minidisk) (draft : FileDraft) (change : Change) (stamp : Stamp) (done more : List (List ℕ)) → GoesOn start now' d m draft change stamp done more → IsGivenUp start now' d m change
+given_up start now' d m draft change stamp done more goes = record { stands = goes.stands; aside = goes.aside; few = goes.few }
 
 -- ---- the units of a journal that has grown
 

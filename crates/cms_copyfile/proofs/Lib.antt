@@ -23,3 +23,4 @@ pub mod CopiesMeasured
 pub mod CopyShaped
 pub mod OwnFile
 pub mod AddShaped
+pub mod TablesTold

@@ -12,7 +12,7 @@ use Rattle.cms_model.specs.Trees.{Image}
 use Rattle.cms_model.specs.Volumes.{Opened, minidisk_of}
 use Rattle.cms_model.proofs.Results.{ok_same}
 use Rattle.cms_machine.specs.Slots.{Slot}
-use Rattle.cms_disk.specs.Disks.{Accessed, IsLookedAt, IsMinidisk, StandsIn}
+use Rattle.cms_disk.specs.Disks.{Accessed, IsMinidisk, StandsIn}
 use Rattle.cms_search.specs.Calls.{Spot, holds, machine_of}
 use Rattle.cms_search.specs.Machine.{letter_at}
 use Rattle.cms_search.specs.Searches.{item_at}
@@ -105,15 +105,14 @@ module _ (mid now : Spot) (line : CopyLine) (c : FileCopy) (file : OpenFile) (to
     (opened : IsOpened mid.state.table c.found.letter c.found.name file) (shaped : AreShaped mid line c plan to.write to.shape) (letter : to.letter ≡ c.letter) (name : to.name ≡ c.name) where
   -- the copies go into the disk
   into : (s : Seated) (units : List Slot) (h : holds mid units) → item_at mid.state.table.seats to.letter ≡ Some s → (j : Journal) (m : Minidisk) → mid.world.told ≡ Some j
-      → IsMinidisk j s.disk m → IsLookedAt j s.disk → CopiesInto mid.world.told s.disk m to plan file.cursor (copying_at mid line c is units h).file.file.records
-  into s units h there j m told minidisk looked =
+      → IsMinidisk j s.disk m → CopiesInto mid.world.told s.disk m to plan file.cursor (copying_at mid line c is units h).file.file.records
+  into s units h there j m told minidisk =
       let x = copying_at mid line c is units h in
       record {
         to_have = record {
           at = j;
           told_is = told;
           minidisk = minidisk;
-          looked = looked;
           have = subst (λ (o : Option File). HaveRecords to.write o to.shape (copies_in plan x.file.file.records))
               (there_at mid line c to s units h x letter name there j m told minidisk) (shaped units h x).have;
         };
@@ -127,9 +126,9 @@ module _ (mid now : Spot) (line : CopyLine) (c : FileCopy) (file : OpenFile) (to
   wrote_copies s written there writes state stamp =
       wrote_all (λ (x : Seated) (e : Accessed). WritesTo mid.world now.world x.disk e to plan file.cursor written) mid now to (copies_on mid.state c plan) s written there writes state stamp
       (λ e does. record {
-        came = λ units h j m told minidisk looked.
+        came = λ units h j m told minidisk.
             subst (λ (l : List (List ℕ)). CameTo mid.world.told now.world.told s.disk e m (changing to l) to.stamp written) (copies_so mid.state line c plan units (copying_at mid line c is units h))
-            (does.came m (copying_at mid line c is units h).file.file.records (into s units h there j m told minidisk looked));
+            (does.came m (copying_at mid line c is units h).file.file.records (into s units h there j m told minidisk));
         changes = does.changes;
       })
 

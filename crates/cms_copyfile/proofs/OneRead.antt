@@ -45,18 +45,18 @@ acts_by old mid new s f x d (Ok y) e a b = record {
   cause = tt;
 }
 acts_by old mid new s f x d (Err y) e a b = record {
-  each = λ units h. let m = a.each units h in let z = (b units).each m.0 m.1.0 in (z.0, broke_then (ran_bind (f units) m.1.1) z.1);
+  each = λ units h. let m = a.each units h in let z = (b units).each m.0 m.1.0 in (z.0, (z.1.0, broke_then (ran_bind (f units) m.1.1) z.1.1));
   later = later_then old.world mid.world new.world a.later (b []).later;
-  usable = λ u. tt;
+  usable = λ u. (b []).usable (a.usable u);
   cause = λ edge. rose_from old.world.edges mid.world.edges new.world.edges a.later.edges ((b []).cause edge);
 }
 
 pub acts_by_stop : {A R U T : Type 0} (old new : Spot) (s : List Slot → Act A) (f : List Slot → A → Act R) (y : End) (d : Meaning U A) (e : Meaning T R)
     → Acts {T = U} old new s (Err y) d → Acts {T = T} old new (λ units. bind (s units) (f units)) (Err y) e
 acts_by_stop old new s f y d e a = record {
-  each = λ units h. let x = a.each units h in (x.0, broke_bind (f units) x.1);
+  each = λ units h. let x = a.each units h in (x.0, (x.1.0, broke_bind (f units) x.1.1));
   later = a.later;
-  usable = λ u. tt;
+  usable = a.usable;
   cause = a.cause;
 }
 
@@ -73,7 +73,7 @@ acts_never_so old now new t u (Ok x) d d' never later usable a = record {
 acts_never_so old now new t u (Err e) d d' never later usable a = record {
   each = λ units h. absurd (never units h);
   later = later_then old.world now.world new.world later a.later;
-  usable = λ before. tt;
+  usable = λ before. a.usable (usable before);
   cause = λ edge. rose_from old.world.edges now.world.edges new.world.edges later.edges (a.cause edge);
 }
 
@@ -116,7 +116,7 @@ whole mid words line c units = with_copying words line (machine_of mid.state uni
 -- nothing was done, for want of memory
 pub cut_read : (before : Seen) (mid : Spot) (t : List Slot → Act Stepped) (d : Meaning declared.Updated Stepped) → HasRead before mid.world
     → Acts {T = declared.Updated} (first before mid) mid t (Err Memory) d
-cut_read before mid t d read = let edges = read.edges in cut_off (first before mid) mid t d read.told read.faults (omega (arith, edges))
+cut_read before mid t d read = let edges = read.edges in cut_off (first before mid) mid t d read.told read.faults (omega (arith, edges)) refl
 
 module _ (before : Seen) (mid : Spot) (words : List Token) (line : CopyLine) (c : FileCopy) (file : OpenFile) (change : List Slot → Change) (read : HasRead before mid.world)
     (is : IsFileCopy mid.state.table line c) (opened : IsOpened mid.state.table c.found.letter c.found.name file) (changes : ChangesAs mid line c change) where

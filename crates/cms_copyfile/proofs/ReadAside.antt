@@ -5,6 +5,7 @@ use Rattle.std.proofs.lemmas.Bool.Decides.{eqb_tells}
 use Rattle.cms_journal.specs.declared.event.Event.{Event}
 use Rattle.cms_journal.specs.declared.event.Event.TheVariants.{Read, Now, Typed, Missed, Wrote, Synced}
 use Rattle.cms_journal.specs.Causes.{Counted}
+use Rattle.cms_journal.specs.Journal.{Journal}
 use Rattle.cms_journal.specs.Told.{OnlyOf, Told, syncs}
 use Rattle.cms_journal.proofs.Events.{of_aside}
 use Rattle.cms_model.specs.LawsUpdates.{now}
@@ -19,9 +20,11 @@ use Rattle.cms_machine.specs.Slots.{Settled, Slot, state_in, unit_set, unit_stat
 use Rattle.cms_machine.specs.Steps.{Get, Offers, Outcome, ReadFault}
 use Rattle.cms_machine.proofs.Aside.{covers_aside, now_aside}
 use Rattle.cms_machine.proofs.Single.{OwnNow, ran_step_all}
-use Rattle.cms_disk.specs.Disks.{Accessed}
+use Rattle.cms_disk.specs.Disks.{Accessed, IsLookedAt}
 use Rattle.cms_disk.specs.Drafts.{Stands, WritesAside}
+use Rattle.cms_disk.proofs.Leaving.{covers_looked}
 use Rattle.cms_disk.proofs.Standing.{state_stands}
+use Rattle.cms_search.proofs.Changing.{looked_changed}
 
 -- ---- the piece
 
@@ -50,8 +53,11 @@ stamped_beside (Missed name size access ∷ es) w u only aside = absurd only.0
 -- a draft goes on, on a disk that the machine has as this minidisk
 pub record DraftedOn (p q : Point) (d : Accessed) (m : Minidisk) : Type 0 where
   pub slot : slice_get p.units d.volume.unit ≡ Some (Settled (Volume m))
+  pub before : Journal
+  pub told_is : p.journal ≡ Some before
+  pub looked : IsLookedAt before d
   pub stands : Stands q.journal d m
-  pub aside : WritesAside p.journal q.journal d.volume.unit m
+  pub aside : WritesAside p.journal q.journal d.volume.disk d.volume.unit m
   pub same : q.units ≡ p.units
   pub objects : q.objects ≡ p.objects
 
@@ -64,7 +70,8 @@ module _ (p q : Point) (d : Accessed) (m : Minidisk) (x : DraftedOn p q d m) whe
     | inl is ↦
         let own : Covers p.journal x.aside.events d.volume.unit (unit_set p.units d.volume.unit) (unit_set q.units d.volume.unit) =
         subst (λ (us : List Slot). Covers p.journal x.aside.events d.volume.unit (unit_set p.units d.volume.unit) (unit_set us d.volume.unit)) (sym x.same)
-        (subst (λ (l : List State). Covers p.journal x.aside.events d.volume.unit l l) (sym set_before) x.aside.covers) in
+        (subst (λ (l : List State). Covers p.journal x.aside.events d.volume.unit l l) (sym set_before)
+        (covers_looked d.volume.disk p.journal x.before x.aside.events d.volume.unit (Volume m ∷ []) (Volume m ∷ []) x.told_is x.looked x.aside.covers)) in
         subst (λ (n : ℕ). Covers p.journal x.aside.events n (unit_set p.units n) (unit_set q.units n)) is.1 own
     | inr other ↦
         covers_aside p x.aside.events v (unit_set q.units v) (of_aside d.volume.unit x.aside.events v other.1 x.aside.of_unit) (ap (λ (us : List Slot). unit_set us v) x.same) sound
@@ -75,9 +82,10 @@ module _ (p q : Point) (d : Accessed) (m : Minidisk) (x : DraftedOn p q d m) whe
   own_now y has =
       let k = x.stands.at in
       let u = d.volume.unit in
+      let looked : IsLookedAt k d = looked_changed p.journal q.journal x.before k d d x.aside.events x.told_is x.stands.told_is x.aside.told refl refl x.looked in
       let here : HasNowIn k u y = subst (λ (t : Told). HasNow t u y) x.stands.told_is has in
       let state : state_of d.volume.disk (now k u) ≡ Volume m = state_stands (now k u) d m x.stands.minidisk.stands in
-      let is : Volume m ≡ y = sym state ∙ (ap (λ (disk : volumes.Disk). state_of disk (now k u)) (sym (x.stands.looked here.unit here.attached)) ∙ here.state) in
+      let is : Volume m ≡ y = sym state ∙ (ap (λ (disk : volumes.Disk). state_of disk (now k u)) (sym (looked here.unit here.attached)) ∙ here.state) in
       ap (λ (us : List Slot). unit_state us u) x.same ∙ (ap (λ (z : Option Slot). option_map state_in z) x.slot ∙ ap (λ (z : State). Some z) is)
 
   each_now : Sound p → (v : ℕ) → OwnNow q v
@@ -98,6 +106,7 @@ module _ (p q : Point) (d : Accessed) (m : Minidisk) (x : DraftedOn p q d m) whe
         disk = only_writes es d.volume.unit u x.aside.of_unit x.aside.unsynced;
         synced = x.aside.unsynced;
         stamped = stamped_beside es d.volume.unit u x.aside.of_unit x.aside.aside;
+        few = tt;
         outcome = omega arith;
       } in
       ran_step_all p q (Get u f wanted) (ReadFault 0) k es x.aside.told counted fits offers x.same console x.objects covered each_now

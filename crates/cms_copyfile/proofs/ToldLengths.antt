@@ -1,9 +1,10 @@
 -- Copies whose lengths are known before a record is read.
-use Rattle.std.proofs.Common.{◌≡◌, ◌∙◌, ℕ, zero, suc, ◌+◌, ◌*◌, ◌≤◌, max, List, [], ◌∷◌, ◌++◌, All, drop, length, map, take, Option, Some, Result, Ok, Err, refl, sym, ap, subst, arith, length-append}
+use Rattle.std.proofs.Common.{◌≡◌, ◌∙◌, ℕ, zero, suc, ◌+◌, ◌*◌, ◌<◌, ◌≤◌, ◌^◌, max, List, [], ◌∷◌, ◌++◌, All, drop, length, map, take, Option, Some, Result, Ok, Err, refl, sym, ap, subst, arith, length-append}
 use Rattle.std.specs.Prelude.{None, IfSome, OnOk}
 use Rattle.std.proofs.lemmas.List.{length-map}
 use Rattle.std.proofs.lemmas.List.Elements.{All-nil, All-cons, All-drop, All-head, All-tail, All-take, All-weaker}
-use Rattle.cms_fields.specs.Limits.{longest_record}
+use Rattle.std.proofs.lemmas.Nat.{mul-le}
+use Rattle.cms_fields.specs.Limits.{longest_record, most_records}
 use Rattle.cms_names.specs.declared.name.Format.{Format}
 use Rattle.cms_names.specs.declared.name.Format.TheVariants.{F, V}
 use Rattle.cms_model.specs.Records.{Fits, length_of, longest, stored, with_length}
@@ -125,6 +126,12 @@ kept_measure f most rs keeps low =
     let bytes = kept_stored f rs each in
     let long = kept_longest f rs each in
     rw (count, bytes, long) refl
+
+-- a file's records fill few bytes, however long each gets
+pub few_bytes : (count size head bytes : ℕ) → count ≤ most_records → size < 2 ^ 32 → head ≤ 2 → bytes ≡ count * (head + size) → bytes < 2 ^ 63
+few_bytes count size head bytes few short low is =
+    let most = mul-le count (head + size) 1048576 4294967298 few (omega (arith, short, low)) in
+    omega (arith, most, is)
 
 -- ---- each is a record
 

@@ -1,5 +1,5 @@
 -- Copies that are written as a file of the disk of a letter, or added to one.
-use Rattle.std.proofs.Common.{◌≡◌, ◌≢◌, inl, inr, ℕ, ◌+◌, false, List, [], ◌++◌, Option, Some, Result, Ok, Err, length, refl, sym, ◌∙◌, ap, subst, arith, append-nil}
+use Rattle.std.proofs.Common.{◌≡◌, ◌≢◌, inl, inr, ℕ, ◌+◌, ◌≤◌, false, List, [], ◌++◌, Option, Some, Result, Ok, Err, length, refl, sym, ◌∙◌, ap, subst, arith, append-nil}
 use Rattle.std.specs.Prelude.{⊤, IfErr, IfSome, None, option_map, slice_get}
 use Rattle.std.specs.Option.{ForSome, IsSome}
 use Rattle.std.proofs.lemmas.Option.{same_Some}
@@ -10,10 +10,10 @@ use Rattle.cms_journal.specs.Told.{Grown, Told}
 use Rattle.cms_journal.proofs.Pieces.{grown_same}
 use Rattle.cms_names.specs.declared.name.Name.{Name}
 use Rattle.cms_fields.specs.declared.time.Stamp.{Stamp}
-use Rattle.cms_model.specs.Changes.{Add, Answer, Century, Change, Changed, Drop, Full, Limited, Put, Relabel, Rename, changed, file_named}
+use Rattle.cms_model.specs.Changes.{Add, Answer, Century, Change, Changed, Drop, Full, Limited, Put, Relabel, Rename, changed, file_named, need}
+use Rattle.cms_machine.specs.Beats.{written_count}
 use Rattle.cms_model.specs.LawsUpdates.{now as now_of}
 use Rattle.cms_model.specs.Minidisks.{Minidisk}
-use Rattle.cms_model.specs.Volumes.{disk_of}
 use Rattle.cms_machine.specs.Steps.{MayPut, OldFault, ReadFault, is_relabel, put_syncs}
 use Rattle.cms_draft.specs.BlockWriting.{CanWrite, came}
 use Rattle.cms_held.specs.Drafts.{Front, stored_on}
@@ -324,7 +324,7 @@ whole_plans told d e m to all (Ok draft) drafted may x have =
     let change = change_as Whole to.name to.shape all in
     let has = may.blocks x.at x.told_is in
     record {
-      goes = subst (λ (t : Told). GoesOn t t e m draft change to.stamp [] all) (sym x.told_is) (drafted.begins x.at m all x.minidisk has x.looked have.0 have.1);
+      goes = subst (λ (t : Told). GoesOn t t e m draft change to.stamp [] all) (sym x.told_is) (drafted.begins x.at m all x.minidisk has have.0 have.1);
       answer = drafted.answers x.at m all x.minidisk has (counts_of to.shape all have.0);
     }
 whole_plans told d e m to all (Err why) drafted may x have =
@@ -358,12 +358,12 @@ more_plans : (before now : Seen) (d e : Accessed) (m : Minidisk) (to : CopyTarge
     → MayWrite before.told d to → (x : IsToHave before.told d m to all) → HaveRecords Added (file_named to.name m.files) to.shape all
     → PlansAs before.told now.told d e m (change_as Added to.name to.shape all) to.stamp all r
 more_plans before now d e m to all (Ok draft) drafted may x have = record {
-  goes = drafted.begins x.at m have.0 all x.told_is x.minidisk x.looked have.1 have.2;
+  goes = drafted.begins x.at m have.0 all x.told_is x.minidisk have.1 have.2;
   answer = drafted.answers x.at m have.0 all x.minidisk (may.blocks x.at x.told_is) have.1 have.2.counts;
 }
 more_plans before now d e m to all (Err why) drafted may x have =
     let has = may.blocks x.at x.told_is in
-    more_refused FileDraft before.told now.told d e m to.name to.shape to.stamp all why drafted.reads.told (none_aside x.at before.told d m x.told_is x.minidisk has x.looked)
+    more_refused FileDraft before.told now.told d e m to.name to.shape to.stamp all why drafted.reads.told (none_aside x.at before.told d m x.told_is x.minidisk has)
     (λ none. none_found d to.name none (now_of x.at d.volume.unit) m x.minidisk.stands) drafted.fault (drafted.answers x.at m have.0 all x.minidisk has have.1 have.2.counts)
 
 no_doubt : (d : Accessed) (name : Name) (shape : DraftShape) (r : Result FileDraft DiskFault) → IfErr r (IsMoreFault d name shape) → IfErr r (λ e. e ≡ failed.InDoubt → ⊥)
@@ -417,17 +417,20 @@ changes_from before now d e to r fault is plans =
     }
 
 -- it is the same disk but for its spare places
-given_same : (old new : Told) (d e : Accessed) (m : Minidisk) → e.volume ≡ d.volume → IsGivenUp old new e m → IsGivenUp old new d m
-given_same old new d e m volume g = record {
+given_same : (old new : Told) (d e : Accessed) (m : Minidisk) (change : Change) → e.volume ≡ d.volume → IsGivenUp old new e m change → IsGivenUp old new d m change
+given_same old new d e m change volume g = record {
   stands = record {
     at = g.stands.at;
     told_is = g.stands.told_is;
     minidisk = minidisk_same g.stands.at e d m (sym volume) g.stands.minidisk;
     readable = subst (λ (v : HeldVolume). HasBlocks g.stands.at.units v.unit v.disk.count v.disk.bsize) volume g.stands.readable;
-    looked = subst (λ (v : HeldVolume). (unit : Attached) → slice_get g.stands.at.units v.unit ≡ Some unit → disk_of unit ≡ v.disk) volume g.stands.looked;
   };
-  aside = subst (λ (v : HeldVolume). WritesAside old new v.unit m) volume g.aside;
+  aside = beside.0;
+  few = beside.1;
 }
+  where
+    beside : (a : WritesAside old new d.volume.disk d.volume.unit m) × (written_count a.events ≤ need m change)
+    beside = subst (λ (v : HeldVolume). (a : WritesAside old new v.disk v.unit m) × (written_count a.events ≤ need m change)) volume (g.aside, g.few)
 
 appends_same : (old new : Told) (d e f : Accessed) (m : Minidisk) (change : Change) (stamp : Stamp) (r : Result ⊤ DiskFault) → e.volume ≡ d.volume → e.writable ≡ d.writable
     → Appends old new e f m change stamp r → Appends old new d f m change stamp r
@@ -436,7 +439,7 @@ appends_same old new d e f m change stamp (Err failed.Device) volume writable (i
   same = u.same;
   after = u.after;
   answer = u.answer;
-  changes = subst (λ (v : HeldVolume). Changes old new v.unit m change stamp (ReadFault 0)) volume u.changes;
+  changes = subst (λ (v : HeldVolume). Changes old new v.disk v.unit m change stamp (ReadFault 0)) volume u.changes;
 })
 appends_same old new d e f m change stamp (Err failed.Device) volume writable (inr k) = inr k
 appends_same old new d e f m change stamp (Err failed.NotFound) volume writable a = a
@@ -451,12 +454,12 @@ appends_same old new d e f m change stamp (Err failed.Memory) volume writable a 
 pub came_same : (old new : Told) (d e f : Accessed) (m : Minidisk) (change : Change) (stamp : Stamp) (written : Written) → e.volume ≡ d.volume → e.writable ≡ d.writable
     → CameTo old new e f m change stamp written → CameTo old new d f m change stamp written
 came_same old new d e f m change stamp (Came r) volume writable a = appends_same old new d e f m change stamp r volume writable a
-came_same old new d e f m change stamp NotRead volume writable a = record { stands = given_same old new d e m volume a.stands; answer = a.answer }
+came_same old new d e f m change stamp NotRead volume writable a = record { stands = given_same old new d e m change volume a.stands; answer = a.answer }
 came_same old new d e f m change stamp Altered volume writable a = a
 
 pub stay_same : (told : Told) (d e : Accessed) (m : Minidisk) (unit : ℕ) (blocks : List ℕ) → e.volume ≡ d.volume → StayBeside told d m unit blocks → StayBeside told e m unit blocks
 stay_same told d e m unit blocks volume stay = λ j k is there aside.
-    stay j k is (minidisk_same k e d m (sym volume) there) (subst (λ (v : HeldVolume). WritesAside told (Some k) v.unit m) volume aside)
+    stay j k is (minidisk_same k e d m (sym volume) there) (subst (λ (v : HeldVolume). WritesAside told (Some k) v.disk v.unit m) volume aside)
 
 pub written_from : (before mid now : Seen) (d e f : Accessed) (to : CopyTarget) (plan : CopyPlan) (c : Reading) (r : Result FileDraft DiskFault) (draft : FileDraft) (written : Written) → r ≡ Ok draft
     → PlansTo before mid d e to r → FillsTo mid now e f draft plan c written → WritesTo before now d f to plan c written

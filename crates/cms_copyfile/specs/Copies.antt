@@ -21,7 +21,7 @@ use Rattle.cms_copyfile.specs.declared.output.CopyPlan.{CopyPlan}
 -- these blocks of a unit have the same bytes at every moment at which the minidisk stands and was written beside since
 abbrev pub StayBeside : Told → Accessed → Minidisk → ℕ → List ℕ → Type 0
 StayBeside start d m unit blocks =
-    (j k : Journal) → start ≡ Some j → IsMinidisk k d m → WritesAside start (Some k) d.volume.unit m
+    (j k : Journal) → start ≡ Some j → IsMinidisk k d m → WritesAside start (Some k) d.volume.disk d.volume.unit m
     → Agree blocks (now k unit) (now j unit)
 
 -- a draft goes on of which the copies come next, for this change, and these records are left to read of a file that stays beside it
@@ -84,8 +84,8 @@ FailsOn start now d m draft change stamp plan first c records (Err why.Altered) 
 abbrev pub PutsCopies : Told → Told → Accessed → Minidisk → FileDraft → Change → Stamp → List (List ℕ) → List (List ℕ)
     → Result ⊤ CopyFault → Type 0
 PutsCopies start now d m draft change stamp done more (Ok x) = GoesOn start now d m draft change stamp done more
-PutsCopies start now d m draft change stamp done more (Err why.Read) = IsGivenUp start now d m
-PutsCopies start now d m draft change stamp done more (Err why.Write) = IsGivenUp start now d m
+PutsCopies start now d m draft change stamp done more (Err why.Read) = IsGivenUp start now d m change
+PutsCopies start now d m draft change stamp done more (Err why.Write) = IsGivenUp start now d m change
 PutsCopies start now d m draft change stamp done more (Err why.Altered) = ⊥
 
 -- the device failed

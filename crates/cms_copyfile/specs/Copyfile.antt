@@ -42,6 +42,7 @@ listed_at shelves found = option_and_then (λ shelf. slice_get shelf.files found
 abbrev pub named_at : Shelves → Found → Option NamedFile
 named_at shelves found = option_map (λ f. record { letter = found.letter; name = f.name }) (listed_at shelves found)
 
+-- the same of all that were found, in order
 abbrev pub files_named : Shelves → List Found → List NamedFile
 files_named shelves found = filter_map (named_at shelves) found
 
@@ -141,6 +142,7 @@ abbrev pub erasing : Bool → ℕ → Name → Stepped → Act Stepped
 erasing may n name (Did s) = if may then consuming s n name else Done (Did s)
 erasing may n name (Failed course) = Done (Failed course)
 
+-- the copy, with what follows behind it
 abbrev pub copy_erased : Machine → List Token → CopyLine → Copying → Act Stepped
 copy_erased s words line c = bind (copy_into s words line c) (erasing (may_erase line c) c.letter c.input.file.name)
 

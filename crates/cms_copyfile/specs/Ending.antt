@@ -6,7 +6,7 @@ use Rattle.cms_machine.specs.Slots.{Slot}
 use Rattle.cms_model.specs.Changes.{Change}
 use Rattle.cms_model.specs.Minidisks.{Minidisk}
 use Rattle.cms_disk.specs.Changing.{ChangesDisk}
-use Rattle.cms_disk.specs.Disks.{Accessed, IsLookedAt, IsMinidisk}
+use Rattle.cms_disk.specs.Disks.{Accessed, IsMinidisk}
 use Rattle.cms_search.specs.Calls.{Spot, holds, machine_of}
 use Rattle.cms_search.specs.Searches.{item_at}
 use Rattle.cms_search.specs.Seats.{HasDevice, HasDisk}
@@ -28,7 +28,7 @@ use Rattle.cms_copyfile.specs.declared.writing.Written.{Written}
 pub record WritesAll (mid now : Spot) (d e : Accessed) (to : CopyTarget) (all : List Slot → List (List ℕ))
     (written : Written) : Type 0 where
   pub came : (units : List Slot) → holds mid units → (j : Journal) (m : Minidisk) → mid.world.told ≡ Some j → IsMinidisk j d m
-      → IsLookedAt j d → CameTo mid.world.told now.world.told d e m (changing to (all units)) to.stamp written
+      → CameTo mid.world.told now.world.told d e m (changing to (all units)) to.stamp written
   pub changes : ChangesDisk mid.world now.world d e (answer_in written)
 
 -- on the disk s of a letter; mid is before that, and now behind it

@@ -1,9 +1,10 @@
 -- A file that is copied, as the disks of the table tell it, and as the machine has it.
-use Rattle.std.specs.Prelude.{◌≡◌, ◌==◌, ◌&&◌, ℕ, Bool, not, Option, None, Some, Ok, ⊤}
+use Rattle.std.specs.Prelude.{◌≡◌, ◌==◌, ◌&&◌, ℕ, Bool, not, Option, None, Some, IfSome, Ok, ⊤}
 use Rattle.std.specs.Option.{option_map}
 use Rattle.cms_names.specs.Modes.{equal_signs}
 use Rattle.cms_model.specs.Minidisks.{File, same_name}
 use Rattle.cms_edf.specs.declared.held.FileInfo.{FileInfo}
+use Rattle.cms_disk.specs.Disks.{IsFileInfo}
 use Rattle.cms_search.specs.Machine.{Machine}
 use Rattle.cms_search.specs.Tables.{Accesses}
 use Rattle.cms_files.specs.Files.{UnitFile}
@@ -17,12 +18,14 @@ use Rattle.cms_copyfile.specs.declared.output.FileForm.{FileForm}
 
 -- ---- on the table
 
--- it is a file of the table's, with what is told of it and of the file that has the output's name
+-- it is a file of the table's, with what is told of it and of the file that has the output's name, as a file may have it
 pub record IsFileCopy (t : Accesses) (line : CopyLine) (c : FileCopy) : Type 0 where
   pub input : Some c.input ≡ info_named t c.found.letter c.found.name
   pub letter : c.letter ≡ letter_for line.files.output.mode c.found.letter
   pub name : c.name ≡ equal_signs c.found.name line.files.output.name
   pub there : c.there ≡ info_named t c.letter c.name
+  pub sound : IsFileInfo c.input
+  pub sound_there : IfSome c.there IsFileInfo
 
 -- the number that the copy gets
 abbrev pub copy_number : CopyLine → FileCopy → ℕ

@@ -17,7 +17,7 @@ use Rattle.cms_edf.specs.OpeningSteps.{OfImage}
 use Rattle.cms_disk.specs.Additions.{HaveShapeBehind, MayExtend}
 use Rattle.cms_disk.specs.Changing.{Appends, ChangesDisk}
 use Rattle.cms_disk.specs.Cursors.{HasLeft, Reading}
-use Rattle.cms_disk.specs.Disks.{Accessed, IsLookedAt, IsMinidisk, IsReadable}
+use Rattle.cms_disk.specs.Disks.{Accessed, IsMinidisk, IsReadable}
 use Rattle.cms_disk.specs.Drafts.{GoesOn, IsGivenUp, file_with}
 use Rattle.cms_disk.specs.declared.fault.DiskFault.{DiskFault}
 use Rattle.cms_disk.specs.declared.fault.DiskFault.TheVariants as failed
@@ -58,7 +58,7 @@ FitsVolume Added v name shape = MayExtend v name shape
 
 -- the minidisk stands, and was to be changed
 pub record IsUnread (old new : Told) (d : Accessed) (m : Minidisk) (change : Change) : Type 0 where
-  pub stands : IsGivenUp old new d m
+  pub stands : IsGivenUp old new d m change
   pub answer : answer_of m change ≡ Changed (changed m change)
 
 -- what the writing of copies came to, as this change, where e is the disk then
@@ -106,7 +106,6 @@ pub record IsToHave (told : Told) (d : Accessed) (m : Minidisk) (to : CopyTarget
   pub at : Journal
   pub told_is : told ≡ Some at
   pub minidisk : IsMinidisk at d m
-  pub looked : IsLookedAt at d
   pub have : HaveRecords to.write (file_named to.name m.files) to.shape all
 
 -- a draft begins for the change, which isn't refused

@@ -57,7 +57,8 @@ impl FileCopy {
     pub fn of(table: &Table, line: &CopyLine, found: &NamedFile) -> Option<FileCopy>
         ensures copy { IfSome result (λ c. IsFileCopy table.now line.now c) }
         ensures found { IfSome result (λ c. c.found ≡ found.now) }
-        ensures none { result ≡ None → (s : Machine) → Shows table.now s → spec.file_at s found.now ≡ Err NotFound }
+        ensures none { result ≡ None → (s : Machine) → Shows table.now s
+            → spec.file_at s found.now ≡ Err NotFound }
     {
         let input = info_named(table, found.letter, &found.name)?;
         let letter = letter_for(line.files.output.mode, found.letter);
@@ -128,7 +129,11 @@ impl FileCopy {
 
     /// The file as it is shown.
     pub fn input_shown(&self) -> FileShown
-        ensures { result ≡ record { letter = self.now.found.letter; name = self.now.input.name; number = self.now.input.number } }
+        ensures { result ≡ record {
+          letter = self.now.found.letter;
+          name = self.now.input.name;
+          number = self.now.input.number;
+        } }
     {
         FileShown {
             letter: self.found.letter,
@@ -139,7 +144,11 @@ impl FileCopy {
 
     /// The output as it is shown.
     pub fn output_shown(&self, line: &CopyLine) -> FileShown
-        ensures { result ≡ record { letter = self.now.letter; name = self.now.name; number = copy_number line.now self.now } }
+        ensures { result ≡ record {
+          letter = self.now.letter;
+          name = self.now.name;
+          number = copy_number line.now self.now;
+        } }
     {
         FileShown {
             letter: self.letter,

@@ -1,8 +1,9 @@
 // The update of one file that is copied.
-ghost use Rattle.std.specs.Prelude.{◌≡◌, ◌≤◌, ℕ, true, List, None, Some, Ok, IfSome, vec_capacity};
+ghost use Rattle.std.specs.Prelude.{◌≡◌, ◌+◌, ◌^◌, ◌<◌, ◌≤◌, ℕ, true, List, None, Some, Ok, IfSome, vec_capacity};
 ghost use Rattle.std.specs.Option.{ForSome};
-ghost use Rattle.cms_fields.specs.Limits.{longest_record};
+ghost use Rattle.cms_fields.specs.Limits.{longest_record, most_records};
 ghost use Rattle.cms_fields.specs.Moments.{is_moment};
+ghost use Rattle.cms_disk.specs.Disks.{IsFileInfo};
 ghost use Rattle.cms_line.specs.declared.token.Token as tokens;
 ghost use Rattle.cms_search.specs.Calls.{Acts, IsUsable, machine_of, spot, spot_at};
 ghost use Rattle.cms_search.specs.Machine as machines;
@@ -11,6 +12,7 @@ ghost use Rattle.cms_search.specs.Shows.{Shows};
 ghost use Rattle.cms_search.specs.Tables.{letters_of, writing};
 ghost use Rattle.cms_search.specs.Stepping.{HasRead};
 ghost use Rattle.cms_files.specs.Files.{file_on};
+ghost use Rattle.cms_files.specs.Told as named;
 ghost use Rattle.cms_files.specs.Updating.{updated_of};
 ghost use Rattle.cms_copyfile.specs.Copyfile as spec;
 ghost use Rattle.cms_copyfile.specs.FileCopies.{IsFileCopy, form_in, form_into, plan_for};
@@ -29,7 +31,7 @@ use crate::line::CopyLine;
 use crate::measure::Measure;
 use crate::measuring::measure_input;
 use crate::opening::open_input;
-use crate::output::{CopyPlan, plan_of, stamp_for};
+use crate::output::{CopyPlan, FileForm, plan_of, stamp_for};
 use crate::refusing::stop_unread;
 use crate::shape::{shape_behind, shape_of};
 use crate::writing::{CopyTarget, CopyWrite, write_copies};
@@ -73,18 +75,24 @@ fn put_copied<W: World>(
 ) -> Result<Updated, End>
     requires usable { IsUsable (spot W.World world.old state.old) }
     requires moment { is_moment state.old.moment ≡ true }
-    requires writing { writing (item_at (letters_of state.old.table) file.now.letter) file.now.letter ≡ Ok tt }
-    requires size { (most : ℕ) → most ≤ longest_record → longest_fit plan.now.style.fit most ≤ longest_record }
+    requires writing { writing (item_at (letters_of state.old.table) file.now.letter)
+        file.now.letter ≡ Ok tt }
+    requires size { (most : ℕ) → most ≤ longest_record
+        → longest_fit plan.now.style.fit most ≤ longest_record }
     requires room { longest_record ≤ vec_capacity buffer.old }
-    ensures acts { (before : Seen) (words : List tokens.Token) (line : lines.CopyLine) → HasRead before (seen W.World world.old)
+    ensures acts { (before : Seen) (words : List tokens.Token) (line : lines.CopyLine)
+        → HasRead before (seen W.World world.old)
         → IsFileCopy state.old.table line file.now
         → AreShaped (spot W.World world.old state.old) line file.now plan.now write shape.now
         → Acts (spot_at before state.old) (spot W.World world.new state.new)
         (λ units. spec.with_copying words line (machine_of state.old units) file.now.found
         (spec.copy_records (machine_of state.old units) line)) result (updated_of state.new) }
-    ensures kept { state.new ≡ record state.old { table = state.new.table; places = state.new.places } }
+    ensures kept { state.new ≡ record state.old {
+      table = state.new.table;
+      places = state.new.places;
+    } }
 {
-    // what a disk tells of a file is sound, so this is never
+    // a file's stored bytes are those of its records, so this is never
     if !fits_disk(&state.table, file, write, shape) {
         return Err(End::Memory);
     }
@@ -122,18 +130,25 @@ fn copy_measured<W: World>(
 ) -> Result<Updated, End>
     requires usable { IsUsable (spot W.World world.old state.old) }
     requires moment { is_moment state.old.moment ≡ true }
-    requires writing { writing (item_at (letters_of state.old.table) file.now.letter) file.now.letter ≡ Ok tt }
+    requires writing { writing (item_at (letters_of state.old.table) file.now.letter)
+        file.now.letter ≡ Ok tt }
     requires file { IsFileCopy state.old.table line.now file.now }
     requires whole { extended line.now.style.existing file.now.there ≡ None }
     requires plan { plan.now ≡ plan_for line.now (form_into line.now file.now) file.now }
-    requires size { (most : ℕ) → most ≤ longest_record → longest_fit plan.now.style.fit most ≤ longest_record }
+    requires size { (most : ℕ) → most ≤ longest_record
+        → longest_fit plan.now.style.fit most ≤ longest_record }
     requires room { longest_record ≤ vec_capacity buffer.old }
-    ensures acts { (before : Seen) (words : List tokens.Token) → HasRead before (seen W.World world.old)
-        → AreMeasured (spot W.World world.old state.old) line.now file.now (form_into line.now file.now) measure.now
+    ensures acts { (before : Seen) (words : List tokens.Token)
+        → HasRead before (seen W.World world.old)
+        → AreMeasured (spot W.World world.old state.old) line.now file.now
+        (form_into line.now file.now) measure.now
         → Acts (spot_at before state.old) (spot W.World world.new state.new)
         (λ units. spec.with_copying words line.now (machine_of state.old units) file.now.found
         (spec.copy_records (machine_of state.old units) line.now)) result (updated_of state.new) }
-    ensures kept { state.new ≡ record state.old { table = state.new.table; places = state.new.places } }
+    ensures kept { state.new ≡ record state.old {
+      table = state.new.table;
+      places = state.new.places;
+    } }
 {
     let turn = Stamp::of(&state.moment);
     let stamp = stamp_for(&line.style, file.input.stamp, turn);
@@ -150,19 +165,22 @@ fn copy_measured<W: World>(
     )
 }
 
-// The shape of the file that is extended, with records behind its own that were measured; none only where they are more than a number
-// counts.
+// The shape of the file that is extended, of which this is told, with records behind its own that were measured.
 fn extended_shape(
     table: &Table,
     file: &FileCopy,
     own: &FileInfo,
     stamp: Stamp,
     more: &Measure,
-) -> Option<DraftShape>
-    ensures { IfSome result (λ shape. (s : machines.Machine) → Shows table.now s
-        → IsShapeBehind own.now stamp more.now shape (file_on s file.now.name (machines.letter_at s file.now.letter))) }
+) -> DraftShape
+    requires there { Some own.now ≡ named.info_named table.now file.now.letter file.now.name }
+    requires count { own.now.count + more.now.count < 2 ^ 32 }
+    requires bytes { more.now.bytes < 2 ^ 63 }
+    ensures { (s : machines.Machine) → Shows table.now s
+        → IsShapeBehind own.now stamp more.now result
+        (file_on s file.now.name (machines.letter_at s file.now.letter)) }
 {
-    let stored = stored_named(table, file.letter, &file.name)?;
+    let stored = stored_named(table, file.letter, &file.name).unwrap();
     shape_behind(own, stored, stamp, more)
 }
 
@@ -180,25 +198,31 @@ fn append_measured<W: World>(
 ) -> Result<Updated, End>
     requires usable { IsUsable (spot W.World world.old state.old) }
     requires moment { is_moment state.old.moment ≡ true }
-    requires writing { writing (item_at (letters_of state.old.table) file.now.letter) file.now.letter ≡ Ok tt }
+    requires writing { writing (item_at (letters_of state.old.table) file.now.letter)
+        file.now.letter ≡ Ok tt }
     requires file { IsFileCopy state.old.table line.now file.now }
     requires own { extended line.now.style.existing file.now.there ≡ Some own.now }
+    requires count { measure.now.count ≤ most_records }
+    requires bytes { measure.now.bytes < 2 ^ 63 }
     requires plan { plan.now ≡ plan_for line.now (form_in own.now) file.now }
-    requires size { (most : ℕ) → most ≤ longest_record → longest_fit plan.now.style.fit most ≤ longest_record }
+    requires size { (most : ℕ) → most ≤ longest_record
+        → longest_fit plan.now.style.fit most ≤ longest_record }
     requires room { longest_record ≤ vec_capacity buffer.old }
-    ensures acts { (before : Seen) (words : List tokens.Token) → HasRead before (seen W.World world.old)
-        → AreMeasured (spot W.World world.old state.old) line.now file.now (form_in own.now) measure.now
+    ensures acts { (before : Seen) (words : List tokens.Token)
+        → HasRead before (seen W.World world.old)
+        → AreMeasured (spot W.World world.old state.old) line.now file.now
+        (form_in own.now) measure.now
         → Acts (spot_at before state.old) (spot W.World world.new state.new)
         (λ units. spec.with_copying words line.now (machine_of state.old units) file.now.found
         (spec.copy_records (machine_of state.old units) line.now)) result (updated_of state.new) }
-    ensures kept { state.new ≡ record state.old { table = state.new.table; places = state.new.places } }
+    ensures kept { state.new ≡ record state.old {
+      table = state.new.table;
+      places = state.new.places;
+    } }
 {
     let turn = Stamp::of(&state.moment);
     let stamp = stamp_for(&line.style, file.input.stamp, turn);
-    let Some(shape) = extended_shape(&state.table, file, own, stamp, measure) else {
-        // a file has at most 1,048,576 records, so this is never
-        return Err(End::Memory);
-    };
+    let shape = extended_shape(&state.table, file, own, stamp, measure);
     put_copied(
         alloc,
         world,
@@ -224,22 +248,42 @@ fn put_measured<W: World>(
 ) -> Result<Updated, End>
     requires usable { IsUsable (spot W.World world.old state.old) }
     requires moment { is_moment state.old.moment ≡ true }
-    requires writing { writing (item_at (letters_of state.old.table) file.now.letter) file.now.letter ≡ Ok tt }
+    requires writing { writing (item_at (letters_of state.old.table) file.now.letter)
+        file.now.letter ≡ Ok tt }
     requires file { IsFileCopy state.old.table line.now file.now }
+    requires count { measure.now.count ≤ most_records }
+    requires bytes { measure.now.bytes < 2 ^ 63 }
     requires plan { plan.now ≡ plan_for line.now (form_into line.now file.now) file.now }
-    requires size { (most : ℕ) → most ≤ longest_record → longest_fit plan.now.style.fit most ≤ longest_record }
+    requires size { (most : ℕ) → most ≤ longest_record
+        → longest_fit plan.now.style.fit most ≤ longest_record }
     requires room { longest_record ≤ vec_capacity buffer.old }
-    ensures acts { (before : Seen) (words : List tokens.Token) → HasRead before (seen W.World world.old)
-        → AreMeasured (spot W.World world.old state.old) line.now file.now (form_into line.now file.now) measure.now
+    ensures acts { (before : Seen) (words : List tokens.Token)
+        → HasRead before (seen W.World world.old)
+        → AreMeasured (spot W.World world.old state.old) line.now file.now
+        (form_into line.now file.now) measure.now
         → Acts (spot_at before state.old) (spot W.World world.new state.new)
         (λ units. spec.with_copying words line.now (machine_of state.old units) file.now.found
         (spec.copy_records (machine_of state.old units) line.now)) result (updated_of state.new) }
-    ensures kept { state.new ≡ record state.old { table = state.new.table; places = state.new.places } }
+    ensures kept { state.new ≡ record state.old {
+      table = state.new.table;
+      places = state.new.places;
+    } }
 {
     match file.extended(line) {
         Some(own) => append_measured(alloc, world, state, line, file, &own, plan, measure, buffer),
         None => copy_measured(alloc, world, state, line, file, plan, measure, buffer),
     }
+}
+
+// The format that the copy gets: no record of it is longer than a record may be.
+fn short_form(line: &CopyLine, file: &FileCopy) -> FileForm
+    requires style { IsCopyStyle line.now.style }
+    requires sound { IsFileInfo file.now.input }
+    requires there { IfSome file.now.there IsFileInfo }
+    ensures form { result ≡ form_into line.now file.now }
+    ensures short { result.length ≤ longest_record }
+{
+    file.form(line)
 }
 
 // The records of a file are read, and the copy is put: a file that is there already is replaced, or the copies are added to it. Its device
@@ -255,18 +299,19 @@ pub(crate) fn copy_records<W: World>(
     requires moment { is_moment state.old.moment ≡ true }
     requires style { IsCopyStyle line.now.style }
     requires file { IsFileCopy state.old.table line.now file.now }
-    requires writing { writing (item_at (letters_of state.old.table) file.now.letter) file.now.letter ≡ Ok tt }
+    requires writing { writing (item_at (letters_of state.old.table) file.now.letter)
+        file.now.letter ≡ Ok tt }
     requires some { line.now.style.first ≤ file.now.input.count }
-    ensures acts { (words : List tokens.Token) → Acts (spot W.World world.old state.old) (spot W.World world.new state.new)
+    ensures acts { (words : List tokens.Token)
+        → Acts (spot W.World world.old state.old) (spot W.World world.new state.new)
         (λ units. spec.with_copying words line.now (machine_of state.old units) file.now.found
         (spec.copy_records (machine_of state.old units) line.now)) result (updated_of state.new) }
-    ensures kept { state.new ≡ record state.old { table = state.new.table; places = state.new.places } }
+    ensures kept { state.new ≡ record state.old {
+      table = state.new.table;
+      places = state.new.places;
+    } }
 {
-    let form = file.form(line);
-    // what a disk tells of a file is sound, so this is never
-    if form.length > LONGEST_RECORD {
-        return Err(End::Memory);
-    }
+    let form = short_form(line, file);
     let plan = plan_of(&line.style, form, file.input.count);
     let mut buffer = Vec::with_capacity(alloc, LONGEST_RECORD as usize)?;
     let mut input = open_input(alloc, &state.table, file)?;

@@ -45,17 +45,20 @@ fn put_nth<W: World>(
 ) -> Result<(), CopyFault>
     requires room { longest_fit plan.now.style.fit (length text.now) ≤ vec_capacity buffer.old }
     requires ready { ForSome (W.told world.old) (λ j. CanWrite j.units draft.old.writer.writer) }
-    ensures puts { (start : Told) (d : Accessed) (m : minidisks.Minidisk) (change : model.Change) (stamp : stamps.Stamp)
+    ensures puts { (start : Told) (d : Accessed) (m : minidisks.Minidisk) (change : model.Change)
+        (stamp : stamps.Stamp)
         (front rest : List (List ℕ)) → length front ≡ place → place < plan.now.wanted
         → GoesOn start (W.told world.old) d m draft.old change stamp (copies_to plan.now front)
         (copies_from plan.now place (text.now ∷ rest))
-        → PutsCopies start (W.told world.new) d m draft.new change stamp (copies_to plan.now (front ++ text.now ∷ []))
+        → PutsCopies start (W.told world.new) d m draft.new change stamp
+        (copies_to plan.now (front ++ text.now ∷ []))
         (copies_from plan.now (place + 1) rest) result }
     ensures capacity { vec_capacity buffer.old ≤ vec_capacity buffer.new }
     ensures same { IsSameDraft draft.old draft.new }
     ensures still { ForSome (W.told world.new) (λ j. CanWrite j.units draft.new.writer.writer) }
     ensures fault { IfErr result (λ e. (e ≡ Write) ⊎ (e ≡ Altered)) }
-    ensures changes { ChangesUnits (seen W.World world.old) (seen W.World world.new) IsDevices result }
+    ensures changes { ChangesUnits (seen W.World world.old)
+        (seen W.World world.new) IsDevices result }
 {
     if place < plan.skipped {
         return Ok(());
@@ -82,13 +85,18 @@ pub fn put_copies<W: World>(
     buffer: &mut Vec<u8>,
     draft: &mut Draft,
 ) -> Result<(), CopyFault>
-    requires blocks { ForSome (W.told world.old) (λ j. HasBlocks j.units cursor.old.unit cursor.old.total cursor.old.bsize) }
+    requires blocks { ForSome (W.told world.old)
+        (λ j. HasBlocks j.units cursor.old.unit cursor.old.total cursor.old.bsize) }
     requires short { cursor.old.begun.longest ≤ longest_record }
-    requires room { longest_fit plan.now.style.fit cursor.old.begun.longest ≤ vec_capacity buffer.old }
+    requires room { longest_fit plan.now.style.fit cursor.old.begun.longest
+        ≤ vec_capacity buffer.old }
     requires ready { ForSome (W.told world.old) (λ j. CanWrite j.units draft.old.writer.writer) }
-    ensures puts { (start : Told) (d : Accessed) (m : minidisks.Minidisk) (change : model.Change) (stamp : stamps.Stamp)
-        (records : List (List ℕ)) → CopiesFrom start (W.told world.old) d m draft.old change stamp plan.now cursor.old records
-        → PutsCopies start (W.told world.new) d m draft.new change stamp (copies_in plan.now records) [] result }
+    ensures puts { (start : Told) (d : Accessed) (m : minidisks.Minidisk) (change : model.Change)
+        (stamp : stamps.Stamp)
+        (records : List (List ℕ))
+        → CopiesFrom start (W.told world.old) d m draft.old change stamp plan.now cursor.old records
+        → PutsCopies start (W.told world.new) d m draft.new change stamp
+        (copies_in plan.now records) [] result }
     ensures unit { (start : Told) (d : Accessed) (m : minidisks.Minidisk) (change : model.Change)
         (stamp : stamps.Stamp) (records : List (List ℕ))
         → CopiesFrom start (W.told world.old) d m draft.old change stamp plan.now cursor.old records
@@ -97,7 +105,8 @@ pub fn put_copies<W: World>(
     ensures capacity { vec_capacity buffer.old ≤ vec_capacity buffer.new }
     ensures same { IsSameDraft draft.old draft.new }
     ensures still { ForSome (W.told world.new) (λ j. CanWrite j.units draft.new.writer.writer) }
-    ensures changes { ChangesUnits (seen W.World world.old) (seen W.World world.new) IsDevices result }
+    ensures changes { ChangesUnits (seen W.World world.old)
+        (seen W.World world.new) IsDevices result }
 {
     for place in 0..plan.wanted {
         match cursor.next(world) {

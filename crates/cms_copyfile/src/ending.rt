@@ -41,10 +41,15 @@ fn end_output<W: World>(
     requires device { HasDevice state.old.table file.now.letter vdev }
     ensures acts { (old : Spot) (s : Seated) (change : List Slot → model.Change)
         → putting.Updated old (spot W.World world.old state.old) file.now.letter s change done
-        → HasDevice old.state.table file.now.letter vdev → ((units : List Slot) → names_of (change units) ≡ file.now.name ∷ [])
-        → Acts old (spot W.World world.new state.new) (λ units. updating (machine_of old.state units) file.now.letter (change units)) result
+        → HasDevice old.state.table file.now.letter vdev
+        → ((units : List Slot) → names_of (change units) ≡ file.now.name ∷ [])
+        → Acts old (spot W.World world.new state.new)
+        (λ units. updating (machine_of old.state units) file.now.letter (change units)) result
         (updated_of state.new) }
-    ensures kept { state.new ≡ record state.old { table = state.new.table; places = state.new.places } }
+    ensures kept { state.new ≡ record state.old {
+      table = state.new.table;
+      places = state.new.places;
+    } }
 {
     let changed = end_update(alloc, world, state, file.letter, vdev, done)?;
     end_writing(alloc, world, state, file.letter, vdev, &file.name, changed)
@@ -63,7 +68,8 @@ pub(crate) fn end_written<W: World>(
 ) -> Result<Updated, End>
     requires accessed { IsSome (item_at state.old.table.seats file.now.letter) }
     requires device { HasDevice state.old.table file.now.letter vdev }
-    ensures acts { (before : Seen) (mid : Spot) (words : List tokens.Token) (line : lines.CopyLine) → HasRead before mid.world
+    ensures acts { (before : Seen) (mid : Spot) (words : List tokens.Token) (line : lines.CopyLine)
+        → HasRead before mid.world
         → IsWritten mid (spot W.World world.old state.old) line file.now vdev input written
         → Acts (spot_at before mid.state) (spot W.World world.new state.new)
         (λ units. spec.with_copying words line (machine_of mid.state units) file.now.found
@@ -80,7 +86,10 @@ pub(crate) fn end_written<W: World>(
         → Acts old (spot W.World world.new state.new)
         (λ units. updating (machine_of old.state units) file.now.letter (change units)) result
         (updated_of state.new) }
-    ensures kept { state.new ≡ record state.old { table = state.new.table; places = state.new.places } }
+    ensures kept { state.new ≡ record state.old {
+      table = state.new.table;
+      places = state.new.places;
+    } }
 {
     match written {
         Written::Came(done) => end_output(alloc, world, state, file, vdev, done),

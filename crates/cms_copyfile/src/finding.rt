@@ -40,7 +40,8 @@ fn pattern_for(part: Option<Part>) -> Pattern
 
 // An output letter that is given is that of a disk that may be written.
 fn check_output(table: &Table, mode: Option<WriteMode>) -> Result<(), SearchFault>
-    ensures { (s : Machine) → Shows table.now s → spec.output_is_written (shelves_in s) mode ≡ result }
+    ensures { (s : Machine) → Shows table.now s
+        → spec.output_is_written (shelves_in s) mode ≡ result }
 {
     match mode {
         Some(mode) => table.find_write(mode.letter),
@@ -61,7 +62,8 @@ fn named_file(table: &Table, found: Found) -> Option<NamedFile>
 
 // The files that a search found, by their names.
 fn named_files(alloc: Global, table: &Table, found: &[Found]) -> Result<Vec<NamedFile>, AllocError>
-    ensures { IfOk result (λ files. files.items ≡ spec.files_named (shelves_of table.now) found.now) }
+    ensures { IfOk result (λ files. files.items
+        ≡ spec.files_named (shelves_of table.now) found.now) }
 {
     found
         .iter()
@@ -76,8 +78,10 @@ pub fn files_copied(
     table: &Table,
     line: &CopyLine,
 ) -> Result<Vec<NamedFile>, SearchFault>
-    ensures found { IfOk result (λ files. (s : Machine) → Shows table.now s → spec.files_copied s line.now ≡ Ok files.items) }
-    ensures refused { IfErr result (λ e. (e ≡ Memory) ⊎ ((s : Machine) → Shows table.now s → spec.files_copied s line.now ≡ Err e)) }
+    ensures found { IfOk result (λ files. (s : Machine) → Shows table.now s
+        → spec.files_copied s line.now ≡ Ok files.items) }
+    ensures refused { IfErr result (λ e. (e ≡ Memory)
+        ⊎ ((s : Machine) → Shows table.now s → spec.files_copied s line.now ≡ Err e)) }
 {
     let files = &line.files;
     let file = pattern_for(files.names.file);

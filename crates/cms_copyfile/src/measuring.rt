@@ -8,6 +8,7 @@ ghost use Rattle.cms_model.specs.Records.{Fits};
 ghost use Rattle.cms_model.specs.Trees.{image_of};
 ghost use Rattle.cms_edf.specs.OpeningSteps.{OfImage};
 ghost use Rattle.cms_disk.specs.Cursors.{HasLeft};
+ghost use Rattle.cms_disk.specs.Disks.{IsFileInfo};
 ghost use Rattle.cms_disk.specs.declared.fault.DiskFault.TheVariants.{Altered, Device};
 ghost use Rattle.cms_files.specs.Files.{UnitFile};
 ghost use Rattle.cms_world.specs.Seen.{OnlyReads, seen};
@@ -40,8 +41,11 @@ fn measure_copy(
     requires few { measure.old.count ≤ place }
     requires bytes { measure.old.bytes ≤ 65537 * place }
     ensures measured { (front : List (List ℕ)) → length front ≡ place
-        → measure.old ≡ measured plan.now.format (map (copied plan.now.style) (drop plan.now.skipped front))
-        → measure.new ≡ measured plan.now.format (map (copied plan.now.style) (drop plan.now.skipped (front ++ text.now ∷ []))) }
+        → measure.old
+        ≡ measured plan.now.format (map (copied plan.now.style) (drop plan.now.skipped front))
+        → measure.new
+        ≡ measured plan.now.format
+        (map (copied plan.now.style) (drop plan.now.skipped (front ++ text.now ∷ []))) }
     ensures few { measure.new.count ≤ place + 1 }
     ensures bytes { measure.new.bytes ≤ 65537 * (place + 1) }
     ensures capacity { vec_capacity buffer.old ≤ vec_capacity buffer.new }
@@ -59,16 +63,25 @@ pub fn measure_copies<W: World>(
     plan: &CopyPlan,
     buffer: &mut Vec<u8>,
 ) -> Result<Measure, DiskFault>
-    requires blocks { ForSome (W.told world.old) (λ j. HasBlocks j.units cursor.old.unit cursor.old.total cursor.old.bsize) }
+    requires blocks { ForSome (W.told world.old)
+        (λ j. HasBlocks j.units cursor.old.unit cursor.old.total cursor.old.bsize) }
     requires short { cursor.old.begun.longest ≤ longest_record }
     requires size { longest_fit plan.now.style.fit cursor.old.begun.longest ≤ longest_record }
-    requires room { longest_fit plan.now.style.fit cursor.old.begun.longest ≤ vec_capacity buffer.old }
-    ensures measured { IfOk result (λ m. OfImage (W.told world.old) cursor.old.unit (λ image. (records : List (List ℕ))
-        → HasLeft image cursor.old records → m ≡ measured plan.now.format (copies_in plan.now records))) }
-    ensures records { OnOk result (OfImage (W.told world.old) cursor.old.unit (λ image. (records : List (List ℕ))
-        → HasLeft image cursor.old records → All (Fits V longest_record) (take plan.now.wanted records))) }
+    requires room { longest_fit plan.now.style.fit cursor.old.begun.longest
+        ≤ vec_capacity buffer.old }
+    ensures measured { IfOk result (λ m. OfImage (W.told world.old) cursor.old.unit
+        (λ image. (records : List (List ℕ))
+        → HasLeft image cursor.old records
+        → m ≡ measured plan.now.format (copies_in plan.now records))) }
+    ensures records { OnOk result (OfImage (W.told world.old) cursor.old.unit
+        (λ image. (records : List (List ℕ))
+        → HasLeft image cursor.old records
+        → All (Fits V longest_record) (take plan.now.wanted records))) }
+    ensures count { IfOk result (λ m. m.count ≤ plan.now.wanted) }
+    ensures bytes { IfOk result (λ m. m.bytes < 2 ^ 63) }
     ensures fault { IfErr result (λ e. (e ≡ Device) ⊎ (e ≡ Altered)) }
-    ensures never { IfErr result (λ e. e ≡ Altered → OfImage (W.told world.old) cursor.old.unit (λ image. (records : List (List ℕ))
+    ensures never { IfErr result (λ e. e ≡ Altered
+        → OfImage (W.told world.old) cursor.old.unit (λ image. (records : List (List ℕ))
         → HasLeft image cursor.old records → ⊥)) }
     ensures capacity { vec_capacity buffer.old ≤ vec_capacity buffer.new }
     ensures reads { OnlyReads (seen W.World world.old) (seen W.World world.new) Device result }
@@ -92,18 +105,26 @@ pub(crate) fn measure_input<W: World>(
     plan: &CopyPlan,
     buffer: &mut Vec<u8>,
 ) -> Result<Measure, DiskFault>
-    requires blocks { ForSome (W.told world.old) (λ j. HasBlocks j.units cursor.old.unit cursor.old.total cursor.old.bsize) }
+    requires blocks { ForSome (W.told world.old)
+        (λ j. HasBlocks j.units cursor.old.unit cursor.old.total cursor.old.bsize) }
     requires short { cursor.old.begun.longest ≤ longest_record }
     requires size { longest_fit plan.now.style.fit cursor.old.begun.longest ≤ longest_record }
-    requires room { longest_fit plan.now.style.fit cursor.old.begun.longest ≤ vec_capacity buffer.old }
-    ensures measured { IfOk result (λ m. OfImage (W.told world.old) cursor.old.unit (λ image. (x : UnitFile)
+    requires room { longest_fit plan.now.style.fit cursor.old.begun.longest
+        ≤ vec_capacity buffer.old }
+    requires sound { IsFileInfo file.now.input }
+    ensures measured { IfOk result (λ m. OfImage (W.told world.old) cursor.old.unit
+        (λ image. (x : UnitFile)
         → IsLeftAs table.now file.now image cursor.old x
         → m ≡ measured plan.now.format (copies_in plan.now x.file.records))) }
-    ensures records { OnOk result (OfImage (W.told world.old) cursor.old.unit (λ image. (x : UnitFile)
+    ensures records { OnOk result (OfImage (W.told world.old) cursor.old.unit
+        (λ image. (x : UnitFile)
         → IsLeftAs table.now file.now image cursor.old x
         → All (Fits V longest_record) (take plan.now.wanted x.file.records))) }
+    ensures count { IfOk result (λ m. m.count ≤ plan.now.wanted) }
+    ensures bytes { IfOk result (λ m. m.bytes < 2 ^ 63) }
     ensures fault { IfErr result (λ e. (e ≡ Device) ⊎ (e ≡ Altered)) }
-    ensures never { IfErr result (λ e. e ≡ Altered → OfImage (W.told world.old) cursor.old.unit (λ image. (records : List (List ℕ))
+    ensures never { IfErr result (λ e. e ≡ Altered
+        → OfImage (W.told world.old) cursor.old.unit (λ image. (records : List (List ℕ))
         → HasLeft image cursor.old records → ⊥)) }
     ensures capacity { vec_capacity buffer.old ≤ vec_capacity buffer.new }
     ensures reads { OnlyReads (seen W.World world.old) (seen W.World world.new) Device result }

@@ -66,16 +66,20 @@ fn may_come(draft: &Draft, text: &[u8]) -> bool
 /// records that are to come. The draft is of no more use then, and the minidisk is as before.
 pub fn put_copy<W: World>(world: &mut W, draft: &mut Draft, text: &[u8]) -> Result<(), DiskFault>
     requires ready { ForSome (W.told world.old) (λ j. CanWrite j.units draft.old.writer.writer) }
-    ensures puts { (start : Told) (d : Accessed) (m : minidisks.Minidisk) (change : model.Change) (stamp : stamps.Stamp)
-        (done more : List (List ℕ)) → GoesOn start (W.told world.old) d m draft.old change stamp done (text.now ∷ more)
-        → PutsRecord start (W.told world.new) d m draft.new change stamp (done ++ text.now ∷ []) more result }
+    ensures puts { (start : Told) (d : Accessed) (m : minidisks.Minidisk) (change : model.Change)
+        (stamp : stamps.Stamp)
+        (done more : List (List ℕ))
+        → GoesOn start (W.told world.old) d m draft.old change stamp done (text.now ∷ more)
+        → PutsRecord start (W.told world.new) d m draft.new change stamp
+        (done ++ text.now ∷ []) more result }
     ensures altered { result ≡ Err Altered → (front : Front) (done more : List (List ℕ))
         → Drafts draft.old.writer front done (text.now ∷ more) → ⊥ }
     ensures more { OnOk result (HasMore draft.old.writer draft.new.writer text.now) }
     ensures same { IsSameDraft draft.old draft.new }
     ensures still { ForSome (W.told world.new) (λ j. CanWrite j.units draft.new.writer.writer) }
     ensures fault { IfErr result (λ e. (e ≡ Device) ⊎ (e ≡ Altered)) }
-    ensures changes { ChangesUnits (seen W.World world.old) (seen W.World world.new) IsDevices result }
+    ensures changes { ChangesUnits (seen W.World world.old)
+        (seen W.World world.new) IsDevices result }
 {
     if !may_come(draft, text) {
         return Err(DiskFault::Altered);

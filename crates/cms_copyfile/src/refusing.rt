@@ -42,7 +42,8 @@ pub fn stop_unread<W: World>(
     fault: DiskFault,
 ) -> Result<Updated, End>
     ensures { Acts (spot W.World world.old state.now) (spot W.World world.new state.now)
-        (λ units. stopping (unread (machine_of state.now units) vdev fault)) result (updated_of state.now) }
+        (λ units. stopping (unread (machine_of state.now units) vdev fault)) result
+        (updated_of state.now) }
 {
     stopped(refuse_unread(alloc, world, vdev, fault))
 }
@@ -55,7 +56,8 @@ pub fn stop_too_few<W: World>(
     count: u32,
 ) -> Result<Updated, End>
     ensures { Acts (spot W.World world.old state.now) (spot W.World world.new state.now)
-        (λ units. stopping (spec.too_few (machine_of state.now units) count)) result (updated_of state.now) }
+        (λ units. stopping (spec.too_few (machine_of state.now units) count)) result
+        (updated_of state.now) }
 {
     stopped(refuse_too_few(alloc, world, count))
 }

@@ -47,7 +47,8 @@ fn stop_there<W: World>(
     file: &FileCopy,
 ) -> Result<Updated, End>
     ensures { Acts (spot W.World world.old state.now) (spot W.World world.new state.now)
-        (λ units. spec.there_already (machine_of state.now units) words.now line.now file.now.letter file.now.name) result
+        (λ units. spec.there_already
+        (machine_of state.now units) words.now line.now file.now.letter file.now.name) result
         (updated_of state.now) }
 {
     let mode = mode_shown(alloc, words.as_slice(), line.files.output.mode, file.letter)?;
@@ -67,11 +68,16 @@ fn copy_into<W: World>(
     requires moment { is_moment state.old.moment ≡ true }
     requires style { IsCopyStyle line.now.style }
     requires file { IsFileCopy state.old.table line.now file.now }
-    requires writing { writing (item_at (letters_of state.old.table) file.now.letter) file.now.letter ≡ Ok tt }
+    requires writing { writing (item_at (letters_of state.old.table) file.now.letter)
+        file.now.letter ≡ Ok tt }
     ensures acts { Acts (spot W.World world.old state.old) (spot W.World world.new state.new)
         (λ units. spec.with_copying words.now line.now (machine_of state.old units) file.now.found
-        (spec.copy_into (machine_of state.old units) words.now line.now)) result (updated_of state.new) }
-    ensures kept { state.new ≡ record state.old { table = state.new.table; places = state.new.places } }
+        (spec.copy_into (machine_of state.old units) words.now line.now)) result
+        (updated_of state.new) }
+    ensures kept { state.new ≡ record state.old {
+      table = state.new.table;
+      places = state.new.places;
+    } }
 {
     if is_refused(line.style.existing, file.there) {
         return stop_there(alloc, world, state, words, line, file);
@@ -95,7 +101,10 @@ fn erase_input<W: World>(
     ensures acts { Acts (spot W.World world.old state.old) (spot W.World world.new state.new)
         (λ units. spec.erasing (may_erase_input line.now file.now) file.now.found.letter
         file.now.input.name (Did (machine_of state.old units))) result (updated_of state.new) }
-    ensures kept { state.new ≡ record state.old { table = state.new.table; places = state.new.places } }
+    ensures kept { state.new ≡ record state.old {
+      table = state.new.table;
+      places = state.new.places;
+    } }
 {
     if !file.may_erase(line) {
         return Ok(Updated::Done);
@@ -116,11 +125,16 @@ fn copy_erased<W: World>(
     requires moment { is_moment state.old.moment ≡ true }
     requires style { IsCopyStyle line.now.style }
     requires file { IsFileCopy state.old.table line.now file.now }
-    requires writing { writing (item_at (letters_of state.old.table) file.now.letter) file.now.letter ≡ Ok tt }
+    requires writing { writing (item_at (letters_of state.old.table) file.now.letter)
+        file.now.letter ≡ Ok tt }
     ensures acts { Acts (spot W.World world.old state.old) (spot W.World world.new state.new)
         (λ units. spec.with_copying words.now line.now (machine_of state.old units) file.now.found
-        (spec.copy_erased (machine_of state.old units) words.now line.now)) result (updated_of state.new) }
-    ensures kept { state.new ≡ record state.old { table = state.new.table; places = state.new.places } }
+        (spec.copy_erased (machine_of state.old units) words.now line.now)) result
+        (updated_of state.new) }
+    ensures kept { state.new ≡ record state.old {
+      table = state.new.table;
+      places = state.new.places;
+    } }
 {
     match copy_into(alloc, world, state, words, line, file)? {
         Updated::Done => erase_input(alloc, world, state, line, file),
@@ -141,11 +155,16 @@ fn copy_told<W: World>(
     requires moment { is_moment state.old.moment ≡ true }
     requires style { IsCopyStyle line.now.style }
     requires file { IsFileCopy state.old.table line.now file.now }
-    requires writing { writing (item_at (letters_of state.old.table) file.now.letter) file.now.letter ≡ Ok tt }
+    requires writing { writing (item_at (letters_of state.old.table) file.now.letter)
+        file.now.letter ≡ Ok tt }
     ensures acts { Acts (spot W.World world.old state.old) (spot W.World world.new state.new)
         (λ units. spec.with_copying words.now line.now (machine_of state.old units) file.now.found
-        (spec.copy_told (machine_of state.old units) words.now line.now)) result (updated_of state.new) }
-    ensures kept { state.new ≡ record state.old { table = state.new.table; places = state.new.places } }
+        (spec.copy_told (machine_of state.old units) words.now line.now)) result
+        (updated_of state.new) }
+    ensures kept { state.new ≡ record state.old {
+      table = state.new.table;
+      places = state.new.places;
+    } }
 {
     let text = copy_text(alloc, &file.input_shown(), &file.output_shown(line))?;
     let updated = copy_erased(alloc, world, state, words, line, file)?;
@@ -166,8 +185,12 @@ fn copy_of<W: World>(
     requires style { IsCopyStyle line.now.style }
     requires file { IsFileCopy state.old.table line.now file.now }
     ensures acts { Acts (spot W.World world.old state.old) (spot W.World world.new state.new)
-        (λ units. spec.copy_found words.now line.now (machine_of state.old units) file.now.found) result (updated_of state.new) }
-    ensures kept { state.new ≡ record state.old { table = state.new.table; places = state.new.places } }
+        (λ units. spec.copy_found words.now line.now (machine_of state.old units) file.now.found)
+        result (updated_of state.new) }
+    ensures kept { state.new ≡ record state.old {
+      table = state.new.table;
+      places = state.new.places;
+    } }
 {
     match state.table.find_write(file.letter) {
         Ok(()) => copy_told(alloc, world, state, words, line, file),
@@ -213,8 +236,12 @@ fn copy_files<W: World>(
     requires moment { is_moment state.old.moment ≡ true }
     requires style { IsCopyStyle line.now.style }
     ensures acts { Acts (spot W.World world.old state.old) (spot W.World world.new state.new)
-        (λ units. spec.copy_files (machine_of state.old units) words.now line.now) result (course_of state.new) }
-    ensures kept { state.new ≡ record state.old { table = state.new.table; places = state.new.places } }
+        (λ units. spec.copy_files (machine_of state.old units) words.now line.now) result
+        (course_of state.new) }
+    ensures kept { state.new ≡ record state.old {
+      table = state.new.table;
+      places = state.new.places;
+    } }
 {
     match files_copied(alloc, &state.table, line) {
         Ok(files) => {
@@ -236,8 +263,12 @@ pub fn run_copyfile<W: World>(
     requires usable { IsUsable (spot W.World world.old state.old) }
     requires moment { is_moment state.old.moment ≡ true }
     ensures acts { Acts (spot W.World world.old state.old) (spot W.World world.new state.new)
-        (λ units. spec.copyfile (machine_of state.old units) words.now) result (course_of state.new) }
-    ensures kept { state.new ≡ record state.old { table = state.new.table; places = state.new.places } }
+        (λ units. spec.copyfile (machine_of state.old units) words.now) result
+        (course_of state.new) }
+    ensures kept { state.new ≡ record state.old {
+      table = state.new.table;
+      places = state.new.places;
+    } }
 {
     match copy_line(alloc, words) {
         Ok(line) => copy_files(alloc, world, state, words, &line),

@@ -1,5 +1,5 @@
 // What a file is to be that is drafted of copies.
-ghost use Rattle.std.specs.Prelude.{◌≡◌, ℕ, List, IfSome};
+ghost use Rattle.std.specs.Prelude.{◌≡◌, ◌+◌, ◌^◌, ◌<◌, ℕ, List};
 ghost use Rattle.cms_names.specs.declared.name.Name as names;
 ghost use Rattle.cms_disk.specs.Drafts as drafts;
 ghost use Rattle.cms_disk.specs.Drafts.{HaveCounts};
@@ -25,8 +25,10 @@ fn length_in(form: FileForm, longest: u32) -> u32
 
 /// The shape of a file of records that were measured.
 pub fn shape_of(form: FileForm, number: u8, stamp: Stamp, measure: &Measure) -> DraftShape
-    ensures counts { (records : List (List ℕ)) → measure.now ≡ measured form.format records → HaveCounts result records }
-    ensures file { (name : names.Name) (records : List (List ℕ)) → measure.now ≡ measured form.format records
+    ensures counts { (records : List (List ℕ)) → measure.now ≡ measured form.format records
+        → HaveCounts result records }
+    ensures file { (name : names.Name) (records : List (List ℕ))
+        → measure.now ≡ measured form.format records
         → drafts.file_with name result records ≡ file_with name number form stamp records }
 {
     let length = length_in(form, measure.longest);
@@ -50,22 +52,18 @@ fn length_behind(info: &FileInfo, longest: u32) -> u32
     }
 }
 
-/// The shape of a file of which this is told, with so many stored bytes, and with records behind its own that were measured; none where
-/// these are more than a number counts.
-pub fn shape_behind(
-    info: &FileInfo,
-    stored: u32,
-    stamp: Stamp,
-    more: &Measure,
-) -> Option<DraftShape>
-    ensures { IfSome result (λ shape. shape ≡ spec.shape_behind info.now stored stamp more.now) }
+/// The shape of a file of which this is told, with so many stored bytes, and with records behind its own that were measured.
+pub fn shape_behind(info: &FileInfo, stored: u32, stamp: Stamp, more: &Measure) -> DraftShape
+    requires count { info.now.count + more.now.count < 2 ^ 32 }
+    requires bytes { more.now.bytes < 2 ^ 63 }
+    ensures { result ≡ spec.shape_behind info.now stored stamp more.now }
 {
-    Some(DraftShape {
+    DraftShape {
         format: info.format,
         length: length_behind(info, more.longest),
         number: info.number,
         stamp,
-        count: info.count.checked_add(more.count)?,
-        bytes: u64::from(stored).checked_add(more.bytes)?,
-    })
+        count: info.count + more.count,
+        bytes: u64::from(stored) + more.bytes,
+    }
 }

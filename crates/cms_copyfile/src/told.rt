@@ -1,8 +1,9 @@
 // The copies of a file as they are measured with no read: by what its disk tells of it.
-ghost use Rattle.std.specs.Prelude.{◌≡◌, ◌≤◌, ℕ, true, List, length, map, All, IfSome};
-ghost use Rattle.cms_fields.specs.Limits.{longest_record};
+ghost use Rattle.std.specs.Prelude.{◌≡◌, ◌^◌, ◌<◌, ◌≤◌, ℕ, true, List, length, map, All, IfSome};
 ghost use Rattle.cms_names.specs.declared.name.Format.TheVariants.{F, V};
 ghost use Rattle.cms_model.specs.Records.{Fits};
+ghost use Rattle.cms_fields.specs.Limits.{most_records};
+ghost use Rattle.cms_disk.specs.Disks.{IsFileInfo};
 ghost use Rattle.cms_search.specs.Machine.{Machine};
 ghost use Rattle.cms_search.specs.Shows.{Shows};
 ghost use Rattle.cms_files.specs.Files.{UnitFile};
@@ -16,7 +17,6 @@ use crate::measure::{Measure, head_bytes};
 use crate::output::CopyPlan;
 use crate::record::{Fit, RecordStyle};
 use cms_disk::FileInfo;
-use cms_fields::LONGEST_RECORD;
 use cms_files::stored_named;
 use cms_names::Format;
 use cms_search::Table;
@@ -24,7 +24,8 @@ use cms_search::Table;
 // How long each record of a file is before it is cut or filled, where all are as long.
 fn length_before(info: &FileInfo, style: &RecordStyle) -> Option<u32>
     ensures { IfSome result (λ n. (text : List ℕ) → Fits info.now.format info.now.length text
-        → length (truncated_if style.now.truncates style.now.fill (folded style.now.fold text)) ≡ n) }
+        → length (truncated_if style.now.truncates style.now.fill (folded style.now.fold text))
+        ≡ n) }
 {
     match (info.format, style.truncates) {
         (Format::F, false) => Some(info.length),
@@ -46,8 +47,12 @@ fn length_of_each(info: &FileInfo, style: &RecordStyle) -> Option<u32>
 
 // Of so many copies, all of one length.
 fn measure_equal(format: Format, count: u32, size: u32) -> Measure
-    ensures { (records : List (List ℕ)) → All (Fits F size) records → length records ≡ count
+    requires { count ≤ most_records }
+    ensures measured { (records : List (List ℕ)) → All (Fits F size) records
+        → length records ≡ count
         → result ≡ measured format records }
+    ensures count { result.count ≡ count }
+    ensures bytes { result.bytes < 2 ^ 63 }
 {
     Measure {
         count,
@@ -58,8 +63,10 @@ fn measure_equal(format: Format, count: u32, size: u32) -> Measure
 
 // How many of a file's records are copied.
 fn count_of(info: &FileInfo, plan: &CopyPlan) -> u32
-    ensures { (records : List (List ℕ)) → info.now.count ≡ length records
+    ensures copies { (records : List (List ℕ)) → info.now.count ≡ length records
         → result ≡ length (copies_in plan.now records) }
+    ensures few { result ≤ info.now.count }
+    ensures wanted { result ≤ plan.now.wanted }
 {
     info.count.min(plan.wanted).saturating_sub(plan.skipped)
 }
@@ -81,8 +88,9 @@ fn keeps_lengths(info: &FileInfo, style: &RecordStyle) -> bool
 
 // Whether all records of a file are copied.
 fn copies_all(info: &FileInfo, plan: &CopyPlan) -> bool
-    ensures { result ≡ true → (records : List (List ℕ)) → info.now.count ≡ length records
+    ensures copies { result ≡ true → (records : List (List ℕ)) → info.now.count ≡ length records
         → copies_in plan.now records ≡ map (copied plan.now.style) records }
+    ensures wanted { result ≡ true → info.now.count ≤ plan.now.wanted }
 {
     plan.skipped == 0 && info.count <= plan.wanted
 }
@@ -99,8 +107,11 @@ fn stays_varying(info: &FileInfo, plan: &CopyPlan) -> bool
 
 // The copies of a file of varying records that are all as long as its records: they fill as many bytes.
 fn measure_whole(table: &Table, file: &FileCopy, plan: &CopyPlan) -> Option<Measure>
-    ensures { IfSome result (λ m. (s : Machine) (x : UnitFile) → Shows table.now s → IsFoundAs s file.now x
+    ensures measured { IfSome result
+        (λ m. (s : Machine) (x : UnitFile) → Shows table.now s → IsFoundAs s file.now x
         → m ≡ measured plan.now.format (copies_in plan.now x.file.records)) }
+    ensures count { IfSome result (λ m. m.count ≤ plan.now.wanted) }
+    ensures bytes { IfSome result (λ m. m.bytes < 2 ^ 63) }
 {
     let info = &file.input;
     if !stays_varying(info, plan) || !copies_all(info, plan) || !keeps_lengths(info, &plan.style) {
@@ -117,16 +128,14 @@ fn measure_whole(table: &Table, file: &FileCopy, plan: &CopyPlan) -> Option<Meas
 // The copies of a file, where what its disk tells of it says how long they are. It doesn't where varying records become others of varying
 // lengths, or some of them are copied.
 pub(crate) fn measure_told(table: &Table, file: &FileCopy, plan: &CopyPlan) -> Option<Measure>
-    ensures some { IfSome result (λ m. 1 ≤ file.now.input.length) }
-    ensures short { IfSome result (λ m. file.now.input.length ≤ longest_record) }
+    requires sound { IsFileInfo file.now.input }
     ensures measured { IfSome result (λ m. (s : Machine) (x : UnitFile) → Shows table.now s
-        → IsFoundAs s file.now x → m ≡ measured plan.now.format (copies_in plan.now x.file.records)) }
+        → IsFoundAs s file.now x
+        → m ≡ measured plan.now.format (copies_in plan.now x.file.records)) }
+    ensures count { IfSome result (λ m. m.count ≤ plan.now.wanted) }
+    ensures bytes { IfSome result (λ m. m.bytes < 2 ^ 63) }
 {
     let info = &file.input;
-    // no other length is told of a file
-    if !(1..=LONGEST_RECORD).contains(&info.length) {
-        return None;
-    }
     match length_of_each(info, &plan.style) {
         Some(length) => Some(measure_equal(plan.format, count_of(info, plan), length)),
         None => measure_whole(table, file, plan),

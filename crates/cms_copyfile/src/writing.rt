@@ -56,9 +56,11 @@ pub enum Written {
 // Makes a draft a file of the disk of a letter, where it has all its records.
 fn finish<W: World>(world: &mut W, table: &mut Table, letter: u8, draft: Draft) -> Written
     requires accessed { IsSome (item_at table.old.seats letter) }
-    requires may { ForSome (item_at table.old.seats letter) (λ s. MayCommit (W.told world.old) s.disk draft) }
+    requires may { ForSome (item_at table.old.seats letter)
+        (λ s. MayCommit (W.told world.old) s.disk draft) }
     ensures finishes { IfSome (item_at table.old.seats letter) (λ s. FinishesSeat
-        (seen W.World world.old) (seen W.World world.new) table.old table.new letter s draft result) }
+        (seen W.World world.old)
+        (seen W.World world.new) table.old table.new letter s draft result) }
     ensures read { result ≢ Unread }
 {
     if draft.records_left() != 0 {
@@ -82,12 +84,16 @@ fn fill<W: World>(
     buffer: &mut Vec<u8>,
 ) -> Written
     requires accessed { IsSome (item_at table.old.seats letter) }
-    requires may { ForSome (item_at table.old.seats letter) (λ s. MayCommit (W.told world.old) s.disk draft) }
-    requires blocks { ForSome (W.told world.old) (λ j. HasBlocks j.units cursor.old.unit cursor.old.total cursor.old.bsize) }
+    requires may { ForSome (item_at table.old.seats letter)
+        (λ s. MayCommit (W.told world.old) s.disk draft) }
+    requires blocks { ForSome (W.told world.old)
+        (λ j. HasBlocks j.units cursor.old.unit cursor.old.total cursor.old.bsize) }
     requires short { cursor.old.begun.longest ≤ longest_record }
-    requires room { longest_fit plan.now.style.fit cursor.old.begun.longest ≤ vec_capacity buffer.old }
+    requires room { longest_fit plan.now.style.fit cursor.old.begun.longest
+        ≤ vec_capacity buffer.old }
     ensures fills { IfSome (item_at table.old.seats letter) (λ s. FillsSeat
-        (seen W.World world.old) (seen W.World world.new) table.old table.new letter s draft plan.now
+        (seen W.World world.old)
+        (seen W.World world.new) table.old table.new letter s draft plan.now
         cursor.old result) }
     ensures unit { ForSome (item_at table.old.seats letter) (λ s. FillFailsOn
         (W.told world.old) (W.told world.new) s.disk draft plan.now cursor.old cursor.new result) }
@@ -108,9 +114,11 @@ fn plan_target<W: World>(
     to: &CopyTarget,
 ) -> Result<Draft, DiskFault>
     requires accessed { IsSome (item_at table.old.seats to.now.letter) }
-    requires may { ForSome (item_at table.old.seats to.now.letter) (λ s. MayWrite (W.told world.old) s.disk to.now) }
+    requires may { ForSome (item_at table.old.seats to.now.letter)
+        (λ s. MayWrite (W.told world.old) s.disk to.now) }
     requires stamp { is_stamp to.now.stamp ≡ true }
-    ensures { IfSome (item_at table.old.seats to.now.letter) (λ s. PlansSeat (seen W.World world.old) (seen W.World world.new)
+    ensures { IfSome (item_at table.old.seats to.now.letter)
+        (λ s. PlansSeat (seen W.World world.old) (seen W.World world.new)
         table.old table.new s to.now result) }
 {
     match to.write {
@@ -136,11 +144,14 @@ pub fn write_copies<W: World>(
     buffer: &mut Vec<u8>,
 ) -> Written
     requires accessed { IsSome (item_at table.old.seats to.now.letter) }
-    requires may { ForSome (item_at table.old.seats to.now.letter) (λ s. MayWrite (W.told world.old) s.disk to.now) }
+    requires may { ForSome (item_at table.old.seats to.now.letter)
+        (λ s. MayWrite (W.told world.old) s.disk to.now) }
     requires stamp { is_stamp to.now.stamp ≡ true }
-    requires blocks { ForSome (W.told world.old) (λ j. HasBlocks j.units cursor.old.unit cursor.old.total cursor.old.bsize) }
+    requires blocks { ForSome (W.told world.old)
+        (λ j. HasBlocks j.units cursor.old.unit cursor.old.total cursor.old.bsize) }
     requires short { cursor.old.begun.longest ≤ longest_record }
-    requires room { longest_fit plan.now.style.fit cursor.old.begun.longest ≤ vec_capacity buffer.old }
+    requires room { longest_fit plan.now.style.fit cursor.old.begun.longest
+        ≤ vec_capacity buffer.old }
     ensures writes { IfSome (item_at table.old.seats to.now.letter) (λ s. WritesSeat
         (seen W.World world.old) (seen W.World world.new) table.old table.new s to.now plan.now
         cursor.old result) }

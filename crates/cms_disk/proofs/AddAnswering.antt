@@ -132,7 +132,7 @@ module _ (j : Journal) (d : Accessed) (m : Minidisk) (name : Name) (shape : Draf
 
 -- ---- of the file of a name
 
-added_to : (j : Journal) (d : Accessed) (m : Minidisk) (name : Name) (shape : DraftShape) (file : File) (records : List (List ℕ)) (h : HeldFile) (at : IsFileOf d.volume name h) → Keeps d.volume
+pub added_to : (j : Journal) (d : Accessed) (m : Minidisk) (name : Name) (shape : DraftShape) (file : File) (records : List (List ℕ)) (h : HeldFile) (at : IsFileOf d.volume name h) → Keeps d.volume
     → IsMinidisk j d m → IsReadable j d → file_named name m.files ≡ Some file → HaveCounts shape (file.records ++ records) → shape.format ≡ h.entry.format
     → IsAdded j d m name shape file records h at
 added_to j d m name shape file records h at keeps x has named counts format =

@@ -1,46 +1,56 @@
 -- Records that are added to a file, where a read failed first.
-use Rattle.std.proofs.Common.{◌≡◌, inl, inr, ⊎_elim, ℕ, false, List, [], ◌∷◌, Option, Some, None, Result, Ok, Err, refl, sym, ◌∙◌, ap, subst}
+use Rattle.std.proofs.Common.{◌≡◌, inl, inr, ⊎_elim, ℕ, false, List, [], ◌∷◌, Option, None, Result, Ok, Err, refl, sym, ◌∙◌, ap, subst, arith}
 use Rattle.std.specs.Prelude.{unwrap_or, ⊤}
 use Rattle.cms_world.specs.Seen.{ChangesUnits, OnlyReads, Seen}
-use Rattle.cms_journal.specs.Told.{Told}
+use Rattle.cms_journal.specs.declared.event.Event.{Event}
+use Rattle.cms_journal.specs.Told.{Told, plus}
 use Rattle.cms_names.specs.declared.name.Name.{Name}
 use Rattle.cms_fields.specs.declared.time.Stamp.{Stamp}
-use Rattle.cms_model.specs.Minidisks.{Minidisk, Volume}
+use Rattle.cms_model.specs.Minidisks.{Minidisk, State, Volume}
+use Rattle.cms_model.specs.Volumes.{Disk}
+use Rattle.cms_model.proofs.Fronts.{front_nil}
 use Rattle.cms_model.specs.Changes.{Add, Answer, Change, Changed, Full, Limited, answer_of, changed, file_named}
-use Rattle.cms_machine.specs.Beats.{Covers}
 use Rattle.cms_machine.specs.Slots.{Settled, Slot, set_of}
 use Rattle.cms_machine.specs.Steps.{MayPut, ReadFault, after_put, put_syncs}
-use Rattle.cms_machine.proofs.Aside.{of_disk}
 use Rattle.cms_model.specs.declared.file.FileData.{FileData}
 use Rattle.cms_draft.specs.declared.shape.DraftShape.{DraftShape}
 use Rattle.cms_disk.specs.Additions.{HasRoomFor, IsAddFault, IsMoreFault, IsNotExtended}
 use Rattle.cms_disk.specs.Changing.{Alters, Appends, ChangesDisk, IsDevices, Unread}
 use Rattle.cms_disk.specs.Disks.{Accessed, place_of}
 use Rattle.cms_disk.specs.Drafts.{IsAnsweredBy, WritesAside}
+use Rattle.cms_disk.specs.Leaving.{CoversOn, LeavesOn}
 use Rattle.cms_disk.specs.declared.fault.DiskFault.{DiskFault}
 use Rattle.cms_disk.specs.declared.fault.DiskFault.TheVariants as failed
-use Rattle.cms_disk.proofs.Beside.{stamped_any}
 use Rattle.cms_disk.proofs.Extending.{Shaped, shape_told}
 use Rattle.cms_disk.proofs.FilePut.{changed_behind}
 
+-- what a crash leaves of nothing, where it leaves the same of more
+covers_none : (disk : Disk) (told : Told) (es : List Event) (u : ℕ) (states : List State) → CoversOn disk told es u states states → CoversOn disk told [] u states states
+covers_none disk told es u states c = record {
+  inside = λ front rest is x leaves. c.inside [] es refl x (subst (λ (l : List Event). LeavesOn disk (plus told l) u x) (front_nil front (record { rest = rest; is = is })) leaves);
+  whole = λ x leaves. ⊎_elim (λ a. a) (λ b. b) (c.inside [] es refl x leaves);
+}
+
 -- nothing was written
-pub unread_so : (told : Told) (d : Accessed) (m : Minidisk) (name : Name) (more : List (List ℕ)) (st stamp : Stamp) (after : Minidisk) → WritesAside told told d.volume.unit m
+pub unread_so : (told : Told) (d : Accessed) (m : Minidisk) (name : Name) (more : List (List ℕ)) (st stamp : Stamp) (after : Minidisk) → WritesAside told told d.volume.disk d.volume.unit m
     → answer_of m (Add name more st) ≡ Changed after → Unread told told d m (Add name more st) stamp
 unread_so told d m name more st stamp after a answer = record {
   same = refl;
   after = after;
   answer = answer;
   changes = record {
-    events = a.events;
-    told = a.told;
-    of_unit = a.of_unit;
+    events = [];
+    told = refl;
+    of_unit = tt;
     fits = record {
-      disk = of_disk d.volume.unit a.events a.of_unit;
-      synced = a.unsynced ∙ sym (no_syncs (answer_of m (Add name more st)));
-      stamped = stamped_any d.volume.unit (Some stamp) a.events a.aside;
+      disk = tt;
+      synced = sym (no_syncs (answer_of m (Add name more st)));
+      stamped = tt;
+      few = omega arith;
       outcome = subst (λ (x : Answer). MayPut (Add name more st) x (ReadFault 0)) (sym answer) (refl, refl, refl);
     };
-    covers = subst (λ (s : Option Slot). Covers told a.events d.volume.unit (Volume m ∷ []) (set_of (unwrap_or s (Settled (Volume m))))) (sym (stays (answer_of m (Add name more st)))) a.covers;
+    covers = subst (λ (s : Option Slot). CoversOn d.volume.disk told [] d.volume.unit (Volume m ∷ []) (set_of (unwrap_or s (Settled (Volume m))))) (sym (stays (answer_of m (Add name more st))))
+        (covers_none d.volume.disk told a.events d.volume.unit (Volume m ∷ []) a.covers);
   };
 }
   where
@@ -56,7 +66,7 @@ unread_so told d m name more st stamp after a answer = record {
 
 -- an addition that isn't drafted: nothing was done, for this reason
 pub more_refused : (T : Type 0) (old new : Told) (d e : Accessed) (m : Minidisk) (name : Name) (shape : DraftShape) (stamp : Stamp) (more : List (List ℕ)) (why : DiskFault) → new ≡ old
-    → WritesAside old old d.volume.unit m → (place_of name d.volume ≡ None → file_named name m.files ≡ None) → IsMoreFault d name shape why
+    → WritesAside old old d.volume.disk d.volume.unit m → (place_of name d.volume ≡ None → file_named name m.files ≡ None) → IsMoreFault d name shape why
     → IsAnsweredBy {T = T} (answer_of m (Add name more shape.stamp)) (changed m (Add name more shape.stamp)) (Err why)
     → Appends old new d e m (Add name more shape.stamp) stamp (Err why)
 more_refused T old new d e m name shape stamp more failed.NotFound same aside none fault answer = (same, none fault)

@@ -1,5 +1,5 @@
 -- A change of a minidisk is a device step of a machine.
-use Rattle.std.proofs.Common.{◌≡◌, inl, inr, ⊎_elim, ℕ, ◌-◌, Bool, false, List, [], ◌∷◌, length, Option, Some, None, Result, Ok, Err, refl, sym, ◌∙◌, ap, subst, arith}
+use Rattle.std.proofs.Common.{◌≡◌, inl, inr, ⊎_elim, ℕ, ◌+◌, ◌-◌, ◌≤◌, Bool, false, List, [], ◌∷◌, length, Option, Some, None, Result, Ok, Err, refl, sym, ◌∙◌, ap, subst, arith}
 use Rattle.std.specs.Prelude.{if◌then◌else◌, ◌↔◌, ⊤, IfErr, OnOk, IsSome, IsTrue, not, unwrap_or}
 use Rattle.std.proofs.lemmas.Bool.{false≢true}
 use Rattle.cms_journal.specs.declared.event.Event.{Event}
@@ -7,10 +7,11 @@ use Rattle.cms_journal.specs.declared.event.Event.TheVariants.{Wrote, Synced}
 use Rattle.cms_journal.specs.Journal.{Journal}
 use Rattle.cms_journal.specs.Told.{Told, Grown, plus, syncs, OnlyOf}
 use Rattle.cms_journal.proofs.Events.{all_join}
+use Rattle.cms_fields.specs.declared.label.Label.{Label}
 use Rattle.cms_fields.specs.declared.time.Stamp.{Stamp}
 use Rattle.cms_model.specs.Lists.{cut}
 use Rattle.cms_model.specs.Minidisks.{File, Minidisk}
-use Rattle.cms_model.specs.Changes.{Century, Change, Changed, Full, Drop, Rename, answer_of, changed, file_named}
+use Rattle.cms_model.specs.Changes.{Century, Change, Changed, Full, Drop, Rename, answer_of, changed, changed_volid, file_named, need}
 use Rattle.cms_model.specs.Settled.{update, writes}
 use Rattle.cms_model.specs.LawsUpdates.{IsFront, after, now, relabel, to_label, with_label}
 use Rattle.cms_model.proofs.Fronts.{none_front}
@@ -44,14 +45,14 @@ use Rattle.cms_edf.specs.declared.doubt.Doubt.{Doubt}
 use Rattle.cms_edf.proofs.Planned.{count_is}
 use Rattle.cms_edf.proofs.Planned.{named_at as named_in}
 use Rattle.cms_held.proofs.Carried.{edit_writes, lacking_is_full}
-use Rattle.cms_disk.specs.Changing.{Altered, Alters, Doubted, IsChangeFault, IsOnSame, Kept, fault_of, needed_for, refusal_of}
+use Rattle.cms_disk.specs.Changing.{Altered, Alters, Doubted, FilesThen, HeldThen, IsChangeFault, IsOnSame, Kept, fault_of, needed_for, refusal_of}
 use Rattle.cms_disk.specs.declared.fault.DiskFault.TheVariants as refused
-use Rattle.cms_disk.specs.Disks.{Accessed, IsLookedAt, IsMinidisk, IsReadable}
+use Rattle.cms_disk.specs.Disks.{Accessed, IsMinidisk, IsReadable}
 use Rattle.cms_disk.specs.Disks.{place_of as place_named}
 use Rattle.cms_disk.proofs.Courses.{Course, held_minidisk, in_doubt, made, stamped_writes, unmade}
 use Rattle.cms_disk.proofs.Finding.{none_found}
 use Rattle.cms_disk.proofs.Standing.{named_at}
-use Rattle.cms_disk.proofs.StepPieces.{label_aside, one_sync, only_update, told_after, AreWhole, update_whole}
+use Rattle.cms_disk.proofs.StepPieces.{label_aside, one_sync, only_update, told_after, AreWhole, update_whole, written_held}
 
 -- ---- the events of a step: those of its unit alone, with its stamp
 
@@ -81,7 +82,6 @@ pub record Setting (j : Journal) (old : Told) (d : Accessed) (m : Minidisk) (cha
   pub told_is : old ≡ Some j
   pub is : IsMinidisk j d m
   pub readable : IsReadable j d
-  pub looked : IsLookedAt j d
   pub kept : Keeps d.volume
   pub plan : IsPlanFor d.volume change stamp s
 
@@ -104,7 +104,6 @@ course_of j old d m change stamp s x =
     let held = held_of j old d m change stamp s x in
     let m' = moves j d.volume m change stamp s x.kept held x.plan in
     record {
-      looked = x.looked;
       answer = m'.answer;
       before = m'.before;
       either = m'.either;
@@ -112,6 +111,7 @@ course_of j old d m change stamp s x =
       stamped = stamped_step j d.volume m change stamp s held x.plan;
       front = safe_front d.volume s;
       sized = whole_step j d.volume m change stamp s held x.plan;
+      small = subst (λ (n : ℕ). n ≤ need m change + 2) (written_held (step_events d.volume s)) m'.small;
     }
 
 -- the step's syncs
@@ -187,6 +187,41 @@ doubted j old new d m change stamp (step.Relabel label bytes) x (is, may) =
     (λ more. doubted_at j old new d m change stamp (step.Relabel label bytes) x (Wrote u 3 bytes.items ∷ []) more (record { rest = Synced u ∷ []; is = refl })
     (λ side. ap (λ (k : Change). put_syncs k (Changed (changed m change)) (EitherFault side)) (sym x.plan.1)))
     may
+
+-- the files behind an edit
+edit_then : (v : HeldVolume) (edit : Edit) (change : Change) → IsEditOf v edit change → FilesThen v.files change edit.files
+edit_then v edit change (drops place f there) = record { place = place; file = f; there = there; named = refl; are = refl }
+edit_then v edit change (renames place f to number there small free) = record { place = place; file = f; there = there; named = refl; are = refl }
+edit_then v edit change (edit_of.moves pivot small) = refl
+
+edit_volid : (v : HeldVolume) (edit : Edit) (change : Change) → IsEditOf v edit change → changed_volid v.label.volid change ≡ v.label.volid
+edit_volid v edit change (drops place f there) = refl
+edit_volid v edit change (renames place f to number there small free) = refl
+edit_volid v edit change (edit_of.moves pivot small) = refl
+
+-- what is held then
+pub held_then : (v w : HeldVolume) (change : Change) (stamp : Stamp) (s : Step) → IsPlanFor v change stamp s → LeadsTo v s w → HeldThen v change w
+held_then v w change stamp (step.Edit e s) p leads =
+    let is = leads p.edit p.done in
+    let edit = p.edit in
+    let label = p.ready.planned.label in
+    record {
+      files = subst (FilesThen v.files change) (sym (ap (λ (x : HeldVolume). x.files) is)) (edit_then v edit change p.is);
+      same = record {
+        volid_is = ap (λ (x : HeldVolume). x.label.volid) is ∙ (ap (λ (l : Label). l.volid) label ∙ sym (edit_volid v edit change p.is));
+        blocks = ap (λ (x : HeldVolume). x.label.blocks) is ∙ ap (λ (l : Label). l.blocks) label;
+        lost = ap (λ (x : HeldVolume). x.lost) is;
+      };
+    }
+held_then v w change stamp (step.Relabel label bytes) (volid, is, r) leads =
+    subst (λ (k : Change). HeldThen v k w) (sym is) (record {
+      files = ap (λ (x : HeldVolume). x.files) leads;
+      same = record {
+        volid_is = ap (λ (x : HeldVolume). x.label.volid) leads ∙ ap (λ (l : Label). l.volid) r.label_is;
+        blocks = ap (λ (x : HeldVolume). x.label.blocks) leads ∙ ap (λ (l : Label). l.blocks) r.label_is;
+        lost = ap (λ (x : HeldVolume). x.lost) leads;
+      };
+    })
 
 -- it stays on its unit
 pub on_same : (d e : Accessed) → e.vdev ≡ d.vdev → e.writable ≡ d.writable → e.volume.unit ≡ d.volume.unit → e.volume.disk ≡ d.volume.disk → IsOnSame d e

@@ -1,10 +1,9 @@
 -- Records of a draft are put beside a minidisk, and the draft becomes its file.
-use Rattle.std.proofs.Common.{◌≡◌, inl, inr, ℕ, zero, suc, ◌+◌, ◌*◌, ◌/◌, ◌≤◌, List, [], ◌∷◌, ◌++◌, Some, None, Result, Ok, Err, refl, sym, ◌∙◌, ap, subst, arith, append-nil}
-use Rattle.std.specs.Prelude.{OnErr, OnOk, Option, slice_get, ⊤}
+use Rattle.std.proofs.Common.{◌≡◌, inl, inr, ℕ, zero, suc, ◌+◌, ◌*◌, ◌/◌, ◌≤◌, List, [], ◌∷◌, ◌++◌, length, length-append, Some, None, Result, Ok, Err, refl, sym, ◌∙◌, ap, subst, arith, append-nil}
+use Rattle.std.specs.Prelude.{OnErr, OnOk, Option, ⊤}
 use Rattle.std.specs.Option.{ForSome}
 use Rattle.std.proofs.lemmas.List.{append_assoc, append_cancel_left}
 use Rattle.cms_journal.specs.declared.event.Event.{Event}
-use Rattle.cms_journal.specs.declared.event.Attached.{Attached}
 use Rattle.cms_journal.specs.Journal.{HasBlocks, Journal}
 use Rattle.cms_journal.specs.Told.{Told, plus, syncs}
 use Rattle.cms_journal.proofs.Sizes.{block_bounds}
@@ -16,22 +15,23 @@ use Rattle.cms_model.specs.LawsUpdates.{IsFront, after, now, to_label, with_labe
 use Rattle.cms_model.specs.Minidisks.{File, Minidisk, Volume}
 use Rattle.cms_model.specs.Records.{length_of, stored}
 use Rattle.cms_model.specs.Settled.{Write, update, writes}
-use Rattle.cms_model.specs.Changes.{Add, Century, Change, Changed, Drop, Put, Relabel, Rename, changed}
-use Rattle.cms_model.specs.Volumes.{disk_of}
+use Rattle.cms_model.specs.Changes.{Add, Century, Change, Changed, Drop, Put, Relabel, Rename, changed, need}
 use Rattle.cms_model.proofs.Fronts.{front_nil}
-use Rattle.cms_machine.specs.Beats.{AreStamped, Covers}
+use Rattle.cms_machine.specs.Beats.{AreStamped, written_count}
 use Rattle.cms_machine.proofs.StepsFit.{syncs_counted}
 use Rattle.cms_tree.specs.Climbs.{AreOwn}
 use Rattle.cms_held.specs.Opening.{HeldFile, HeldVolume, Holding}
 use Rattle.cms_held.specs.Carrying.{IsHeldMinidisk}
-use Rattle.cms_held.specs.Drafts.{Front, HasDraft, draft_writes, no_front}
+use Rattle.cms_held.specs.Drafts.{Front, HasDraft, draft_writes, no_front, stored_on}
 use Rattle.cms_held.specs.Growing.{length_with}
 use Rattle.cms_held.specs.LawsRenewing.{AreBlocks, writes_of}
 use Rattle.cms_held.specs.Renewing.{blocks_in}
 use Rattle.cms_held.proofs.DraftOwn.{own_among}
+use Rattle.cms_held.proofs.Drafting.{none_written}
 use Rattle.cms_held.proofs.PutAsides.{free_is_aside}
-use Rattle.cms_draft.specs.BlockWriting.{AddsOwnBlocks, its_blocks}
-use Rattle.cms_draft.specs.Drafting.{Drafting, Drafts, IsDrafting, IsFresh, marks_in, start_in}
+use Rattle.cms_draft.specs.BlockWriting.{AddsOwnBlocks, Stops, Wrote, came, its_blocks, written_with}
+use Rattle.cms_draft.specs.Drafting.{Drafting, Drafts, IsDrafting, IsFresh, Puts, marks_in, start_in}
+use Rattle.cms_draft.proofs.FilePuts.{stored_long}
 use Rattle.cms_draft.specs.declared.shape.DraftShape.{DraftShape}
 use Rattle.cms_edf.specs.FileDrafts.{CommitEvents, Commits, DraftStands, FileDraft, IsCommitted, IsCommittedAt, IsDraftFor, IsLeft, IsSomeDraft, LeadsToFile, MakesChange, commit_writes, file_for, put_in, put_writes, tree_of}
 use Rattle.cms_edf.specs.Growing.{IsFrontOf, IsMoreFor}
@@ -39,22 +39,24 @@ use Rattle.cms_edf.specs.declared.doubt.Doubt.{Doubt}
 use Rattle.cms_edf.specs.declared.doubt.Doubt.TheVariants.{Old, Either}
 use Rattle.cms_edf.proofs.Added.{added_blocks}
 use Rattle.cms_edf.proofs.Committed.{left_own}
-use Rattle.cms_edf.proofs.DraftPut.{more_edit}
+use Rattle.cms_edf.proofs.DraftPut.{blocks_there, more_edit}
 use Rattle.cms_edf.proofs.Finished.{to_front, with_front, writes_to}
 use Rattle.cms_edf.proofs.Planned.{all_in}
-use Rattle.cms_machine.specs.Slots.{After, Before, Side}
+use Rattle.cms_machine.specs.Slots.{Side}
 use Rattle.cms_machine.specs.Steps.{EitherFault, Good, MayPut, OldFault, put_stamp, put_syncs, update_syncs}
 use Rattle.cms_disk.specs.Changing.{Altered, Alters, IsDevices, fault_of}
 use Rattle.cms_disk.specs.declared.fault.DiskFault.{DiskFault}
-use Rattle.cms_disk.specs.Disks.{Accessed, IsLookedAt, IsMinidisk, IsReadable}
-use Rattle.cms_disk.specs.Drafts.{BeginsPut, GoesOn, IsFor, IsGivenUp, IsSameDraft, IsToAdd, IsToPut, WritesAside, file_with}
+use Rattle.cms_disk.specs.Disks.{Accessed, IsMinidisk, IsReadable}
+use Rattle.cms_disk.specs.Drafts.{BeginsPut, GoesOn, IsFor, IsGivenUp, IsSameDraft, IsToAdd, IsToPut, Stands, WritesAside, file_with}
 use Rattle.cms_disk.proofs.Filling.{for_still, some_for}
-use Rattle.cms_disk.proofs.Beside.{aside_behind, doubted_behind, ended_behind, stamped_any}
-use Rattle.cms_disk.proofs.Courses.{Course, covers_old, held_minidisk, in_doubt, made, stamped_writes, unmade}
+use Rattle.cms_disk.proofs.Beside.{aside_behind, behind_events, stamped_any}
+use Rattle.cms_disk.specs.Leaving.{CoversOn}
+use Rattle.cms_disk.proofs.Courses.{Course, HasRoom, covers_old, doubt_behind, held_minidisk, made_behind, stamped_writes, unmade_behind}
+use Rattle.cms_disk.proofs.FewWritten.{put_so_far}
 use Rattle.cms_disk.proofs.Standing.{is_minidisk, minidisk_same}
 use Rattle.cms_held.proofs.PutCarried.{put_writes as held_put_writes}
 use Rattle.cms_held.proofs.WritesLong.{both_blocks}
-use Rattle.cms_disk.proofs.StepPieces.{no_directory, one_sync, only_update, only_writes, own_blocks, stamped_behind, told_after, update_stamped, update_whole, whole_front}
+use Rattle.cms_disk.proofs.StepPieces.{no_directory, one_sync, only_update, only_writes, own_blocks, stamped_behind, told_after, update_stamped, update_whole, whole_front, written_append, written_front, written_held, written_same, written_update, written_writes}
 
 -- ---- writes of blocks of its own
 
@@ -74,9 +76,13 @@ no_syncs : (u : ℕ) (ws : List Write) → syncs (writes u ws) ≡ 0
 no_syncs u ws = (syncs_counted u ws [] 0).update_old (writes u ws) (whole_front (writes u ws))
 
 -- what a draft adds is written beside the minidisk, which stands
-pub written_aside : (j : Journal) (old new : Told) (d : Accessed) (m : Minidisk) (draft : FileDraft) → old ≡ Some j → IsMinidisk j d m → IsReadable j d → IsLookedAt j d → IsSomeDraft d.volume draft
-    → AddsOwnBlocks old new draft.writer.writer → IsGivenUp old new d m
-written_aside j old new d m draft is at has looked some own =
+record Written (old new : Told) (d : Accessed) (m : Minidisk) (draft : FileDraft) (ws : List Write) : Type 0 where
+  stands : Stands new d m
+  aside : WritesAside old new d.volume.disk d.volume.unit m
+
+written_aside : (j : Journal) (old new : Told) (d : Accessed) (m : Minidisk) (draft : FileDraft) → old ≡ Some j → IsMinidisk j d m → IsReadable j d → IsSomeDraft d.volume draft
+    → (own : AddsOwnBlocks old new draft.writer.writer) → Written old new d m draft own.part
+written_aside j old new d m draft is at has some own =
     let p = some in
     let u = d.volume.unit in
     let ws = own.part in
@@ -92,7 +98,6 @@ written_aside j old new d m draft is at has looked some own =
         told_is = told_after j old new (writes u ws) is told;
         minidisk = is_minidisk (after j (writes u ws)) d m (each (writes u ws) (whole_front (writes u ws)));
         readable = has;
-        looked = looked;
       };
       aside = record {
         events = writes u ws;
@@ -100,23 +105,35 @@ written_aside j old new d m draft is at has looked some own =
         of_unit = only_writes u ws;
         unsynced = no_syncs u ws;
         aside = own_stamped u d.volume.disk.bsize blocks ws mine (draft_high d.volume draft some);
-        covers = subst (λ (t : Told). Covers t (writes u ws) u (Volume m ∷ []) (Volume m ∷ [])) (sym is) (covers_old j d m (writes u ws) looked each);
+        covers = subst (λ (t : Told). CoversOn d.volume.disk t (writes u ws) u (Volume m ∷ []) (Volume m ∷ [])) (sym is) (covers_old j d m (writes u ws) each);
       };
     }
+
+-- as many blocks as these events say, whichever they are
+written_told : (j : Journal) (old new : Told) (d : Accessed) (m : Minidisk) (draft : FileDraft) (own : AddsOwnBlocks old new draft.writer.writer) (w : Written old new d m draft own.part)
+    → (es : List Event) → old ≡ Some j → new ≡ plus old es → written_count w.aside.events ≡ written_count es
+written_told j old new d m draft own w es is told =
+    written_same j w.aside.events es
+    (ap (λ (t : Told). plus t w.aside.events) (sym is) ∙ (sym w.aside.told ∙ (told ∙ ap (λ (t : Told). plus t es) is)))
 
 -- ---- the start
 
 -- nothing was written
-pub none_aside : (j : Journal) (old : Told) (d : Accessed) (m : Minidisk) → old ≡ Some j → IsMinidisk j d m → IsReadable j d → IsLookedAt j d → WritesAside old old d.volume.unit m
-none_aside j old d m is at has looked = record {
+pub none_aside : (j : Journal) (old : Told) (d : Accessed) (m : Minidisk) → old ≡ Some j → IsMinidisk j d m → IsReadable j d → WritesAside old old d.volume.disk d.volume.unit m
+none_aside j old d m is at has = record {
   events = [];
   told = refl;
   of_unit = tt;
   unsynced = refl;
   aside = tt;
-  covers = subst (λ (t : Told). Covers t [] d.volume.unit (Volume m ∷ []) (Volume m ∷ [])) (sym is)
-      (covers_old j d m [] looked (λ q front. subst (λ (l : List Event). IsHeldMinidisk (after j l) d.volume m) (sym (front_nil q front)) (held_minidisk j d m at has)));
+  covers = subst (λ (t : Told). CoversOn d.volume.disk t [] d.volume.unit (Volume m ∷ []) (Volume m ∷ [])) (sym is)
+      (covers_old j d m [] (λ q front. subst (λ (l : List Event). IsHeldMinidisk (after j l) d.volume m) (sym (front_nil q front)) (held_minidisk j d m at has)));
 }
+
+pub none_written_yet : (j : Journal) (old : Told) (d : Accessed) (m : Minidisk) (is : old ≡ Some j) (at : IsMinidisk j d m) (has : IsReadable j d)
+    → written_count (none_aside j old d m is at has).events ≡ 0
+unfolding none_aside
+none_written_yet j old d m is at has = refl
 
 no_blocks : (whole bsize filled : ℕ) → 1 ≤ bsize → whole * bsize + filled ≡ 0 → whole ≡ 0
 no_blocks zero bsize filled some none = refl
@@ -137,16 +154,17 @@ nothing_stands image bsize psize whole leaves draft fresh kept bytes records non
 -- a draft of a whole file begins for the change that puts it
 pub begins_put : (d e : Accessed) (name : Name) (shape : DraftShape) (stamp : Stamp) (draft : FileDraft) → e.volume ≡ d.volume → IsDraftFor d.volume name shape stamp draft
     → IsFresh d.volume.unit d.volume.disk.bsize shape (tree_of draft) draft.writer → BeginsPut d e name shape stamp draft
-begins_put d e name shape stamp draft volume planned fresh j m records is has looked have long =
+begins_put d e name shape stamp draft volume planned fresh j m records is has have long =
     let w = draft.writer.writer in
     let low = (block_bounds d.volume.disk.bsize is.stands.whole.size).0 in
     let size = fresh.bsize_is in
     let at = minidisk_same j d e m volume is in
     let readable = subst (λ (v : HeldVolume). HasBlocks j.units v.unit v.disk.count v.disk.bsize) (sym volume) has in
-    let shown = subst (λ (v : HeldVolume). (unit : Attached) → slice_get j.units v.unit ≡ Some unit → disk_of unit ≡ v.disk) (sym volume) looked in
+    let none : w.whole ≡ 0 = no_blocks w.whole w.bsize w.filled (omega (arith, low, size)) fresh.came_is in
+    let nothing = none_written_yet j (Some j) e m refl at readable in
     record {
-      stands = record { at = j; told_is = refl; minidisk = at; readable = readable; looked = shown };
-      aside = none_aside j (Some j) e m refl at readable shown;
+      stands = record { at = j; told_is = refl; minidisk = at; readable = readable };
+      aside = none_aside j (Some j) e m refl at readable;
       front = no_front;
       is_for = record {
         shape = shape;
@@ -156,40 +174,94 @@ begins_put d e name shape stamp draft volume planned fresh j m records is has lo
         long = long;
       };
       drafts = fresh.drafts records have;
-      written = nothing_stands (now j w.unit) w.bsize w.psize w.whole w.tree.leaves draft.writer w.tree.pointers w.kept (stored draft.writer.shape.format records) records
-          (no_blocks w.whole w.bsize w.filled (omega (arith, low, size)) fresh.came_is);
+      written = nothing_stands (now j w.unit) w.bsize w.psize w.whole w.tree.leaves draft.writer w.tree.pointers w.kept (stored draft.writer.shape.format records) records none;
+      count = nothing ∙ sym (ap (λ (ws : List Write). length ws)
+          (none_written w.bsize w.psize w.tree.leaves (marks_in draft.writer no_front records) w.tree.pointers w.kept [] (stored_on draft.writer.shape.format no_front records) w.whole (omega (arith, none))));
+      few = omega (arith, nothing);
     }
 
 -- ---- a record is put
 
+-- the draft that it is then has written these blocks too
+counted_on : (start old new : Told) (d : Accessed) (m : Minidisk) (draft draft' : FileDraft) (change : Change) (stamp : Stamp) (done more : List (List ℕ)) (text : List ℕ)
+    → (g : GoesOn start old d m draft change stamp done (text ∷ more)) (own : AddsOwnBlocks old new draft.writer.writer) → IsSameDraft draft draft'
+    → Wrote old new draft.writer.writer draft'.writer.writer g.front.nodes (stored_on draft.writer.shape.format g.front (done ++ (text ∷ more))) (marks_in draft.writer g.front (done ++ (text ∷ more)))
+    → (w : Written old new d m draft own.part)
+    → written_count (aside_behind start old new d.volume.disk d.volume.unit m g.aside w.aside).events ≡ length (put_writes draft' g.front ((done ++ text ∷ []) ++ more))
+counted_on start old new d m draft draft' change stamp done more text g own same wrote w =
+    let s = g.stands in
+    let all = done ++ (text ∷ more) in
+    let v = draft.writer.writer in
+    let before = g.count in
+    let both = ap written_count (behind_events start old new d.volume.disk d.volume.unit m g.aside w.aside) ∙ written_append g.aside.events w.aside.events in
+    let here = written_told s.at old new d m draft own w (writes v.unit wrote.part) s.told_is wrote.told in
+    let one = written_writes v.unit wrote.part in
+    let part : length (put_writes draft g.front all) + length wrote.part
+    ≡ length (written_with v g.front.nodes (stored_on draft.writer.shape.format g.front all) (marks_in draft.writer g.front all) draft'.writer.writer.whole) =
+    sym (length-append (put_writes draft g.front all) wrote.part) ∙ ap (λ (ws : List Write). length ws) wrote.is in
+    let to = same.writer in
+    let then' : length (put_writes draft' g.front all)
+    ≡ length (written_with v g.front.nodes (stored_on draft.writer.shape.format g.front all) (marks_in draft.writer g.front all) draft'.writer.writer.whole) =
+    rw (same.shape, to.bsize, to.psize, to.tree, to.kept) refl in
+    let together = ap (λ (l : List (List ℕ)). length (put_writes draft' g.front l)) (append_assoc done (text ∷ []) more) in
+    omega (arith, before, both, here, one, part, then', together)
+
 pub goes_on : (start old new : Told) (d : Accessed) (m : Minidisk) (draft draft' : FileDraft) (change : Change) (stamp : Stamp) (done more : List (List ℕ)) (text : List ℕ)
-    → (g : GoesOn start old d m draft change stamp done (text ∷ more)) → AddsOwnBlocks old new draft.writer.writer → IsSameDraft draft draft'
-    → Drafts draft'.writer g.front (done ++ text ∷ []) more → ForSome new (λ k. DraftStands k draft'.writer g.front (done ++ (text ∷ more)))
+    → (g : GoesOn start old d m draft change stamp done (text ∷ more)) → AddsOwnBlocks old new draft.writer.writer → IsSameDraft draft draft' → IsDrafting draft'.writer
+    → Puts old new draft.writer draft'.writer g.front done text more (Ok tt) → ForSome new (λ k. DraftStands k draft'.writer g.front (done ++ (text ∷ more)))
     → ((name : Name) (f : HeldFile) (shape : DraftShape) → IsMoreFor d.volume name f shape stamp draft → IsFrontOf g.stands.at d.volume f (tree_of draft) g.front
     → ForSome new (λ k. IsFrontOf k d.volume f (tree_of draft) g.front))
     → GoesOn start new d m draft' change stamp (done ++ text ∷ []) more
-goes_on start old new d m draft draft' change stamp done more text g own same drafts written stays =
+goes_on start old new d m draft draft' change stamp done more text g own same sound puts written stays =
     let s = g.stands in
     let some = some_for s.at d draft change stamp g.front (done ++ (text ∷ more)) g.is_for in
-    let w = written_aside s.at old new d m draft s.told_is s.minidisk s.readable s.looked some own in
+    let w = written_aside s.at old new d m draft s.told_is s.minidisk s.readable some own in
     let k = w.stands.at in
+    let together = append_assoc done (text ∷ []) more in
+    let is_for = subst (IsFor k d draft' change stamp g.front) (sym together)
+    (for_still s.at k d draft draft' change stamp g.front (done ++ (text ∷ more)) same (λ name f shape planned read. stays name f shape planned read k w.stands.told_is) g.is_for) in
+    let counts = counted_on start old new d m draft draft' change stamp done more text g own same puts.0 w in
+    let held = held_minidisk k d m w.stands.minidisk w.stands.readable in
+    let low = put_so_far k d m draft' change stamp g.front (done ++ text ∷ []) more draft'.writer.writer.whole held sound puts.1 is_for sound.writer.within in
     record {
       stands = w.stands;
-      aside = aside_behind start old new d.volume.unit m g.aside w.aside;
+      aside = aside_behind start old new d.volume.disk d.volume.unit m g.aside w.aside;
       front = g.front;
-      is_for = subst (IsFor k d draft' change stamp g.front) (sym (append_assoc done (text ∷ []) more))
-          (for_still s.at k d draft draft' change stamp g.front (done ++ (text ∷ more)) same (λ name f shape planned read. stays name f shape planned read k w.stands.told_is) g.is_for);
-      drafts = drafts;
-      written = subst (DraftStands k draft'.writer g.front) (sym (append_assoc done (text ∷ []) more)) (written k w.stands.told_is);
+      is_for = is_for;
+      drafts = puts.1;
+      written = subst (DraftStands k draft'.writer g.front) (sym together) (written k w.stands.told_is);
+      count = counts;
+      few = omega (arith, counts, low);
     }
 
-pub gives_up : (start old new : Told) (d : Accessed) (m : Minidisk) (draft : FileDraft) (change : Change) (stamp : Stamp) (done more : List (List ℕ))
-    → GoesOn start old d m draft change stamp done more → AddsOwnBlocks old new draft.writer.writer → IsGivenUp start new d m
-gives_up start old new d m draft change stamp done more g own =
+pub gives_up : (start old new : Told) (d : Accessed) (m : Minidisk) (draft : FileDraft) (change : Change) (stamp : Stamp) (done more : List (List ℕ)) (text : List ℕ)
+    → (g : GoesOn start old d m draft change stamp done (text ∷ more)) → AddsOwnBlocks old new draft.writer.writer → IsDrafting draft.writer
+    → came draft.writer.writer + length (stored draft.writer.shape.format (text ∷ [])) ≤ draft.writer.writer.size
+    → Stops old new draft.writer.writer g.front.nodes (stored_on draft.writer.shape.format g.front (done ++ (text ∷ more))) (marks_in draft.writer g.front (done ++ (text ∷ more)))
+    (length (stored_on draft.writer.shape.format g.front (done ++ text ∷ []))) → IsGivenUp start new d m change
+gives_up start old new d m draft change stamp done more text g own sound room stops =
     let s = g.stands in
-    let some = some_for s.at d draft change stamp g.front (done ++ more) g.is_for in
-    let w = written_aside s.at old new d m draft s.told_is s.minidisk s.readable s.looked some own in
-    record { stands = w.stands; aside = aside_behind start old new d.volume.unit m g.aside w.aside }
+    let all = done ++ (text ∷ more) in
+    let some = some_for s.at d draft change stamp g.front all g.is_for in
+    let w = written_aside s.at old new d m draft s.told_is s.minidisk s.readable some own in
+    let v = draft.writer.writer in
+    let long = stored_long draft.writer.shape.format g.front done text (came v) g.drafts.came_is in
+    let low = blocks_there v stops.to (length (stored_on draft.writer.shape.format g.front (done ++ text ∷ []))) sound.writer stops.within (omega (arith, long, room)) in
+    let held = held_minidisk s.at d m s.minidisk s.readable in
+    let most = put_so_far s.at d m draft change stamp g.front done (text ∷ more) stops.to held sound g.drafts g.is_for low in
+    let before = g.count in
+    let part : length (put_writes draft g.front all) + length stops.part
+    ≡ length (written_with v g.front.nodes (stored_on draft.writer.shape.format g.front all) (marks_in draft.writer g.front all) stops.to) =
+    sym (length-append (put_writes draft g.front all) stops.part) ∙ ap (λ (ws : List Write). length ws) stops.is in
+    let same = written_told s.at old new d m draft own w stops.front.front s.told_is stops.front.told in
+    let less = written_front stops.front.front (writes v.unit stops.part) stops.front.is in
+    let one = written_writes v.unit stops.part in
+    let both = ap written_count (behind_events start old new d.volume.disk d.volume.unit m g.aside w.aside) ∙ written_append g.aside.events w.aside.events in
+    record {
+      stands = w.stands;
+      aside = aside_behind start old new d.volume.disk d.volume.unit m g.aside w.aside;
+      few = omega (arith, most, before, part, same, less, one, both);
+    }
 
 -- ---- the draft becomes the minidisk's file
 
@@ -230,10 +302,11 @@ add_of_file name more added after = record {
 
 -- what its commit comes to, which is this change; what it writes of directory and map are blocks, of which the directory's first has the
 -- stamp
-record Committing (j : Journal) (old : Told) (d : Accessed) (m : Minidisk) (draft : FileDraft) (change : Change) (stamp : Stamp) (front : Front) (records : List (List ℕ)) (rest : List Write) :
+record Committing (j : Journal) (start old : Told) (d : Accessed) (m : Minidisk) (draft : FileDraft) (change : Change) (stamp : Stamp) (front : Front) (records : List (List ℕ)) (rest : List Write) :
     Type 0 where
   told_is : old ≡ Some j
-  looked : IsLookedAt j d
+  aside : WritesAside start old d.volume.disk d.volume.unit m
+  count : written_count aside.events ≡ length (put_writes draft front records)
   some : IsSomeDraft d.volume draft
   sound : IsDrafting draft.writer
   drafts : Drafts draft.writer front records []
@@ -243,8 +316,8 @@ record Committing (j : Journal) (old : Told) (d : Accessed) (m : Minidisk) (draf
   blocks : AreBlocks d.volume.disk.bsize (writes_of d.volume draft.systems)
   of_file : IsOfFile change (changed m change)
 
-module _ (j : Journal) (old : Told) (d : Accessed) (m : Minidisk) (draft : FileDraft) (change : Change) (stamp : Stamp) (front : Front) (records : List (List ℕ)) (rest : List Write)
-    (x : Committing j old d m draft change stamp front records rest) where
+module _ (j : Journal) (start old : Told) (d : Accessed) (m : Minidisk) (draft : FileDraft) (change : Change) (stamp : Stamp) (front : Front) (records : List (List ℕ)) (rest : List Write)
+    (x : Committing j start old d m draft change stamp front records rest) where
   abbrev u : ℕ
   u = d.volume.unit
 
@@ -254,6 +327,20 @@ module _ (j : Journal) (old : Told) (d : Accessed) (m : Minidisk) (draft : FileD
   abbrev label : List ℕ
   label = draft.systems.label_bytes
 
+  -- with what was written of the draft they are no more than the change has room for
+  commit_few : length (put_writes draft front records) + written_count (update u ws label) ≤ need m change + 2
+  commit_few =
+      let done = put_writes draft front records in
+      let small = x.makes.small in
+      let same = written_held (update u (done ++ ws) label) in
+      let all = written_update u (done ++ ws) label in
+      let own = written_update u ws label in
+      let both = length-append done ws in
+      omega (arith, small, same, all, own, both)
+
+  before_it : HasRoom start old d.volume.disk u m change (update u ws label)
+  before_it = record { aside = x.aside; few = (let count = x.count in let few = commit_few in omega (arith, count, few)) }
+
   -- its events are those of the change
   commit_course : Course j d m change stamp (to_label u ws) (update u ws label)
   commit_course =
@@ -261,7 +348,6 @@ module _ (j : Journal) (old : Told) (d : Accessed) (m : Minidisk) (draft : FileD
       let blocks = its_blocks draft.writer.writer in
       let first = stamped_any u (Some stamp) (writes u rest) (own_stamped u draft.writer.writer.bsize blocks rest own (draft_high d.volume draft x.some)) in
       record {
-        looked = x.looked;
         answer = x.makes.answer;
         before = x.makes.before;
         either = x.makes.either;
@@ -273,30 +359,31 @@ module _ (j : Journal) (old : Told) (d : Accessed) (m : Minidisk) (draft : FileD
             (both_blocks d.volume.disk.bsize rest (writes_of d.volume draft.systems) (own_blocks d.volume.disk.bsize blocks rest
             (subst (λ (n : ℕ). AreOwn n blocks rest) x.some.bsize_is own)) x.blocks)
             x.some.label_long;
+        small = (let few = commit_few in omega (arith, few));
       }
 
   commits_ok : (new : Told) (e : Accessed) → new ≡ plus old (update u ws label) → ForSome new (λ k. IsHeldMinidisk k e.volume (changed m change)) → LeadsToFile d.volume draft e.volume
-      → Altered old new e m change stamp
+      → Altered start new e m change stamp
   commits_ok new e told held leads =
       let is = leads x.some in
-      made j old new d e m change stamp (to_label u ws) (update u ws label) x.told_is commit_course told (x.of_file.whole u ws label)
+      made_behind j start old new d e m change stamp (to_label u ws) (update u ws label) x.told_is commit_course before_it told (x.of_file.whole u ws label)
       (ap (λ (w : HeldVolume). w.unit) is) (ap (λ (w : HeldVolume). w.disk) is)
       (held (after j (update u ws label)) (told_after j old new (update u ws label) x.told_is told))
 
-  commits_err : (new : Told) (e : Accessed) (why : Doubt) → CommitEvents old new d.volume draft rest (Err why) → e.volume ≡ d.volume → Alters old new d e m change stamp (Err (fault_of why))
+  commits_err : (new : Told) (e : Accessed) (why : Doubt) → CommitEvents old new d.volume draft rest (Err why) → e.volume ≡ d.volume → Alters start new d e m change stamp (Err (fault_of why))
   commits_err new e Old cut same =
-      unmade j old new d e m change stamp (to_label u ws) (update u ws label) cut.front x.told_is commit_course cut.told (writes_to u ws cut.front cut.is)
+      unmade_behind j start old new d e m change stamp (to_label u ws) (update u ws label) cut.front x.told_is commit_course before_it cut.told (writes_to u ws cut.front cut.is)
       ((syncs_counted u ws label 0).update_old cut.front cut.is ∙ sym x.of_file.old) x.of_file.may same
   commits_err new e Either (inl told) same =
-      in_doubt j old new d m change stamp (to_label u ws) (update u ws label) (to_label u ws) x.told_is commit_course told (to_front u ws label)
+      doubt_behind j start old new d m change stamp (to_label u ws) (update u ws label) (to_label u ws) x.told_is commit_course before_it told (to_front u ws label)
       (λ side. one_sync u ws ∙ sym (x.of_file.either side))
   commits_err new e Either (inr told) same =
-      in_doubt j old new d m change stamp (to_label u ws) (update u ws label) (with_label u ws label) x.told_is commit_course told (with_front u ws label)
+      doubt_behind j start old new d m change stamp (to_label u ws) (update u ws label) (with_label u ws label) x.told_is commit_course before_it told (with_front u ws label)
       (λ side. (syncs_counted u ws label 0).update_either side ∙ sym (x.of_file.either side))
 
   commits_to : (new : Told) (e : Accessed) (r : Result ⊤ Doubt) → CommitEvents old new d.volume draft rest r
       → Commits j new d.volume e.volume m draft (put_writes draft front records) rest change r → OnOk r (LeadsToFile d.volume draft e.volume) → OnErr r (e.volume ≡ d.volume)
-      → Alters old new d e m change stamp (answered r)
+      → Alters start new d e m change stamp (answered r)
   commits_to new e (Ok y) told to leads same = commits_ok new e told to.1 leads
   commits_to new e (Err why) cut to leads same = commits_err new e why cut same
 
@@ -309,19 +396,6 @@ makes_change : (j : Journal) (new : Told) (v w : HeldVolume) (m : Minidisk) (dra
 makes_change j new v w m draft done rest change (Ok x) c = c.0
 makes_change j new v w m draft done rest change (Err Old) c = c.0
 makes_change j new v w m draft done rest change (Err Either) c = c.0
-
--- with what was written of the draft before it
-alters_behind : (start old new : Told) (d e : Accessed) (m : Minidisk) (change : Change) (stamp : Stamp) (r : Result ⊤ Doubt) → WritesAside start old d.volume.unit m
-    → OnOk r (e.volume.unit ≡ d.volume.unit) → OnErr r (e.volume ≡ d.volume) → Alters old new d e m change stamp (answered r) → Alters start new d e m change stamp (answered r)
-alters_behind start old new d e m change stamp (Ok x) aside unit same a =
-    ended_behind start old new e m change stamp After Good (subst (λ (u : ℕ). WritesAside start old u m) (sym unit) aside) a
-alters_behind start old new d e m change stamp (Err Old) aside unit same a =
-    ended_behind start old new e m change stamp Before OldFault (subst (λ (u : ℕ). WritesAside start old u m) (sym (ap (λ (w : HeldVolume). w.unit) same)) aside) a
-alters_behind start old new d e m change stamp (Err Either) aside unit same a = doubted_behind start old new d m change stamp aside a
-
-leads_unit : (v w : HeldVolume) (draft : FileDraft) (r : Result ⊤ Doubt) → IsSomeDraft v draft → OnOk r (LeadsToFile v draft w) → OnOk r (w.unit ≡ v.unit)
-leads_unit v w draft (Ok x) some leads = ap (λ (x : HeldVolume). x.unit) (leads some)
-leads_unit v w draft (Err why) some leads = tt
 
 -- the volume stays on its unit
 pub stays_on : (v w : HeldVolume) (draft : FileDraft) (r : Result ⊤ Doubt) → IsSomeDraft v draft → OnOk r (LeadsToFile v draft w) → OnErr r (w ≡ v) → (w.unit ≡ v.unit) × (w.disk ≡ v.disk)
@@ -427,9 +501,10 @@ ends_so start old new d e m draft change stamp records r x says =
     (subst (IsFor j d draft change stamp front) all g.is_for) in
     let events = says.events front records g.drafts in
     let rest = same_rest draft front records events.rest comes.at.rest events.left comes.at.left in
-    let c : Committing j old d m draft change stamp front records comes.at.rest = record {
+    let c : Committing j start old d m draft change stamp front records comes.at.rest = record {
       told_is = s.told_is;
-      looked = s.looked;
+      aside = g.aside;
+      count = g.count ∙ ap (λ (l : List (List ℕ)). length (put_writes draft front l)) all;
       some = some;
       sound = x.sound;
       drafts = g.drafts;
@@ -439,6 +514,5 @@ ends_so start old new d e m draft change stamp records r x says =
       blocks = comes.blocks;
       of_file = comes.of_file;
     } in
-    let to : Alters old new d e m change stamp (answered r) = commits_to j old d m draft change stamp front records comes.at.rest c new e r
-    (subst (λ (l : List Write). CommitEvents old new d.volume draft l r) rest events.events) comes.at.commits says.leads says.kept in
-    alters_behind start old new d e m change stamp r g.aside (leads_unit d.volume e.volume draft r some says.leads) says.kept to
+    commits_to j start old d m draft change stamp front records comes.at.rest c new e r
+    (subst (λ (l : List Write). CommitEvents old new d.volume draft l r) rest events.events) comes.at.commits says.leads says.kept

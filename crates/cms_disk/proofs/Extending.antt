@@ -7,7 +7,6 @@ use Rattle.std.proofs.lemmas.List.Elements.{All-cons, All-head, All-nil, All-tai
 use Rattle.std.proofs.lemmas.Option.{same_Some, slice_get-get_or, slice_get-map}
 use Rattle.cms_journal.specs.Journal.{HasBlocks, Journal}
 use Rattle.cms_journal.specs.Told.{Told}
-use Rattle.cms_journal.specs.declared.event.Attached.{Attached}
 use Rattle.cms_names.specs.declared.name.Format.{Format}
 use Rattle.cms_names.specs.declared.name.Format.TheVariants.{F, V}
 use Rattle.cms_names.specs.declared.name.Name.{Name}
@@ -19,8 +18,8 @@ use Rattle.cms_model.specs.LawsUpdates.{now}
 use Rattle.cms_model.specs.Minidisks.{File, Minidisk}
 use Rattle.cms_model.specs.Records.{Fits, StandsFor, length_of, longest, stored}
 use Rattle.cms_model.specs.declared.file.FileData.{FileData}
+use Rattle.cms_model.specs.Settled.{Write}
 use Rattle.cms_model.specs.Trees.{Image, bytes_at}
-use Rattle.cms_model.specs.Volumes.{disk_of}
 use Rattle.cms_model.proofs.Changing.{place_changed}
 use Rattle.cms_model.proofs.Records.{stored_append}
 use Rattle.cms_tree.specs.Resumes.{kept_of}
@@ -42,7 +41,7 @@ use Rattle.cms_edf.proofs.Planned.{named_at as named_in}
 use Rattle.cms_disk.specs.Additions.{BeginsMore, CanExtend, FitsFile, HaveShapeBehind, IsBehindFile, IsTold, MayExtend, StandsBehind, shape_with}
 use Rattle.cms_disk.specs.Disks.{Accessed, IsMinidisk, IsReadable, place_of}
 use Rattle.cms_disk.specs.Drafts.{AreLast, GoesOn}
-use Rattle.cms_disk.proofs.DraftSteps.{none_aside}
+use Rattle.cms_disk.proofs.DraftSteps.{none_aside, none_written_yet}
 use Rattle.cms_disk.proofs.Beginning.{bytes_low, file_stands, leaves_long, start_in}
 use Rattle.cms_disk.proofs.Finding.{kept_at, stands_stored, stands_tells}
 use Rattle.cms_disk.proofs.Standing.{minidisk_same, named_at}
@@ -294,7 +293,7 @@ pub begins_more : (old new : Told) (d e : Accessed) (name : Name) (shape : Draft
     → ((j : Journal) → old ≡ Some j → IsReadable j d)
     → ((j : Journal) (front : Front) (records : List (List ℕ)) → old ≡ Some j → IsFrontOf j d.volume h (tree_of draft) front → HaveShapeOn shape front records → Drafts draft.writer front [] records)
     → BeginsMore old new d e name shape stamp draft
-begins_more old new d e name shape stamp draft k h same volume keeps at is_h planned behind shaped reads drafts j m file more is x looked named have =
+begins_more old new d e name shape stamp draft k h same volume keeps at is_h planned behind shaped reads drafts j m file more is x named have =
     let image = now j d.volume.unit in
     let bsize = d.volume.disk.bsize in
     let has = reads j is in
@@ -313,10 +312,11 @@ begins_more old new d e name shape stamp draft k h same volume keeps at is_h pla
     (bytes_low bsize d.volume.label.blocks image h kept long) shaped have in
     let there = minidisk_same j d e m volume x in
     let readable = subst (λ (v : HeldVolume). HasBlocks j.units v.unit v.disk.count v.disk.bsize) (sym volume) has in
-    let shown = subst (λ (v : HeldVolume). (unit : Attached) → slice_get j.units v.unit ≡ Some unit → disk_of unit ≡ v.disk) (sym volume) looked in
+    let w = draft.writer.writer in
+    let nothing = none_written_yet j old e m is there readable in
     subst (λ (t : Told). GoesOn old t e m draft (Add name more shape.stamp) stamp [] more) (sym same) (record {
-      stands = record { at = j; told_is = is; minidisk = there; readable = readable; looked = shown };
-      aside = none_aside j old e m is there readable shown;
+      stands = record { at = j; told_is = is; minidisk = there; readable = readable };
+      aside = none_aside j old e m is there readable;
       front = front;
       is_for = (
         refl,
@@ -331,4 +331,7 @@ begins_more old new d e name shape stamp draft k h same volume keeps at is_h pla
       );
       drafts = drafts j front more is front_is on;
       written = nothing_more (now j draft.writer.writer.unit) draft front more behind.whole;
+      count = nothing ∙ sym (ap (λ (ws : List Write). length ws)
+          (none_written w.bsize w.psize w.tree.leaves (marks_in draft.writer front more) w.tree.pointers w.kept front.nodes (stored_on draft.writer.shape.format front more) w.whole (omega (arith, behind.whole))));
+      few = omega (arith, nothing);
     })

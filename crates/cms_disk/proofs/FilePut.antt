@@ -1,29 +1,34 @@
 -- What putting a file comes to.
 use Rattle.std.proofs.Common.{◌≡◌, inl, inr, ℕ, ◌+◌, ◌*◌, ◌≤◌, List, [], ◌∷◌, length, None, Option, Some, Result, Ok, Err, refl, sym, ◌∙◌, ap, subst, arith, length-append, mul_comm}
-use Rattle.std.specs.Prelude.{All, unwrap_or, ⊤}
+use Rattle.std.specs.Prelude.{All, OnOk, slice_set, unwrap_or, ⊤}
 use Rattle.std.proofs.lemmas.List.Elements.{All-head, All-tail}
 use Rattle.cms_names.specs.declared.name.Format.{Format}
 use Rattle.cms_names.specs.declared.name.Format.TheVariants.{F, V}
 use Rattle.cms_journal.specs.Told.{Grown, Told}
 use Rattle.cms_names.specs.declared.name.Name.{Name}
+use Rattle.cms_fields.specs.declared.label.Label.{Label}
 use Rattle.cms_fields.specs.declared.time.Stamp.{Stamp}
 use Rattle.cms_model.specs.Minidisks.{File, Minidisk, Volume}
 use Rattle.cms_model.specs.Records.{Fits, IsValid, StandsFor, length_of, stored, with_length}
 use Rattle.cms_model.proofs.Records.{length-with_length, length_stored_fixed}
-use Rattle.cms_edf.specs.FileDrafts.{IsSized}
+use Rattle.cms_edf.specs.FileDrafts.{FileDraft, IsDraftFor, IsSized, LeadsToFile, file_for, list_with, tree_of}
+use Rattle.cms_edf.specs.Growing.{IsMoreFor}
+use Rattle.cms_edf.proofs.DraftPut.{more_edit, more_edit_is, more_is_some, new_edit_is, new_is_some}
 use Rattle.cms_model.specs.Changes.{Add, Answer, Change, Changed, Full, Limited, Put, answer_of, changed}
 use Rattle.cms_model.specs.declared.file.FileData.{FileData}
-use Rattle.cms_machine.specs.Beats.{Covers}
+use Rattle.cms_machine.specs.Beats.{written_count}
 use Rattle.cms_machine.specs.Slots.{Settled, named, set_of}
-use Rattle.cms_machine.specs.Steps.{EitherFault, MayPut, OldFault, after_put, put_stamp, put_syncs}
+use Rattle.cms_machine.specs.Steps.{EitherFault, MayPut, OldFault, after_put, most_put, put_stamp, put_syncs}
 use Rattle.cms_machine.proofs.Aside.{of_disk}
-use Rattle.cms_held.specs.Opening.{HeldTree, HeldVolume}
+use Rattle.cms_held.specs.Opening.{HeldFile, HeldTree, HeldVolume}
+use Rattle.cms_held.specs.Renewing.{Edit, renewed}
 use Rattle.cms_held.proofs.Fronts.{if_err}
 use Rattle.cms_world.specs.Seen.{Seen}
-use Rattle.cms_draft.specs.Drafting.{Drafting, HaveShape, IsFresh}
+use Rattle.cms_draft.specs.Drafting.{Drafting, HaveShape, IsFresh, start_in}
 use Rattle.cms_draft.specs.declared.shape.DraftShape.{DraftShape}
-use Rattle.cms_disk.specs.Changing.{Alters, Changes, ChangesDisk, HasState, IsWholeAt, IsDevices, Kept}
-use Rattle.cms_disk.specs.Disks.{Accessed}
+use Rattle.cms_disk.specs.Leaving.{CoversOn}
+use Rattle.cms_disk.specs.Changing.{Alters, Changes, ChangesDisk, HasState, IsWholeAt, IsDevices, IsPutIn, Kept}
+use Rattle.cms_disk.specs.Disks.{Accessed, place_of}
 use Rattle.cms_disk.specs.Drafts.{AreLast, HaveCounts, IsAnsweredBy, IsDraftFault, IsGivenUp, IsPutFault, file_with, shape_of}
 use Rattle.cms_disk.specs.declared.fault.DiskFault.{DiskFault}
 use Rattle.cms_disk.specs.declared.fault.DiskFault.TheVariants as failed
@@ -49,7 +54,7 @@ refused_so T told d e m name shape records stamp failed.Altered fault answer = a
 
 -- ---- a draft that was given up
 
-pub given_up : (start new : Told) (d e : Accessed) (m : Minidisk) (change : Change) (stamp : Stamp) (after : Minidisk) → IsGivenUp start new d m → answer_of m change ≡ Changed after
+pub given_up : (start new : Told) (d e : Accessed) (m : Minidisk) (change : Change) (stamp : Stamp) (after : Minidisk) → IsGivenUp start new d m change → answer_of m change ≡ Changed after
     → ((answer : Answer) → put_syncs change answer OldFault ≡ 0) → MayPut change (Changed after) OldFault → e.volume ≡ d.volume → Kept start new e m change stamp
 given_up start new d e m change stamp after g answer none may same =
     let a = g.aside in
@@ -60,7 +65,7 @@ given_up start new d e m change stamp after g answer none may same =
       later = s.at;
       told = s.told_is;
       minidisk = minidisk_same s.at d e m same s.minidisk;
-      changes = subst (λ (v : HeldVolume). Changes start new v.unit m change stamp OldFault) (sym same) (record {
+      changes = subst (λ (v : HeldVolume). Changes start new v.disk v.unit m change stamp OldFault) (sym same) (record {
         events = a.events;
         told = a.told;
         of_unit = a.of_unit;
@@ -68,9 +73,10 @@ given_up start new d e m change stamp after g answer none may same =
           disk = of_disk d.volume.unit a.events a.of_unit;
           synced = a.unsynced ∙ sym (none (answer_of m change));
           stamped = stamped_any d.volume.unit (put_stamp change stamp) a.events a.aside;
+          few = subst (λ (x : Answer). written_count a.events ≤ most_put m change x) (sym answer) (let few = g.few in omega (arith, few));
           outcome = subst (λ (x : Answer). MayPut change x OldFault) (sym answer) may;
         };
-        covers = subst (λ (x : Answer). Covers start a.events d.volume.unit (Volume m ∷ []) (set_of (unwrap_or (after_put m x OldFault) (Settled (Volume m))))) (sym answer) a.covers;
+        covers = subst (λ (x : Answer). CoversOn d.volume.disk start a.events d.volume.unit (Volume m ∷ []) (set_of (unwrap_or (after_put m x OldFault) (Settled (Volume m))))) (sym answer) a.covers;
       });
     }
 
@@ -100,7 +106,7 @@ alters_same old new d d' e m change stamp (Err failed.InDoubt) volume writable a
   side = a.side;
   left = subst (λ (v : HeldVolume). HasState new v.disk v.unit (named (Volume m) (Volume a.after) a.side)) volume a.left;
   whole = subst (λ (v : HeldVolume). IsWholeAt new v.disk v.unit) volume a.whole;
-  changes = subst (λ (v : HeldVolume). Changes old new v.unit m change stamp (EitherFault a.side)) volume a.changes;
+  changes = subst (λ (v : HeldVolume). Changes old new v.disk v.unit m change stamp (EitherFault a.side)) volume a.changes;
 }
 alters_same old new d d' e m change stamp (Err failed.Altered) volume writable a = a
 alters_same old new d d' e m change stamp (Err (failed.Limit k)) volume writable a = a
@@ -195,6 +201,53 @@ changed_behind a b c d e f r grown faults edges kept two =
       };
       kept = if_err r (λ (why : DiskFault). (why ≡ failed.InDoubt → ⊥) → f ≡ record e { spare = f.spare }) (λ (why : DiskFault). (why ≡ failed.InDoubt → ⊥) → f ≡ record d { spare = f.spare })
           (λ why same sure. same sure ∙ ap (λ (x : Accessed). record x { spare = f.spare }) kept) two.kept;
+    }
+
+-- ---- what is held then
+
+pub on_ok : {T E P Q : Type 0} (r : Result T E) → (P → Q) → OnOk r P → OnOk r Q
+on_ok (Ok x) f p = f p
+on_ok (Err e) f p = tt
+
+-- a file that was put
+pub put_in : (v w : HeldVolume) (name : Name) (shape : DraftShape) (stamp : Stamp) (draft : FileDraft) → IsDraftFor v name shape stamp draft → LeadsToFile v draft w → IsPutIn v name shape w
+put_in v w name shape stamp draft p leads =
+    let start = start_in draft.writer in
+    let at = p.file start in
+    let is : w ≡ renewed v at.edit draft.systems =
+    leads (new_is_some v name shape stamp draft p) ∙ ap (λ (e : Edit). renewed v e draft.systems) (new_edit_is v name shape stamp draft p start) in
+    let label = at.ready.planned.label in
+    record {
+      tree = tree_of draft;
+      start = start;
+      files = ap (λ (x : HeldVolume). x.files) is ∙ at.files_are;
+      same = record {
+        volid_is = ap (λ (x : HeldVolume). x.label.volid) is ∙ ap (λ (l : Label). l.volid) label;
+        blocks = ap (λ (x : HeldVolume). x.label.blocks) is ∙ ap (λ (l : Label). l.blocks) label;
+        lost = ap (λ (x : HeldVolume). x.lost) is;
+      };
+    }
+
+-- and one to which records were added
+pub more_in : (v w : HeldVolume) (name : Name) (f : HeldFile) (shape : DraftShape) (stamp : Stamp) (draft : FileDraft) → IsMoreFor v name f shape stamp draft → LeadsToFile v draft w
+    → IsPutIn v name shape w
+more_in v w name f shape stamp draft p leads =
+    let start = start_in draft.writer in
+    let at = p.file start in
+    let g = file_for v.disk.bsize name shape (tree_of draft) start in
+    let is : w ≡ renewed v (more_edit v name f shape stamp draft p start) draft.systems =
+    leads (more_is_some v name f shape stamp draft p) ∙ ap (λ (e : Edit). renewed v e draft.systems) (more_edit_is v name f shape stamp draft p start) in
+    let label = at.ready.planned.label in
+    let placed : slice_set v.files at.place g ≡ list_with v.files (place_of name v) g = ap (λ (o : Option ℕ). list_with v.files o g) (sym at.there) in
+    record {
+      tree = tree_of draft;
+      start = start;
+      files = ap (λ (x : HeldVolume). x.files) is ∙ placed;
+      same = record {
+        volid_is = ap (λ (x : HeldVolume). x.label.volid) is ∙ ap (λ (l : Label). l.volid) label;
+        blocks = ap (λ (x : HeldVolume). x.label.blocks) is ∙ ap (λ (l : Label). l.blocks) label;
+        lost = ap (λ (x : HeldVolume). x.lost) is;
+      };
     }
 
 -- ---- a limit is passed, or none is

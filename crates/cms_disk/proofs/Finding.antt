@@ -107,14 +107,9 @@ file_left bsize total image h f room is stored kept high =
     let counted = entry_counted bsize h.entry room (passing bsize h.entry kept.entry).fits in
     let wide : length (bytes_at image h.tree.leaves) ≡ h.entry.blocks * bsize = stored.long ∙ ap (λ (n : ℕ). n * bsize) kept.count in
     let fixed : is_fixed f.format ≡ true → h.entry.blocks ≡ up (length f.records * f.length) bsize = λ all.
-    (let fix : h.entry.format ≡ F = is_f h.entry.format (ap is_fixed is.format_is ∙ all) in
-    let size : h.entry.length ≡ f.length = sym (kept.fixed fix) ∙ is.length_is in
+    (let size : h.entry.length ≡ f.length = kept.told ∙ is.length_is in
     counted.fixed (ap is_fixed is.format_is ∙ all) ∙ (ap (λ (n : ℕ). up (n * h.entry.length) bsize) is.count_is ∙ ap (λ (n : ℕ). up (length f.records * n) bsize) size)) in
     rw (is.format_is, is.length_is, is.count_is) (left_first bsize f.format f.length (length f.records) h.entry.blocks (bytes_at image h.tree.leaves) f.records room is.are_read high wide fixed)
-  where
-    is_f : (format : Format) → is_fixed format ≡ true → format ≡ F
-    is_f F e = refl
-    is_f V e = absurd (cc e)
 
 pub first_has : (image : Image) (c : Reading) (number most size : ℕ) (blocks : List ℕ) (format : Format) (high count : ℕ) (records : List (List ℕ))
     → IsFirst number most size blocks format high count c → AreSized image size blocks
@@ -235,7 +230,7 @@ can_read v k total bsize info leaves keeps count size h =
           (omega arith, omega arith)));
       few = rw (h.leaves_are, ← size) kept.room;
       short = rw h.info_is kept.short;
-      fixed = rw h.info_is (λ fix. (let some = fixed_some v.disk.bsize h.file.entry p.fits.long fix in let same = kept.fixed fix in omega arith));
+      fixed = rw h.info_is (λ fix. (let some = fixed_some v.disk.bsize h.file.entry p.fits.long fix in let same = kept.told in omega arith));
     }
 
 pub first_is : (v : HeldVolume) (k number total bsize : ℕ) (info : FileInfo) (leaves : List ℕ) (c : Reading) → v.unit ≡ number → v.disk.count ≡ total → v.disk.bsize ≡ bsize → HasFile v k info leaves

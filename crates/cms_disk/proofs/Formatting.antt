@@ -1,7 +1,9 @@
 -- The making of an empty minidisk is two device steps of a machine.
-use Rattle.std.proofs.Common.{◌≡◌, ◌≢◌, ◌⊎◌, inl, inr, ⊎_elim, ℕ, ◌+◌, ◌≤◌, List, [], ◌∷◌, length, take, drop, replicate, slice_get, Some, None, Result, Ok, Err, refl, sym, ◌∙◌, ap, subst, arith}
+use Rattle.std.proofs.Common.{◌≡◌, ◌≢◌, ◌⊎◌, inl, inr, ⊎_elim, ℕ, ◌+◌, ◌≤◌, List, [], ◌∷◌, length, map, take, drop, replicate, slice_get, Some, None, Result, Ok, Err, refl, sym, ◌∙◌, ap, subst, arith, length-append}
 use Rattle.std.proofs.lemmas.Bool.{cases_eq}
-use Rattle.std.proofs.lemmas.List.{length-replicate}
+use Rattle.std.proofs.lemmas.List.{length-map, length-replicate}
+use Rattle.std.proofs.lemmas.List.FromFn.{length-range_with_len}
+use Rattle.std.specs.List.{range_with_len}
 use Rattle.cms_journal.specs.declared.event.Event.{Event}
 use Rattle.cms_journal.specs.declared.event.Event.TheVariants.{Wrote, Synced}
 use Rattle.cms_journal.specs.Journal.{Journal, HasBlocks, contents, start_of}
@@ -26,7 +28,7 @@ use Rattle.cms_model.proofs.Settling.{settled_is_firm}
 use Rattle.cms_model.proofs.Wiping.{wipe_is_whole, wiped_is_none}
 use Rattle.cms_machine.specs.Slots.{Side, Before, After, Settled, named, set_of, state_in}
 use Rattle.cms_machine.specs.Steps.{Outcome, Good, OldFault, EitherFault, Make, MayMake, slot_after, update_syncs}
-use Rattle.cms_machine.specs.Beats.{AreStamped, Covers, HasStamp, IsStamped}
+use Rattle.cms_machine.specs.Beats.{AreStamped, HasStamp, IsStamped, written_count}
 use Rattle.cms_machine.proofs.Aside.{of_disk}
 use Rattle.cms_machine.proofs.StepsFit.{syncs_counted}
 use Rattle.cms_held.specs.Carrying.{IsHeldMinidisk}
@@ -34,7 +36,7 @@ use Rattle.cms_held.specs.Making.{Making, IsEmptyVolume, IsReadyUnit, MakesEmpty
 use Rattle.cms_held.specs.Opening.{HeldVolume}
 use Rattle.cms_held.specs.Systems.{Systems, block_writes, directory_pieces, map_pieces, node_writes}
 use Rattle.cms_held.specs.LawsRenewing.{AreBlocks}
-use Rattle.cms_held.proofs.Made.{all_written, directory_long, facts, laid_out, made_empty, map_times}
+use Rattle.cms_held.proofs.Made.{all_written, directory_long, facts, laid_out, made_empty, made_placed, map_times}
 use Rattle.cms_held.proofs.NewMap.{row_within}
 use Rattle.cms_held.proofs.WritesLong.{system_blocks}
 use Rattle.cms_edf.specs.Doubts.{IsCutOff}
@@ -43,12 +45,13 @@ use Rattle.cms_edf.specs.declared.doubt.Doubt.{Doubt}
 use Rattle.cms_edf.specs.declared.doubt.Doubt.TheVariants.{Old, Either}
 use Rattle.cms_disk.specs.Disks.{Accessed, IsQuiet, disk_on}
 use Rattle.cms_disk.specs.Changing.{fault_of}
+use Rattle.cms_disk.specs.Leaving.{CoversOn}
 use Rattle.cms_disk.specs.Making.{DoesBoth, DoesWipe, Doubted, Emptied, Formats, GrownOf, IsMakeFault, IsReady, LeavesQuiet, Made, empty_on}
 use Rattle.cms_disk.specs.declared.fault.DiskFault.{DiskFault}
 use Rattle.cms_disk.specs.declared.fault.DiskFault.TheVariants as failed
 use Rattle.cms_disk.specs.declared.unit.UnitInfo.{UnitInfo}
 use Rattle.cms_disk.proofs.Standing.{is_minidisk}
-use Rattle.cms_disk.proofs.StepPieces.{AreWhole, covered, first_stamped, front_has_stamp, front_whole, grown_front, grown_of, grown_then, has_state, has_whole, high_stamped, label_aside, one_sync, only_update, only_writes, stamped_behind, start_has, told_after, update_stamped, update_whole, whole_after, whole_front}
+use Rattle.cms_disk.proofs.StepPieces.{AreWhole, covered, first_stamped, front_has_stamp, front_whole, grown_front, grown_of, grown_then, has_state, has_whole, high_stamped, label_aside, one_sync, only_update, only_writes, stamped_behind, start_has, told_after, update_stamped, update_whole, whole_after, whole_front, written_front, written_update}
 
 -- ---- the wiping
 
@@ -87,8 +90,8 @@ wiped j old mid unit before is r told =
       events = events;
       told = told;
       of_unit = only_wipe u unit.bsize;
-      fits = record { disk = of_disk u events (only_wipe u unit.bsize); synced = refl; stamped = stamped_wipe u unit.bsize; outcome = tt };
-      covers = covered j old u disk is r.seen events (before ∷ []) (Not 2 ∷ [])
+      fits = record { disk = of_disk u events (only_wipe u unit.bsize); synced = refl; stamped = stamped_wipe u unit.bsize; few = omega arith; outcome = tt };
+      covers = covered j old u disk is events (before ∷ []) (Not 2 ∷ [])
           (λ p front image left. ⊎_elim (λ (a : state_of disk (image_of image) ≡ before). inl (inl a)) (λ (b : state_of disk (image_of image) ≡ Not 2). inr (inl b)) (z.either p front image left))
           (λ image left. inl (none image left));
       left = has_state j old mid events disk u (Not 2) is told (contents_have (after j events) u (λ image. state_of disk image ≡ Not 2) none);
@@ -113,9 +116,10 @@ cut_wipe j old new unit before side p is r told front none state =
         disk = of_disk u p only;
         synced = none;
         stamped = all_front (IsStamped u None) p front.rest (subst (AreStamped u None) (sym front.is) (stamped_wipe u unit.bsize));
+        few = written_front p events front;
         outcome = tt;
       };
-      covers = covered j old u disk is r.seen p (before ∷ []) (before ∷ Not 2 ∷ [])
+      covers = covered j old u disk is p (before ∷ []) (before ∷ Not 2 ∷ [])
           (λ q inner image left. ⊎_elim (λ (a : state_of disk (image_of image) ≡ before). inl (inl a)) (λ (b : state_of disk (image_of image) ≡ Not 2). inr (inr (inl b)))
           (z.either q (front_of_front q p events inner front) image left))
           (λ image left. ⊎_elim (λ (a : state_of disk (image_of image) ≡ before). inl a) (λ (b : state_of disk (image_of image) ≡ Not 2). inr (inl b)) (z.either p front image left));
@@ -229,10 +233,22 @@ made_whole : {volid : List ℕ} {stamp : Stamp} (unit : UnitInfo) (s : Systems) 
 made_whole unit s e =
     update_whole unit.unit.number unit.bsize (made_writes (made_on unit s)) s.label_bytes (subst (AreBlocks unit.bsize) (all_written (made_on unit s) e) (system_blocks unit.bsize s (directory_long (made_on unit s) e))) (laid_out (made_on unit s) e).label_long
 
+-- it writes the map, the directory's one block and the label
+made_count : {volid : List ℕ} {stamp : Stamp} (unit : UnitInfo) (s : Systems) → IsEmptyVolume (made_on unit s) volid stamp
+    → written_count (made_events unit s) ≡ map_size unit.bsize unit.unit.blocks + 2
+made_count {volid = volid} {stamp = stamp} unit s e =
+    let ws = made_writes (made_on unit s) in
+    let places = ap (λ (l : List ℕ). length l) (made_placed (made_on unit s) volid stamp e) in
+    let each = length-map ws (λ (w : Write). w.block) in
+    let row = length-range_with_len 6 (map_size unit.bsize unit.unit.blocks) in
+    let both = length-append (range_with_len 6 (map_size unit.bsize unit.unit.blocks)) (4 ∷ []) in
+    let all = written_update unit.unit.number ws s.label_bytes in
+    omega (arith, places, each, row, both, all)
+
 -- the piece that it made, with its outcome
 making : (j : Journal) (old mid new : Told) (unit : UnitInfo) (before : State) (volid : List ℕ) (stamp : Stamp) (s : Systems) → Setting j old mid unit before volid stamp s
     → (o : Outcome) (p : List Event) → new ≡ plus mid p → IsFront p (made_events unit s) → syncs p ≡ update_syncs o → MayMake o
-    → Covers mid p unit.unit.number (Not 2 ∷ []) (set_of (slot_after (Settled (Not 2)) (Make unit.unit.number (Not 2) (empty_on unit volid) stamp) o))
+    → CoversOn (disk_on unit) mid p unit.unit.number (Not 2 ∷ []) (set_of (slot_after (Settled (Not 2)) (Make unit.unit.number (Not 2) (empty_on unit volid) stamp) o))
     → state_of (disk_on unit) (now (after (after j (wipe unit.unit.number unit.bsize)) p) unit.unit.number)
     ≡ state_in (slot_after (Settled (Not 2)) (Make unit.unit.number (Not 2) (empty_on unit volid) stamp) o)
     → DoesBoth old new unit before volid stamp o
@@ -252,6 +268,7 @@ making j old mid new unit before volid stamp s x o p told front synced may cover
           disk = of_disk u p only;
           synced = synced;
           stamped = all_front (IsStamped u (Some stamp)) p front.rest (subst (AreStamped u (Some stamp)) (sym front.is) (stamped_made (made_on unit s) stamp x.empty));
+          few = (let less = written_front p events front in let all = made_count unit s x.empty in omega (arith, less, all));
           outcome = may;
         };
         covers = covers;
@@ -282,7 +299,7 @@ made_at j old mid new unit before volid stamp s d x told volume =
     let firm : IsFirm disk (after later events) u (Volume made) = held_firm (after later events) (made_volume (made_on unit s)) made m.done in
     record {
       both = making j old mid new unit before volid stamp s x Good events told (whole_front events) (two_syncs u (made_writes (made_on unit s)) s.label_bytes) tt
-          (covered later mid u disk mid_is x.ready.seen events (Not 2 ∷ []) (Volume made ∷ [])
+          (covered later mid u disk mid_is events (Not 2 ∷ []) (Volume made ∷ [])
           (λ p front image left. ⊎_elim (λ (a : state_of disk (image_of image) ≡ Not 2). inl (inl a)) (λ (b : state_of disk (image_of image) ≡ Volume made). inr (inl b)) (m.either p front image left))
           (λ image left. inl (firm image left)))
           (contents_have (after later events) u (λ image. state_of disk image ≡ Volume made) firm);
@@ -309,7 +326,7 @@ emptied_at j old mid new unit before volid stamp s x cut =
     record {
       both = making j old mid new unit before volid stamp s x OldFault p cut.told (front_of_front p (to_label u ws) (made_events unit s) safe (to_front u ws s.label_bytes))
           ((syncs_counted u ws s.label_bytes 0).update_old p cut.is) tt
-          (covered later mid u disk mid_is x.ready.seen p (Not 2 ∷ []) (Not 2 ∷ []) (λ q inner image left. inl (inl (firm q inner image left))) (λ image left. inl (none image left)))
+          (covered later mid u disk mid_is p (Not 2 ∷ []) (Not 2 ∷ []) (λ q inner image left. inl (inl (firm q inner image left))) (λ image left. inl (none image left)))
           (contents_have (after later p) u (λ image. state_of disk image ≡ Not 2) none);
       later = after later p;
       told = told_after later mid new p mid_is cut.told;
@@ -331,7 +348,7 @@ cut_make j old mid new unit before volid stamp s side p x told front one state =
     record {
       side = side;
       step = inr (making j old mid new unit before volid stamp s x (EitherFault side) p told front one tt
-          (covered later mid u disk mid_is x.ready.seen p (Not 2 ∷ []) (Not 2 ∷ Volume made ∷ [])
+          (covered later mid u disk mid_is p (Not 2 ∷ []) (Not 2 ∷ Volume made ∷ [])
           (λ q inner image left. ⊎_elim (λ (a : state_of disk (image_of image) ≡ Not 2). inl (inl a)) (λ (b : state_of disk (image_of image) ≡ Volume made). inr (inr (inl b)))
           (m.either q (front_of_front q p (made_events unit s) inner front) image left))
           (λ image left. ⊎_elim (λ (a : state_of disk (image_of image) ≡ Not 2). inl a) (λ (b : state_of disk (image_of image) ≡ Volume made). inr (inl b)) (m.either p front image left)))

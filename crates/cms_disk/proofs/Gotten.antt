@@ -95,7 +95,7 @@ data_stands v k info c bytes most rs r =
         let some = counts_some v.disk.bsize h.entry p.fits.counts in
         let high : c.begun.longest ≡ h.length = ap (λ (b : Begun). b.longest) first.begun in
         let each = subst (λ (n : ℕ). All (Fits h.entry.format n) rs) high g.each in
-        let one : h.entry.format ≡ F → 1 ≤ h.length = λ fix. (let low = fixed_some v.disk.bsize h.entry p.fits.long fix in let same = kept.fixed fix in omega arith) in
+        let one : h.entry.format ≡ F → 1 ≤ h.length = λ fix. (let low = fixed_some v.disk.bsize h.entry p.fits.long fix in let same = kept.told in omega arith) in
         let l = lengths h.entry.format h.length most rs g.most_is each (omega arith) one kept.short in
         record {
           bytes_are = g.bytes_are;

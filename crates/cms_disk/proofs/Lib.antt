@@ -1,7 +1,9 @@
+pub mod Leaving
 pub mod Taking
 pub mod Moving
 pub mod Quieting
 pub mod Finding
+pub mod FilesTold
 pub mod Gathering
 pub mod Gotten
 pub mod Skipping
@@ -9,6 +11,7 @@ pub mod Standing
 pub mod Courses
 pub mod Beside
 pub mod DraftSteps
+pub mod FewWritten
 pub mod Filling
 pub mod Answering
 pub mod FilePut
@@ -19,3 +22,4 @@ pub mod Formatting
 pub mod Beginning
 pub mod Extending
 pub mod AddAnswering
+pub mod TooMany

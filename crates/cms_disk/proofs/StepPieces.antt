@@ -1,18 +1,19 @@
 -- The pieces of a journal that device steps make: what a crash leaves of them, and the stamps of what they write.
-use Rattle.std.proofs.Common.{◌≡◌, ◌≢◌, ◌⊎◌, ⊎_elim, inl, inr, ℕ, zero, suc, ◌+◌, ◌-◌, ◌<◌, ◌≤◌, List, [], ◌∷◌, ◌++◌, length, take, drop, slice_get, get_or-set_same, append-nil, Option, Some, None, refl, sym, ◌∙◌, ap, subst, arith}
+use Rattle.std.proofs.Common.{◌≡◌, ◌≢◌, ◌⊎◌, ⊎_elim, inl, inr, ℕ, zero, suc, ◌+◌, ◌-◌, ◌<◌, ◌≤◌, List, [], ◌∷◌, ◌++◌, length, take, drop, get_or-set_same, append-nil, Option, Some, None, refl, sym, ◌∙◌, ap, subst, arith, add-suc, suc-add, zero-add}
 use Rattle.std.specs.Prelude.{IsSomeAnd, slice_set}
 use Rattle.std.specs.Option.{option_map_or}
 use Rattle.std.specs.List.{AllByRecursion}
 use Rattle.std.proofs.lemmas.Bool.{cases_eq, cases_lt}
 use Rattle.std.proofs.lemmas.List.{drop-take, take-take}
+use Rattle.std.proofs.lemmas.Option.{same_Some}
 use Rattle.cms_journal.specs.declared.event.Attached.{Attached}
 use Rattle.cms_journal.specs.declared.event.Event.{Event}
 use Rattle.cms_journal.specs.declared.event.Event.TheVariants.{Read, Now, Typed, Wrote, Synced, Missed}
 use Rattle.cms_journal.specs.Journal.{Journal, contents, start_of}
-use Rattle.cms_journal.specs.Told.{Grown, Told, plus, syncs, IsOfUnit, OnlyOf}
+use Rattle.cms_journal.specs.Told.{Grown, Told, back, plus, syncs, IsOfUnit, OnlyOf}
 use Rattle.cms_journal.proofs.Crashes.{length-contents}
 use Rattle.cms_journal.proofs.Events.{all_front, all_join}
-use Rattle.cms_journal.proofs.Pieces.{plus_plus}
+use Rattle.cms_journal.proofs.Pieces.{plus_plus, plus-some}
 use Rattle.cms_journal.proofs.Sizes.{block_bounds}
 use Rattle.cms_journal.proofs.Steps.{contents_wrote}
 use Rattle.cms_fields.specs.Stamps.{stamp_bytes}
@@ -22,22 +23,24 @@ use Rattle.cms_model.specs.Lists.{cut, times}
 use Rattle.cms_model.specs.LawsSizes.{IsWhole}
 use Rattle.cms_model.specs.LawsUpdates.{AddsFront, IsFront, after, now, to_label}
 use Rattle.cms_model.specs.Minidisks.{State}
-use Rattle.cms_model.specs.Settled.{EachCrash, MayLeave, Write, update, writes}
+use Rattle.cms_model.specs.Settled.{EachCrash, Write, update, writes}
 use Rattle.cms_model.specs.Trees.{image_of}
-use Rattle.cms_model.specs.Volumes.{Disk, disk_of, state_of}
+use Rattle.cms_model.specs.Volumes.{Disk, state_of}
 use Rattle.cms_model.proofs.Fronts.{after_is_told}
 use Rattle.cms_model.proofs.Images.{image_past, synced_contents, wrote_other}
 use Rattle.cms_model.proofs.Repeats.{times_first, times_later}
 use Rattle.cms_tree.specs.Climbs.{AreOwn}
 use Rattle.cms_tree.proofs.Own.{writes_append}
-use Rattle.cms_machine.specs.Beats.{AreStamped, Covers, HasStamp, IsStamped}
-use Rattle.cms_machine.specs.Points.{Leaves, LeavesIn}
+use Rattle.cms_machine.specs.Beats.{AreStamped, HasStamp, IsStamped, written_count}
 use Rattle.cms_machine.specs.Slots.{IsAmong}
+use Rattle.cms_held.specs.Carrying as held
 use Rattle.cms_held.specs.LawsRenewing.{AreBlocks}
 use Rattle.cms_held.specs.Systems.{Systems, block_writes, directory_bytes_of, system_entry}
 use Rattle.cms_held.proofs.WritesAside.{IsAside}
 use Rattle.cms_disk.specs.Changing.{HasState, IsWholeAt}
+use Rattle.cms_disk.specs.Leaving.{CoversOn}
 use Rattle.cms_disk.specs.Making.{GrownOf}
+use Rattle.cms_disk.proofs.Leaving.{leaves_state}
 
 -- ---- the journal then
 
@@ -54,26 +57,13 @@ start_has n size (Some unit) has = has.1
 
 -- ---- what a crash leaves
 
--- what a machine looks at of a unit
-abbrev pub Shows : Journal → ℕ → Disk → Type 0
-Shows j u disk = (at : Attached) → slice_get j.units u ≡ Some at → disk_of at ≡ disk
-
--- a state that a crash may leave is that of such an image
-pub leaves_state : (j : Journal) (u : ℕ) (disk : Disk) → Shows j u disk → (p : List Event) (P : State → Type 0) → EachCrash (after j p) u (λ image. P (state_of disk image))
-    → (x : State) → Leaves (plus (Some j) p) u x → P x
-leaves_state j u disk shows p P each x leaves =
-    let l : LeavesIn (after j p) u x = subst (λ (t : Told). Leaves t u x) (after_is_told j p) leaves in
-    let start : start_of j.units u ≡ l.unit.start = ap (λ (o : Option Attached). option_map_or (λ (a : Attached). a.start) o []) l.attached in
-    let crash : MayLeave (after j p) u l.image = rw start l.crash in
-    subst P (ap (λ (k : Disk). state_of k (image_of l.image)) (sym (shows l.unit l.attached)) ∙ l.state) (each l.image crash)
-
-pub covered : (j : Journal) (old : Told) (u : ℕ) (disk : Disk) → old ≡ Some j → Shows j u disk → (es : List Event) (before later : List State)
+pub covered : (j : Journal) (old : Told) (u : ℕ) (disk : Disk) → old ≡ Some j → (es : List Event) (before later : List State)
     → ((p : List Event) → IsFront p es → EachCrash (after j p) u (λ image. IsAmong (state_of disk image) before ⊎ IsAmong (state_of disk image) later))
-    → EachCrash (after j es) u (λ image. IsAmong (state_of disk image) later) → Covers old es u before later
-covered j old u disk is shows es before later inside whole = subst (λ (t : Told). Covers t es u before later) (sym is) (record {
+    → EachCrash (after j es) u (λ image. IsAmong (state_of disk image) later) → CoversOn disk old es u before later
+covered j old u disk is es before later inside whole = subst (λ (t : Told). CoversOn disk t es u before later) (sym is) (record {
   inside = λ front rest same x leaves.
-      leaves_state j u disk shows front (λ (y : State). IsAmong y before ⊎ IsAmong y later) (inside front (record { rest = rest; is = same })) x leaves;
-  whole = λ x leaves. leaves_state j u disk shows es (λ (y : State). IsAmong y later) whole x leaves;
+      leaves_state j u disk front (λ (y : State). IsAmong y before ⊎ IsAmong y later) (inside front (record { rest = rest; is = same })) x leaves;
+  whole = λ x leaves. leaves_state j u disk es (λ (y : State). IsAmong y later) whole x leaves;
 })
 
 -- ---- events of one unit
@@ -95,6 +85,64 @@ pub one_sync : (u : ℕ) (ws : List Write) → syncs (to_label u ws) ≡ 1
 unfolding writes
 one_sync u [] = refl
 one_sync u (w ∷ ws) = one_sync u ws
+
+-- ---- how many blocks are written
+
+pub written_append : (p q : List Event) → written_count (p ++ q) ≡ written_count p + written_count q
+written_append [] q = sym (zero-add (written_count q))
+written_append (Wrote u k bytes ∷ p) q = ap suc (written_append p q) ∙ sym (suc-add (written_count p) (written_count q))
+written_append (Synced u ∷ p) q = written_append p q
+written_append (Read bytes ∷ p) q = written_append p q
+written_append (Now seconds ∷ p) q = written_append p q
+written_append (Typed bytes ∷ p) q = written_append p q
+written_append (Missed name size access ∷ p) q = written_append p q
+
+-- no more in a part of a piece than in all of it
+pub written_front : (p whole : List Event) → IsFront p whole → written_count p ≤ written_count whole
+written_front p whole front =
+    let all : written_count p + written_count front.rest ≡ written_count whole = sym (written_append p front.rest) ∙ ap written_count front.is in
+    omega (arith, all)
+
+pub written_writes : (u : ℕ) (ws : List Write) → written_count (writes u ws) ≡ length ws
+unfolding writes
+written_writes u [] = refl
+written_writes u (w ∷ ws) = ap suc (written_writes u ws)
+
+pub written_update : (u : ℕ) (ws : List Write) (label : List ℕ) → written_count (update u ws label) ≡ length ws + 1
+unfolding update
+written_update u ws label =
+    written_append (writes u ws) (Synced u ∷ Wrote u 3 label ∷ Synced u ∷ []) ∙ ap (λ (n : ℕ). n + 1) (written_writes u ws)
+
+-- a journal tells how many it was that were added to it
+written_back : (p older : List Event) → written_count (back p older) ≡ written_count p + written_count older
+written_back [] older = sym (zero-add (written_count older))
+written_back (Wrote u k bytes ∷ p) older =
+    written_back p (Wrote u k bytes ∷ older) ∙ add-suc (written_count p) (written_count older) ∙ sym (suc-add (written_count p) (written_count older))
+written_back (Synced u ∷ p) older = written_back p (Synced u ∷ older)
+written_back (Read bytes ∷ p) older = written_back p (Read bytes ∷ older)
+written_back (Now seconds ∷ p) older = written_back p (Now seconds ∷ older)
+written_back (Typed bytes ∷ p) older = written_back p (Typed bytes ∷ older)
+written_back (Missed name size access ∷ p) older = written_back p (Missed name size access ∷ older)
+
+pub written_same : (j : Journal) (p q : List Event) → plus (Some j) p ≡ plus (Some j) q → written_count p ≡ written_count q
+written_same j p q same =
+    let a : Journal = record { units = j.units; events = back p j.events } in
+    let b : Journal = record { units = j.units; events = back q j.events } in
+    let here : a ≡ b = same_Some a b (sym (plus-some j p) ∙ (same ∙ plus-some j q)) in
+    let all : written_count p + written_count j.events ≡ written_count q + written_count j.events =
+    sym (written_back p j.events) ∙ (ap (λ (k : Journal). written_count k.events) here ∙ written_back q j.events) in
+    omega (arith, all)
+
+-- the laws of updates below count so too
+pub written_held : (es : List Event) → held.written_count es ≡ written_count es
+unfolding held.written_count
+written_held [] = refl
+written_held (Wrote u k bytes ∷ es) = ap suc (written_held es)
+written_held (Synced u ∷ es) = written_held es
+written_held (Read bytes ∷ es) = written_held es
+written_held (Now seconds ∷ es) = written_held es
+written_held (Typed bytes ∷ es) = written_held es
+written_held (Missed name size access ∷ es) = written_held es
 
 -- ---- the stamps of what is written
 

@@ -22,7 +22,7 @@ use Rattle.cms_edf.specs.Growing.{IsFileOf, IsMoreRefused, need_more}
 use Rattle.cms_edf.specs.declared.growing.MoreFault.{MoreFault}
 use Rattle.cms_edf.specs.declared.growing.MoreFault.TheVariants as refused
 use Rattle.cms_edf.specs.declared.held.FileInfo.{FileInfo}
-use Rattle.cms_disk.specs.Disks.{Accessed, IsLookedAt, IsMinidisk, IsReadable, place_of}
+use Rattle.cms_disk.specs.Disks.{Accessed, IsMinidisk, IsReadable, place_of}
 use Rattle.cms_disk.specs.Drafts.{GoesOn, HaveCounts, IsAnsweredBy}
 use Rattle.cms_disk.specs.declared.fault.DiskFault.{DiskFault}
 use Rattle.cms_disk.specs.declared.fault.DiskFault.TheVariants as failed
@@ -102,7 +102,7 @@ pub record HaveShapeBehind (file : File) (shape : DraftShape) (more : List (List
 -- a draft of this shape begins for the change that adds them
 abbrev pub BeginsMore : Told → Told → Accessed → Accessed → Name → DraftShape → Stamp → FileDraft → Type 0
 BeginsMore old new d e name shape stamp draft =
-    (j : Journal) (m : Minidisk) (file : File) (more : List (List ℕ)) → old ≡ Some j → IsMinidisk j d m → IsLookedAt j d
+    (j : Journal) (m : Minidisk) (file : File) (more : List (List ℕ)) → old ≡ Some j → IsMinidisk j d m
     → file_named name m.files ≡ Some file → HaveShapeBehind file shape more
     → GoesOn old new e m draft (Add name more shape.stamp) stamp [] more
 

@@ -1,8 +1,9 @@
 -- A minidisk that is changed, as a device step of a machine.
-use Rattle.std.specs.Prelude.{◌≡◌, ◌⊎◌, ℕ, ◌-◌, ◌<◌, false, List, [], ◌∷◌, length, None, Some, Result, Ok, Err, IfErr, ⊤, unwrap_or}
+use Rattle.std.specs.Prelude.{◌≡◌, ◌⊎◌, ℕ, ◌-◌, ◌<◌, false, List, [], ◌∷◌, length, map, slice_get, slice_set, swap_remove, None, Some, Result, Ok, Err, IfErr, ⊤, unwrap_or}
 use Rattle.cms_journal.specs.declared.event.Event.{Event}
 use Rattle.cms_journal.specs.Journal.{Journal}
 use Rattle.cms_journal.specs.Told.{Told, plus, OnlyOf}
+use Rattle.cms_names.specs.declared.name.Name.{Name}
 use Rattle.cms_fields.specs.declared.time.Stamp.{Stamp}
 use Rattle.cms_model.specs.Minidisks.{File, Minidisk, State, Volume}
 use Rattle.cms_model.specs.Changes.{Change, Put, Add, Drop, Rename, Relabel, Century, Limited, Changed, answer_of, file_named}
@@ -14,10 +15,12 @@ use Rattle.cms_model.specs.LawsUpdates.{now}
 use Rattle.cms_machine.specs.Slots.{Side, Before, After, Settled, set_of, named}
 use Rattle.cms_machine.specs.Steps as steps
 use Rattle.cms_machine.specs.Steps.{Outcome, Good, ReadFault, OldFault, EitherFault, slot_after}
-use Rattle.cms_machine.specs.Beats.{FitsStep, Covers}
+use Rattle.cms_machine.specs.Beats.{FitsStep}
 use Rattle.cms_map.specs.Bits.{free_blocks}
-use Rattle.cms_held.specs.Opening.{HeldVolume}
-use Rattle.cms_held.specs.Renewing.{made_at, made_without, needed}
+use Rattle.cms_held.specs.Opening.{HeldFile, HeldTree, HeldVolume}
+use Rattle.cms_held.specs.Renewing.{made_at, made_without, moved_file, needed, renamed}
+use Rattle.cms_draft.specs.declared.shape.DraftShape.{DraftShape}
+use Rattle.cms_edf.specs.FileDrafts.{file_for, list_with}
 use Rattle.cms_edf.specs.declared.allotment.PlanFault.{PlanFault}
 use Rattle.cms_edf.specs.declared.allotment.PlanFault.TheVariants as unplanned
 use Rattle.cms_edf.specs.declared.growing.MoreFault.{MoreFault}
@@ -28,6 +31,7 @@ use Rattle.cms_edf.specs.declared.doubt.Doubt.{Doubt}
 use Rattle.cms_edf.specs.declared.doubt.Doubt.TheVariants.{Old, Either}
 use Rattle.cms_world.specs.Seen.{Seen, ChangesUnits}
 use Rattle.cms_disk.specs.Disks.{Accessed, IsMinidisk, place_of}
+use Rattle.cms_disk.specs.Leaving.{CoversOn}
 use Rattle.cms_disk.specs.declared.fault.DiskFault.{DiskFault}
 use Rattle.cms_disk.specs.declared.fault.DiskFault.TheVariants as failed
 
@@ -35,12 +39,12 @@ use Rattle.cms_disk.specs.declared.fault.DiskFault.TheVariants as failed
 
 -- the piece of the journal that a change of a unit's minidisk made, with its stamp and its outcome: it has the events of its unit and the
 -- syncs that the outcome has, a crash within it leaves the minidisk before or after, and a crash behind it what the unit then is
-pub record Changes (old new : Told) (u : ℕ) (m : Minidisk) (change : Change) (stamp : Stamp) (o : Outcome) : Type 0 where
+pub record Changes (old new : Told) (disk : Disk) (u : ℕ) (m : Minidisk) (change : Change) (stamp : Stamp) (o : Outcome) : Type 0 where
   pub events : List Event
   pub told : new ≡ plus old events
   pub of_unit : OnlyOf u events
   pub fits : FitsStep (steps.Put u m change stamp) o events
-  pub covers : Covers old events u (Volume m ∷ []) (set_of (slot_after (Settled (Volume m)) (steps.Put u m change stamp) o))
+  pub covers : CoversOn disk old events u (Volume m ∷ []) (set_of (slot_after (Settled (Volume m)) (steps.Put u m change stamp) o))
 
 -- the contents of a unit have this state
 abbrev pub HasState : Told → Disk → ℕ → State → Type 0
@@ -64,7 +68,7 @@ pub record Ended (old new : Told) (d : Accessed) (m : Minidisk) (change : Change
   pub later : Journal
   pub told : new ≡ Some later
   pub minidisk : IsMinidisk later d (minidisk_of m after side)
-  pub changes : Changes old new d.volume.unit m change stamp o
+  pub changes : Changes old new d.volume.disk d.volume.unit m change stamp o
 
 -- the minidisk is changed; the disk d is the new one
 abbrev pub Altered : Told → Told → Accessed → Minidisk → Change → Stamp → Type 0
@@ -81,7 +85,7 @@ pub record Doubted (old new : Told) (d : Accessed) (m : Minidisk) (change : Chan
   pub side : Side
   pub left : HasState new d.volume.disk d.volume.unit (named (Volume m) (Volume after) side)
   pub whole : IsWholeAt new d.volume.disk d.volume.unit
-  pub changes : Changes old new d.volume.unit m change stamp (EitherFault side)
+  pub changes : Changes old new d.volume.disk d.volume.unit m change stamp (EitherFault side)
 
 -- ---- what a change comes to
 
@@ -121,7 +125,7 @@ pub record Unread (old new : Told) (d : Accessed) (m : Minidisk) (change : Chang
   pub same : new ≡ old
   pub after : Minidisk
   pub answer : answer_of m change ≡ Changed after
-  pub changes : Changes old new d.volume.unit m change stamp (ReadFault 0)
+  pub changes : Changes old new d.volume.disk d.volume.unit m change stamp (ReadFault 0)
 
 -- what it comes to that records are added to a file, of which the last blocks are read first
 abbrev pub Appends : Told → Told → Accessed → Accessed → Minidisk → Change → Stamp → Result ⊤ DiskFault → Type 0
@@ -163,6 +167,51 @@ more_refusal_of (unmade.Limit which) = failed.Limit which
 more_refusal_of (unmade.Full need free) = failed.Full need free
 more_refusal_of unmade.Device = failed.Device
 more_refusal_of unmade.Memory = failed.Memory
+
+-- ---- what is held then, in every world
+
+-- one of these files, of this name, goes, and the last takes its place
+pub record IsErased (files : List HeldFile) (name : Name) (news : List HeldFile) : Type 0 where
+  pub place : ℕ
+  pub file : HeldFile
+  pub there : slice_get files place ≡ Some file
+  pub named : file.entry.name ≡ name
+  pub are : news ≡ swap_remove files place file
+
+-- one of them, of this name, has another name and mode number
+pub record IsRenamed (files : List HeldFile) (from to : Name) (number : ℕ) (news : List HeldFile) : Type 0 where
+  pub place : ℕ
+  pub file : HeldFile
+  pub there : slice_get files place ≡ Some file
+  pub named : file.entry.name ≡ from
+  pub are : news ≡ slice_set files place (renamed to number file)
+
+-- the files behind a change, where no file is put
+abbrev pub FilesThen : List HeldFile → Change → List HeldFile → Type 0
+FilesThen files (Drop name) news = IsErased files name news
+FilesThen files (Rename from to number) news = IsRenamed files from to number news
+FilesThen files (Relabel volid) news = news ≡ files
+FilesThen files (Century pivot) news = news ≡ map (moved_file pivot) files
+FilesThen files (Put new) news = ⊥
+FilesThen files (Add name more stamp) news = ⊥
+
+-- the volume has this volume id, and as many blocks and lost ones as before
+pub record IsSameBut (v : HeldVolume) (volid : List ℕ) (w : HeldVolume) : Type 0 where
+  pub volid_is : w.label.volid ≡ volid
+  pub blocks : w.label.blocks ≡ v.label.blocks
+  pub lost : w.lost ≡ v.lost
+
+-- a change was made of a volume that is held
+pub record HeldThen (v : HeldVolume) (change : Change) (w : HeldVolume) : Type 0 where
+  pub files : FilesThen v.files change w.files
+  pub same : IsSameBut v (model.changed_volid v.label.volid change) w
+
+-- a file of a name and shape, over some blocks, was put: in the place of the one of that name, or last
+pub record IsPutIn (v : HeldVolume) (name : Name) (shape : DraftShape) (w : HeldVolume) : Type 0 where
+  pub tree : HeldTree
+  pub start : ℕ
+  pub files : w.files ≡ list_with v.files (place_of name v) (file_for v.disk.bsize name shape tree start)
+  pub same : IsSameBut v v.label.volid w
 
 -- ---- why a change is refused, in every world
 

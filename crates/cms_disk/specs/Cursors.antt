@@ -28,7 +28,7 @@ pub record Reading : Type 0 where
 
 -- ---- what is held in memory
 
--- besides the list of blocks one block is held, and of one record, no longer than the longest, its bytes and those of its length
+-- besides the list of blocks one block is held, and of one record, no longer than the longest, its bytes and the two of its length
 pub record HoldsLittle (c : Reading) : Type 0 where
   pub block : length c.block ≡ c.bsize
   pub begun : length c.begun.bytes ≤ c.begun.longest + 2
@@ -134,6 +134,14 @@ pub record TextFits (c : Reading) : Type 0 where
   pub some : 1 ≤ length (text_of c)
   pub short : length (text_of c) ≤ c.begun.longest
   pub fixed : IfSome c.begun.fixed (λ n. length (text_of c) ≡ n)
+
+-- a read failed of a record that is begun: as many are left, and all bytes that were read are taken, so that the next read begins with
+-- the block that failed
+pub record WaitsFor (old new : Reading) : Type 0 where
+  pub left : new.left ≡ old.left
+  pub sound : new.altered ≡ old.altered
+  pub waits : Waits new
+  pub later : old.done ≤ new.done
 
 -- ---- the start
 

@@ -1,14 +1,14 @@
 -- Minidisks on the units of a world.
-use Rattle.std.specs.Prelude.{◌≡◌, ◌⊎◌, ℕ, Bool, true, false, length, position, slice_get, Option, None, Some, IsSome, Result, Ok, Err, ⊤}
+use Rattle.std.specs.Prelude.{◌≡◌, ◌⊎◌, ◌≤◌, ℕ, Bool, true, false, length, position, slice_get, Option, None, Some, IsSome, Result, Ok, Err, ⊤}
 use Rattle.cms_journal.specs.declared.event.Event.TheVariants.{Synced}
-use Rattle.cms_journal.specs.declared.event.Attached.{Attached}
 use Rattle.cms_journal.specs.Journal.{Journal, HasBlocks, adds}
 use Rattle.cms_journal.specs.Told.{Told}
 use Rattle.cms_names.specs.declared.name.Name.{Name}
+use Rattle.cms_fields.specs.Limits.{longest_record, most_records}
 use Rattle.cms_model.specs.Trees.{Image}
 use Rattle.cms_model.specs.Minidisks.{File, Minidisk, Not, same_name}
 use Rattle.cms_model.specs.Records.{stored}
-use Rattle.cms_model.specs.Volumes.{Disk, Opened, disk_of, open_of, minidisk_of, reason}
+use Rattle.cms_model.specs.Volumes.{Disk, Opened, open_of, minidisk_of, reason}
 use Rattle.cms_model.specs.Changes.{file_named}
 use Rattle.cms_model.specs.Settled.{IsSettled, IsFirm}
 use Rattle.cms_model.specs.LawsSizes.{IsWhole}
@@ -18,7 +18,9 @@ use Rattle.cms_model.specs.declared.fault.OpenFault.TheVariants as failed
 use Rattle.cms_held.specs.Opening.{HeldFile, HeldVolume, IsFaultOf, held_of, names_in}
 use Rattle.cms_held.specs.HeldAs.{IsHeldAs}
 use Rattle.cms_held.specs.HeldTrees.{TreesStand}
+use Rattle.cms_edf.specs.declared.held.FileInfo.{FileInfo}
 use Rattle.cms_disk.specs.Cursors.{Reading, IsFirst, HasLeft}
+use Rattle.cms_disk.specs.Leaving.{LooksAs}
 use Rattle.cms_disk.specs.declared.fault.AccessFault.{AccessFault}
 use Rattle.cms_disk.specs.declared.fault.AccessFault.TheVariants.{Sync, Open}
 use Rattle.cms_disk.specs.declared.unit.UnitInfo.{UnitInfo}
@@ -48,7 +50,17 @@ IsReadable j d = HasBlocks j.units d.volume.unit d.volume.disk.count d.volume.di
 
 -- what is looked at of its unit is what an attached unit shows: blocks of its size, and at most 1,048,576 of them
 abbrev pub IsLookedAt : Journal → Accessed → Type 0
-IsLookedAt j d = (unit : Attached) → slice_get j.units d.volume.unit ≡ Some unit → disk_of unit ≡ d.volume.disk
+IsLookedAt j d = LooksAs j d.volume.unit d.volume.disk
+
+-- ---- what is told of its files
+
+-- it is told of a file: its mode number is 0 to 6, it has 1 to 1,048,576 records, and the longest of them 1 to 65,535 bytes
+pub record IsFileInfo (info : FileInfo) : Type 0 where
+  pub number : info.number ≤ 6
+  pub some : 1 ≤ info.length
+  pub short : info.length ≤ longest_record
+  pub records : 1 ≤ info.count
+  pub few : info.count ≤ most_records
 
 -- ---- the minidisk that it is
 

@@ -1,5 +1,5 @@
 -- A file that is drafted for a minidisk, while its records are put.
-use Rattle.std.specs.Prelude.{◌≡◌, ℕ, ◌+◌, ◌<◌, false, List, [], ◌∷◌, ◌++◌, length, Some, None, Result, Ok, Err, ⊤}
+use Rattle.std.specs.Prelude.{◌≡◌, ℕ, ◌+◌, ◌<◌, ◌≤◌, false, List, [], ◌∷◌, ◌++◌, length, Some, None, Result, Ok, Err, ⊤}
 use Rattle.cms_journal.specs.declared.event.Event.{Event}
 use Rattle.cms_journal.specs.Journal.{Journal}
 use Rattle.cms_journal.specs.Told.{Told, plus, syncs, OnlyOf}
@@ -8,11 +8,12 @@ use Rattle.cms_names.specs.declared.name.Format.TheVariants.{F}
 use Rattle.cms_model.specs.Minidisks.{File, Minidisk, Volume}
 use Rattle.cms_fields.specs.declared.time.Stamp.{Stamp}
 use Rattle.cms_model.specs.Records.{length_of, stored}
-use Rattle.cms_model.specs.Changes.{Add, Answer, Century, Change, Changed, Drop, Limited, Put, Relabel, Rename, answer_of, changed}
+use Rattle.cms_model.specs.Changes.{Add, Answer, Century, Change, Changed, Drop, Limited, Put, Relabel, Rename, answer_of, changed, need}
 use Rattle.cms_model.specs.Changes as model
 use Rattle.cms_model.specs.declared.file.FileData.{FileData}
+use Rattle.cms_model.specs.Volumes.{Disk}
 use Rattle.cms_map.specs.Bits.{free_blocks}
-use Rattle.cms_machine.specs.Beats.{AreStamped, Covers}
+use Rattle.cms_machine.specs.Beats.{AreStamped, written_count}
 use Rattle.cms_held.specs.Drafts.{Front, no_front}
 use Rattle.cms_held.specs.Growing.{length_with}
 use Rattle.cms_held.specs.Opening.{HeldFile}
@@ -20,9 +21,10 @@ use Rattle.cms_held.specs.Putting.{count_put, limit_put, need_put}
 use Rattle.cms_draft.specs.BlockWriting.{IsSame, came}
 use Rattle.cms_draft.specs.Drafting.{Drafting, Drafts, HaveShape}
 use Rattle.cms_draft.specs.declared.shape.DraftShape.{DraftShape}
-use Rattle.cms_edf.specs.FileDrafts.{DraftStands, FileDraft, IsDraftFor, tree_of}
+use Rattle.cms_edf.specs.FileDrafts.{DraftStands, FileDraft, IsDraftFor, put_writes, tree_of}
 use Rattle.cms_edf.specs.Growing.{IsFrontOf, IsMoreFor}
-use Rattle.cms_disk.specs.Disks.{Accessed, IsLookedAt, IsMinidisk, IsReadable}
+use Rattle.cms_disk.specs.Disks.{Accessed, IsMinidisk, IsReadable}
+use Rattle.cms_disk.specs.Leaving.{CoversOn}
 use Rattle.cms_disk.specs.declared.fault.DiskFault.{DiskFault}
 use Rattle.cms_disk.specs.declared.fault.DiskFault.TheVariants as failed
 
@@ -30,13 +32,13 @@ use Rattle.cms_disk.specs.declared.fault.DiskFault.TheVariants as failed
 
 -- what was written beside the minidisk of a unit: writes of that unit which begin no directory, and no sync; a crash within them or behind
 -- them leaves the minidisk
-pub record WritesAside (old new : Told) (u : ℕ) (m : Minidisk) : Type 0 where
+pub record WritesAside (old new : Told) (disk : Disk) (u : ℕ) (m : Minidisk) : Type 0 where
   pub events : List Event
   pub told : new ≡ plus old events
   pub of_unit : OnlyOf u events
   pub unsynced : syncs events ≡ 0
   pub aside : AreStamped u None events
-  pub covers : Covers old events u (Volume m ∷ []) (Volume m ∷ [])
+  pub covers : CoversOn disk old events u (Volume m ∷ []) (Volume m ∷ [])
 
 -- the minidisk stands: its unit is settled at it, and may be read
 pub record Stands (told : Told) (d : Accessed) (m : Minidisk) : Type 0 where
@@ -44,7 +46,6 @@ pub record Stands (told : Told) (d : Accessed) (m : Minidisk) : Type 0 where
   pub told_is : told ≡ Some at
   pub minidisk : IsMinidisk at d m
   pub readable : IsReadable at d
-  pub looked : IsLookedAt at d
 
 -- ---- what is drafted
 
@@ -89,21 +90,24 @@ IsFor j d draft (Relabel volid) stamp front records = ⊥
 IsFor j d draft (Century pivot) stamp front records = ⊥
 
 -- a draft goes on for a change: the minidisk stands, from the start on only the draft was written, of its records the first were put and
--- the others are to come, and what was written of it stands
+-- the others are to come, and what was written of it stands; each of its blocks was written once, no more of them than the change needs
 pub record GoesOn (start now : Told) (d : Accessed) (m : Minidisk) (draft : FileDraft) (change : Change) (stamp : Stamp)
     (done more : List (List ℕ)) :
     Type 0 where
   pub stands : Stands now d m
-  pub aside : WritesAside start now d.volume.unit m
+  pub aside : WritesAside start now d.volume.disk d.volume.unit m
   pub front : Front
   pub is_for : IsFor stands.at d draft change stamp front (done ++ more)
   pub drafts : Drafts draft.writer front done more
   pub written : DraftStands stands.at draft.writer front (done ++ more)
+  pub count : written_count aside.events ≡ length (put_writes draft front (done ++ more))
+  pub few : written_count aside.events ≤ need m change
 
--- it is given up: the minidisk stands
-pub record IsGivenUp (start now : Told) (d : Accessed) (m : Minidisk) : Type 0 where
+-- it is given up: the minidisk stands, and no more blocks were written than the change needs
+pub record IsGivenUp (start now : Told) (d : Accessed) (m : Minidisk) (change : Change) : Type 0 where
   pub stands : Stands now d m
-  pub aside : WritesAside start now d.volume.unit m
+  pub aside : WritesAside start now d.volume.disk d.volume.unit m
+  pub few : written_count aside.events ≤ need m change
 
 -- ---- the draft
 
@@ -167,7 +171,7 @@ AnswersDraft d name shape result =
 -- a draft of such a file begins for the change that puts it, wherever the minidisk stands
 abbrev pub BeginsPut : Accessed → Accessed → Name → DraftShape → Stamp → FileDraft → Type 0
 BeginsPut d e name shape stamp draft =
-    (j : Journal) (m : Minidisk) (records : List (List ℕ)) → IsMinidisk j d m → IsReadable j d → IsLookedAt j d
+    (j : Journal) (m : Minidisk) (records : List (List ℕ)) → IsMinidisk j d m → IsReadable j d
     → HaveShape shape records → length_of shape.format shape.length records ≡ shape.length
     → GoesOn (Some j) (Some j) e m draft (Put (file_with name shape records)) stamp [] records
 
@@ -175,7 +179,7 @@ BeginsPut d e name shape stamp draft =
 abbrev pub PutsRecord : Told → Told → Accessed → Minidisk → FileDraft → Change → Stamp → List (List ℕ) → List (List ℕ)
     → Result ⊤ DiskFault → Type 0
 PutsRecord start now d m draft change stamp done more (Ok x) = GoesOn start now d m draft change stamp done more
-PutsRecord start now d m draft change stamp done more (Err e) = IsGivenUp start now d m
+PutsRecord start now d m draft change stamp done more (Err e) = IsGivenUp start now d m change
 
 -- ---- a file that is put whole
 

@@ -1,16 +1,19 @@
 -- What an accessed volume tells of the minidisk that it is, and what a quiet unit is.
-use Rattle.std.specs.Prelude.{◌≡◌, ℕ, [], ◌∷◌, Ok, Err}
+use Rattle.std.specs.Prelude.{◌≡◌, ℕ, List, [], ◌∷◌, Some, Ok, Err}
+use Rattle.cms_journal.specs.declared.event.Event.{Event}
 use Rattle.cms_journal.specs.declared.event.Event.TheVariants.{Synced}
 use Rattle.cms_journal.specs.Journal.{Journal}
 use Rattle.cms_names.specs.declared.name.Name.{Name}
 use Rattle.cms_model.specs.Trees.{Image}
-use Rattle.cms_model.specs.Minidisks.{Minidisk, Not}
+use Rattle.cms_model.specs.Minidisks.{Minidisk, Not, State}
 use Rattle.cms_model.specs.Volumes.{Disk, Opened, open_of, reason}
 use Rattle.cms_model.specs.Settled.{IsSettled, IsFirm}
 use Rattle.cms_model.specs.LawsUpdates.{after, now}
 use Rattle.cms_model.specs.declared.fault.OpenFault.{OpenFault}
+use Rattle.cms_machine.specs.Beats.{Covers}
 use Rattle.cms_held.specs.LawsHeld.{IsFound, IsMinidiskOf}
 use Rattle.cms_disk.specs.Disks.{Accessed, StandsIn, IsQuiet, place_of}
+use Rattle.cms_disk.specs.Leaving.{CoversOn, LooksAs}
 
 -- its files are the minidisk's, in their order, and a name is found in the place of its file
 pub record Tells (image : Image) (d : Accessed) (m : Minidisk) : Type 0 where
@@ -33,3 +36,8 @@ QuietRests = (disk : Disk) (j : Journal) (u : ℕ) → IsQuiet disk j u → Rest
 -- after a sync a unit is quiet
 abbrev pub SyncQuiets : Type 0
 SyncQuiets = (disk : Disk) (j : Journal) (u : ℕ) → IsQuiet disk (after j (Synced u ∷ [])) u
+
+-- where a machine looks at a unit as a disk does, what is covered as the disk reads the unit is covered for the machine
+abbrev pub LookedAtIsCovered : Type 0
+LookedAtIsCovered = (disk : Disk) (j : Journal) (es : List Event) (u : ℕ) (before later : List State) → LooksAs j u disk
+    → CoversOn disk (Some j) es u before later → Covers (Some j) es u before later

@@ -1,5 +1,6 @@
 pub mod Cursors
 pub mod CursorFields
+pub mod Leaving
 pub mod Disks
 pub mod Getting
 pub mod LawsDisks

@@ -1,6 +1,5 @@
 -- An empty minidisk that is made on a unit, as two device steps of a machine: the unit is wiped, and then the minidisk is made.
-use Rattle.std.specs.Prelude.{◌≡◌, ◌⊎◌, ℕ, List, [], slice_get, None, Some, Result, Ok, Err, ⊤}
-use Rattle.cms_journal.specs.declared.event.Attached.{Attached}
+use Rattle.std.specs.Prelude.{◌≡◌, ◌⊎◌, ℕ, List, [], None, Some, Result, Ok, Err, ⊤}
 use Rattle.cms_journal.specs.declared.event.Event.{Event}
 use Rattle.cms_journal.specs.Journal.{Journal}
 use Rattle.cms_journal.specs.Told.{Told, plus, OnlyOf}
@@ -10,13 +9,14 @@ use Rattle.cms_model.specs.LawsSizes.{IsWhole}
 use Rattle.cms_model.specs.LawsUpdates.{now}
 use Rattle.cms_model.specs.Minidisks.{Minidisk, State, Not}
 use Rattle.cms_model.specs.Settled.{IsFirm}
-use Rattle.cms_model.specs.Volumes.{Disk, disk_of, state_of}
+use Rattle.cms_model.specs.Volumes.{Disk, state_of}
 use Rattle.cms_machine.specs.Slots.{Side, Settled, set_of, state_in}
 use Rattle.cms_machine.specs.Steps.{Step, Wipe, Make, Outcome, Good, OldFault, EitherFault, slot_after, unit_of}
-use Rattle.cms_machine.specs.Beats.{FitsStep, Covers}
+use Rattle.cms_machine.specs.Beats.{FitsStep}
 use Rattle.cms_held.specs.Making.{empty_label}
 use Rattle.cms_disk.specs.Changing.{HasState, IsWholeAt}
 use Rattle.cms_disk.specs.Disks.{Accessed, IsMinidisk, IsQuiet, disk_on}
+use Rattle.cms_disk.specs.Leaving.{CoversOn, LooksAs}
 use Rattle.cms_disk.specs.declared.fault.DiskFault.{DiskFault}
 use Rattle.cms_disk.specs.declared.fault.DiskFault.TheVariants as failed
 use Rattle.cms_disk.specs.declared.unit.UnitInfo.{UnitInfo}
@@ -31,7 +31,7 @@ pub record Does (old new : Told) (disk : Disk) (before : State) (s : Step) (o : 
   pub told : new ≡ plus old events
   pub of_unit : OnlyOf (unit_of s) events
   pub fits : FitsStep s o events
-  pub covers : Covers old events (unit_of s) (set_of (Settled before)) (set_of (slot_after (Settled before) s o))
+  pub covers : CoversOn disk old events (unit_of s) (set_of (Settled before)) (set_of (slot_after (Settled before) s o))
   pub left : HasState new disk (unit_of s) (state_in (slot_after (Settled before) s o))
   pub whole : IsWholeAt new disk (unit_of s)
 
@@ -39,11 +39,10 @@ pub record Does (old new : Told) (disk : Disk) (before : State) (s : Step) (o : 
 
 -- what a machine looks at of a unit is what is told of it
 abbrev pub IsSeen : Journal → UnitInfo → Type 0
-IsSeen j unit = (at : Attached) → slice_get j.units unit.unit.number ≡ Some at → disk_of at ≡ disk_on unit
+IsSeen j unit = LooksAs j unit.unit.number (disk_on unit)
 
 -- where a minidisk is made: a quiet unit in this state, whose blocks have their size
 pub record IsReady (j : Journal) (unit : UnitInfo) (before : State) : Type 0 where
-  pub seen : IsSeen j unit
   pub whole : IsWhole (disk_on unit) (now j unit.unit.number)
   pub quiet : IsQuiet (disk_on unit) j unit.unit.number
   pub state : state_of (disk_on unit) (now j unit.unit.number) ≡ before

@@ -1,18 +1,19 @@
 // Records that are added to a file.
-ghost use Rattle.std.specs.Prelude.{◌≡◌, ◌⊎◌, ℕ, List, true, false, None, Some, Err, length, slice_get, ◌<◌, IfErr, IfOk};
+ghost use Rattle.std.specs.Prelude.{◌≡◌, ◌⊎◌, ◌+◌, ℕ, List, true, false, None, Some, Err, length, slice_get, ◌<◌, IfErr, IfOk, OnOk};
 ghost use Rattle.std.specs.Option.{ForSome};
 ghost use Rattle.cms_journal.specs.Journal.{Journal, IsWritable};
 ghost use Rattle.cms_world.specs.Seen.{seen};
+ghost use Rattle.cms_fields.specs.Limits.{most_records};
 ghost use Rattle.cms_fields.specs.Stamps.{is_stamp};
 ghost use Rattle.cms_model.specs.Minidisks as minidisks;
 ghost use Rattle.cms_model.specs.Changes.{Add};
 ghost use Rattle.cms_model.specs.Records.{IsValid, StandsFor};
 ghost use Rattle.cms_edf.specs.Asking.{infos_in, stored_in};
 ghost use Rattle.cms_edf.specs.declared.held.FileInfo as infos;
-ghost use Rattle.cms_disk.specs.Additions.{CanExtend, FitsFile, IsAddFault, shape_with};
-ghost use Rattle.cms_disk.specs.Changing.{Appends, ChangesDisk};
-ghost use Rattle.cms_disk.specs.Disks.{IsLookedAt, IsMinidisk, IsReadable, place_of};
-ghost use Rattle.cms_disk.specs.declared.fault.DiskFault.TheVariants.{Memory, NotFound, ReadOnly};
+ghost use Rattle.cms_disk.specs.Additions.{CanExtend, FitsFile, IsAddFault, IsTold, shape_with};
+ghost use Rattle.cms_disk.specs.Changing.{Appends, ChangesDisk, IsPutIn};
+ghost use Rattle.cms_disk.specs.Disks.{IsMinidisk, IsReadable, place_of};
+ghost use Rattle.cms_disk.specs.declared.fault.DiskFault.TheVariants.{Limit, Memory, NotFound, ReadOnly};
 
 use crate::fault::DiskFault;
 use crate::minidisk::Minidisk;
@@ -49,21 +50,31 @@ pub fn can_extend(info: &FileInfo, stored: u32, shape: &DraftShape) -> bool
     can_draft(shape)
 }
 
+// The limit of a file's records, among those of a minidisk.
+const RECORDS_LIMIT: u32 = 2;
+
 impl Minidisk {
-    // The shape of the file at a place with these records behind its own. More of them than a number of 32 bits counts have no room in
-    // memory, and what a minidisk tells of a file is sound, so a fault is want of memory.
+    // The shape of the file at a place with these records behind its own. More of them than a number of 32 bits counts are past the limit
+    // of a file's records.
     fn shape_with(&self, place: u32, more: &FileData) -> Result<DraftShape, DiskFault>
         requires { place < length self.now.volume.files }
-        ensures shape { IfOk result (λ shape. (info : infos.FileInfo) (bytes : ℕ) → slice_get (infos_in self.now.volume) place ≡ Some info
-            → slice_get (stored_in self.now.volume) place ≡ Some bytes → shape ≡ shape_with info bytes more.now) }
-        ensures can { IfOk result (λ shape. (info : infos.FileInfo) (bytes : ℕ) → slice_get (infos_in self.now.volume) place ≡ Some info
-            → slice_get (stored_in self.now.volume) place ≡ Some bytes → CanExtend info bytes shape) }
-        ensures fault { IfErr result (λ e. e ≡ Memory) }
+        ensures shape { IfOk result (λ shape. (info : infos.FileInfo) (bytes : ℕ)
+            → slice_get (infos_in self.now.volume) place ≡ Some info
+            → slice_get (stored_in self.now.volume) place ≡ Some bytes
+            → shape ≡ shape_with info bytes more.now) }
+        ensures can { IfOk result (λ shape. (info : infos.FileInfo) (bytes : ℕ)
+            → slice_get (infos_in self.now.volume) place ≡ Some info
+            → slice_get (stored_in self.now.volume) place ≡ Some bytes
+            → CanExtend info bytes shape) }
+        ensures fault { IfErr result (λ e. (e ≡ Memory) ⊎ (e ≡ Limit 2)) }
+        ensures many { IfErr result (λ e. e ≡ Limit 2 → (info : infos.FileInfo)
+            → slice_get (infos_in self.now.volume) place ≡ Some info
+            → most_records < info.count + more.now.count) }
     {
         let info = self.info(place);
         let stored = self.stored(place);
         let Some(count) = info.count.checked_add(more.count) else {
-            return Err(DiskFault::Memory);
+            return Err(DiskFault::Limit(RECORDS_LIMIT));
         };
         let shape = DraftShape {
             format: info.format,
@@ -73,11 +84,11 @@ impl Minidisk {
             count,
             bytes: u64::from(stored) + more.bytes.bytes().len() as u64,
         };
-        if can_extend(&info, stored, &shape) {
-            Ok(shape)
-        } else {
-            Err(DiskFault::Memory)
+        // a file's stored bytes are those of its records, so this is never
+        if !can_extend(&info, stored, &shape) {
+            return Err(DiskFault::Memory);
         }
+        Ok(shape)
     }
 
     /// Adds records to the file of a name, of its format and, where all have one length, its length. The file keeps its mode number and
@@ -98,16 +109,25 @@ impl Minidisk {
         requires more { IsValid more.now }
         requires fits { FitsFile self.old.volume name.now more.now }
         requires blocks { ForSome (W.told world.old) (λ j. IsReadable j self.old) }
-        requires writable { self.old.writable ≡ true → ForSome (W.told world.old) (λ j. IsWritable j.units self.old.volume.unit) }
-        ensures appends { (j : Journal) (m : minidisks.Minidisk) (records : List (List ℕ)) → W.told world.old ≡ Some j
-            → IsMinidisk j self.old m → IsLookedAt j self.old → StandsFor more.now records
-            → Appends (W.told world.old) (W.told world.new) self.old self.new m (Add name.now records more.now.stamp) stamp.now result }
+        requires writable { self.old.writable ≡ true
+            → ForSome (W.told world.old) (λ j. IsWritable j.units self.old.volume.unit) }
+        ensures appends { (j : Journal) (m : minidisks.Minidisk) (records : List (List ℕ))
+            → W.told world.old ≡ Some j
+            → IsMinidisk j self.old m → StandsFor more.now records
+            → Appends (W.told world.old) (W.told world.new) self.old self.new m
+            (Add name.now records more.now.stamp) stamp.now result }
+        ensures holds { OnOk result ((info : infos.FileInfo) (bytes : ℕ)
+            → IsTold self.old.volume name.now info bytes
+            → IsPutIn self.old.volume name.now (shape_with info bytes more.now) self.new.volume) }
         ensures fault { IfErr result (IsAddFault self.old name.now more.now) }
-        ensures missing { IfErr result (λ e. e ≡ NotFound → place_of name.now self.old.volume ≡ None) }
+        ensures missing { IfErr result (λ e. e ≡ NotFound
+            → place_of name.now self.old.volume ≡ None) }
         ensures absent { place_of name.now self.old.volume ≡ None → result ≡ Err NotFound }
         ensures read_only { IfErr result (λ e. e ≡ ReadOnly → self.old.writable ≡ false) }
-        ensures locked { self.old.writable ≡ false → (result ≡ Err NotFound) ⊎ (result ≡ Err ReadOnly) }
-        ensures changes { ChangesDisk (seen W.World world.old) (seen W.World world.new) self.old self.new result }
+        ensures locked { self.old.writable ≡ false → (result ≡ Err NotFound)
+            ⊎ (result ≡ Err ReadOnly) }
+        ensures changes { ChangesDisk (seen W.World world.old)
+            (seen W.World world.new) self.old self.new result }
     {
         let place = self.place(name)?;
         if !self.is_writable() {

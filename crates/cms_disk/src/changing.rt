@@ -1,5 +1,5 @@
 // Changes of a minidisk.
-ghost use Rattle.std.specs.Prelude.{◌≡◌, ◌⊎◌, ◌≤◌, ◌-◌, true, false, length, None, Some, Err, IfErr, unwrap_or};
+ghost use Rattle.std.specs.Prelude.{◌≡◌, ◌⊎◌, ◌≤◌, ◌-◌, true, false, length, None, Some, Err, IfErr, OnOk, unwrap_or};
 ghost use Rattle.cms_world.specs.Seen.{seen};
 ghost use Rattle.std.specs.Option.{ForSome};
 ghost use Rattle.cms_journal.specs.Journal.{Journal, IsWritable};
@@ -9,8 +9,8 @@ ghost use Rattle.cms_model.specs.Changes.{Drop, Rename, Relabel, Century};
 ghost use Rattle.cms_model.specs.DirectoryParts.{all_entries};
 ghost use Rattle.cms_held.specs.Renewing.{made_at, made_without, needed};
 ghost use Rattle.cms_edf.specs.Planning.{CanChange, change_of};
-ghost use Rattle.cms_disk.specs.Changing.{Alters, ChangesDisk, IsChangeFault, IsDevices, needed_for};
-ghost use Rattle.cms_disk.specs.Disks.{IsLookedAt, IsMinidisk, IsOthers, IsReadable, place_of};
+ghost use Rattle.cms_disk.specs.Changing.{Alters, ChangesDisk, HeldThen, IsChangeFault, IsDevices, needed_for};
+ghost use Rattle.cms_disk.specs.Disks.{IsMinidisk, IsOthers, IsReadable, place_of};
 ghost use Rattle.cms_disk.specs.declared.fault.DiskFault.TheVariants.{Exists, Memory, NotFound, ReadOnly};
 
 use crate::fault::DiskFault;
@@ -35,18 +35,26 @@ impl Minidisk {
     ) -> Result<(), DiskFault>
         requires stamp { is_stamp stamp.now ≡ true }
         requires blocks { ForSome (W.told world.old) (λ j. IsReadable j self.old) }
-        requires writable { self.old.writable ≡ true → ForSome (W.told world.old) (λ j. IsWritable j.units self.old.volume.unit) }
+        requires writable { self.old.writable ≡ true
+            → ForSome (W.told world.old) (λ j. IsWritable j.units self.old.volume.unit) }
         ensures alters { (j : Journal) (m : minidisks.Minidisk) → W.told world.old ≡ Some j
-            → IsMinidisk j self.old m → IsLookedAt j self.old
-            → Alters (W.told world.old) (W.told world.new) self.old self.new m (Drop name.now) stamp.now result }
-        ensures missing { IfErr result (λ e. e ≡ NotFound → place_of name.now self.old.volume ≡ None) }
+            → IsMinidisk j self.old m
+            → Alters (W.told world.old) (W.told world.new) self.old self.new m
+            (Drop name.now) stamp.now result }
+        ensures holds { OnOk result (HeldThen self.old.volume (Drop name.now) self.new.volume) }
+        ensures missing { IfErr result (λ e. e ≡ NotFound
+            → place_of name.now self.old.volume ≡ None) }
         ensures absent { place_of name.now self.old.volume ≡ None → result ≡ Err NotFound }
         ensures read_only { IfErr result (λ e. e ≡ ReadOnly → self.old.writable ≡ false) }
-        ensures locked { self.old.writable ≡ false → (result ≡ Err NotFound) ⊎ (result ≡ Err ReadOnly) }
+        ensures locked { self.old.writable ≡ false → (result ≡ Err NotFound)
+            ⊎ (result ≡ Err ReadOnly) }
         ensures fault { IfErr result (λ e. (e ≡ NotFound) ⊎ (e ≡ ReadOnly)
-            ⊎ IsChangeFault self.old.volume (needed self.old.volume (length self.old.volume.files - 1)
-            (made_without (unwrap_or (place_of name.now self.old.volume) 0) (length self.old.volume.files))) e) }
-        ensures changes { ChangesDisk (seen W.World world.old) (seen W.World world.new) self.old self.new result }
+            ⊎ IsChangeFault self.old.volume
+            (needed self.old.volume (length self.old.volume.files - 1)
+            (made_without (unwrap_or (place_of name.now self.old.volume) 0)
+            (length self.old.volume.files))) e) }
+        ensures changes { ChangesDisk (seen W.World world.old)
+            (seen W.World world.new) self.old self.new result }
     {
         if !self.has(name) {
             return Err(DiskFault::NotFound);
@@ -71,20 +79,28 @@ impl Minidisk {
         requires stamp { is_stamp stamp.now ≡ true }
         requires number { number ≤ 6 }
         requires blocks { ForSome (W.told world.old) (λ j. IsReadable j self.old) }
-        requires writable { self.old.writable ≡ true → ForSome (W.told world.old) (λ j. IsWritable j.units self.old.volume.unit) }
+        requires writable { self.old.writable ≡ true
+            → ForSome (W.told world.old) (λ j. IsWritable j.units self.old.volume.unit) }
         ensures alters { (j : Journal) (m : minidisks.Minidisk) → W.told world.old ≡ Some j
-            → IsMinidisk j self.old m → IsLookedAt j self.old
-            → Alters (W.told world.old) (W.told world.new) self.old self.new m (Rename from.now to.now number) stamp.now result }
-        ensures missing { IfErr result (λ e. e ≡ NotFound → place_of from.now self.old.volume ≡ None) }
+            → IsMinidisk j self.old m
+            → Alters (W.told world.old) (W.told world.new) self.old self.new m
+            (Rename from.now to.now number) stamp.now result }
+        ensures holds { OnOk result (HeldThen self.old.volume
+            (Rename from.now to.now number) self.new.volume) }
+        ensures missing { IfErr result (λ e. e ≡ NotFound
+            → place_of from.now self.old.volume ≡ None) }
         ensures absent { place_of from.now self.old.volume ≡ None → result ≡ Err NotFound }
         ensures exists { IfErr result (λ e. e ≡ Exists → IsOthers from.now to.now self.old.volume) }
-        ensures taken { IsOthers from.now to.now self.old.volume → (result ≡ Err NotFound) ⊎ (result ≡ Err Exists) }
+        ensures taken { IsOthers from.now to.now self.old.volume → (result ≡ Err NotFound)
+            ⊎ (result ≡ Err Exists) }
         ensures read_only { IfErr result (λ e. e ≡ ReadOnly → self.old.writable ≡ false) }
-        ensures locked { self.old.writable ≡ false → (result ≡ Err NotFound) ⊎ (result ≡ Err Exists) ⊎ (result ≡ Err ReadOnly) }
+        ensures locked { self.old.writable ≡ false → (result ≡ Err NotFound) ⊎ (result ≡ Err Exists)
+            ⊎ (result ≡ Err ReadOnly) }
         ensures fault { IfErr result (λ e. (e ≡ NotFound) ⊎ (e ≡ Exists) ⊎ (e ≡ ReadOnly)
             ⊎ IsChangeFault self.old.volume (needed self.old.volume (length self.old.volume.files)
             (made_at (unwrap_or (place_of from.now self.old.volume) 0))) e) }
-        ensures changes { ChangesDisk (seen W.World world.old) (seen W.World world.new) self.old self.new result }
+        ensures changes { ChangesDisk (seen W.World world.old)
+            (seen W.World world.new) self.old self.new result }
     {
         if !self.has(from) {
             return Err(DiskFault::NotFound);
@@ -108,14 +124,18 @@ impl Minidisk {
     ) -> Result<(), DiskFault>
         requires stamp { is_stamp stamp.now ≡ true }
         requires blocks { ForSome (W.told world.old) (λ j. IsReadable j self.old) }
-        requires writable { self.old.writable ≡ true → ForSome (W.told world.old) (λ j. IsWritable j.units self.old.volume.unit) }
+        requires writable { self.old.writable ≡ true
+            → ForSome (W.told world.old) (λ j. IsWritable j.units self.old.volume.unit) }
         ensures alters { (j : Journal) (m : minidisks.Minidisk) → W.told world.old ≡ Some j
-            → IsMinidisk j self.old m → IsLookedAt j self.old
-            → Alters (W.told world.old) (W.told world.new) self.old self.new m (Relabel volid) stamp.now result }
+            → IsMinidisk j self.old m
+            → Alters (W.told world.old) (W.told world.new) self.old self.new m
+            (Relabel volid) stamp.now result }
+        ensures holds { OnOk result (HeldThen self.old.volume (Relabel volid) self.new.volume) }
         ensures read_only { IfErr result (λ e. e ≡ ReadOnly → self.old.writable ≡ false) }
         ensures locked { self.old.writable ≡ false → result ≡ Err ReadOnly }
         ensures fault { IfErr result (λ e. (e ≡ ReadOnly) ⊎ (e ≡ Memory) ⊎ IsDevices e) }
-        ensures changes { ChangesDisk (seen W.World world.old) (seen W.World world.new) self.old self.new result }
+        ensures changes { ChangesDisk (seen W.World world.old)
+            (seen W.World world.new) self.old self.new result }
     {
         if !self.is_writable() {
             return Err(DiskFault::ReadOnly);
@@ -136,16 +156,20 @@ impl Minidisk {
         requires stamp { is_stamp stamp.now ≡ true }
         requires pivot { pivot ≤ 100 }
         requires blocks { ForSome (W.told world.old) (λ j. IsReadable j self.old) }
-        requires writable { self.old.writable ≡ true → ForSome (W.told world.old) (λ j. IsWritable j.units self.old.volume.unit) }
+        requires writable { self.old.writable ≡ true
+            → ForSome (W.told world.old) (λ j. IsWritable j.units self.old.volume.unit) }
         ensures alters { (j : Journal) (m : minidisks.Minidisk) → W.told world.old ≡ Some j
-            → IsMinidisk j self.old m → IsLookedAt j self.old
-            → Alters (W.told world.old) (W.told world.new) self.old self.new m (Century pivot) stamp.now result }
+            → IsMinidisk j self.old m
+            → Alters (W.told world.old) (W.told world.new) self.old self.new m
+            (Century pivot) stamp.now result }
+        ensures holds { OnOk result (HeldThen self.old.volume (Century pivot) self.new.volume) }
         ensures read_only { IfErr result (λ e. e ≡ ReadOnly → self.old.writable ≡ false) }
         ensures locked { self.old.writable ≡ false → result ≡ Err ReadOnly }
         ensures fault { IfErr result (λ e. (e ≡ ReadOnly)
             ⊎ IsChangeFault self.old.volume (needed self.old.volume (length self.old.volume.files)
             (all_entries (length self.old.volume.files))) e) }
-        ensures changes { ChangesDisk (seen W.World world.old) (seen W.World world.new) self.old self.new result }
+        ensures changes { ChangesDisk (seen W.World world.old)
+            (seen W.World world.new) self.old self.new result }
     {
         if !self.is_writable() {
             return Err(DiskFault::ReadOnly);
@@ -164,12 +188,18 @@ impl Minidisk {
         requires stamp { is_stamp stamp.now ≡ true }
         requires change { CanChange self.old.volume.files change.now }
         requires blocks { ForSome (W.told world.old) (λ j. IsReadable j self.old) }
-        requires writable { ForSome (W.told world.old) (λ j. IsWritable j.units self.old.volume.unit) }
+        requires writable { ForSome (W.told world.old)
+            (λ j. IsWritable j.units self.old.volume.unit) }
         ensures alters { (j : Journal) (m : minidisks.Minidisk) → W.told world.old ≡ Some j
-            → IsMinidisk j self.old m → IsLookedAt j self.old
-            → Alters (W.told world.old) (W.told world.new) self.old self.new m (change_of change.now) stamp.now result }
-        ensures fault { IfErr result (IsChangeFault self.old.volume (needed_for self.old.volume change.now)) }
-        ensures changes { ChangesDisk (seen W.World world.old) (seen W.World world.new) self.old self.new result }
+            → IsMinidisk j self.old m
+            → Alters (W.told world.old) (W.told world.new) self.old self.new m
+            (change_of change.now) stamp.now result }
+        ensures holds { OnOk result (HeldThen self.old.volume
+            (change_of change.now) self.new.volume) }
+        ensures fault { IfErr result (IsChangeFault self.old.volume
+            (needed_for self.old.volume change.now)) }
+        ensures changes { ChangesDisk (seen W.World world.old)
+            (seen W.World world.new) self.old self.new result }
     {
         let plan = plan(alloc, &mut self.held, change, stamp)?;
         carry_out(world, &mut self.held, plan)?;

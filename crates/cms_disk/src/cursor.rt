@@ -6,7 +6,7 @@ ghost use Rattle.cms_fields.specs.Limits.{most_bytes, longest_record};
 ghost use Rattle.cms_names.specs.declared.name.Format.TheVariants.{F};
 ghost use Rattle.cms_model.specs.Trees.{Image, image_of};
 ghost use Rattle.cms_edf.specs.OpeningSteps.{OfImage};
-ghost use Rattle.cms_disk.specs.Cursors.{AreOn, IsFirst, HoldsLittle, HasLeft, HandsOut, Gives, SameFile, IsNeeded, IsShort, IsUnread, TextFits, Waits, block_behind, text_of};
+ghost use Rattle.cms_disk.specs.Cursors.{AreOn, IsFirst, HoldsLittle, HasLeft, HandsOut, Gives, SameFile, IsNeeded, IsShort, IsUnread, TextFits, Waits, WaitsFor, block_behind, text_of};
 ghost use Rattle.cms_disk.specs.declared.fault.DiskFault.TheVariants.{Device, Altered, Memory};
 ghost use Rattle.cms_world.specs.Seen.{OnlyReads, seen};
 
@@ -19,7 +19,8 @@ use cms_world::{Unit, World};
 use std::alloc::Global;
 use std::marker::Model;
 
-/// A file that is read record by record. Besides the list of its data blocks it holds one block and one record, with its length.
+/// A file that is read record by record. Besides the list of its data blocks it holds one block and one record, with the two bytes of its
+/// length.
 #[derive(Drop)]
 pub struct Cursor {
     unit: Unit,
@@ -60,7 +61,8 @@ impl Cursor {
         requires few { length leaves.now * bsize ≤ most_bytes }
         requires short { info.now.length ≤ longest_record }
         requires fixed { info.now.format ≡ F → 1 ≤ info.now.length }
-        ensures first { IfOk result (IsFirst unit.number unit.blocks bsize leaves.now info.now.format info.now.length info.now.count) }
+        ensures first { IfOk result (IsFirst unit.number unit.blocks bsize leaves.now
+            info.now.format info.now.length info.now.count) }
         ensures fault { IfErr result (λ e. e ≡ Memory) }
     {
         let fixed = match info.format {
@@ -87,8 +89,10 @@ impl Cursor {
     /// `Altered` where the file's bytes aren't its records any more, which is never in a world that tells its journal and has left
     /// the file as it was; it comes again at each later call. No block is read sooner than a record needs it. It takes no memory.
     pub fn next<W: World>(&mut self, world: &mut W) -> Result<bool, DiskFault>
-        requires blocks { ForSome (W.told world.old) (λ j. HasBlocks j.units self.old.unit self.old.total self.old.bsize) }
-        ensures records { OfImage (W.told world.old) self.old.unit (λ image. (records : List (List ℕ)) → HasLeft image self.old records
+        requires blocks { ForSome (W.told world.old)
+            (λ j. HasBlocks j.units self.old.unit self.old.total self.old.bsize) }
+        ensures records { OfImage (W.told world.old) self.old.unit
+            (λ image. (records : List (List ℕ)) → HasLeft image self.old records
             → HandsOut image self.new records result) }
         ensures some { IfOk result (λ more. IsTrue more ↔ (1 ≤ self.old.left)) }
         ensures whole { IfOk result (λ more. IsTrue more → self.new.begun.whole ≡ true) }
@@ -97,6 +101,7 @@ impl Cursor {
         ensures last { IfOk result (λ more. more ≡ false → self.new ≡ self.old) }
         ensures ended { self.old.left ≡ 0 → result ≡ Ok false }
         ensures needed { IfOk result (λ more. IsNeeded self.old self.new) }
+        ensures waits { IfErr result (λ e. e ≡ Device → WaitsFor self.old self.new) }
         ensures fault { IfErr result (λ e. (e ≡ Device) ⊎ (e ≡ Altered)) }
         ensures marked { IfErr result (λ e. e ≡ Altered → self.new.altered ≡ true) }
         ensures again { self.old.altered ≡ true → 1 ≤ self.old.left → result ≡ Err Altered }
@@ -122,7 +127,8 @@ impl Cursor {
         ensures records { (image : Image) (records : List (List ℕ)) → HasLeft image self.old records
             → HasLeft image self.new (drop count records) }
         ensures left { self.new.left + count ≡ self.old.left }
-        ensures block { self.new.done ≡ block_behind count self.old.begun.longest self.old.bsize (length self.old.leaves) }
+        ensures block { self.new.done
+            ≡ block_behind count self.old.begun.longest self.old.bsize (length self.old.leaves) }
         ensures held { HoldsLittle self.new }
         ensures file { SameFile self.old self.new }
     {
@@ -143,21 +149,29 @@ impl Cursor {
 
     // Takes bytes of the block that was read last, until a record is whole or the block ends.
     fn take(&mut self) -> Result<bool, DiskFault>
-        ensures gives { IfOk result (λ whole. (image : Image) (records : List (List ℕ)) → 1 ≤ self.old.left → HasLeft image self.old records
+        ensures gives { IfOk result (λ whole. (image : Image) (records : List (List ℕ))
+            → 1 ≤ self.old.left → HasLeft image self.old records
             → Gives image self.new records whole) }
-        ensures altered { OnErr result ((image : Image) (records : List (List ℕ)) → 1 ≤ self.old.left
+        ensures altered { OnErr result ((image : Image) (records : List (List ℕ))
+            → 1 ≤ self.old.left
             → HasLeft image self.old records → ⊥) }
         ensures whole { IfOk result (λ whole. whole ≡ true → self.new.begun.whole ≡ true) }
         ensures text { IfOk result (λ whole. whole ≡ true → TextFits self.new) }
         ensures waits { IfOk result (λ whole. whole ≡ false → Waits self.new) }
-        ensures some { OnOk result (IsShort self.old.begun → self.old.from < self.old.bsize → self.old.from < self.new.from) }
+        ensures some { OnOk result (IsShort self.old.begun → self.old.from < self.old.bsize
+            → self.old.from < self.new.from) }
         ensures held { HoldsLittle self.new }
         ensures fault { IfErr result (λ e. e ≡ Altered) }
         ensures marked { OnErr result (self.new.altered ≡ true) }
         ensures again { self.old.altered ≡ true → result ≡ Err Altered }
         ensures sound { OnOk result (self.new.altered ≡ self.old.altered) }
-        ensures same { self.new ≡ record self.old { begun = self.new.begun; from = self.new.from; altered = self.new.altered } }
-        ensures rules { (self.new.begun.fixed ≡ self.old.begun.fixed) × (self.new.begun.longest ≡ self.old.begun.longest) }
+        ensures same { self.new ≡ record self.old {
+          begun = self.new.begun;
+          from = self.new.from;
+          altered = self.new.altered;
+        } }
+        ensures rules { (self.new.begun.fixed ≡ self.old.begun.fixed)
+            × (self.new.begun.longest ≡ self.old.begun.longest) }
     {
         if self.altered {
             return Err(DiskFault::Altered);
@@ -176,20 +190,28 @@ impl Cursor {
 
     // Reads the next block, where all bytes of the last were taken.
     fn read<W: World>(&mut self, world: &mut W) -> Result<(), DiskFault>
-        requires blocks { ForSome (W.told world.old) (λ j. HasBlocks j.units self.old.unit self.old.total self.old.bsize) }
+        requires blocks { ForSome (W.told world.old)
+            (λ j. HasBlocks j.units self.old.unit self.old.total self.old.bsize) }
         requires waits { Waits self.old }
-        ensures read { OnOk result (OfImage (W.told world.old) self.old.unit (λ image. (records : List (List ℕ))
+        ensures read { OnOk result (OfImage (W.told world.old) self.old.unit
+            (λ image. (records : List (List ℕ))
             → HasLeft image self.old records → HasLeft image self.new records)) }
-        ensures stays { IfErr result (λ e. e ≡ Device → (image : Image) (records : List (List ℕ)) → HasLeft image self.old records
+        ensures stays { IfErr result (λ e. e ≡ Device → (image : Image) (records : List (List ℕ))
+            → HasLeft image self.old records
             → HasLeft image self.new records) }
-        ensures altered { IfErr result (λ e. e ≡ Altered → (image : Image) (records : List (List ℕ)) → 1 ≤ self.old.left
+        ensures altered { IfErr result (λ e. e ≡ Altered → (image : Image) (records : List (List ℕ))
+            → 1 ≤ self.old.left
             → HasLeft image self.old records → ⊥) }
+        ensures unread { IfErr result (λ e. e ≡ Device
+            → self.new ≡ record self.old { block = self.new.block }) }
         ensures held { HoldsLittle self.new }
         ensures fault { IfErr result (λ e. (e ≡ Device) ⊎ (e ≡ Altered)) }
         ensures marked { IfErr result (λ e. e ≡ Altered → self.new.altered ≡ true) }
         ensures sound { OnOk result (self.new.altered ≡ self.old.altered) }
-        ensures done { OnOk result ((self.new.done ≡ self.old.done + 1) × (self.old.done < length self.old.leaves)) }
-        ensures from { OnOk result ((self.new.from ≡ self.old.over) × (self.new.from < self.new.bsize)) }
+        ensures done { OnOk result ((self.new.done ≡ self.old.done + 1)
+            × (self.old.done < length self.old.leaves)) }
+        ensures from { OnOk result ((self.new.from ≡ self.old.over)
+            × (self.new.from < self.new.bsize)) }
         ensures same { self.new ≡ record self.old {
           done = self.new.done;
           block = self.new.block;

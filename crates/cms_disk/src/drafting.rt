@@ -12,7 +12,9 @@ ghost use Rattle.cms_model.specs.Records.{Fits, stored};
 ghost use Rattle.cms_draft.specs.BlockWriting.{CanWrite, came};
 ghost use Rattle.cms_draft.specs.Drafting.{IsFresh};
 ghost use Rattle.cms_held.specs.Putting.{count_put, limit_put};
-ghost use Rattle.cms_edf.specs.FileDrafts.{CanDraft, IsSomeDraft, tree_of};
+ghost use Rattle.cms_held.specs.Opening.{HeldFile};
+ghost use Rattle.cms_edf.specs.FileDrafts.{CanDraft, IsDraftFor, IsSomeDraft, LeadsToFile, tree_of};
+ghost use Rattle.cms_edf.specs.Growing.{IsFileOf, IsMoreFor};
 ghost use Rattle.cms_disk.specs.Additions.{AnswersMore, BeginsMore, HasRoomFor, IsBehindFile, IsMoreFault, MayExtend};
 ghost use Rattle.cms_disk.specs.Changing.{Alters, ChangesDisk, IsDevices};
 ghost use Rattle.cms_disk.specs.Disks.{Accessed, IsReadable, place_of};
@@ -42,15 +44,19 @@ impl Minidisk {
     ) -> Result<Draft, DiskFault>
         requires stamp { is_stamp stamp.now ≡ true }
         requires shape { CanDraft shape.now }
+        ensures planned { IfOk result (IsDraftFor self.old.volume name.now shape.now stamp.now) }
         ensures some { IfOk result (IsSomeDraft self.old.volume) }
-        ensures fresh { IfOk result (λ d. IsFresh self.old.volume.unit self.old.volume.disk.bsize shape.now (tree_of d) d.writer) }
+        ensures fresh { IfOk result (λ d.
+            IsFresh self.old.volume.unit self.old.volume.disk.bsize shape.now
+            (tree_of d) d.writer) }
         ensures begins { IfOk result (BeginsPut self.old self.new name.now shape.now stamp.now) }
         ensures writable { OnOk result (self.old.writable ≡ true) }
         ensures answers { AnswersDraft self.old name.now shape.now result }
         ensures fault { IfErr result (IsDraftFault self.old name.now shape.now) }
         ensures locked { self.old.writable ≡ false → result ≡ Err ReadOnly }
         ensures limited { self.old.writable ≡ true → (which : ℕ)
-            → limit_put (count_put self.old.volume name.now) shape.now.count shape.now.bytes ≡ Some which → result ≡ Err (Limit which) }
+            → limit_put (count_put self.old.volume name.now) shape.now.count shape.now.bytes
+            ≡ Some which → result ≡ Err (Limit which) }
         ensures kept { self.new ≡ record self.old { spare = self.new.spare } }
         ensures spare { OnOk result (1 ≤ self.new.spare) }
         ensures places { self.old.spare ≤ self.new.spare }
@@ -80,17 +86,23 @@ impl Minidisk {
         requires stamp { is_stamp stamp.now ≡ true }
         requires extends { MayExtend self.old.volume name.now shape.now }
         requires blocks { ForSome (W.told world.old) (λ j. IsReadable j self.old) }
+        ensures planned { IfOk result (λ d. (f : HeldFile) → IsFileOf self.old.volume name.now f
+            → IsMoreFor self.old.volume name.now f shape.now stamp.now d) }
         ensures some { IfOk result (IsSomeDraft self.old.volume) }
         ensures behind { IfOk result (IsBehindFile self.old.volume name.now shape.now) }
-        ensures begins { IfOk result (BeginsMore (W.told world.old) (W.told world.new) self.old self.new name.now shape.now stamp.now) }
+        ensures begins { IfOk result (BeginsMore (W.told world.old)
+            (W.told world.new) self.old self.new name.now shape.now stamp.now) }
         ensures room { OnOk result (HasRoomFor self.old.volume name.now shape.now) }
         ensures writable { OnOk result (self.old.writable ≡ true) }
         ensures answers { AnswersMore self.old name.now shape.now result }
         ensures fault { IfErr result (IsMoreFault self.old name.now shape.now) }
         ensures absent { place_of name.now self.old.volume ≡ None → result ≡ Err NotFound }
-        ensures locked { self.old.writable ≡ false → (result ≡ Err NotFound) ⊎ (result ≡ Err ReadOnly) }
-        ensures limited { IsSome (place_of name.now self.old.volume) → self.old.writable ≡ true → (which : ℕ)
-            → limit_put (length self.old.volume.files) shape.now.count shape.now.bytes ≡ Some which → result ≡ Err (Limit which) }
+        ensures locked { self.old.writable ≡ false → (result ≡ Err NotFound)
+            ⊎ (result ≡ Err ReadOnly) }
+        ensures limited { IsSome (place_of name.now self.old.volume) → self.old.writable ≡ true
+            → (which : ℕ)
+            → limit_put (length self.old.volume.files) shape.now.count shape.now.bytes ≡ Some which
+            → result ≡ Err (Limit which) }
         ensures kept { self.new ≡ record self.old { spare = self.new.spare } }
         ensures spare { OnOk result (1 ≤ self.new.spare) }
         ensures places { self.old.spare ≤ self.new.spare }
@@ -115,12 +127,16 @@ impl Minidisk {
         requires full { IsFull draft.writer }
         requires room { 1 ≤ self.old.spare }
         requires blocks { ForSome (W.told world.old) (λ j. IsReadable j self.old) }
-        requires writable { ForSome (W.told world.old) (λ j. IsWritable j.units self.old.volume.unit) }
-        ensures alters { (start : Told) (m : minidisks.Minidisk) (change : model.Change) (stamp : stamps.Stamp) (records : List (List ℕ))
+        requires writable { ForSome (W.told world.old)
+            (λ j. IsWritable j.units self.old.volume.unit) }
+        ensures alters { (start : Told) (m : minidisks.Minidisk) (change : model.Change)
+            (stamp : stamps.Stamp) (records : List (List ℕ))
             → GoesOn start (W.told world.old) self.old m draft change stamp records []
             → Alters start (W.told world.new) self.old self.new m change stamp result }
+        ensures holds { OnOk result (LeadsToFile self.old.volume draft self.new.volume) }
         ensures fault { IfErr result IsDevices }
-        ensures changes { ChangesDisk (seen W.World world.old) (seen W.World world.new) self.old self.new result }
+        ensures changes { ChangesDisk (seen W.World world.old)
+            (seen W.World world.new) self.old self.new result }
     {
         commit(world, &mut self.held, draft)?;
         Ok(())
@@ -133,17 +149,22 @@ impl Minidisk {
 pub fn put_record<W: World>(world: &mut W, draft: &mut Draft, text: &[u8]) -> Result<(), DiskFault>
     requires fewer { draft.old.writer.put < draft.old.writer.shape.count }
     requires fits { Fits draft.old.writer.shape.format draft.old.writer.shape.length text.now }
-    requires room { came draft.old.writer.writer + length (stored draft.old.writer.shape.format (text.now ∷ []))
+    requires room { came draft.old.writer.writer + length
+        (stored draft.old.writer.shape.format (text.now ∷ []))
         ≤ draft.old.writer.writer.size }
     requires ready { ForSome (W.told world.old) (λ j. CanWrite j.units draft.old.writer.writer) }
-    ensures puts { (start : Told) (d : Accessed) (m : minidisks.Minidisk) (change : model.Change) (stamp : stamps.Stamp)
-        (done more : List (List ℕ)) → GoesOn start (W.told world.old) d m draft.old change stamp done (text.now ∷ more)
-        → PutsRecord start (W.told world.new) d m draft.new change stamp (done ++ text.now ∷ []) more result }
+    ensures puts { (start : Told) (d : Accessed) (m : minidisks.Minidisk) (change : model.Change)
+        (stamp : stamps.Stamp)
+        (done more : List (List ℕ))
+        → GoesOn start (W.told world.old) d m draft.old change stamp done (text.now ∷ more)
+        → PutsRecord start (W.told world.new) d m draft.new change stamp
+        (done ++ text.now ∷ []) more result }
     ensures more { OnOk result (HasMore draft.old.writer draft.new.writer text.now) }
     ensures same { IsSameDraft draft.old draft.new }
     ensures still { ForSome (W.told world.new) (λ j. CanWrite j.units draft.new.writer.writer) }
     ensures fault { IfErr result (λ e. e ≡ Device) }
-    ensures changes { ChangesUnits (seen W.World world.old) (seen W.World world.new) IsDevices result }
+    ensures changes { ChangesUnits (seen W.World world.old)
+        (seen W.World world.new) IsDevices result }
 {
     match draft.put(world, text) {
         Ok(()) => Ok(()),

@@ -47,12 +47,16 @@ fn gather<W: World>(
     cursor: &mut Cursor,
     format: Format,
 ) -> Result<Gathered, DiskFault>
-    requires blocks { ForSome (W.told world.old) (λ j. HasBlocks j.units cursor.old.unit cursor.old.total cursor.old.bsize) }
+    requires blocks { ForSome (W.told world.old)
+        (λ j. HasBlocks j.units cursor.old.unit cursor.old.total cursor.old.bsize) }
     requires fixed { cursor.old.begun.fixed ≡ fixed_of format cursor.old.begun.longest }
     requires short { cursor.old.begun.longest ≤ longest_record }
-    ensures gathered { IfOk result (λ g. (records : List (List ℕ)) × Gathers format cursor.old g.bytes.items g.longest records
-        × OfImage (W.told world.old) cursor.old.unit (λ image. (all : List (List ℕ)) → HasLeft image cursor.old all → all ≡ records)) }
-    ensures altered { IfErr result (λ e. e ≡ Altered → OfImage (W.told world.old) cursor.old.unit (λ image. (all : List (List ℕ))
+    ensures gathered { IfOk result (λ g. (records : List (List ℕ))
+        × Gathers format cursor.old g.bytes.items g.longest records
+        × OfImage (W.told world.old) cursor.old.unit
+        (λ image. (all : List (List ℕ)) → HasLeft image cursor.old all → all ≡ records)) }
+    ensures altered { IfErr result (λ e. e ≡ Altered
+        → OfImage (W.told world.old) cursor.old.unit (λ image. (all : List (List ℕ))
         → HasLeft image cursor.old all → ⊥)) }
     ensures fault { IfErr result (λ e. (e ≡ Device) ⊎ (e ≡ Altered) ⊎ (e ≡ Memory)) }
     ensures reads { OnlyReads (seen W.World world.old) (seen W.World world.new) Device result }
@@ -90,11 +94,14 @@ impl Minidisk {
         requires blocks { ForSome (W.told world.old) (λ j. IsReadable j self.now) }
         ensures valid { IfOk result IsValid }
         ensures like { IfOk result (IsLike self.now.volume name.now) }
-        ensures file { OfImage (W.told world.old) self.now.volume.unit (λ image. GetsIn image self.now name.now result) }
+        ensures file { OfImage (W.told world.old) self.now.volume.unit
+            (λ image. GetsIn image self.now name.now result) }
         ensures found { OnOk result (IsSome (place_of name.now self.now.volume)) }
-        ensures missing { IfErr result (λ e. e ≡ NotFound → place_of name.now self.now.volume ≡ None) }
+        ensures missing { IfErr result (λ e. e ≡ NotFound
+            → place_of name.now self.now.volume ≡ None) }
         ensures absent { place_of name.now self.now.volume ≡ None → result ≡ Err NotFound }
-        ensures fault { IfErr result (λ e. (e ≡ NotFound) ⊎ (e ≡ Device) ⊎ (e ≡ Altered) ⊎ (e ≡ Memory)) }
+        ensures fault { IfErr result (λ e. (e ≡ NotFound) ⊎ (e ≡ Device) ⊎ (e ≡ Altered)
+            ⊎ (e ≡ Memory)) }
         ensures reads { OnlyReads (seen W.World world.old) (seen W.World world.new) Device result }
     {
         let place = self.place(name)?;

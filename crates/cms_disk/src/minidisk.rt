@@ -3,6 +3,7 @@ ghost use Rattle.std.specs.Prelude.{◌≡◌, ◌↔◌, ◌⊎◌, ◌<◌, �
 ghost use Rattle.std.specs.Option.{ForSome};
 ghost use Rattle.cms_world.specs.Seen.{ChangesUnits, OnlyReads, seen};
 ghost use Rattle.cms_journal.specs.Journal.{HasBlocks, contents_of};
+ghost use Rattle.cms_fields.specs.Limits.{longest_record};
 ghost use Rattle.cms_model.specs.LawsSizes.{IsWhole};
 ghost use Rattle.cms_model.specs.LawsUpdates.{now};
 ghost use Rattle.cms_model.specs.Trees.{image_of};
@@ -12,7 +13,7 @@ ghost use Rattle.cms_held.specs.Kept.{Keeps};
 ghost use Rattle.cms_held.specs.Opening.{HeldFile};
 ghost use Rattle.cms_edf.specs.OpeningSteps.{OfImage};
 ghost use Rattle.cms_disk.specs.Cursors.{IsFirst};
-ghost use Rattle.cms_disk.specs.Disks.{AnswersAccess, HasNone, HasStored, IsDevices, IsLeft, IsOn, IsQuiet, OpensIn, StartsAt, disk_on, place_of, synced, told_with};
+ghost use Rattle.cms_disk.specs.Disks.{AnswersAccess, HasNone, HasStored, IsDevices, IsFileInfo, IsLeft, IsOn, IsQuiet, OpensIn, StartsAt, disk_on, place_of, synced, told_with};
 ghost use Rattle.cms_disk.specs.declared.fault.AccessFault.TheVariants.{Open, Sync};
 ghost use Rattle.cms_disk.specs.declared.fault.DiskFault.TheVariants.{Memory, NotFound};
 
@@ -51,16 +52,22 @@ impl Minidisk {
         unit: &UnitInfo,
         doubt: bool,
     ) -> Result<Minidisk, AccessFault>
-        requires blocks { ForSome (W.told world.old) (λ j. HasBlocks j.units unit.now.unit.number unit.now.unit.blocks unit.now.bsize) }
+        requires blocks { ForSome (W.told world.old)
+            (λ j. HasBlocks j.units unit.now.unit.number unit.now.unit.blocks unit.now.bsize) }
         ensures unit { IfOk result (IsOn unit.now) }
-        ensures answers { OfImage (W.told world.new) unit.now.unit.number (λ image. AnswersAccess unit.now image result) }
-        ensures left { ForSome (W.told world.new) (λ j. IsWhole (disk_on unit.now) (now j unit.now.unit.number)
+        ensures answers { OfImage (W.told world.new) unit.now.unit.number
+            (λ image. AnswersAccess unit.now image result) }
+        ensures left { ForSome (W.told world.new)
+            (λ j. IsWhole (disk_on unit.now) (now j unit.now.unit.number)
             → (doubt ≡ false → IsQuiet (disk_on unit.now) j unit.now.unit.number)
             → IsLeft (disk_on unit.now) j unit.now.unit.number result) }
-        ensures synced { OnOk result (W.told world.new ≡ synced doubt unit.now.unit.number (W.told world.old)) }
-        ensures refused { IfErr result (λ e. W.told world.new ≡ told_with e doubt unit.now.unit.number (W.told world.old)) }
+        ensures synced { OnOk result (W.told world.new
+            ≡ synced doubt unit.now.unit.number (W.told world.old)) }
+        ensures refused { IfErr result (λ e. W.told world.new
+            ≡ told_with e doubt unit.now.unit.number (W.told world.old)) }
         ensures doubt { IfErr result (λ e. e ≡ Sync → doubt ≡ true) }
-        ensures changes { ChangesUnits (seen W.World world.old) (seen W.World world.new) IsDevices result }
+        ensures changes { ChangesUnits (seen W.World world.old)
+            (seen W.World world.new) IsDevices result }
     {
         settle(world, unit, doubt)?;
         Minidisk::read(alloc, world, unit)
@@ -72,13 +79,18 @@ impl Minidisk {
         world: &mut W,
         unit: &UnitInfo,
     ) -> Result<Minidisk, AccessFault>
-        requires blocks { ForSome (W.told world.old) (λ j. HasBlocks j.units unit.now.unit.number unit.now.unit.blocks unit.now.bsize) }
+        requires blocks { ForSome (W.told world.old)
+            (λ j. HasBlocks j.units unit.now.unit.number unit.now.unit.blocks unit.now.bsize) }
         ensures unit { IfOk result (IsOn unit.now) }
-        ensures answers { OfImage (W.told world.old) unit.now.unit.number (λ image. AnswersAccess unit.now image result) }
-        ensures left { ForSome (W.told world.old) (λ j. IsWhole (disk_on unit.now) (now j unit.now.unit.number)
-            → IsQuiet (disk_on unit.now) j unit.now.unit.number → IsLeft (disk_on unit.now) j unit.now.unit.number result) }
+        ensures answers { OfImage (W.told world.old) unit.now.unit.number
+            (λ image. AnswersAccess unit.now image result) }
+        ensures left { ForSome (W.told world.old)
+            (λ j. IsWhole (disk_on unit.now) (now j unit.now.unit.number)
+            → IsQuiet (disk_on unit.now) j unit.now.unit.number
+            → IsLeft (disk_on unit.now) j unit.now.unit.number result) }
         ensures opened { IfErr result (λ e. e ≡ Sync → ⊥) }
-        ensures reads { OnlyReads (seen W.World world.old) (seen W.World world.new) (Open failed.Device) result }
+        ensures reads { OnlyReads (seen W.World world.old) (seen W.World world.new)
+            (Open failed.Device) result }
     {
         match open_volume(alloc, world, &unit.unit, unit.bsize) {
             Ok(held) => Ok(Minidisk { unit: *unit, held }),
@@ -93,10 +105,11 @@ impl Minidisk {
         self.held.count()
     }
 
-    /// What is told of the file at a place, from 0 below their number.
+    /// What is told of the file at a place, from 0 below their number: its numbers are those that a file may have.
     pub fn info(&self, nth: u32) -> FileInfo
         requires { nth < length self.now.volume.files }
-        ensures { slice_get (infos_in self.now.volume) nth ≡ Some result }
+        ensures info { slice_get (infos_in self.now.volume) nth ≡ Some result }
+        ensures sound { IsFileInfo result }
     {
         self.held.info(nth)
     }
@@ -114,7 +127,8 @@ impl Minidisk {
     /// The mode number of the file at a place.
     pub fn mode_number(&self, nth: u32) -> u8
         requires { nth < length self.now.volume.files }
-        ensures told { IfSome (slice_get (infos_in self.now.volume) nth) (λ info. result ≡ info.number) }
+        ensures told { IfSome (slice_get (infos_in self.now.volume) nth)
+            (λ info. result ≡ info.number) }
         ensures fits { result ≤ 6 }
     {
         self.held.info(nth).number
@@ -148,11 +162,13 @@ impl Minidisk {
         self.held.space()
     }
 
-    /// Before the first record of the file of a name; `NotFound` exactly where no file has it.
+    /// Before the first record of the file of a name, of which none is longer than a record may be; `NotFound` exactly where no file has it.
     pub fn cursor(&self, alloc: Global, name: &Name) -> Result<Cursor, DiskFault>
         ensures start { IfOk result (StartsAt name.now self.now.volume) }
         ensures records { IfOk result (OpensIn self.now name.now) }
-        ensures missing { IfErr result (λ e. e ≡ NotFound → place_of name.now self.now.volume ≡ None) }
+        ensures short { IfOk result (λ c. c.begun.longest ≤ longest_record) }
+        ensures missing { IfErr result (λ e. e ≡ NotFound
+            → place_of name.now self.now.volume ≡ None) }
         ensures absent { IfErr result (λ e. e ≡ NotFound → HasNone self.now name.now) }
         ensures none { place_of name.now self.now.volume ≡ None → result ≡ Err NotFound }
         ensures fault { IfErr result (λ e. (e ≡ NotFound) ⊎ (e ≡ Memory)) }
@@ -179,8 +195,10 @@ impl Minidisk {
     /// Before the first record of the file at a place.
     pub(crate) fn file(&self, alloc: Global, place: u32) -> Result<Cursor, DiskFault>
         requires { place < length self.now.volume.files }
-        ensures first { IfOk result (λ c. (file : HeldFile) × (slice_get self.now.volume.files place ≡ Some file)
-            × IsFirst self.now.volume.unit self.now.volume.disk.count self.now.volume.disk.bsize file.tree.leaves
+        ensures first { IfOk result (λ c. (file : HeldFile)
+            × (slice_get self.now.volume.files place ≡ Some file)
+            × IsFirst self.now.volume.unit self.now.volume.disk.count self.now.volume.disk.bsize
+            file.tree.leaves
             file.entry.format file.length file.entry.count c) }
         ensures fault { IfErr result (λ e. e ≡ Memory) }
     {
@@ -192,13 +210,19 @@ impl Minidisk {
 
 // Syncs a unit that is in doubt.
 fn settle<W: World>(world: &mut W, unit: &UnitInfo, doubt: bool) -> Result<(), AccessFault>
-    requires blocks { ForSome (W.told world.old) (λ j. HasBlocks j.units unit.now.unit.number unit.now.unit.blocks unit.now.bsize) }
-    ensures quiet { OnOk result (ForSome (W.told world.new) (λ j. (doubt ≡ false → IsQuiet (disk_on unit.now) j unit.now.unit.number)
+    requires blocks { ForSome (W.told world.old)
+        (λ j. HasBlocks j.units unit.now.unit.number unit.now.unit.blocks unit.now.bsize) }
+    ensures quiet { OnOk result (ForSome (W.told world.new)
+        (λ j. (doubt ≡ false → IsQuiet (disk_on unit.now) j unit.now.unit.number)
         → IsQuiet (disk_on unit.now) j unit.now.unit.number)) }
-    ensures blocks { ForSome (W.told world.new) (λ j. HasBlocks j.units unit.now.unit.number unit.now.unit.blocks unit.now.bsize) }
-    ensures synced { OnOk result (W.told world.new ≡ synced doubt unit.now.unit.number (W.told world.old)) }
-    ensures failed { IfErr result (λ e. (e ≡ Sync) × (doubt ≡ true) × (W.told world.new ≡ W.told world.old)) }
-    ensures changes { ChangesUnits (seen W.World world.old) (seen W.World world.new) IsDevices result }
+    ensures blocks { ForSome (W.told world.new)
+        (λ j. HasBlocks j.units unit.now.unit.number unit.now.unit.blocks unit.now.bsize) }
+    ensures synced { OnOk result (W.told world.new
+        ≡ synced doubt unit.now.unit.number (W.told world.old)) }
+    ensures failed { IfErr result (λ e. (e ≡ Sync) × (doubt ≡ true)
+        × (W.told world.new ≡ W.told world.old)) }
+    ensures changes { ChangesUnits (seen W.World world.old)
+        (seen W.World world.new) IsDevices result }
 {
     if !doubt {
         return Ok(());

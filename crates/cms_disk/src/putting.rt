@@ -13,8 +13,8 @@ ghost use Rattle.cms_model.specs.Records.{IsValid, StandsFor};
 ghost use Rattle.cms_draft.specs.BlockWriting.{CanWrite};
 ghost use Rattle.cms_held.specs.Putting.{count_put, limit_put};
 ghost use Rattle.cms_edf.specs.FileDrafts.{CanDraft};
-ghost use Rattle.cms_disk.specs.Changing.{Alters, ChangesDisk, IsDevices};
-ghost use Rattle.cms_disk.specs.Disks.{Accessed, IsLookedAt, IsMinidisk, IsReadable};
+ghost use Rattle.cms_disk.specs.Changing.{Alters, ChangesDisk, IsDevices, IsPutIn};
+ghost use Rattle.cms_disk.specs.Disks.{Accessed, IsMinidisk, IsReadable};
 ghost use Rattle.cms_disk.specs.Drafts.{AreLast, GoesOn, IsFull, IsPutFault, IsSameDraft, PutsRecord, file_with, shape_of};
 ghost use Rattle.cms_disk.specs.declared.fault.DiskFault.TheVariants.{Device, Limit, ReadOnly};
 
@@ -53,15 +53,18 @@ pub(crate) fn put_records<W: World>(
     requires file { IsValid file.now }
     requires last { AreLast draft.old.writer file.now }
     requires ready { ForSome (W.told world.old) (λ j. CanWrite j.units draft.old.writer.writer) }
-    ensures puts { (start : Told) (d : Accessed) (m : minidisks.Minidisk) (change : model.Change) (stamp : stamps.Stamp)
+    ensures puts { (start : Told) (d : Accessed) (m : minidisks.Minidisk) (change : model.Change)
+        (stamp : stamps.Stamp)
         (done records : List (List ℕ)) → StandsFor file.now records
         → GoesOn start (W.told world.old) d m draft.old change stamp done records
-        → PutsRecord start (W.told world.new) d m draft.new change stamp (done ++ records) [] result }
+        → PutsRecord start (W.told world.new) d m draft.new change stamp
+        (done ++ records) [] result }
     ensures full { OnOk result (IsFull draft.new.writer) }
     ensures same { IsSameDraft draft.old draft.new }
     ensures still { ForSome (W.told world.new) (λ j. CanWrite j.units draft.new.writer.writer) }
     ensures fault { IfErr result (λ e. e ≡ Device) }
-    ensures changes { ChangesUnits (seen W.World world.old) (seen W.World world.new) IsDevices result }
+    ensures changes { ChangesUnits (seen W.World world.old)
+        (seen W.World world.new) IsDevices result }
 {
     for text in Records::of(file) {
         put_record(world, draft, text)?;
@@ -87,17 +90,25 @@ impl Minidisk {
         requires stamp { is_stamp stamp.now ≡ true }
         requires file { IsValid file.now }
         requires blocks { ForSome (W.told world.old) (λ j. IsReadable j self.old) }
-        requires writable { self.old.writable ≡ true → ForSome (W.told world.old) (λ j. IsWritable j.units self.old.volume.unit) }
-        ensures alters { (j : Journal) (m : minidisks.Minidisk) (records : List (List ℕ)) → W.told world.old ≡ Some j
-            → IsMinidisk j self.old m → IsLookedAt j self.old → StandsFor file.now records
-            → Alters (W.told world.old) (W.told world.new) self.old self.new m (Put (file_with name.now (shape_of file.now) records))
+        requires writable { self.old.writable ≡ true
+            → ForSome (W.told world.old) (λ j. IsWritable j.units self.old.volume.unit) }
+        ensures alters { (j : Journal) (m : minidisks.Minidisk) (records : List (List ℕ))
+            → W.told world.old ≡ Some j
+            → IsMinidisk j self.old m → StandsFor file.now records
+            → Alters (W.told world.old) (W.told world.new) self.old self.new m
+            (Put (file_with name.now (shape_of file.now) records))
             stamp.now result }
+        ensures holds { OnOk result (IsPutIn self.old.volume name.now
+            (shape_of file.now) self.new.volume) }
         ensures fault { IfErr result (IsPutFault self.old name.now (shape_of file.now)) }
         ensures read_only { IfErr result (λ e. e ≡ ReadOnly → self.old.writable ≡ false) }
         ensures locked { self.old.writable ≡ false → result ≡ Err ReadOnly }
-        ensures limited { self.old.writable ≡ true → (which : ℕ) → limit_put (count_put self.old.volume name.now)
-            (shape_of file.now).count (shape_of file.now).bytes ≡ Some which → result ≡ Err (Limit which) }
-        ensures changes { ChangesDisk (seen W.World world.old) (seen W.World world.new) self.old self.new result }
+        ensures limited { self.old.writable ≡ true → (which : ℕ)
+            → limit_put (count_put self.old.volume name.now)
+            (shape_of file.now).count (shape_of file.now).bytes ≡ Some which
+            → result ≡ Err (Limit which) }
+        ensures changes { ChangesDisk (seen W.World world.old)
+            (seen W.World world.new) self.old self.new result }
     {
         let shape = shape_of(file);
         let mut draft = self.draft(alloc, name, &shape, stamp)?;

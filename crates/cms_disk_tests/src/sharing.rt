@@ -95,7 +95,8 @@ fn file_at(
 
 // Whether the records may stand behind those of a file.
 fn may_follow(info: &FileInfo, more: &FileData) -> bool
-    ensures { IsTrue result → (more.now.format ≡ info.now.format) × (info.now.format ≡ F → more.now.length ≡ info.now.length) }
+    ensures { IsTrue result → (more.now.format ≡ info.now.format)
+        × (info.now.format ≡ F → more.now.length ≡ info.now.length) }
 {
     match (info.format, more.format) {
         (Format::F, Format::F) => info.length == more.length,

@@ -54,6 +54,7 @@ abbrev pub start_on : Format → BlockWriter → ℕ
 start_on F w = nowhere
 start_on V w = w.mark.place
 
+-- the same of a file that is drafted, in its own format
 abbrev pub start_in : Drafting → ℕ
 start_in d = start_on d.shape.format d.writer
 

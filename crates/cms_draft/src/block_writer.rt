@@ -58,7 +58,8 @@ impl BlockWriter {
         requires some { 1 ≤ size }
         requires few { size ≤ most_bytes }
         requires leaves { length tree.leaves ≡ up size bsize }
-        requires pointers { length tree.pointers ≡ pointer_count (bsize / psize) (length tree.leaves) }
+        requires pointers { length tree.pointers
+            ≡ pointer_count (bsize / psize) (length tree.leaves) }
         ensures { IfOk result (IsNewWriter unit bsize psize size tree) }
     {
         let climb = Climb::new(alloc, tree.leaves().len() as u32, bsize, psize)?;
@@ -95,8 +96,12 @@ impl BlockWriter {
         requires within { self.old.filled ≤ self.old.bsize }
         ensures taken { result ≡ min (self.old.bsize - self.old.filled) (length bytes.now) }
         ensures more { self.new.filled ≡ self.old.filled + result }
-        ensures block { self.new.block.items ≡ overwritten self.old.filled (take result bytes.now) self.old.block.items }
-        ensures same { self.new ≡ record self.old { block = self.new.block; filled = self.new.filled } }
+        ensures block { self.new.block.items
+            ≡ overwritten self.old.filled (take result bytes.now) self.old.block.items }
+        ensures same { self.new ≡ record self.old {
+          block = self.new.block;
+          filled = self.new.filled;
+        } }
     {
         let room = (self.bsize.bytes() - self.filled) as usize;
         let taken = room.min(bytes.len());
@@ -122,16 +127,19 @@ impl BlockWriter {
         requires is { IsWriter self.old }
         requires fewer { self.old.whole < length self.old.tree.leaves }
         requires ready { ForSome (W.told world.old) (λ j. CanWrite j.units self.old) }
-        ensures writes { (es : List Kept) (bytes : List ℕ) (marks : List Mark) → Streams self.old es bytes marks
+        ensures writes { (es : List Kept) (bytes : List ℕ) (marks : List Mark)
+            → Streams self.old es bytes marks
             → IsDone self.old bytes marks
-            → WritesBlock (W.told world.old) (W.told world.new) self.old self.new es bytes marks result }
+            → WritesBlock (W.told world.old)
+            (W.told world.new) self.old self.new es bytes marks result }
         ensures is { IsWriter self.new }
         ensures same { IsSame self.old self.new }
         ensures whole { self.new.whole ≡ self.old.whole + 1 }
         ensures empty { self.new.filled ≡ 0 }
         ensures last { self.new.mark.last ≡ self.old.mark.last }
         ensures zeros { OnOk result (self.new.block.items ≡ replicate self.old.bsize 0) }
-        ensures mark { OnOk result (self.new.mark ≡ record { last = self.old.mark.last; place = nowhere }) }
+        ensures mark { OnOk result (self.new.mark
+            ≡ record { last = self.old.mark.last; place = nowhere }) }
         ensures own { AddsOwnBlocks (W.told world.old) (W.told world.new) self.old }
         ensures still { ForSome (W.told world.new) (λ j. CanWrite j.units self.new) }
         ensures counts { OnUnits (seen W.World world.old) (seen W.World world.new) result }
@@ -156,8 +164,10 @@ impl BlockWriter {
         requires some { 1 ≤ length bytes.now }
         requires room { came self.old + length bytes.now ≤ self.old.size }
         requires ready { ForSome (W.told world.old) (λ j. CanWrite j.units self.old) }
-        ensures taken { IfOk result (λ n. (1 ≤ n) × (n ≤ length bytes.now) × (came self.new ≡ came self.old + n)) }
-        ensures writes { TakesBytes (W.told world.old) (W.told world.new) self.old self.new bytes.now result }
+        ensures taken { IfOk result (λ n. (1 ≤ n) × (n ≤ length bytes.now)
+            × (came self.new ≡ came self.old + n)) }
+        ensures writes { TakesBytes (W.told world.old)
+            (W.told world.new) self.old self.new bytes.now result }
         ensures later { IsLater self.old self.new (came self.old + length bytes.now) }
         ensures mark { OnOk result (self.new.mark ≡ mark_on self.old self.new.whole) }
         ensures own { AddsOwnBlocks (W.told world.old) (W.told world.new) self.old }
@@ -182,7 +192,8 @@ impl BlockWriter {
         requires unfilled { self.old.filled < self.old.bsize }
         requires room { came self.old + length bytes.now ≤ self.old.size }
         requires ready { ForSome (W.told world.old) (λ j. CanWrite j.units self.old) }
-        ensures writes { TakesBytes (W.told world.old) (W.told world.new) self.old self.new bytes.now result }
+        ensures writes { TakesBytes (W.told world.old)
+            (W.told world.new) self.old self.new bytes.now result }
         ensures all { OnOk result (came self.new ≡ came self.old + length bytes.now) }
         ensures later { IsLater self.old self.new (came self.old + length bytes.now) }
         ensures mark { OnOk result (self.new.mark ≡ mark_on self.old self.new.whole) }
@@ -219,7 +230,8 @@ impl BlockWriter {
         requires unfilled { self.old.filled < self.old.bsize }
         requires all { came self.old ≡ self.old.size }
         requires ready { ForSome (W.told world.old) (λ j. CanWrite j.units self.old) }
-        ensures writes { (es : List Kept) (bytes : List ℕ) (marks : List Mark) → Streams self.old es bytes marks
+        ensures writes { (es : List Kept) (bytes : List ℕ) (marks : List Mark)
+            → Streams self.old es bytes marks
             → AreMarked self.old (length self.old.tree.leaves * self.old.bsize) marks
             → Finishes (W.told world.old) (W.told world.new) self.old es bytes marks result }
         ensures same { IsSame self.old self.new }

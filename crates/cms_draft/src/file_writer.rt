@@ -58,7 +58,8 @@ impl FileWriter {
         requires bytes { shape.now.bytes ≤ most_bytes }
         requires records { shape.now.count ≤ most_records }
         requires leaves { length tree.leaves ≡ up shape.now.bytes bsize }
-        requires pointers { length tree.pointers ≡ pointer_count (fan_of bsize shape.now.format) (length tree.leaves) }
+        requires pointers { length tree.pointers
+            ≡ pointer_count (fan_of bsize shape.now.format) (length tree.leaves) }
         ensures { IfOk result (IsFresh unit bsize shape.now tree) }
     {
         let writer = BlockWriter::new(
@@ -91,7 +92,8 @@ impl FileWriter {
         requires records { shape.now.count ≤ most_records }
         requires put { put ≤ shape.now.count }
         requires leaves { length tree.leaves ≡ up shape.now.bytes bsize }
-        requires pointers { length tree.pointers ≡ pointer_count (fan_of bsize shape.now.format) (length tree.leaves) }
+        requires pointers { length tree.pointers
+            ≡ pointer_count (fan_of bsize shape.now.format) (length tree.leaves) }
         requires begun { IsBegun bsize (pointer_size shape.now.format) tree begun }
         requires within { bytes_before bsize begun ≤ shape.now.bytes }
         requires mark { begun.mark.last ≤ put }
@@ -164,13 +166,20 @@ impl FileWriter {
     pub fn put<W: World>(&mut self, world: &mut W, text: &[u8]) -> Result<(), Failed>
         requires fewer { self.old.put < self.old.shape.count }
         requires fits { Fits self.old.shape.format self.old.shape.length text.now }
-        requires room { came self.old.writer + length (stored self.old.shape.format (text.now ∷ [])) ≤ self.old.writer.size }
+        requires room { came self.old.writer + length (stored self.old.shape.format (text.now ∷ []))
+            ≤ self.old.writer.size }
         requires ready { ForSome (W.told world.old) (λ j. CanWrite j.units self.old.writer) }
-        ensures puts { (front : Front) (records more : List (List ℕ)) → Drafts self.old front records (text.now ∷ more)
-            → Puts (W.told world.old) (W.told world.new) self.old self.new front records text.now more result }
-        ensures all { OnOk result (came self.new.writer ≡ came self.old.writer + length (stored self.old.shape.format (text.now ∷ []))) }
+        ensures puts { (front : Front) (records more : List (List ℕ))
+            → Drafts self.old front records (text.now ∷ more)
+            → Puts (W.told world.old)
+            (W.told world.new) self.old self.new front records text.now more result }
+        ensures all { OnOk result (came self.new.writer
+            ≡ came self.old.writer + length (stored self.old.shape.format (text.now ∷ []))) }
         ensures same { IsSame self.old.writer self.new.writer }
-        ensures shape { self.new ≡ record self.old { put = self.old.put + 1; writer = self.new.writer } }
+        ensures shape { self.new ≡ record self.old {
+          put = self.old.put + 1;
+          writer = self.new.writer;
+        } }
         ensures own { AddsOwnBlocks (W.told world.old) (W.told world.new) self.old.writer }
         ensures kept { IsDrafting self.old }
         ensures is { IsDrafting self.new }

@@ -21,6 +21,7 @@ use Rattle.cms_model.specs.Sizes.{levels}
 use Rattle.cms_model.specs.Stands.{Layout, layout_blocks}
 use Rattle.cms_model.specs.Trees.{Image, bytes_at}
 use Rattle.cms_model.specs.declared.fault.VarFault.{VarFault}
+use Rattle.cms_model.proofs.EntriesRead.{records_so}
 use Rattle.cms_tree.specs.declared.types.Mark.{Mark}
 use Rattle.cms_tree.specs.Builds.{IsBuildable}
 use Rattle.cms_tree.specs.Climbs.{AreOwn}
@@ -158,7 +159,7 @@ module _ (j : Journal) (v : HeldVolume) (m : Minidisk) (d : FileDraft) (name : N
         name_is = sym named;
         number_is = plan_at.grows.number_is;
         format_is = format_is;
-        fixed = λ is. plan_at.grows.fixed is ∙ kept_file.fixed (sym format_is ∙ is);
+        fixed = λ is. plan_at.grows.fixed is ∙ sym kept_file.told;
         stamp_is = refl;
         count_is = ap (λ (s : DraftShape). s.count) same_shape ∙ x.drafts.count ∙ ap (λ (l : List (List ℕ)). front.count + length l) all
             ∙ ap (λ (n : ℕ). n + length records) x.read.count_is;
@@ -166,6 +167,7 @@ module _ (j : Journal) (v : HeldVolume) (m : Minidisk) (d : FileDraft) (name : N
         blocks_are = refl;
         levels_are = refl;
         length_is = sym x.longest;
+        told_is = refl;
         size_is = whole_bytes ∙ length-append front.bytes (stored shape.format records) ∙ ap (λ (n : ℕ). n + length (stored shape.format records)) front_long;
         few = l.1;
         small = l.2;
@@ -232,7 +234,8 @@ module _ (j : Journal) (v : HeldVolume) (m : Minidisk) (d : FileDraft) (name : N
       let h = here.file in
       let P = Old v.disk v.label.blocks image (layout_blocks old) in
       let holds : P h = subst P (here.is h) (All-get_or P old.files plan_at.place h here.within (files_old j v old x.held.at)) in
-      ap (λ (e : Entry). records_of bsize e.format e.length e.count (bytes_at image f.tree.leaves)) here.held.entry_is
+      sym (records_so bsize f.entry.format f.entry.length f.entry.count (bytes_at image f.tree.leaves))
+      ∙ ap (λ (e : Entry). records_of bsize e.format e.length e.count (bytes_at image f.tree.leaves)) here.held.entry_is
       ∙ ap (λ (l : List ℕ). records_of bsize h.entry.format h.entry.length h.entry.count (bytes_at image l)) here.held.tree_is.leaves ∙ holds.0.records
 
   starts : StartsSo bsize image (grown start)

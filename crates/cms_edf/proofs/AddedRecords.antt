@@ -17,6 +17,7 @@ use Rattle.cms_model.specs.Stands.{HoldsFile, Kept, Layout, file_of}
 use Rattle.cms_model.specs.Trees.{Image, bytes_at}
 use Rattle.cms_model.specs.Volumes.{Disk}
 use Rattle.cms_model.proofs.Changing.{place_changed}
+use Rattle.cms_model.proofs.EntriesRead.{records_so}
 use Rattle.cms_tree.specs.declared.types.Mark.{Mark}
 use Rattle.cms_held.specs.Drafts.{Front, mark_with, stored_on}
 use Rattle.cms_held.specs.Growing.{GrowsHeld, growing}
@@ -59,7 +60,8 @@ pub grown_records : (j : Journal) (v : HeldVolume) (old : Layout) (place : ℕ) 
     → All ReadsBack (entries_held (slice_set v.files place g))
     → records_of v.disk.bsize g.entry.format g.entry.length g.entry.count (bytes_at (now j v.unit) g.tree.leaves) ≡ Ok ((at_place old.files v.files x.held.files_are place f there).file.records ++ more)
 grown_records j v old place f g marks front mark more stamp x kept there q back =
-    ap (λ (e : Entry). records_of v.disk.bsize e.format e.length e.count (bytes_at image g.tree.leaves)) new.held.entry_is
+    sym (records_so v.disk.bsize g.entry.format g.entry.length g.entry.count (bytes_at image g.tree.leaves))
+    ∙ ap (λ (e : Entry). records_of v.disk.bsize e.format e.length e.count (bytes_at image g.tree.leaves)) new.held.entry_is
     ∙ ap (λ (l : List ℕ). records_of v.disk.bsize n.entry.format n.entry.length n.entry.count (bytes_at image l)) new.held.tree_is.leaves
     ∙ holds.records ∙ ap (λ (l : List (List ℕ)). Ok l) (ap (λ (y : File). y.records) is_added)
   where

@@ -37,7 +37,8 @@ use Rattle.cms_held.specs.Marks.{mark_of, start_of, starts_from}
 use Rattle.cms_held.specs.Opening.{HeldFile, HeldTree, HeldVolume, names_in}
 use Rattle.cms_held.specs.Systems.{system_writes}
 use Rattle.cms_held.specs.Drafts.{Front, HasAll, HasDraft, draft_writes, no_front, stored_on}
-use Rattle.cms_held.specs.Renewing.{Edit, renewed}
+use Rattle.cms_held.specs.Renewing.{Edit, entries_held, renewed}
+use Rattle.cms_held.specs.Written.{ReadsBack}
 use Rattle.cms_held.specs.LawsRenewing.{writes_of}
 use Rattle.cms_held.specs.Carrying.{Carries, IsHeldMinidisk, written_count}
 use Rattle.cms_held.specs.Putting.{GoesOn, IsPutAs, IsPutReady}
@@ -57,7 +58,7 @@ use Rattle.cms_edf.specs.FileDrafts.{CommitEvents, Commits, DraftStands, FileDra
 use Rattle.cms_edf.specs.declared.doubt.Doubt.{Doubt}
 use Rattle.cms_edf.specs.declared.doubt.Doubt.TheVariants.{Old, Either}
 use Rattle.cms_edf.proofs.CutOff.{to_label_behind, update_behind, updates_behind}
-use Rattle.cms_edf.proofs.DraftPlanned.{all_with, limits, some_stored, whole_blocks}
+use Rattle.cms_edf.proofs.DraftPlanned.{all_with, limits, place_within, some_stored, whole_blocks, with_back}
 use Rattle.cms_edf.proofs.DraftPut.{goes_on, new_is_some, plan_of}
 use Rattle.cms_edf.proofs.EntryTests.{ends_last}
 use Rattle.cms_edf.proofs.Finished.{to_front, told_so, with_front, writes_to}
@@ -71,6 +72,9 @@ kept_file : (v : HeldVolume) (d : FileDraft) (some : IsSomeDraft v d) → IsBloc
     → IsKeptFile v.disk.bsize v.label.blocks (file_for v.disk.bsize some.name some.shape (tree_of d) (start_in d.writer))
 kept_file v d some size =
     let shape = some.shape in
+    let file = file_for v.disk.bsize some.name shape (tree_of d) 0 in
+    let back = with_back v.files (position (same_name some.name) (names_in v.files)) file (place_within some.name v.files _ refl)
+    (subst (λ (fs : List HeldFile). All ReadsBack (entries_held fs)) (some.files_are 0) (some.ready 0).back) in
     let l = limits some.count shape.count shape.bytes some.unlimited in
     let whole = whole_blocks v.disk.bsize shape.bytes size l.2 in
     let low = (block_bounds v.disk.bsize size).0 in
@@ -83,6 +87,7 @@ kept_file v d some size =
     let ends = subst (λ (n : ℕ). EndsIn v.disk.bsize n shape.bytes) (sym leaves) (ends_last (up shape.bytes v.disk.bsize) v.disk.bsize shape.bytes one spec.0 spec.1) in
     record {
       entry = some.passes_all;
+      spells = back;
       count = refl;
       within =
           all_in (λ n. (6 ≤ n) × (n ≤ v.label.blocks)) (tree_of d).leaves (left_of (λ n. (6 ≤ n) × (n ≤ v.label.blocks)) (tree_of d).leaves (tree_of d).pointers some.within);
@@ -91,7 +96,7 @@ kept_file v d some size =
       room = subst (λ (n : ℕ). n * v.disk.bsize ≤ most_bytes) (sym leaves) whole;
       some = some.asked.low;
       short = some.asked.high;
-      fixed = λ is. refl;
+      told = refl;
       size = l.2;
       shape = record { some = omega arith; few = omega arith; nodes = some.pointers_are };
       low = ends.0;

@@ -1,8 +1,9 @@
 -- A file that is planned for a volume fits in.
-use Rattle.std.proofs.Common.{◌≡◌, inl, inr, ⊎_elim, ℕ, zero, suc, get_or, ◌+◌, ◌-◌, ◌*◌, ◌/◌, ◌^◌, ◌<◌, ◌≤◌, Bool, true, false, List, [], ◌∷◌, ◌++◌, length, take, drop, position, All, Option, None, Some, refl, sym, ◌∙◌, ap, subst, arith, length-append, mul-pos, mul_comm}
+use Rattle.std.proofs.Common.{◌≡◌, inl, inr, ⊎_elim, ℕ, zero, suc, get_or, ◌+◌, ◌-◌, ◌*◌, ◌/◌, ◌^◌, ◌<◌, ◌≤◌, Bool, true, false, List, [], ◌∷◌, ◌++◌, length, take, drop, position, slice_get, slice_set, All, Option, None, Some, refl, sym, ◌∙◌, ap, subst, arith, length-append, mul-pos, mul_comm}
 use Rattle.std.specs.Prelude.{nat_le, nat_lt, ◌&&◌, ◌==◌, if◌then◌else◌}
 use Rattle.std.proofs.lemmas.Bool.{and_from, le-leb, eq-eqb, cases_lt, ltb-false}
-use Rattle.std.proofs.lemmas.List.{length-set, map-append, map-set}
+use Rattle.std.proofs.lemmas.List.{length-map, length-set, map-append, map-set}
+use Rattle.std.proofs.lemmas.List.Quantifiers.{position-Some}
 use Rattle.std.proofs.Math.Nat.{le-div_iff_mul-le}
 use Rattle.std.proofs.lemmas.List.Elements.{All-push, All-set}
 use Rattle.std.proofs.lemmas.Option.{same_Some}
@@ -43,17 +44,31 @@ use Rattle.cms_held.specs.Written.{ReadsBack}
 use Rattle.cms_edf.specs.Allotting.{IsAllottedFor, all_fresh, given_back, need_of, own_fresh, numbers_made}
 use Rattle.cms_edf.specs.declared.allotment.Allotment.{Allotment}
 use Rattle.cms_edf.specs.declared.allotment.Exchange.{Exchange}
-use Rattle.cms_edf.specs.FileDrafts.{CanDraft, GivenAt, IsFilePlanned, IsSized, list_with, entry_for, file_for}
+use Rattle.cms_edf.specs.FileDrafts.{CanDraft, GivenAt, IsFilePlanned, IsPlaceIn, IsSized, list_with, entry_for, file_for}
 use Rattle.cms_edf.specs.Planning.{AreEnoughFor, IsFilled}
 use Rattle.cms_edf.proofs.AllottedParts.{Asks, planned_of}
 use Rattle.cms_edf.proofs.EditsEnough.{put_enough}
-use Rattle.cms_edf.proofs.Planned.{entries_count, named_at}
+use Rattle.cms_edf.proofs.Planned.{back_at, entries_count, named_at, set_there}
 
 -- ---- the entries
 
 pub all_with : {A : Type 0} (P : A → Type 0) (xs : List A) (place : Option ℕ) (x : A) → All P xs → P x → All P (list_with xs place x)
 all_with P xs None x all own = All-push P xs x all own
 all_with P xs (Some place) x all own = All-set P xs place x own all
+
+-- a place that has a name is one of a file
+pub place_within : (name : Name) (fs : List HeldFile) (place : Option ℕ) → place ≡ position (same_name name) (names_in fs) → IsPlaceIn fs place
+place_within name fs None is = tt
+place_within name fs (Some k) is = omega (arith, (position-Some (same_name name) (names_in fs) k name (sym is)).0, length-map fs (λ (g : HeldFile). g.entry.name))
+
+last_there : (fs : List HeldFile) (f : HeldFile) → slice_get (fs ++ f ∷ []) (length fs) ≡ Some f
+last_there [] f = refl
+last_there (g ∷ fs) f = last_there fs f
+
+-- the file in a place, or behind the others, has an entry that spells itself where all do
+pub with_back : (fs : List HeldFile) (place : Option ℕ) (f : HeldFile) → IsPlaceIn fs place → All ReadsBack (entries_held (list_with fs place f)) → ReadsBack f.entry
+with_back fs None f at back = back_at (fs ++ f ∷ []) (length fs) f (last_there fs f) back
+with_back fs (Some k) f at back = back_at (slice_set fs k f) k f (set_there fs k f at) back
 
 count_entries : (es : List Entry) (place : Option ℕ) (e : Entry) → length (list_with es place e) ≡ count_with place (length es)
 count_entries es None e = length-append es (e ∷ [])

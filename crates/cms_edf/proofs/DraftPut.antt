@@ -92,7 +92,7 @@ goes_on j v m d es bytes marks from to part held some =
     own = subst (λ (b : ℕ). AreFree v (own_blocks (b / psize) leaves pointers kept)) p.bsize_is p.own
 
 -- as many blocks as bytes fill are there
-blocks_there : (w : BlockWriter) (to upto : ℕ) → IsWriter w → to * w.bsize ≤ upto → upto ≤ w.size → to ≤ length w.tree.leaves
+pub blocks_there : (w : BlockWriter) (to upto : ℕ) → IsWriter w → to * w.bsize ≤ upto → upto ≤ w.size → to ≤ length w.tree.leaves
 blocks_there w to upto is low room = ⊎_elim
     (λ (less : length w.tree.leaves < to).
     let one : length w.tree.leaves + 1 ≤ to = omega arith in

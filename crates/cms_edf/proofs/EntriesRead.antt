@@ -5,7 +5,7 @@ use Rattle.cms_fields.specs.Steps.{◌>>=◌}
 use Rattle.cms_fields.specs.Entries.{entry_of}
 use Rattle.cms_fields.specs.declared.entry.Entry.{Entry}
 use Rattle.cms_model.specs.Lists.{cut}
-use Rattle.cms_model.specs.Volumes.{blamed, entries_of}
+use Rattle.cms_model.specs.Volumes.{as_read, blamed, entries_of}
 use Rattle.cms_model.specs.declared.fault.OpenFault.{OpenFault}
 use Rattle.cms_model.specs.declared.fault.OpenFault.TheVariants as failed
 use Rattle.cms_held.specs.Opening.{IsFaultOf}
@@ -27,7 +27,7 @@ comes_first bsize count bytes = let e : count - 0 ≡ count = omega arith in rw 
 -- the entry at a place, and those behind it
 left_one : (bsize count : ℕ) (bytes : List ℕ) (place : ℕ) → place < count
     → left_at bsize count bytes place ≡ (blamed (failed.Entry (place + 2)) (entry_of bsize (take 64 (drop (place * 64) bytes))) >>= λ entry. left_at bsize count bytes (place + 1) >>= λ more. Ok
-    (entry ∷ more))
+    (as_read entry ∷ more))
 unfolding entries_of cut
 left_one bsize count bytes place less =
     let one : count - place ≡ suc (count - (place + 1)) = omega arith in
@@ -38,17 +38,17 @@ left_one bsize count bytes place less =
 
 pub comes_next : (bsize count : ℕ) (bytes : List ℕ) (place : ℕ) (entries : List Entry) (entry : Entry) → place < count
     → blamed (failed.Entry (place + 2)) (entry_of bsize (take 64 (drop (place * 64) bytes))) ≡ Ok entry → Comes bsize count bytes place entries
-    → Comes bsize count bytes (place + 1) (entries ++ (entry ∷ []))
+    → Comes bsize count bytes (place + 1) (entries ++ (as_read entry ∷ []))
 comes_next bsize count bytes place entries entry less is comes =
-    let step : left_at bsize count bytes place ≡ (left_at bsize count bytes (place + 1) >>= λ more. Ok (entry ∷ more)) =
-    left_one bsize count bytes place less ∙ ap (λ (r : Result Entry OpenFault). r >>= λ e. left_at bsize count bytes (place + 1) >>= λ more. Ok (e ∷ more)) is in
-    comes ∙ (ap (behind entries) step ∙ behind_more entries entry (left_at bsize count bytes (place + 1)))
+    let step : left_at bsize count bytes place ≡ (left_at bsize count bytes (place + 1) >>= λ more. Ok (as_read entry ∷ more)) =
+    left_one bsize count bytes place less ∙ ap (λ (r : Result Entry OpenFault). r >>= λ e. left_at bsize count bytes (place + 1) >>= λ more. Ok (as_read e ∷ more)) is in
+    comes ∙ (ap (behind entries) step ∙ behind_more entries (as_read entry) (left_at bsize count bytes (place + 1)))
 
 pub comes_bad : (bsize count : ℕ) (bytes : List ℕ) (place : ℕ) (entries : List Entry) (why : OpenFault) → place < count
     → blamed (failed.Entry (place + 2)) (entry_of bsize (take 64 (drop (place * 64) bytes))) ≡ Err why → Comes bsize count bytes place entries → IsFaultOf (entries_of bsize 2 (cut count 64 bytes)) why
 comes_bad bsize count bytes place entries why less is comes =
     let step : left_at bsize count bytes place ≡ Err why =
-    left_one bsize count bytes place less ∙ ap (λ (r : Result Entry OpenFault). r >>= λ e. left_at bsize count bytes (place + 1) >>= λ more. Ok (e ∷ more)) is in
+    left_one bsize count bytes place less ∙ ap (λ (r : Result Entry OpenFault). r >>= λ e. left_at bsize count bytes (place + 1) >>= λ more. Ok (as_read e ∷ more)) is in
     fault_is (entries_of bsize 2 (cut count 64 bytes)) why (comes ∙ ap (behind entries) step)
 
 pub comes_last : (bsize count : ℕ) (bytes : List ℕ) (place : ℕ) (entries : List Entry) → count ≤ place → Comes bsize count bytes place entries → entries_of bsize 2 (cut count 64 bytes) ≡ Ok entries

@@ -1,5 +1,5 @@
 -- What the tests of entries say of their trees and of their bytes.
-use Rattle.std.proofs.Common.{◌≡◌, inl, inr, ℕ, zero, suc, ◌+◌, ◌-◌, ◌*◌, ◌/◌, ◌<◌, ◌≤◌, true, not, List, [], ◌∷◌, Ok, if◌then◌else◌, sym, ap, subst, arith}
+use Rattle.std.proofs.Common.{◌≡◌, inl, inr, ℕ, zero, suc, ◌+◌, ◌-◌, ◌*◌, ◌/◌, ◌<◌, ◌≤◌, true, not, List, [], ◌∷◌, Ok, if◌then◌else◌, sym, ◌∙◌, ap, subst, arith}
 use Rattle.std.specs.Prelude.{nat_le, ◌==◌, ◌&&◌, ◌||◌}
 use Rattle.std.specs.List.{All}
 use Rattle.std.proofs.lemmas.Bool.{and_from, and_parts, le-leb, leb-true, eqb-true}
@@ -15,13 +15,14 @@ use Rattle.cms_fields.specs.Stamps.{has_stamp, are_packed, is_stamp, stamp_at}
 use Rattle.cms_fields.proofs.ReadEntry.{entry_is}
 use Rattle.cms_fields.specs.Entries.{entry_of, entry_fields, passes, has_mode, fan_of, is_fixed, length_fits, counts_fit, levels_fit}
 use Rattle.cms_fields.specs.declared.entry.Entry.{Entry}
-use Rattle.cms_model.specs.Volumes.{blamed, entries_of}
+use Rattle.cms_model.specs.Volumes.{as_read, blamed, entries_of}
 use Rattle.cms_model.specs.declared.fault.OpenFault.TheVariants as failed
 use Rattle.cms_model.proofs.Results.{ok_same, bind_then}
 use Rattle.cms_model.proofs.Opening.{blamed_ok}
 use Rattle.cms_model.proofs.Quotients.{up_spec}
 use Rattle.cms_model.proofs.Shapes.{shape_least}
 use Rattle.cms_model.proofs.TreeFrame.{between}
+use Rattle.cms_model.proofs.EntriesRead.{passes_so}
 use Rattle.cms_model.proofs.FileSizes.{EntryFits, AllFit, entries_fit, entry_counted, fan_wide}
 use Rattle.cms_edf.specs.EntryShapes.{EndsIn, HasShape, HasSize}
 
@@ -136,8 +137,8 @@ entries_pass bsize number [] es is = subst (All (λ e. passes bsize e ≡ true))
 entries_pass bsize number (bytes ∷ rest) es is =
     bind_then (blamed (failed.Entry number) (entry_of bsize bytes)) _ es is (λ one is_one e1.
     bind_then (entries_of bsize (number + 1) rest) _ es e1 (λ more is_more e2.
-    subst (All (λ e. passes bsize e ≡ true)) (ok_same (one ∷ more) es e2)
-    (All-cons (λ e. passes bsize e ≡ true) one more (entry_passes bsize bytes one (blamed_ok (failed.Entry number) (entry_of bsize bytes) one is_one))
+    subst (All (λ e. passes bsize e ≡ true)) (ok_same (as_read one ∷ more) es e2)
+    (All-cons (λ e. passes bsize e ≡ true) (as_read one) more (passes_so bsize one ∙ entry_passes bsize bytes one (blamed_ok (failed.Entry number) (entry_of bsize bytes) one is_one))
     (entries_pass bsize (number + 1) rest more is_more))))
 
 pub entries_stand : (n count blocks leaves bsize : ℕ) → n ≡ count - 2 → 2 ≤ count → count * 64 ≤ blocks * bsize → leaves ≡ blocks → (n + 2) * 64 ≤ leaves * bsize

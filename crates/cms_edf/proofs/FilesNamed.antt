@@ -3,8 +3,9 @@ use Rattle.std.proofs.Common.{◌≡◌, ⊎_elim, ℕ, zero, suc, ◌*◌, ◌^
 use Rattle.std.specs.Map.{keys_of, values_of}
 use Rattle.std.proofs.lemmas.List.{map_push}
 use Rattle.cms_names.specs.declared.name.Name.{Name}
-use Rattle.cms_names.specs.declared.name.Format.TheVariants.{F}
-use Rattle.cms_fields.specs.Entries.{fan_of, passes}
+use Rattle.cms_names.specs.declared.name.Format.TheVariants.{F, V}
+use Rattle.cms_names.specs.declared.name.Format.{Format}
+use Rattle.cms_fields.specs.Entries.{counts_fit, fan_of, length_fits, levels_fit, passes}
 use Rattle.cms_fields.specs.declared.entry.Entry.{Entry}
 use Rattle.cms_model.specs.Sizes.{pointer_count}
 use Rattle.cms_edf.specs.declared.contents.RecordsTold.{RecordsTold}
@@ -13,6 +14,7 @@ use Rattle.cms_tree.specs.declared.types.Walked.{Walked}
 use Rattle.cms_held.specs.Opening.{HeldFile, Holding, by_name, names_in}
 use Rattle.cms_edf.specs.EntryShapes.{EndsIn, HasSize}
 use Rattle.cms_held.specs.Kept.{IsKeptFile}
+use Rattle.cms_held.specs.Written.{ReadsBack}
 use Rattle.cms_edf.proofs.RecordsRead.{made}
 
 -- the keys and values of files under their names
@@ -43,23 +45,34 @@ counted zero bsize stored ends room = let high = ends.1 in let low = ends.0 in a
 counted (suc n) zero stored ends room = let high = ends.1 in let low = ends.0 in absurd (omega arith)
 counted (suc n) (suc b) stored ends room = (omega arith, omega arith)
 
+-- the tests look at the length at F alone
+passes_told : (bsize : ℕ) (e : Entry) (size : ℕ) → (e.format ≡ F → size ≡ e.length) → passes bsize (record e { length = size }) ≡ passes bsize e
+unfolding passes length_fits counts_fit levels_fit
+passes_told bsize e size fixed = at_formats e.format e.length fixed
+  where
+    at_formats : (format : Format) (length : ℕ) → (format ≡ F → size ≡ length)
+        → passes bsize (record e { format = format; length = size }) ≡ passes bsize (record e { format = format; length = length })
+    at_formats F length same = ap (λ (n : ℕ). passes bsize (record e { format = F; length = n })) (same refl)
+    at_formats V length same = refl
+
 -- a file that was read is one that is kept
-pub file_kept : (bsize total : ℕ) (e : Entry) (w : Walked) (told : RecordsTold) (f : HeldFile) → f ≡ made e w told → passes bsize e ≡ true → HasSize bsize e → length w.leaves.items ≡ e.blocks
+pub file_kept : (bsize total : ℕ) (e : Entry) (w : Walked) (told : RecordsTold) (f : HeldFile) → f ≡ made e w told → passes bsize e ≡ true → ReadsBack f.entry → HasSize bsize e → length w.leaves.items ≡ e.blocks
     → length w.pointers.items ≡ pointer_count (fan_of bsize e.format) e.blocks
     → AreWithin total None w.leaves.items → AreWithin total None w.pointers.items → 1 ≤ told.sizes.longest → told.sizes.longest ≤ 65535 → (e.format ≡ F → told.sizes.longest ≡ e.length) → told.sizes.stored ≤ 67108864
     → EndsIn bsize (length w.leaves.items) told.sizes.stored → IsKeptFile bsize total f
-file_kept bsize total e w told f is passing size count nodes within nodes_within some short fixed stored ends =
+file_kept bsize total e w told f is passing back size count nodes within nodes_within some short fixed stored ends =
     let room : length w.leaves.items * bsize ≤ 67108864 = rw count size.room in
     let n = counted (length w.leaves.items) bsize told.sizes.stored ends room in
     subst (IsKeptFile bsize total) (sym is) (record {
-      entry = passing;
+      entry = passes_told bsize e told.sizes.longest fixed ∙ passing;
+      spells = subst (λ (g : HeldFile). ReadsBack g.entry) is back;
       count = count;
       within = λ n in'. ⊎_elim (λ (b : (6 ≤ n) × (n ≤ total)). b) (λ (no : None ≡ Some n). absurd (cc no)) (within n in');
       nodes_within = λ n in'. ⊎_elim (λ (b : (6 ≤ n) × (n ≤ total)). b) (λ (no : None ≡ Some n). absurd (cc no)) (nodes_within n in');
       room = room;
       some = some;
       short = short;
-      fixed = fixed;
+      told = refl;
       size = stored;
       shape = record { some = n.0; few = n.1; nodes = nodes ∙ ap (pointer_count (fan_of bsize e.format)) (sym count) };
       low = ends.0;

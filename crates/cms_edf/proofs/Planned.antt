@@ -1,8 +1,8 @@
 -- What is planned for an edit is ready, and the volume after it is held.
 use Rattle.std.proofs.Common.{◌≡◌, ◌⊎◌, ⊎_elim, inl, inr, ℕ, zero, suc, ◌+◌, ◌-◌, ◌*◌, ◌/◌, ◌^◌, ◌<◌, ◌≤◌, Bool, true, List, [], ◌∷◌, ◌++◌, length, map, take, drop, slice_get, get_or, All, None, Some, Result, Ok, Err, refl, sym, ◌∙◌, ap, subst, arith}
-use Rattle.std.proofs.lemmas.List.{length-map, length-set, map-set, nil_from_length}
+use Rattle.std.proofs.lemmas.List.{get_or-set_same, length-map, length-set, map-set, nil_from_length}
 use Rattle.std.proofs.lemmas.List.Elements.{All-nil, All-cons, All-get_or, All-head, All-tail, All-set, All-append, All-take}
-use Rattle.std.proofs.lemmas.Option.{get_or_from_slice_get, same_Some, slice_get-map, slice_get_within}
+use Rattle.std.proofs.lemmas.Option.{get_or_from_slice_get, same_Some, slice_get-get_or, slice_get-map, slice_get_within}
 use Rattle.cms_journal.proofs.Sizes.{block_bounds}
 use Rattle.cms_names.specs.declared.name.Name.{Name}
 use Rattle.cms_fields.specs.Entries.{passes}
@@ -73,6 +73,13 @@ more_back es k e there all one =
     subst (All ReadsBack) (sym (one_more es k e there))
     (All-append ReadsBack (take k es) (e ∷ []) all (All-cons ReadsBack e [] one (All-nil ReadsBack)))
 
+-- the entries of files that are kept spell themselves
+pub back_all : (bsize total : ℕ) (fs : List HeldFile) → All (IsKeptFile bsize total) fs → All ReadsBack (entries_held fs)
+back_all bsize total [] all = All-nil ReadsBack
+back_all bsize total (f ∷ fs) all =
+    All-cons ReadsBack f.entry (entries_held fs) (All-head (IsKeptFile bsize total) f fs all).spells
+    (back_all bsize total fs (All-tail (IsKeptFile bsize total) f fs all))
+
 -- these files are left by an edit
 abbrev pub FilesLeft : List HeldFile → FileEdit → List HeldFile → Type 0
 FilesLeft fs (does.Drop place) new = (f : HeldFile) → new ≡ swap_remove fs place f
@@ -116,16 +123,18 @@ pub entries_count : (fs : List HeldFile) → length (entries_held fs) ≡ length
 entries_count fs = length-map fs (λ (g : HeldFile). g.entry)
 
 -- a file with another name is kept
-kept_renamed : (bsize total : ℕ) (f : HeldFile) (to : Name) (number : ℕ) → number ≤ 6 → IsKeptFile bsize total f → IsKeptFile bsize total (renamed to number f)
-kept_renamed bsize total f to number small k = record {
+kept_renamed : (bsize total : ℕ) (f : HeldFile) (to : Name) (number : ℕ) → number ≤ 6 → ReadsBack (renamed to number f).entry → IsKeptFile bsize total f
+    → IsKeptFile bsize total (renamed to number f)
+kept_renamed bsize total f to number small back k = record {
   entry = passes_renamed bsize f.entry to number small k.entry;
+  spells = back;
   count = k.count;
   within = k.within;
   nodes_within = k.nodes_within;
   room = k.room;
   some = k.some;
   short = k.short;
-  fixed = k.fixed;
+  told = k.told;
   size = k.size;
   shape = k.shape;
   low = k.low;
@@ -135,12 +144,43 @@ kept_renamed bsize total f to number small k = record {
 kept_at : (P : HeldFile → Type 0) (fs : List HeldFile) (k : ℕ) (f : HeldFile) → slice_get fs k ≡ Some f → All P fs → P f
 kept_at P fs k f is all = subst P (get_or_from_slice_get fs k f f is) (All-get_or P fs k f (slice_get_within fs k f is) all)
 
--- the files after an edit are kept
-pub edited_kept : (bsize total : ℕ) (fs : List HeldFile) (e : FileEdit) (x : Edit) → DoesTo fs e x → MayEdit fs e → All (IsKeptFile bsize total) fs → All (IsKeptFile bsize total) x.files
-edited_kept bsize total fs e x (edits.drops place f is) may all = All-removed (IsKeptFile bsize total) fs place f may all
-edited_kept bsize total fs e x (edits.renames place f to number is) may all =
-    All-set (IsKeptFile bsize total) fs place (renamed to number f) (kept_renamed bsize total f to number may.1 (kept_at (IsKeptFile bsize total) fs place f is all)) all
-edited_kept bsize total fs e x (edits.moves pivot) may all = kept_all_moved bsize total pivot fs may all
+-- the entry of the file at a place spells itself where all do
+pub back_at : (fs : List HeldFile) (k : ℕ) (f : HeldFile) → slice_get fs k ≡ Some f → All ReadsBack (entries_held fs) → ReadsBack f.entry
+back_at fs k f is back =
+    let there = entry_at fs k f is in
+    subst ReadsBack (get_or_from_slice_get (entries_held fs) k f.entry f.entry there)
+    (All-get_or ReadsBack (entries_held fs) k f.entry (slice_get_within (entries_held fs) k f.entry there) back)
+
+-- the one that stands in the place of another
+pub set_there : (fs : List HeldFile) (k : ℕ) (f : HeldFile) → k < length fs → slice_get (slice_set fs k f) k ≡ Some f
+set_there fs k f less =
+    slice_get-get_or (slice_set fs k f) k f (omega (arith, length-set fs k f)) ∙ ap (λ (g : HeldFile). Some g) (get_or-set_same fs k f f less)
+
+-- the files after an edit are kept, where their entries spell themselves
+pub edited_kept : (bsize total : ℕ) (fs : List HeldFile) (e : FileEdit) (x : Edit) → DoesTo fs e x → MayEdit fs e → All ReadsBack (entries_held x.files) → All (IsKeptFile bsize total) fs
+    → All (IsKeptFile bsize total) x.files
+edited_kept bsize total fs e x (edits.drops place f is) may back all = All-removed (IsKeptFile bsize total) fs place f may all
+edited_kept bsize total fs e x (edits.renames place f to number is) may back all =
+    let own = back_at (slice_set fs place (renamed to number f)) place (renamed to number f) (set_there fs place (renamed to number f) may.0) back in
+    All-set (IsKeptFile bsize total) fs place (renamed to number f) (kept_renamed bsize total f to number may.1 own (kept_at (IsKeptFile bsize total) fs place f is all)) all
+edited_kept bsize total fs e x (edits.moves pivot) may back all = kept_all_moved bsize total pivot fs may back all
+
+-- the entries that an edit makes anew spell themselves
+abbrev pub SpellsNew : List HeldFile → FileEdit → Type 0
+SpellsNew fs (does.Drop place) = Unit {0}
+SpellsNew fs (does.Rename place to number) = (x : Entry) → slice_get (entries_held fs) place ≡ Some x → ReadsBack (record x { name = to; number = number })
+SpellsNew fs (does.Century pivot) = All ReadsBack (map (moved_entry pivot) (entries_held fs))
+
+-- those after it do
+back_edited : (fs : List HeldFile) (e : FileEdit) (x : Edit) → DoesTo fs e x → SpellsNew fs e → All ReadsBack (entries_held fs) → All ReadsBack (entries_held x.files)
+back_edited fs e x (edits.drops place f is) new back =
+    let within = slice_get_within fs place f is in
+    subst (All ReadsBack) (sym (map-removed (λ (g : HeldFile). g.entry) fs place f f.entry within))
+    (All-removed ReadsBack (entries_held fs) place f.entry (omega (arith, entries_count fs)) back)
+back_edited fs e x (edits.renames place f to number is) new back =
+    subst (All ReadsBack) (sym (map-set (λ (g : HeldFile). g.entry) fs place (renamed to number f)))
+    (All-set ReadsBack (entries_held fs) place (renamed to number f).entry (new f.entry (entry_at fs place f is)) back)
+back_edited fs e x (edits.moves pivot) new back = subst (All ReadsBack) (sym (entries_moved pivot fs)) new
 
 -- ---- the edited entries
 
@@ -166,13 +206,14 @@ count_few fs (does.Drop place) few = omega arith
 count_few fs (does.Rename place to number) few = few
 count_few fs (does.Century pivot) few = few
 
-pub edited_of : (v : HeldVolume) (e : FileEdit) (entries : List Entry) → Keeps v → MayEdit v.files e → Leaves v.files e entries → Edited v e entries
-edited_of v e entries kept may had =
+pub edited_of : (v : HeldVolume) (e : FileEdit) (entries : List Entry) → Keeps v → MayEdit v.files e → Leaves v.files e entries → SpellsNew v.files e → Edited v e entries
+edited_of v e entries kept may had new =
     let at = some_edit v.files e may in
     let x = at.0 in
     let are : entries_held x.files ≡ entries = edited_are v.files e x entries at.1 had in
     let count : length entries ≡ count_after v.files e = ap length (sym are) ∙ (entries_count x.files ∙ count_is v.files e x at.1) in
     let few = count_few v.files e kept.few in
+    let back = back_edited v.files e x at.1 new (back_all v.disk.bsize v.label.blocks v.files kept.each) in
     record {
       edit = x;
       done = at.1;
@@ -180,7 +221,8 @@ edited_of v e entries kept may had =
       count = count;
       few = omega arith;
       each = subst (All CanWrite) are
-          (can_write_all v.disk.bsize v.label.blocks x.files (edited_kept v.disk.bsize v.label.blocks v.files e x at.1 may kept.each));
+          (can_write_all v.disk.bsize v.label.blocks x.files (edited_kept v.disk.bsize v.label.blocks v.files e x at.1 may back kept.each));
+      back = subst (All ReadsBack) are back;
     }
 
 -- ---- the volume after an edit
@@ -237,7 +279,7 @@ pub renewed_keeps : (v : HeldVolume) (e : FileEdit) (x : Edit) (stamp : Stamp) (
 renewed_keeps v e x stamp s may done r long =
     let count = count_is v.files e x done in
     let few = count_few v.files e r.kept.few in
-    ready_keeps v x x stamp s r long (omega arith) refl (edited_kept v.disk.bsize v.label.blocks v.files e x done may r.kept.each)
+    ready_keeps v x x stamp s r long (omega arith) refl (edited_kept v.disk.bsize v.label.blocks v.files e x done may r.back r.kept.each)
 
 -- ---- what is prepared
 

@@ -214,12 +214,18 @@ contents_step bsize image entries walks k e w less is less' is' =
 -- a file as it is made
 abbrev pub made : Entry → Walked → RecordsTold → HeldFile
 made e w told =
-    record { entry = e; tree = record { leaves = w.leaves.items; pointers = w.pointers.items }; length = told.sizes.longest; size = told.sizes.stored; start = told.start }
+    record {
+      entry = record e { length = told.sizes.longest };
+      tree = record { leaves = w.leaves.items; pointers = w.pointers.items };
+      length = told.sizes.longest;
+      size = told.sizes.stored;
+      start = told.start;
+    }
 
 held_as : (bsize : ℕ) (e : Entry) (w : Walked) (records : List (List ℕ)) (told : RecordsTold) (file : HeldFile) → AreSized e records told.sizes → told.start ≡ start_of bsize e.format records
     → file ≡ made e w told → file ≡ told_file bsize e w records
 held_as bsize e w records told file sized starts is = is ∙ (λ i. record {
-  entry = e;
+  entry = record e { length = sized.0 i };
   tree = record { leaves = w.leaves.items; pointers = w.pointers.items };
   length = sized.0 i;
   size = sized.1 i;

@@ -25,6 +25,7 @@ abbrev pub numbers_in : ℕ → Made → List ℕ
 numbers_in files (Entries numbers) = numbers.now
 numbers_in files Whole = all_entries files
 
+-- those that this update makes anew
 abbrev pub numbers_made : Exchange → List ℕ
 numbers_made x = numbers_in x.files x.made
 
@@ -38,6 +39,7 @@ need_of v x = x.file + needed v x.files (numbers_made x)
 abbrev pub own_fresh : HeldVolume → Allotment → List ℕ
 own_fresh v a = a.file.items ++ drop 1 (fresh_of (v.disk.bsize / 4) a.directory_part.leaves v.directory a.directory)
 
+-- the latter are a file's, and those of the directory before that aren't kept
 abbrev pub own_released : HeldVolume → Exchange → Allotment → List ℕ
 own_released v x a = given_back x
     ++ drop 1 (released_of (v.disk.bsize / 4) a.directory_part.leaves v.directory a.directory)
@@ -46,6 +48,7 @@ own_released v x a = given_back x
 abbrev pub all_fresh : HeldVolume → Allotment → List ℕ
 all_fresh v a = own_fresh v a ++ fresh_of (v.disk.bsize / 4) a.map_part.leaves v.map a.map_tree
 
+-- and those that are given back
 abbrev pub all_released : HeldVolume → Exchange → Allotment → List ℕ
 all_released v x a = own_released v x a ++ released_of (v.disk.bsize / 4) a.map_part.leaves v.map a.map_tree
 

@@ -148,15 +148,18 @@ IsMoreRefused v place f asked more.Device = (limit_put (length v.files) asked.co
     × (need_more v place f asked ≤ length (free_blocks v.bits))
 IsMoreRefused v place f asked more.Memory = ⊤
 
+-- why it isn't planned where no update is
 abbrev pub more_fault : PlanFault → MoreFault
 more_fault (failed.Limit which) = more.Limit which
 more_fault (failed.Full needs free) = more.Full needs free
 more_fault failed.Memory = more.Memory
 
+-- why it isn't where a block wasn't read
 abbrev pub unread_fault : ReadFault → MoreFault
 unread_fault unread.Device = more.Device
 unread_fault unread.Memory = more.Memory
 
+-- why it isn't where the climb of its tree wasn't resumed
 abbrev pub resume_fault : ResumeFault → MoreFault
 resume_fault resume.Device = more.Device
 resume_fault resume.Memory = more.Memory

@@ -84,10 +84,10 @@ pub record HasRecords (bsize : ℕ) (image : Image) (number : ℕ) (e : Entry) (
   pub sized : AreSized e records told.sizes
   pub starts : told.start ≡ start_of bsize e.format records
 
--- a file with the tree that was read, and with these records
+-- a file with the tree that was read, and with these records, whose length its entry tells
 abbrev pub told_file : ℕ → Entry → Walked → List (List ℕ) → HeldFile
 told_file bsize e walked records = record {
-  entry = e;
+  entry = record e { length = length_of e.format e.length records };
   tree = record { leaves = walked.leaves.items; pointers = walked.pointers.items };
   length = length_of e.format e.length records;
   size = size_of e.format e.length e.count records;

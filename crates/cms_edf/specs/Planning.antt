@@ -93,6 +93,7 @@ pub record Edited (v : HeldVolume) (e : FileEdit) (entries : List Entry) : Type 
   pub count : length entries ≡ count_after v.files e
   pub few : length entries ≤ most_files
   pub each : All CanWrite entries
+  pub back : All ReadsBack entries
 
 -- ---- what is planned
 

@@ -182,7 +182,8 @@ pub struct Taken {
 pub fn take_blocks(alloc: Global, map: &Map, count: u32) -> Result<Taken, AllocError>
     requires { count ≤ length (free_blocks map.now) }
     ensures blocks { IfOk result (λ t. t.blocks.items ≡ take count (free_blocks map.now)) }
-    ensures marked { IfOk result (λ t. t.map ≡ with_marked (take count (free_blocks map.now)) map.now) }
+    ensures marked { IfOk result (λ t. t.map
+        ≡ with_marked (take count (free_blocks map.now)) map.now) }
     ensures long { IfOk result (λ t. length t.blocks.items ≡ count) }
     ensures count { IfOk result (λ t. length t.map ≡ length map.now) }
 {
@@ -214,9 +215,11 @@ fn share_directory(
     requires may { MayBeWritten (length held.now.volume.directory.leaves)
         (directory_count held.now.volume.disk.bsize files) places.leaves }
     requires nodes { places.nodes ≡ fresh_places (held.now.volume.disk.bsize / 4)
-        (length held.now.volume.directory.leaves) (directory_count held.now.volume.disk.bsize files) places.leaves }
+        (length held.now.volume.directory.leaves)
+        (directory_count held.now.volume.disk.bsize files) places.leaves }
     requires enough { length places.leaves + length places.nodes ≤ length blocks.now + 1 }
-    ensures { IfOk result (λ p. SharesDirectory held.now.volume files blocks.now places p.tree p.places p.left.items) }
+    ensures { IfOk result (λ p.
+        SharesDirectory held.now.volume files blocks.now places p.tree p.places p.left.items) }
 {
     let bsize = held.bsize.bytes();
     let count = (ENTRY_SIZE * (files + 2)).div_ceil(bsize);
@@ -233,9 +236,12 @@ fn share_map(
     written: Vec<u32>,
     blocks: &[u32],
 ) -> Result<SharedPart, AllocError>
-    requires may { MayBeWritten (length held.now.volume.map.leaves) (length held.now.volume.map.leaves) written.items }
-    requires enough { map_size held.now.volume.disk.bsize held.now.volume.label.blocks ≤ length blocks.now }
-    ensures { IfOk result (λ p. MapIsShared held.now.volume written.items blocks.now p.tree p.places p.left.items) }
+    requires may { MayBeWritten (length held.now.volume.map.leaves)
+        (length held.now.volume.map.leaves) written.items }
+    requires enough { map_size held.now.volume.disk.bsize held.now.volume.label.blocks
+        ≤ length blocks.now }
+    ensures { IfOk result (λ p.
+        MapIsShared held.now.volume written.items blocks.now p.tree p.places p.left.items) }
 {
     let fan = held.bsize.bytes() / 4;
     let count = held.map_tree.leaves().len() as u32;
@@ -272,7 +278,8 @@ fn turned_blocks(
     released: &[u32],
 ) -> Result<Vec<u32>, AllocError>
     ensures { IfOk result (λ v. v.items ≡ on_map held.now.volume.label.blocks
-        (lowest.now ++ (released.now ++ (held.now.volume.map.leaves ++ held.now.volume.map.pointers)))) }
+        (lowest.now ++
+        (released.now ++ (held.now.volume.map.leaves ++ held.now.volume.map.pointers)))) }
 {
     let total = held.label.blocks;
     let mut blocks = Vec::with_capacity(alloc, lowest.len() + released.len())?;
@@ -365,9 +372,11 @@ fn allot_all(
     need: u32,
 ) -> Result<Allotment, AllocError>
     requires few { exchange.now.files ≤ most_files }
-    requires written { places.leaves ≡ blocks_made held.now.volume.disk.bsize exchange.now.files (numbers_made exchange.now) }
+    requires written { places.leaves
+        ≡ blocks_made held.now.volume.disk.bsize exchange.now.files (numbers_made exchange.now) }
     requires nodes { places.nodes ≡ fresh_places (held.now.volume.disk.bsize / 4)
-        (length held.now.volume.directory.leaves) (directory_count held.now.volume.disk.bsize exchange.now.files) places.leaves }
+        (length held.now.volume.directory.leaves)
+        (directory_count held.now.volume.disk.bsize exchange.now.files) places.leaves }
     requires first { In 0 places.leaves }
     requires may { MayBeWritten (length held.now.volume.directory.leaves)
         (directory_count held.now.volume.disk.bsize exchange.now.files) places.leaves }
@@ -406,7 +415,8 @@ fn directory_places(
     ensures leaves { IfOk result (λ p. p.leaves
         ≡ blocks_made held.now.volume.disk.bsize exchange.now.files (numbers_made exchange.now)) }
     ensures nodes { IfOk result (λ p. p.nodes ≡ fresh_places (held.now.volume.disk.bsize / 4)
-        (length held.now.volume.directory.leaves) (directory_count held.now.volume.disk.bsize exchange.now.files)
+        (length held.now.volume.directory.leaves)
+        (directory_count held.now.volume.disk.bsize exchange.now.files)
         (blocks_made held.now.volume.disk.bsize exchange.now.files (numbers_made exchange.now))) }
 {
     let bsize = held.bsize.bytes();
@@ -430,13 +440,16 @@ fn map_blocks(held: &Held) -> u32
 pub fn allot(alloc: Global, held: &Held, exchange: &Exchange<'_>) -> Result<Allotment, PlanFault>
     requires few { exchange.now.files ≤ most_files }
     requires small { exchange.now.file < 2 ^ 31 }
-    requires first { In 0 (blocks_made held.now.volume.disk.bsize exchange.now.files (numbers_made exchange.now)) }
-    requires may { MayBeWritten (directory_count held.now.volume.disk.bsize (length held.now.volume.files))
+    requires first { In 0 (blocks_made held.now.volume.disk.bsize exchange.now.files
+        (numbers_made exchange.now)) }
+    requires may { MayBeWritten (directory_count held.now.volume.disk.bsize
+        (length held.now.volume.files))
         (directory_count held.now.volume.disk.bsize exchange.now.files)
         (blocks_made held.now.volume.disk.bsize exchange.now.files (numbers_made exchange.now)) }
     ensures allotted { IfOk result (IsAllottedFor held.now.volume exchange.now) }
     ensures map_few { IfOk result (λ a. length a.map_tree.leaves < 2 ^ 32) }
-    ensures room { OnOk result (need_of held.now.volume exchange.now ≤ length (free_blocks held.now.volume.bits)) }
+    ensures room { OnOk result (need_of held.now.volume exchange.now
+        ≤ length (free_blocks held.now.volume.bits)) }
     ensures fixed { HasFixed held.now.volume.bits }
     ensures full { IfErr result (LacksRoom held.now.volume (need_of held.now.volume exchange.now)) }
 {

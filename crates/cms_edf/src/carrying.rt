@@ -31,8 +31,10 @@ impl Held {
     fn renew(&mut self, edit: &FileEdit, systems: SystemBlocks)
         requires may { MayEdit self.old.volume.files edit.now }
         requires room { 1 ≤ self.old.spare }
-        requires kept { (x : Edit) → DoesTo self.old.volume.files edit.now x → Keeps (renewed self.old.volume x systems) }
-        ensures { (x : Edit) → DoesTo self.old.volume.files edit.now x → self.new.volume ≡ renewed self.old.volume x systems }
+        requires kept { (x : Edit) → DoesTo self.old.volume.files edit.now x
+            → Keeps (renewed self.old.volume x systems) }
+        ensures { (x : Edit) → DoesTo self.old.volume.files edit.now x
+            → self.new.volume ≡ renewed self.old.volume x systems }
     {
         edit.edit_files(&mut self.files);
         self.label = systems.label;
@@ -53,11 +55,15 @@ impl Held {
     ) -> Result<(), Doubt>
         requires may { MayEdit self.old.volume.files edit.now }
         requires room { 1 ≤ self.old.spare }
-        requires kept { (x : Edit) → DoesTo self.old.volume.files edit.now x → Keeps (renewed self.old.volume x systems) }
-        requires blocks { ForSome (W.told world.old) (λ j. HasBlocks j.units self.old.volume.unit systems.label.blocks
+        requires kept { (x : Edit) → DoesTo self.old.volume.files edit.now x
+            → Keeps (renewed self.old.volume x systems) }
+        requires blocks { ForSome (W.told world.old)
+            (λ j. HasBlocks j.units self.old.volume.unit systems.label.blocks
             (length systems.label_bytes)) }
-        requires writable { ForSome (W.told world.old) (λ j. IsWritable j.units self.old.volume.unit) }
-        ensures updates { UpdatesSystems (W.told world.old) (W.told world.new) self.old.volume.unit systems result }
+        requires writable { ForSome (W.told world.old)
+            (λ j. IsWritable j.units self.old.volume.unit) }
+        ensures updates { UpdatesSystems (W.told world.old)
+            (W.told world.new) self.old.volume.unit systems result }
         ensures volume { OnOk result ((x : Edit) → DoesTo self.old.volume.files edit.now x
             → self.new.volume ≡ renewed self.old.volume x systems) }
         ensures kept { OnErr result (self.new ≡ self.old) }
@@ -80,12 +86,17 @@ impl Held {
         bytes: Vec<u8>,
     ) -> Result<(), Doubt>
         requires kept { Keeps (with_label_bytes self.old.volume label bytes.items) }
-        requires blocks { ForSome (W.told world.old) (λ j. HasBlocks j.units self.old.volume.unit 3 (length bytes.items)) }
-        requires writable { ForSome (W.told world.old) (λ j. IsWritable j.units self.old.volume.unit) }
-        ensures done { OnOk result (W.told world.new ≡ plus (W.told world.old) (relabel self.old.volume.unit bytes.items)) }
-        ensures volume { OnOk result (self.new.volume ≡ with_label_bytes self.old.volume label bytes.items) }
+        requires blocks { ForSome (W.told world.old)
+            (λ j. HasBlocks j.units self.old.volume.unit 3 (length bytes.items)) }
+        requires writable { ForSome (W.told world.old)
+            (λ j. IsWritable j.units self.old.volume.unit) }
+        ensures done { OnOk result (W.told world.new
+            ≡ plus (W.told world.old) (relabel self.old.volume.unit bytes.items)) }
+        ensures volume { OnOk result (self.new.volume
+            ≡ with_label_bytes self.old.volume label bytes.items) }
         ensures either { IfErr result (λ why. why ≡ Either) }
-        ensures cut_off { OnErr result (MayAdd (Wrote self.old.volume.unit 3 bytes.items) (W.told world.old) (W.told world.new)) }
+        ensures cut_off { OnErr result (MayAdd (Wrote self.old.volume.unit 3 bytes.items)
+            (W.told world.old) (W.told world.new)) }
         ensures kept { OnErr result (self.new ≡ self.old) }
         ensures counts { OnUnits (seen W.World world.old) (seen W.World world.new) result }
     {
@@ -109,13 +120,17 @@ impl Held {
 pub fn carry_out<W: World>(world: &mut W, held: &mut Held, plan: Plan) -> Result<(), Doubt>
     requires plan { IsPlan held.old.volume plan }
     requires room { 1 ≤ held.old.spare }
-    requires blocks { ForSome (W.told world.old) (λ j. HasBlocks j.units held.old.volume.unit held.old.volume.disk.count
+    requires blocks { ForSome (W.told world.old)
+        (λ j. HasBlocks j.units held.old.volume.unit held.old.volume.disk.count
         held.old.volume.disk.bsize) }
     requires writable { ForSome (W.told world.old) (λ j. IsWritable j.units held.old.volume.unit) }
-    ensures done { OnOk result (W.told world.new ≡ plus (W.told world.old) (step_events held.old.volume plan)) }
-    ensures cut_off { IfErr result (IsStopped (W.told world.old) (W.told world.new) held.old.volume plan) }
+    ensures done { OnOk result (W.told world.new
+        ≡ plus (W.told world.old) (step_events held.old.volume plan)) }
+    ensures cut_off { IfErr result (IsStopped (W.told world.old)
+        (W.told world.new) held.old.volume plan) }
     ensures volume { OnOk result (LeadsTo held.old.volume plan held.new.volume) }
-    ensures carries { (j : Journal) (m : Minidisk) (change : Change) (stamp : Stamp) → W.told world.old ≡ Some j
+    ensures carries { (j : Journal) (m : Minidisk) (change : Change) (stamp : Stamp)
+        → W.told world.old ≡ Some j
         → IsHeldMinidisk j held.old.volume m → IsPlanFor held.old.volume change stamp plan
         → CarriesOut j (W.told world.new) held.old.volume held.new.volume m change plan result }
     ensures kept { OnErr result (held.new ≡ held.old) }

@@ -48,7 +48,8 @@ impl FileEdit {
         requires may { MayEdit (values files.old) self.now }
         requires named { files.old.entries ≡ by_name (values files.old) }
         requires room { 1 ≤ spare files.old }
-        ensures files { (x : Edit) → DoesTo (values files.old) self.now x → values files.new ≡ x.files }
+        ensures files { (x : Edit) → DoesTo (values files.old) self.now x
+            → values files.new ≡ x.files }
         ensures named { files.new.entries ≡ by_name (values files.new) }
     {
         match self {

@@ -35,7 +35,8 @@ fn put_file(files: &mut IndexMap<Name, FileHeld>, file: FileHeld)
     requires named { files.old.entries ≡ by_name (values files.old) }
     requires room { 1 ≤ spare files.old }
     ensures files { values files.new
-        ≡ list_with (values files.old) (position (same_name file.entry.name) (names_in (values files.old))) file }
+        ≡ list_with (values files.old)
+        (position (same_name file.entry.name) (names_in (values files.old))) file }
     ensures named { files.new.entries ≡ by_name (values files.new) }
 {
     let name = file.entry().name;
@@ -47,7 +48,8 @@ impl Held {
     fn renew_with(&mut self, file: FileHeld, systems: SystemBlocks)
         requires room { 1 ≤ self.old.spare }
         requires kept { (edit : Edit) → edit.files ≡ list_with self.old.volume.files
-            (position (same_name file.entry.name) (names_in self.old.volume.files)) file → Keeps (renewed self.old.volume edit systems) }
+            (position (same_name file.entry.name) (names_in self.old.volume.files)) file
+            → Keeps (renewed self.old.volume edit systems) }
         ensures { (edit : Edit) → edit.files ≡ list_with self.old.volume.files
             (position (same_name file.entry.name) (names_in self.old.volume.files)) file
             → self.new.volume ≡ renewed self.old.volume edit systems }
@@ -69,11 +71,15 @@ impl Held {
     ) -> Result<(), Doubt>
         requires room { 1 ≤ self.old.spare }
         requires kept { (edit : Edit) → edit.files ≡ list_with self.old.volume.files
-            (position (same_name file.entry.name) (names_in self.old.volume.files)) file → Keeps (renewed self.old.volume edit systems) }
-        requires blocks { ForSome (W.told world.old) (λ j. HasBlocks j.units self.old.volume.unit systems.label.blocks
+            (position (same_name file.entry.name) (names_in self.old.volume.files)) file
+            → Keeps (renewed self.old.volume edit systems) }
+        requires blocks { ForSome (W.told world.old)
+            (λ j. HasBlocks j.units self.old.volume.unit systems.label.blocks
             (length systems.label_bytes)) }
-        requires writable { ForSome (W.told world.old) (λ j. IsWritable j.units self.old.volume.unit) }
-        ensures updates { UpdatesSystems (W.told world.old) (W.told world.new) self.old.volume.unit systems result }
+        requires writable { ForSome (W.told world.old)
+            (λ j. IsWritable j.units self.old.volume.unit) }
+        ensures updates { UpdatesSystems (W.told world.old)
+            (W.told world.new) self.old.volume.unit systems result }
         ensures volume { OnOk result ((edit : Edit) → edit.files ≡ list_with self.old.volume.files
             (position (same_name file.entry.name) (names_in self.old.volume.files)) file
             → self.new.volume ≡ renewed self.old.volume edit systems) }
@@ -101,22 +107,34 @@ pub fn commit<W: World>(world: &mut W, held: &mut Held, draft: Draft) -> Result<
     requires records { draft.writer.put ≡ draft.writer.shape.count }
     requires bytes { came draft.writer.writer ≡ draft.writer.writer.size }
     requires room { 1 ≤ held.old.spare }
-    requires blocks { ForSome (W.told world.old) (λ j. HasBlocks j.units held.old.volume.unit held.old.volume.disk.count
+    requires blocks { ForSome (W.told world.old)
+        (λ j. HasBlocks j.units held.old.volume.unit held.old.volume.disk.count
         held.old.volume.disk.bsize) }
     requires writable { ForSome (W.told world.old) (λ j. IsWritable j.units held.old.volume.unit) }
-    ensures events { (front : Front) (records : List (List ℕ)) → Drafts draft.writer front records []
-        → IsCommitted (W.told world.old) (W.told world.new) held.old.volume draft front records result }
-    ensures puts { (j : Journal) (m : Minidisk) (name : Name) (shape : DraftShape) (stamp : Stamp) (records : List (List ℕ))
-        → W.told world.old ≡ Some j → IsHeldMinidisk j held.old.volume m → IsDraftFor held.old.volume name shape stamp draft
-        → Drafts draft.writer no_front records [] → length_of shape.format shape.length records ≡ shape.length
+    ensures events { (front : Front) (records : List (List ℕ))
+        → Drafts draft.writer front records []
+        → IsCommitted (W.told world.old)
+        (W.told world.new) held.old.volume draft front records result }
+    ensures puts { (j : Journal) (m : Minidisk) (name : Name) (shape : DraftShape) (stamp : Stamp)
+        (records : List (List ℕ))
+        → W.told world.old ≡ Some j → IsHeldMinidisk j held.old.volume m
+        → IsDraftFor held.old.volume name shape stamp draft
+        → Drafts draft.writer no_front records []
+        → length_of shape.format shape.length records ≡ shape.length
         → DraftStands j draft.writer no_front records
-        → IsCommittedAt j (W.told world.new) held.old.volume held.new.volume m draft no_front records (Put (put_in draft records)) result }
-    ensures adds { (j : Journal) (m : Minidisk) (name : Name) (f : HeldFile) (shape : DraftShape) (stamp : Stamp) (front : Front)
+        → IsCommittedAt j
+        (W.told world.new) held.old.volume held.new.volume m draft no_front records
+        (Put (put_in draft records)) result }
+    ensures adds { (j : Journal) (m : Minidisk) (name : Name) (f : HeldFile) (shape : DraftShape)
+        (stamp : Stamp) (front : Front)
         (records : List (List ℕ)) → W.told world.old ≡ Some j → IsHeldMinidisk j held.old.volume m
-        → IsMoreFor held.old.volume name f shape stamp draft → IsFrontOf j held.old.volume f (tree_of draft) front
-        → Drafts draft.writer front records [] → length_with shape.format f.length records ≡ shape.length
+        → IsMoreFor held.old.volume name f shape stamp draft
+        → IsFrontOf j held.old.volume f (tree_of draft) front
+        → Drafts draft.writer front records []
+        → length_with shape.format f.length records ≡ shape.length
         → DraftStands j draft.writer front records
-        → IsCommittedAt j (W.told world.new) held.old.volume held.new.volume m draft front records (Add name records shape.stamp) result }
+        → IsCommittedAt j (W.told world.new) held.old.volume held.new.volume m draft front records
+        (Add name records shape.stamp) result }
     ensures volume { OnOk result (LeadsToFile held.old.volume draft held.new.volume) }
     ensures kept { OnErr result (held.new ≡ held.old) }
     ensures sound { IsDrafting draft.writer }

@@ -15,12 +15,14 @@ ghost use Rattle.cms_held.specs.Marks.{start_of};
 ghost use Rattle.cms_tree.specs.Walks.{IsWithin};
 ghost use Rattle.cms_held.specs.Opening.{IsFaultOf, by_name};
 ghost use Rattle.cms_held.specs.Kept.{IsKeptFile};
+ghost use Rattle.cms_held.specs.Written.{ReadsBack};
 ghost use Rattle.cms_edf.specs.OpeningSteps.{OfImage, met_in};
 ghost use Rattle.cms_edf.specs.EntryShapes.{EndsIn, HasSize};
 ghost use Rattle.cms_edf.specs.OpeningFiles.{records_in, HasRecords, HasContents, HaveCounts};
 ghost use Rattle.cms_fields.specs.Limits.{longest_record, most_bytes, most_files};
 ghost use Rattle.cms_world.specs.Seen.{OnlyReads, seen};
 
+use crate::directory_bytes::spell_entry;
 use crate::held::FileHeld;
 use crate::open::Place;
 use crate::trees::{block_of, tree_held};
@@ -46,8 +48,10 @@ pub struct RecordsTold {
 
 // Where the first record begins in the data block that the records fill in part, once all bytes came.
 fn start_in(scan: &VarScan, bsize: BlockSize, stored: u32) -> u32
-    ensures { (count : ℕ) (bytes : List ℕ) (records : List (List ℕ)) → scan.now.bsize ≡ bsize → IsFed count bytes scan.now
-        → varying scan.now.bsize count 0 bytes ≡ Ok records → stored ≡ filled_by records → result ≡ start_of bsize V records }
+    ensures { (count : ℕ) (bytes : List ℕ) (records : List (List ℕ)) → scan.now.bsize ≡ bsize
+        → IsFed count bytes scan.now
+        → varying scan.now.bsize count 0 bytes ≡ Ok records → stored ≡ filled_by records
+        → result ≡ start_of bsize V records }
 {
     if stored % bsize.bytes() == 0 {
         NOWHERE
@@ -59,8 +63,10 @@ fn start_in(scan: &VarScan, bsize: BlockSize, stored: u32) -> u32
 // Takes the next block of the file of a number.
 fn feed(scan: &mut VarScan, number: u32, block: &[u8]) -> Result<(), OpenFault>
     requires { scan.old.fed + length block.now ≤ most_bytes }
-    ensures fed { OnOk result ((count : ℕ) (bytes : List ℕ) → IsFed count bytes scan.old → IsFed count (bytes ++ block.now) scan.new) }
-    ensures fault { IfErr result (λ why. (count : ℕ) (bytes rest : List ℕ) → IsFed count bytes scan.old → blamed (failed.Var number)
+    ensures fed { OnOk result ((count : ℕ) (bytes : List ℕ) → IsFed count bytes scan.old
+        → IsFed count (bytes ++ block.now) scan.new) }
+    ensures fault { IfErr result (λ why. (count : ℕ) (bytes rest : List ℕ)
+        → IsFed count bytes scan.old → blamed (failed.Var number)
         (sizes_in scan.old.bsize count ((bytes ++ block.now) ++ rest)) ≡ Err why) }
     ensures device { IfErr result (λ e. e ≡ failed.Device → ⊥) }
     ensures bsize { scan.new.bsize ≡ scan.old.bsize }
@@ -74,7 +80,8 @@ fn feed(scan: &mut VarScan, number: u32, block: &[u8]) -> Result<(), OpenFault>
 
 // What is told of the records of the file of a number, once all its blocks were taken.
 fn end(scan: &VarScan, number: u32) -> Result<VarSizes, OpenFault>
-    ensures told { (count : ℕ) (bytes : List ℕ) → IsFed count bytes scan.now → result ≡ blamed (failed.Var number)
+    ensures told { (count : ℕ) (bytes : List ℕ) → IsFed count bytes scan.now
+        → result ≡ blamed (failed.Var number)
         (sizes_in scan.now.bsize count bytes) }
     ensures longest { IfOk result (λ sizes. sizes.longest ≤ longest_record) }
     ensures stored { IfOk result (λ sizes. sizes.stored ≤ most_bytes) }
@@ -102,18 +109,23 @@ fn read_varying<W: World>(
     requires small { length leaves.now * place.now.bsize ≤ most_bytes }
     requires blocks { ForSome (W.told world.old) (λ j. (k : ℕ) → k < length leaves.now
         → HasBlock j.units place.now.unit (slice_index leaves.now k) place.now.bsize) }
-    ensures read { IfOk result (λ told. OfImage (W.told world.old) place.now.unit (λ image. blamed (failed.Var number)
+    ensures read { IfOk result (λ told. OfImage (W.told world.old) place.now.unit
+        (λ image. blamed (failed.Var number)
         (sizes_in place.now.bsize count (bytes_at image leaves.now)) ≡ Ok told.sizes)) }
-    ensures start { IfOk result (λ told. OfImage (W.told world.old) place.now.unit (λ image. (records : List (List ℕ))
+    ensures start { IfOk result (λ told. OfImage (W.told world.old) place.now.unit
+        (λ image. (records : List (List ℕ))
         → varying place.now.bsize count 0 (bytes_at image leaves.now) ≡ Ok records
         → told.start ≡ start_of place.now.bsize V records)) }
-    ensures fault { IfErr result (λ why. OfImage (W.told world.old) place.now.unit (λ image. IsFaultOf (blamed (failed.Var number)
+    ensures fault { IfErr result (λ why. OfImage (W.told world.old) place.now.unit
+        (λ image. IsFaultOf (blamed (failed.Var number)
         (sizes_in place.now.bsize count (bytes_at image leaves.now))) why)) }
     ensures some { IfOk result (λ told. 1 ≤ told.sizes.longest) }
     ensures longest { IfOk result (λ told. told.sizes.longest ≤ longest_record) }
     ensures stored { IfOk result (λ told. told.sizes.stored ≤ most_bytes) }
-    ensures ends { 1 ≤ length leaves.now → IfOk result (λ told. EndsIn place.now.bsize (length leaves.now) told.sizes.stored) }
-    ensures reads { OnlyReads (seen W.World world.old) (seen W.World world.new) failed.Device result }
+    ensures ends { 1 ≤ length leaves.now
+        → IfOk result (λ told. EndsIn place.now.bsize (length leaves.now) told.sizes.stored) }
+    ensures reads { OnlyReads (seen W.World world.old)
+        (seen W.World world.new) failed.Device result }
 {
     let mut scan = VarScan::new(count, place.bsize);
     for nth in 0..leaves.len() {
@@ -147,10 +159,13 @@ fn read_sizes<W: World>(
         IsFaultOf (records_in place.now.bsize image number entry.now leaves.now) why)) }
     ensures some { IfOk result (λ told. 1 ≤ told.sizes.longest) }
     ensures longest { IfOk result (λ told. told.sizes.longest ≤ longest_record) }
-    ensures fixed { IfOk result (λ told. entry.now.format ≡ F → told.sizes.longest ≡ entry.now.length) }
+    ensures fixed { IfOk result (λ told. entry.now.format ≡ F
+        → told.sizes.longest ≡ entry.now.length) }
     ensures stored { IfOk result (λ told. told.sizes.stored ≤ most_bytes) }
-    ensures ends { IfOk result (λ told. EndsIn place.now.bsize (length leaves.now) told.sizes.stored) }
-    ensures reads { OnlyReads (seen W.World world.old) (seen W.World world.new) failed.Device result }
+    ensures ends { IfOk result (λ told.
+        EndsIn place.now.bsize (length leaves.now) told.sizes.stored) }
+    ensures reads { OnlyReads (seen W.World world.old)
+        (seen W.World world.new) failed.Device result }
 {
     match entry.format {
         Format::F => Ok(RecordsTold {
@@ -164,16 +179,23 @@ fn read_sizes<W: World>(
     }
 }
 
-// A file with its tree, and with what is told of its records.
+// A file with its tree, and with what is told of its records: its entry tells their length, at V of the longest, whatever was found there. What
+// is written for that entry is read back as it.
 fn file_of(entry: Entry, tree: Walked, told: &RecordsTold) -> FileHeld
-    ensures { result ≡ record {
-      entry = entry;
+    ensures is { result ≡ record {
+      entry = record entry { length = told.now.sizes.longest };
       tree = record { leaves = tree.leaves.items; pointers = tree.pointers.items };
       length = told.now.sizes.longest;
       size = told.now.sizes.stored;
       start = told.now.start;
     } }
+    ensures spelled { ReadsBack result.entry }
 {
+    let entry = Entry {
+        length: told.sizes.longest,
+        ..entry
+    };
+    spell_entry(&entry);
     FileHeld {
         entry,
         tree: tree_held(tree),
@@ -186,7 +208,8 @@ fn file_of(entry: Entry, tree: Walked, told: &RecordsTold) -> FileHeld
 // Adds a file behind the others, none of which has its name.
 fn insert(files: &mut IndexMap<Name, FileHeld>, file: FileHeld) -> Result<(), OpenFault>
     requires new { is_named file.entry.name (keys files.old) ≡ false }
-    ensures ok { OnOk result (files.new.entries ≡ files.old.entries ++ ((file.entry.name, file) ∷ [])) }
+    ensures ok { OnOk result (files.new.entries
+        ≡ files.old.entries ++ ((file.entry.name, file) ∷ [])) }
     ensures fault { IfErr result (λ e. e ≡ failed.Memory) }
 {
     let name = file.entry().name;
@@ -211,16 +234,20 @@ pub fn read_contents<W: World>(
     requires sizes { All (HasSize place.now.bsize) entries.now }
     requires counts { HaveCounts place.now.bsize entries.now trees.items }
     requires within { All (IsWithin place.now.total None) trees.items }
-    requires blocks { ForSome (W.told world.old) (λ j. HasBlocks j.units place.now.unit place.now.total place.now.bsize) }
+    requires blocks { ForSome (W.told world.old)
+        (λ j. HasBlocks j.units place.now.unit place.now.total place.now.bsize) }
     ensures read { IfOk result (λ files. OfImage (W.told world.old) place.now.unit (λ image.
         HasContents place.now.bsize image entries.now trees.items (values files))) }
     ensures names { IfOk result (λ files. files.entries ≡ by_name (values files)) }
     ensures few { IfOk result (λ files. length (values files) ≤ most_files) }
     ensures total { IfOk result (λ files. length (values files) ≡ length entries.now) }
-    ensures each { IfOk result (λ files. All (IsKeptFile place.now.bsize place.now.total) (values files)) }
-    ensures fault { IfErr result (λ why. OfImage (W.told world.old) place.now.unit (λ image. IsFaultOf
+    ensures each { IfOk result (λ files.
+        All (IsKeptFile place.now.bsize place.now.total) (values files)) }
+    ensures fault { IfErr result (λ why. OfImage (W.told world.old) place.now.unit
+        (λ image. IsFaultOf
         (contents_in place.now.bsize image 2 entries.now (map met_in trees.items)) why)) }
-    ensures reads { OnlyReads (seen W.World world.old) (seen W.World world.new) failed.Device result }
+    ensures reads { OnlyReads (seen W.World world.old)
+        (seen W.World world.new) failed.Device result }
 {
     let mut files = IndexMap::new(alloc);
     for tree in trees {

@@ -100,7 +100,8 @@ pub fn system_fields(
     requires map_few { length map.now.leaves < 2 ^ 32 }
     ensures directory { result.directory
         ≡ system_entry directory_name 64 (file_at bsize directory.now (files + 2)) stamp.now }
-    ensures map { result.map ≡ system_entry map_name bsize (file_at bsize map.now (length map.now.leaves)) stamp.now }
+    ensures map { result.map ≡ system_entry map_name bsize
+        (file_at bsize map.now (length map.now.leaves)) stamp.now }
 {
     let own = file_at(bsize, directory, files + 2);
     let maps = file_at(bsize, map, map.leaves().len() as u32);
@@ -114,7 +115,8 @@ pub fn system_fields(
 
 /// Appends the bytes with which a directory begins: its own entry and the map's.
 pub fn append_systems(fields: &SystemFields, into: &mut Vec<u8>) -> Result<(), AllocError>
-    ensures bytes { OnOk result (into.new.items ≡ into.old.items ++ (fields.now.directory ++ fields.now.map)) }
+    ensures bytes { OnOk result (into.new.items
+        ≡ into.old.items ++ (fields.now.directory ++ fields.now.map)) }
     ensures size { OnOk result (length into.new.items ≡ length into.old.items + 128) }
 {
     into.extend_from_slice(&fields.directory)?;
@@ -144,7 +146,8 @@ pub fn file_field(entry: &Entry) -> [u8; 64]
 /// Appends zeros up to so many bytes.
 pub fn fill(bytes: &mut Vec<u8>, whole: usize) -> Result<(), AllocError>
     requires { length bytes.old.items ≤ whole }
-    ensures { OnOk result (bytes.new.items ≡ bytes.old.items ++ replicate (whole - length bytes.old.items) 0) }
+    ensures { OnOk result (bytes.new.items
+        ≡ bytes.old.items ++ replicate (whole - length bytes.old.items) 0) }
 {
     bytes.resize(whole, 0)
 }

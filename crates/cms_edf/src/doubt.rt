@@ -24,11 +24,14 @@ pub enum Doubt {
 
 /// Writes the block of a label, and syncs. Its only refusal is `Either`: the block may have been written, and nothing was synced.
 pub fn write_label_block<W: World>(world: &mut W, unit: u8, bytes: &[u8]) -> Result<(), Doubt>
-    requires blocks { ForSome (W.told world.old) (λ j. HasBlocks j.units unit 3 (length bytes.now)) }
+    requires blocks { ForSome (W.told world.old)
+        (λ j. HasBlocks j.units unit 3 (length bytes.now)) }
     requires writable { ForSome (W.told world.old) (λ j. IsWritable j.units unit) }
-    ensures done { OnOk result (W.told world.new ≡ plus (W.told world.old) (relabel unit bytes.now)) }
+    ensures done { OnOk result (W.told world.new
+        ≡ plus (W.told world.old) (relabel unit bytes.now)) }
     ensures either { IfErr result (λ why. why ≡ Either) }
-    ensures cut_off { OnErr result (MayAdd (Wrote unit 3 bytes.now) (W.told world.old) (W.told world.new)) }
+    ensures cut_off { OnErr result (MayAdd (Wrote unit 3 bytes.now) (W.told world.old)
+        (W.told world.new)) }
     ensures counts { OnUnits (seen W.World world.old) (seen W.World world.new) result }
 {
     match world.write_block(unit, LABEL, bytes) {

@@ -19,7 +19,7 @@ ghost use Rattle.cms_model.specs.Records.{Fits, stored};
 ghost use Rattle.cms_held.specs.Carrying.{IsHeldMinidisk};
 ghost use Rattle.cms_held.specs.Drafts.{Front};
 ghost use Rattle.cms_draft.specs.BlockWriting.{AddsOwnBlocks, CanWrite as CanWriteBlocks, IsSame, came};
-ghost use Rattle.cms_draft.specs.Drafting.{Drafts, IsFresh, Puts};
+ghost use Rattle.cms_draft.specs.Drafting.{Drafts, IsDrafting, IsFresh, Puts};
 ghost use Rattle.cms_model.specs.Minidisks.{same_name};
 ghost use Rattle.cms_held.specs.Opening.{HeldFile, HeldVolume, names_in};
 ghost use Rattle.cms_edf.specs.Allotting.{IsAllottedFor, given_back, numbers_made};
@@ -112,7 +112,8 @@ fn exchange_of<'a>(held: &'a Held, place: Option<u32>, blocks: u32, made: &'a [u
     ensures files { result.files ≡ count_with place (length held.now.volume.files) }
     ensures made { numbers_made result ≡ made.now }
     ensures file { result.file ≡ blocks }
-    ensures given { (given : List ℕ) → GivenAt held.now.volume.files place given → given_back result ≡ given }
+    ensures given { (given : List ℕ) → GivenAt held.now.volume.files place given
+        → given_back result ≡ given }
 {
     match place {
         Some(place) => {
@@ -185,7 +186,8 @@ pub(crate) fn plan_entry(
     requires made { numbers_made exchange.now ≡ made_with place (length held.now.volume.files) }
     requires allotted { IsAllottedFor held.now.volume exchange.now allotment }
     requires map_few { length allotment.map_tree.leaves < 2 ^ 32 }
-    ensures { IfOk result (IsFilled held.now.volume (list_with (entries_held held.now.volume.files) place entry.now)
+    ensures { IfOk result (IsFilled held.now.volume
+        (list_with (entries_held held.now.volume.files) place entry.now)
         allotment stamp.now) }
 {
     let entries = NewEntries::with(held, place, entry);
@@ -204,9 +206,11 @@ fn plan_file(
     requires stamp { is_stamp stamp.now ≡ true }
     requires asked { CanDraft asked.now }
     requires place { place ≡ position (same_name name.now) (names_in held.now.volume.files) }
-    requires unlimited { limit_put (count_put held.now.volume name.now) asked.now.count asked.now.bytes ≡ None }
+    requires unlimited { limit_put (count_put held.now.volume name.now) asked.now.count
+        asked.now.bytes ≡ None }
     ensures planned { IfOk result (IsDraftFor held.now.volume name.now asked.now stamp.now) }
-    ensures fresh { IfOk result (λ d. IsFresh held.now.volume.unit held.now.volume.disk.bsize asked.now (tree_of d) d.writer) }
+    ensures fresh { IfOk result (λ d.
+        IsFresh held.now.volume.unit held.now.volume.disk.bsize asked.now (tree_of d) d.writer) }
     ensures full { IfErr result (LacksRoom held.now.volume
         (need_put held.now.volume name.now asked.now.format asked.now.bytes)) }
 {
@@ -249,9 +253,11 @@ pub fn plan_draft(
     requires asked { CanDraft asked.now }
     ensures planned { IfOk result (IsDraftFor held.old.volume name.now asked.now stamp.now) }
     ensures some { IfOk result (IsSomeDraft held.new.volume) }
-    ensures fresh { IfOk result (λ d. IsFresh held.old.volume.unit held.old.volume.disk.bsize asked.now (tree_of d) d.writer) }
+    ensures fresh { IfOk result (λ d.
+        IsFresh held.old.volume.unit held.old.volume.disk.bsize asked.now (tree_of d) d.writer) }
     ensures refused { IfErr result (IsRefused held.old.volume name.now asked.now) }
-    ensures limited { (which : ℕ) → limit_put (count_put held.old.volume name.now) asked.now.count asked.now.bytes ≡ Some which
+    ensures limited { (which : ℕ) → limit_put
+        (count_put held.old.volume name.now) asked.now.count asked.now.bytes ≡ Some which
         → result ≡ Err (Limit which) }
     ensures kept { Keeps held.old.volume }
     ensures volume { held.new.volume ≡ held.old.volume }
@@ -301,31 +307,48 @@ impl Draft {
     pub fn put<W: World>(&mut self, world: &mut W, text: &[u8]) -> Result<(), Failed>
         requires fewer { self.old.writer.put < self.old.writer.shape.count }
         requires fits { Fits self.old.writer.shape.format self.old.writer.shape.length text.now }
-        requires room { came self.old.writer.writer + length (stored self.old.writer.shape.format (text.now ∷ []))
+        requires room { came self.old.writer.writer + length
+            (stored self.old.writer.shape.format (text.now ∷ []))
             ≤ self.old.writer.writer.size }
-        requires ready { ForSome (W.told world.old) (λ j. CanWriteBlocks j.units self.old.writer.writer) }
-        ensures puts { (front : Front) (records more : List (List ℕ)) → Drafts self.old.writer front records (text.now ∷ more)
-            → Puts (W.told world.old) (W.told world.new) self.old.writer self.new.writer front records text.now more result }
+        requires ready { ForSome (W.told world.old)
+            (λ j. CanWriteBlocks j.units self.old.writer.writer) }
+        ensures puts { (front : Front) (records more : List (List ℕ))
+            → Drafts self.old.writer front records (text.now ∷ more)
+            → Puts (W.told world.old)
+            (W.told world.new) self.old.writer self.new.writer front records text.now more result }
         ensures own { AddsOwnBlocks (W.told world.old) (W.told world.new) self.old.writer.writer }
-        ensures aside { (j : Journal) (v : HeldVolume) (m : Minidisk) → W.told world.old ≡ Some j → IsHeldMinidisk j v m
+        ensures aside { (j : Journal) (v : HeldVolume) (m : Minidisk) → W.told world.old ≡ Some j
+            → IsHeldMinidisk j v m
             → IsSomeDraft v self.old → StaysHeld j (W.told world.new) v m }
-        ensures stands { (j : Journal) (v : HeldVolume) (m : Minidisk) (front : Front) (records more : List (List ℕ))
+        ensures stands { (j : Journal) (v : HeldVolume) (m : Minidisk) (front : Front)
+            (records more : List (List ℕ))
             → W.told world.old ≡ Some j
-            → IsHeldMinidisk j v m → IsSomeDraft v self.old → Drafts self.old.writer front records (text.now ∷ more)
+            → IsHeldMinidisk j v m → IsSomeDraft v self.old
+            → Drafts self.old.writer front records (text.now ∷ more)
             → DraftStands j self.old.writer front (records ++ (text.now ∷ more))
-            → StandsThen (W.told world.new) self.old.writer self.new.writer front (records ++ (text.now ∷ more)) result }
-        ensures front { (j : Journal) (v : HeldVolume) (m : Minidisk) (name : names.Name) (f : HeldFile) (shape : shapes.DraftShape)
-            (stamp : stamps.Stamp) (front : Front) → W.told world.old ≡ Some j → IsHeldMinidisk j v m
+            → StandsThen (W.told world.new) self.old.writer self.new.writer front
+            (records ++ (text.now ∷ more)) result }
+        ensures front { (j : Journal) (v : HeldVolume) (m : Minidisk) (name : names.Name)
+            (f : HeldFile) (shape : shapes.DraftShape)
+            (stamp : stamps.Stamp) (front : Front) → W.told world.old ≡ Some j
+            → IsHeldMinidisk j v m
             → IsMoreFor v name f shape stamp self.old → IsFrontOf j v f (tree_of self.old) front
             → ForSome (W.told world.new) (λ k. IsFrontOf k v f (tree_of self.old) front) }
         ensures all { OnOk result (came self.new.writer.writer
-            ≡ came self.old.writer.writer + length (stored self.old.writer.shape.format (text.now ∷ []))) }
+            ≡ came self.old.writer.writer + length
+            (stored self.old.writer.shape.format (text.now ∷ []))) }
         ensures same { IsSame self.old.writer.writer self.new.writer.writer }
         ensures draft { self.new ≡ record self.old {
-          writer = record self.old.writer { put = self.old.writer.put + 1; writer = self.new.writer.writer };
+          writer = record self.old.writer {
+            put = self.old.writer.put + 1;
+            writer = self.new.writer.writer;
+          };
         } }
         ensures planned { (v : HeldVolume) → IsSomeDraft v self.old → IsSomeDraft v self.new }
-        ensures still { ForSome (W.told world.new) (λ j. CanWriteBlocks j.units self.new.writer.writer) }
+        ensures kept { IsDrafting self.old.writer }
+        ensures is { IsDrafting self.new.writer }
+        ensures still { ForSome (W.told world.new)
+            (λ j. CanWriteBlocks j.units self.new.writer.writer) }
         ensures counts { OnUnits (seen W.World world.old) (seen W.World world.new) result }
     {
         self.writer.put(world, text)

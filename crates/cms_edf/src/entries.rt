@@ -3,7 +3,7 @@ ghost use Rattle.std.specs.Prelude.{◌≡◌, ◌⊎◌, ◌≤◌, ◌<◌, �
 ghost use Rattle.cms_fields.specs.Labels.{label_of};
 ghost use Rattle.cms_fields.specs.Entries.{entry_of};
 ghost use Rattle.cms_model.specs.Lists.{cut};
-ghost use Rattle.cms_model.specs.Volumes.{blamed, entries_of, first_twice};
+ghost use Rattle.cms_model.specs.Volumes.{as_read, blamed, entries_of, first_twice};
 ghost use Rattle.cms_model.specs.declared.fault.OpenFault.TheVariants as failed;
 ghost use Rattle.cms_held.specs.Opening.{IsFaultOf};
 ghost use Rattle.cms_fields.specs.Limits.{most_files};
@@ -12,7 +12,7 @@ use crate::blocks::push;
 use cms_fields::{Entry, Label, read_entry, read_label};
 use cms_journal::BlockSize;
 use cms_model::OpenFault;
-use cms_names::Name;
+use cms_names::{Format, Name};
 use cms_text::bytes::after;
 use std::alloc::{AllocError, Global};
 use std::collections::HashSet;
@@ -43,7 +43,17 @@ fn entry_at(bsize: BlockSize, number: u32, bytes: &[u8]) -> Result<Entry, OpenFa
     }
 }
 
-/// So many entries, the first of them with number 2.
+// An entry as it is read: at V the length of records that it tells is passed over.
+fn as_read(entry: Entry) -> Entry
+    ensures { result ≡ as_read entry }
+{
+    match entry.format {
+        Format::F => entry,
+        Format::V => Entry { length: 0, ..entry },
+    }
+}
+
+/// So many entries as they are read, the first of them with number 2.
 pub fn entries_of(
     alloc: Global,
     bsize: BlockSize,
@@ -60,7 +70,7 @@ pub fn entries_of(
     let mut entries = Vec::new(alloc);
     for place in 0..count {
         let entry = entry_at(bsize, place + 2, after(bytes, place as usize * 64))?;
-        push(&mut entries, entry)?;
+        push(&mut entries, as_read(entry))?;
     }
     Ok(entries)
 }

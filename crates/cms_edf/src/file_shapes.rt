@@ -8,7 +8,8 @@ use cms_names::Format;
 
 // Whether so many records of a format and length can have so many stored bytes.
 fn is_sized(shape: &DraftShape) -> bool
-    ensures { IsTrue result ↔ IsSized shape.now.format shape.now.length shape.now.count shape.now.bytes }
+    ensures { IsTrue result ↔ IsSized shape.now.format shape.now.length shape.now.count
+        shape.now.bytes }
 {
     let count = u64::from(shape.count);
     match shape.format {

@@ -61,8 +61,10 @@ fn read_file<W: World>(
     entry: &Entry,
 ) -> Result<Walked, OpenFault>
     requires shape { HasShape place.now.bsize entry.now }
-    requires blocks { ForSome (W.told world.old) (λ j. HasBlocks j.units place.now.unit place.now.total place.now.bsize) }
-    ensures read { OfImage (W.told world.old) place.now.unit (λ image. ReadsFile place.now image holder entry.now result) }
+    requires blocks { ForSome (W.told world.old)
+        (λ j. HasBlocks j.units place.now.unit place.now.total place.now.bsize) }
+    ensures read { OfImage (W.told world.old) place.now.unit
+        (λ image. ReadsFile place.now image holder entry.now result) }
     ensures count { IfOk result (λ walked. length walked.leaves.items ≡ entry.now.blocks) }
     ensures pointers { IfOk result (λ walked. length walked.pointers.items
         ≡ pointer_count (fan_of place.now.bsize entry.now.format) entry.now.blocks) }
@@ -83,11 +85,13 @@ pub fn read_files<W: World>(
     requires few { length entries.now ≤ most_files }
     requires room { (length entries.now + 2) * 64 ≤ length leaves.now * place.now.bsize }
     requires shapes { All (HasShape place.now.bsize) entries.now }
-    requires blocks { ForSome (W.told world.old) (λ j. HasBlocks j.units place.now.unit place.now.total place.now.bsize) }
+    requires blocks { ForSome (W.told world.old)
+        (λ j. HasBlocks j.units place.now.unit place.now.total place.now.bsize) }
     ensures read { IfOk result (λ v. OfImage (W.told world.old) place.now.unit (λ image.
         HasFiles place.now image leaves.now entries.now v.items)) }
     ensures fault { IfErr result (λ why. OfImage (W.told world.old) place.now.unit (λ image.
-        IsFaultOf (file_trees place.now.bsize place.now.total image leaves.now 2 entries.now) why)) }
+        IsFaultOf (file_trees place.now.bsize place.now.total image leaves.now 2 entries.now)
+        why)) }
     ensures count { IfOk result (λ v. length v.items ≡ length entries.now) }
     ensures counts { IfOk result (λ v. HaveCounts place.now.bsize entries.now v.items) }
     ensures within { IfOk result (λ v. All (IsWithin place.now.total None) v.items) }
@@ -109,7 +113,8 @@ pub fn all_blocks(
     map_tree: &Walked,
     files: &[Walked],
 ) -> Result<Vec<u32>, OpenFault>
-    ensures ok { IfOk result (λ v. v.items ≡ tree_blocks (met_in directory.now) (met_in map_tree.now) (map met_in files.now)) }
+    ensures ok { IfOk result (λ v. v.items
+        ≡ tree_blocks (met_in directory.now) (met_in map_tree.now) (map met_in files.now)) }
     ensures fault { IfErr result (λ e. e ≡ Memory) }
 {
     let mut blocks = Vec::new(alloc);

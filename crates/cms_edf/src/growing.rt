@@ -126,7 +126,8 @@ impl Growth {
         requires wide { 2 ≤ self.now.fan }
         requires less { self.now.kept < self.now.count }
         ensures leaves { IfOk result (λ p. p.leaves ≡ places_behind self.now.kept self.now.count) }
-        ensures nodes { IfOk result (λ p. p.nodes ≡ fresh_places self.now.fan self.now.before self.now.count p.leaves) }
+        ensures nodes { IfOk result (λ p. p.nodes
+            ≡ fresh_places self.now.fan self.now.before self.now.count p.leaves) }
     {
         let written = (self.kept..self.count).collect(alloc)?;
         WrittenPlaces::of_shared(alloc, self.before, self.count, self.fan, written)
@@ -153,9 +154,11 @@ fn plan_growth(
 ) -> Result<GrownPlan, PlanFault>
     requires stamp { is_stamp stamp.now ≡ true }
     requires grows { CanGrow held.now.volume name.now place asked.now }
-    requires unlimited { limit_put (length held.now.volume.files) asked.now.count asked.now.bytes ≡ None }
+    requires unlimited { limit_put (length held.now.volume.files) asked.now.count asked.now.bytes
+        ≡ None }
     ensures planned { IfOk result (IsGrownPlan held.now.volume name.now place asked.now stamp.now) }
-    ensures full { IfErr result (λ e. (f : HeldFile) → slice_get held.now.volume.files place ≡ Some f
+    ensures full { IfErr result (λ e. (f : HeldFile)
+        → slice_get held.now.volume.files place ≡ Some f
         → IsMoreRefused held.now.volume place f asked.now (more_fault e)) }
 {
     let file = &held.files[place as usize];
@@ -216,14 +219,18 @@ fn read_rest<W: World>(
     requires kept { kept ≡ file.now.size / held.now.volume.disk.bsize }
     requires room { file.now.size ≤ length file.now.tree.leaves * held.now.volume.disk.bsize }
     requires blocks { ForSome (W.told world.old) (λ j. (k : ℕ) → k < length file.now.tree.leaves
-        → HasBlock j.units held.now.volume.unit (slice_index file.now.tree.leaves k) held.now.volume.disk.bsize) }
-    ensures bytes { IfOk result (λ v. ForSome (W.told world.old) (λ j. 1 ≤ file.now.size % held.now.volume.disk.bsize
-        → v.items ≡ filled held.now.volume.disk.bsize (take (file.now.size % held.now.volume.disk.bsize)
+        → HasBlock j.units held.now.volume.unit
+        (slice_index file.now.tree.leaves k) held.now.volume.disk.bsize) }
+    ensures bytes { IfOk result (λ v. ForSome (W.told world.old)
+        (λ j. 1 ≤ file.now.size % held.now.volume.disk.bsize
+        → v.items ≡ filled held.now.volume.disk.bsize
+        (take (file.now.size % held.now.volume.disk.bsize)
         (image_of (contents_of j held.now.volume.unit) (slice_index file.now.tree.leaves kept))))) }
     ensures zeros { IfOk result (λ v. file.now.size % held.now.volume.disk.bsize ≡ 0
         → v.items ≡ filled held.now.volume.disk.bsize []) }
     ensures long { IfOk result (λ v. length v.items ≡ held.now.volume.disk.bsize) }
-    ensures reads { OnlyReads (seen W.World world.old) (seen W.World world.new) unread.Device result }
+    ensures reads { OnlyReads (seen W.World world.old)
+        (seen W.World world.new) unread.Device result }
 {
     let bsize = held.bsize.bytes();
     let filled = (file.size % bsize) as usize;
@@ -248,10 +255,13 @@ fn begin<W: World>(
 ) -> Result<Begun, MoreFault>
     requires place { place < length held.now.volume.files }
     requires grown { (f : HeldFile) → slice_get held.now.volume.files place ≡ Some f
-        → (asked : DraftShape) × GrowsAs f asked × IsGrowthOf held.now.volume.disk.bsize f asked growth.now }
-    requires blocks { ForSome (W.told world.old) (λ j. HasBlocks j.units held.now.volume.unit held.now.volume.disk.count
+        → (asked : DraftShape) × GrowsAs f asked
+        × IsGrowthOf held.now.volume.disk.bsize f asked growth.now }
+    requires blocks { ForSome (W.told world.old)
+        (λ j. HasBlocks j.units held.now.volume.unit held.now.volume.disk.count
         held.now.volume.disk.bsize) }
-    ensures begun { IfOk result (λ b. (f : HeldFile) → slice_get held.now.volume.files place ≡ Some f
+    ensures begun { IfOk result (λ b. (f : HeldFile)
+        → slice_get held.now.volume.files place ≡ Some f
         → IsBegunOf (W.told world.old) held.now.volume f growth.now b) }
     ensures fault { IfErr result IsReadFault }
     ensures reads { OnlyReads (seen W.World world.old) (seen W.World world.new) Device result }
@@ -299,21 +309,26 @@ pub fn plan_more<W: World>(
     stamp: &Stamp,
 ) -> Result<Draft, MoreFault>
     requires stamp { is_stamp stamp.now ≡ true }
-    requires grows { (place : ℕ) → position (same_name name.now) (names_in held.old.volume.files) ≡ Some place
+    requires grows { (place : ℕ) → position (same_name name.now) (names_in held.old.volume.files)
+        ≡ Some place
         → CanGrow held.old.volume name.now place asked.now }
     requires there { IsSome (position (same_name name.now) (names_in held.old.volume.files)) }
-    requires blocks { ForSome (W.told world.old) (λ j. HasBlocks j.units held.old.volume.unit held.old.volume.disk.count
+    requires blocks { ForSome (W.told world.old)
+        (λ j. HasBlocks j.units held.old.volume.unit held.old.volume.disk.count
         held.old.volume.disk.bsize) }
     ensures planned { IfOk result (λ d. (f : HeldFile) → IsFileOf held.old.volume name.now f
         → IsMoreFor held.old.volume name.now f asked.now stamp.now d) }
     ensures some { IfOk result (IsSomeDraft held.new.volume) }
-    ensures behind { IfOk result (λ d. (f : HeldFile) → IsFileOf held.old.volume name.now f → IsBehind f asked.now d) }
-    ensures drafts { IfOk result (λ d. ForSome (W.told world.old) (λ j. (f : HeldFile) (front : Front) (records : List (List ℕ))
+    ensures behind { IfOk result (λ d. (f : HeldFile) → IsFileOf held.old.volume name.now f
+        → IsBehind f asked.now d) }
+    ensures drafts { IfOk result (λ d. ForSome (W.told world.old)
+        (λ j. (f : HeldFile) (front : Front) (records : List (List ℕ))
         → IsFileOf held.old.volume name.now f → IsFrontOf j held.old.volume f (tree_of d) front
         → HaveShapeOn asked.now front records → Drafts d.writer front [] records)) }
     ensures refused { IfErr result (λ e. (f : HeldFile) → (at : IsFileOf held.old.volume name.now f)
         → IsMoreRefused held.old.volume at.place f asked.now e) }
-    ensures limited { (which : ℕ) → limit_put (length held.old.volume.files) asked.now.count asked.now.bytes ≡ Some which
+    ensures limited { (which : ℕ) → limit_put
+        (length held.old.volume.files) asked.now.count asked.now.bytes ≡ Some which
         → result ≡ Err (Limit which) }
     ensures kept { Keeps held.old.volume }
     ensures volume { held.new.volume ≡ held.old.volume }

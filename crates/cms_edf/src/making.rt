@@ -89,8 +89,10 @@ fn blank_map(alloc: Global, total: u32) -> Result<Map, AllocError>
 fn first_map(alloc: Global, bsize: BlockSize, total: u32) -> Result<FirstMap, AllocError>
     requires { 8 ≤ total }
     ensures count { IfOk result (λ m. length m.tree.leaves ≡ up (up total 8) bsize) }
-    ensures nodes { IfOk result (λ m. length m.tree.pointers ≡ pointer_count (bsize / 4) (length m.tree.leaves)) }
-    ensures from { IfOk result (λ m. m.tree.leaves ++ m.tree.pointers ≡ range_with_len 6 (map_size bsize total)) }
+    ensures nodes { IfOk result (λ m. length m.tree.pointers
+        ≡ pointer_count (bsize / 4) (length m.tree.leaves)) }
+    ensures from { IfOk result (λ m. m.tree.leaves ++ m.tree.pointers
+        ≡ range_with_len 6 (map_size bsize total)) }
     ensures bits { IfOk result (λ m. m.map ≡ first_bits (5 + map_size bsize total) total) }
     ensures used { IfOk result (λ m. m.used ≡ 5 + map_size bsize total) }
 {
@@ -206,8 +208,10 @@ pub fn wipe<W: World>(world: &mut W, unit: u8, bsize: BlockSize) -> Result<(), D
     requires writable { ForSome (W.told world.old) (λ j. IsWritable j.units unit) }
     ensures done { OnOk result (W.told world.new ≡ plus (W.told world.old) (wipe unit bsize)) }
     ensures either { IfErr result (λ why. why ≡ Either) }
-    ensures cut_off { OnErr result (MayAdd (Wrote unit 3 (replicate bsize 0)) (W.told world.old) (W.told world.new)) }
-    ensures moments { (j : Journal) (disk : Disk) (before : State) → W.told world.old ≡ Some j → IsFirm disk j unit before
+    ensures cut_off { OnErr result (MayAdd (Wrote unit 3 (replicate bsize 0)) (W.told world.old)
+        (W.told world.new)) }
+    ensures moments { (j : Journal) (disk : Disk) (before : State) → W.told world.old ≡ Some j
+        → IsFirm disk j unit before
         → Wipes disk j unit bsize before }
     ensures counts { OnUnits (seen W.World world.old) (seen W.World world.new) result }
 {
@@ -221,13 +225,16 @@ pub fn wipe<W: World>(world: &mut W, unit: u8, bsize: BlockSize) -> Result<(), D
 /// one sync, and perhaps the label was written. Where the unit is wiped, a crash leaves none or the empty volume at every moment, and after
 /// Ok the empty volume, held as it is answered.
 pub fn make<W: World>(world: &mut W, plan: MakePlan) -> Result<Held, Doubt>
-    requires blocks { ForSome (W.told world.old) (λ j. HasBlocks j.units plan.unit plan.disk.count plan.disk.bsize) }
+    requires blocks { ForSome (W.told world.old)
+        (λ j. HasBlocks j.units plan.unit plan.disk.count plan.disk.bsize) }
     requires writable { ForSome (W.told world.old) (λ j. IsWritable j.units plan.unit) }
     ensures done { OnOk result (W.told world.new ≡ plus (W.told world.old)
         (update plan.unit (made_writes plan) plan.systems.label_bytes)) }
     ensures held { IfOk result (λ h. h.volume ≡ made_volume plan) }
-    ensures cut_off { IfErr result (IsCutOff (W.told world.old) (W.told world.new) plan.unit (made_writes plan) plan.systems.label_bytes) }
-    ensures moments { (j : Journal) (volid : List ℕ) (stamp : times.Stamp) → W.told world.old ≡ Some j → IsEmptyVolume plan volid stamp
+    ensures cut_off { IfErr result (IsCutOff (W.told world.old) (W.told world.new) plan.unit
+        (made_writes plan) plan.systems.label_bytes) }
+    ensures moments { (j : Journal) (volid : List ℕ) (stamp : times.Stamp)
+        → W.told world.old ≡ Some j → IsEmptyVolume plan volid stamp
         → IsReadyUnit j plan → MakesEmpty j plan (made_minidisk plan volid) }
     ensures counts { OnUnits (seen W.World world.old) (seen W.World world.new) result }
 {
@@ -252,9 +259,16 @@ fn held(
     systems: SystemBlocks,
     files: IndexMap<Name, FileHeld>,
 ) -> Held
-    requires kept { IsKept bsize blocks systems.label (length systems.label_bytes) systems.directory systems.map systems.bits [] }
+    requires kept { IsKept bsize blocks systems.label
+        (length systems.label_bytes) systems.directory systems.map systems.bits [] }
     requires empty { files.entries ≡ [] }
-    ensures { result.volume ≡ made_volume (record { unit = unit; disk = record { bsize = bsize; count = blocks }; systems = systems }) }
+    ensures { result.volume
+        ≡ made_volume
+        (record {
+          unit = unit;
+          disk = record { bsize = bsize; count = blocks };
+          systems = systems;
+        }) }
 {
     let SystemBlocks {
         bsize: _,

@@ -17,7 +17,8 @@ use std::alloc::Global;
 pub fn lost_of(alloc: Global, total: u32, map: &Map, blocks: &[u32]) -> Result<u32, OpenFault>
     requires total { length map.now ≡ total }
     requires within { AreBlocks total blocks.now }
-    ensures ok { IfOk result (λ lost. (bytes : List ℕ) → map.now ≡ bits_in total bytes → lost_in bytes total blocks.now ≡ Ok lost) }
+    ensures ok { IfOk result (λ lost. (bytes : List ℕ) → map.now ≡ bits_in total bytes
+        → lost_in bytes total blocks.now ≡ Ok lost) }
     ensures fault { IfErr result (λ why. (bytes : List ℕ) → map.now ≡ bits_in total bytes
         → IsFaultOf (lost_in bytes total blocks.now) why) }
     ensures device { IfErr result (λ why. why ≡ Device → ⊥) }
@@ -35,7 +36,8 @@ fn lost_among(seen: &mut [bool], total: u32, map: &Map, blocks: &[u32]) -> Resul
     requires size { length seen.old ≡ total }
     requires clear { AreClear seen.old }
     requires within { AreBlocks total blocks.now }
-    ensures ok { IfOk result (λ lost. (bytes : List ℕ) → map.now ≡ bits_in total bytes → lost_in bytes total blocks.now ≡ Ok lost) }
+    ensures ok { IfOk result (λ lost. (bytes : List ℕ) → map.now ≡ bits_in total bytes
+        → lost_in bytes total blocks.now ≡ Ok lost) }
     ensures fault { IfErr result (λ why. (bytes : List ℕ) → map.now ≡ bits_in total bytes
         → IsFaultOf (lost_in bytes total blocks.now) why) }
     ensures device { IfErr result (λ why. why ≡ Device → ⊥) }
@@ -73,7 +75,8 @@ fn is_missing(seen: &[bool], map: &Map, block: u32) -> bool
     requires same { length seen.now ≡ length map.now }
     requires first { 1 ≤ block }
     requires last { block ≤ length map.now }
-    ensures { result ≡ (slice_index_or seen.now (block - 1) false && not (slice_index_or map.now (block - 1) false)) }
+    ensures { result ≡ (slice_index_or seen.now (block - 1) false && not
+        (slice_index_or map.now (block - 1) false)) }
 {
     seen[block as usize - 1] && !map.is_used(block)
 }
@@ -83,7 +86,8 @@ fn is_lost(seen: &[bool], map: &Map, block: u32) -> bool
     requires same { length seen.now ≡ length map.now }
     requires first { 1 ≤ block }
     requires last { block ≤ length map.now }
-    ensures { result ≡ (slice_index_or map.now (block - 1) false && not (slice_index_or seen.now (block - 1) false)) }
+    ensures { result ≡ (slice_index_or map.now (block - 1) false && not
+        (slice_index_or seen.now (block - 1) false)) }
 {
     map.is_used(block) && !seen[block as usize - 1]
 }

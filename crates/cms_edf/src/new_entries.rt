@@ -1,12 +1,14 @@
 // The entries of a volume's files after an update.
-ghost use Rattle.std.specs.Prelude.{◌≡◌, ◌≤◌, ◌<◌, Some, length, map, slice_get, swap_remove};
+ghost use Rattle.std.specs.Prelude.{◌≡◌, ◌≤◌, ◌<◌, All, Some, length, map, slice_get, swap_remove};
 ghost use Rattle.cms_fields.specs.declared.entry.Entry.{Entry};
 ghost use Rattle.cms_held.specs.Kept.{Keeps};
 ghost use Rattle.cms_held.specs.Renewing.{entries_held, moved_entry};
+ghost use Rattle.cms_held.specs.Written.{ReadsBack};
 ghost use Rattle.cms_edf.specs.FileDrafts.{IsPlaceIn, list_with};
 ghost use Rattle.cms_edf.specs.Planning.{Edited, MayEdit};
 
 use crate::change::FileEdit;
+use crate::directory_bytes::spell_entry;
 use crate::editing::moved_entry;
 use crate::held::{FileHeld, Held};
 use cms_fields::Entry;
@@ -47,12 +49,14 @@ impl<'a> Model for NewEntries<'a> {
 }
 
 impl<'a> NewEntries<'a> {
-    /// The entries with another in a place, or behind them.
+    /// The entries with another in a place, or behind them. What is written for it is read back as it.
     pub fn with(held: &'a Held, place: Option<u32>, entry: &Entry) -> NewEntries<'a>
         requires { IsPlaceIn held.now.volume.files place }
         ensures entries { result ≡ list_with (entries_held held.now.volume.files) place entry.now }
+        ensures spelled { ReadsBack entry.now }
         ensures kept { Keeps held.now.volume }
     {
+        spell_entry(entry);
         let count = held.files.len() as u32;
         match place {
             Some(place) => NewEntries {
@@ -93,13 +97,16 @@ impl<'a> NewEntries<'a> {
     // The entries with the stamps of all moved.
     fn moved(held: &'a Held, pivot: u32) -> NewEntries<'a>
         requires { pivot ≤ 100 }
-        ensures { result ≡ map (moved_entry pivot) (entries_held held.now.volume.files) }
+        ensures entries { result ≡ map (moved_entry pivot) (entries_held held.now.volume.files) }
+        ensures back { All ReadsBack result }
     {
-        NewEntries {
+        let entries = NewEntries {
             files: &held.files,
             count: held.files.len() as u32,
             alteration: Alteration::Moved { pivot },
-        }
+        };
+        spell_entries(&entries);
+        entries
     }
 
     /// The entries after an edit.
@@ -144,5 +151,14 @@ impl<'a> NewEntries<'a> {
             }
             Alteration::Moved { pivot } => moved_entry(self.files[nth as usize].entry(), pivot),
         }
+    }
+}
+
+// What is written for each of the entries is read back as it.
+fn spell_entries(entries: &NewEntries<'_>)
+    ensures { All ReadsBack entries.now }
+{
+    for nth in 0..entries.count() {
+        spell_entry(&entries.get(nth));
     }
 }

@@ -87,25 +87,35 @@ pub fn read_listing<W: World>(
 ) -> Result<Listing, OpenFault>
     requires total { 6 ≤ place.now.total }
     requires origin { (place.now.origin ≡ 4) ⊎ (place.now.origin ≡ 5) }
-    requires blocks { ForSome (W.told world.old) (λ j. HasBlocks j.units place.now.unit place.now.total place.now.bsize) }
-    ensures read { OfImage (W.told world.old) place.now.unit (λ image. ReadsListed place.now image result) }
-    ensures map { IfOk result (λ l. (1 ≤ l.map.blocks) × (l.map.levels ≡ levels (place.now.bsize / 4) l.map.blocks)) }
+    requires blocks { ForSome (W.told world.old)
+        (λ j. HasBlocks j.units place.now.unit place.now.total place.now.bsize) }
+    ensures read { OfImage (W.told world.old) place.now.unit
+        (λ image. ReadsListed place.now image result) }
+    ensures map { IfOk result (λ l. (1 ≤ l.map.blocks)
+        × (l.map.levels ≡ levels (place.now.bsize / 4) l.map.blocks)) }
     ensures room { IfOk result (λ l. place.now.total ≤ 8 * (l.map.blocks * place.now.bsize)) }
-    ensures directory { IfOk result (λ l. l.directory.levels ≡ levels (place.now.bsize / 4) l.directory.blocks) }
+    ensures directory { IfOk result (λ l. l.directory.levels
+        ≡ levels (place.now.bsize / 4) l.directory.blocks) }
     ensures size { IfOk result (λ l. IsBlockSize place.now.bsize) }
-    ensures leaves { IfOk result (λ l. (1 ≤ l.directory.blocks) × (length l.walked.leaves.items ≡ l.directory.blocks)) }
-    ensures pointers { IfOk result (λ l. length l.walked.pointers.items ≡ pointer_count (place.now.bsize / 4) l.directory.blocks) }
+    ensures leaves { IfOk result (λ l. (1 ≤ l.directory.blocks)
+        × (length l.walked.leaves.items ≡ l.directory.blocks)) }
+    ensures pointers { IfOk result (λ l. length l.walked.pointers.items
+        ≡ pointer_count (place.now.bsize / 4) l.directory.blocks) }
     ensures small { IfOk result (λ l. (l.directory.blocks < 2 ^ 32) × (l.map.blocks < 2 ^ 32)) }
-    ensures counts { IfOk result (λ l. (l.directory.blocks ≡ directory_count place.now.bsize (length l.entries.items))
+    ensures counts { IfOk result (λ l.
+        (l.directory.blocks ≡ directory_count place.now.bsize (length l.entries.items))
         × (l.map.blocks ≡ up (up place.now.total 8) place.now.bsize)) }
-    ensures entries { IfOk result (λ l. (length l.entries.items + 2) * 64 ≤ length l.walked.leaves.items * place.now.bsize) }
+    ensures entries { IfOk result (λ l. (length l.entries.items + 2) * 64
+        ≤ length l.walked.leaves.items * place.now.bsize) }
     ensures shapes { IfOk result (λ l. All (HasShape place.now.bsize) l.entries.items) }
     ensures sizes { IfOk result (λ l. All (HasSize place.now.bsize) l.entries.items) }
-    ensures passing { IfOk result (λ l. All (λ e. passes place.now.bsize e ≡ true) l.entries.items) }
+    ensures passing { IfOk result (λ l. All
+        (λ e. passes place.now.bsize e ≡ true) l.entries.items) }
     ensures names { IfOk result (λ l. first_twice 2 [] l.entries.items ≡ None) }
     ensures few { IfOk result (λ l. length l.entries.items ≤ most_files) }
     ensures within { IfOk result (λ l. IsWithin place.now.total (Some place.now.origin) l.walked) }
-    ensures reads { OnlyReads (seen W.World world.old) (seen W.World world.new) failed.Device result }
+    ensures reads { OnlyReads (seen W.World world.old)
+        (seen W.World world.new) failed.Device result }
 {
     let first = block_of(alloc, world, place.unit, place.origin, place.bsize)?;
     let directory = directory_in(place.bsize, place.origin, &first)?;
@@ -133,12 +143,16 @@ pub fn read_map<W: World>(
 ) -> Result<Walked, OpenFault>
     requires some { 1 ≤ system.now.blocks }
     requires shape { system.now.levels ≡ levels (place.now.bsize / 4) system.now.blocks }
-    requires blocks { ForSome (W.told world.old) (λ j. HasBlocks j.units place.now.unit place.now.total place.now.bsize) }
-    ensures read { OfImage (W.told world.old) place.now.unit (λ image. ReadsMap place.now image system.now result) }
+    requires blocks { ForSome (W.told world.old)
+        (λ j. HasBlocks j.units place.now.unit place.now.total place.now.bsize) }
+    ensures read { OfImage (W.told world.old) place.now.unit
+        (λ image. ReadsMap place.now image system.now result) }
     ensures count { IfOk result (λ walked. length walked.leaves.items ≡ system.now.blocks) }
-    ensures pointers { IfOk result (λ walked. length walked.pointers.items ≡ pointer_count (place.now.bsize / 4) system.now.blocks) }
+    ensures pointers { IfOk result (λ walked. length walked.pointers.items
+        ≡ pointer_count (place.now.bsize / 4) system.now.blocks) }
     ensures within { IfOk result (IsWithin place.now.total None) }
-    ensures reads { OnlyReads (seen W.World world.old) (seen W.World world.new) failed.Device result }
+    ensures reads { OnlyReads (seen W.World world.old)
+        (seen W.World world.new) failed.Device result }
 {
     tree_of(alloc, world, &system_at(place, system, None))
 }

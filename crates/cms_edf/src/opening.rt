@@ -25,7 +25,12 @@ use std::alloc::Global;
 
 // Where the volume of a label stands.
 fn place_of(unit: &Unit, bsize: BlockSize, label: &Label) -> Place
-    ensures { result ≡ record { unit = unit.now.number; bsize = bsize; total = label.now.blocks; origin = label.now.origin } }
+    ensures { result ≡ record {
+      unit = unit.now.number;
+      bsize = bsize;
+      total = label.now.blocks;
+      origin = label.now.origin;
+    } }
 {
     Place {
         unit: unit.number,
@@ -48,15 +53,20 @@ fn open_labelled<W: World>(
     requires total { 6 ≤ label.blocks }
     requires within { label.blocks ≤ unit.now.blocks }
     requires long { length label_bytes.items ≡ bsize }
-    requires bytes { OfImage (W.told world.old) unit.now.number (λ image. label_bytes.items ≡ image 3) }
-    requires blocks { ForSome (W.told world.old) (λ j. HasBlocks j.units unit.now.number unit.now.blocks bsize) }
+    requires bytes { OfImage (W.told world.old) unit.now.number
+        (λ image. label_bytes.items ≡ image 3) }
+    requires blocks { ForSome (W.told world.old)
+        (λ j. HasBlocks j.units unit.now.number unit.now.blocks bsize) }
     ensures read { IfOk result (λ held. OfImage (W.told world.old) unit.now.number (λ image.
-        HasVolume unit.now.number (record { bsize = bsize; count = unit.now.blocks }) image label held.volume)) }
-    ensures disk { IfOk result (λ held. held.volume.disk ≡ record { bsize = bsize; count = unit.now.blocks }) }
+        HasVolume unit.now.number
+        (record { bsize = bsize; count = unit.now.blocks }) image label held.volume)) }
+    ensures disk { IfOk result (λ held. held.volume.disk
+        ≡ record { bsize = bsize; count = unit.now.blocks }) }
     ensures unit { IfOk result (λ held. held.volume.unit ≡ unit.now.number) }
     ensures kept { IfOk result (λ held. Keeps held.volume) }
     ensures fault { IfErr result (λ why. OfImage (W.told world.old) unit.now.number (λ image.
-        IsFaultOf (behind_label (record { bsize = bsize; count = unit.now.blocks }) image label) why)) }
+        IsFaultOf (behind_label (record { bsize = bsize; count = unit.now.blocks }) image label)
+        why)) }
     ensures reads { OnlyReads (seen W.World world.old) (seen W.World world.new) Device result }
 {
     let place = place_of(unit, bsize, &label);
@@ -87,10 +97,13 @@ pub fn open_volume<W: World>(
     unit: &Unit,
     bsize: BlockSize,
 ) -> Result<Held, OpenFault>
-    requires blocks { ForSome (W.told world.old) (λ j. HasBlocks j.units unit.now.number unit.now.blocks bsize) }
+    requires blocks { ForSome (W.told world.old)
+        (λ j. HasBlocks j.units unit.now.number unit.now.blocks bsize) }
     ensures answers { OfImage (W.told world.old) unit.now.number (λ image.
-        AnswersOpening unit.now.number (record { bsize = bsize; count = unit.now.blocks }) image result) }
-    ensures disk { IfOk result (λ held. held.volume.disk ≡ record { bsize = bsize; count = unit.now.blocks }) }
+        AnswersOpening unit.now.number
+        (record { bsize = bsize; count = unit.now.blocks }) image result) }
+    ensures disk { IfOk result (λ held. held.volume.disk
+        ≡ record { bsize = bsize; count = unit.now.blocks }) }
     ensures unit { IfOk result (λ held. held.volume.unit ≡ unit.now.number) }
     ensures kept { IfOk result (λ held. Keeps held.volume) }
     ensures reads { OnlyReads (seen W.World world.old) (seen W.World world.new) Device result }

@@ -19,7 +19,7 @@ ghost use Rattle.cms_held.specs.Written.{CanWrite, ReadsBack};
 
 use crate::allotment::{Allotment, Exchange, Made, PlanFault, allot};
 use crate::change::{Change, FileEdit};
-use crate::directory_bytes::{SystemFields, file_field, spell_entry, system_fields};
+use crate::directory_bytes::{SystemFields, file_field, system_fields};
 use crate::held::{Held, TreeBlocks};
 use crate::new_entries::NewEntries;
 use crate::step::{Plan, Step};
@@ -66,15 +66,6 @@ fn append_block(
     Ok(())
 }
 
-// The entries of files spell them.
-fn spell_entries(entries: &NewEntries<'_>)
-    ensures { All ReadsBack entries.now }
-{
-    for nth in 0..entries.count() {
-        spell_entry(&entries.get(nth));
-    }
-}
-
 // The bytes of these data blocks of the directory of these files, one block's behind the other's.
 fn directory_bytes(
     alloc: Global,
@@ -88,16 +79,16 @@ fn directory_bytes(
     requires stamp { is_stamp stamp.now ≡ true }
     requires few { length entries.now ≤ most_files }
     requires each { All CanWrite entries.now }
+    requires back { All ReadsBack entries.now }
     requires directory { length directory.now.leaves ≡ directory_count bsize (length entries.now) }
     requires at { All (λ j. j < length directory.now.leaves) places.now }
     requires map { 1 ≤ length map_tree.now.leaves }
     requires map_few { length map_tree.now.leaves < 2 ^ 32 }
-    ensures bytes { IfOk result (λ v. (s : Systems) → s.directory ≡ directory.now → s.map ≡ map_tree.now
+    ensures bytes { IfOk result (λ v. (s : Systems) → s.directory ≡ directory.now
+        → s.map ≡ map_tree.now
         → v.items ≡ concat (map (directory_piece bsize s entries.now stamp.now) places.now)) }
     ensures long { IfOk result (λ v. length v.items ≡ length places.now * bsize) }
-    ensures back { OnOk result (All ReadsBack entries.now) }
 {
-    spell_entries(entries);
     let fields = system_fields(bsize, directory, map_tree, entries.count(), stamp);
     let each = bsize.bytes() / ENTRY_SIZE;
     let mut bytes = Vec::new(alloc);
@@ -117,7 +108,8 @@ struct NewLabel {
 // The bytes of the label's block with another label.
 fn relabel(alloc: Global, held: &Held, label: Label) -> Result<NewLabel, AllocError>
     ensures label { IfOk result (λ new. new.label ≡ label) }
-    ensures bytes { IfOk result (λ new. new.bytes.items ≡ with_label label held.now.volume.label_bytes) }
+    ensures bytes { IfOk result (λ new. new.bytes.items
+        ≡ with_label label held.now.volume.label_bytes) }
     ensures long { IfOk result (λ new. length new.bytes.items ≡ held.now.volume.disk.bsize) }
     ensures size { OnOk result (IsBlockSize held.now.volume.disk.bsize) }
 {
@@ -153,6 +145,7 @@ pub fn fill_systems(
     requires stamp { is_stamp stamp.now ≡ true }
     requires few { length entries.now ≤ most_files }
     requires each { All CanWrite entries.now }
+    requires back { All ReadsBack entries.now }
     requires files { exchange.now.files ≡ length entries.now }
     requires enough { AreEnoughFor held.now.volume entries.now exchange.now }
     requires allotted { IsAllottedFor held.now.volume exchange.now allotment }
@@ -201,6 +194,7 @@ fn plan_systems(
     requires stamp { is_stamp stamp.now ≡ true }
     requires few { length entries.now ≤ most_files }
     requires each { All CanWrite entries.now }
+    requires back { All ReadsBack entries.now }
     requires files { exchange.now.files ≡ length entries.now }
     requires none { exchange.now.file ≡ 0 }
     requires enough { AreEnoughFor held.now.volume entries.now exchange.now }
@@ -245,7 +239,8 @@ fn plan_edit(
     requires may { MayEdit held.now.volume.files edit.now }
     ensures ready { IfOk result (IsReadyAt held.now.volume edit.now stamp.now) }
     ensures full { IfErr result (LacksRoom held.now.volume
-        (needed held.now.volume (count_after held.now.volume.files edit.now) (made_by held.now.volume.files edit.now))) }
+        (needed held.now.volume (count_after held.now.volume.files edit.now)
+        (made_by held.now.volume.files edit.now))) }
 {
     let entries = NewEntries::edited(held, edit);
     match edit {
@@ -283,7 +278,8 @@ fn edit_step(alloc: Global, held: &Held, edit: FileEdit, stamp: &Stamp) -> Resul
     requires may { MayEdit held.now.volume.files edit }
     ensures step { IfOk result (IsStepOf held.now.volume edit stamp.now) }
     ensures full { IfErr result (LacksRoom held.now.volume
-        (needed held.now.volume (count_after held.now.volume.files edit) (made_by held.now.volume.files edit))) }
+        (needed held.now.volume (count_after held.now.volume.files edit)
+        (made_by held.now.volume.files edit))) }
 {
     let systems = plan_edit(alloc, held, &edit, stamp)?;
     Ok(Step::Edit { edit, systems })

@@ -113,7 +113,8 @@ pub fn directory_in(bsize: BlockSize, origin: u32, bytes: &[u8]) -> Result<Syste
     ensures is { result ≡ directory_of bsize origin bytes.now }
     ensures device { IfErr result (λ e. e ≡ Device → ⊥) }
     ensures shape { IfOk result (λ s. (1 ≤ s.blocks) × (s.levels ≡ levels (bsize / 4) s.blocks)) }
-    ensures count { IfOk result (λ s. (2 ≤ s.count) × (s.count ≤ most_files + 2) × (s.count * 64 ≤ s.blocks * bsize)) }
+    ensures count { IfOk result (λ s. (2 ≤ s.count) × (s.count ≤ most_files + 2)
+        × (s.count * 64 ≤ s.blocks * bsize)) }
     ensures few { IfOk result (λ s. s.blocks < 2 ^ 32) }
     ensures size { IsBlockSize bsize }
 {

@@ -65,7 +65,8 @@ impl SystemBlocks {
     // Writes the directory and the map, but for the label.
     fn write<W: World>(&self, world: &mut W, unit: u8) -> Result<(), Failed>
         requires may { MayWrite (W.told world.old) (target_of unit self.now) }
-        ensures writes { Writes (seen W.World world.old) (seen W.World world.new) (target_of unit self.now)
+        ensures writes { Writes (seen W.World world.old) (seen W.World world.new)
+            (target_of unit self.now)
             (system_writes (length self.now.label_bytes) self.now) result }
     {
         let target = Target {
@@ -111,7 +112,8 @@ impl SystemBlocks {
     /// sync, and perhaps the label was written.
     pub fn carry_out<W: World>(&self, world: &mut W, unit: u8) -> Result<(), Doubt>
         requires may { MayWrite (W.told world.old) (target_of unit self.now) }
-        ensures updates { UpdatesSystems (W.told world.old) (W.told world.new) unit self.now result }
+        ensures updates { UpdatesSystems (W.told world.old)
+            (W.told world.new) unit self.now result }
         ensures counts { OnUnits (seen W.World world.old) (seen W.World world.new) result }
     {
         match self.write(world, unit) {

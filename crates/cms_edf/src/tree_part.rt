@@ -91,7 +91,8 @@ pub fn shared_tree(
     requires wide { 2 ≤ fan }
     requires olds { length old.now.pointers ≡ pointer_count fan (length old.now.leaves) }
     requires may { MayBeWritten (length old.now.leaves) count places.now.leaves }
-    requires nodes { places.now.nodes ≡ fresh_places fan (length old.now.leaves) count places.now.leaves }
+    requires nodes { places.now.nodes
+        ≡ fresh_places fan (length old.now.leaves) count places.now.leaves }
     requires enough { length places.now.leaves + length places.now.nodes ≤ length numbers.now }
     ensures keeps { IfOk result (KeepsTree fan places.now.leaves old.now) }
     ensures count { IfOk result (λ t. length t.leaves ≡ count) }
@@ -131,7 +132,8 @@ pub fn left_blocks(
     requires olds { length old.now.pointers ≡ pointer_count fan (length old.now.leaves) }
     requires ascends { IsStrictlyIncreasing written.now }
     ensures { IfOk result (λ v. (new : HeldTree) → length new.leaves ≡ count
-        → length new.pointers ≡ pointer_count fan count → v.items ≡ released_of fan written.now old.now new) }
+        → length new.pointers ≡ pointer_count fan count
+        → v.items ≡ released_of fan written.now old.now new) }
 {
     let room = old.leaves().len() + old.pointers().len();
     let mut left = Vec::with_capacity(alloc, room)?;

@@ -28,7 +28,8 @@ pub fn block_of<W: World>(
     bsize: BlockSize,
 ) -> Result<Vec<u8>, OpenFault>
     requires { ForSome (W.told world.old) (λ j. HasBlock j.units unit number bsize) }
-    ensures bytes { IfOk result (λ v. OfImage (W.told world.old) unit (λ image. v.items ≡ image number)) }
+    ensures bytes { IfOk result (λ v. OfImage (W.told world.old) unit
+        (λ image. v.items ≡ image number)) }
     ensures size { IfOk result (λ v. length v.items ≡ bsize) }
     ensures least { IfOk result (λ v. 512 ≤ length v.items) }
     ensures fault { IfErr result (λ e. (e ≡ Device) ⊎ (e ≡ Memory)) }
@@ -45,10 +46,12 @@ pub fn block_of<W: World>(
 pub fn tree_of<W: World>(alloc: Global, world: &mut W, at: &TreeAt) -> Result<Walked, OpenFault>
     requires some { 1 ≤ at.now.count }
     requires psize { (at.now.psize ≡ 4) ⊎ (at.now.psize ≡ 12) }
-    requires blocks { ForSome (W.told world.old) (λ j. HasBlocks j.units at.now.unit at.now.volume at.now.bsize) }
+    requires blocks { ForSome (W.told world.old)
+        (λ j. HasBlocks j.units at.now.unit at.now.volume at.now.bsize) }
     ensures read { ForSome (W.told world.old) (λ j. ReadsTree (image_at j at.now) at.now result) }
     ensures count { IfOk result (λ walked. length walked.leaves.items ≡ at.now.count) }
-    ensures pointers { IfOk result (λ walked. length walked.pointers.items ≡ pointer_count (at.now.bsize / at.now.psize) at.now.count) }
+    ensures pointers { IfOk result (λ walked. length walked.pointers.items
+        ≡ pointer_count (at.now.bsize / at.now.psize) at.now.count) }
     ensures within { IfOk result (IsWithin at.now.volume at.now.first) }
     ensures reads { OnlyReads (seen W.World world.old) (seen W.World world.new) Device result }
 {
@@ -78,8 +81,11 @@ pub fn bytes_of<W: World>(
     bsize: BlockSize,
     blocks: &[u32],
 ) -> Result<Vec<u8>, OpenFault>
-    requires { ForSome (W.told world.old) (λ j. (k : ℕ) → k < length blocks.now → HasBlock j.units unit (slice_index blocks.now k) bsize) }
-    ensures bytes { IfOk result (λ v. OfImage (W.told world.old) unit (λ image. v.items ≡ bytes_at image blocks.now)) }
+    requires { ForSome (W.told world.old)
+        (λ j. (k : ℕ) → k < length blocks.now
+        → HasBlock j.units unit (slice_index blocks.now k) bsize) }
+    ensures bytes { IfOk result (λ v. OfImage (W.told world.old) unit
+        (λ image. v.items ≡ bytes_at image blocks.now)) }
     ensures size { IfOk result (λ v. length v.items ≡ bsize * length blocks.now) }
     ensures fault { IfErr result (λ e. (e ≡ Device) ⊎ (e ≡ Memory)) }
     ensures reads { OnlyReads (seen W.World world.old) (seen W.World world.new) Device result }
@@ -102,10 +108,13 @@ fn append_block<W: World>(
     first: &[u8],
     into: &mut Vec<u8>,
 ) -> Result<(), OpenFault>
-    requires first { OfImage (W.told world.old) place.now.unit (λ image. first.now ≡ image place.now.origin) }
+    requires first { OfImage (W.told world.old) place.now.unit
+        (λ image. first.now ≡ image place.now.origin) }
     requires size { length first.now ≡ place.now.bsize }
-    requires block { ForSome (W.told world.old) (λ j. HasBlock j.units place.now.unit number place.now.bsize) }
-    ensures bytes { OnOk result (OfImage (W.told world.old) place.now.unit (λ image. into.new.items ≡ into.old.items ++ image number)) }
+    requires block { ForSome (W.told world.old)
+        (λ j. HasBlock j.units place.now.unit number place.now.bsize) }
+    ensures bytes { OnOk result (OfImage (W.told world.old) place.now.unit
+        (λ image. into.new.items ≡ into.old.items ++ image number)) }
     ensures size { OnOk result (length into.new.items ≡ length into.old.items + place.now.bsize) }
     ensures fault { IfErr result (λ e. (e ≡ Device) ⊎ (e ≡ Memory)) }
     ensures reads { OnlyReads (seen W.World world.old) (seen W.World world.new) Device result }
@@ -125,11 +134,13 @@ pub fn directory_bytes<W: World>(
     blocks: &[u32],
     first: &[u8],
 ) -> Result<Vec<u8>, OpenFault>
-    requires first { OfImage (W.told world.old) place.now.unit (λ image. first.now ≡ image place.now.origin) }
+    requires first { OfImage (W.told world.old) place.now.unit
+        (λ image. first.now ≡ image place.now.origin) }
     requires size { length first.now ≡ place.now.bsize }
     requires blocks { ForSome (W.told world.old) (λ j. (k : ℕ) → k < length blocks.now
         → HasBlock j.units place.now.unit (slice_index blocks.now k) place.now.bsize) }
-    ensures bytes { IfOk result (λ v. OfImage (W.told world.old) place.now.unit (λ image. v.items ≡ bytes_at image blocks.now)) }
+    ensures bytes { IfOk result (λ v. OfImage (W.told world.old) place.now.unit
+        (λ image. v.items ≡ bytes_at image blocks.now)) }
     ensures size { IfOk result (λ v. length v.items ≡ place.now.bsize * length blocks.now) }
     ensures fault { IfErr result (λ e. (e ≡ Device) ⊎ (e ≡ Memory)) }
     ensures reads { OnlyReads (seen W.World world.old) (seen W.World world.new) Device result }

@@ -42,17 +42,24 @@ pub fn read_trees<W: World>(
     requires some { 1 ≤ listing.now.map.blocks }
     requires shape { listing.now.map.levels ≡ levels (place.now.bsize / 4) listing.now.map.blocks }
     requires few { length listing.now.entries.items ≤ most_files }
-    requires entries { (length listing.now.entries.items + 2) * 64 ≤ length listing.now.walked.leaves.items * place.now.bsize }
+    requires entries { (length listing.now.entries.items + 2) * 64
+        ≤ length listing.now.walked.leaves.items * place.now.bsize }
     requires shapes { All (HasShape place.now.bsize) listing.now.entries.items }
-    requires blocks { ForSome (W.told world.old) (λ j. HasBlocks j.units place.now.unit place.now.total place.now.bsize) }
-    ensures read { IfOk result (λ t. OfImage (W.told world.old) place.now.unit (λ image. HasTrees place.now image listing.now t)) }
+    requires blocks { ForSome (W.told world.old)
+        (λ j. HasBlocks j.units place.now.unit place.now.total place.now.bsize) }
+    ensures read { IfOk result (λ t. OfImage (W.told world.old) place.now.unit
+        (λ image. HasTrees place.now image listing.now t)) }
     ensures fault { IfErr result (λ why. OfImage (W.told world.old) place.now.unit (λ image.
-        IsFaultOf (trees_in place.now.bsize place.now.total place.now.origin image (listed listing.now)) why)) }
-    ensures map { IfOk result (λ t. (length t.map.leaves.items ≡ listing.now.map.blocks) × IsWithin place.now.total None t.map) }
+        IsFaultOf (trees_in place.now.bsize place.now.total place.now.origin image
+        (listed listing.now)) why)) }
+    ensures map { IfOk result (λ t. (length t.map.leaves.items ≡ listing.now.map.blocks)
+        × IsWithin place.now.total None t.map) }
     ensures files { IfOk result (λ t. (length t.files.items ≡ length listing.now.entries.items)
         × All (IsWithin place.now.total None) t.files.items) }
-    ensures counts { IfOk result (λ t. HaveCounts place.now.bsize listing.now.entries.items t.files.items) }
-    ensures pointers { IfOk result (λ t. length t.map.pointers.items ≡ pointer_count (place.now.bsize / 4) listing.now.map.blocks) }
+    ensures counts { IfOk result (λ t.
+        HaveCounts place.now.bsize listing.now.entries.items t.files.items) }
+    ensures pointers { IfOk result (λ t. length t.map.pointers.items
+        ≡ pointer_count (place.now.bsize / 4) listing.now.map.blocks) }
     ensures reads { OnlyReads (seen W.World world.old) (seen W.World world.new) Device result }
 {
     let map = read_map(alloc, world, place, &listing.map)?;
@@ -100,16 +107,21 @@ pub fn read_marks<W: World>(
     requires directory { IsWithin place.now.total (Some place.now.origin) directory.now }
     requires map { IsWithin place.now.total None trees.now.map }
     requires files { All (IsWithin place.now.total None) trees.now.files.items }
-    requires blocks { ForSome (W.told world.old) (λ j. HasBlocks j.units place.now.unit place.now.total place.now.bsize) }
+    requires blocks { ForSome (W.told world.old)
+        (λ j. HasBlocks j.units place.now.unit place.now.total place.now.bsize) }
     ensures count { IfOk result (λ m. length m.map ≡ place.now.total) }
-    ensures bits { IfOk result (λ m. OfImage (W.told world.old) place.now.unit (λ image. m.map ≡ bits_in place.now.total
+    ensures bits { IfOk result (λ m. OfImage (W.told world.old) place.now.unit
+        (λ image. m.map ≡ bits_in place.now.total
         (bytes_at image trees.now.map.leaves.items))) }
     ensures lost { IfOk result (λ m. OfImage (W.told world.old) place.now.unit (λ image. lost_in
         (bytes_at image trees.now.map.leaves.items) place.now.total
-        (tree_blocks (met_in directory.now) (met_in trees.now.map) (map met_in trees.now.files.items)) ≡ Ok m.lost)) }
-    ensures fault { IfErr result (λ why. OfImage (W.told world.old) place.now.unit (λ image. IsFaultOf (lost_in
+        (tree_blocks (met_in directory.now) (met_in trees.now.map)
+        (map met_in trees.now.files.items)) ≡ Ok m.lost)) }
+    ensures fault { IfErr result (λ why. OfImage (W.told world.old) place.now.unit
+        (λ image. IsFaultOf (lost_in
         (bytes_at image trees.now.map.leaves.items) place.now.total
-        (tree_blocks (met_in directory.now) (met_in trees.now.map) (map met_in trees.now.files.items))) why)) }
+        (tree_blocks (met_in directory.now) (met_in trees.now.map)
+        (map met_in trees.now.files.items))) why)) }
     ensures reads { OnlyReads (seen W.World world.old) (seen W.World world.new) Device result }
 {
     let bytes = bytes_of(alloc, world, place.unit, place.bsize, &trees.map.leaves)?;

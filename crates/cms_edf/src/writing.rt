@@ -60,7 +60,8 @@ pub fn write_nodes<W: World>(
     requires wide { 2 ≤ target.now.bsize / 4 }
     requires some { 1 ≤ length tree.now.leaves }
     requires few { length tree.now.leaves < 2 ^ 32 }
-    requires nodes { length tree.now.pointers ≡ pointer_count (target.now.bsize / 4) (length tree.now.leaves) }
+    requires nodes { length tree.now.pointers
+        ≡ pointer_count (target.now.bsize / 4) (length tree.now.leaves) }
     requires at { AreAt target.now.total tree.now.pointers places.now }
     requires may { MayWrite (W.told world.old) target.now }
     ensures writes { Writes (seen W.World world.old) (seen W.World world.new) target.now
@@ -128,7 +129,8 @@ pub fn write_directory<W: World>(
     requires wide { 2 ≤ target.now.bsize / 4 }
     requires some { 1 ≤ length tree.now.leaves }
     requires few { length tree.now.leaves < 2 ^ 32 }
-    requires nodes { length tree.now.pointers ≡ pointer_count (target.now.bsize / 4) (length tree.now.leaves) }
+    requires nodes { length tree.now.pointers
+        ≡ pointer_count (target.now.bsize / 4) (length tree.now.leaves) }
     requires first { 1 ≤ length places.now.leaves }
     requires long { length bytes.now ≡ length places.now.leaves * target.now.bsize }
     requires at { AreAt target.now.total tree.now.leaves places.now.leaves }
@@ -158,7 +160,8 @@ pub fn write_map_tree<W: World>(
     requires wide { 2 ≤ target.now.bsize / 4 }
     requires some { 1 ≤ length tree.now.leaves }
     requires few { length tree.now.leaves < 2 ^ 32 }
-    requires nodes { length tree.now.pointers ≡ pointer_count (target.now.bsize / 4) (length tree.now.leaves) }
+    requires nodes { length tree.now.pointers
+        ≡ pointer_count (target.now.bsize / 4) (length tree.now.leaves) }
     requires short { length tree.now.leaves * target.now.bsize < 2 ^ 32 }
     requires at { AreAt target.now.total tree.now.leaves places.now.leaves }
     requires nodes_at { AreAt target.now.total tree.now.pointers places.now.nodes }

@@ -8,6 +8,7 @@ use crate::drafting::shaped;
 use crate::volumes::{opened, volume_on};
 use cms_cases::told;
 use cms_edf::{Change, Draft, DraftShape, Held, carry_out, commit, plan, plan_draft};
+use cms_images::known::put_number;
 use cms_images::{Disk, Event, Made, NOON, file_named, formatted, image_named};
 use cms_journal::BlockSize;
 use cms_names::{Format, Name};
@@ -22,6 +23,9 @@ use std::alloc::{AllocError, Global};
 ///   others are zeros.
 /// - `move`: the stamps of all files of a directory of two blocks are moved: the blocks that are written up to the first sync. These are the
 ///   second one of the directory, its pointer block, the map, and the first one of the directory.
+/// - `told`: a file goes, where the entry of each of sixteen files of varying records tells another length than that of its records. The
+///   lengths that the entries tell then: in the two blocks of the directory that are written those of the records; the one between them
+///   is kept as it was.
 /// - What crashes leave where the tree of a file grows by a level, `grow`; where all that is free is taken, `fill`; and where the
 ///   directory shrinks to one data block, and has no pointer block, `shrink`. It is the volume as it was, or as it is since the label is
 ///   written.
@@ -29,6 +33,7 @@ pub const ROWS: &str = "\
 tree => 7-134 136-136 135-135 137-139 5-5
 marks => [0, 0, 0, 7, 0, 0, 0, 2, 0, 0, 0, 0, 0, 0, 0, 8, 0, 0, 0, 2, 255, 255, 255, 255] true
 move => 16-18 5-5
+told => 5 5 5 5 5 5 99 99 99 99 99 99 99 99 5
 grow => the old volume or the new
 fill => the old volume or the new
 shrink => the old volume or the new";
@@ -198,6 +203,49 @@ fn marks(alloc: Global, image: &[u8], block: usize) -> Result<String, AllocError
     format!(in alloc; "{first:?} {zeros}")
 }
 
+// The number at a place of a block.
+fn number_at(image: &[u8], block: u32, at: usize) -> Option<u32> {
+    let start = (block as usize).saturating_sub(1).saturating_mul(512);
+    let start = start.saturating_add(at);
+    match image.get(start..start.saturating_add(4))? {
+        [a, b, c, d] => Some(u32::from_be_bytes([*a, *b, *c, *d])),
+        _ => None,
+    }
+}
+
+// The length that the entry of a number tells, in a directory that has one level of pointers.
+fn length_told(image: &[u8], number: usize) -> Option<u32> {
+    let origin = number_at(image, 3, 16)?;
+    let root = number_at(image, origin, 40)?;
+    let leaf = number_at(image, root, number / 8 * 4)?;
+    number_at(image, leaf, number % 8 * 64 + 32)
+}
+
+// The lengths that the entries of so many files tell.
+fn lengths_told(alloc: Global, image: &[u8], files: usize) -> Result<String, AllocError> {
+    let mut text = String::new(alloc);
+    for place in 0..files {
+        if place > 0 {
+            text.push(' ')?;
+        }
+        match length_told(image, place.saturating_add(2)) {
+            Some(length) => text.push_str(told(alloc, &length)?.as_str())?,
+            None => text.push('?')?,
+        }
+    }
+    Ok(text)
+}
+
+// The volume of sixteen files whose entries tell 99 as the length of their records.
+fn sixteen_untold(alloc: Global) -> Result<Disk, AllocError> {
+    let mut image = image_named(alloc, "sixteen files")?;
+    for number in 2..18_usize {
+        let block = [4, 7, 8][number / 8];
+        put_number(image.as_mut_slice(), block, number % 8 * 64 + 32, 99);
+    }
+    Disk::logged(alloc, &image)
+}
+
 // What a crash leaves after so many events: all that was written, or no more than what was synced.
 fn left(alloc: Global, world: &Disk, at: usize, all: bool) -> Result<String, AllocError> {
     opened(alloc, &world.crash(alloc, at, all)?, BlockSize::new(512))
@@ -254,6 +302,7 @@ fn disk_of(alloc: Global, case: &str) -> Result<Disk, AllocError> {
         "fill" => Disk::logged(alloc, &image_named(alloc, "one file")?),
         "shrink" => Disk::logged(alloc, &image_named(alloc, "long directory")?),
         "move" => Disk::logged(alloc, &image_named(alloc, "long directory on 20")?),
+        "told" => sixteen_untold(alloc),
         _ => empty_disk(alloc, 20),
     }
 }
@@ -275,6 +324,7 @@ fn changed(alloc: Global, world: &mut Disk, case: &str) -> Option<()> {
         "fill" => put_file(alloc, world, "B", Format::F, 512, &[TEXT]),
         "shrink" => drop_file(alloc, world, "G"),
         "move" => move_stamps(alloc, world),
+        "told" => drop_file(alloc, world, "A"),
         _ => grown(alloc, world),
     }
 }
@@ -284,6 +334,7 @@ fn asked(alloc: Global, world: &Disk, case: &str) -> Result<String, AllocError> 
     match case {
         "tree" | "move" => written(alloc, world.events()),
         "marks" => marks(alloc, &world.image, 9),
+        "told" => lengths_told(alloc, &world.image, 15),
         _ => crashes(alloc, world),
     }
 }

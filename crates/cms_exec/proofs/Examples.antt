@@ -3,7 +3,6 @@ use Rattle.std.proofs.Common.{◌≡◌, ℕ, ℤ, pos, true, List, [], ◌∷�
 use Rattle.std.specs.Cmp.Lexicographic.{slice_cmp}
 use Rattle.std.specs.FinMap.{empty, len, len-empty}
 use Rattle.std.specs.Fmt.{digits}
-use Rattle.std.specs.Global.{Global}
 use Rattle.std.specs.Option.{option_and_then}
 use Rattle.cms_ebcdic.specs.CodePage.{character_of, code_of, code_page, host_of, upper_of}
 use Rattle.cms_names.specs.Names.{is_name_character, text_of}
@@ -28,7 +27,7 @@ use Rattle.exec2_parse.specs.Procedures.{begins_with_trace, procedure_of}
 use Rattle.exec2_run.specs.Given.{behind_name}
 use Rattle.exec2_run.specs.Steps.{begun}
 use Rattle.exec2_run.specs.Variables.{with_arguments}
-use Rattle.exec2_run.specs.declared.exec.Exec.{Exec}
+use Rattle.exec2_run.specs.State.{Procedure}
 use Rattle.exec2_run.specs.declared.exec.FileName.{FileName}
 use Rattle.cms_exec.specs.Exec.{Starting, HasBegun, IsRefused, call_command, exec_command, exec_operand}
 use Rattle.cms_exec.specs.Finding.{called_by}
@@ -44,7 +43,7 @@ pub record Runs : Type 0 where
   pub rest : List ℕ
   pub count : ℕ
 
-abbrev runs_as : Exec → Runs
+abbrev runs_as : Procedure → Runs
 runs_as exec = record {
   lines = exec.lines;
   name = exec.start.name;
@@ -118,52 +117,51 @@ runs mode called rest count = record {
   });
 }
 
-module _ (alloc : Global) where
-  abbrev exec : Machine → ℕ → List ℕ → Answer
-  exec s running line = answer (exec_command alloc running s (ebcdic line) (words line)) []
+abbrev exec : Machine → ℕ → List ℕ → Answer
+exec s running line = answer (exec_command running s (ebcdic line) (words line)) []
 
-  -- ---- EXEC
+-- ---- EXEC
 
-  -- it begins, called by the line from its name on; what stands behind the name isn't looked at, and up to 49 may run
-  begins : (exec one 0 (codes "EXEC T") ≡ runs (codes "A1") (codes "T") [] 0)
-      × (exec one 49 (codes "exec  t  a (B) ") ≡ runs (codes "A1") (codes "t  a (B) ") (codes " a (B) ") 2)
-      × (exec two 0 (codes "EXEC T(A B") ≡ runs (codes "B2") (codes "T(A B") (codes "(A B") 2)
-  unfolding exec_operand needed given name text_of is_name_character ebcdic code_of code_page host_of upper_of character_of tokens_of tokens_from places_from file_named same_name same
-      begins_with_trace procedure_of is_keyword begun with_arguments behind_name
-  begins = let none = none_set in (rw none refl, rw none refl, rw none refl)
+-- it begins, called by the line from its name on; what stands behind the name isn't looked at, and up to 49 may run
+begins : (exec one 0 (codes "EXEC T") ≡ runs (codes "A1") (codes "T") [] 0)
+    × (exec one 49 (codes "exec  t  a (B) ") ≡ runs (codes "A1") (codes "t  a (B) ") (codes " a (B) ") 2)
+    × (exec two 0 (codes "EXEC T(A B") ≡ runs (codes "B2") (codes "T(A B") (codes "(A B") 2)
+unfolding exec_operand needed given name text_of is_name_character ebcdic code_of code_page host_of upper_of character_of tokens_of tokens_from places_from file_named same_name same
+    begins_with_trace procedure_of is_keyword begun with_arguments behind_name
+begins = let none = none_set in (rw none refl, rw none refl, rw none refl)
 
-  -- a missing name, a bad one, and one that no disk has, or that isn't seen there; the limit comes behind them
-  refused_line : (exec one 50 (codes "EXEC") ≡ types (codes "CMS054E Operand is missing") 24)
-      × (exec one 50 (codes "EXEC t! X") ≡ types (codes "CMS062E Name T! is not valid") 20)
-      × (exec one 0 (codes "EXEC (") ≡ types (codes "CMS062E Name ( is not valid") 20)
-      × (exec one 50 (codes "EXEC X") ≡ types (codes "CMS002E File X EXEC * not found") 28)
-      × (exec two 0 (codes "EXEC P") ≡ types (codes "CMS002E File P EXEC * not found") 28)
-      × (exec one 50 (codes "EXEC T") ≡ types (codes "CMS120E Limit 5 reached") 40)
-      × (exec one 50 (codes "EXEC N") ≡ types (codes "CMS120E Limit 5 reached") 40)
-  unfolding exec_operand needed given name text_of is_name_character ebcdic code_of code_page host_of upper_of character_of tokens_of tokens_from places_from file_named same_name same
-      message_of message_text typed_line decimal_of written digits
-  refused_line = (refl, refl, refl, refl, refl, refl, refl)
+-- a missing name, a bad one, and one that no disk has, or that isn't seen there; the limit comes behind them
+refused_line : (exec one 50 (codes "EXEC") ≡ types (codes "CMS054E Operand is missing") 24)
+    × (exec one 50 (codes "EXEC t! X") ≡ types (codes "CMS062E Name T! is not valid") 20)
+    × (exec one 0 (codes "EXEC (") ≡ types (codes "CMS062E Name ( is not valid") 20)
+    × (exec one 50 (codes "EXEC X") ≡ types (codes "CMS002E File X EXEC * not found") 28)
+    × (exec two 0 (codes "EXEC P") ≡ types (codes "CMS002E File P EXEC * not found") 28)
+    × (exec one 50 (codes "EXEC T") ≡ types (codes "CMS120E Limit 5 reached") 40)
+    × (exec one 50 (codes "EXEC N") ≡ types (codes "CMS120E Limit 5 reached") 40)
+unfolding exec_operand needed given name text_of is_name_character ebcdic code_of code_page host_of upper_of character_of tokens_of tokens_from places_from file_named same_name same
+    message_of message_text typed_line decimal_of written digits
+refused_line = (refl, refl, refl, refl, refl, refl, refl)
 
-  -- the file is read, which may fail, before it is known to be no procedure
-  refused_file : (exec one 0 (codes "EXEC N") ≡ types (codes "CMS086E Procedure N is not run, reason 1") 10101)
-      × (exec one 0 (codes "EXEC L") ≡ types (codes "CMS086E Procedure L is not run, reason 2") 10102)
-      × (answer (exec_command alloc 0 one (ebcdic (codes "EXEC N")) (words (codes "EXEC N"))) (ReadFault 0 ∷ []) ≡ types (codes "CMS105E Device fault on 191") 100)
-  unfolding exec_operand needed given name text_of is_name_character ebcdic code_of code_page host_of upper_of character_of tokens_of tokens_from places_from file_named same_name same
-      message_of message_text typed_line decimal_of written digits begins_with_trace procedure_of is_keyword begun with_arguments behind_name
-  refused_file = (refl, refl, refl)
+-- the file is read, which may fail, before it is known to be no procedure
+refused_file : (exec one 0 (codes "EXEC N") ≡ types (codes "CMS086E Procedure N is not run, reason 1") 10101)
+    × (exec one 0 (codes "EXEC L") ≡ types (codes "CMS086E Procedure L is not run, reason 2") 10102)
+    × (answer (exec_command 0 one (ebcdic (codes "EXEC N")) (words (codes "EXEC N"))) (ReadFault 0 ∷ []) ≡ types (codes "CMS105E Device fault on 191") 100)
+unfolding exec_operand needed given name text_of is_name_character ebcdic code_of code_page host_of upper_of character_of tokens_of tokens_from places_from file_named same_name same
+    message_of message_text typed_line decimal_of written digits begins_with_trace procedure_of is_keyword begun with_arguments behind_name
+refused_file = (refl, refl, refl)
 
-  -- ---- a first word
+-- ---- a first word
 
-  abbrev calls : Machine → ℕ → List ℕ → Option Answer
-  calls s running line = option_and_then (λ (f : FileName). Some (answer (call_command alloc running s (ebcdic line) (words line) f) [])) (called_by s (words line))
+abbrev calls : Machine → ℕ → List ℕ → Option Answer
+calls s running line = option_and_then (λ (f : FileName). Some (answer (call_command running s (ebcdic line) (words line) f) [])) (called_by s (words line))
 
-  -- a procedure's name is a line's first word, which may be no valid name; a file that can't be run isn't passed over
-  called : (calls one 0 (codes " t a b") ≡ Some (runs (codes "A1") (codes "t a b") (codes "a b") 2))
-      × (calls one 0 (codes "T(X") ≡ Some (runs (codes "A1") (codes "T(X") (codes "(X") 1))
-      × (calls one 0 (codes "X T") ≡ None)
-      × (calls one 0 (codes "(T") ≡ None)
-      × (calls one 0 (codes "n") ≡ Some (types (codes "CMS086E Procedure N is not run, reason 1") 10101))
-      × (calls one 50 (codes "n") ≡ Some (types (codes "CMS120E Limit 5 reached") 40))
-  unfolding needed given name text_of is_name_character ebcdic code_of code_page host_of upper_of character_of tokens_of tokens_from places_from file_named same_name same
-      message_of message_text typed_line decimal_of written digits begins_with_trace procedure_of is_keyword begun with_arguments behind_name
-  called = let none = none_set in (rw none refl, rw none refl, refl, refl, refl, refl)
+-- a procedure's name is a line's first word, which may be no valid name; a file that can't be run isn't passed over
+called : (calls one 0 (codes " t a b") ≡ Some (runs (codes "A1") (codes "t a b") (codes "a b") 2))
+    × (calls one 0 (codes "T(X") ≡ Some (runs (codes "A1") (codes "T(X") (codes "(X") 1))
+    × (calls one 0 (codes "X T") ≡ None)
+    × (calls one 0 (codes "(T") ≡ None)
+    × (calls one 0 (codes "n") ≡ Some (types (codes "CMS086E Procedure N is not run, reason 1") 10101))
+    × (calls one 50 (codes "n") ≡ Some (types (codes "CMS120E Limit 5 reached") 40))
+unfolding needed given name text_of is_name_character ebcdic code_of code_page host_of upper_of character_of tokens_of tokens_from places_from file_named same_name same
+    message_of message_text typed_line decimal_of written digits begins_with_trace procedure_of is_keyword begun with_arguments behind_name
+called = let none = none_set in (rw none refl, rw none refl, refl, refl, refl, refl)

@@ -1,7 +1,6 @@
 -- A procedure that is called: it is refused, or its file is read and it begins.
 use Rattle.std.proofs.Common.{◌≡◌, ◌+◌, ◌<◌, ◌≤◌, ◌∙◌, inl, inr, ⊎_elim, ℕ, ℤ, List, [], ◌∷◌, Option, Some, None, Result, Ok, Err, true, false, arith, codes, pos, length, slice_get, slice_index_or, refl, sym, ap, subst}
 use Rattle.std.specs.Prelude.{◌⊎◌, IfErr, IfOk, IfSome, nat_le}
-use Rattle.std.specs.Global.{Global}
 use Rattle.std.specs.Option.{option_map}
 use Rattle.std.proofs.lemmas.Bool.{le-leb, lt-leb}
 use Rattle.cms_journal.specs.Causes.{Counted, Rose}
@@ -72,7 +71,7 @@ use Rattle.exec2_parse.specs.Procedures.{procedure_of}
 use Rattle.exec2_parse.specs.declared.procedure.ProcFault.{ProcFault}
 use Rattle.exec2_parse.specs.declared.procedure.ProcFault.TheVariants as refuses
 use Rattle.exec2_run.specs.Steps.{begun}
-use Rattle.exec2_run.specs.declared.exec.Exec.{Exec}
+use Rattle.exec2_run.specs.State.{Procedure}
 use Rattle.exec2_run.specs.declared.exec.FileName.{FileName}
 use Rattle.cms_exec.specs.Exec.{IsRefused, Starting, beginning, exec_command, exec_operand, exec_operands, line_from, no_procedure, not_run_code, on_procedure, read_there, reason_of, refused, start_named, started_of, starting}
 use Rattle.cms_exec.specs.Finding.{procedure_named}
@@ -154,9 +153,9 @@ there_is image d m name (Some k) s is some = named_at name m.files k (subst (IsF
 pub some_place : (k : ℕ) (x : Option ℕ) → Some k ≡ x → x ≡ None → ⊥
 some_place k x is none = let e : Some k ≡ None = is ∙ none in absurd (cc e)
 
-module _ (old : Spot) (alloc : Global) (called : Text) (f : FileName) where
+module _ (old : Spot) (called : Text) (f : FileName) where
   abbrev tree : List Slot → Act Starting
-  tree units = read_there alloc (machine_of old.state units) called f
+  tree units = read_there (machine_of old.state units) called f
 
   abbrev missing : List Slot → Act Starting
   missing units = refused (no_procedure (machine_of old.state units) f.name.file)
@@ -181,7 +180,7 @@ module _ (old : Spot) (alloc : Global) (called : Text) (f : FileName) where
     seat = seat_with (item_at old.state.table.seats f.letter) d is
 
     abbrev begins_in : List (List ℕ) → List Slot → Act Starting
-    begins_in records units = beginning alloc (machine_of old.state units) called f (procedure_of records)
+    begins_in records units = beginning (machine_of old.state units) called f (procedure_of records)
 
     abbrev fails_on : List Slot → Act Starting
     fails_on units = refused (device_fault (machine_of old.state units) (vdev_of (machine_of old.state units) seat.0.letter.unit))
@@ -300,14 +299,14 @@ module _ (old : Spot) (alloc : Global) (called : Text) (f : FileName) where
 
 -- ---- the procedure in the data of a file
 
-module _ (old : Spot) (alloc : Global) (called : Text) (f : FileName) (stored : FileData) (valid : IsValid stored) where
+module _ (old : Spot) (called : Text) (f : FileName) (stored : FileData) (valid : IsValid stored) where
   abbrev begins_tree : List Slot → Act Starting
-  begins_tree units = beginning alloc (machine_of old.state units) called f (procedure_of (records_in stored))
+  begins_tree units = beginning (machine_of old.state units) called f (procedure_of (records_in stored))
 
   stands : StandsFor stored (records_in stored)
   stands = subst (λ (records : List (List ℕ)). StandsFor stored records) (sym (records_are stored valid.records valid.stands)) valid.stands
 
-  pub has_begun : (lines : List Text) (exec : Exec) → ((records : List (List ℕ)) → StandsFor stored records → procedure_of records ≡ Ok lines) → begun alloc lines called f ≡ Ok exec
+  pub has_begun : (lines : List Text) (exec : Procedure) → ((records : List (List ℕ)) → StandsFor stored records → procedure_of records ≡ Ok lines) → begun lines called f ≡ Ok exec
       → Acts old old begins_tree (Ok (Begun exec)) (started_of old.state)
   has_begun lines exec is begins =
       let all = is (records_in stored) stands in
@@ -325,9 +324,9 @@ module _ (old : Spot) (alloc : Global) (called : Text) (f : FileName) (stored : 
 
 -- ---- how many run
 
-module _ (old new : Spot) (alloc : Global) (running : ℕ) (called : Text) (f : FileName) where
+module _ (old new : Spot) (running : ℕ) (called : Text) (f : FileName) where
   abbrev starts : List Slot → Act Starting
-  starts units = starting alloc running (machine_of old.state units) called f
+  starts units = starting running (machine_of old.state units) called f
 
   pub limit_reached : (r : Result declared.Course End) (x : Result came.Started End) → 50 ≤ running
       → Does old.world new.world (saying (typed_line (message_text (M120 (decimal_of 5))))) r said → IfOk r (λ c. c ≡ course.Went (pos limited)) → new.state ≡ old.state
@@ -336,30 +335,30 @@ module _ (old new : Spot) (alloc : Global) (running : ℕ) (called : Text) (f : 
       let full : nat_le 50 running ≡ true = le-leb 50 running many in
       refused_so old new starts (M120 (decimal_of 5)) (pos limited) r x does went same is (λ units h. rw full refl)
 
-  pub limit_kept : (x : Result came.Started End) → running < 50 → Acts old new (λ units. read_there alloc (machine_of old.state units) called f) x (started_of new.state)
+  pub limit_kept : (x : Result came.Started End) → running < 50 → Acts old new (λ units. read_there (machine_of old.state units) called f) x (started_of new.state)
       → Acts old new starts x (started_of new.state)
   limit_kept x few a =
       let room : nat_le 50 running ≡ false = lt-leb 50 running few in
-      acts_same old new starts (λ units. read_there alloc (machine_of old.state units) called f) x (started_of new.state) (λ units h. rw room refl) a
+      acts_same old new starts (λ units. read_there (machine_of old.state units) called f) x (started_of new.state) (λ units h. rw room refl) a
 
 -- ---- the search
 
-module _ (old new : Spot) (alloc : Global) (running : ℕ) (called : Text) (file : List ℕ) (found : Option FileName)
+module _ (old new : Spot) (running : ℕ) (called : Text) (file : List ℕ) (found : Option FileName)
     (finds : (s : Machine) → Shows old.state.table s → found ≡ procedure_named s file) where
   abbrev named : List Slot → Act Starting
-  named units = start_named alloc running (machine_of old.state units) called file
+  named units = start_named running (machine_of old.state units) called file
 
   named_as : (units : List Slot) → holds old units
-      → named units ≡ on_procedure (machine_of old.state units) file (λ f. starting alloc running (machine_of old.state units) called f) found
+      → named units ≡ on_procedure (machine_of old.state units) file (λ f. starting running (machine_of old.state units) called f) found
   named_as units h =
-      ap (on_procedure (machine_of old.state units) file (λ f. starting alloc running (machine_of old.state units) called f)) (found_held old (λ s. procedure_named s file) found finds units h)
+      ap (on_procedure (machine_of old.state units) file (λ f. starting running (machine_of old.state units) called f)) (found_held old (λ s. procedure_named s file) found finds units h)
 
   pub named_starts : (f : FileName) (x : Result came.Started End) → found ≡ Some f
-      → Acts old new (λ units. starting alloc running (machine_of old.state units) called f) x (started_of new.state) → Acts old new named x (started_of new.state)
+      → Acts old new (λ units. starting running (machine_of old.state units) called f) x (started_of new.state) → Acts old new named x (started_of new.state)
   named_starts f x is a =
-      acts_same old new named (λ units. starting alloc running (machine_of old.state units) called f) x (started_of new.state)
+      acts_same old new named (λ units. starting running (machine_of old.state units) called f) x (started_of new.state)
       (λ units h. named_as units h
-      ∙ ap (on_procedure (machine_of old.state units) file (λ f. starting alloc running (machine_of old.state units) called f)) is) a
+      ∙ ap (on_procedure (machine_of old.state units) file (λ f. starting running (machine_of old.state units) called f)) is) a
 
   pub named_refused : (r : Result declared.Course End) (x : Result came.Started End) → found ≡ None
       → Does old.world new.world (saying (typed_line (message_text (M002 file exec_kind (coded (codes "*")))))) r said → IfOk r (λ c. c ≡ course.Went (pos no_file_code))
@@ -367,24 +366,24 @@ module _ (old new : Spot) (alloc : Global) (running : ℕ) (called : Text) (file
   named_refused r x none does went same is =
       refused_so old new named (M002 file exec_kind (coded (codes "*"))) (pos no_file_code) r x does went same is
       (λ units h. named_as units h
-      ∙ ap (on_procedure (machine_of old.state units) file (λ f. starting alloc running (machine_of old.state units) called f)) none)
+      ∙ ap (on_procedure (machine_of old.state units) file (λ f. starting running (machine_of old.state units) called f)) none)
 
 -- ---- the line
 
-module _ (old new : Spot) (alloc : Global) (running : ℕ) (line : Text) (words : List Token) (called : Text) where
+module _ (old new : Spot) (running : ℕ) (line : Text) (words : List Token) (called : Text) where
   abbrev commands : List Slot → Act Starting
-  commands units = exec_command alloc running (machine_of old.state units) line words
+  commands units = exec_command running (machine_of old.state units) line words
 
   pub operand_read : (file : List ℕ) (x : Result came.Started End) → called ≡ line_from 1 line words → Ok file ≡ exec_operand words
-      → Acts old new (λ units. start_named alloc running (machine_of old.state units) called file) x (started_of new.state) → Acts old new commands x (started_of new.state)
+      → Acts old new (λ units. start_named running (machine_of old.state units) called file) x (started_of new.state) → Acts old new commands x (started_of new.state)
   operand_read file x from is a =
-      acts_same old new commands (λ units. start_named alloc running (machine_of old.state units) called file) x (started_of new.state)
-      (λ units h. ap (exec_operands alloc running (machine_of old.state units) (line_from 1 line words) words) (sym is)
-      ∙ ap (λ (text : Text). start_named alloc running (machine_of old.state units) text file) (sym from)) a
+      acts_same old new commands (λ units. start_named running (machine_of old.state units) called file) x (started_of new.state)
+      (λ units h. ap (exec_operands running (machine_of old.state units) (line_from 1 line words) words) (sym is)
+      ∙ ap (λ (text : Text). start_named running (machine_of old.state units) text file) (sym from)) a
 
   pub operand_refused : (refusal : Refusal) (r : Result declared.Course End) (x : Result came.Started End) → Err refusal ≡ exec_operand words
       → Does old.world new.world (saying (typed_line (message_text (message_of words refusal)))) r said → IfOk r (λ c. c ≡ course.Went (pos (code_of refusal)))
       → new.state ≡ old.state → x ≡ with_refused r → Acts old new commands x (started_of new.state)
   operand_refused refusal r x is does went same so =
       refused_so old new commands (message_of words refusal) (pos (code_of refusal)) r x does went same so
-      (λ units h. ap (exec_operands alloc running (machine_of old.state units) (line_from 1 line words) words) (sym is))
+      (λ units h. ap (exec_operands running (machine_of old.state units) (line_from 1 line words) words) (sym is))

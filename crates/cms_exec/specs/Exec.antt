@@ -1,6 +1,5 @@
 -- EXEC fn [words], and a line whose first word is the name of a procedure: the procedure's file is read whole, and the procedure begins.
 use Rattle.std.specs.Prelude.{ℕ, pos, ◌+◌, nat_le, if◌then◌else◌, List, [], codes, drop, length, slice_get, Option, Some, None, Result, Ok, Err}
-use Rattle.std.specs.Global.{Global}
 use Rattle.std.specs.Option.{option_map_or}
 use Rattle.cms_fields.specs.Steps.{◌>>=◌}
 use Rattle.cms_text.specs.Numbers.{decimal_of}
@@ -26,7 +25,7 @@ use Rattle.exec2_parse.specs.declared.procedure.ProcFault.{ProcFault}
 use Rattle.exec2_parse.specs.declared.procedure.ProcFault.TheVariants.{NotExec2, LineTooLong, TooManyLines, Memory}
 use Rattle.exec2_run.specs.Faults.{number_of_fault}
 use Rattle.exec2_run.specs.Steps.{begun}
-use Rattle.exec2_run.specs.declared.exec.Exec.{Exec}
+use Rattle.exec2_run.specs.State.{Procedure}
 use Rattle.exec2_run.specs.declared.exec.FileName.{FileName}
 use Rattle.exec2_run.specs.declared.fault.Fault.{Fault}
 use Rattle.cms_exec.specs.Finding.{procedure_named}
@@ -37,7 +36,7 @@ use Rattle.cms_exec.specs.declared.started.Started.TheVariants as came
 
 -- the procedure has begun, before its first statement; or it was refused, and the command ended so
 pub data Starting : Type 0 where
-  HasBegun : Machine → Exec → Starting
+  HasBegun : Machine → Procedure → Starting
   IsRefused : Course → Starting
 
 -- a refusal ends the call
@@ -89,33 +88,33 @@ not_run s file reason = refusal s (M086 file (decimal_of reason)) (not_run_code 
 -- ---- the start
 
 -- the state before its first statement; called by a line it always begins, as a law says
-abbrev pub begins : Machine → Result Exec Fault → Act Starting
+abbrev pub begins : Machine → Result Procedure Fault → Act Starting
 begins s (Ok exec) = Done (HasBegun s exec)
 begins s (Err fault) = Done (IsRefused (Went s (pos (stopped_code + number_of_fault fault))))
 
 -- the procedure of these lines begins; or the file is none: 086
-abbrev pub beginning : Global → Machine → Text → FileName → Result (List Text) ProcFault → Act Starting
-beginning alloc s called f (Ok lines) = begins s (begun alloc lines called f)
-beginning alloc s called f (Err why) = refused (not_run s f.name.file (reason_of why))
+abbrev pub beginning : Machine → Text → FileName → Result (List Text) ProcFault → Act Starting
+beginning s called f (Ok lines) = begins s (begun lines called f)
+beginning s called f (Err why) = refused (not_run s f.name.file (reason_of why))
 
 -- all records of a file are read, and the procedure in them begins: 105, 086
-abbrev pub read_whole : Global → Machine → Text → FileName → UnitFile → Act Starting
-read_whole alloc s called f x =
-    reading silently x.unit x.file (length x.file.records) (beginning alloc s called f (procedure_of x.file.records))
+abbrev pub read_whole : Machine → Text → FileName → UnitFile → Act Starting
+read_whole s called f x =
+    reading silently x.unit x.file (length x.file.records) (beginning s called f (procedure_of x.file.records))
     (refused (device_fault s (vdev_of s x.unit)))
 
 -- the procedure's file is read and begins, where it is there; else it isn't found
-abbrev pub read_found : Global → Machine → Text → FileName → Result UnitFile SearchFault → Act Starting
-read_found alloc s called f (Ok x) = read_whole alloc s called f x
-read_found alloc s called f (Err why) = refused (no_procedure s f.name.file)
+abbrev pub read_found : Machine → Text → FileName → Result UnitFile SearchFault → Act Starting
+read_found s called f (Ok x) = read_whole s called f x
+read_found s called f (Err why) = refused (no_procedure s f.name.file)
 
 -- the same, looked up on the letter on which it was found
-abbrev pub read_there : Global → Machine → Text → FileName → Act Starting
-read_there alloc s called f = read_found alloc s called f (file_on s f.name (letter_at s f.letter))
+abbrev pub read_there : Machine → Text → FileName → Act Starting
+read_there s called f = read_found s called f (file_on s f.name (letter_at s f.letter))
 
 -- a procedure that was found begins, called by a line, where so many run: 120 with 5, 105, 086
-abbrev pub starting : Global → ℕ → Machine → Text → FileName → Act Starting
-starting alloc running s called f = if nat_le most_running running then refused (too_many s) else read_there alloc s called f
+abbrev pub starting : ℕ → Machine → Text → FileName → Act Starting
+starting running s called f = if nat_le most_running running then refused (too_many s) else read_there s called f
 
 -- ---- the line
 
@@ -135,18 +134,18 @@ on_procedure s file next (Some f) = next f
 on_procedure s file next None = refused (no_procedure s file)
 
 -- the procedure of a name begins, which is found first over all disks: 002, 120 with 5, 105, 086
-abbrev pub start_named : Global → ℕ → Machine → Text → List ℕ → Act Starting
-start_named alloc running s called file = on_procedure s file (λ f. starting alloc running s called f) (procedure_named s file)
+abbrev pub start_named : ℕ → Machine → Text → List ℕ → Act Starting
+start_named running s called file = on_procedure s file (λ f. starting running s called f) (procedure_named s file)
 
 -- the procedure of EXEC's operand begins, or the operand is refused
-abbrev pub exec_operands : Global → ℕ → Machine → Text → List Token → Result (List ℕ) Refusal → Act Starting
-exec_operands alloc running s called words (Ok file) = start_named alloc running s called file
-exec_operands alloc running s called words (Err why) = refused (refusal s (message_of words why) (code_of why))
+abbrev pub exec_operands : ℕ → Machine → Text → List Token → Result (List ℕ) Refusal → Act Starting
+exec_operands running s called words (Ok file) = start_named running s called file
+exec_operands running s called words (Err why) = refused (refusal s (message_of words why) (code_of why))
 
 -- EXEC fn [words], where so many procedures run: 054, 062, 002, 120 with 5, 105, 086. The procedure is called by the line from its name on.
-abbrev pub exec_command : Global → ℕ → Machine → Text → List Token → Act Starting
-exec_command alloc running s line words = exec_operands alloc running s (line_from 1 line words) words (exec_operand words)
+abbrev pub exec_command : ℕ → Machine → Text → List Token → Act Starting
+exec_command running s line words = exec_operands running s (line_from 1 line words) words (exec_operand words)
 
 -- a line whose first word is the name of the procedure that was found: 120 with 5, 105, 086
-abbrev pub call_command : Global → ℕ → Machine → Text → List Token → FileName → Act Starting
-call_command alloc running s line words f = starting alloc running s (line_from 0 line words) f
+abbrev pub call_command : ℕ → Machine → Text → List Token → FileName → Act Starting
+call_command running s line words f = starting running s (line_from 0 line words) f

@@ -50,7 +50,8 @@ fn start_named<W: World>(
 ) -> Result<Started, End>
     requires usable { IsUsable (spot W.World world.old state.now) }
     ensures { Acts (spot W.World world.old state.now) (spot W.World world.new state.now)
-        (λ units. spec.start_named alloc running (machine_of state.now units) called.now file) result (spec.started_of state.now) }
+        (λ units. spec.start_named running (machine_of state.now units) called.now file) result
+        (spec.started_of state.now) }
 {
     match find_procedure(&state.table, file) {
         Some(found) => start(alloc, world, state, called, &found, running),
@@ -71,7 +72,8 @@ pub fn run_exec<W: World>(
 ) -> Result<Started, End>
     requires usable { IsUsable (spot W.World world.old state.now) }
     ensures { Acts (spot W.World world.old state.now) (spot W.World world.new state.now)
-        (λ units. spec.exec_command alloc running (machine_of state.now units) line.now words.now) result (spec.started_of state.now) }
+        (λ units. spec.exec_command running (machine_of state.now units) line.now words.now) result
+        (spec.started_of state.now) }
 {
     let called = line_from(alloc, 1, line, words.as_slice())?;
     match exec_operand(words.as_slice()) {
@@ -94,7 +96,8 @@ pub fn run_called<W: World>(
 ) -> Result<Started, End>
     requires usable { IsUsable (spot W.World world.old state.now) }
     ensures { Acts (spot W.World world.old state.now) (spot W.World world.new state.now)
-        (λ units. spec.call_command alloc running (machine_of state.now units) line.now words.now found.now)
+        (λ units. spec.call_command running
+        (machine_of state.now units) line.now words.now found.now)
         result (spec.started_of state.now) }
 {
     let called = line_from(alloc, 0, line, words.as_slice())?;

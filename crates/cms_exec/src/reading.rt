@@ -34,7 +34,8 @@ fn begin<W: World>(
 ) -> Result<Started, End>
     requires valid { IsValid file.now }
     ensures { Acts (spot W.World world.old state.now) (spot W.World world.new state.now)
-        (λ units. spec.beginning alloc (machine_of state.now units) called.now found.now (procedure_of (records_in file.now)))
+        (λ units. spec.beginning (machine_of state.now units) called.now found.now
+        (procedure_of (records_in file.now)))
         result (spec.started_of state.now) }
 {
     match read_procedure(alloc, file) {
@@ -56,7 +57,8 @@ fn read_found<W: World>(
 ) -> Result<Started, End>
     requires usable { IsUsable (spot W.World world.old state.now) }
     ensures { Acts (spot W.World world.old state.now) (spot W.World world.new state.now)
-        (λ units. spec.read_there alloc (machine_of state.now units) called.now found.now) result (spec.started_of state.now) }
+        (λ units. spec.read_there (machine_of state.now units) called.now found.now) result
+        (spec.started_of state.now) }
 {
     let vdev = state.table.vdev(found.letter);
     let Some(disk) = state.table.disk(found.letter) else {
@@ -89,7 +91,8 @@ pub fn start<W: World>(
 ) -> Result<Started, End>
     requires usable { IsUsable (spot W.World world.old state.now) }
     ensures { Acts (spot W.World world.old state.now) (spot W.World world.new state.now)
-        (λ units. spec.starting alloc running (machine_of state.now units) called.now found.now) result (spec.started_of state.now) }
+        (λ units. spec.starting running (machine_of state.now units) called.now found.now) result
+        (spec.started_of state.now) }
 {
     if running >= MOST_RUNNING {
         return refused(refuse_limit(alloc, world, RUNNING_LIMIT));

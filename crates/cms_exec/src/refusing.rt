@@ -55,7 +55,8 @@ pub fn refuse_no_procedure<W: World>(
     file: &Part,
 ) -> Result<Course, End>
     ensures does { Does (seen W.World world.old) (seen W.World world.new)
-        (saying (typed_line (message_text (M002 file.now exec_kind (coded (codes "*")))))) result said }
+        (saying (typed_line (message_text (M002 file.now exec_kind (coded (codes "*")))))) result
+        said }
     ensures went { IfOk result (λ course. course ≡ Went (pos no_file_code)) }
 {
     let message = missing(alloc, file)?;

@@ -4,7 +4,10 @@ use Rattle.std.specs.Prelude.{◌==◌, ◌&&◌, IfOk, nat_lt}
 use Rattle.std.proofs.Math.Seq.{drop-nil, take-append_seam}
 use Rattle.std.proofs.lemmas.Bool.{cases_Bool, lt-ltb, ltb-true, ltb-false, ne_eqb}
 use Rattle.std.proofs.lemmas.List.{drop-append-le, drop-take, drop_all, length-append, map-append}
+use Rattle.std.proofs.lemmas.Option.{same_Some}
+use Rattle.cms_journal.specs.Journal.{Journal, contents_of}
 use Rattle.cms_journal.specs.Told.{Told}
+use Rattle.cms_model.specs.Trees.{image_of}
 use Rattle.cms_model.specs.Changes.{Drop, file_named}
 use Rattle.cms_model.specs.LawsUpdates.{now}
 use Rattle.cms_model.specs.Minidisks.{File, Minidisk, Volume}
@@ -13,7 +16,8 @@ use Rattle.cms_machine.specs.Runs.{Ran}
 use Rattle.cms_machine.specs.Slots.{Slot, Settled}
 use Rattle.cms_machine.specs.Steps.{Outcome}
 use Rattle.cms_machine.proofs.Join.{ran_none}
-use Rattle.cms_disk.specs.Cursors.{Reading, SameFile, text_of}
+use Rattle.cms_disk.specs.Cursors.{HasLeft, Reading, SameFile, text_of}
+use Rattle.cms_edf.specs.OpeningSteps.{OfImage}
 use Rattle.cms_disk.specs.declared.fault.DiskFault.{DiskFault}
 use Rattle.cms_disk.specs.declared.fault.DiskFault.TheVariants as failed
 use Rattle.cms_line.specs.Messages.{message_text}
@@ -39,14 +43,15 @@ use Rattle.cms_world.specs.Seen.{OnlyReads, Seen}
 use Rattle.cms_files.specs.Consuming.{is_consumed}
 use Rattle.cms_files.specs.Files.{UnitFile}
 use Rattle.cms_files.specs.Opening.{IsOpened}
-use Rattle.cms_files.specs.Stacking.{stacking}
+use Rattle.cms_files.specs.Stacking.{StacksSome, stacking}
 use Rattle.cms_files.specs.Updating.{updated_of, updating_tree}
 use Rattle.cms_files.specs.declared.updating.Updated as declared_updated
 use Rattle.cms_files.specs.declared.updating.Updated.TheVariants as was
 use Rattle.cms_files.specs.declared.opening.OpenFile.{OpenFile}
 use Rattle.cms_files.proofs.OpenedFiles.{opened_device, opened_reads}
+use Rattle.cms_files.proofs.Stacked.{stacks_none}
 use Rattle.cms_execio.specs.Passing.{IsPast}
-use Rattle.cms_execio.specs.Reading.{code_of_taken, erase_read, if_good, in_front, keep_place, line_of_nth, lines_taken, places_behind, read_done, read_ended, read_found, read_on, read_taken, stack_read, taken_of}
+use Rattle.cms_execio.specs.Reading.{StacksRead, code_of_taken, erase_read, if_good, in_front, keep_place, line_of_nth, lines_found, lines_on, lines_taken, places_behind, read_done, read_ended, read_found, read_on, read_taken, stack_read, taken_of}
 use Rattle.cms_execio.specs.Records.{stacked_line}
 use Rattle.cms_execio.specs.declared.line.ReadLine.{ReadLine}
 
@@ -268,13 +273,71 @@ module _ (old : Spot) (words : List Token) (n : ℕ) (line : ReadLine) (file : O
 
   -- there was no memory to keep a line
   pub taken_starved : (mid new : Spot) (c : Reading) (k : ℕ) (lines : List (List ℕ)) → TakenSoFar line front old.world mid.world file.cursor c k lines
-      → HasRead mid.world new.world → Acts {T = declared.Course} old new tree (Err Memory) (course_of new.state)
-  taken_starved mid new c k lines so read =
+      → HasRead mid.world new.world → new.state.table ≡ old.state.table → Acts {T = declared.Course} old new tree (Err Memory) (course_of new.state)
+  taken_starved mid new c k lines so read same =
       let all = reads_then old.world mid.world new.world so.read read in
       let edges = all.edges in
-      cut_off old new tree (course_of new.state) all.told all.faults (omega arith)
+      cut_off old new tree (course_of new.state) all.told all.faults (omega arith) same
+
+  -- the lines that are wanted are those of the file that is found
+  lines_here : (units : List Slot) → holds old units
+      → (records : List (List ℕ)) × OfImage old.world.told file.cursor.unit (λ image. HasLeft image file.cursor records)
+      × (lines_on (machine_of old.state units) line n ≡ lines_taken line.style.strips front taken records)
+  lines_here units h =
+      let k = meets_at old units n o.seat o.there h in
+      let m = k.met.minidisk in
+      let image = now k.journal o.seat.disk.volume.unit in
+      let f = o.opens image m k.met.is.stands in
+      let s = machine_of old.state units in
+      let x : UnitFile = record { unit = o.seat.letter.unit; file = f.0 } in
+      let long : length f.0.records ≡ file.count = left_long image file.cursor f.0.records f.2 ∙ sym o.count in
+      let letter = letter_is old.state.table n o.seat o.there in
+      let slot = k.met.slot in
+      let named = f.1 in
+      let here : lines_on s line n ≡ lines_found s line x = rw (letter, slot, named) refl in
+      let took = λ (j t : ℕ). lines_taken line.style.strips j t f.0.records in
+      let left = λ (j : Journal) (is : old.world.told ≡ Some j).
+      subst (λ (z : Journal). HasLeft (image_of (contents_of z file.cursor.unit)) file.cursor f.0.records) (same_Some k.journal j (sym k.told ∙ is))
+      (subst (λ (u : ℕ). HasLeft (image_of (contents_of k.journal u)) file.cursor f.0.records) (sym o.starts.first.unit) f.2) in (
+        f.0.records,
+        left,
+        here
+            ∙ (ap (λ (v : ℕ). took (in_front old.state.places line.range v) (taken_of line.range.count (length f.0.records - in_front old.state.places line.range v)))
+            (opened_device old.state units n line.range.input.name file o)
+            ∙ (ap (λ (j : ℕ). took j (taken_of line.range.count (length f.0.records - j))) (sym front_is)
+            ∙ (ap (λ (j : ℕ). took front (taken_of line.range.count (j - front))) long ∙ ap (took front) (sym taken_is)))),
+      )
+
+  -- none is wanted
+  pub lines_none : taken ≡ 0 → (units : List Slot) → holds old units → [] ≡ lines_on (machine_of old.state units) line n
+  lines_none none units h =
+      let l = lines_here units h in
+      sym (l.2 ∙ ap (λ (t : ℕ). lines_taken line.style.strips front t l.0) none)
+
+  -- all that are wanted were handed out
+  pub lines_all : (mid : Spot) (c : Reading) (k : ℕ) (lines : List (List ℕ)) → TakenSoFar line front old.world mid.world file.cursor c k lines → k ≡ front + taken
+      → (units : List Slot) → holds old units → lines ≡ lines_on (machine_of old.state units) line n
+  lines_all mid c k lines so all units h =
+      let l = lines_here units h in
+      let j = meets_at old units n o.seat o.there h in
+      let s = so.handed.left j.journal j.told l.0 (l.1 j.journal j.told) in
+      let so_long : length so.handed.front ≡ front + taken = so.long ∙ all in
+      so.lines_are
+      ∙ sym (ap (map (stacked_line line.style.strips)) (sym (drop-take front taken l.0)
+      ∙ ap (drop front) (ap (λ (i : ℕ). take i l.0) (sym so_long) ∙ (ap (take (length so.handed.front)) s.is ∙ take-append_seam so.handed.front s.more))))
+      ∙ sym l.2
 
 -- ---- the lines are stacked
+
+-- these are the lines that the machine has
+pub stacks_read : (old : Spot) (new : State) (line : ReadLine) (on : Machine → List (List ℕ)) (lines : List (List ℕ))
+    → StacksSome line.style.end lines old.state.stack new.stack → ((units : List Slot) → holds old units → lines ≡ on (machine_of old.state units)) → StacksRead old new line on
+stacks_read old new line on lines some is units h =
+    subst (λ (l : List (List ℕ)). StacksSome line.style.end l old.state.stack new.stack) (is units h) some
+
+-- none was stacked
+pub stacks_nothing : (old : Spot) (line : ReadLine) (on : Machine → List (List ℕ)) → StacksRead old old.state line on
+stacks_nothing old line on units h = stacks_none line.style.end (on (machine_of old.state units)) old.state.stack
 
 -- another code than 0 ends the command
 ends_so : (next : Machine → Act Course) (s : State) (units : List Slot) (x : declared.Course) → (x ≡ course.Went (pos 0) → ⊥) → if_good next (course_of s units x) ≡ Done (course_of s units x)

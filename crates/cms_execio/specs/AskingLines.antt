@@ -1,5 +1,5 @@
 -- Lines that are asked for, as a call does it.
-use Rattle.std.specs.Prelude.{ℕ, List, []}
+use Rattle.std.specs.Prelude.{◌≡◌, ◌≤◌, ℕ, List, [], drop}
 use Rattle.cms_machine.specs.Acts.{Act}
 use Rattle.cms_machine.specs.Slots.{Slot}
 use Rattle.cms_search.specs.Calls.{Meaning, machine_of}
@@ -21,3 +21,7 @@ asked_in s Spent = writing.Spent
 -- the lines that were given, or that the turns are spent, with the state that is left
 abbrev pub asked_lines_of : State → Meaning AskedLines writing.AskedLines
 asked_lines_of s units x = asked_in (machine_of s units) x
+
+-- of a stack only lines at its front are gone, so many at most
+abbrev pub TakesFront : ℕ → List (List ℕ) → List (List ℕ) → Type 0
+TakesFront most was now = (n : ℕ) × (n ≤ most) × (now ≡ drop n was)

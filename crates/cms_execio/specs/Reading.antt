@@ -1,20 +1,25 @@
 -- DISKR: records of a file are stacked.
-use Rattle.std.specs.Prelude.{ℕ, zero, suc, pos, negsuc, ◌+◌, ◌-◌, ◌==◌, ◌&&◌, nat_lt, if◌then◌else◌, Bool, true, false, List, [], ◌∷◌, drop, length, map, min, take, Option, Some, None}
+use Rattle.std.specs.Prelude.{ℕ, zero, suc, pos, negsuc, ◌+◌, ◌-◌, ◌==◌, ◌&&◌, nat_lt, if◌then◌else◌, Bool, true, false, List, [], ◌∷◌, drop, length, map, min, take, Option, Some, None, Result, Ok, Err}
 use Rattle.std.specs.FinMap.{get, insert}
 use Rattle.std.specs.Option.{option_map_or, unwrap_or}
 use Rattle.cms_names.specs.declared.name.Name.{Name}
 use Rattle.cms_model.specs.Changes.{Drop}
 use Rattle.cms_machine.specs.Acts.{Act, Done, bind}
+use Rattle.cms_machine.specs.Slots.{Slot}
 use Rattle.cms_line.specs.declared.token.Token.{Token}
 use Rattle.cms_search.specs.Machine.{Machine, Course, Places, Went, OutOfTurns, letter_at, place_key}
 use Rattle.cms_search.specs.Reading.{after}
 use Rattle.cms_search.specs.Refusing.{device_fault}
 use Rattle.cms_search.specs.Releasing.{vdev_of}
+use Rattle.cms_search.specs.Calls.{Spot, holds, machine_of}
+use Rattle.cms_search.specs.declared.fault.SearchFault.{SearchFault}
+use Rattle.cms_search.specs.declared.search.Found.{Found}
+use Rattle.cms_search.specs.declared.state.State.{State}
 use Rattle.cms_search.specs.Stepping.{reading, silently, unless_failed}
 use Rattle.cms_search.specs.declared.place_event.PlaceEvent.TheVariants as event
 use Rattle.cms_files.specs.Consuming.{is_consumed}
 use Rattle.cms_files.specs.Files.{UnitFile, file_found, file_on, on_found}
-use Rattle.cms_files.specs.Stacking.{stacking}
+use Rattle.cms_files.specs.Stacking.{StacksSome, stacking}
 use Rattle.cms_files.specs.Updating.{updating}
 use Rattle.cms_execio.specs.Records.{stacked_line}
 use Rattle.cms_execio.specs.declared.line.ReadLine.{ReadLine}
@@ -105,6 +110,21 @@ read_from s line n x vdev front = read_taken s line n x vdev front (taken_of lin
 abbrev pub read_found : Machine → ReadLine → ℕ → UnitFile → Act Course
 read_found s line n x = read_from s line n x (vdev_of s x.unit) (in_front s.places line.range (vdev_of s x.unit))
 
+-- the lines of a file's records that are wanted
+abbrev pub lines_found : Machine → ReadLine → UnitFile → List (List ℕ)
+lines_found s line x =
+    let front = in_front s.places line.range (vdev_of s x.unit) in
+    lines_taken line.style.strips front (taken_of line.range.count (length x.file.records - front)) x.file.records
+
+-- those of what was found; none where nothing was
+abbrev pub lines_in : Machine → ReadLine → Result UnitFile SearchFault → List (List ℕ)
+lines_in s line (Ok x) = lines_found s line x
+lines_in s line (Err fault) = []
+
+-- those of the file of the line's name on the disk of letter n
+abbrev pub lines_on : Machine → ReadLine → ℕ → List (List ℕ)
+lines_on s line n = lines_in s line (file_on s line.range.input.name (letter_at s n))
+
 -- the file of the line's name on the disk of letter n
 abbrev pub read_on : Machine → List Token → ReadLine → ℕ → Act Course
 read_on s words line n = on_found s words 3 (read_found s line n) (file_on s line.range.input.name (letter_at s n))
@@ -112,3 +132,15 @@ read_on s words line n = on_found s words 3 (read_found s line n) (file_on s lin
 -- records of a file are stacked; one of mode number 3 is erased behind its last: 069, 002, 105, 120, 107
 abbrev pub disk_read : Machine → List Token → ReadLine → Act Course
 disk_read s words line = on_found s words 3 (λ found. read_on s words line found.letter) (file_found s line.range.input)
+
+-- ---- what is stacked, also where it is cut off
+
+-- the lines of the file that a search found; none where it found none
+abbrev pub lines_read : Machine → ReadLine → Result Found SearchFault → List (List ℕ)
+lines_read s line (Ok found) = lines_on s line found.letter
+lines_read s line (Err fault) = []
+
+-- some of the lines that the machine has there are stacked, the first ones, whichever units it holds
+abbrev pub StacksRead : Spot → State → ReadLine → (Machine → List (List ℕ)) → Type 0
+StacksRead old new line lines =
+    (units : List Slot) → holds old units → StacksSome line.style.end (lines (machine_of old.state units)) old.state.stack new.stack

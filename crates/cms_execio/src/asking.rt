@@ -1,7 +1,8 @@
 // Lines that DISKW asks for.
-ghost use Rattle.std.specs.Prelude.{◌≡◌, ◌≤◌};
+ghost use Rattle.std.specs.Prelude.{◌≡◌, ◌≤◌, ℕ, List, length, IfOk};
 ghost use Rattle.cms_search.specs.Calls.{Acts, spot};
-ghost use Rattle.cms_execio.specs.AskingLines.{asked_lines_of, asking_tree};
+ghost use Rattle.cms_execio.specs.AskingLines.{TakesFront, asked_lines_of, asking_tree};
+ghost use Rattle.cms_execio.specs.declared.asking.AskedLines.TheVariants.{All};
 
 use cms_line::Lines;
 use cms_search::{Asked, End, State};
@@ -25,7 +26,14 @@ pub fn ask_lines<W: World>(
 ) -> Result<AskedLines, End>
     ensures acts { Acts (spot W.World world.old state.old) (spot W.World world.new state.new)
         (asking_tree state.old count) result (asked_lines_of state.new) }
-    ensures kept { state.new ≡ record state.old { stack = state.new.stack; console = state.new.console; left = state.new.left } }
+    ensures all { IfOk result (λ asked. (lines : List (List ℕ)) → asked ≡ All lines
+        → length lines ≡ count) }
+    ensures kept { state.new ≡ record state.old {
+      stack = state.new.stack;
+      console = state.new.console;
+      left = state.new.left;
+    } }
+    ensures stack { TakesFront count state.old.stack state.new.stack }
     ensures left { state.new.left ≤ state.old.left }
 {
     let mut lines = Lines::new(alloc);

@@ -8,11 +8,14 @@ ghost use Rattle.cms_search.specs.Tables.{letters_of, writing};
 ghost use Rattle.cms_search.specs.declared.state.Course.TheVariants.{Went};
 ghost use Rattle.cms_line.specs.declared.token.Token.{Token};
 ghost use Rattle.cms_search.specs.Calls.{Acts, IsUsable, course_of, machine_of, spot};
+ghost use Rattle.cms_files.specs.Files.{file_found};
 ghost use Rattle.cms_files.specs.Opening.{IsOpened};
+ghost use Rattle.cms_files.specs.Stacking.{StacksSome};
 ghost use Rattle.cms_disk.specs.Cursors.{IsUnread, block_behind};
 ghost use Rattle.cms_names.specs.declared.name.Format.TheVariants.{F};
 ghost use Rattle.cms_execio.specs.Passing.{IsPast};
 ghost use Rattle.cms_execio.specs.Reading as spec;
+ghost use Rattle.cms_execio.specs.Reading.{StacksRead, lines_on, lines_read};
 
 use crate::line::ReadLine;
 use crate::place::{code_of_taken, go_on, in_front, taken_of};
@@ -42,10 +45,12 @@ impl Span {
     // The records of a file that the line says.
     fn of(places: &Places, line: &ReadLine, file: &OpenFile) -> Span
         ensures front { result.front ≡ spec.in_front places.now line.now.range file.now.vdev }
-        ensures taken { result.taken ≡ spec.taken_of line.now.range.count (file.now.count - result.front) }
+        ensures taken { result.taken ≡ spec.taken_of line.now.range.count
+            (file.now.count - result.front) }
         ensures few { result.taken ≤ file.now.count - result.front }
         ensures fits { result.front + result.taken < 2 ^ 32 }
-        ensures last { result.last ≡ (nat_lt 0 result.taken && (result.front + result.taken == file.now.count)) }
+        ensures last { result.last ≡
+            (nat_lt 0 result.taken && (result.front + result.taken == file.now.count)) }
     {
         let front = in_front(places, &line.range, file.vdev);
         let taken = taken_of(line.range.count, file.count.saturating_sub(front));
@@ -66,7 +71,8 @@ fn keep_nth(
     nth: u32,
     text: &[u8],
 ) -> Result<(), AllocError>
-    ensures { OnOk result (lines.new ≡ lines.old ++ spec.line_of_nth line.now.style.strips front nth text.now) }
+    ensures { OnOk result (lines.new
+        ≡ lines.old ++ spec.line_of_nth line.now.style.strips front nth text.now) }
 {
     if nth < front {
         return Ok(());
@@ -108,8 +114,12 @@ fn erase_read<W: World>(
     requires there { ForSome (item_at state.old.table.seats letter)
         (λ s. IsSome (place_of line.now.range.input.name s.disk.volume)) }
     ensures acts { Acts (spot W.World world.old state.old) (spot W.World world.new state.new)
-        (λ units. spec.erase_read line.now letter taken (machine_of state.old units)) result (course_of state.new) }
-    ensures kept { state.new ≡ record state.old { table = state.new.table; places = state.new.places } }
+        (λ units. spec.erase_read line.now letter taken (machine_of state.old units)) result
+        (course_of state.new) }
+    ensures kept { state.new ≡ record state.old {
+      table = state.new.table;
+      places = state.new.places;
+    } }
 {
     let name = &line.range.input.name;
     match update_disk(alloc, world, state, letter, &Change::Drop { name })? {
@@ -133,9 +143,13 @@ fn end_read<W: World>(
     requires moment { is_moment state.old.moment ≡ true }
     requires fits { span.front + span.taken < 2 ^ 32 }
     ensures acts { Acts (spot W.World world.old state.old) (spot W.World world.new state.new)
-        (λ units. spec.read_done line.now letter vdev span.last span.front span.taken (machine_of state.old units)) result
+        (λ units. spec.read_done line.now letter vdev span.last span.front span.taken
+        (machine_of state.old units)) result
         (course_of state.new) }
-    ensures kept { state.new ≡ record state.old { table = state.new.table; places = state.new.places } }
+    ensures kept { state.new ≡ record state.old {
+      table = state.new.table;
+      places = state.new.places;
+    } }
 {
     let name = &line.range.input.name;
     if span.last && is_consumed(&state.table, letter, name) {
@@ -161,8 +175,11 @@ fn stack_read<W: World>(
     requires moment { is_moment state.old.moment ≡ true }
     requires fits { span.front + span.taken < 2 ^ 32 }
     ensures acts { Acts (spot W.World world.old state.old) (spot W.World world.new state.new)
-        (λ units. spec.stack_read (machine_of state.old units) line.now letter vdev span.last span.front span.taken lines.now) result
+        (λ units. spec.stack_read
+        (machine_of state.old units) line.now letter vdev span.last span.front span.taken lines.now)
+        result
         (course_of state.new) }
+    ensures stack { StacksSome line.now.style.end lines.now state.old.stack state.new.stack }
     ensures kept { state.new ≡ record state.old {
       table = state.new.table;
       stack = state.new.stack;
@@ -213,8 +230,12 @@ fn read_span<W: World>(
     requires some { 1 ≤ span.taken }
     requires last { span.last ≡ (span.front + span.taken == file.count) }
     requires fits { span.front + span.taken < 2 ^ 32 }
-    ensures acts { (words : List Token) → Acts (spot W.World world.old state.old) (spot W.World world.new state.new)
-        (λ units. spec.read_on (machine_of state.old units) words line.now letter) result (course_of state.new) }
+    ensures acts { (words : List Token)
+        → Acts (spot W.World world.old state.old) (spot W.World world.new state.new)
+        (λ units. spec.read_on (machine_of state.old units) words line.now letter) result
+        (course_of state.new) }
+    ensures stack { StacksRead (spot W.World world.old state.old) state.new line.now
+        (λ s. lines_on s line.now letter) }
     ensures kept { state.new ≡ record state.old {
       table = state.new.table;
       stack = state.new.stack;
@@ -247,8 +268,12 @@ fn read_records<W: World>(
     requires usable { IsUsable (spot W.World world.old state.old) }
     requires moment { is_moment state.old.moment ≡ true }
     requires opened { IsOpened state.old.table letter line.now.range.input.name file }
-    ensures acts { (words : List Token) → Acts (spot W.World world.old state.old) (spot W.World world.new state.new)
-        (λ units. spec.read_on (machine_of state.old units) words line.now letter) result (course_of state.new) }
+    ensures acts { (words : List Token)
+        → Acts (spot W.World world.old state.old) (spot W.World world.new state.new)
+        (λ units. spec.read_on (machine_of state.old units) words line.now letter) result
+        (course_of state.new) }
+    ensures stack { StacksRead (spot W.World world.old state.old) state.new line.now
+        (λ s. lines_on s line.now letter) }
     ensures kept { state.new ≡ record state.old {
       table = state.new.table;
       stack = state.new.stack;
@@ -275,7 +300,10 @@ fn read_on<W: World>(
     requires usable { IsUsable (spot W.World world.old state.old) }
     requires moment { is_moment state.old.moment ≡ true }
     ensures acts { Acts (spot W.World world.old state.old) (spot W.World world.new state.new)
-        (λ units. spec.read_on (machine_of state.old units) words.now line.now letter) result (course_of state.new) }
+        (λ units. spec.read_on (machine_of state.old units) words.now line.now letter) result
+        (course_of state.new) }
+    ensures stack { StacksRead (spot W.World world.old state.old) state.new line.now
+        (λ s. lines_on s line.now letter) }
     ensures kept { state.new ≡ record state.old {
       table = state.new.table;
       stack = state.new.stack;
@@ -289,7 +317,7 @@ fn read_on<W: World>(
 }
 
 /// EXECIO's DISKR: records of a file are stacked, all that are wanted or none. A file of mode number 3 is erased once its last record was
-/// stacked.
+/// stacked. Without memory for one of the lines those before it stay stacked.
 pub fn disk_read<W: World>(
     alloc: Global,
     world: &mut W,
@@ -300,7 +328,10 @@ pub fn disk_read<W: World>(
     requires usable { IsUsable (spot W.World world.old state.old) }
     requires moment { is_moment state.old.moment ≡ true }
     ensures acts { Acts (spot W.World world.old state.old) (spot W.World world.new state.new)
-        (λ units. spec.disk_read (machine_of state.old units) words.now line.now) result (course_of state.new) }
+        (λ units. spec.disk_read (machine_of state.old units) words.now line.now) result
+        (course_of state.new) }
+    ensures stack { StacksRead (spot W.World world.old state.old) state.new line.now
+        (λ s. lines_read s line.now (file_found s line.now.range.input)) }
     ensures kept { state.new ≡ record state.old {
       table = state.new.table;
       stack = state.new.stack;

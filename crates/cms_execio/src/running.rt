@@ -23,7 +23,8 @@ fn transfer<W: World>(
     requires usable { IsUsable (spot W.World world.old state.old) }
     requires moment { is_moment state.old.moment ≡ true }
     ensures acts { Acts (spot W.World world.old state.old) (spot W.World world.new state.new)
-        (λ units. spec.transferring (machine_of state.old units) words.now line) result (course_of state.new) }
+        (λ units. spec.transferring (machine_of state.old units) words.now line) result
+        (course_of state.new) }
     ensures kept { state.new ≡ record state.old {
       table = state.new.table;
       stack = state.new.stack;
@@ -50,7 +51,8 @@ pub fn run_execio<W: World>(
     requires usable { IsUsable (spot W.World world.old state.old) }
     requires moment { is_moment state.old.moment ≡ true }
     ensures acts { Acts (spot W.World world.old state.old) (spot W.World world.new state.new)
-        (λ units. spec.execio (machine_of state.old units) line.now words.now) result (course_of state.new) }
+        (λ units. spec.execio (machine_of state.old units) line.now words.now) result
+        (course_of state.new) }
     ensures kept { state.new ≡ record state.old {
       table = state.new.table;
       stack = state.new.stack;

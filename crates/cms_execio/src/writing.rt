@@ -1,18 +1,20 @@
 // DISKW: lines are written into a file.
-ghost use Rattle.std.specs.Prelude.{◌≡◌, ◌≤◌, replicate, true, IfOk, Ok, Some};
+ghost use Rattle.std.specs.Prelude.{◌≡◌, ◌≤◌, ℕ, List, length, replicate, true, IfOk, Ok, Some};
 ghost use Rattle.cms_fields.specs.Moments.{is_moment, stamp_of};
 ghost use Rattle.cms_fields.specs.Stamps.{is_stamp};
 ghost use Rattle.cms_model.specs.Changes.{Add, Put};
 ghost use Rattle.cms_names.specs.declared.name.Format.TheVariants.{V};
+ghost use Rattle.cms_disk.specs.Disks.{IsFileInfo};
 ghost use Rattle.cms_files.specs.Gathering.{AreData};
 ghost use Rattle.cms_files.specs.Told as named;
 ghost use Rattle.cms_files.specs.Updating.{last_update};
 ghost use Rattle.cms_search.specs.Calls.{Acts, IsUsable, course_of, machine_of, spot};
 ghost use Rattle.cms_search.specs.Searches.{Shelf, item_at};
 ghost use Rattle.cms_search.specs.Tables.{letters_of, writing};
-ghost use Rattle.cms_execio.specs.AskingLines.{asked_lines_of};
+ghost use Rattle.cms_execio.specs.AskingLines.{TakesFront, asked_lines_of};
 ghost use Rattle.cms_execio.specs.Records.{records_of};
 ghost use Rattle.cms_execio.specs.Writing as spec;
+ghost use Rattle.cms_execio.specs.declared.asking.AskedLines.TheVariants.{All};
 
 use crate::asking::{AskedLines, ask_lines};
 use crate::line::WriteTarget;
@@ -49,8 +51,16 @@ fn lines_for<W: World>(
     text: Option<Line>,
 ) -> Result<AskedLines, End>
     ensures acts { Acts (spot W.World world.old state.old) (spot W.World world.new state.new)
-        (λ units. spec.lines_for (machine_of state.old units) target.now text) result (asked_lines_of state.new) }
-    ensures kept { state.new ≡ record state.old { stack = state.new.stack; console = state.new.console; left = state.new.left } }
+        (λ units. spec.lines_for (machine_of state.old units) target.now text) result
+        (asked_lines_of state.new) }
+    ensures all { IfOk result (λ asked. (lines : List (List ℕ)) → asked ≡ All lines
+        → length lines ≡ target.now.count) }
+    ensures kept { state.new ≡ record state.old {
+      stack = state.new.stack;
+      console = state.new.console;
+      left = state.new.left;
+    } }
+    ensures stack { TakesFront target.now.count state.old.stack state.new.stack }
     ensures left { state.new.left ≤ state.old.left }
 {
     match text {
@@ -59,27 +69,31 @@ fn lines_for<W: World>(
     }
 }
 
-// A new file of lines.
+// A new file of lines, of which there is one.
 fn new_file(alloc: Global, lines: &Lines, stamp: &Stamp) -> Result<FileData, AllocError>
-    requires { is_stamp stamp.now ≡ true }
+    requires some { 1 ≤ length lines.now }
+    requires stamp { is_stamp stamp.now ≡ true }
     ensures { IfOk result (AreData V 0 1 stamp.now (records_of V 0 lines.now)) }
 {
     let records = gather_lines(alloc, Format::V, 0, lines.as_slice())?;
-    records.data(NEW_NUMBER, stamp).ok_or(AllocError)
+    Ok(records.data(NEW_NUMBER, stamp).unwrap())
 }
 
-// Lines, as records of a file of which this is told.
+// Lines, of which there is one, as records of a file of which this is told.
 fn more_records(
     alloc: Global,
     lines: &Lines,
     info: &FileInfo,
     stamp: &Stamp,
 ) -> Result<FileData, AllocError>
-    requires { is_stamp stamp.now ≡ true }
-    ensures { IfOk result (AreData info.now.format info.now.length 1 stamp.now (records_of info.now.format info.now.length lines.now)) }
+    requires some { 1 ≤ length lines.now }
+    requires sound { IsFileInfo info.now }
+    requires stamp { is_stamp stamp.now ≡ true }
+    ensures { IfOk result (AreData info.now.format info.now.length 1 stamp.now
+        (records_of info.now.format info.now.length lines.now)) }
 {
     let records = gather_lines(alloc, info.format, info.length, lines.as_slice())?;
-    records.data(NEW_NUMBER, stamp).ok_or(AllocError)
+    Ok(records.data(NEW_NUMBER, stamp).unwrap())
 }
 
 // Writes lines into a new file.
@@ -91,12 +105,18 @@ fn write_anew<W: World>(
     lines: &Lines,
 ) -> Result<Course, End>
     requires usable { IsUsable (spot W.World world.old state.old) }
-    requires writing { writing (item_at (letters_of state.old.table) target.now.mode.letter) target.now.mode.letter ≡ Ok tt }
+    requires writing { writing (item_at (letters_of state.old.table) target.now.mode.letter)
+        target.now.mode.letter ≡ Ok tt }
+    requires some { 1 ≤ length lines.now }
     requires moment { is_moment state.old.moment ≡ true }
     ensures acts { Acts (spot W.World world.old state.old) (spot W.World world.new state.new)
         (λ units. last_update (machine_of state.old units) target.now.mode.letter
-        (Put (spec.new_file (machine_of state.old units) target.now.name (records_of V 0 lines.now)))) result (course_of state.new) }
-    ensures kept { state.new ≡ record state.old { table = state.new.table; places = state.new.places } }
+        (Put (spec.new_file (machine_of state.old units) target.now.name
+        (records_of V 0 lines.now)))) result (course_of state.new) }
+    ensures kept { state.new ≡ record state.old {
+      table = state.new.table;
+      places = state.new.places;
+    } }
 {
     let stamp = Stamp::of(&state.moment);
     let file = new_file(alloc, lines, &stamp)?;
@@ -120,14 +140,22 @@ fn write_more<W: World>(
     info: &FileInfo,
 ) -> Result<Course, End>
     requires usable { IsUsable (spot W.World world.old state.old) }
-    requires writing { writing (item_at (letters_of state.old.table) target.now.mode.letter) target.now.mode.letter ≡ Ok tt }
-    requires there { named.info_named state.old.table target.now.mode.letter target.now.name ≡ Some info.now }
+    requires writing { writing (item_at (letters_of state.old.table) target.now.mode.letter)
+        target.now.mode.letter ≡ Ok tt }
+    requires some { 1 ≤ length lines.now }
+    requires there { named.info_named state.old.table target.now.mode.letter target.now.name
+        ≡ Some info.now }
+    requires sound { IsFileInfo info.now }
     requires moment { is_moment state.old.moment ≡ true }
     ensures acts { Acts (spot W.World world.old state.old) (spot W.World world.new state.new)
         (λ units. last_update (machine_of state.old units) target.now.mode.letter
-        (Add target.now.name (records_of info.now.format info.now.length lines.now) (stamp_of state.old.moment)))
+        (Add target.now.name (records_of info.now.format info.now.length lines.now)
+        (stamp_of state.old.moment)))
         result (course_of state.new) }
-    ensures kept { state.new ≡ record state.old { table = state.new.table; places = state.new.places } }
+    ensures kept { state.new ≡ record state.old {
+      table = state.new.table;
+      places = state.new.places;
+    } }
 {
     let stamp = Stamp::of(&state.moment);
     let more = more_records(alloc, lines, info, &stamp)?;
@@ -150,11 +178,17 @@ fn write_all<W: World>(
     lines: &Lines,
 ) -> Result<Course, End>
     requires usable { IsUsable (spot W.World world.old state.old) }
-    requires writing { writing (item_at (letters_of state.old.table) target.now.mode.letter) target.now.mode.letter ≡ Ok tt }
+    requires writing { writing (item_at (letters_of state.old.table) target.now.mode.letter)
+        target.now.mode.letter ≡ Ok tt }
+    requires some { 1 ≤ length lines.now }
     requires moment { is_moment state.old.moment ≡ true }
     ensures acts { Acts (spot W.World world.old state.old) (spot W.World world.new state.new)
-        (λ units. spec.writing target.now (machine_of state.old units) lines.now) result (course_of state.new) }
-    ensures kept { state.new ≡ record state.old { table = state.new.table; places = state.new.places } }
+        (λ units. spec.writing target.now (machine_of state.old units) lines.now) result
+        (course_of state.new) }
+    ensures kept { state.new ≡ record state.old {
+      table = state.new.table;
+      places = state.new.places;
+    } }
 {
     match info_named(&state.table, target.mode.letter, &target.name) {
         Some(info) => write_more(alloc, world, state, target, lines, &info),
@@ -171,10 +205,13 @@ fn write_lines<W: World>(
     text: Option<Line>,
 ) -> Result<Course, End>
     requires usable { IsUsable (spot W.World world.old state.old) }
-    requires writing { writing (item_at (letters_of state.old.table) target.now.mode.letter) target.now.mode.letter ≡ Ok tt }
+    requires writing { writing (item_at (letters_of state.old.table) target.now.mode.letter)
+        target.now.mode.letter ≡ Ok tt }
     requires moment { is_moment state.old.moment ≡ true }
-    ensures acts { (shelf : Shelf) → Acts (spot W.World world.old state.old) (spot W.World world.new state.new)
-        (λ units. spec.write_lines (machine_of state.old units) target.now text shelf) result (course_of state.new) }
+    ensures acts { (shelf : Shelf)
+        → Acts (spot W.World world.old state.old) (spot W.World world.new state.new)
+        (λ units. spec.write_lines (machine_of state.old units) target.now text shelf) result
+        (course_of state.new) }
     ensures kept { state.new ≡ record state.old {
       table = state.new.table;
       stack = state.new.stack;
@@ -182,6 +219,7 @@ fn write_lines<W: World>(
       places = state.new.places;
       left = state.new.left;
     } }
+    ensures stack { TakesFront target.now.count state.old.stack state.new.stack }
     ensures left { state.new.left ≤ state.old.left }
 {
     if target.count == 0 {
@@ -205,7 +243,8 @@ pub fn disk_write<W: World>(
     requires usable { IsUsable (spot W.World world.old state.old) }
     requires moment { is_moment state.old.moment ≡ true }
     ensures acts { Acts (spot W.World world.old state.old) (spot W.World world.new state.new)
-        (λ units. spec.disk_write (machine_of state.old units) words.now target.now text) result (course_of state.new) }
+        (λ units. spec.disk_write (machine_of state.old units) words.now target.now text) result
+        (course_of state.new) }
     ensures kept { state.new ≡ record state.old {
       table = state.new.table;
       stack = state.new.stack;
@@ -213,6 +252,7 @@ pub fn disk_write<W: World>(
       places = state.new.places;
       left = state.new.left;
     } }
+    ensures stack { TakesFront target.now.count state.old.stack state.new.stack }
     ensures left { state.new.left ≤ state.old.left }
 {
     match state.table.find_write(target.mode.letter) {

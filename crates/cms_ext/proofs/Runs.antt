@@ -78,9 +78,12 @@ module _ (w : Seen) (s : State) (old new : List Object) (place : ℕ) (reply : E
       subst (λ (os : List Object). Acts {T = declared_met.Met} (spot_in w s old) (spot_in w s os) rounds (Err Memory) (met_of s os))
       (sym (objects_kept old place reply new e a))
       (record {
-        each = λ units h. (units, broke_before (at (spot_in w s old) units) (at (spot_in w s old) units) (rounds units) refl (omega arith) refl);
+        each = λ units h. (
+          units,
+          (h, broke_before (at (spot_in w s old) units) (at (spot_in w s old) units) (rounds units) refl (omega arith) refl),
+        );
         later = later_none w;
-        usable = λ usable. tt;
+        usable = λ usable. usable;
         cause = λ edge. absurd (cc edge);
       })
 

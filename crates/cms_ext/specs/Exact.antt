@@ -5,11 +5,13 @@ use Rattle.std.specs.Ordering.{int_eq}
 use Rattle.cms_model.specs.Minidisks.{same_name}
 use Rattle.cms_machine.specs.Objects.{Content, Reply, Test, Want, Say, Ask, Get, Put, Ended}
 
+-- two lists have the same lines, in the same order
 abbrev pub same_lines : List (List ℕ) → List (List ℕ) → Bool
 same_lines [] [] = true
 same_lines (x ∷ xs) (y ∷ ys) = bytes_eq x y && same_lines xs ys
 same_lines _ _ = false
 
+-- two wants are of one kind, with the same lines, file and code
 abbrev pub same_want : Want → Want → Bool
 same_want (Say xs) (Say ys) = same_lines xs ys
 same_want Ask Ask = true

@@ -34,6 +34,7 @@ pub record Desk : Type 0 where
   pub machine : Machine
   pub objects : List Object
 
+-- this machine beside these objects
 abbrev pub desk : Machine → List Object → Desk
 desk s objects = record { machine = s; objects = objects }
 
@@ -59,6 +60,7 @@ abbrev pub told_code : List Object → Course → Act Met
 told_code objects (command.Went s code) = Done (Told (desk s objects) (object.Refused code))
 told_code objects command.OutOfTurns = Done NoTurns
 
+-- something is refused, of which the extension is told
 abbrev pub refusing : List Object → Act Course → Act Met
 refusing objects refused = bind refused (told_code objects)
 
@@ -68,21 +70,25 @@ unfound_message name n (why.NotAccessed m) = M069 (letter_text m)
 unfound_message name n (why.ReadOnly m) = M037 (letter_text m)
 unfound_message name n other = M002 name.file name.kind (letter_text n)
 
+-- and its code, 36 or 28
 abbrev pub unfound_code : SearchFault → ℕ
 unfound_code (why.NotAccessed m) = no_disk
 unfound_code (why.ReadOnly m) = no_disk
 unfound_code other = no_file_code
 
+-- a file for which the search failed is refused so
 abbrev pub unfound : Desk → Name → ℕ → SearchFault → Act Met
 unfound d name n fault =
     refusing d.objects (refusal d.machine (unfound_message name n fault) (unfound_code fault))
 
 -- ---- a line that is asked for
 
+-- the extension is told the line; or no turn was left for it
 abbrev pub told_line : List Object → Asked → Act Met
 told_line objects (Given s line) = Done (Told (desk s objects) (object.Got line))
 told_line objects Spent = Done NoTurns
 
+-- the stack's next line is asked for, else the console's, and the extension is told it
 abbrev pub asking : Desk → Act Met
 asking d = bind (ask d.machine) (told_line d.objects)
 
@@ -95,6 +101,7 @@ read_whole d x =
     (Done (Told d (object.Records x.file.records)))
     (refusing d.objects (device_fault d.machine (vdev_of d.machine x.unit)))
 
+-- the file that was found is read; or it wasn't found, which is refused
 abbrev pub read_found : Desk → Name → ℕ → Result UnitFile SearchFault → Act Met
 read_found d name n (Ok x) = read_whole d x
 read_found d name n (Err fault) = unfound d name n fault
@@ -123,6 +130,7 @@ file_with s name number format size records = record {
   records = records;
 }
 
+-- the same of records as they are given, before they are cut or filled
 abbrev pub file_of : Machine → Name → ℕ → Format → ℕ → List (List ℕ) → File
 file_of s name number format size records =
     file_with s name number format size (map (record_in format size) records)
@@ -132,9 +140,11 @@ abbrev pub file_put : Machine → Name → List (List ℕ) → Result UnitFile S
 file_put s name records (Err why) = file_of s name 1 V 0 records
 file_put s name records (Ok x) = file_of s name x.file.number x.file.format x.file.length records
 
+-- the change by which the file comes on the disk of letter n
 abbrev pub put_change : Machine → Name → ℕ → List (List ℕ) → Change
 put_change s name n records = Put (file_put s name records (file_on s name (letter_at s n)))
 
+-- the extension is told that the step was done, or the code with which it failed
 abbrev pub told_step : List Object → Stepped → Act Met
 told_step objects (Did s) = Done (Told (desk s objects) object.Went)
 told_step objects (Failed course) = told_code objects course
@@ -144,6 +154,7 @@ abbrev pub put_on : Desk → Name → ℕ → List (List ℕ) → Act Met
 put_on d name n records =
     bind (updating d.machine n (put_change d.machine name n records)) (told_step d.objects)
 
+-- the file is written where its disk was found to be writable; else that is refused
 abbrev pub put_found : Desk → Name → ℕ → List (List ℕ) → Result Shelf SearchFault → Act Met
 put_found d name n records (Ok shelf) = put_on d name n records
 put_found d name n records (Err fault) = unfound d name n fault
@@ -172,6 +183,7 @@ told_at d place reply (Some o) =
     Asks place o reply (λ back. meeting (answered_at d place o back) back.want)
 told_at d place reply None = Done NoTurns
 
+-- one round: so it is for the object in this place
 abbrev pub round : ℕ → Desk → Reply → Act Met
 round place d reply = told_at d place reply (slice_get d.objects place)
 
@@ -181,6 +193,7 @@ again next d reply zero = Done OutOfTurns
 again next d reply (suc left) =
     Turn (λ seconds. next (with_machine d (turned d.machine left seconds)) reply)
 
+-- what follows a round: it is asked again with the reply, or the run ends
 abbrev pub behind : (Desk → Reply → Act Ended) → Met → Act Ended
 behind next (Told d reply) = again next d reply d.machine.left
 behind next (Over d code) = Done (Went d code)

@@ -24,6 +24,7 @@ object_under means word k value = record {
   content = (means k).content value;
 }
 
+-- the object of this box: its code says what the value in it means
 abbrev pub object_in : {X : Type 0} {T : X → Type 0}
     → Means X T → List ℕ → DynBox X Global T → Object
 object_in means word b = object_under means word b.vtable b.value

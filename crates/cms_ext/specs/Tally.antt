@@ -17,6 +17,7 @@ counted n = min (n + 1) most
 abbrev pub held : ℕ → Content
 held n = decimal_of n ∷ []
 
+-- the latter is 0 where nothing is held
 abbrev pub count_in : Content → ℕ
 count_in [] = 0
 count_in (digits ∷ more) = value_of digits
@@ -29,9 +30,11 @@ tally_line n = coded (codes "TALLY ") ++ decimal_of n
 abbrev pub unknown_code : ℕ
 unknown_code = 24
 
+-- it says this count, and holds it
 abbrev pub started : ℕ → Move
 started n = record { want = Say (tally_line n ∷ []); after = held n }
 
+-- it is done with this code, and holds what it held
 abbrev pub ended : Content → ℕ → Move
 ended before code = record { want = Ended (pos code); after = before }
 

@@ -43,7 +43,8 @@ fn read_on<W: World>(
 ) -> Result<Met, End>
     requires usable { IsUsable (spot W.World world.old state.now) }
     ensures { Meets (spot W.World world.old state.now) (spot W.World world.new state.now)
-        (λ d. spec.read_found d name.now letter (file_on d.machine name.now (letter_at d.machine found)))
+        (λ d. spec.read_found d name.now letter
+        (file_on d.machine name.now (letter_at d.machine found)))
         result }
 {
     let vdev = state.table.vdev(found);

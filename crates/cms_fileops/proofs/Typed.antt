@@ -188,7 +188,7 @@ module _ (old : Spot) (words : List Token) (n : ℕ) (line : TypeLine) (file : O
       let passes = passes_then mid.world read'.world new.world (passes_read mid.world read'.world read)
       (passes_does {T = Unit {0}} read'.world new.world (typed_nth line (k + 1) text) (Err e) itself does) in
       read_stops (typing_on line) (typing_one line) old mid new file.cursor c d tree o.seat.letter.unit wanted type_then
-      ended e (course_of new.state) (typing_each line) reads so.handed hands passes.later same
+      ended e (course_of new.state) (typing_each line) reads so.handed hands passes same
       (λ f more is'.
       let long : length f.records ≡ length (front ++ text_of d ∷ []) + length more = ap length is' ∙ length-append (front ++ text_of d ∷ []) more in
       let one : length (front ++ text_of d ∷ []) ≡ length front + 1 = length-append front (text_of d ∷ []) in

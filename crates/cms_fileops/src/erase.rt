@@ -104,8 +104,12 @@ fn erase_file<W: World>(
     requires usable { IsUsable (spot W.World world.old state.old) }
     requires moment { is_moment state.old.moment ≡ true }
     ensures acts { Acts (spot W.World world.old state.old) (spot W.World world.new state.new)
-        (λ units. spec.erase_file (machine_of state.old units) words.now letter name.now) result (updated_of state.new) }
-    ensures kept { state.new ≡ record state.old { table = state.new.table; places = state.new.places } }
+        (λ units. spec.erase_file (machine_of state.old units) words.now letter name.now) result
+        (updated_of state.new) }
+    ensures kept { state.new ≡ record state.old {
+      table = state.new.table;
+      places = state.new.places;
+    } }
 {
     match find_written(&state.table, letter, name) {
         Ok(()) => update_disk(alloc, world, state, letter, &Change::Drop { name }),
@@ -150,8 +154,12 @@ fn erase_files<W: World>(
     requires usable { IsUsable (spot W.World world.old state.old) }
     requires moment { is_moment state.old.moment ≡ true }
     ensures acts { Acts (spot W.World world.old state.old) (spot W.World world.new state.new)
-        (λ units. spec.erase_files (machine_of state.old units) words.now line.now) result (course_of state.new) }
-    ensures kept { state.new ≡ record state.old { table = state.new.table; places = state.new.places } }
+        (λ units. spec.erase_files (machine_of state.old units) words.now line.now) result
+        (course_of state.new) }
+    ensures kept { state.new ≡ record state.old {
+      table = state.new.table;
+      places = state.new.places;
+    } }
 {
     let EraseFiles { names, mode } = line.files;
     let erasing = Erasing {
@@ -173,7 +181,10 @@ pub fn run_erase<W: World>(
     requires moment { is_moment state.old.moment ≡ true }
     ensures acts { Acts (spot W.World world.old state.old) (spot W.World world.new state.new)
         (λ units. spec.erase (machine_of state.old units) words.now) result (course_of state.new) }
-    ensures kept { state.new ≡ record state.old { table = state.new.table; places = state.new.places } }
+    ensures kept { state.new ≡ record state.old {
+      table = state.new.table;
+      places = state.new.places;
+    } }
 {
     match erase_line(alloc, words) {
         Ok(line) => erase_files(alloc, world, state, words, &line),

@@ -175,7 +175,8 @@ fn stop_others<W: World>(
     name: &Name,
 ) -> Result<Updated, End>
     ensures { Acts (spot W.World world.old state.now) (spot W.World world.new state.now)
-        (λ units. spec.others_name (machine_of state.now units) words.now letter name.now) result (updated_of state.now) }
+        (λ units. spec.others_name (machine_of state.now units) words.now letter name.now) result
+        (updated_of state.now) }
 {
     let mode = mode_shown(alloc, letter, words.as_slice())?;
     stop_exists(alloc, world, state, name, mode)
@@ -195,8 +196,12 @@ fn rename_file<W: World>(
     requires moment { is_moment state.old.moment ≡ true }
     requires number { to.now.number ≤ 6 }
     ensures acts { Acts (spot W.World world.old state.old) (spot W.World world.new state.new)
-        (λ units. spec.rename_file (machine_of state.old units) words.now letter from.now to.now) result (updated_of state.new) }
-    ensures kept { state.new ≡ record state.old { table = state.new.table; places = state.new.places } }
+        (λ units. spec.rename_file (machine_of state.old units) words.now letter from.now to.now)
+        result (updated_of state.new) }
+    ensures kept { state.new ≡ record state.old {
+      table = state.new.table;
+      places = state.new.places;
+    } }
 {
     match find_written(&state.table, letter, from) {
         Ok(()) if is_others(&state.table, letter, from, &to.name) => {
@@ -253,8 +258,12 @@ fn rename_files<W: World>(
     requires moment { is_moment state.old.moment ≡ true }
     requires number { spec.HasMode line.now.files.number }
     ensures acts { Acts (spot W.World world.old state.old) (spot W.World world.new state.new)
-        (λ units. spec.rename_files (machine_of state.old units) words.now line.now) result (course_of state.new) }
-    ensures kept { state.new ≡ record state.old { table = state.new.table; places = state.new.places } }
+        (λ units. spec.rename_files (machine_of state.old units) words.now line.now) result
+        (course_of state.new) }
+    ensures kept { state.new ≡ record state.old {
+      table = state.new.table;
+      places = state.new.places;
+    } }
 {
     let files = &line.files;
     let renamer = Renamer { words, line };
@@ -280,7 +289,10 @@ pub fn run_rename<W: World>(
     requires moment { is_moment state.old.moment ≡ true }
     ensures acts { Acts (spot W.World world.old state.old) (spot W.World world.new state.new)
         (λ units. spec.rename (machine_of state.old units) words.now) result (course_of state.new) }
-    ensures kept { state.new ≡ record state.old { table = state.new.table; places = state.new.places } }
+    ensures kept { state.new ≡ record state.old {
+      table = state.new.table;
+      places = state.new.places;
+    } }
 {
     match rename_line(alloc, words) {
         Ok(line) => rename_files(alloc, world, state, words, &line),

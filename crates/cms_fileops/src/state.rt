@@ -36,7 +36,8 @@ fn look_for<W: World>(
     input: &FileInput,
 ) -> Result<Course, End>
     ensures { Acts (spot W.World world.old state.now) (spot W.World world.new state.now)
-        (λ units. spec.look_for (machine_of state.now units) words.now input.now) result (course_of state.now) }
+        (λ units. spec.look_for (machine_of state.now units) words.now input.now) result
+        (course_of state.now) }
 {
     match state.table.find_read(&input.name, &input.mode) {
         Ok(_) => Ok(Course::Went(0)),

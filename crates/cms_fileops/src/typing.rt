@@ -183,7 +183,8 @@ fn type_nth<W: World>(
     nth: u32,
     text: &[u8],
 ) -> Result<(), End>
-    ensures { Does (seen W.World world.old) (seen W.World world.new) (spec.typed_nth line.now nth text.now) result itself }
+    ensures { Does (seen W.World world.old) (seen W.World world.new)
+        (spec.typed_nth line.now nth text.now) result itself }
 {
     if nth < line.range.first {
         return Ok(());
@@ -210,9 +211,14 @@ fn type_records<W: World>(
     requires moment { is_moment state.old.moment ≡ true }
     requires opened { IsOpened state.old.table letter line.now.range.input.name file }
     requires first { line.now.range.first ≤ file.count }
-    ensures acts { (words : List Token) → Acts (spot W.World world.old state.old) (spot W.World world.new state.new)
-        (λ units. spec.type_on (machine_of state.old units) words line.now letter) result (course_of state.new) }
-    ensures kept { state.new ≡ record state.old { table = state.new.table; places = state.new.places } }
+    ensures acts { (words : List Token)
+        → Acts (spot W.World world.old state.old) (spot W.World world.new state.new)
+        (λ units. spec.type_on (machine_of state.old units) words line.now letter) result
+        (course_of state.new) }
+    ensures kept { state.new ≡ record state.old {
+      table = state.new.table;
+      places = state.new.places;
+    } }
 {
     let vdev = file.vdev;
     let count = file.count;
@@ -242,8 +248,12 @@ fn type_on<W: World>(
     requires usable { IsUsable (spot W.World world.old state.old) }
     requires moment { is_moment state.old.moment ≡ true }
     ensures acts { Acts (spot W.World world.old state.old) (spot W.World world.new state.new)
-        (λ units. spec.type_on (machine_of state.old units) words.now line.now letter) result (course_of state.new) }
-    ensures kept { state.new ≡ record state.old { table = state.new.table; places = state.new.places } }
+        (λ units. spec.type_on (machine_of state.old units) words.now line.now letter) result
+        (course_of state.new) }
+    ensures kept { state.new ≡ record state.old {
+      table = state.new.table;
+      places = state.new.places;
+    } }
 {
     match open_file(alloc, &state.table, letter, &line.range.input.name) {
         Ok(file) if file.count < line.range.first => {
@@ -265,8 +275,12 @@ fn type_file<W: World>(
     requires usable { IsUsable (spot W.World world.old state.old) }
     requires moment { is_moment state.old.moment ≡ true }
     ensures acts { Acts (spot W.World world.old state.old) (spot W.World world.new state.new)
-        (λ units. spec.type_file (machine_of state.old units) words.now line.now) result (course_of state.new) }
-    ensures kept { state.new ≡ record state.old { table = state.new.table; places = state.new.places } }
+        (λ units. spec.type_file (machine_of state.old units) words.now line.now) result
+        (course_of state.new) }
+    ensures kept { state.new ≡ record state.old {
+      table = state.new.table;
+      places = state.new.places;
+    } }
 {
     let input = &line.range.input;
     match state.table.find_read(&input.name, &input.mode) {
@@ -285,8 +299,12 @@ pub fn run_type<W: World>(
     requires usable { IsUsable (spot W.World world.old state.old) }
     requires moment { is_moment state.old.moment ≡ true }
     ensures acts { Acts (spot W.World world.old state.old) (spot W.World world.new state.new)
-        (λ units. spec.type_command (machine_of state.old units) words.now) result (course_of state.new) }
-    ensures kept { state.new ≡ record state.old { table = state.new.table; places = state.new.places } }
+        (λ units. spec.type_command (machine_of state.old units) words.now) result
+        (course_of state.new) }
+    ensures kept { state.new ≡ record state.old {
+      table = state.new.table;
+      places = state.new.places;
+    } }
 {
     match type_line(alloc, words) {
         Ok(line) => type_file(alloc, world, state, words, &line),

@@ -1,3 +1,4 @@
+pub mod Stacked
 pub mod Machines
 pub mod Found
 pub mod TakenFiles

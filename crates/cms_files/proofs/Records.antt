@@ -1,9 +1,9 @@
 -- Records that are gathered, one after another.
 use Rattle.std.proofs.Common.{◌≡◌, ℕ, ◌+◌, ◌≤◌, List, [], ◌∷◌, ◌++◌, length, refl, sym, ◌∙◌, ap, arith, append-nil}
-use Rattle.std.specs.Prelude.{max}
+use Rattle.std.specs.Prelude.{All, max}
 use Rattle.std.proofs.lemmas.Grind.{common_steps}
 use Rattle.std.proofs.lemmas.List.{length_push}
-use Rattle.std.proofs.lemmas.List.Elements.{All-append, All-cons, All-nil}
+use Rattle.std.proofs.lemmas.List.Elements.{All-append, All-cons, All-head, All-nil, All-tail}
 use Rattle.cms_names.specs.declared.name.Format.{Format}
 use Rattle.cms_names.specs.declared.name.Format.TheVariants.{F, V}
 use Rattle.cms_fields.specs.Limits.{longest_record}
@@ -11,7 +11,7 @@ use Rattle.cms_model.specs.Records.{Fits, length_of, longest, stored, with_lengt
 use Rattle.cms_model.proofs.Records.{stored_append}
 use Rattle.cms_records.specs.Views.{fitted}
 use Rattle.cms_disk.proofs.Gathering.{longest_append}
-use Rattle.cms_files.specs.Gathering.{IsGathered, record_in}
+use Rattle.cms_files.specs.Gathering.{AreFile, IsGathered, record_in}
 use Rattle.cms_files.specs.declared.gathering.Gathered.{Gathered}
 
 -- ---- none so far
@@ -72,3 +72,28 @@ gathered_varying V size records g g' text is varies same count long bytes some s
 pub no_longest : longest [] ≡ 0
 unfolding longest
 no_longest = refl
+
+-- ---- there is one
+
+longest_high : (size : ℕ) (records : List (List ℕ)) → All (Fits V size) records → longest records ≤ longest_record
+unfolding longest
+longest_high size [] each = omega arith
+longest_high size (text ∷ records) each =
+    let here = All-head (Fits V size) text records each in
+    let rest = longest_high size records (All-tail (Fits V size) text records each) in
+    let short = here.1 in
+    omega (arith, rest, short)
+
+longest_low : (size : ℕ) (records : List (List ℕ)) → 1 ≤ length records → All (Fits V size) records → 1 ≤ longest records
+unfolding longest
+longest_low size [] some each = absurd (omega (arith, some))
+longest_low size (text ∷ records) some each =
+    let here = All-head (Fits V size) text records each in
+    let least = here.0 in
+    omega (arith, least)
+
+-- records that were gathered, of which there is one, are a file's
+pub are_file : (format : Format) (size : ℕ) (records : List (List ℕ)) (g : Gathered) → IsGathered format size records g → 1 ≤ length records
+    → (format ≡ F → (1 ≤ size) × (size ≤ longest_record)) → AreFile format size records
+are_file F size records g is some sized = let fits = sized refl in record { some = some; low = fits.0; high = fits.1 }
+are_file V size records g is some sized = record { some = some; low = longest_low size records some is.each; high = longest_high size records is.each }

@@ -36,5 +36,6 @@ last_consuming s n name = bind (consuming s n name) (unless_failed went)
 
 -- ---- the calls
 
+-- a file that was read to its end goes where it is to be erased, on the machine with these units
 abbrev pub consuming_tree : State → ℕ → Name → List Slot → Act Stepped
 consuming_tree s n name units = consuming (machine_of s units) n name

@@ -1,5 +1,5 @@
 -- Lines that a command leaves on the program stack.
-use Rattle.std.specs.Prelude.{ℕ, pos, ◌+◌, nat_le, if◌then◌else◌, List, ◌++◌, length, reverse}
+use Rattle.std.specs.Prelude.{◌≡◌, ℕ, pos, ◌+◌, ◌<◌, nat_le, if◌then◌else◌, List, ◌++◌, length, reverse, take}
 use Rattle.cms_text.specs.Numbers.{decimal_of}
 use Rattle.cms_machine.specs.Acts.{Act, Done}
 use Rattle.cms_line.specs.Stack.{most_lines}
@@ -13,6 +13,15 @@ use Rattle.cms_files.specs.declared.stacking.StackEnd.TheVariants.{Front, Back}
 abbrev pub stacked : StackEnd → List (List ℕ) → List (List ℕ) → List (List ℕ)
 stacked Back lines stack = stack ++ lines
 stacked Front lines stack = reverse lines ++ stack
+
+-- the first of these lines were stacked, one after another, so many of them
+abbrev pub StacksFirst : StackEnd → List (List ℕ) → List (List ℕ) → List (List ℕ) → Type 0
+StacksFirst end lines was now = (n : ℕ) × (now ≡ stacked end (take n lines) was)
+
+-- so they were; where they don't all fit none was
+pub record StacksSome (end : StackEnd) (lines was now : List (List ℕ)) : Type 0 where
+  pub first : StacksFirst end lines was now
+  pub full : most_lines < length was + length lines → now ≡ was
 
 -- the limit of stacked lines
 abbrev pub stack_limit : ℕ

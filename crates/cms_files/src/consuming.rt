@@ -24,9 +24,12 @@ const READ_ONCE: u8 = 3;
 
 /// Whether reading the file of a name on the disk of a letter to its end erases it: its mode number is 3, and the disk isn't read-only.
 pub fn is_consumed(table: &Table, letter: u8, name: &Name) -> bool
-    ensures machine { (s : Machine) → Shows table.now s → result ≡ spec.is_consumed s letter name.now }
-    ensures writing { result ≡ true → writing (item_at (letters_of table.now) letter) letter ≡ Ok tt }
-    ensures there { result ≡ true → ForSome (item_at table.now.seats letter) (λ s. IsSome (place_of name.now s.disk.volume)) }
+    ensures machine { (s : Machine) → Shows table.now s
+        → result ≡ spec.is_consumed s letter name.now }
+    ensures writing { result ≡ true
+        → writing (item_at (letters_of table.now) letter) letter ≡ Ok tt }
+    ensures there { result ≡ true
+        → ForSome (item_at table.now.seats letter) (λ s. IsSome (place_of name.now s.disk.volume)) }
 {
     match info_named(table, letter, name) {
         Some(info) => info.number == READ_ONCE && table.find_write(letter).is_ok(),
@@ -47,7 +50,10 @@ pub fn consume<W: World>(
     requires moment { is_moment state.old.moment ≡ true }
     ensures acts { Acts (spot W.World world.old state.old) (spot W.World world.new state.new)
         (spec.consuming_tree state.old letter name.now) result (updated_of state.new) }
-    ensures kept { state.new ≡ record state.old { table = state.new.table; places = state.new.places } }
+    ensures kept { state.new ≡ record state.old {
+      table = state.new.table;
+      places = state.new.places;
+    } }
 {
     if !is_consumed(&state.table, letter, name) {
         return Ok(Updated::Done);
@@ -66,8 +72,12 @@ pub fn consume_last<W: World>(
     requires usable { IsUsable (spot W.World world.old state.old) }
     requires moment { is_moment state.old.moment ≡ true }
     ensures acts { Acts (spot W.World world.old state.old) (spot W.World world.new state.new)
-        (λ units. spec.last_consuming (machine_of state.old units) letter name.now) result (course_of state.new) }
-    ensures kept { state.new ≡ record state.old { table = state.new.table; places = state.new.places } }
+        (λ units. spec.last_consuming (machine_of state.old units) letter name.now) result
+        (course_of state.new) }
+    ensures kept { state.new ≡ record state.old {
+      table = state.new.table;
+      places = state.new.places;
+    } }
 {
     match consume(alloc, world, state, letter, name)? {
         Updated::Done => Ok(Course::Went(0)),

@@ -38,8 +38,12 @@ pub trait FileUpdate<F> {
         requires moment { is_moment state.old.moment ≡ true }
         requires takes { takes self.now file.now }
         ensures acts { Acts (spot W.World world.old state.old) (spot W.World world.new state.new)
-            (λ units. tree self.now (machine_of state.old units) file.now) result (updated_of state.new) }
-        ensures kept { state.new ≡ record state.old { table = state.new.table; places = state.new.places } };
+            (λ units. tree self.now (machine_of state.old units) file.now) result
+            (updated_of state.new) }
+        ensures kept { state.new ≡ record state.old {
+          table = state.new.table;
+          places = state.new.places;
+        } };
 }
 
 /// Files are updated one after another, until one is refused.
@@ -54,8 +58,12 @@ pub fn update_each<W: World, F, U: FileUpdate<F>>(
     requires moment { is_moment state.old.moment ≡ true }
     requires takes { All (U.takes update.now) files.now }
     ensures acts { Acts (spot W.World world.old state.old) (spot W.World world.new state.new)
-        (λ units. updating_each (U.tree update.now) files.now (machine_of state.old units)) result (course_of state.new) }
-    ensures kept { state.new ≡ record state.old { table = state.new.table; places = state.new.places } }
+        (λ units. updating_each (U.tree update.now) files.now (machine_of state.old units)) result
+        (course_of state.new) }
+    ensures kept { state.new ≡ record state.old {
+      table = state.new.table;
+      places = state.new.places;
+    } }
 {
     for file in files {
         match update.update(alloc, world, state, file)? {
@@ -82,9 +90,13 @@ pub fn update_taken<W: World, U: FileUpdate<TakenFile>>(
     requires moment { is_moment state.old.moment ≡ true }
     requires takes { (f : Listed) → f.number ≤ 6 → U.takes update.now f }
     ensures acts { Acts (spot W.World world.old state.old) (spot W.World world.new state.new)
-        (λ units. updating_taken (machine_of state.old units) words.now names.now mode.now (U.tree update.now))
+        (λ units. updating_taken (machine_of state.old units) words.now names.now mode.now
+        (U.tree update.now))
         result (course_of state.new) }
-    ensures kept { state.new ≡ record state.old { table = state.new.table; places = state.new.places } }
+    ensures kept { state.new ≡ record state.old {
+      table = state.new.table;
+      places = state.new.places;
+    } }
 {
     match files_written(alloc, &state.table, names, mode) {
         Ok(files) => update_each(alloc, world, state, update, files.as_slice()),

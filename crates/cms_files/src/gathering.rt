@@ -50,8 +50,10 @@ impl Gathered {
     pub fn push(&mut self, text: &[u8]) -> Result<(), AllocError>
         requires some { 1 ≤ length text.now }
         requires short { length text.now ≤ longest_record }
-        ensures { (format : Format) (size : ℕ) (records : List (List ℕ)) → IsGathered format size records self.old
-            → OnOk result (IsGathered format size (records ++ record_in format size text.now ∷ []) self.new) }
+        ensures { (format : Format) (size : ℕ) (records : List (List ℕ))
+            → IsGathered format size records self.old
+            → OnOk result
+            (IsGathered format size (records ++ record_in format size text.now ∷ []) self.new) }
     {
         self.count = self.count.checked_add(1).ok_or(AllocError)?;
         match self.format {
@@ -68,9 +70,11 @@ impl Gathered {
     pub fn data(self, number: u8, stamp: &Stamp) -> Option<FileData>
         requires number { number ≤ 6 }
         requires stamp { is_stamp stamp.now ≡ true }
-        ensures data { (format : Format) (size : ℕ) (records : List (List ℕ)) → IsGathered format size records self
+        ensures data { (format : Format) (size : ℕ) (records : List (List ℕ))
+            → IsGathered format size records self
             → IfSome result (AreData format size number stamp.now records) }
-        ensures some { (format : Format) (size : ℕ) (records : List (List ℕ)) → IsGathered format size records self
+        ensures some { (format : Format) (size : ℕ) (records : List (List ℕ))
+            → IsGathered format size records self
             → IsSome result ↔ AreFile format size records }
     {
         if self.count < 1 || self.length < 1 || self.length > LONGEST_RECORD {

@@ -1,5 +1,6 @@
 // Files that are opened.
-ghost use Rattle.std.specs.Prelude.{◌≡◌, ◌⊎◌, Err, IfOk, IfErr};
+ghost use Rattle.std.specs.Prelude.{◌≡◌, ◌⊎◌, ◌≤◌, Err, IfOk, IfErr};
+ghost use Rattle.cms_fields.specs.Limits.{longest_record};
 ghost use Rattle.cms_search.specs.Machine.{Machine, letter_at};
 ghost use Rattle.cms_search.specs.Shows.{Shows};
 ghost use Rattle.cms_search.specs.declared.fault.SearchFault.TheVariants.{Memory, NotFound};
@@ -24,7 +25,7 @@ pub struct OpenFile {
     pub vdev: u16,
 }
 
-/// Opens the file of a name on the disk of a letter, before its first record: `NotFound` exactly where the letter isn't accessed or its
+/// Opens the file of a name on the disk of a letter, before its first record, of which none is longer than a record may be: `NotFound` exactly where the letter isn't accessed or its
 /// disk has no such file; else there is no memory.
 pub fn open_file(
     alloc: Global,
@@ -33,6 +34,7 @@ pub fn open_file(
     name: &Name,
 ) -> Result<OpenFile, SearchFault>
     ensures opened { IfOk result (IsOpened table.now letter name.now) }
+    ensures short { IfOk result (λ file. file.cursor.begun.longest ≤ longest_record) }
     ensures there { IfOk result (λ file. (s : Machine) → Shows table.now s
         → HasRecords file.count (file_on s name.now (letter_at s letter))) }
     ensures missing { IfErr result (λ e. e ≡ NotFound → (s : Machine) → Shows table.now s

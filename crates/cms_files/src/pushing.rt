@@ -1,5 +1,5 @@
 // Lines that are put onto the program stack.
-ghost use Rattle.std.specs.Prelude.{◌≡◌, ◌+◌, nat_le, length, OnOk};
+ghost use Rattle.std.specs.Prelude.{◌≡◌, ◌+◌, nat_le, length, OnErr, OnOk};
 ghost use Rattle.cms_line.specs.Stack.{most_lines};
 ghost use Rattle.cms_search.specs.Calls.{Acts, course_of, machine_of, spot};
 ghost use Rattle.cms_files.specs.Pushing.{with_line};
@@ -26,7 +26,8 @@ pub fn has_room(stack: &ProgStack, lines: &Lines) -> bool
 
 // Stacks a line.
 fn push(stack: &mut ProgStack, end: StackEnd, line: Line) -> Result<(), PushFault>
-    ensures { OnOk result (stack.new ≡ with_line end line stack.old) }
+    ensures ok { OnOk result (stack.new ≡ with_line end line stack.old) }
+    ensures err { OnErr result (stack.new ≡ stack.old) }
 {
     match end {
         StackEnd::Front => stack.push_front(line),
@@ -34,14 +35,15 @@ fn push(stack: &mut ProgStack, end: StackEnd, line: Line) -> Result<(), PushFaul
     }
 }
 
-// Stacks lines, one after another.
+// Stacks lines, one after another. Without memory for one of them those before it stay stacked.
 fn push_all(
     alloc: Global,
     stack: &mut ProgStack,
     end: StackEnd,
     lines: &[Line],
 ) -> Result<(), AllocError>
-    ensures { OnOk result (stack.new ≡ spec.stacked end lines.now stack.old) }
+    ensures ok { OnOk result (stack.new ≡ spec.stacked end lines.now stack.old) }
+    ensures first { spec.StacksFirst end lines.now stack.old stack.new }
 {
     for line in lines {
         // there is room, so this is want of memory
@@ -53,6 +55,7 @@ fn push_all(
 }
 
 /// Stacks lines behind all others, or one after another in front of them. Where they don't all fit none is stacked, and that is typed.
+/// Without memory for one of them those before it stay stacked.
 pub fn stack_lines<W: World>(
     alloc: Global,
     world: &mut W,
@@ -61,7 +64,9 @@ pub fn stack_lines<W: World>(
     lines: &Lines,
 ) -> Result<Course, End>
     ensures acts { Acts (spot W.World world.old state.old) (spot W.World world.new state.new)
-        (λ units. spec.stacking (machine_of state.old units) end lines.now) result (course_of state.new) }
+        (λ units. spec.stacking (machine_of state.old units) end lines.now) result
+        (course_of state.new) }
+    ensures stack { spec.StacksSome end lines.now state.old.stack state.new.stack }
     ensures kept { state.new ≡ record state.old { stack = state.new.stack } }
 {
     if !has_room(&state.stack, lines) {

@@ -85,7 +85,8 @@ pub(crate) fn refuse_search<W: World>(
     fault: SearchFault,
 ) -> Result<Course, End>
     ensures does { Does (seen W.World world.old) (seen W.World world.new)
-        (saying (typed_line (message_text (spec.search_message words.now place fault)))) result said }
+        (saying (typed_line (message_text (spec.search_message words.now place fault)))) result
+        said }
     ensures went { IfOk result (λ course. course ≡ Went (pos (spec.search_code fault))) }
 {
     let message = search_message(alloc, words, place, fault)?;
@@ -101,7 +102,8 @@ pub fn refuse_unfound<W: World>(
     place: u8,
     fault: SearchFault,
 ) -> Result<Course, End>
-    ensures { RefusesSearch (seen W.World world.old) (seen W.World world.new) words.now place fault result }
+    ensures { RefusesSearch (seen W.World world.old)
+        (seen W.World world.new) words.now place fault result }
 {
     match fault {
         SearchFault::Memory => Err(End::Memory),

@@ -64,7 +64,8 @@ fn collect(
     names: &NameChoice,
     number: Option<u8>,
 ) -> Result<TakenFiles, AllocError>
-    ensures taken { IfOk result (λ files. files ≡ filter (spec.is_taken names.now number) (map listed_held disk.now.volume.files)) }
+    ensures taken { IfOk result (λ files. files
+        ≡ filter (spec.is_taken names.now number) (map listed_held disk.now.volume.files)) }
     ensures numbers { IfOk result (All (λ f. f.number ≤ 6)) }
 {
     let mut files = TakenFiles::new(alloc);
@@ -86,9 +87,11 @@ pub fn files_written(
     names: &NameChoice,
     mode: &WriteMode,
 ) -> Result<TakenFiles, SearchFault>
-    ensures found { IfOk result (λ files. spec.files_written (shelves_of table.now) names.now mode.now ≡ Ok files) }
+    ensures found { IfOk result (λ files.
+        spec.files_written (shelves_of table.now) names.now mode.now ≡ Ok files) }
     ensures numbers { IfOk result (All (λ f. f.number ≤ 6)) }
-    ensures refused { IfErr result (λ e. (e ≡ Memory) ⊎ (spec.files_written (shelves_of table.now) names.now mode.now ≡ Err e)) }
+    ensures refused { IfErr result (λ e. (e ≡ Memory)
+        ⊎ (spec.files_written (shelves_of table.now) names.now mode.now ≡ Err e)) }
 {
     table.find_write(mode.letter)?;
     let Some(disk) = table.disk(mode.letter) else {
@@ -104,10 +107,13 @@ pub fn files_written(
 /// Whether the disk of a letter may be written and has a file of a name: `NotAccessed` and `ReadOnly` as above, else `NotFound` exactly
 /// where it has none.
 pub fn find_written(table: &Table, letter: u8, name: &Name) -> Result<(), SearchFault>
-    ensures found { OnOk result (IsSome (spec.found_shelf (spec.shelf_with (shelves_of table.now) letter name.now))) }
-    ensures refused { IfErr result (λ e. spec.shelf_with (shelves_of table.now) letter name.now ≡ Err e) }
+    ensures found { OnOk result (IsSome
+        (spec.found_shelf (spec.shelf_with (shelves_of table.now) letter name.now))) }
+    ensures refused { IfErr result (λ e. spec.shelf_with (shelves_of table.now) letter name.now
+        ≡ Err e) }
     ensures writing { OnOk result (writing (item_at (letters_of table.now) letter) letter ≡ Ok tt) }
-    ensures there { OnOk result (ForSome (item_at table.now.seats letter) (λ s. IsSome (place_of name.now s.disk.volume))) }
+    ensures there { OnOk result (ForSome (item_at table.now.seats letter)
+        (λ s. IsSome (place_of name.now s.disk.volume))) }
 {
     table.find_write(letter)?;
     match table.disk(letter) {

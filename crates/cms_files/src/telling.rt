@@ -33,7 +33,8 @@ pub fn tell_updated<W: World>(
     line: &[u8],
 ) -> Result<Updated, End>
     ensures { Acts (spot W.World world.old state.now) (spot W.World world.new state.now)
-        (λ units. telling types line.now (updated_of state.now units updated)) result (updated_of state.now) }
+        (λ units. telling types line.now (updated_of state.now units updated)) result
+        (updated_of state.now) }
 {
     match updated {
         Updated::Done if types => {

@@ -1,5 +1,6 @@
 // What is told of files.
 ghost use Rattle.std.specs.Prelude.{◌≡◌, IfSome};
+ghost use Rattle.cms_disk.specs.Disks.{IsFileInfo};
 ghost use Rattle.cms_search.specs.Machine.{Machine, letter_at};
 ghost use Rattle.cms_search.specs.Shows.{Shows};
 ghost use Rattle.cms_files.specs.Files.{file_on};
@@ -11,7 +12,8 @@ use cms_search::{Found, Table};
 
 /// What is told of the file of a name on the disk of a letter; none where it isn't there.
 pub fn info_named(table: &Table, letter: u8, name: &Name) -> Option<FileInfo>
-    ensures { result ≡ spec.info_named table.now letter name.now }
+    ensures told { result ≡ spec.info_named table.now letter name.now }
+    ensures sound { IfSome result IsFileInfo }
 {
     let disk = table.disk(letter)?;
     let place = disk.find(name)?;

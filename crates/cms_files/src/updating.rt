@@ -48,7 +48,8 @@ pub fn stop_search<W: World>(
     fault: SearchFault,
 ) -> Result<Updated, End>
     ensures { Acts (spot W.World world.old state.now) (spot W.World world.new state.now)
-        (λ units. spec.stopping (search_refused (machine_of state.now units) words.now place fault)) result
+        (λ units. spec.stopping (search_refused (machine_of state.now units) words.now place fault))
+        result
         (spec.updated_of state.now) }
 {
     stopped(refuse_search(alloc, world, words.as_slice(), place, fault))
@@ -63,14 +64,16 @@ pub fn stop_exists<W: World>(
     mode: Word,
 ) -> Result<Updated, End>
     ensures { Acts (spot W.World world.old state.now) (spot W.World world.new state.now)
-        (λ units. spec.stopping (file_exists (machine_of state.now units) name.now mode)) result (spec.updated_of state.now) }
+        (λ units. spec.stopping (file_exists (machine_of state.now units) name.now mode)) result
+        (spec.updated_of state.now) }
 {
     stopped(refuse_exists(alloc, world, name, mode))
 }
 
 // No reading place is kept in the files of a device that a change is of.
 fn forget_places(places: &mut Places, vdev: u16, change: &Change)
-    ensures { places.new ≡ spec.places_without vdev (spec.names_of (change_of change.now)) places.old }
+    ensures { places.new ≡ spec.places_without vdev
+        (spec.names_of (change_of change.now)) places.old }
 {
     match change {
         Change::Drop { name } => places.after(PlaceEvent::Changed(vdev, **name)),
@@ -93,11 +96,16 @@ pub fn update_disk<W: World>(
 ) -> Result<Updated, End>
     requires usable { IsUsable (spot W.World world.old state.old) }
     requires writing { writing (item_at (letters_of state.old.table) letter) letter ≡ Ok tt }
-    requires there { ForSome (item_at state.old.table.seats letter) (λ s. CanChange s.disk.volume.files change.now) }
+    requires there { ForSome (item_at state.old.table.seats letter)
+        (λ s. CanChange s.disk.volume.files change.now) }
     requires moment { is_moment state.old.moment ≡ true }
     ensures acts { Acts (spot W.World world.old state.old) (spot W.World world.new state.new)
-        (spec.updating_tree state.old letter (change_of change.now)) result (spec.updated_of state.new) }
-    ensures kept { state.new ≡ record state.old { table = state.new.table; places = state.new.places } }
+        (spec.updating_tree state.old letter (change_of change.now)) result
+        (spec.updated_of state.new) }
+    ensures kept { state.new ≡ record state.old {
+      table = state.new.table;
+      places = state.new.places;
+    } }
 {
     let vdev = state.table.vdev(letter);
     let changed = change_disk(alloc, world, state, letter, change)?;

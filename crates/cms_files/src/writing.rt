@@ -30,7 +30,8 @@ pub fn end_writing<W: World>(
 ) -> Result<Updated, End>
     ensures acts { (change : model.Change) → spec.names_of change ≡ name.now ∷ []
         → Acts (spot W.World world.old state.old) (spot W.World world.new state.new)
-        (λ units. spec.updated letter vdev change (changing_of state.old units changed)) result (spec.updated_of state.new) }
+        (λ units. spec.updated letter vdev change (changing_of state.old units changed)) result
+        (spec.updated_of state.new) }
     ensures kept { state.new ≡ record state.old { places = state.new.places } }
 {
     match changed {
@@ -54,13 +55,18 @@ pub fn write_file<W: World>(
 ) -> Result<Updated, End>
     requires usable { IsUsable (spot W.World world.old state.old) }
     requires writing { writing (item_at (letters_of state.old.table) letter) letter ≡ Ok tt }
-    requires fits { ForSome (item_at state.old.table.seats letter) (λ s. FitsUpdate s.disk.volume name.now update) }
+    requires fits { ForSome (item_at state.old.table.seats letter)
+        (λ s. FitsUpdate s.disk.volume name.now update) }
     requires valid { IsValid (data_of update) }
     requires moment { is_moment state.old.moment ≡ true }
     ensures acts { (records : List (List ℕ)) → StandsFor (data_of update.entry) records
         → Acts (spot W.World world.old state.old) (spot W.World world.new state.new)
-        (spec.updating_tree state.old letter (change_with name.now update.entry records)) result (spec.updated_of state.new) }
-    ensures kept { state.new ≡ record state.old { table = state.new.table; places = state.new.places } }
+        (spec.updating_tree state.old letter (change_with name.now update.entry records)) result
+        (spec.updated_of state.new) }
+    ensures kept { state.new ≡ record state.old {
+      table = state.new.table;
+      places = state.new.places;
+    } }
 {
     let vdev = state.table.vdev(letter);
     let changed = update_file(alloc, world, state, letter, name, update)?;
@@ -78,14 +84,19 @@ pub fn write_last<W: World>(
 ) -> Result<Course, End>
     requires usable { IsUsable (spot W.World world.old state.old) }
     requires writing { writing (item_at (letters_of state.old.table) letter) letter ≡ Ok tt }
-    requires fits { ForSome (item_at state.old.table.seats letter) (λ s. FitsUpdate s.disk.volume name.now update) }
+    requires fits { ForSome (item_at state.old.table.seats letter)
+        (λ s. FitsUpdate s.disk.volume name.now update) }
     requires valid { IsValid (data_of update) }
     requires moment { is_moment state.old.moment ≡ true }
     ensures acts { (records : List (List ℕ)) → StandsFor (data_of update.entry) records
         → Acts (spot W.World world.old state.old) (spot W.World world.new state.new)
-        (λ units. spec.last_update (machine_of state.old units) letter (change_with name.now update.entry records)) result
+        (λ units. spec.last_update (machine_of state.old units) letter
+        (change_with name.now update.entry records)) result
         (course_of state.new) }
-    ensures kept { state.new ≡ record state.old { table = state.new.table; places = state.new.places } }
+    ensures kept { state.new ≡ record state.old {
+      table = state.new.table;
+      places = state.new.places;
+    } }
 {
     match write_file(alloc, world, state, letter, name, update)? {
         Updated::Done => Ok(Course::Went(0)),

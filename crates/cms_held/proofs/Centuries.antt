@@ -19,7 +19,8 @@ use Rattle.cms_held.specs.Kept.{IsKeptFile, Keeps}
 use Rattle.cms_held.specs.LawsEdits.{CenturyEdits}
 use Rattle.cms_held.specs.LawsRenewing.{IsHeldAt}
 use Rattle.cms_held.specs.Opening.{HeldFile, HeldVolume}
-use Rattle.cms_held.specs.Renewing.{moved_file, moving}
+use Rattle.cms_held.specs.Renewing.{entries_held, moved_entry, moved_file, moving}
+use Rattle.cms_held.specs.Written.{ReadsBack}
 use Rattle.cms_held.proofs.Edits.{Beside, Moved, Old, beside_count, come_all, files_old, moved, no_times, pass_all, trees_of}
 use Rattle.cms_held.proofs.Standing.{comes_moved}
 
@@ -38,6 +39,7 @@ beside_moved pivot (f ∷ fs) [] b = absurd b
 beside_moved pivot (f ∷ fs) (h ∷ hs) b = (
   record {
     entry_is = ap (λ (e : Entry). record e { stamp = stamp_moved pivot e.stamp }) b.0.entry_is;
+    told_is = b.0.told_is;
     tree_is = b.0.tree_is;
     length_is = b.0.length_is;
     size_is = b.0.size_is;
@@ -69,29 +71,35 @@ passes_moved bsize pivot e small is =
       stamp = moved_is_stamp pivot e.stamp small p.stamp;
     })
 
--- files that are kept are kept then
-pub kept_file_moved : (bsize total pivot : ℕ) (f : HeldFile) → pivot ≤ 100 → IsKeptFile bsize total f → IsKeptFile bsize total (moved_file pivot f)
-kept_file_moved bsize total pivot f small k = record {
+-- files that are kept are kept then, where their new entries are spelled
+kept_file_moved : (bsize total pivot : ℕ) (f : HeldFile) → pivot ≤ 100 → ReadsBack (moved_entry pivot f.entry) → IsKeptFile bsize total f
+    → IsKeptFile bsize total (moved_file pivot f)
+kept_file_moved bsize total pivot f small back k = record {
   entry = passes_moved bsize pivot f.entry small k.entry;
+  spells = back;
   count = k.count;
   within = k.within;
   nodes_within = k.nodes_within;
   room = k.room;
   some = k.some;
   short = k.short;
-  fixed = k.fixed;
+  told = k.told;
   size = k.size;
   shape = k.shape;
   low = k.low;
   high = k.high;
 }
 
-pub kept_all_moved : (bsize total pivot : ℕ) (hs : List HeldFile) → pivot ≤ 100 → All (IsKeptFile bsize total) hs → All (IsKeptFile bsize total) (moving hs pivot).files
-kept_all_moved bsize total pivot [] small all = All-nil (IsKeptFile bsize total)
-kept_all_moved bsize total pivot (h ∷ hs) small all =
+pub kept_all_moved : (bsize total pivot : ℕ) (hs : List HeldFile) → pivot ≤ 100 → All ReadsBack (entries_held (moving hs pivot).files) → All (IsKeptFile bsize total) hs
+    → All (IsKeptFile bsize total) (moving hs pivot).files
+kept_all_moved bsize total pivot [] small back all = All-nil (IsKeptFile bsize total)
+kept_all_moved bsize total pivot (h ∷ hs) small back all =
     let K = IsKeptFile bsize total in
-    All-cons K (moved_file pivot h) (map (moved_file pivot) hs) (kept_file_moved bsize total pivot h small (All-head K h hs all))
-    (kept_all_moved bsize total pivot hs small (All-tail K h hs all))
+    let entry = moved_entry pivot h.entry in
+    let entries = entries_held (moving hs pivot).files in
+    All-cons K (moved_file pivot h) (map (moved_file pivot) hs)
+    (kept_file_moved bsize total pivot h small (All-head ReadsBack entry entries back) (All-head K h hs all))
+    (kept_all_moved bsize total pivot hs small (All-tail ReadsBack entry entries back) (All-tail K h hs all))
 
 old_moved : (disk : Disk) (total : ℕ) (before : Image) (blocks : List ℕ) (pivot : ℕ) (f : Kept) → Old disk total before blocks f → Old disk total before blocks (kept_moved pivot f)
 old_moved disk total before blocks pivot f old = (record { met = old.0.met; records = old.0.records }, old.1)

@@ -12,12 +12,13 @@ use Rattle.cms_fields.specs.declared.label.Label.{Label}
 use Rattle.cms_model.specs.Lists.{In, times}
 use Rattle.cms_model.specs.Trees.{Image, Met}
 use Rattle.cms_model.specs.Minidisks.{File}
-use Rattle.cms_model.specs.Volumes.{Disk}
+use Rattle.cms_model.specs.Volumes.{Disk, as_read}
 use Rattle.cms_model.specs.Changes.{Change, Drop, Rename, changed_files, drop_file, change_file}
 use Rattle.cms_model.specs.Stands.{Kept, HoldsFile, HoldsFiles, Layout, NoEntryNamed, HaveNames, entries_in, mets_in, records_in, file_blocks, file_of, layout_blocks}
 use Rattle.cms_model.specs.LawsChanges.{NoneNamed, AreDistinct, IsFree, IsPlace}
 use Rattle.cms_model.specs.LawsUpdates.{now}
 use Rattle.cms_model.proofs.Changing.{place_changed, stay_distinct}
+use Rattle.cms_model.proofs.EntriesRead.{passes_so}
 use Rattle.cms_model.proofs.FileSizes.{passes_from, passing}
 use Rattle.cms_model.proofs.Members.{In-left, In-right}
 use Rattle.cms_model.proofs.Repeats.{times_append}
@@ -30,7 +31,6 @@ use Rattle.cms_held.specs.LawsRenewing.{ComesFrom, IsHeldAt, LeavesFiles}
 use Rattle.cms_held.specs.LawsEdits.{DropEdits, RenameEdits}
 use Rattle.cms_held.proofs.Removing.{All-removed, length-removed, map-removed}
 use Rattle.cms_held.specs.HeldTrees.{TreeComes}
-use Rattle.cms_held.proofs.Renewals.{same_entries}
 use Rattle.cms_held.proofs.Standing.{comes_renamed, trees_old}
 
 -- ---- a place among files
@@ -151,7 +151,7 @@ pub pass_all : (bsize total : ℕ) (fs : List Kept) (hs : List HeldFile) → Bes
 pass_all bsize total [] hs b all = All-nil (λ (f : Kept). passes bsize f.entry ≡ true)
 pass_all bsize total (f ∷ fs) [] b all = absurd b
 pass_all bsize total (f ∷ fs) (h ∷ hs) b all =
-    All-cons (λ (f : Kept). passes bsize f.entry ≡ true) f fs (ap (passes bsize) (sym b.0.entry_is) ∙ (All-head (IsKeptFile bsize total) h hs all).entry)
+    All-cons (λ (f : Kept). passes bsize f.entry ≡ true) f fs (ap (passes bsize) (sym b.0.entry_is) ∙ (passes_so bsize h.entry ∙ (All-head (IsKeptFile bsize total) h hs all).entry))
     (pass_all bsize total fs hs b.1 (All-tail (IsKeptFile bsize total) h hs all))
 
 -- ---- names
@@ -223,7 +223,7 @@ moved before later v edit old change fs names free changed held few pass come tr
   leaves = λ back. record {
     few = few;
     pass = All-map (λ (e : Entry). passes v.disk.bsize e ≡ true) (λ (f : Kept). f.entry) fs pass;
-    back = subst (All ReadsBack) (same_entries fs edit.files held) back;
+    back = back;
     names = names_from fs (subst AreDistinct changed (stay_distinct (map file_of old.files) change (names_distinct old.files names) free));
     held = held;
     come = come;
@@ -307,8 +307,8 @@ rename_moves j v old later k h to number x kept there small free =
     let less = at.within in
     let count = beside_count old.files v.files x.held.files_are in
     let few = kept.few in
-    let entry : (renamed to number h).entry ≡ g'.entry = ap (λ (e : Entry). record e { name = to; number = number }) at.held.entry_is in
-    let one : Is g' (renamed to number h) = record { entry_is = entry; tree_is = at.held.tree_is; length_is = at.held.length_is; size_is = at.held.size_is } in
+    let entry : as_read (renamed to number h).entry ≡ g'.entry = ap (λ (e : Entry). record e { name = to; number = number }) at.held.entry_is in
+    let one : Is g' (renamed to number h) = record { entry_is = entry; told_is = at.held.told_is; tree_is = at.held.tree_is; length_is = at.held.length_is; size_is = at.held.size_is } in
     let held = beside_set old.files v.files k g' (renamed to number h) x.held.files_are one in
     let P = λ (f : Kept). passes v.disk.bsize f.entry ≡ true in
     let all = pass_all v.disk.bsize v.label.blocks old.files v.files x.held.files_are kept.each in

@@ -1,5 +1,5 @@
 -- The entries of a directory by their places, and those that an update leaves as they were.
-use Rattle.std.proofs.Common.{◌≡◌, ◌⊎◌, inl, inr, ⊎_elim, ℕ, zero, suc, ◌+◌, ◌-◌, ◌*◌, ◌/◌, ◌%◌, ◌<◌, ◌≤◌, true, false, List, [], ◌∷◌, ◌++◌, length, take, drop, set, get_or, Result, Ok, Err, refl, sym, ◌∙◌, ap, subst, arith, div-add-mod', mod-lt, length-append, mul-le-mul_right}
+use Rattle.std.proofs.Common.{◌≡◌, ◌⊎◌, inl, inr, ⊎_elim, ℕ, zero, suc, ◌+◌, ◌-◌, ◌*◌, ◌/◌, ◌%◌, ◌<◌, ◌≤◌, true, false, List, [], ◌∷◌, ◌++◌, length, map, take, drop, set, get_or, Result, Ok, Err, refl, sym, ◌∙◌, ap, subst, arith, div-add-mod', mod-lt, length-append, mul-le-mul_right}
 use Rattle.std.proofs.lemmas.Bool.{cases_lt}
 use Rattle.std.proofs.lemmas.List.{length-map, length-set, length-take, map-append, map-set, take-map, get_or-set_other, get_or-take, get_or_append_left, drop-drop}
 use Rattle.cms_journal.specs.Journal.{IsBlockSize}
@@ -8,7 +8,7 @@ use Rattle.cms_fields.specs.Entries.{entry_of}
 use Rattle.cms_fields.specs.declared.entry.Entry.{Entry}
 use Rattle.cms_model.specs.Lists.{In, cut}
 use Rattle.cms_model.specs.Trees.{Image, bytes_at}
-use Rattle.cms_model.specs.Volumes.{blamed, entries_of}
+use Rattle.cms_model.specs.Volumes.{as_read, blamed, entries_of}
 use Rattle.cms_model.specs.declared.fault.OpenFault.{OpenFault}
 use Rattle.cms_model.specs.declared.fault.OpenFault.TheVariants as failed
 use Rattle.cms_model.proofs.Results.{bind_then, ok_same}
@@ -17,7 +17,7 @@ use Rattle.cms_held.specs.Renewing.{dropping, entries_held}
 use Rattle.cms_model.specs.DirectoryParts.{all_entries, blocks_with, directory_count, entry_block}
 use Rattle.cms_model.proofs.DirectoryParts.{all_blocks, blocks_ascend, blocks_may, blocks_within, entry_within, first_made, in_blocks, parts, some_blocks}
 use Rattle.cms_held.specs.SharedBlocks.{AreLong}
-use Rattle.cms_held.specs.EntryPlaces.{AllAreEnough, EntriesByPlace, IsChangedAt, PlacesAreEnough, entry_at}
+use Rattle.cms_held.specs.EntryPlaces.{AllAreEnough, EntriesByPlace, IsChangedAt, IsReadAs, PlacesAreEnough, entry_at}
 use Rattle.cms_held.proofs.BlockBytes.{piece_by_place}
 use Rattle.cms_held.specs.SharedNeed.{EditsHavePlaces}
 
@@ -26,23 +26,23 @@ clash e = cc
 
 -- ---- the entries of pieces, one by one
 
--- the piece of 64 bytes at a place spells the entry at it
+-- the entry at a place is read in the piece of 64 bytes there
 abbrev pub EachSpelled : ℕ → List ℕ → List Entry → Type 0
-EachSpelled bsize bytes entries = (k : ℕ) (d : Entry) → k < length entries → entry_of bsize (take 64 (drop (k * 64) bytes)) ≡ Ok (get_or entries k d)
+EachSpelled bsize bytes entries = (k : ℕ) (d : Entry) → k < length entries → IsReadAs bsize (take 64 (drop (k * 64) bytes)) (get_or entries k d)
 
 blamed_ok : {A E : Type 0} (why : E → OpenFault) (r : Result A E) (x : A) → blamed why r ≡ Ok x → r ≡ Ok x
 blamed_ok why (Ok y) x e = ap Ok (ok_same y x e)
 blamed_ok why (Err f) x e = absurd (cc)
 
-first_piece : (bsize number : ℕ) (e : Entry) (es : List Entry) (bytes : List ℕ) → entries_of bsize number (cut (suc (length es)) 64 bytes) ≡ Ok (e ∷ es)
-    → (entry_of bsize (take 64 bytes) ≡ Ok e) × (entries_of bsize (number + 1) (cut (length es) 64 (drop 64 bytes)) ≡ Ok es)
+first_piece : (bsize number n : ℕ) (y : Entry) (ys : List Entry) (bytes : List ℕ) → entries_of bsize number (cut (suc n) 64 bytes) ≡ Ok (y ∷ ys)
+    → ((found : Entry) × (entry_of bsize (take 64 bytes) ≡ Ok found) × (as_read found ≡ y)) × (entries_of bsize (number + 1) (cut n 64 (drop 64 bytes)) ≡ Ok ys)
 unfolding entries_of cut
-first_piece bsize number e es bytes is = bind_then (blamed (failed.Entry number) (entry_of bsize (take 64 bytes)))
-    (λ (entry : Entry). entries_of bsize (number + 1) (cut (length es) 64 (drop 64 bytes)) >>= λ (more : List Entry). Ok (entry ∷ more)) (e ∷ es) is
-    (λ x one rest. bind_then (entries_of bsize (number + 1) (cut (length es) 64 (drop 64 bytes))) (λ (more : List Entry). Ok (x ∷ more)) (e ∷ es) rest
+first_piece bsize number n y ys bytes is = bind_then (blamed (failed.Entry number) (entry_of bsize (take 64 bytes)))
+    (λ (entry : Entry). entries_of bsize (number + 1) (cut n 64 (drop 64 bytes)) >>= λ (more : List Entry). Ok (as_read entry ∷ more)) (y ∷ ys) is
+    (λ x one rest. bind_then (entries_of bsize (number + 1) (cut n 64 (drop 64 bytes))) (λ (more : List Entry). Ok (as_read x ∷ more)) (y ∷ ys) rest
     (λ xs two all. (
-      blamed_ok (failed.Entry number) (entry_of bsize (take 64 bytes)) x one ∙ ap Ok (head_same x e xs es (ok_same (x ∷ xs) (e ∷ es) all)),
-      two ∙ ap Ok (tail_same x e xs es (ok_same (x ∷ xs) (e ∷ es) all)),
+      (x, blamed_ok (failed.Entry number) (entry_of bsize (take 64 bytes)) x one, head_same (as_read x) y xs ys (ok_same (as_read x ∷ xs) (y ∷ ys) all)),
+      two ∙ ap Ok (tail_same (as_read x) y xs ys (ok_same (as_read x ∷ xs) (y ∷ ys) all)),
     )))
   where
     head_same : (x e : Entry) (xs es : List Entry) → x ∷ xs ≡ e ∷ es → x ≡ e
@@ -51,23 +51,24 @@ first_piece bsize number e es bytes is = bind_then (blamed (failed.Entry number)
     tail_same : (x e : Entry) (xs es : List Entry) → x ∷ xs ≡ e ∷ es → xs ≡ es
     tail_same x e xs es all = cc
 
-pub spelled : (bsize number : ℕ) (entries : List Entry) (bytes : List ℕ) → entries_of bsize number (cut (length entries) 64 bytes) ≡ Ok entries → EachSpelled bsize bytes entries
+pub spelled : (bsize number : ℕ) (entries : List Entry) (bytes : List ℕ) → entries_of bsize number (cut (length entries) 64 bytes) ≡ Ok (map as_read entries) → EachSpelled bsize bytes entries
 spelled bsize number [] bytes is k d less = absurd (omega arith)
-spelled bsize number (e ∷ es) bytes is zero d less = (first_piece bsize number e es bytes is).0
+spelled bsize number (e ∷ es) bytes is zero d less = (first_piece bsize number (length es) (as_read e) (map as_read es) bytes is).0
 spelled bsize number (e ∷ es) bytes is (suc k) d less =
     let g : 64 + k * 64 ≡ suc k * 64 = omega arith in
-    subst (λ (l : List ℕ). entry_of bsize (take 64 l) ≡ Ok (get_or es k d)) (drop-drop (k * 64) 64 bytes ∙ ap (λ (n : ℕ). drop n bytes) g)
-    (spelled bsize (number + 1) es (drop 64 bytes) (first_piece bsize number e es bytes is).1 k d (omega arith))
+    subst (λ (l : List ℕ). IsReadAs bsize (take 64 l) (get_or es k d)) (drop-drop (k * 64) 64 bytes ∙ ap (λ (n : ℕ). drop n bytes) g)
+    (spelled bsize (number + 1) es (drop 64 bytes) (first_piece bsize number (length es) (as_read e) (map as_read es) bytes is).1 k d (omega arith))
 
-read_back : (bsize number : ℕ) (entries : List Entry) (bytes : List ℕ) → EachSpelled bsize bytes entries → entries_of bsize number (cut (length entries) 64 bytes) ≡ Ok entries
+read_back : (bsize number : ℕ) (entries : List Entry) (bytes : List ℕ) → EachSpelled bsize bytes entries → entries_of bsize number (cut (length entries) 64 bytes) ≡ Ok (map as_read entries)
 unfolding entries_of cut
 read_back bsize number [] bytes each = refl
 read_back bsize number (e ∷ es) bytes each =
-    let first : entry_of bsize (take 64 bytes) ≡ Ok e = each 0 e (omega arith) in
+    let first : IsReadAs bsize (take 64 bytes) e = each 0 e (omega arith) in
+    let spells : entry_of bsize (take 64 bytes) ≡ Ok first.0 = first.1 in
     let rest = read_back bsize (number + 1) es (drop 64 bytes) (λ k d less.
     let g : 64 + k * 64 ≡ suc k * 64 = omega arith in
-    subst (λ (l : List ℕ). entry_of bsize (take 64 l) ≡ Ok (get_or es k d)) (sym (drop-drop (k * 64) 64 bytes ∙ ap (λ (n : ℕ). drop n bytes) g)) (each (suc k) d (omega arith))) in
-    rw (first, rest) refl
+    subst (λ (l : List ℕ). IsReadAs bsize (take 64 l) (get_or es k d)) (sym (drop-drop (k * 64) 64 bytes ∙ ap (λ (n : ℕ). drop n bytes) g)) (each (suc k) d (omega arith))) in
+    rw (spells, rest) (ap (λ (x : Entry). Ok (x ∷ map as_read es)) first.2)
 
 -- ---- by their places in the data blocks
 
@@ -94,10 +95,10 @@ same_piece bsize image leaves count k size long room less =
 
 pub entries_by_place : EntriesByPlace
 entries_by_place bsize image leaves entries size long room = (
-  λ is k d less. subst (λ (l : List ℕ). entry_of bsize l ≡ Ok (get_or entries k d)) (same_piece bsize image leaves (length entries) k size long room less)
+  λ is k d less. subst (λ (l : List ℕ). IsReadAs bsize l (get_or entries k d)) (same_piece bsize image leaves (length entries) k size long room less)
       (spelled bsize 2 entries (drop 128 (bytes_at image leaves)) is k d less),
   λ each. read_back bsize 2 entries (drop 128 (bytes_at image leaves)) (λ k d less.
-      subst (λ (l : List ℕ). entry_of bsize l ≡ Ok (get_or entries k d)) (sym (same_piece bsize image leaves (length entries) k size long room less)) (each k d less)),
+      subst (λ (l : List ℕ). IsReadAs bsize l (get_or entries k d)) (sym (same_piece bsize image leaves (length entries) k size long room less)) (each k d less)),
 )
 
 -- ---- the places that an update changes

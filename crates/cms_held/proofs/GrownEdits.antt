@@ -16,10 +16,12 @@ use Rattle.cms_model.specs.LawsUpdates.{now}
 use Rattle.cms_model.specs.Lists.{In, times}
 use Rattle.cms_model.specs.Minidisks.{File}
 use Rattle.cms_model.specs.Records.{Fits, length_of, stored}
-use Rattle.cms_model.specs.Stands.{Kept, Layout, file_blocks, file_of, layout_blocks}
+use Rattle.cms_model.specs.Stands.{HoldsFile, Kept, Layout, file_blocks, file_of, layout_blocks}
 use Rattle.cms_model.specs.Sizes.{levels}
 use Rattle.cms_model.specs.Trees.{Image, form_of}
+use Rattle.cms_model.specs.Volumes.{as_read, length_read}
 use Rattle.cms_model.proofs.Changing.{place_changed}
+use Rattle.cms_model.proofs.EntriesRead.{length_so, passes_so}
 use Rattle.cms_model.proofs.Members.{In-left, In-right}
 use Rattle.cms_model.proofs.Records.{length_stored_fixed, longest_both, stored_append}
 use Rattle.cms_model.proofs.TreeFrame.{tree_places}
@@ -46,7 +48,7 @@ use Rattle.cms_held.proofs.GrownFiles.{grown_holds}
 use Rattle.cms_held.proofs.KeptTrees.{TreeTimes, node_comes, tree_times}
 use Rattle.cms_held.proofs.PutAsides.{free_aside, free_of}
 use Rattle.cms_held.proofs.PutMoves.{all_allowed, at_times, come_set, set_times}
-use Rattle.cms_held.proofs.Renewals.{all_of}
+use Rattle.cms_held.proofs.Renewals.{all_of, holds_read, size_so}
 
 -- ---- the lengths of its records
 
@@ -74,6 +76,11 @@ length_added : (format format' : Format) (size size' : ℕ) (records more : List
 length_added F format' size size' records more is same = sym (ap (λ (y : Format). length_of y size' (records ++ more)) is ∙ same is)
 length_added V format' size size' records more is same = ap (λ (y : Format). length_of y size' (records ++ more)) (sym is)
 
+-- where all records have one length, the one that is told is read
+fixed_read : (format : Format) (size : ℕ) → format ≡ F → size ≡ length_read format size
+fixed_read F size is = refl
+fixed_read V size is = absurd (cc is)
+
 -- what holds at each place holds of each
 by_place : (P : ℕ → Type 0) (xs : List ℕ) → ((i : ℕ) → i < length xs → P (get_or xs i 0)) → All P xs
 by_place P [] each = All-nil P
@@ -88,9 +95,9 @@ unfolding changed_files
 grow_moves j v old later k f g marks front mark more stamp x kept there q =
     moved before later v edit old (Add f.entry.name more stamp) fs x.stands.names tt changed beside
     (let n = length-set old.files k new in let count = beside_count old.files v.files x.held.files_are in let few = kept.few in omega arith)
-    (All-set P old.files k new (q.file.passes_all) (pass_all v.disk.bsize v.label.blocks old.files v.files x.held.files_are kept.each))
+    (All-set P old.files k new (passes_so bsize g.entry ∙ q.file.passes_all) (pass_all v.disk.bsize v.label.blocks old.files v.files x.held.files_are kept.each))
     (come_set v.disk v.label.blocks before later (layout_blocks old) old.files k new
-    (come_all v.disk v.label.blocks before later (layout_blocks old) old.files (files_old j v old x)) drafted.holds)
+    (come_all v.disk v.label.blocks before later (layout_blocks old) old.files (files_old j v old x)) new_holds)
     (All-set T v.files k g (inr (record { tree = drafted.stands; start = q.start_is })) (trees_of j v old later x))
     balance had
   where
@@ -136,7 +143,7 @@ grow_moves j v old later k f g marks front mark more stamp x kept there q =
     h_old : Old v.disk v.label.blocks before (layout_blocks old) h
     h_old = subst (Old v.disk v.label.blocks before (layout_blocks old)) is (All-get_or (Old v.disk v.label.blocks before (layout_blocks old)) old.files k h less (files_old j v old x))
 
-    entry_is : f.entry ≡ h.entry
+    entry_is : as_read f.entry ≡ h.entry
     entry_is = at.held.entry_is
 
     leaves_is : f.tree.leaves ≡ h.met.leaves
@@ -273,7 +280,7 @@ grow_moves j v old later k f g marks front mark more stamp x kept there q =
           let top = kept.within in
           x.whole.each n (omega arith) (omega arith));
       format_is = q.file.format_is ∙ ap (λ (e : Entry). e.format) entry_is;
-      length_is = λ fixed. q.file.fixed fixed ∙ ap (λ (e : Entry). e.length) entry_is;
+      length_is = λ fixed. q.file.fixed fixed ∙ (fixed_read f.entry.format f.entry.length (sym q.file.format_is ∙ fixed) ∙ ap (λ (e : Entry). e.length) entry_is);
       count_is = q.file.count_is ∙ ap (λ (e : Entry). e.count + length more) entry_is;
       root = q.file.root_is;
       blocks = q.file.blocks_are;
@@ -292,7 +299,10 @@ grow_moves j v old later k f g marks front mark more stamp x kept there q =
     drafted = grown_holds v.disk v.label.blocks before later h f.tree g.entry g.tree marks front mark f.size more grows
 
     new : Kept
-    new = record { entry = g.entry; met = drafted.met; records = h.records ++ more }
+    new = record { entry = as_read g.entry; met = drafted.met; records = h.records ++ more }
+
+    new_holds : HoldsFile v.disk v.label.blocks later new
+    new_holds = holds_read v.disk v.label.blocks later (record { entry = g.entry; met = drafted.met; records = h.records ++ more }) drafted.holds
 
     fs : List Kept
     fs = set old.files k new
@@ -310,7 +320,8 @@ grow_moves j v old later k f g marks front mark more stamp x kept there q =
       name = (ap (λ (e : Entry). e.name) (sym entry_is) ∙ sym q.file.name_is) i;
       number = (ap (λ (e : Entry). e.number) (sym entry_is) ∙ sym q.file.number_is) i;
       format = sym format i;
-      length = (length_added h.entry.format g.entry.format h.entry.length g.entry.length h.records more format grows.length_is) i;
+      length = (length_added h.entry.format g.entry.format h.entry.length g.entry.length h.records more format grows.length_is
+          ∙ sym (length_so g.entry.format g.entry.length (h.records ++ more))) i;
       stamp = sym q.file.stamp_is i;
       records = h.records ++ more;
     }
@@ -326,11 +337,13 @@ grow_moves j v old later k f g marks front mark more stamp x kept there q =
     one : Is new g
     one = record {
       entry_is = refl;
+      told_is = q.file.told_is;
       tree_is = record { leaves = sym drafted.leaves_are; blocks = drafted.blocks_are };
-      length_is = q.file.length_is ∙ ap (λ (n : ℕ). length_with g.entry.format n more) at.held.length_is ∙ sym lengths;
+      length_is = q.file.length_is ∙ ap (λ (n : ℕ). length_with g.entry.format n more) at.held.length_is ∙ (sym lengths ∙ sym (length_so g.entry.format g.entry.length (h.records ++ more)));
       size_is = q.file.size_is ∙ ap (λ (n : ℕ). n + length (stored g.entry.format more))
           (at.held.size_is ∙ ap (λ (y : Format). size_of y h.entry.length h.entry.count h.records) (sym format))
-          ∙ sym (size_grown g.entry.format h.entry.length g.entry.length h.entry.count g.entry.count h.records more grows.length_is grows.count_is q.file.each);
+          ∙ sym (size_grown g.entry.format h.entry.length g.entry.length h.entry.count g.entry.count h.records more grows.length_is grows.count_is q.file.each)
+          ∙ sym (size_so g.entry.format g.entry.length g.entry.count (h.records ++ more));
     }
 
     beside : Beside fs edit.files

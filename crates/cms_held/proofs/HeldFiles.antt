@@ -8,7 +8,11 @@ use Rattle.cms_names.specs.declared.name.Name.{Name}
 use Rattle.cms_names.specs.declared.name.Format.{Format}
 use Rattle.cms_names.specs.declared.name.Format.TheVariants.{F, V}
 use Rattle.cms_journal.proofs.Sizes.{block_bounds}
-use Rattle.cms_text.specs.Bytes.{half}
+use Rattle.cms_text.specs.Bytes.{half, word}
+use Rattle.cms_fields.specs.Entries.{entry_bytes, entry_fields, passes}
+use Rattle.cms_fields.proofs.ReadEntry.{entry_is}
+use Rattle.std.proofs.lemmas.List.Elements.{All-get_or}
+use Rattle.std.proofs.lemmas.Option.{get_or_from_slice_get, slice_get_within}
 use Rattle.cms_fields.specs.declared.entry.Entry.{Entry}
 use Rattle.cms_fields.specs.declared.label.Label.{Label}
 use Rattle.cms_map.specs.Bits.{bits_in, free_from, free_blocks}
@@ -33,7 +37,9 @@ use Rattle.cms_model.proofs.Records.{fixed_cut, varying_read}
 use Rattle.cms_model.proofs.Results.{ok_same, want_ok, bind_then}
 use Rattle.cms_held.specs.Opening.{HeldFile, names_in, size_of}
 use Rattle.cms_held.specs.HeldAs.{IsHeldFile, AreHeld}
-use Rattle.cms_held.specs.LawsHeld.{IsFileOf, IsStored, OpenedIsHeld, OpenedHasRoom, IsFound, PlaceIsTold}
+use Rattle.cms_held.specs.Kept.{IsKeptFile}
+use Rattle.cms_held.specs.Written.{ReadsBack}
+use Rattle.cms_held.specs.LawsHeld.{EntriesTellLengths, IsFileOf, IsStored, OpenedIsHeld, OpenedHasRoom, IsFound, PlaceIsTold}
 
 -- ---- the records of a file
 
@@ -237,6 +243,28 @@ opened_has_room unit disk image v h whole opens is =
       free_is = ap (λ (bits : List Bool). length (free_blocks bits)) is.bits_are ∙ (free_are (bytes_at image v.map_met.leaves) v.label.blocks (omega arith) ∙ shared.free);
       files_are = at_place P h.files (files_of v.entries v.contents) are;
     }
+
+-- ---- the lengths that the entries tell
+
+length_again : (format : Format) (size : ℕ) (rs : List (List ℕ)) → length_of format size rs ≡ length_of format (length_of format size rs) rs
+length_again F size rs = refl
+length_again V size rs = refl
+
+-- the bytes of an entry that spell it tell its length
+spelled_length : (bsize : ℕ) (e : Entry) → ReadsBack e → passes bsize e ≡ true → word (entry_bytes e) 32 ≡ e.length
+unfolding entry_fields
+spelled_length bsize e back pass = ap (λ (x : Entry). x.length) (entry_is bsize (entry_bytes e) e (back.1 bsize pass)).fields
+
+pub entries_tell_lengths : EntriesTellLengths
+unfolding minidisk_of
+entries_tell_lengths unit disk image v h k held f opens is keeps there there' =
+    let o = open_ok disk image v opens in
+    let P = λ (x : HeldFile) (y : File). x.entry.length ≡ length_of y.format y.length y.records in
+    let are : Each P h.files (files_of v.entries v.contents) = each_file P disk image v.label.blocks v.directory_met.leaves 2 v.entries v.mets v.contents h.files (entries_of_all disk image v o) is.files_are
+    (λ holder e m rs one fits held read. held.told_is ∙ (held.length_is ∙ length_again e.format e.length rs)) o.mets o.contents in
+    let kept : IsKeptFile h.disk.bsize h.label.blocks held = subst (IsKeptFile h.disk.bsize h.label.blocks) (get_or_from_slice_get h.files k held held there)
+    (All-get_or (IsKeptFile h.disk.bsize h.label.blocks) h.files k held (slice_get_within h.files k held there) keeps.each) in
+    spelled_length h.disk.bsize held.entry kept.spells kept.entry ∙ at_place P h.files (files_of v.entries v.contents) are k held f there there'
 
 -- ---- the place of a name
 

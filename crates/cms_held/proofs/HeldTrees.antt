@@ -1,13 +1,15 @@
 -- What opens is held with its trees.
-use Rattle.std.proofs.Common.{◌≡◌, ℕ, zero, suc, ◌+◌, ◌-◌, ◌^◌, List, [], ◌∷◌, ◌++◌, min, Option, None, Ok, refl, sym, ◌∙◌, ap, subst, arith}
+use Rattle.std.proofs.Common.{◌≡◌, ℕ, zero, suc, ◌+◌, ◌-◌, ◌^◌, List, [], ◌∷◌, ◌++◌, min, drop, All, Option, None, Ok, refl, sym, ◌∙◌, ap, subst, arith}
 use Rattle.std.specs.List.{concat}
 use Rattle.std.proofs.lemmas.List.Folds.{concat-append}
+use Rattle.std.proofs.lemmas.List.Elements.{All-head, All-tail}
 use Rattle.cms_fields.specs.declared.entry.Entry.{Entry}
-use Rattle.cms_model.specs.Lists.{times}
+use Rattle.cms_model.proofs.EntriesRead.{entries_read, told_read}
+use Rattle.cms_model.specs.Lists.{cut, times}
 use Rattle.cms_model.specs.ByLevels.{beside, tiers_below, tiers}
 use Rattle.cms_model.specs.Records.{records_of}
 use Rattle.cms_model.specs.Trees.{Image, Form, Met, none_met, joined, tree, children, pointers, form_of, bytes_at}
-use Rattle.cms_model.specs.Volumes.{blamed, file_trees, contents_in, holder_of}
+use Rattle.cms_model.specs.Volumes.{as_read, blamed, file_trees, contents_in, holder_of}
 use Rattle.cms_model.specs.declared.fault.OpenFault.TheVariants as failed
 use Rattle.cms_model.proofs.Opening.{open_ok}
 use Rattle.cms_model.proofs.Repeats.{times_append}
@@ -81,10 +83,10 @@ unfolding nodes
 tree_counted form image k first holder root count m e = tiers_counted form image k first holder root count m e
 
 files_held : (bsize total : ℕ) (image : Image) (dirs : List ℕ) (number : ℕ) (es : List Entry) (ms : List Met) (cs : List (List (List ℕ)))
-    → file_trees bsize total image dirs number es ≡ Ok ms → contents_in bsize image number es ms ≡ Ok cs → AreHeld es ms cs (held_files bsize total image es ms cs)
+    → All (λ e. as_read e ≡ e) es → file_trees bsize total image dirs number es ≡ Ok ms → contents_in bsize image number es ms ≡ Ok cs → AreHeld es ms cs (held_files bsize total image es ms cs)
 unfolding file_trees contents_in held_files
-files_held bsize total image dirs number [] ms cs t c = tt
-files_held bsize total image dirs number (e ∷ es) ms cs t c =
+files_held bsize total image dirs number [] ms cs read t c = tt
+files_held bsize total image dirs number (e ∷ es) ms cs read t c =
     let holder = holder_of bsize dirs number in
     bind_then (tree (form_of bsize total e.format) image e.levels None holder e.root e.blocks) _ ms t (λ m is_m t1.
     bind_then (file_trees bsize total image dirs (number + 1) es) _ ms t1 (λ more is_more t2.
@@ -95,8 +97,8 @@ files_held bsize total image dirs number (e ∷ es) ms cs t c =
     let counts = tree_counted (form_of bsize total e.format) image e.levels None holder e.root e.blocks m is_m in
     subst (λ (l : List Met). AreHeld (e ∷ es) l cs (held_files bsize total image (e ∷ es) l cs)) is
     (subst (λ (l : List (List (List ℕ))). AreHeld (e ∷ es) (m ∷ more) l (held_files bsize total image (e ∷ es) (m ∷ more) l)) (ok_same (rs ∷ rest) cs c2) (
-      record { entry_is = refl; tree_is = record { leaves = refl; blocks = counts }; length_is = refl; size_is = refl },
-      files_held bsize total image dirs (number + 1) es more rest is_more is_rest,
+      record { entry_is = told_read e rs (All-head (λ (x : Entry). as_read x ≡ x) e es read); told_is = refl; tree_is = record { leaves = refl; blocks = counts }; length_is = refl; size_is = refl },
+      files_held bsize total image dirs (number + 1) es more rest (All-tail (λ (x : Entry). as_read x ≡ x) e es read) is_more is_rest,
     ))))))
 
 pub opened_has_held : OpenedHasHeld
@@ -113,6 +115,7 @@ opened_has_held unit disk image v opens =
       directory_is = record { leaves = refl; blocks = tree_counted _ image v.directory.levels _ _ v.directory.root v.directory.blocks v.directory_met s.directory_met };
       map_is = record { leaves = refl; blocks = tree_counted _ image v.map.levels _ _ v.map.root v.map.blocks v.map_met s.map_met };
       bits_are = refl;
-      files_are = files_held disk.bsize total image v.directory_met.leaves 2 v.entries v.mets v.contents o.mets o.contents;
+      files_are = files_held disk.bsize total image v.directory_met.leaves 2 v.entries v.mets v.contents
+          (entries_read disk.bsize 2 (cut (v.directory.count - 2) 64 (drop 128 (bytes_at image v.directory_met.leaves))) v.entries s.entries) o.mets o.contents;
       lost_is = refl;
     }

@@ -1,3 +1,4 @@
+mod Examples
 pub mod Removing
 pub mod HeldFiles
 pub mod Drafted

@@ -1,7 +1,6 @@
 -- What an edit needs is what the change needs that it is, and how much its update writes.
 use Rattle.std.proofs.Common.{◌≡◌, ℕ, ◌+◌, ◌-◌, ◌≤◌, List, [], ◌∷◌, length, map, None, sym, ◌∙◌, ap, subst, arith}
 use Rattle.std.proofs.lemmas.List.{length-map}
-use Rattle.cms_fields.specs.declared.entry.Entry.{Entry}
 use Rattle.cms_fields.specs.declared.time.Stamp.{Stamp}
 use Rattle.cms_journal.specs.Journal.{Journal}
 use Rattle.cms_names.specs.declared.name.Name.{Name}
@@ -22,7 +21,7 @@ use Rattle.cms_held.specs.Renewing.{Edit}
 use Rattle.cms_held.specs.Systems.{Systems}
 use Rattle.cms_held.proofs.PlannedWrites.{part_renewal, update_writes_few}
 use Rattle.cms_held.proofs.PutAsides.{files_count, found_in}
-use Rattle.cms_held.proofs.Renewals.{same_entries}
+use Rattle.cms_held.proofs.Renewals.{entries_many}
 use Rattle.cms_held.proofs.SharedNeed.{stands_at, takes_the_need}
 use Rattle.cms_held.proofs.PartCases.{held_count}
 
@@ -58,7 +57,7 @@ pub writes_need : (j : Journal) (v : HeldVolume) (edit : Edit) (stamp : Stamp) (
     → length (writes_of v s) ≤ directory_fresh (minidisk_in v.disk old) change + map_size v.disk.bsize v.label.blocks + 1
 writes_need j v edit stamp s old files change x changed made =
     let count : length edit.files ≡ length (changed_files (map file_of old.files) change) =
-    sym (held_count edit.files) ∙ (ap (λ (l : List Entry). length l) (same_entries files edit.files x.leaves.held)
+    sym (held_count edit.files) ∙ (entries_many files edit.files x.leaves.held
     ∙ (length-map files (λ (f : Kept). f.entry) ∙ (sym (length-map files file_of) ∙ ap (λ (l : List File). length l) changed))) in
     let written : s.directory_part.leaves ≡ directory_written (minidisk_in v.disk old) change =
     x.planned.written ∙ (ap (λ (n : ℕ). blocks_made v.disk.bsize n edit.made) count ∙ ap (blocks_made v.disk.bsize (length (changed_files (map file_of old.files) change))) made) in

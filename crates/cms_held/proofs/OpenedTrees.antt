@@ -1,15 +1,15 @@
 -- The trees of a volume that opens stand.
-use Rattle.std.proofs.Common.{◌≡◌, ℕ, ◌+◌, ◌-◌, ◌*◌, ◌^◌, ◌<◌, ◌≤◌, List, [], ◌∷◌, drop, true, All, Option, None, Some, Ok, sym, ◌∙◌, ap, subst, arith}
+use Rattle.std.proofs.Common.{◌≡◌, ℕ, ◌+◌, ◌-◌, ◌*◌, ◌^◌, ◌<◌, ◌≤◌, List, [], ◌∷◌, drop, true, All, Option, None, Some, Ok, refl, sym, ◌∙◌, ap, subst, arith}
 use Rattle.std.proofs.lemmas.List.Elements.{All-nil, All-cons}
 use Rattle.cms_journal.specs.Journal.{IsBlockSize}
 use Rattle.cms_journal.proofs.Sizes.{block_bounds}
 use Rattle.cms_names.specs.declared.name.Format.{Format}
-use Rattle.cms_names.specs.declared.name.Format.TheVariants.{F}
+use Rattle.cms_names.specs.declared.name.Format.TheVariants.{F, V}
 use Rattle.cms_fields.specs.Entries.{fan_of, levels_fit}
 use Rattle.cms_fields.specs.Numbers.{is_shape, up}
 use Rattle.cms_fields.specs.declared.entry.Entry.{Entry}
 use Rattle.cms_model.specs.Lists.{cut}
-use Rattle.cms_model.specs.Records.{records_of}
+use Rattle.cms_model.specs.Records.{length_of, records_of}
 use Rattle.cms_model.specs.Trees.{Image, Met, bytes_at, form_of, tree}
 use Rattle.cms_model.specs.Volumes.{blamed, contents_in, file_trees, holder_of}
 use Rattle.cms_model.specs.declared.fault.OpenFault.TheVariants as failed
@@ -34,6 +34,12 @@ unfolding nodes
 held_stands bsize total image k first holder root count format met size some few shape is =
     read_stands (form_of bsize total format) image k first holder root count met (fan_wide bsize format size) some few shape is
 
+-- the records are read by the length that is told of them
+records_told : (bsize : ℕ) (format : Format) (size count : ℕ) (records : List (List ℕ)) (bytes : List ℕ) → records_of bsize format size count bytes ≡ records_of bsize format (length_of format size records) count bytes
+unfolding records_of
+records_told bsize F size count records bytes = refl
+records_told bsize V size count records bytes = refl
+
 files_stand : (bsize total : ℕ) (image : Image) (dirs : List ℕ) (number : ℕ) (es : List Entry) (ms : List Met) (cs : List (List (List ℕ))) → IsBlockSize bsize → AllFit bsize es
     → file_trees bsize total image dirs number es ≡ Ok ms → contents_in bsize image number es ms ≡ Ok cs → All (FileStands bsize total image) (held_files bsize total image es ms cs)
 unfolding file_trees contents_in held_files levels_fit
@@ -53,7 +59,8 @@ files_stand bsize total image dirs number (e ∷ es) ms cs size fit t c =
     (All-cons (FileStands bsize total image) (held_file bsize total image e m rs) (held_files bsize total image es more rest)
     (record {
       tree = held_stands bsize total image e.levels None holder e.root e.blocks e.format m size n.some n.small fit.0.levels is_m;
-      start = λ records is'. ap (start_of bsize e.format) (ok_same rs records (sym (blamed_ok (failed.Var number) (records_of bsize e.format e.length e.count (bytes_at image m.leaves)) rs is_rs) ∙ is'));
+      start = λ records is'. ap (start_of bsize e.format) (ok_same rs records (sym (blamed_ok (failed.Var number) (records_of bsize e.format e.length e.count (bytes_at image m.leaves)) rs is_rs)
+          ∙ (records_told bsize e.format e.length e.count rs (bytes_at image m.leaves) ∙ is')));
     })
     (files_stand bsize total image dirs (number + 1) es more rest size fit.1 is_more is_rest)))))))
 

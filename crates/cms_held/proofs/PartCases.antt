@@ -6,7 +6,6 @@ use Rattle.cms_journal.specs.Journal.{Journal}
 use Rattle.cms_journal.proofs.Sizes.{block_bounds}
 use Rattle.cms_names.specs.declared.name.Format.TheVariants.{F}
 use Rattle.cms_fields.specs.Numbers.{up}
-use Rattle.cms_fields.specs.declared.entry.Entry.{Entry}
 use Rattle.cms_fields.specs.declared.label.Label.{Label}
 use Rattle.cms_fields.specs.declared.time.Stamp.{Stamp}
 use Rattle.cms_model.specs.LawsUpdates.{now}
@@ -36,7 +35,7 @@ use Rattle.cms_held.proofs.KeptTrees.{nodes_are}
 use Rattle.cms_held.proofs.MapMarks.{AreUnmarked, lowest_free}
 use Rattle.cms_held.proofs.MapShares.{in_drop, in_released, turned_is_enough}
 use Rattle.cms_held.proofs.OldBlocks.{HasBlocksOf, old_blocks}
-use Rattle.cms_held.proofs.Renewals.{same_entries}
+use Rattle.cms_held.proofs.Renewals.{entries_many}
 use Rattle.cms_held.proofs.SystemsHeld.{held_has_systems}
 use Rattle.cms_model.specs.DirectoryParts.{directory_count}
 use Rattle.cms_held.specs.Allotting.{Parts, files_fresh, files_released, on_map, part_fresh, part_released}
@@ -82,9 +81,8 @@ pub record Case : Type 0 where
 -- that of a renewal
 unfoldable pub case_of : (j : Journal) (v : HeldVolume) (edit : Edit) (stamp : Stamp) (s : Systems) (parts : Parts) (old : Layout) (files : List Kept) → IsPartRenewal j v edit stamp s parts old files → Case
 case_of j v edit stamp s parts old files x =
-    let same = same_entries files edit.files x.leaves.held in
     let few = x.leaves.few in
-    let count : length edit.files ≡ length files = sym (held_count edit.files) ∙ (ap (λ (l : List Entry). length l) same ∙ kept_count files) in
+    let count : length edit.files ≡ length files = sym (held_count edit.files) ∙ (entries_many files edit.files x.leaves.held ∙ kept_count files) in
     record {
       j = j;
       v = v;
@@ -99,7 +97,7 @@ case_of j v edit stamp s parts old files x =
         trees = x.trees;
         planned = x.planned;
         few = omega arith;
-        back = subst (All ReadsBack) (sym same) x.leaves.back;
+        back = x.leaves.back;
         balance = x.leaves.balance;
         had = x.leaves.had;
       };

@@ -5,7 +5,6 @@ use Rattle.std.proofs.Math.Seq.{take-append_seam, drop-append_seam}
 use Rattle.cms_fields.specs.declared.time.Stamp.{Stamp}
 use Rattle.cms_journal.proofs.Sizes.{block_bounds}
 use Rattle.cms_journal.specs.Journal.{Journal, start_of}
-use Rattle.cms_fields.specs.declared.entry.Entry.{Entry}
 use Rattle.cms_model.specs.LawsUpdates.{AreWithin, Updates, after, now}
 use Rattle.cms_model.specs.Lists.{In, cut, times}
 use Rattle.cms_model.specs.Settled.{Apart, Write, frame, update}
@@ -21,7 +20,7 @@ use Rattle.cms_held.specs.Systems.{Systems, block_writes, data_writes, directory
 use Rattle.cms_held.specs.Written.{ReadsBack}
 use Rattle.cms_held.proofs.FreshNodes.{nodes_are}
 use Rattle.cms_held.proofs.HeldLevels.{held_levels}
-use Rattle.cms_held.proofs.Renewals.{same_entries}
+use Rattle.cms_held.proofs.Renewals.{entries_many}
 use Rattle.cms_held.proofs.PartCases.{Case, held_count, kept_count}
 use Rattle.cms_held.proofs.PartTrees.{directory_shape, map_shape, write_within}
 use Rattle.cms_held.proofs.PartWrites.{directory_long, part_update_is_small, writes_long}
@@ -152,14 +151,13 @@ old_stay j v edit stamp s old files x n there =
 
 pub taking : (j : Journal) (v : HeldVolume) (edit : Edit) (stamp : Stamp) (s : Systems) (old : Layout) (files : List Kept) → IsRenewal j v edit stamp s old files → IsTaking j v edit stamp s old files
 taking j v edit stamp s old files x =
-    let same = same_entries files edit.files x.leaves.held in
     let few = x.leaves.few in
-    let count : length edit.files ≡ length files = sym (held_count edit.files) ∙ (ap (λ (l : List Entry). length l) same ∙ kept_count files) in
+    let count : length edit.files ≡ length files = sym (held_count edit.files) ∙ (entries_many files edit.files x.leaves.held ∙ kept_count files) in
     record {
       at = x.at;
       planned = x.planned;
       few = omega arith;
-      back = subst (All ReadsBack) (sym same) x.leaves.back;
+      back = x.leaves.back;
       balance = x.leaves.balance;
       had = x.leaves.had;
     }

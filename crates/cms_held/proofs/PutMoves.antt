@@ -16,13 +16,14 @@ use Rattle.cms_model.specs.Lists.{times}
 use Rattle.cms_model.specs.Trees.{Image, bytes_at, is_allowed}
 use Rattle.cms_model.specs.Built.{AllAllowed}
 use Rattle.cms_model.specs.Minidisks.{File}
-use Rattle.cms_model.specs.Volumes.{Disk}
+use Rattle.cms_model.specs.Volumes.{Disk, as_read}
 use Rattle.cms_model.specs.Records.{Fits, length_of, records_of, stored}
 use Rattle.cms_model.specs.Changes.{Put, changed_files, put_file}
 use Rattle.cms_model.specs.Stands.{Kept, HoldsFile, Layout, file_blocks, file_of, layout_blocks}
 use Rattle.cms_model.specs.LawsChanges.{NoneNamed}
 use Rattle.cms_model.specs.LawsUpdates.{now}
 use Rattle.cms_model.proofs.Changing.{none_added, place_changed}
+use Rattle.cms_model.proofs.EntriesRead.{length_so, passes_so}
 use Rattle.cms_model.proofs.Records.{length_stored_fixed}
 use Rattle.cms_model.proofs.Repeats.{times_append, times_first, times_later}
 use Rattle.cms_model.proofs.Results.{ok_same}
@@ -46,7 +47,7 @@ use Rattle.cms_held.specs.Putting.{IsPutAs, IsPutOf, adding, adds, replaces, rep
 use Rattle.cms_held.proofs.Drafted.{draft_holds}
 use Rattle.cms_held.proofs.Edits.{Beside, Is, Moved, at_place, beside_count, beside_set, come_all, files_old, found_at, moved, names_distinct, no_times, pass_all, tree_times, trees_of}
 use Rattle.cms_held.proofs.PlannedWrites.{IsTaking, taken_stay}
-use Rattle.cms_held.proofs.Renewals.{all_of}
+use Rattle.cms_held.proofs.Renewals.{all_of, holds_read, size_so}
 
 -- ---- lists of files
 
@@ -102,7 +103,7 @@ pub record NewFile (disk : Disk) (total : ℕ) (later : Image) (g : HeldFile) (n
   pub file : Kept
   pub is : Is file g
   pub file_is : file_of file ≡ new
-  pub entry_is : file.entry ≡ g.entry
+  pub entry_is : file.entry ≡ as_read g.entry
   pub holds : HoldsFile disk total later file
   pub stands : FileStands disk.bsize total later g
   pub blocks_are : (n : ℕ) → times n file.met.blocks ≡ times n (blocks_in g.tree)
@@ -119,20 +120,23 @@ new_file : (disk : Disk) (total : ℕ) (later : Image) (g : HeldFile) (marks : L
     → IsDrafted disk total later g.entry g.tree.leaves marks g.tree.pointers new.records → NewFile disk total later g new
 new_file disk total later g marks new p is_drafted =
     let d = draft_holds disk total later g.entry g.tree.leaves marks g.tree.pointers new.records is_drafted in
-    let k : Kept = record { entry = g.entry; met = d.met; records = new.records } in
-    let lengths : length_of g.entry.format g.entry.length new.records ≡ new.length = rw (p.format_is, p.entry_length) p.longest_is in
+    let k : Kept = record { entry = as_read g.entry; met = d.met; records = new.records } in
+    let lengths : length_of k.entry.format k.entry.length new.records ≡ new.length =
+    length_so g.entry.format g.entry.length new.records ∙ rw (p.format_is, p.entry_length) p.longest_is in
     let each : All (Fits g.entry.format g.entry.length) new.records = rw (p.format_is, p.entry_length) p.each in
     record {
       file = k;
       is = record {
         entry_is = refl;
+        told_is = p.entry_length ∙ sym p.length_is;
         tree_is = record { leaves = sym d.leaves_are; blocks = d.blocks_are };
         length_is = p.length_is ∙ sym lengths;
-        size_is = p.size_is ∙ ap (λ (f : Format). length (stored f new.records)) (sym p.format_is) ∙ same_size g.entry.format g.entry.length g.entry.count new.records each p.count_is;
+        size_is = p.size_is ∙ ap (λ (f : Format). length (stored f new.records)) (sym p.format_is) ∙ same_size g.entry.format g.entry.length g.entry.count new.records each p.count_is
+            ∙ sym (size_so g.entry.format g.entry.length g.entry.count new.records);
       };
       file_is = file_same (file_of k) new p.name_is p.number_is p.format_is lengths p.stamp_is refl;
       entry_is = refl;
-      holds = d.holds;
+      holds = holds_read disk total later (record { entry = g.entry; met = d.met; records = new.records }) d.holds;
       stands = record {
         tree = d.stands;
         start = λ records is'.
@@ -235,7 +239,7 @@ replace_moves j v old g marks new s k f there named p =
     let held = beside_set old.files v.files k q g p.at.held.files_are placed'.is in
     let P = λ (x : Kept). passes v.disk.bsize x.entry ≡ true in
     let all = pass_all v.disk.bsize v.label.blocks old.files v.files p.at.held.files_are p.kept.each in
-    let own : P q = ap (passes v.disk.bsize) placed'.entry_is ∙ p.file.passes_all in
+    let own : P q = ap (passes v.disk.bsize) placed'.entry_is ∙ (passes_so v.disk.bsize g.entry ∙ p.file.passes_all) in
     let file_named : (file_of h).name ≡ new.name = ap (λ (e : Entry). e.name) (sym at.held.entry_is) ∙ named ∙ p.file.name_is in
     let distinct = names_distinct old.files p.at.stands.names in
     let found = found_at old.files k h new.name distinct less is file_named in
@@ -269,7 +273,7 @@ add_moves j v old g marks new s none p =
     let P = λ (x : Kept). passes v.disk.bsize x.entry ≡ true in
     let all = pass_all v.disk.bsize v.label.blocks old.files v.files p.at.held.files_are p.kept.each in
     let T = TreeComes v.disk.bsize v.label.blocks before later (layout_blocks old) in
-    let own : P q = ap (passes v.disk.bsize) placed'.entry_is ∙ p.file.passes_all in
+    let own : P q = ap (passes v.disk.bsize) placed'.entry_is ∙ (passes_so v.disk.bsize g.entry ∙ p.file.passes_all) in
     let changed : put_file new (map file_of old.files) ≡ map file_of fs =
     (none_added new.name (map file_of old.files) none).put new refl ∙ ap (λ (x : File). map file_of old.files ++ x ∷ []) (sym placed'.file_is) ∙ sym (map-append file_of old.files (q ∷ [])) in
     moved before later v (adding v.files g) old (Put new) fs p.at.stands.names tt changed held (omega (arith, length-append old.files (q ∷ []), length-append v.files (g ∷ [])))

@@ -23,7 +23,7 @@ use Rattle.cms_held.proofs.Edits.{at_place, found_at, names_distinct}
 use Rattle.cms_held.proofs.EntryPlaces.{all_are_enough, edits_have_places, places_are_enough}
 use Rattle.cms_held.proofs.PutAsides.{files_count, found_in}
 use Rattle.cms_held.proofs.Removing.{length-removed}
-use Rattle.cms_held.proofs.Renewals.{same_entries}
+use Rattle.cms_held.proofs.Renewals.{entries_many}
 use Rattle.cms_held.proofs.SharedBlocks.{fresh_is_counted}
 use Rattle.cms_held.proofs.PartCases.{Case, case_of, directory_may, fresh_begins, held_count}
 use Rattle.cms_held.proofs.PartTrees.{directory_shape}
@@ -140,7 +140,7 @@ takes_the_need j v edit stamp s parts old files change x changed written =
     let old_is : length v.directory.leaves ≡ directory_count bsize (length (map file_of old.files)) =
     (held_has_systems j v old x.at).directory_is ∙ ap (directory_count bsize) (held_count v.files ∙ sym (files_count j v old x.at)) in
     let new_count : length edit.files ≡ length (changed_files (map file_of old.files) change) =
-    sym (held_count edit.files) ∙ (ap (λ (l : List Entry). length l) (same_entries files edit.files x.leaves.held) ∙ (length-map files (λ (f : Kept). f.entry) ∙ (sym (length-map files file_of) ∙ ap (λ (l : List File). length l) changed))) in
+    sym (held_count edit.files) ∙ (entries_many files edit.files x.leaves.held ∙ (length-map files (λ (f : Kept). f.entry) ∙ (sym (length-map files file_of) ∙ ap (λ (l : List File). length l) changed))) in
     let new_is : length s.directory.leaves ≡ directory_count bsize (length (changed_files (map file_of old.files) change)) = x.planned.blocks.directory_is ∙ ap (directory_count bsize) new_count in
     let same : fresh_count (bsize / 4) (length v.directory.leaves) (length s.directory.leaves) parts.directory
     ≡ fresh_count (bsize / 4) (directory_count bsize (length (map file_of old.files))) (directory_count bsize (length (changed_files (map file_of old.files) change))) (directory_written (minidisk_in v.disk old) change) =

@@ -3,14 +3,13 @@ use Rattle.std.proofs.Common.{◌≡◌, ⊎_elim, ℕ, ◌+◌, ◌-◌, ◌≤
 use Rattle.std.specs.Prelude.{◌==◌, ◌&&◌, ◌||◌}
 use Rattle.std.proofs.lemmas.Bool.{cases_Bool, eqb-true, eq-eqb}
 use Rattle.cms_names.specs.declared.name.Format.TheVariants.{F}
-use Rattle.cms_fields.specs.Entries.{passes}
 use Rattle.cms_fields.specs.Numbers.{up}
 use Rattle.cms_fields.specs.declared.entry.Entry.{Entry}
 use Rattle.cms_model.specs.Lists.{In, holds, times}
 use Rattle.cms_model.specs.Maps.{is_marked}
 use Rattle.cms_model.specs.Stands.{Layout, Stands, entries_in, file_blocks, layout_blocks, mets_in, opened, records_in}
 use Rattle.cms_model.specs.Trees.{Met, bytes_at, form_of}
-use Rattle.cms_model.specs.Volumes.{HoldsSystem}
+use Rattle.cms_model.specs.Volumes.{HoldsSystem, as_read}
 use Rattle.cms_model.proofs.Renewing.{renewed_stands}
 use Rattle.cms_model.proofs.Repeats.{bit, hit, miss, held, held_from, times_append}
 use Rattle.cms_model.proofs.Standing.{stands_opens}
@@ -26,7 +25,7 @@ use Rattle.cms_held.specs.MapPlaces.{BitsStay}
 use Rattle.cms_held.specs.Systems.{IsLaidOut, IsTree, directory_file, map_file}
 use Rattle.cms_held.proofs.Exchanged.{Counts, exchanged, first_bit, new_blocks, new_times}
 use Rattle.cms_held.proofs.MapMarks.{new_marks}
-use Rattle.cms_held.proofs.Renewals.{all_of, comes_from, same_entries}
+use Rattle.cms_held.proofs.Renewals.{all_of, comes_from, held_pass, same_entries}
 use Rattle.cms_held.proofs.SharedSystems.{share_is_read}
 use Rattle.cms_held.proofs.SharedTrees.{levels_are_read, shared_tree_stands}
 use Rattle.cms_held.proofs.Standing.{trees_come}
@@ -55,7 +54,7 @@ tree_block c n some =
 abbrev Leaves : Case → Type 0
 Leaves c = LeavesFiles (before_of c) (later_of c) c.v c.edit c.old c.files
 
-same_files : (c : Case) → Leaves c → entries_held c.edit.files ≡ entries_in c.files
+same_files : (c : Case) → Leaves c → map as_read (entries_held c.edit.files) ≡ entries_in c.files
 same_files c left = same_entries c.files c.edit.files left.held
 
 laid_out : (c : Case) → Leaves c → IsLaidOut c.v.disk c.s (entries_held c.edit.files)
@@ -64,7 +63,6 @@ laid_out c left =
     let l = label_facts c in
     let p = c.x.planned in
     let blocks = f.blocks in let old_count = same_total c in let small = c.x.at.whole.small in let top = (has c).top in
-    let same = same_files c left in
     let files_few = c.x.few in
     let m = map_enough c in
     record {
@@ -73,7 +71,7 @@ laid_out c left =
       label_long = l.long;
       blocks = omega arith;
       few = omega (arith, held_count c.edit.files);
-      each = subst (All (λ e. passes c.v.disk.bsize e ≡ true)) (sym same) left.pass;
+      each = held_pass c.v.disk.bsize c.files c.edit.files left.held left.pass;
       back = c.x.back;
       first = (
         drop 1 c.s.directory.leaves,

@@ -1,18 +1,18 @@
 -- The directory and the map of which a part was written are read again.
-use Rattle.std.proofs.Common.{◌≡◌, ⊎_elim, ℕ, suc, ◌+◌, ◌-◌, ◌*◌, ◌/◌, ◌%◌, ◌^◌, ◌<◌, ◌≤◌, true, false, List, ◌++◌, length, take, drop, get_or, replicate, All, Ok, refl, sym, ◌∙◌, ap, subst, arith, div-add-mod', mod-lt, mul-le-mul_right, length-drop}
+use Rattle.std.proofs.Common.{◌≡◌, ⊎_elim, ℕ, suc, ◌+◌, ◌-◌, ◌*◌, ◌/◌, ◌%◌, ◌^◌, ◌<◌, ◌≤◌, true, false, List, ◌++◌, length, map, take, drop, get_or, replicate, All, Ok, refl, sym, ◌∙◌, ap, subst, arith, div-add-mod', mod-lt, mul-le-mul_right, length-drop}
 use Rattle.std.specs.Prelude.{codes}
 use Rattle.std.proofs.lemmas.Bool.{cases_Bool, le-leb}
 use Rattle.std.proofs.lemmas.List.{length-take, take-take, drop-take, drop-drop}
 use Rattle.std.proofs.lemmas.List.Elements.{All-cons, All-from_get_or}
 use Rattle.cms_journal.specs.Journal.{IsBlockSize}
 use Rattle.cms_journal.proofs.Sizes.{block_bounds}
-use Rattle.cms_fields.specs.Entries.{entry_of, passes}
+use Rattle.cms_fields.specs.Entries.{passes}
 use Rattle.cms_fields.specs.Labels.{label_of}
 use Rattle.cms_fields.specs.Numbers.{up}
 use Rattle.cms_fields.specs.declared.entry.Entry.{Entry}
 use Rattle.cms_model.specs.Lists.{In, cut, holds}
 use Rattle.cms_model.specs.Trees.{Image, bytes_at}
-use Rattle.cms_model.specs.Volumes.{entries_of}
+use Rattle.cms_model.specs.Volumes.{as_read, entries_of}
 use Rattle.cms_model.proofs.Opening.{label_reads}
 use Rattle.cms_model.proofs.Quotients.{up_spec, up_some, up_below, up_unique}
 use Rattle.cms_model.proofs.Repeats.{in_from, in_held}
@@ -20,7 +20,7 @@ use Rattle.cms_held.specs.Systems.{directory_bytes_of, directory_file, map_file,
 use Rattle.cms_held.specs.Written.{ReadsBack, directory_name, map_name, file_entries}
 use Rattle.cms_held.proofs.EntryBytes.{length_entries}
 use Rattle.cms_held.proofs.SystemsRead.{Fits, Says, Word, all_parts, behind_one, behind_two, directory_long, entries_back, entry_long, entry_says, first_block, is_directory_from, is_map_from, lies_words, root_first, root_word}
-use Rattle.cms_held.specs.EntryPlaces.{EntriesStay, HasEntries, entry_at}
+use Rattle.cms_held.specs.EntryPlaces.{EntriesStay, HasEntries, IsReadAs, entry_at}
 use Rattle.cms_held.specs.SharedBlocks.{AreLong, SharesBlocks}
 use Rattle.cms_held.specs.SharedSystems.{ShareIsRead}
 use Rattle.cms_held.proofs.BlockBytes.{leaf_long}
@@ -88,12 +88,14 @@ entries_shared bsize before later olds leaves written old_entries entries bytes 
     (λ (is : holds written j ≡ true).
     let same : entry_at bsize later leaves (k + 2) ≡ take 64 (drop (k * 64) (file_entries entries ++ zeros)) =
     ap (λ (l : List ℕ). take 64 (drop at l)) (shares.anew j inside (in_from j written is)) ∙ (entry_piece bsize k bytes size ∙ ap (λ (l : List ℕ). take 64 (drop (k * 64) l)) files) in
-    ap (entry_of bsize) same ∙ spelled bsize 2 entries (file_entries entries ++ zeros) (entries_back bsize 2 entries zeros each back) k d less)
+    subst (λ (l : List ℕ). IsReadAs bsize l (get_or entries k d)) (sym same)
+    (spelled bsize 2 entries (file_entries entries ++ zeros) (entries_back bsize 2 entries zeros each back) k d less))
     (λ (no : holds written j ≡ false).
     let isnt = λ (h : In j written). clash (sym (in_held j written h) ∙ no) in
     let was = stay k d less isnt in
     let same : entry_at bsize later leaves (k + 2) ≡ entry_at bsize before olds (k + 2) = ap (λ (l : List ℕ). take 64 (drop at l)) (shares.same j inside isnt) in
-    ap (entry_of bsize) same ∙ ((entries_by_place bsize before olds old_entries size long old_room).0 had k d was.0 ∙ ap Ok (sym was.1)))
+    subst (λ (l : List ℕ). IsReadAs bsize l (get_or entries k d)) (sym same)
+    (subst (IsReadAs bsize (entry_at bsize before olds (k + 2))) (sym was.1) ((entries_by_place bsize before olds old_entries size long old_room).0 had k d was.0)))
     (cases_Bool (holds written j)))
 
 -- ---- the whole
@@ -165,7 +167,7 @@ share_is_read disk before later olds maps s old_entries entries old_bits stamp d
     let read = entries_shared bsize before later olds leaves directory_written old_entries entries bytes zeros l.size has.directory_long new_long old_held held
     (λ k inside. subst (λ (n : ℕ). entry_block bsize (k + 2) < n) (sym l.directory_count) (entry_within bsize count k l.size inside))
     has.entries_are enough.stay leaves_parts.directory (behind_two own map' tail own_long map_long) l.each l.back in
-    let spelled' : entries_of bsize 2 (cut (count + 2 - 2) 64 (drop 128 (bytes_at later dt.met.leaves))) ≡ Ok entries = rw (less, dt.leaves_are) read in
+    let spelled' : entries_of bsize 2 (cut (count + 2 - 2) 64 (drop 128 (bytes_at later dt.met.leaves))) ≡ Ok (map as_read entries) = rw (less, dt.leaves_are) read in
     let says = map_is_shared bsize last before later maps s.map.leaves map_written old_bits s.bits (omega arith) l.map_count has.map_count has.map_long has.bits_are l.bits_count l.fixed stay leaves_parts.map in
     record {
       directory = dt.met;

@@ -1,5 +1,5 @@
 -- A unit that is settled at a volume has its directory and its map as they are held.
-use Rattle.std.proofs.Common.{◌≡◌, inl, inr, ⊎_elim, ℕ, ◌+◌, ◌-◌, ◌*◌, ◌≤◌, List, [], ◌∷◌, length, drop, All, Ok, refl, sym, ◌∙◌, ap, subst, arith}
+use Rattle.std.proofs.Common.{◌≡◌, inl, inr, ⊎_elim, ℕ, ◌+◌, ◌-◌, ◌*◌, ◌≤◌, List, [], ◌∷◌, length, drop, map, All, Ok, refl, sym, ◌∙◌, ap, subst, arith}
 use Rattle.std.specs.Prelude.{None, Some}
 use Rattle.std.proofs.lemmas.List.Elements.{All-nil, All-cons}
 use Rattle.cms_journal.specs.Journal.{Journal}
@@ -9,7 +9,7 @@ use Rattle.cms_fields.specs.Numbers.{up}
 use Rattle.cms_fields.specs.declared.label.Label.{Label}
 use Rattle.cms_model.specs.Lists.{In, cut}
 use Rattle.cms_model.specs.Trees.{Image, bytes_at, form_of}
-use Rattle.cms_model.specs.Volumes.{IsOpened, all_blocks, entries_of}
+use Rattle.cms_model.specs.Volumes.{IsOpened, all_blocks, as_read, entries_of}
 use Rattle.cms_model.specs.LawsUpdates.{now}
 use Rattle.cms_model.specs.Stands.{Layout, entries_in, opened}
 use Rattle.cms_model.proofs.Cuts.{length_cut}
@@ -26,7 +26,7 @@ use Rattle.cms_held.specs.LawsRenewing.{IsHeldAt}
 use Rattle.cms_held.specs.Opening.{HeldVolume}
 use Rattle.cms_held.specs.Renewing.{entries_held}
 use Rattle.cms_held.proofs.OldBlocks.{old_opens}
-use Rattle.cms_held.proofs.Renewals.{same_entries}
+use Rattle.cms_held.proofs.Renewals.{entries_many, same_entries}
 use Rattle.cms_held.specs.SharedSystems.{HeldHasSystems}
 use Rattle.cms_model.specs.DirectoryParts.{directory_count}
 
@@ -100,13 +100,13 @@ held_has_systems j v old x = record {
   directory_long = rw directory (all_in (λ (n : ℕ). length (image n) ≡ v.disk.bsize) old.directory_met.leaves (λ n there. blocks_long j v old x n
       (In-left n old.directory_met.blocks _ (tree_inside (form_of v.disk.bsize old.label.blocks F) image old.directory.levels (Some old.label.origin) old.label.origin old.directory.root old.directory.blocks
       old.directory_met o.system.directory_met n there))));
-  directory_is = rw (directory, entries) c.directory;
-  entries_are = rw (directory, entries) (subst (λ (n : ℕ). entries_of v.disk.bsize 2 (cut n 64 (drop 128 (bytes_at image old.directory_met.leaves))) ≡ Ok (entries_in old.files)) c.entries o.system.entries);
-  map_long = rw map (all_in (λ (n : ℕ). length (image n) ≡ v.disk.bsize) old.map_met.leaves (λ n there. blocks_long j v old x n
+  directory_is = rw (directory, many) c.directory;
+  entries_are = rw (directory, many, entries) (subst (λ (n : ℕ). entries_of v.disk.bsize 2 (cut n 64 (drop 128 (bytes_at image old.directory_met.leaves))) ≡ Ok (entries_in old.files)) c.entries o.system.entries);
+  map_long = rw map_leaves (all_in (λ (n : ℕ). length (image n) ≡ v.disk.bsize) old.map_met.leaves (λ n there. blocks_long j v old x n
       (In-right n old.directory_met.blocks _ (In-left n old.map_met.blocks _ (tree_inside (form_of v.disk.bsize old.label.blocks F) image old.map.levels None old.label.origin old.map.root old.map.blocks
       old.map_met o.system.map_met n there)))));
-  map_count = rw map (c.map ∙ ap (λ (n : ℕ). up (up n 8) v.disk.bsize) (sym blocks));
-  bits_are = rw map (ap (λ (n : ℕ). bits_in n (bytes_at image old.map_met.leaves)) blocks ∙ sym x.held.bits_are);
+  map_count = rw map_leaves (c.map ∙ ap (λ (n : ℕ). up (up n 8) v.disk.bsize) (sym blocks));
+  bits_are = rw map_leaves (ap (λ (n : ℕ). bits_in n (bytes_at image old.map_met.leaves)) blocks ∙ sym x.held.bits_are);
 }
   where
     image : Image
@@ -121,11 +121,14 @@ held_has_systems j v old x = record {
     directory : v.directory.leaves ≡ old.directory_met.leaves
     directory = x.held.directory_is.leaves
 
-    map : v.map.leaves ≡ old.map_met.leaves
-    map = x.held.map_is.leaves
+    map_leaves : v.map.leaves ≡ old.map_met.leaves
+    map_leaves = x.held.map_is.leaves
 
-    entries : entries_held v.files ≡ entries_in old.files
+    entries : map as_read (entries_held v.files) ≡ entries_in old.files
     entries = same_entries old.files v.files x.held.files_are
+
+    many : length (entries_held v.files) ≡ length (entries_in old.files)
+    many = entries_many old.files v.files x.held.files_are
 
     blocks : v.label.blocks ≡ old.label.blocks
     blocks = ap (λ (l : Label). l.blocks) x.held.label_is

@@ -1,5 +1,5 @@
 -- The directory, the map and the label that are written are read again.
-use Rattle.std.proofs.Common.{◌≡◌, inl, ⊎_elim, ℕ, suc, ◌+◌, ◌-◌, ◌*◌, ◌/◌, ◌^◌, ◌<◌, ◌≤◌, Bool, true, false, List, [], ◌∷◌, ◌++◌, length, take, drop, get_or, replicate, All, Option, None, Some, Ok, refl, sym, ◌∙◌, ap, subst, arith, append_assoc, length-append}
+use Rattle.std.proofs.Common.{◌≡◌, inl, ⊎_elim, ℕ, suc, ◌+◌, ◌-◌, ◌*◌, ◌/◌, ◌^◌, ◌<◌, ◌≤◌, Bool, true, false, List, [], ◌∷◌, ◌++◌, length, map, take, drop, get_or, replicate, All, Option, None, Some, Ok, refl, sym, ◌∙◌, ap, subst, arith, append_assoc, length-append}
 use Rattle.std.specs.Prelude.{nat_le, ◌==◌, ◌&&◌, ◌||◌, codes}
 use Rattle.std.proofs.lemmas.Bool.{and_from, le-leb, eq-eqb, cases_lt}
 use Rattle.std.proofs.lemmas.List.{take_all, length-replicate, drop-drop}
@@ -25,7 +25,7 @@ use Rattle.cms_model.specs.Sizes.{levels, pointers_to, pointer_count}
 use Rattle.cms_model.specs.Systems.{SystemFile, system_fields, is_system, is_directory, is_map, directory_of, map_of}
 use Rattle.cms_model.specs.Trees.{Image, form_of, bytes_at, is_allowed}
 use Rattle.cms_model.specs.Built.{AllAllowed, ReadsAs}
-use Rattle.cms_model.specs.Volumes.{entries_of}
+use Rattle.cms_model.specs.Volumes.{as_read, entries_of}
 use Rattle.cms_model.proofs.Opening.{label_reads}
 use Rattle.cms_model.proofs.Shapes.{levels_needs}
 use Rattle.cms_model.proofs.Quotients.{up_spec, up_some, up_below, up_unique}
@@ -44,7 +44,7 @@ use Rattle.cms_held.proofs.Standing.{built_stands}
 -- ---- the entries of files
 
 pub entries_back : (bsize number : ℕ) (es : List Entry) (zeros : List ℕ) → All (λ e. passes bsize e ≡ true) es → All ReadsBack es
-    → entries_of bsize number (cut (length es) 64 (file_entries es ++ zeros)) ≡ Ok es
+    → entries_of bsize number (cut (length es) 64 (file_entries es ++ zeros)) ≡ Ok (map as_read es)
 unfolding entries_of cut file_entries
 entries_back bsize number [] zeros each back = refl
 entries_back bsize number (e ∷ es) zeros each back =
@@ -327,7 +327,7 @@ written_is_read disk image s entries stamp l ok bytes_is label_is has =
     (root_first bsize origin s.directory l.first.0 l.size l.first.1 leaves_few l.directory_nodes) in
     let map_is' = is_map_from bsize last (map_file bsize s) (drop 64 (image origin)) map_says' map_blocks mt.shape l.map_count in
     let less : count + 2 - 2 ≡ count = omega arith in
-    let spelled : entries_of bsize 2 (cut (count + 2 - 2) 64 (drop 128 (bytes_at image dt.met.leaves))) ≡ Ok entries =
+    let spelled : entries_of bsize 2 (cut (count + 2 - 2) 64 (drop 128 (bytes_at image dt.met.leaves))) ≡ Ok (map as_read entries) =
     rw (less, dt.leaves_are, joined, behind_two own map' tail own_long map_long) (entries_back bsize 2 entries (replicate (length leaves * bsize - 64 * (count + 2)) 0) l.each l.back) in
     let map_joined : bytes_at image s.map.leaves ≡ bytes_from 0 (length s.map.leaves * bsize) s.bits =
     pieces_joined image s.map.leaves bsize (bytes_from 0 (length s.map.leaves * bsize) s.bits) map_has ∙ take_all (length s.map.leaves * bsize) (bytes_from 0 (length s.map.leaves * bsize) s.bits)

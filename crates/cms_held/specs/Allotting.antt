@@ -41,6 +41,7 @@ abbrev pub part_fresh : HeldVolume → Edit → Systems → Parts → List ℕ
 part_fresh v edit s parts =
     files_fresh v edit s parts ++ fresh_of (v.disk.bsize / 4) parts.map v.map s.map
 
+-- and those that are given back
 abbrev pub part_released : HeldVolume → Edit → Systems → Parts → List ℕ
 part_released v edit s parts =
     files_released v edit s parts ++ released_of (v.disk.bsize / 4) parts.map v.map s.map

@@ -8,8 +8,9 @@ use Rattle.cms_model.specs.DirectoryParts.{all_entries, blocks_with, directory_c
 use Rattle.cms_model.specs.Lists.{In, cut}
 use Rattle.cms_model.specs.Sharing.{MayBeWritten}
 use Rattle.cms_model.specs.Trees.{Image, bytes_at}
-use Rattle.cms_model.specs.Volumes.{entries_of, holder_of}
+use Rattle.cms_model.specs.Volumes.{as_read, entries_of, holder_of}
 use Rattle.cms_held.specs.SharedBlocks.{AreLong}
+use Rattle.cms_held.specs.Written.{all_read}
 
 -- ---- entries by their places
 
@@ -18,17 +19,23 @@ abbrev pub entry_at : ℕ → Image → List ℕ → ℕ → List ℕ
 entry_at bsize image leaves number =
     take 64 (drop (number % (bsize / 64) * 64) (image (holder_of bsize leaves number)))
 
--- each entry is spelled by the bytes at its place
+-- these bytes spell an entry that is read as this one
+abbrev pub IsReadAs : ℕ → List ℕ → Entry → Type 0
+IsReadAs bsize bytes e =
+    (found : Entry) × (entry_of bsize bytes ≡ Ok found) × (as_read found ≡ as_read e)
+
+-- each entry is read in the bytes at its place
 abbrev pub AreSpelled : ℕ → Image → List ℕ → List Entry → Type 0
 AreSpelled bsize image leaves entries = (k : ℕ) (d : Entry) → k < length entries
-    → entry_of bsize (entry_at bsize image leaves (k + 2)) ≡ Ok (slice_index_or entries k d)
+    → IsReadAs bsize (entry_at bsize image leaves (k + 2)) (slice_index_or entries k d)
 
--- the data blocks of a directory have these entries of files
+-- the data blocks of a directory have these entries of files, as they are read
 abbrev pub HasEntries : ℕ → Image → List ℕ → List Entry → Type 0
 HasEntries bsize image leaves entries =
-    entries_of bsize 2 (cut (length entries) 64 (drop 128 (bytes_at image leaves))) ≡ Ok entries
+    entries_of bsize 2 (cut (length entries) 64 (drop 128 (bytes_at image leaves)))
+    ≡ Ok (all_read entries)
 
--- the entries that are read are those that are spelled so
+-- the entries that are read are those of the bytes at their places
 abbrev pub EntriesByPlace : Type 0
 EntriesByPlace =
     (bsize : ℕ) (image : Image) (leaves : List ℕ) (entries : List Entry) → IsBlockSize bsize

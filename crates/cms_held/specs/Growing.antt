@@ -162,6 +162,7 @@ pub record IsGrownAs (bsize : ℕ) (f g : HeldFile) (more : List (List ℕ)) (st
   pub blocks_are : g.entry.blocks ≡ length g.tree.leaves
   pub levels_are : g.entry.levels ≡ levels (fan_of bsize g.entry.format) (length g.tree.leaves)
   pub length_is : g.length ≡ length_with g.entry.format f.length more
+  pub told_is : g.entry.length ≡ g.length
   pub size_is : g.size ≡ f.size + length (stored g.entry.format more)
   pub few : g.entry.count ≤ most_records
   pub small : g.size ≤ most_bytes

@@ -4,13 +4,14 @@ use Rattle.cms_fields.specs.declared.entry.Entry.{Entry}
 use Rattle.cms_map.specs.Bits.{bits_in}
 use Rattle.cms_model.specs.Records.{length_of}
 use Rattle.cms_model.specs.Trees.{Image, Met, bytes_at}
-use Rattle.cms_model.specs.Volumes.{Disk, Opened, open_of}
+use Rattle.cms_model.specs.Volumes.{Disk, Opened, as_read, open_of}
 use Rattle.cms_held.specs.Opening.{HeldFile, HeldVolume, size_of, held_of}
 use Rattle.cms_held.specs.Systems.{IsTree}
 
--- the file of an entry, with this tree and these records
+-- the file of an entry that was read, with this tree and these records; the entry that is held tells their length, at V of the longest
 pub record IsHeldFile (e : Entry) (met : Met) (records : List (List ℕ)) (h : HeldFile) : Type 0 where
-  pub entry_is : h.entry ≡ e
+  pub entry_is : as_read h.entry ≡ e
+  pub told_is : h.entry.length ≡ h.length
   pub tree_is : IsTree h.tree met
   pub length_is : h.length ≡ length_of e.format e.length records
   pub size_is : h.size ≡ size_of e.format e.length e.count records

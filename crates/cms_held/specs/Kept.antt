@@ -2,7 +2,6 @@
 use Rattle.std.specs.Prelude.{◌≡◌, ◌<◌, ◌≤◌, ℕ, ◌-◌, ◌*◌, ◌/◌, ◌^◌, Bool, true, List, length, All}
 use Rattle.cms_journal.specs.Journal.{IsBlockSize}
 use Rattle.cms_fields.specs.Limits.{longest_record, most_bytes, most_files}
-use Rattle.cms_names.specs.declared.name.Format.TheVariants.{F}
 use Rattle.cms_fields.specs.Entries.{fan_of, passes}
 use Rattle.cms_fields.specs.declared.label.Label.{Label}
 use Rattle.cms_fields.specs.Numbers.{up}
@@ -10,19 +9,21 @@ use Rattle.cms_model.specs.DirectoryParts.{directory_count}
 use Rattle.cms_model.specs.Lists.{In}
 use Rattle.cms_held.specs.Opening.{HeldFile, HeldTree, HeldVolume}
 use Rattle.cms_held.specs.SharedTrees.{HasShape}
+use Rattle.cms_held.specs.Written.{ReadsBack}
 
--- a file: its entry passes the tests of an entry, it has as many data blocks as that says, which hold at most 67,108,864 bytes, its blocks
--- lie from 6 to the last block of the volume, and its tree has its shape; the longest of its records has 1 to 65,535 bytes, at F as many as the entry
+-- a file: its entry passes the tests of an entry, what is written for the entry spells it, it has as many data blocks as that says, which hold at most 67,108,864 bytes, its blocks
+-- lie from 6 to the last block of the volume, and its tree has its shape; the longest of its records has 1 to 65,535 bytes, as many as the entry
 -- says; the stored bytes end in its last data block
 pub record IsKeptFile (bsize total : ℕ) (f : HeldFile) : Type 0 where
   pub entry : passes bsize f.entry ≡ true
+  pub spells : ReadsBack f.entry
   pub count : length f.tree.leaves ≡ f.entry.blocks
   pub within : (n : ℕ) → In n f.tree.leaves → (6 ≤ n) × (n ≤ total)
   pub nodes_within : (n : ℕ) → In n f.tree.pointers → (6 ≤ n) × (n ≤ total)
   pub room : length f.tree.leaves * bsize ≤ most_bytes
   pub some : 1 ≤ f.length
   pub short : f.length ≤ longest_record
-  pub fixed : f.entry.format ≡ F → f.length ≡ f.entry.length
+  pub told : f.entry.length ≡ f.length
   pub size : f.size ≤ most_bytes
   pub shape : HasShape (fan_of bsize f.entry.format) f.tree
   pub low : (length f.tree.leaves - 1) * bsize < f.size

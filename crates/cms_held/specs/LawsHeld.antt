@@ -1,9 +1,11 @@
 -- What a volume that is held tells of the minidisk that it is.
 use Rattle.std.specs.Prelude.{◌≡◌, ℕ, ◌*◌, List, length, map, position, slice_get, Option, None, Some, Ok}
 use Rattle.cms_names.specs.declared.name.Name.{Name}
+use Rattle.cms_text.specs.Bytes.{word}
+use Rattle.cms_fields.specs.Entries.{entry_bytes}
 use Rattle.cms_map.specs.Bits.{free_blocks}
 use Rattle.cms_model.specs.Trees.{Image, bytes_at}
-use Rattle.cms_model.specs.Records.{HoldRecords, records_of, stored}
+use Rattle.cms_model.specs.Records.{HoldRecords, length_of, records_of, stored}
 use Rattle.cms_model.specs.Minidisks.{File, Minidisk, same_name}
 use Rattle.cms_model.specs.Sizes.{free_count}
 use Rattle.cms_model.specs.Volumes.{Disk, Opened, open_of, minidisk_of}
@@ -12,6 +14,7 @@ use Rattle.cms_model.specs.LawsRecords.{AreBytes}
 use Rattle.cms_model.specs.LawsSizes.{IsWhole}
 use Rattle.cms_held.specs.Opening.{HeldFile, HeldVolume, names_in}
 use Rattle.cms_held.specs.HeldAs.{IsHeldAs}
+use Rattle.cms_held.specs.Kept.{Keeps}
 
 -- a file as it is held is this one of the minidisk: it has its fields and so many records, which are read from its data blocks in
 -- this image
@@ -59,6 +62,14 @@ abbrev pub OpenedHasRoom : Type 0
 OpenedHasRoom =
     (unit : ℕ) (disk : Disk) (image : Image) (v : Opened) (h : HeldVolume) → IsWhole disk image → open_of disk image ≡ Ok v
     → IsHeldAs unit disk image v h → HasRoomOf image h (minidisk_of disk v)
+
+-- the 64 bytes that are written for the entry of each file tell the length of its records, at V of the longest
+abbrev pub EntriesTellLengths : Type 0
+EntriesTellLengths =
+    (unit : ℕ) (disk : Disk) (image : Image) (v : Opened) (h : HeldVolume) (k : ℕ) (held : HeldFile) (f : File)
+    → open_of disk image ≡ Ok v → IsHeldAs unit disk image v h → Keeps h → slice_get h.files k ≡ Some held
+    → slice_get (minidisk_of disk v).files k ≡ Some f
+    → word (entry_bytes held.entry) 32 ≡ length_of f.format f.length f.records
 
 -- the place of a name among the names of files, or that it is none of theirs
 abbrev pub IsFound : Name → List File → Option ℕ → Type 0

@@ -18,7 +18,7 @@ use Rattle.cms_held.specs.Systems.{Systems, system_writes}
 use Rattle.cms_held.specs.HeldAs.{AreHeld, IsHeldAs}
 use Rattle.cms_held.specs.Allotting.{IsPlanned}
 use Rattle.cms_held.specs.HeldTrees.{TreeComes, TreesStand}
-use Rattle.cms_held.specs.Renewing.{Edit, renewed}
+use Rattle.cms_held.specs.Renewing.{Edit, entries_held, renewed}
 
 -- each file is one of the old image whose blocks are the old volume's, or is held by the new image
 abbrev pub ComesFrom : Disk → ℕ → Image → Image → List ℕ → List Kept → Type 0
@@ -61,7 +61,7 @@ FrontKeepsHeld =
 pub record LeavesFiles (before later : Image) (v : HeldVolume) (edit : Edit) (old : Layout) (files : List Kept) : Type 0 where
   pub few : length files ≤ most_files
   pub pass : All (λ e. passes v.disk.bsize e ≡ true) (entries_in files)
-  pub back : All ReadsBack (entries_in files)
+  pub back : All ReadsBack (entries_held edit.files)
   pub names : HaveNames files
   pub held : AreHeld (entries_in files) (mets_in files) (records_in files) edit.files
   pub come : ComesFrom v.disk v.label.blocks before later (layout_blocks old) files

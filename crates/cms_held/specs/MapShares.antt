@@ -54,6 +54,7 @@ pub record IsMapEnough (bsize total : ℕ) (old bits : List Bool) (before map : 
   pub count : length bits ≡ total
   pub fixed : HasFixed bits
 
+-- the data blocks in which those bits stand are always enough
 abbrev pub TurnedIsEnough : Type 0
 TurnedIsEnough =
     (bsize total : ℕ) (old bits : List Bool) (taken given : List ℕ) (before map : HeldTree)

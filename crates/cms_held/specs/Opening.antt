@@ -22,8 +22,8 @@ pub record HeldTree : Type 0 where
   pub leaves : List ℕ
   pub pointers : List ℕ
 
--- a file: its entry, its tree, the length of its records (of the longest at V), how many bytes are stored of it, and where at V the first
--- record begins in the data block that they fill in part
+-- a file: its entry, which tells the length of its records (of the longest at V), its tree, that length, how many bytes are stored of it, and
+-- where at V the first record begins in the data block that they fill in part
 pub record HeldFile : Type 0 where
   pub entry : Entry
   pub tree : HeldTree
@@ -71,10 +71,10 @@ abbrev pub size_of : Format → ℕ → ℕ → List (List ℕ) → ℕ
 size_of F size count records = count * size
 size_of V size count records = length (stored V records)
 
--- a file as it is held
+-- a file as it is held: its entry tells the length of its records, at V of the longest, whatever was found there
 abbrev pub held_file : ℕ → ℕ → Image → Entry → Met → List (List ℕ) → HeldFile
 held_file bsize total image e met records = record {
-  entry = e;
+  entry = record e { length = length_of e.format e.length records };
   tree = held_tree (form_of bsize total e.format) image e.levels e.root e.blocks met;
   length = length_of e.format e.length records;
   size = size_of e.format e.length e.count records;

@@ -71,6 +71,7 @@ abbrev pub made_with : Option ℕ → ℕ → List ℕ
 made_with None files = made_at files
 made_with (Some place) files = made_at place
 
+-- those that are made anew once a file of this name is put
 abbrev pub made_put : HeldVolume → Name → List ℕ
 made_put v name = made_with (position (same_name name) (names_in v.files)) (length v.files)
 

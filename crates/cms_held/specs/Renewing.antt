@@ -33,6 +33,7 @@ pub record Edit : Type 0 where
 abbrev pub made_without : ℕ → ℕ → List ℕ
 made_without place files = 0 ∷ (place + 2) ∷ (files - 1 + 2) ∷ []
 
+-- and where it is another, or is added there
 abbrev pub made_at : ℕ → List ℕ
 made_at place = 0 ∷ (place + 2) ∷ []
 

@@ -22,6 +22,7 @@ pub record EditsAt (files : List HeldFile) (place : ℕ) (old new : HeldFile) : 
   pub added : IsChangedAt (entries_held files) (entries_held (adding files new).files)
       (length files)
 
+-- so it is of any files, and at any place
 abbrev pub EditsHavePlaces : Type 0
 EditsHavePlaces =
     (files : List HeldFile) (place : ℕ) (old new : HeldFile) → EditsAt files place old new
@@ -48,6 +49,7 @@ pub record WritesEnough (v : HeldVolume) (old : Layout) : Type 0 where
       → AreEnough v old (adding v.files g).files (Put new)
   pub moved : (pivot : ℕ) → AreEnough v old (moving v.files pivot).files (Century pivot)
 
+-- so it is of each volume that is held with this layout
 abbrev pub WrittenIsEnough : Type 0
 WrittenIsEnough =
     (j : Journal) (v : HeldVolume) (old : Layout) → IsHeldAt j v old → WritesEnough v old

@@ -17,6 +17,7 @@ use Rattle.cms_tree.specs.Builds.{root_of}
 use Rattle.cms_held.specs.LawsRenewing.{IsHeldAt}
 use Rattle.cms_held.specs.Opening.{HeldVolume}
 use Rattle.cms_held.specs.Renewing.{entries_held}
+use Rattle.cms_held.specs.Written.{all_read}
 use Rattle.cms_held.specs.Systems.{IsLaidOut, IsTree, Systems, directory_bytes_of, directory_file, map_file}
 use Rattle.cms_model.specs.DirectoryParts.{directory_count}
 use Rattle.cms_held.specs.EntryPlaces.{HasEntries, IsEnoughFor}
@@ -76,7 +77,7 @@ pub record ReadsParts (disk : Disk) (image : Image) (s : Systems) (entries : Lis
         directory_met = directory;
         map = map_file disk.bsize s;
         map_met = map;
-        entries = entries;
+        entries = all_read entries;
         mets = mets;
         contents = contents;
         lost = lost;

@@ -23,7 +23,7 @@ use Rattle.cms_map.specs.Bits.{bits_in, bytes_from, HasFixed}
 use Rattle.cms_tree.specs.Builds.{node_at, node_bytes, nodes_over, root_of}
 use Rattle.cms_held.specs.Opening.{HeldTree}
 use Rattle.cms_held.specs.SharedTrees.{IsStanding}
-use Rattle.cms_held.specs.Written.{ReadsBack, directory_name, map_name, file_entries}
+use Rattle.cms_held.specs.Written.{ReadsBack, all_read, directory_name, map_name, file_entries}
 
 -- what is written of a tree: its data blocks and its pointer blocks at these places, from 0 and ascending
 pub record TreePart : Type 0 where
@@ -99,6 +99,7 @@ abbrev pub directory_piece : ℕ → Systems → List Entry → Stamp → ℕ �
 directory_piece bsize s entries stamp j =
     take bsize (drop (j * bsize) (directory_bytes_of bsize s entries stamp))
 
+-- the latter is made of the map's bits
 abbrev pub map_piece : ℕ → List Bool → ℕ → List ℕ
 map_piece bsize bits j = bytes_from (j * bsize) bsize bits
 
@@ -171,7 +172,7 @@ pub record IsTree (t : HeldTree) (met : Met) : Type 0 where
   pub leaves : t.leaves ≡ met.leaves
   pub blocks : (n : ℕ) → times n met.blocks ≡ times n t.pointers + times n t.leaves
 
--- what is read in an image of the label, the directory and the map, and that their trees stand in it
+-- what is read in an image of the label, the directory with these entries, and the map, and that their trees stand in it
 pub record ReadsSystems (disk : Disk) (image : Image) (s : Systems) (entries : List Entry) : Type 0 where
   pub directory : Met
   pub map : Met
@@ -181,7 +182,7 @@ pub record ReadsSystems (disk : Disk) (image : Image) (s : Systems) (entries : L
     directory_met = directory;
     map = map_file disk.bsize s;
     map_met = map;
-    entries = entries;
+    entries = all_read entries;
     mets = mets;
     contents = contents;
     lost = lost;

@@ -1,10 +1,11 @@
 -- The entries that are written for a directory.
-use Rattle.std.specs.Prelude.{◌≡◌, ◌≤◌, true, ℕ, List, [], ◌∷◌, ◌++◌, codes, length, Ok}
+use Rattle.std.specs.Prelude.{◌≡◌, ◌≤◌, true, ℕ, List, [], ◌∷◌, ◌++◌, codes, length, map, Ok}
 use Rattle.byteorder.specs.Endian.{big_bytes}
 use Rattle.cms_text.specs.Texts.{coded}
 use Rattle.cms_fields.specs.Stamps.{is_stamp}
 use Rattle.cms_fields.specs.Entries.{entry_of, passes, entry_bytes}
 use Rattle.cms_fields.specs.declared.entry.Entry.{Entry}
+use Rattle.cms_model.specs.Volumes.{as_read}
 
 -- the name of a system file: its number in four bytes, four zeros, and eight letters
 abbrev pub system_name : ℕ → List ℕ → List ℕ
@@ -22,6 +23,10 @@ map_name = system_name 2 (codes "ALLOCMAP")
 unfoldable pub file_entries : List Entry → List ℕ
 file_entries [] = []
 file_entries (e ∷ es) = entry_bytes e ++ file_entries es
+
+-- entries as they are read
+abbrev pub all_read : List Entry → List Entry
+all_read entries = map as_read entries
 
 -- an entry that may be written
 abbrev pub CanWrite : Entry → Type 0

@@ -6,7 +6,7 @@ ghost use Rattle.cms_held.specs.Drafts.{DraftHasAll, DraftHolds, DraftIsPut, Dra
 ghost use Rattle.cms_held.specs.HeldAs.{OpenedHasHeld};
 ghost use Rattle.cms_held.specs.HeldTrees.{OpenedTreesStand};
 ghost use Rattle.cms_held.specs.LawsEdits.{CenturyEdits, DropEdits, EditIsAnswered, RelabelIsHeld, RenameEdits, RenewedIsChanged};
-ghost use Rattle.cms_held.specs.LawsHeld.{OpenedHasRoom, OpenedIsHeld, PlaceIsTold};
+ghost use Rattle.cms_held.specs.LawsHeld.{EntriesTellLengths, OpenedHasRoom, OpenedIsHeld, PlaceIsTold};
 ghost use Rattle.cms_held.specs.Putting.{DraftGoesOn, FreeIsAside, PutIsAnswered, PutIsCarried, PutIsSmall};
 ghost use Rattle.cms_held.specs.LawsRenewing.{FrontKeepsHeld, UpdateRenews};
 ghost use Rattle.cms_held.specs.Making.{EmptyIsMade, EmptyIsPlaced};
@@ -23,12 +23,13 @@ ghost use Rattle.cms_held.specs.SharedWrites.{FreshAreWritten, WrittenIsShared};
 
 /// What opens is held with its trees, and what is held so is the minidisk that it is, with its files and their records in their order;
 /// where each block of its image has its size, its trees stand level by level, it has as many free blocks, and its files are stored so.
-/// A name is found in the place of its file.
+/// What is written for the entry of a file tells the length of its records, at V of the longest. A name is found in the place of its file.
 pub fn held_laws()
     ensures trees { OpenedHasHeld }
     ensures stand { OpenedTreesStand }
     ensures held { OpenedIsHeld }
     ensures room { OpenedHasRoom }
+    ensures told { EntriesTellLengths }
     ensures place { PlaceIsTold }
 {}
 
@@ -91,7 +92,7 @@ pub fn making_laws()
 
 /// An update that writes a part of the directory and of the map, and shares their other blocks with the volume before.
 ///
-/// - An entry of the directory is spelled by the 64 bytes at its place in its data block. Where a file goes, is replaced or is added, the
+/// - An entry of the directory is read in the 64 bytes at its place in its data block. Where a file goes, is replaced or is added, the
 ///   entries outside the data block of its place are those that were there; a new data block is that of the new entry.
 /// - As many blocks are taken for a tree as the numbers of its data blocks tell.
 /// - The bit of a block stands in one data block of the map. Where those data blocks are written in which the bits of the lowest free

@@ -116,7 +116,8 @@ fn read_options(
 ) -> Result<Option<OptionFault>, AllocError>
     requires start { left < length words.now }
     requires none { chosen.old ≡ [] }
-    ensures { IfOk result (λ refused. options_from rules.now 0 (left + 1) (drop (left + 1) words.now)
+    ensures { IfOk result (λ refused.
+        options_from rules.now 0 (left + 1) (drop (left + 1) words.now)
         ≡ record { chosen = chosen.new; refused = refused }) }
 {
     let mut place = left + 1;
@@ -155,7 +156,8 @@ pub fn accepted_options(
     rules: &[OptionRule],
     words: &Tokens,
 ) -> Result<Accepted, AllocError>
-    ensures { IfOk result (λ accepted. options_of rules.now words.now ≡ record { chosen = accepted.chosen; refused = accepted.refused }) }
+    ensures { IfOk result (λ accepted. options_of rules.now words.now
+        ≡ record { chosen = accepted.chosen; refused = accepted.refused }) }
 {
     let words = words.as_slice();
     let mut chosen = Chosen::new(alloc);

@@ -345,7 +345,8 @@ impl Console {
     /// taken, and all that was read is kept.
     pub fn next<W: World>(&mut self, world: &mut W) -> Result<ConsoleLine, LineFault>
         ensures ok { IfOk result (Took (W.told world.old) (W.told world.new) self.old self.new) }
-        ensures err { OnErr result (Stayed (W.told world.old) (W.told world.new) self.old self.new) }
+        ensures err { OnErr result (Stayed (W.told world.old)
+            (W.told world.new) self.old self.new) }
         ensures cause { LineCause (W.edges world.old) (W.edges world.new) result }
         ensures faults { W.faults world.new ≡ W.faults world.old }
     {

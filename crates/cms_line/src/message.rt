@@ -106,7 +106,8 @@ fn add_two(
     other: &Word,
     tail: &str,
 ) -> Result<(), AllocError>
-    ensures ok { OnOk result (into.new.items ≡ into.old.items ++ two head.now word.now middle.now other.now tail.now) }
+    ensures ok { OnOk result (into.new.items
+        ≡ into.old.items ++ two head.now word.now middle.now other.now tail.now) }
     ensures front { take (length into.old.items) into.new.items ≡ into.old.items }
 {
     add_text(into, head)?;

@@ -78,7 +78,8 @@ impl ProgStack {
 
     /// Takes the line in front; none where the stack is empty.
     pub fn pop(&mut self) -> Option<Line>
-        ensures { MatchOption result ((self.old ≡ []) × (self.new ≡ [])) (λ line. self.old ≡ line ∷ self.new) }
+        ensures { MatchOption result ((self.old ≡ []) × (self.new ≡ []))
+            (λ line. self.old ≡ line ∷ self.new) }
     {
         self.lines.pop_front()
     }

@@ -41,8 +41,10 @@ fn put_ascii(text: &[u8], into: &mut [u8])
 // Types a line through a buffer, as a whole where it has room for that.
 fn type_through<W: World>(world: &mut W, bytes: &[u8], buffer: &mut [u8]) -> Result<(), Failed>
     requires { 0 < length buffer.old }
-    ensures ok { OnOk result (TypedTo (W.told world.old) (W.told world.new) (typed_line bytes.now) []) }
-    ensures err { OnErr result (TypedPart (W.told world.old) (W.told world.new) (typed_line bytes.now)) }
+    ensures ok { OnOk result (TypedTo (W.told world.old) (W.told world.new)
+        (typed_line bytes.now) []) }
+    ensures err { OnErr result (TypedPart (W.told world.old) (W.told world.new)
+        (typed_line bytes.now)) }
     ensures cause { HasCause (W.edges world.old) (W.edges world.new) result }
     ensures faults { W.faults world.new ≡ W.faults world.old }
 {
@@ -62,8 +64,10 @@ fn type_through<W: World>(world: &mut W, bytes: &[u8], buffer: &mut [u8]) -> Res
 // Types a long line. A function of its own, so that only such a line pays for the room.
 #[inline(never)]
 fn type_long<W: World>(world: &mut W, bytes: &[u8]) -> Result<(), Failed>
-    ensures ok { OnOk result (TypedTo (W.told world.old) (W.told world.new) (typed_line bytes.now) []) }
-    ensures err { OnErr result (TypedPart (W.told world.old) (W.told world.new) (typed_line bytes.now)) }
+    ensures ok { OnOk result (TypedTo (W.told world.old) (W.told world.new)
+        (typed_line bytes.now) []) }
+    ensures err { OnErr result (TypedPart (W.told world.old) (W.told world.new)
+        (typed_line bytes.now)) }
     ensures cause { HasCause (W.edges world.old) (W.edges world.new) result }
     ensures faults { W.faults world.new ≡ W.faults world.old }
 {
@@ -75,8 +79,10 @@ fn type_long<W: World>(world: &mut W, bytes: &[u8]) -> Result<(), Failed>
 /// A line of up to 65,535 bytes, and so every line of the console, message and record, is offered to the world as a whole; a
 /// longer one goes out in pieces. Takes no memory. After `Failed` a front of it was typed.
 pub fn type_line<W: World>(world: &mut W, bytes: &[u8]) -> Result<(), Failed>
-    ensures ok { OnOk result (TypedTo (W.told world.old) (W.told world.new) (typed_line bytes.now) []) }
-    ensures err { OnErr result (TypedPart (W.told world.old) (W.told world.new) (typed_line bytes.now)) }
+    ensures ok { OnOk result (TypedTo (W.told world.old) (W.told world.new)
+        (typed_line bytes.now) []) }
+    ensures err { OnErr result (TypedPart (W.told world.old) (W.told world.new)
+        (typed_line bytes.now)) }
     ensures cause { HasCause (W.edges world.old) (W.edges world.new) result }
     ensures faults { W.faults world.new ≡ W.faults world.old }
 {

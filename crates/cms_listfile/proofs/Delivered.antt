@@ -6,8 +6,10 @@ use Rattle.cms_machine.specs.Acts.{Act, Done, bind, saying, typed_line}
 use Rattle.cms_files.specs.Stacking.{stacking}
 use Rattle.cms_files.specs.declared.stacking.StackEnd.{StackEnd}
 use Rattle.cms_search.specs.Calls.{Acts, Does, Spot, course_of, itself, machine_of, said}
-use Rattle.cms_search.specs.Machine.{Went, typing}
+use Rattle.cms_operands.specs.declared.refusal.Refusal.{Refusal}
+use Rattle.cms_search.specs.Machine.{Machine, Went, typing}
 use Rattle.cms_search.specs.Tables.{Accesses}
+use Rattle.cms_search.specs.declared.fault.SearchFault.{SearchFault}
 use Rattle.cms_search.specs.declared.search.Found.{Found}
 use Rattle.cms_search.specs.declared.state.Course as declared
 use Rattle.cms_search.specs.declared.state.Course.TheVariants as course
@@ -18,11 +20,15 @@ use Rattle.cms_search.proofs.Lined.{Reached, acts_typed, nothing, reached_none, 
 use Rattle.cms_search.proofs.Meeting.{holds_shows}
 use Rattle.cms_search.proofs.Talking.{silent}
 use Rattle.cms_files.specs.Updating.{went}
-use Rattle.cms_listfile.specs.Listfile.{with_header}
+use Rattle.cms_files.proofs.Stacked.{stacks_none}
+use Rattle.cms_listfile.specs.Listfile.{files_listed, with_header}
 use Rattle.cms_listfile.specs.Listing.{header, line_to, lines_of, told_columns, years_of}
-use Rattle.cms_listfile.specs.Told.{line_told, lines_told, listed_at}
+use Rattle.cms_listfile.specs.Told.{StacksFound, StacksLine, StacksListing, line_told, lines_told, listed_at}
 use Rattle.cms_listfile.specs.declared.columns.Columns.{Columns}
 use Rattle.cms_listfile.specs.declared.line.ListedFile.{ListedFile}
+use Rattle.cms_listfile.specs.declared.listfile.Delivery.{Delivery}
+use Rattle.cms_listfile.specs.declared.listfile.Delivery.TheVariants as goes
+use Rattle.cms_listfile.specs.declared.listfile.ListLine.{ListLine}
 use Rattle.cms_listfile.specs.declared.listfile.ListStyle.{ListStyle}
 use Rattle.cms_listfile.proofs.Lines.{lines_shown}
 
@@ -85,6 +91,20 @@ listing_stacked old new end style found lines r is a =
     (λ units h. ap (λ (l : List (List ℕ)). stacking (machine_of old.state units) end l)
     (ap (with_header style) (lines_shown style.columns old.state.table (machine_of old.state units) found (holds_shows old units h))
     ∙ sym (header_before style (lines_told style.columns old.state.table found)) ∙ sym is)) a
+
+-- nothing is stacked
+pub stacks_no_listing : (d : Delivery) (lines was : List (List ℕ)) → StacksListing d lines was was
+stacks_no_listing goes.Typed lines was = refl
+stacks_no_listing (goes.Stacked end) lines was = stacks_none end lines was
+stacks_no_listing (goes.Written append) lines was = refl
+
+pub stacks_no_file : (t : Accesses) (style : ListStyle) (found : Result (List Found) SearchFault) (was : List (List ℕ)) → StacksFound t style found was was
+stacks_no_file t style (Ok found) was = stacks_no_listing style.delivery (with_header style (lines_told style.columns t found)) was
+stacks_no_file t style (Err fault) was = refl
+
+pub stacks_no_line : (t : Accesses) (s : Machine) (line : Result ListLine Refusal) (was : List (List ℕ)) → StacksLine t s line was was
+stacks_no_line t s (Ok line) was = stacks_no_file t line.style (files_listed s line) was
+stacks_no_line t s (Err why) was = refl
 
 -- ---- a file's line
 

@@ -1,8 +1,7 @@
 -- Lines that are gathered for a procedure.
-use Rattle.std.proofs.Common.{◌≡◌, ◌∙◌, ◌+◌, ◌≤◌, ℕ, zero, suc, Result, List, [], ◌∷◌, ◌++◌, codes, length, map, take, append-nil, append_assoc, refl, sym, ap, subst, arith}
-use Rattle.std.specs.Prelude.{IfOk, IfSome, Option, Some, None, slice_get}
-use Rattle.std.specs.Option.{ok_or, option_map_or}
-use Rattle.std.specs.declared.alloc.AllocError.{AllocError}
+use Rattle.std.proofs.Common.{◌≡◌, ◌∙◌, ◌+◌, ◌≤◌, ℕ, zero, suc, List, [], ◌∷◌, ◌++◌, codes, length, map, take, append-nil, append_assoc, refl, sym, ap, subst, arith}
+use Rattle.std.specs.Prelude.{Option, Some, None, slice_get}
+use Rattle.std.specs.Option.{option_map_or}
 use Rattle.std.proofs.lemmas.List.{map-append}
 use Rattle.cms_names.specs.declared.name.Format.{Format}
 use Rattle.cms_names.specs.declared.name.Format.TheVariants.{F}
@@ -74,8 +73,6 @@ gathered_all format size some last t found k g over is =
 -- ---- the file
 
 -- a record in front, and those of the lines
-pub procedure_made : (o : Option FileData) (r : Result FileData AllocError) (e : AllocError) (size number : ℕ) (stamp : Stamp) (first word : List ℕ) (lines : List (List ℕ)) → r ≡ ok_or o e
-    → first ≡ word → IfSome o (AreData F size number stamp ((record_in F size first ∷ []) ++ lines_for F size lines))
-    → IfOk r (AreData F size number stamp (records_in F size (word ∷ procedure_lines lines)))
-procedure_made None r e size number stamp first word lines is same made = rw is tt
-procedure_made (Some file) r e size number stamp first word lines is same made = rw (is, ← same) made
+pub procedure_made : (file : FileData) (size number : ℕ) (stamp : Stamp) (first word : List ℕ) (lines : List (List ℕ)) → first ≡ word
+    → AreData F size number stamp ((record_in F size first ∷ []) ++ lines_for F size lines) file → AreData F size number stamp (records_in F size (word ∷ procedure_lines lines)) file
+procedure_made file size number stamp first word lines same made = rw (← same) made

@@ -57,6 +57,7 @@ whole_years (to.Label years) = to.Label Whole
 abbrev pub line_to : Columns → List (List ℕ) → List ℕ
 line_to last columns = without_trailing_blanks (spaced (take (count_of last) columns))
 
+-- the header of the date with the time, which is wider for whole years
 abbrev pub date_header : Years → List ℕ
 date_header Short = coded (codes "DATE     TIME    ")
 date_header Whole = coded (codes "DATE       TIME    ")

@@ -1,15 +1,19 @@
 -- What a table tells of files that were found, as LISTFILE shows it.
-use Rattle.std.specs.Prelude.{◌≡◌, ℕ, List, [], ◌∷◌, codes, slice_get, Option, Ok, ⊤}
+use Rattle.std.specs.Prelude.{◌≡◌, ℕ, List, [], ◌∷◌, codes, slice_get, Option, Result, Ok, Err, ⊤}
 use Rattle.std.specs.List.{flat_map}
 use Rattle.std.specs.Option.{option_and_then, option_map, option_map_or}
 use Rattle.cms_text.specs.Texts.{coded}
 use Rattle.cms_held.specs.Opening.{HeldVolume}
 use Rattle.cms_edf.specs.Asking.{infos_in}
 use Rattle.cms_edf.specs.declared.held.FileInfo.{FileInfo}
+use Rattle.cms_files.specs.Stacking.{StacksSome}
+use Rattle.cms_operands.specs.declared.refusal.Refusal.{Refusal}
+use Rattle.cms_search.specs.Machine.{Machine}
 use Rattle.cms_search.specs.Searches.{item_at}
 use Rattle.cms_search.specs.Tables.{Accesses, letters_of, writing}
+use Rattle.cms_search.specs.declared.fault.SearchFault.{SearchFault}
 use Rattle.cms_search.specs.declared.search.Found.{Found}
-use Rattle.cms_listfile.specs.Listfile.{disk_a}
+use Rattle.cms_listfile.specs.Listfile.{disk_a, files_listed, with_header}
 use Rattle.cms_listfile.specs.Listing.{line_to, told_columns, years_of}
 use Rattle.cms_listfile.specs.declared.columns.Columns.{Columns}
 use Rattle.cms_listfile.specs.declared.columns.Columns.TheVariants as to
@@ -18,6 +22,8 @@ use Rattle.cms_listfile.specs.declared.columns.Years.TheVariants.{Short, Whole}
 use Rattle.cms_listfile.specs.declared.line.ListedFile.{ListedFile}
 use Rattle.cms_listfile.specs.declared.listfile.Delivery.{Delivery}
 use Rattle.cms_listfile.specs.declared.listfile.Delivery.TheVariants as goes
+use Rattle.cms_listfile.specs.declared.listfile.ListLine.{ListLine}
+use Rattle.cms_listfile.specs.declared.listfile.ListStyle.{ListStyle}
 
 -- the header of all columns as one text, and how many bytes of it the columns have up to each
 abbrev pub full_header : Years → List ℕ
@@ -61,3 +67,21 @@ abbrev pub MayDeliver : Accesses → Delivery → Type 0
 MayDeliver t goes.Typed = ⊤
 MayDeliver t (goes.Stacked end) = ⊤
 MayDeliver t (goes.Written append) = writing (item_at (letters_of t) disk_a) disk_a ≡ Ok tt
+
+-- ---- lines that are stacked
+
+-- some of the lines are stacked, the first ones; none is where they are typed or written
+abbrev pub StacksListing : Delivery → List (List ℕ) → List (List ℕ) → List (List ℕ) → Type 0
+StacksListing goes.Typed lines was now = now ≡ was
+StacksListing (goes.Stacked end) lines was now = StacksSome end lines was now
+StacksListing (goes.Written append) lines was now = now ≡ was
+
+-- so are those of the files that a search found
+abbrev pub StacksFound : Accesses → ListStyle → Result (List Found) SearchFault → List (List ℕ) → List (List ℕ) → Type 0
+StacksFound t style (Ok found) was now = StacksListing style.delivery (with_header style (lines_told style.columns t found)) was now
+StacksFound t style (Err fault) was now = now ≡ was
+
+-- so are those of the files that a line means
+abbrev pub StacksLine : Accesses → Machine → Result ListLine Refusal → List (List ℕ) → List (List ℕ) → Type 0
+StacksLine t s (Ok line) was now = StacksFound t line.style (files_listed s line) was now
+StacksLine t s (Err why) was now = now ≡ was

@@ -37,7 +37,8 @@ fn type_file<W: World>(
     last: Columns,
     found: Found,
 ) -> Result<(), End>
-    ensures { Does (seen W.World world.old) (seen W.World world.new) (typing (spec.line_told last table.now found) (Done tt)) result said }
+    ensures { Does (seen W.World world.old) (seen W.World world.new)
+        (typing (spec.line_told last table.now found) (Done tt)) result said }
 {
     let Some(file) = listed_at(table, found) else {
         return Ok(());

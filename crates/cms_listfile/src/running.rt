@@ -2,7 +2,7 @@
 ghost use Rattle.std.specs.Prelude.{◌≡◌, ◌⊎◌, [], true, Ok, Err, IfOk, IfErr, OnOk, pos};
 ghost use Rattle.cms_fields.specs.Moments.{is_moment};
 ghost use Rattle.cms_machine.specs.Acts.{Done};
-ghost use Rattle.cms_files.specs.Stacking.{stacking};
+ghost use Rattle.cms_files.specs.Stacking.{StacksSome, stacking};
 ghost use Rattle.cms_search.specs.Calls.{Acts, Does, IsUsable, course_of, machine_of, said, spot};
 ghost use Rattle.cms_search.specs.Machine.{Machine, typing};
 ghost use Rattle.cms_search.specs.Shows.{Shows};
@@ -11,7 +11,13 @@ ghost use Rattle.cms_search.specs.declared.state.Course.TheVariants.{Went};
 ghost use Rattle.cms_world.specs.Seen.{seen};
 ghost use Rattle.cms_listfile.specs.Listfile as spec;
 ghost use Rattle.cms_listfile.specs.Listing.{lines_of};
-ghost use Rattle.cms_listfile.specs.Told.{MayDeliver, lines_told};
+ghost use Rattle.cms_listfile.specs.Told.{
+  MayDeliver,
+  StacksFound,
+  StacksLine,
+  StacksListing,
+  lines_told,
+};
 
 use crate::line::header;
 use crate::listfile::{Delivery, ListLine, ListStyle, list_line};
@@ -38,8 +44,10 @@ fn check_disk(table: &Table, delivery: Delivery) -> Result<(), SearchFault>
 // The files that are listed: `NotAccessed` where the mode's letter isn't, then what is the matter with the disk that is written, then
 // `NotFound` where there is none of them; else there is no memory.
 fn files_listed(alloc: Global, table: &Table, line: &ListLine) -> Result<FoundList, SearchFault>
-    ensures found { IfOk result (λ found. (s : Machine) → Shows table.now s → spec.files_listed s line.now ≡ Ok found) }
-    ensures refused { IfErr result (λ e. (e ≡ Memory) ⊎ ((s : Machine) → Shows table.now s → spec.files_listed s line.now ≡ Err e)) }
+    ensures found { IfOk result (λ found. (s : Machine) → Shows table.now s
+        → spec.files_listed s line.now ≡ Ok found) }
+    ensures refused { IfErr result (λ e. (e ≡ Memory)
+        ⊎ ((s : Machine) → Shows table.now s → spec.files_listed s line.now ≡ Err e)) }
     ensures may { OnOk result (MayDeliver table.now line.now.style.delivery) }
 {
     let files = &line.files;
@@ -53,7 +61,8 @@ fn files_listed(alloc: Global, table: &Table, line: &ListLine) -> Result<FoundLi
 
 // Types the header, where there is one.
 fn type_header<W: World>(alloc: Global, world: &mut W, style: &ListStyle) -> Result<(), End>
-    ensures { Does (seen W.World world.old) (seen W.World world.new) (typing (spec.with_header style.now []) (Done tt)) result said }
+    ensures { Does (seen W.World world.old) (seen W.World world.new)
+        (typing (spec.with_header style.now []) (Done tt)) result said }
 {
     if !style.header {
         return Ok(());
@@ -71,7 +80,8 @@ fn type_listing<W: World>(
     found: &[Found],
 ) -> Result<Course, End>
     ensures does { Does (seen W.World world.old) (seen W.World world.new)
-        (typing (spec.with_header style.now (lines_told style.now.columns table.now found.now)) (Done tt)) result said }
+        (typing (spec.with_header style.now (lines_told style.now.columns table.now found.now))
+        (Done tt)) result said }
     ensures went { IfOk result (λ course. course ≡ Went (pos 0)) }
 {
     type_header(alloc, world, style)?;
@@ -102,8 +112,12 @@ fn stack_listing<W: World>(
 ) -> Result<Course, End>
     ensures acts { Acts (spot W.World world.old state.old) (spot W.World world.new state.new)
         (λ units. stacking (machine_of state.old units) end
-        (spec.with_header style.now (lines_of (machine_of state.old units) style.now.columns found.now)))
+        (spec.with_header style.now
+        (lines_of (machine_of state.old units) style.now.columns found.now)))
         result (course_of state.new) }
+    ensures stack { StacksSome end
+        (spec.with_header style.now (lines_told style.now.columns state.old.table found.now))
+        state.old.stack state.new.stack }
     ensures kept { state.new ≡ record state.old { stack = state.new.stack } }
 {
     let mut lines = heading(alloc, style)?;
@@ -124,8 +138,16 @@ fn deliver<W: World>(
     requires moment { is_moment state.old.moment ≡ true }
     ensures acts { Acts (spot W.World world.old state.old) (spot W.World world.new state.new)
         (λ units. spec.delivering (machine_of state.old units) style.now style.now.delivery
-        (lines_of (machine_of state.old units) style.now.columns found.now)) result (course_of state.new) }
-    ensures kept { state.new ≡ record state.old { table = state.new.table; stack = state.new.stack; places = state.new.places } }
+        (lines_of (machine_of state.old units) style.now.columns found.now)) result
+        (course_of state.new) }
+    ensures stack { StacksListing style.now.delivery
+        (spec.with_header style.now (lines_told style.now.columns state.old.table found.now))
+        state.old.stack state.new.stack }
+    ensures kept { state.new ≡ record state.old {
+      table = state.new.table;
+      stack = state.new.stack;
+      places = state.new.places;
+    } }
 {
     match style.delivery {
         Delivery::Typed => type_listing(alloc, world, &state.table, style, found),
@@ -147,8 +169,16 @@ fn list_files<W: World>(
     requires usable { IsUsable (spot W.World world.old state.old) }
     requires moment { is_moment state.old.moment ≡ true }
     ensures acts { Acts (spot W.World world.old state.old) (spot W.World world.new state.new)
-        (λ units. spec.list_files (machine_of state.old units) words.now line.now) result (course_of state.new) }
-    ensures kept { state.new ≡ record state.old { table = state.new.table; stack = state.new.stack; places = state.new.places } }
+        (λ units. spec.list_files (machine_of state.old units) words.now line.now) result
+        (course_of state.new) }
+    ensures stack { (s : Machine) → Shows state.old.table s
+        → StacksFound state.old.table line.now.style (spec.files_listed s line.now)
+        state.old.stack state.new.stack }
+    ensures kept { state.new ≡ record state.old {
+      table = state.new.table;
+      stack = state.new.stack;
+      places = state.new.places;
+    } }
 {
     match files_listed(alloc, &state.table, line) {
         Ok(found) => deliver(alloc, world, state, &line.style, found.as_slice()),
@@ -156,7 +186,8 @@ fn list_files<W: World>(
     }
 }
 
-/// LISTFILE: files are listed, to the console, onto the program stack or into a procedure.
+/// LISTFILE: files are listed, to the console, onto the program stack or into a procedure. Without
+/// memory for a line that is stacked those before it stay stacked.
 pub fn run_listfile<W: World>(
     alloc: Global,
     world: &mut W,
@@ -166,8 +197,15 @@ pub fn run_listfile<W: World>(
     requires usable { IsUsable (spot W.World world.old state.old) }
     requires moment { is_moment state.old.moment ≡ true }
     ensures acts { Acts (spot W.World world.old state.old) (spot W.World world.new state.new)
-        (λ units. spec.listfile (machine_of state.old units) words.now) result (course_of state.new) }
-    ensures kept { state.new ≡ record state.old { table = state.new.table; stack = state.new.stack; places = state.new.places } }
+        (λ units. spec.listfile (machine_of state.old units) words.now) result
+        (course_of state.new) }
+    ensures stack { (s : Machine) → Shows state.old.table s
+        → StacksLine state.old.table s (spec.list_line words.now) state.old.stack state.new.stack }
+    ensures kept { state.new ≡ record state.old {
+      table = state.new.table;
+      stack = state.new.stack;
+      places = state.new.places;
+    } }
 {
     match list_line(alloc, words) {
         Ok(line) => list_files(alloc, world, state, words, &line),

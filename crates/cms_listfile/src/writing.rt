@@ -62,9 +62,11 @@ fn gather_file(
     last: Columns,
     found: Found,
 ) -> Result<(), AllocError>
-    ensures { (format : Format) (size : ℕ) (some : List (List ℕ)) → IsGathered format size some records.old
+    ensures { (format : Format) (size : ℕ) (some : List (List ℕ))
+        → IsGathered format size some records.old
         → OnOk result (IsGathered format size
-        (some ++ spec.records_in format size (spec.procedure_lines (told.line_told last table.now found))) records.new) }
+        (some ++ spec.records_in format size
+        (spec.procedure_lines (told.line_told last table.now found))) records.new) }
 {
     let Some(file) = listed_at(table, found) else {
         return Ok(());
@@ -82,9 +84,11 @@ fn gather_files(
     last: Columns,
     found: &[Found],
 ) -> Result<(), AllocError>
-    ensures { (format : Format) (size : ℕ) (some : List (List ℕ)) → IsGathered format size some records.old
+    ensures { (format : Format) (size : ℕ) (some : List (List ℕ))
+        → IsGathered format size some records.old
         → OnOk result (IsGathered format size
-        (some ++ spec.records_in format size (spec.procedure_lines (told.lines_told last table.now found.now))) records.new) }
+        (some ++ spec.records_in format size
+        (spec.procedure_lines (told.lines_told last table.now found.now))) records.new) }
 {
     for file in found {
         gather_file(alloc, records, table, last, *file)?;
@@ -101,13 +105,15 @@ fn new_procedure(
     stamp: &Stamp,
 ) -> Result<FileData, AllocError>
     requires { is_stamp stamp.now ≡ true }
-    ensures { IfOk result (AreData F spec.written_length 1 stamp.now (spec.records_in F spec.written_length
-        (coded (codes "&TRACE OFF") ∷ spec.procedure_lines (told.lines_told last table.now found.now)))) }
+    ensures { IfOk result (AreData F spec.written_length 1 stamp.now
+        (spec.records_in F spec.written_length
+        (coded (codes "&TRACE OFF") ∷ spec.procedure_lines
+        (told.lines_told last table.now found.now)))) }
 {
     let mut records = Gathered::new(alloc, Format::F, WRITTEN_LENGTH);
     records.push(&coded(b"&TRACE OFF"))?;
     gather_files(alloc, &mut records, table, last, found)?;
-    records.data(WRITTEN_NUMBER, stamp).ok_or(AllocError)
+    Ok(records.data(WRITTEN_NUMBER, stamp).unwrap())
 }
 
 // The lines of files, as records of a file of which this is told. There are some, since files were found.
@@ -120,7 +126,8 @@ fn more_lines(
     stamp: &Stamp,
 ) -> Result<FileData, AllocError>
     requires { is_stamp stamp.now ≡ true }
-    ensures { IfOk result (AreData info.now.format info.now.length 1 stamp.now (spec.records_in info.now.format info.now.length
+    ensures { IfOk result (AreData info.now.format info.now.length 1 stamp.now
+        (spec.records_in info.now.format info.now.length
         (spec.procedure_lines (told.lines_told last table.now found.now)))) }
 {
     let mut records = Gathered::new(alloc, info.format, info.length);
@@ -137,13 +144,18 @@ fn write_anew<W: World>(
     found: &[Found],
 ) -> Result<Course, End>
     requires usable { IsUsable (spot W.World world.old state.old) }
-    requires writing { writing (item_at (letters_of state.old.table) spec.disk_a) spec.disk_a ≡ Ok tt }
+    requires writing { writing (item_at (letters_of state.old.table) spec.disk_a) spec.disk_a
+        ≡ Ok tt }
     requires moment { is_moment state.old.moment ≡ true }
     ensures acts { Acts (spot W.World world.old state.old) (spot W.World world.new state.new)
         (λ units. last_update (machine_of state.old units) spec.disk_a
-        (Put (spec.new_procedure (machine_of state.old units) (lines_of (machine_of state.old units) last found.now))))
+        (Put (spec.new_procedure (machine_of state.old units)
+        (lines_of (machine_of state.old units) last found.now))))
         result (course_of state.new) }
-    ensures kept { state.new ≡ record state.old { table = state.new.table; places = state.new.places } }
+    ensures kept { state.new ≡ record state.old {
+      table = state.new.table;
+      places = state.new.places;
+    } }
 {
     let stamp = Stamp::of(&state.moment);
     let file = new_procedure(alloc, &state.table, last, found, &stamp)?;
@@ -167,14 +179,20 @@ fn write_more<W: World>(
     info: &FileInfo,
 ) -> Result<Course, End>
     requires usable { IsUsable (spot W.World world.old state.old) }
-    requires writing { writing (item_at (letters_of state.old.table) spec.disk_a) spec.disk_a ≡ Ok tt }
-    requires there { named.info_named state.old.table spec.disk_a spec.written_name ≡ Some info.now }
+    requires writing { writing (item_at (letters_of state.old.table) spec.disk_a) spec.disk_a
+        ≡ Ok tt }
+    requires there { named.info_named state.old.table spec.disk_a spec.written_name
+        ≡ Some info.now }
     requires moment { is_moment state.old.moment ≡ true }
     ensures acts { Acts (spot W.World world.old state.old) (spot W.World world.new state.new)
-        (λ units. last_update (machine_of state.old units) spec.disk_a (spec.added_lines (machine_of state.old units)
+        (λ units. last_update (machine_of state.old units) spec.disk_a
+        (spec.added_lines (machine_of state.old units)
         info.now.format info.now.length (lines_of (machine_of state.old units) last found.now)))
         result (course_of state.new) }
-    ensures kept { state.new ≡ record state.old { table = state.new.table; places = state.new.places } }
+    ensures kept { state.new ≡ record state.old {
+      table = state.new.table;
+      places = state.new.places;
+    } }
 {
     let stamp = Stamp::of(&state.moment);
     let more = more_lines(alloc, &state.table, last, found, info, &stamp)?;
@@ -198,12 +216,17 @@ pub fn write_listing<W: World>(
     found: &[Found],
 ) -> Result<Course, End>
     requires usable { IsUsable (spot W.World world.old state.old) }
-    requires writing { writing (item_at (letters_of state.old.table) spec.disk_a) spec.disk_a ≡ Ok tt }
+    requires writing { writing (item_at (letters_of state.old.table) spec.disk_a) spec.disk_a
+        ≡ Ok tt }
     requires moment { is_moment state.old.moment ≡ true }
     ensures acts { Acts (spot W.World world.old state.old) (spot W.World world.new state.new)
-        (λ units. spec.writing (machine_of state.old units) append (lines_of (machine_of state.old units) last found.now))
+        (λ units. spec.writing (machine_of state.old units) append
+        (lines_of (machine_of state.old units) last found.now))
         result (course_of state.new) }
-    ensures kept { state.new ≡ record state.old { table = state.new.table; places = state.new.places } }
+    ensures kept { state.new ≡ record state.old {
+      table = state.new.table;
+      places = state.new.places;
+    } }
 {
     if !append {
         return write_anew(alloc, world, state, last, found);

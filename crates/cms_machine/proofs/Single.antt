@@ -9,7 +9,7 @@ use Rattle.cms_journal.specs.Causes.{Counted}
 use Rattle.cms_journal.specs.Told.{Told, plus, typed, syncs, IsOfUnit, OnlyOf}
 use Rattle.cms_model.specs.Minidisks.{State}
 use Rattle.cms_machine.specs.Slots.{Slot, state_in, unit_set, unit_state, IsAmong}
-use Rattle.cms_machine.specs.Steps.{Step, Outcome, Good, unit_of, new_slot, put_slot, units_after, IsOutcome, IsOf, sync_count, faults_in}
+use Rattle.cms_machine.specs.Steps.{Step, Access, Get, Put, Wipe, Make, Outcome, Good, ReadFault, SyncFault, OldFault, EitherFault, unit_of, new_slot, put_slot, units_after, IsOutcome, IsOf, WritesFew, sync_count, faults_in}
 use Rattle.cms_machine.specs.Items.{Item, Lazy, Takes}
 use Rattle.cms_machine.specs.Objects.{Back, Object, Reply, answered, may_answer}
 use Rattle.cms_machine.specs.Acts.{Act, Out, Take, Turn, Does, Asks, Drops}
@@ -162,12 +162,24 @@ ran_step p m s o k es journal counted only fits speaks units console objects own
     ran_step_all p m s o k es journal counted fits speaks units console objects (λ sound u. covers_step p m s o es only units sound (own sound) u)
     (λ sound u. now_step p m s o es journal only units sound (own_now sound) u)
 
+-- each step may write nothing
+none_few : (s : Step) (o : Outcome) → WritesFew s o 0
+none_few (Access u slot) o = refl
+none_few (Get u f wanted) Good = refl
+none_few (Get u f wanted) (ReadFault j) = tt
+none_few (Get u f wanted) SyncFault = tt
+none_few (Get u f wanted) OldFault = tt
+none_few (Get u f wanted) (EitherFault side) = tt
+none_few (Put u m change stamp) o = omega arith
+none_few (Wipe u old) o = omega arith
+none_few (Make u old m stamp) o = omega arith
+
 -- a step that adds no event and leaves the unit as it is
 pub ran_still : {R : Type 0} (p m : Point) (s : Step) (o : Outcome) (k : Outcome → Act R) → m.journal ≡ p.journal → Counted p.faults (faults_in (o ∷ [])) m.faults → sync_count s o ≡ 0 → IsOutcome s o
     → IsOf s (slice_get p.units (unit_of s)) → m.units ≡ p.units → new_slot s o ≡ None → KeepsConsole p m → m.objects ≡ p.objects → Ran p m (Does s k) (k o)
 ran_still p m s o k journal counted synced outcome speaks units none console objects =
     let after : m.units ≡ units_after p.units s o = units ∙ ap (put_slot p.units (unit_of s)) (sym none) in
-    ran_step p m s o k [] journal counted tt (record { disk = tt; synced = sym synced; stamped = tt; outcome = outcome }) speaks after console objects
+    ran_step p m s o k [] journal counted tt (record { disk = tt; synced = sym synced; stamped = tt; few = none_few s o; outcome = outcome }) speaks after console objects
     (λ sound. covers_aside p [] (unit_of s) (unit_set m.units (unit_of s)) tt (same_sets p m (unit_of s) units) sound) (λ sound. now_kept p m [] journal units (λ u. tt) sound (unit_of s))
 
 -- a step was cut off, with events of its own unit alone: it is enough to know that unit

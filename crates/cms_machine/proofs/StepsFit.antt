@@ -1,5 +1,5 @@
 -- The outcomes of device steps fit the events of an update, and what a crash leaves.
-use Rattle.std.proofs.Common.{◌≡◌, ◌⊎◌, inl, inr, ⊎_elim, ℕ, ◌+◌, false, List, [], ◌∷◌, Some, None, refl, sym, ◌∙◌, ap, subst, arith}
+use Rattle.std.proofs.Common.{◌≡◌, ◌⊎◌, inl, inr, ⊎_elim, ℕ, ◌+◌, ◌≤◌, false, List, [], ◌∷◌, Some, None, refl, sym, ◌∙◌, ap, subst, arith}
 use Rattle.cms_journal.specs.declared.event.Event.{Event}
 use Rattle.cms_journal.specs.declared.event.Event.TheVariants.{Wrote, Synced}
 use Rattle.cms_journal.specs.Told.{syncs}
@@ -12,7 +12,7 @@ use Rattle.cms_model.specs.Changes.{Change, Put, Add, Drop, Rename, Relabel, Cen
 use Rattle.cms_model.specs.LawsUpdates.{now, IsFront, with_label}
 use Rattle.cms_model.proofs.Settling.{sync_settles}
 use Rattle.cms_machine.specs.Slots.{Slot, Settled, Doubt, named, set_of, IsAmong}
-use Rattle.cms_machine.specs.Steps.{Outcome, Good, ReadFault, SyncFault, OldFault, EitherFault, is_taken, MayPut, after_access, after_update, after_put, access_syncs, update_syncs, put_syncs}
+use Rattle.cms_machine.specs.Steps.{Outcome, Good, ReadFault, SyncFault, OldFault, EitherFault, is_taken, MayPut, after_access, after_update, after_put, access_syncs, most_put, update_syncs, put_syncs}
 use Rattle.cms_machine.specs.LawsSteps.{change_events, SyncsAreCounted, RefusedIsNothing, KeptWithoutSync, AccessEndsDoubt, DoubtHasBoth, FaultsAreCounted}
 
 -- ---- syncs
@@ -61,16 +61,19 @@ only_good change answer SyncFault none may = absurd may
 only_good change answer OldFault none may = absurd (cc)
 only_good change answer (EitherFault side) none may = absurd (cc)
 
+no_more : (n : ℕ) → n ≤ 0 → n ≡ 0
+no_more n few = omega (arith, few)
+
 refused : (m : Minidisk) (change : Change) (answer : Answer) (o : Outcome) → is_taken answer ≡ false
-    → (put_syncs change answer o ≡ 0) × (after_put m answer o ≡ None) × (MayPut change answer o → o ≡ Good)
+    → (put_syncs change answer o ≡ 0) × (after_put m answer o ≡ None) × (MayPut change answer o → o ≡ Good) × ((n : ℕ) → n ≤ most_put m change answer → n ≡ 0)
 refused m change (Changed new) o none = absurd (cc)
-refused m change (Limited k) o none = (refl, refl, only_good change (Limited k) o none)
-refused m change (Full need free) o none = (refl, refl, only_good change (Full need free) o none)
+refused m change (Limited k) o none = (refl, refl, only_good change (Limited k) o none, no_more)
+refused m change (Full need free) o none = (refl, refl, only_good change (Full need free) o none, no_more)
 
 pub refused_is_nothing : RefusedIsNothing
 refused_is_nothing m change o none =
     let all = refused m change (answer_of m change) o none in
-    record { none = all.0; same = all.1; good = all.2 }
+    record { few = λ u n stamp. all.3 n; none = all.0; same = all.1; good = all.2 }
 
 -- ---- what the machine knows of a unit
 

@@ -1,5 +1,5 @@
 -- Beats: each a single thing that was done, with its piece of the journal, the oldest event first.
-use Rattle.std.specs.Prelude.{◌≡◌, ◌⊎◌, ℕ, ℤ, ◌<◌, true, length, remove, set, List, [], ◌∷◌, ◌++◌, take, drop, Option, Some, None, slice_get, ⊤}
+use Rattle.std.specs.Prelude.{◌≡◌, ◌⊎◌, ℕ, suc, ℤ, ◌<◌, true, length, remove, set, List, [], ◌∷◌, ◌++◌, take, drop, Option, Some, None, slice_get, ⊤}
 use Rattle.std.specs.List.{AllByRecursion}
 use Rattle.cms_journal.specs.declared.event.Event.{Event}
 use Rattle.cms_journal.specs.declared.event.Event.TheVariants.{Read, Now, Typed, Wrote, Synced}
@@ -9,7 +9,7 @@ use Rattle.cms_fields.specs.Stamps.{stamp_bytes, stamp_flags}
 use Rattle.cms_fields.specs.declared.time.Stamp.{Stamp}
 use Rattle.cms_model.specs.Minidisks.{State}
 use Rattle.cms_machine.specs.Slots.{Slot, unit_set, unit_state, IsAmong}
-use Rattle.cms_machine.specs.Steps.{Step, Outcome, Good, unit_of, IsOutcome, IsOf, sync_count, stamp_in, units_after, faults_in}
+use Rattle.cms_machine.specs.Steps.{Step, Outcome, Good, unit_of, IsOutcome, IsOf, WritesFew, sync_count, stamp_in, units_after, faults_in}
 use Rattle.cms_machine.specs.Items.{Item, Takes}
 use Rattle.cms_machine.specs.Objects.{Back, Object, Reply, answered, may_answer}
 use Rattle.cms_machine.specs.Acts.{Act, Out, Take, Turn, Does, Asks, Drops}
@@ -64,6 +64,7 @@ abbrev pub outcomes : List Beat → List Outcome
 outcomes [] = []
 outcomes (b ∷ bs) = outcome_of b.deed ++ outcomes bs
 
+-- what an object gave back where a deed asked it
 abbrev pub back_of : Deed → List Back
 back_of (Said b) = []
 back_of (Turned m) = []
@@ -116,6 +117,12 @@ OnlyRead es = AllByRecursion IsRead es
 abbrev pub OnlyDisk : ℕ → List Event → Type 0
 OnlyDisk u es = AllByRecursion (IsDiskOf u) es
 
+-- how many blocks a piece writes
+abbrev pub written_count : List Event → ℕ
+written_count [] = 0
+written_count (Wrote v k bytes ∷ es) = suc (written_count es)
+written_count (e ∷ es) = written_count es
+
 -- a directory's first block has this stamp in its own entry and in the allocation map's, each of 64 bytes: its date and its century
 pub record HasStamp (bytes : List ℕ) (stamp : Stamp) : Type 0 where
   pub directory : take 6 (drop 54 bytes) ≡ stamp_bytes stamp
@@ -137,11 +144,13 @@ IsStamped u stamp e = ⊤
 abbrev pub AreStamped : ℕ → Option Stamp → List Event → Type 0
 AreStamped u stamp es = AllByRecursion (IsStamped u stamp) es
 
--- a step makes writes, with its stamp, and as many syncs of its unit as its outcome says; the outcome is one that it may have
+-- a step makes writes, with its stamp and no more of them than it may, and as many syncs of its unit as its outcome says; the outcome is
+-- one that it may have
 pub record FitsStep (s : Step) (o : Outcome) (es : List Event) : Type 0 where
   pub disk : OnlyDisk (unit_of s) es
   pub synced : syncs es ≡ sync_count s o
   pub stamped : AreStamped (unit_of s) (stamp_in s) es
+  pub few : WritesFew s o (written_count es)
   pub outcome : IsOutcome s o
 
 -- a deed may have this piece

@@ -21,6 +21,7 @@ AsksNot word (Took i) = ⊤
 AsksNot word (Did s o) = ⊤
 AsksNot word (Dropped n) = ⊤
 
+-- none of these beats asks the object of this word
 abbrev pub AskNot : List ℕ → List Beat → Type 0
 AskNot word [] = ⊤
 AskNot word (b ∷ bs) = AsksNot word b.deed × AskNot word bs
@@ -39,6 +40,7 @@ AreDistinct (o ∷ os) = IsGone o.word os × AreDistinct os
 abbrev pub StayDistinct : Type 0
 StayDistinct = (p q : Point) (bs : List Beat) → Chain p bs q → AreDistinct p.objects → AreDistinct q.objects
 
+-- no object stands under the word of one that was dropped
 abbrev pub DroppedIsGone : Type 0
 DroppedIsGone =
     (p m : Point) (n : ℕ) (o : Object) (piece : List Event) → Beats p (record { deed = Dropped n; piece = piece }) m
@@ -58,6 +60,7 @@ pub record Answers (p m : Point) (n : ℕ) (o : Object) (reply : Reply) (back : 
   pub may : o.does o.content reply back.want back.content ≡ true
   pub behind : Holds m.objects n o back
 
+-- so it does at each beat that asks one
 abbrev pub AskedAnswers : Type 0
 AskedAnswers =
     (p m : Point) (n : ℕ) (o : Object) (reply : Reply) (back : Back) (piece : List Event)
@@ -73,6 +76,7 @@ RunsBeside R =
     (objects : List Object) (p q : Point) (t u : Act R) → Ran p q t u → p.objects ≡ []
     → Ran (beside objects p) (beside objects q) t u
 
+-- the same of a run that was cut off
 abbrev pub StopsBeside : Type 0 → Type 0
 StopsBeside R =
     (objects : List Object) (p q : Point) (t : Act R) → Broke p q t → p.objects ≡ [] → Broke (beside objects p) (beside objects q) t

@@ -12,7 +12,7 @@ use Rattle.cms_model.specs.Settled.{EachCrash, Write, writes, update}
 use Rattle.cms_model.specs.Changes.{Change, Add, Relabel, Changed, answer_of}
 use Rattle.cms_model.specs.LawsUpdates.{after, now, IsFront, with_label, relabel, wipe}
 use Rattle.cms_machine.specs.Slots.{Side, Slot, Doubt, named, set_of, IsAmong}
-use Rattle.cms_machine.specs.Steps.{Step, Access, Get, Put, Wipe, Make, Outcome, Good, ReadFault, SyncFault, OldFault, EitherFault, IsOutcome, is_relabel, is_taken, MayPut, after_access, after_update, after_put, access_syncs, update_syncs, label_syncs, put_syncs, faults_in}
+use Rattle.cms_machine.specs.Steps.{Step, Access, Get, Put, Wipe, Make, Outcome, Good, ReadFault, SyncFault, OldFault, EitherFault, IsOutcome, WritesFew, is_relabel, is_taken, MayPut, after_access, after_update, after_put, access_syncs, update_syncs, label_syncs, put_syncs, faults_in}
 
 -- the events of a change that is made
 abbrev pub change_events : ℕ → Change → List Write → List ℕ → List Event
@@ -31,13 +31,14 @@ pub record CountsSyncs (u : ℕ) (ws : List Write) (label : List ℕ) (size : �
 abbrev pub SyncsAreCounted : Type 0
 SyncsAreCounted = (u : ℕ) (ws : List Write) (label : List ℕ) (size : ℕ) → CountsSyncs u ws label size
 
--- a change that is refused writes nothing and changes nothing, and no device fails
+-- a change that is refused makes no write and no sync and changes nothing, and no device fails
 pub record IsRefused (m : Minidisk) (change : Change) (o : Outcome) : Type 0 where
+  pub few : (u n : ℕ) (stamp : Stamp) → WritesFew (Put u m change stamp) o n → n ≡ 0
   pub none : put_syncs change (answer_of m change) o ≡ 0
   pub same : after_put m (answer_of m change) o ≡ None
   pub good : MayPut change (answer_of m change) o → o ≡ Good
 
--- a change that is refused makes no sync and leaves the unit as before
+-- a change that is refused writes nothing and leaves the unit as before
 abbrev pub RefusedIsNothing : Type 0
 RefusedIsNothing = (m : Minidisk) (change : Change) (o : Outcome) → is_taken (answer_of m change) ≡ false → IsRefused m change o
 
@@ -113,5 +114,6 @@ pub record FaultsOf (s : Step) : Type 0 where
   pub old : IsOutcome s OldFault → WritesBlocks s
   pub either : (side : Side) → IsOutcome s (EitherFault side) → WritesLabel s
 
+-- so it is of each step
 abbrev pub FaultsFitSteps : Type 0
 FaultsFitSteps = (s : Step) → FaultsOf s

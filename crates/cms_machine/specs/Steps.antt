@@ -1,8 +1,10 @@
 -- Device steps: the five things that a machine does with a unit, and how each may end.
-use Rattle.std.specs.Prelude.{◌≡◌, ℕ, suc, ◌≤◌, length, Bool, true, false, not, IsTrue, List, [], ◌∷◌, Option, Some, None, unwrap_or, slice_set, ⊤}
+use Rattle.std.specs.Prelude.{◌≡◌, ℕ, suc, ◌+◌, ◌≤◌, length, Bool, true, false, not, IsTrue, List, [], ◌∷◌, Option, Some, None, unwrap_or, slice_set, ⊤}
 use Rattle.cms_fields.specs.declared.time.Stamp.{Stamp}
 use Rattle.cms_model.specs.Minidisks.{File, Minidisk, State, Volume, Not}
 use Rattle.cms_model.specs.Changes.{Change, Add, Relabel, Answer, Limited, Full, Changed, answer_of, file_named}
+use Rattle.cms_model.specs.Changes as model
+use Rattle.cms_model.specs.Sizes.{map_size}
 use Rattle.cms_machine.specs.Slots.{Side, Slot, Settled, Doubt, named}
 
 -- each with the unit's number. Access: what the unit holds is found; the slot is the unit's. Get: so many records of a file are
@@ -207,6 +209,24 @@ sync_count (Get u f wanted) o = 0
 sync_count (Put u m change stamp) o = put_syncs change (answer_of m change) o
 sync_count (Wipe u old) o = label_syncs o
 sync_count (Make u old m stamp) o = update_syncs o
+
+-- ---- how many blocks a step writes
+
+-- a change writes at most two blocks more than it needs, the directory's first and the label; one that is refused writes none
+abbrev pub most_put : Minidisk → Change → Answer → ℕ
+most_put m change (Limited k) = 0
+most_put m change (Full needs free) = 0
+most_put m change (Changed new) = model.need m change + 2
+
+-- a step with this outcome may write so many blocks: an access none, nor a reading, but that one that fails may stand beside a file
+-- that is drafted meanwhile; a wiping the label; a making the map, the directory's one block and the label
+abbrev pub WritesFew : Step → Outcome → ℕ → Type 0
+WritesFew (Access u slot) o n = n ≡ 0
+WritesFew (Get u f wanted) Good n = n ≡ 0
+WritesFew (Get u f wanted) o n = ⊤
+WritesFew (Put u m change stamp) o n = n ≤ most_put m change (answer_of m change)
+WritesFew (Wipe u old) o n = n ≤ 1
+WritesFew (Make u old m stamp) o n = n ≤ map_size m.bsize m.total + 2
 
 -- ---- the stamp of the directory that a step writes
 

@@ -78,10 +78,13 @@ impl Map {
     pub fn take_lowest(&mut self, n: u32, into: &mut Vec<u32>) -> bool
         requires room { vec_len into.old + n ≤ vec_capacity into.old }
         ensures taken { result ≡ nat_le n (length (free_blocks self.old)) }
-        ensures appended { into.new.items ≡ (if result then into.old.items ++ take n (free_blocks self.old) else into.old.items) }
-        ensures marked { self.new ≡ (if result then with_marked (take n (free_blocks self.old)) self.old else self.old) }
+        ensures appended { into.new.items
+            ≡ (if result then into.old.items ++ take n (free_blocks self.old) else into.old.items) }
+        ensures marked { self.new ≡ (if result then with_marked
+            (take n (free_blocks self.old)) self.old else self.old) }
         ensures count { length self.new ≡ length self.old }
-        ensures len { vec_len into.new ≡ (if result then vec_len into.old + n else vec_len into.old) }
+        ensures len { vec_len into.new
+            ≡ (if result then vec_len into.old + n else vec_len into.old) }
         ensures capacity { vec_capacity into.old ≤ vec_capacity into.new }
     {
         if n > self.free_count() {
@@ -140,7 +143,8 @@ impl Map {
     // The lowest free block past this one. Bytes without a free block are passed whole.
     fn next_free(&self, block: u32) -> u32
         requires some { 0 < length (free_from (block + 1) (drop block self.now)) }
-        ensures next { free_from (block + 1) (drop block self.now) ≡ result ∷ free_from (result + 1) (drop result self.now) }
+        ensures next { free_from (block + 1) (drop block self.now)
+            ≡ result ∷ free_from (result + 1) (drop result self.now) }
         ensures later { block < result }
         ensures last { result ≤ length self.now }
         ensures free { slice_index_or self.now (result - 1) true ≡ false }

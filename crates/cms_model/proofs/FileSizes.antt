@@ -20,7 +20,7 @@ use Rattle.cms_model.specs.Trees.{Image, Met, form_of, tree, bytes_at}
 use Rattle.cms_model.specs.Records.{varying, records_of, stored, length_of}
 use Rattle.cms_model.specs.Minidisks.{File}
 use Rattle.cms_model.specs.Sizes.{stored_size, tree_size, file_size}
-use Rattle.cms_model.specs.Volumes.{Disk, blamed, entries_of, file_trees, blocks_of, contents_in, files_of}
+use Rattle.cms_model.specs.Volumes.{Disk, as_read, blamed, entries_of, file_trees, blocks_of, contents_in, files_of}
 use Rattle.cms_model.specs.LawsSizes.{IsWhole}
 use Rattle.cms_model.specs.declared.fault.VarFault.TheVariants.{Zero, PastEnd, Left}
 use Rattle.cms_model.specs.declared.fault.OpenFault.TheVariants as failed
@@ -30,6 +30,7 @@ use Rattle.cms_model.proofs.Cuts.{length_cut}
 use Rattle.cms_model.proofs.Records.{length_stored, length_stored_fixed, fits_cut}
 use Rattle.cms_model.proofs.TreeFrame.{between, tree_inside, tree_places}
 use Rattle.cms_model.proofs.TreeSizes.{tree_has_size}
+use Rattle.cms_model.proofs.EntriesRead.{fits_so, counts_so}
 use Rattle.cms_model.proofs.Opening.{blamed_ok}
 use Rattle.cms_model.proofs.FilesRead.{IsRead, each_read}
 use Rattle.cms_model.proofs.InOrder.{place_none}
@@ -74,6 +75,11 @@ passes_from bsize e p =
     (and_from (nat_le e.number 6 && length_fits e) (counts_fit bsize e)
     (and_from (nat_le e.number 6) (length_fits e) (le-leb e.number 6 p.number) p.fits.long) p.fits.counts) p.fits.levels) p.stamp
 
+-- so do those of the entry as it is read
+pub read_fits : (bsize : ℕ) (e : Entry) → EntryFits bsize e → EntryFits bsize (as_read e)
+unfolding levels_fit
+read_fits bsize e fits = record { long = fits_so e ∙ fits.long; counts = counts_so bsize e ∙ fits.counts; levels = fits.levels }
+
 abbrev pub AllFit : ℕ → List Entry → Type 0
 AllFit bsize [] = Unit {0}
 AllFit bsize (e ∷ es) = EntryFits bsize e × AllFit bsize es
@@ -86,7 +92,7 @@ entries_fit bsize number (bytes ∷ rest) es e =
     bind_then (entries_of bsize (number + 1) rest) _ es e1 (λ more is_more e2.
     let fits = entry_fits bsize bytes one (blamed_ok (failed.Entry number) (entry_of bsize bytes) one is_one) in
     let deeper = entries_fit bsize (number + 1) rest more is_more in
-    subst (λ (l : List Entry). AllFit bsize l × (length l ≡ suc (length rest))) (ok_same (one ∷ more) es e2) ((fits, deeper.0), ap suc deeper.1)))
+    subst (λ (l : List Entry). AllFit bsize l × (length l ≡ suc (length rest))) (ok_same (as_read one ∷ more) es e2) ((read_fits bsize one fits, deeper.0), ap suc deeper.1)))
 
 -- the data blocks that an entry may have
 pub record Counted (format : Format) (bsize len blocks count : ℕ) : Type 0 where

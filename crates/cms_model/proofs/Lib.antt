@@ -18,6 +18,7 @@ pub mod Wiping
 pub mod Building
 pub mod Shares
 pub mod FilesRead
+pub mod EntriesRead
 pub mod FileSizes
 pub mod MinidiskSizes
 pub mod Changing

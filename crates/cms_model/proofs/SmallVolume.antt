@@ -1,9 +1,9 @@
 -- A small volume in an image, and changes of its files.
 use Rattle.std.proofs.Common.{◌≡◌, ℕ, if◌then◌else◌, List, [], ◌∷◌, ◌++◌, Err, replicate, refl}
 use Rattle.std.specs.Prelude.{◌==◌}
-use Rattle.cms_names.specs.declared.name.Format.TheVariants.{F}
+use Rattle.cms_names.specs.declared.name.Format.TheVariants.{F, V}
 use Rattle.cms_names.specs.Names.{is_name_character}
-use Rattle.cms_text.specs.Bytes.{word}
+use Rattle.cms_text.specs.Bytes.{half, word}
 use Rattle.cms_fields.specs.Stamps.{is_stamp, stamp_at, has_stamp, are_packed, days_of_month}
 use Rattle.cms_fields.specs.Labels.{label_of, label_fields, has_identifier, is_origin}
 use Rattle.cms_fields.specs.Entries.{entry_of, entry_fields, name_at, format_at, is_part_field, has_name, has_mode, has_format, length_fits, counts_fit, levels_fit, has_pointer_size}
@@ -11,7 +11,7 @@ use Rattle.cms_fields.specs.declared.time.Stamp.{Stamp}
 use Rattle.cms_fields.specs.declared.label.LabelFault.TheVariants as label_fault
 use Rattle.cms_model.specs.Lists.{cut, holds, first_repeat, same}
 use Rattle.cms_model.specs.Trees.{Image, pointers, is_allowed, tree, bytes_at}
-use Rattle.cms_model.specs.Records.{records_of}
+use Rattle.cms_model.specs.Records.{longest, records_of, varying}
 use Rattle.cms_model.specs.Maps.{is_marked, lowest_unmarked, lost_count}
 use Rattle.cms_model.specs.Minidisks.{File, Minidisk, Volume, Not, same_name, is_named}
 use Rattle.cms_model.specs.Systems.{system_fields, is_system, is_directory, is_map, directory_of, map_of}
@@ -84,6 +84,30 @@ unfolding state_of open_of label_of label_fields has_identifier is_origin word d
     first_twice is_named same_name same file_trees blocks_of first_repeat holds lowest_unmarked is_marked lost_count contents_in records_of minidisk_of files_of zeros label_block system_entry
     file_entry volume disk noon file minidisk
 read = (refl, refl, refl, refl, refl)
+
+-- the file with one record of varying length, in block 7, whose entry tells some length
+varying_entry : ℕ → List ℕ
+varying_entry size =
+    0xC1 ∷ replicate 7 0x40 ++ (0xC2 ∷ replicate 7 0x40 ++ (zeros 8 ++ (0xC1 ∷ 0xF1 ∷ zeros 4 ++ (0xE5 ∷ 0x08 ∷ 0 ∷ 0 ∷ 0 ∷ size ∷ zeros 4
+    ++ (0 ∷ 0 ∷ 0 ∷ 7 ∷ 0 ∷ 0 ∷ 0 ∷ 1 ∷ 0 ∷ 0 ∷ 0 ∷ 1 ∷ 0 ∷ 12 ∷ 0x26 ∷ 0x07 ∷ 0x01 ∷ 0x12 ∷ 0 ∷ 0 ∷ [])))))
+
+varying_volume : ℕ → Image
+varying_volume size n =
+    if n == 4 then system_entry 0 64 4 3 ++ (system_entry 2 0 6 1 ++ varying_entry size)
+    else if n == 7 then 0 ∷ 4 ∷ 1 ∷ 2 ∷ 3 ∷ 4 ∷ []
+    else volume (0xFE ∷ []) n
+
+varying_file : File
+varying_file = record file { format = V; length = 4; records = (1 ∷ 2 ∷ 3 ∷ 4 ∷ []) ∷ [] }
+
+-- whatever length it tells, the same volume opens, in which the file has the length of its longest record
+read_varying : (size : ℕ) → (open_of disk (varying_volume size) ≡ open_of disk (varying_volume 4))
+    × (state_of disk (varying_volume size) ≡ Volume (record (minidisk 0) { files = varying_file ∷ [] }))
+unfolding state_of open_of label_of label_fields has_identifier is_origin word half directory_of map_of is_directory is_map is_system system_fields tree pointers is_allowed bytes_at cut entries_of entry_of
+    entry_fields has_name has_mode has_format length_fits counts_fit levels_fit has_pointer_size has_stamp are_packed is_stamp stamp_at days_of_month name_at format_at is_part_field is_name_character
+    first_twice is_named same_name same file_trees blocks_of first_repeat holds lowest_unmarked is_marked lost_count contents_in records_of varying longest minidisk_of files_of zeros label_block system_entry
+    varying_entry varying_volume varying_file volume disk noon file minidisk
+read_varying size = (refl, refl)
 
 -- nothing in block 3
 wiped_unit : state_of disk (λ n. []) ≡ Not 2

@@ -24,5 +24,6 @@ pub record WritesWhole (m : Minidisk) (pivot : ℕ) : Type 0 where
   pub written : (n : ℕ) → n < directory_count m.bsize (length m.files) → In n (directory_written m (Century pivot))
   pub fresh : directory_fresh m (Century pivot) ≡ directory_more m.bsize (length m.files)
 
+-- so does each such change
 abbrev pub CenturyIsWhole : Type 0
 CenturyIsWhole = (m : Minidisk) (pivot : ℕ) → IsBlockSize m.bsize → WritesWhole m pivot

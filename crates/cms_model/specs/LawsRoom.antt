@@ -16,6 +16,7 @@ pub record IsPlaceNamed (name : Name) (files : List File) : Type 0 where
   pub found : (k : ℕ) → IsPlace name files k → place_named name files ≡ k
   pub none : NoneNamed name files → place_named name files ≡ length files
 
+-- so it is of each name
 abbrev pub PlaceIsNamed : Type 0
 PlaceIsNamed = (name : Name) (files : List File) → IsPlaceNamed name files
 
@@ -25,6 +26,7 @@ pub record IsNeeded (m : Minidisk) (change : Change) : Type 0 where
       (directory_count m.bsize (count_after m change)) (directory_written m change)
   pub few : directory_fresh m change ≤ directory_more m.bsize (count_after m change)
 
+-- so it is of each change
 abbrev pub DirectoryIsNeeded : Type 0
 DirectoryIsNeeded = (m : Minidisk) (change : Change) → IsBlockSize m.bsize → IsNeeded m change
 

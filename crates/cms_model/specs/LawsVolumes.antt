@@ -45,5 +45,6 @@ pub record LooksAt (unit : Attached) (disk : Disk) : Type 0 where
   pub all : length unit.start ≤ 1048576 → disk.count ≡ length unit.start
   pub first : 1048576 ≤ length unit.start → disk.count ≡ 1048576
 
+-- so is what a session looks at of each unit
 abbrev pub DiskIsLookedAt : Type 0
 DiskIsLookedAt = (unit : Attached) → LooksAt unit (disk_of unit)

@@ -3,7 +3,8 @@ use Rattle.std.specs.Prelude.{◌≡◌, ℕ, ◌+◌, ◌-◌, min, true, if◌
 use Rattle.cms_journal.specs.Limits.{most_blocks}
 use Rattle.cms_journal.specs.declared.event.Attached.{Attached}
 use Rattle.cms_names.specs.declared.name.Name.{Name}
-use Rattle.cms_names.specs.declared.name.Format.TheVariants.{F}
+use Rattle.cms_names.specs.declared.name.Format.{Format}
+use Rattle.cms_names.specs.declared.name.Format.TheVariants.{F, V}
 use Rattle.cms_fields.specs.Steps.{◌>>=◌, ◌>>◌, want}
 use Rattle.cms_fields.specs.Labels.{label_of}
 use Rattle.cms_fields.specs.Entries.{entry_of}
@@ -38,13 +39,22 @@ abbrev pub absent : {X : Type 0} → Option X → (X → OpenFault) → Result (
 absent None why = Ok tt
 absent (Some x) why = Err (why x)
 
--- the entries that pieces of 64 bytes spell, the first with this number
+-- the length of records that is read of an entry: the one it tells at F; at V it says nothing, whatever stands there
+abbrev pub length_read : Format → ℕ → ℕ
+length_read F size = size
+length_read V size = 0
+
+-- an entry as it is read
+abbrev pub as_read : Entry → Entry
+as_read e = record e { length = length_read e.format e.length }
+
+-- the entries that are read in pieces of 64 bytes, the first with this number
 unfoldable pub entries_of : ℕ → ℕ → List (List ℕ) → Result (List Entry) OpenFault
 entries_of bsize number [] = Ok []
 entries_of bsize number (bytes ∷ rest) = do
   entry ← blamed (failed.Entry number) (entry_of bsize bytes)
   more ← entries_of bsize (number + 1) rest
-  Ok (entry ∷ more)
+  Ok (as_read entry ∷ more)
 
 -- the number of the first entry whose name stands before it
 unfoldable pub first_twice : ℕ → List Name → List Entry → Option ℕ

@@ -271,7 +271,8 @@ fn all_valued<O: Copy>(
     words: &[Token],
     accepted: &Accepted,
 ) -> Result<ChosenOptions<O>, CommandFault>
-    ensures { spec.AnswersLine (spec.all_valued forms.now words.now accepted.now.refused accepted.now.chosen) result }
+    ensures { spec.AnswersLine
+        (spec.all_valued forms.now words.now accepted.now.refused accepted.now.chosen) result }
 {
     let mut chosen = ChosenOptions::new(alloc);
     for choice in accepted.chosen.as_slice() {

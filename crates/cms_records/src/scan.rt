@@ -74,8 +74,10 @@ impl VarScan {
     /// first byte of all, and the check isn't used again then.
     pub fn feed(&mut self, piece: &[u8]) -> Result<(), VarFault>
         requires { self.old.fed + length piece.now ≤ most_bytes }
-        ensures fed { OnOk result ((count : ℕ) (bytes : List ℕ) → IsFed count bytes self.old → IsFed count (bytes ++ piece.now) self.new) }
-        ensures fault { IfErr result (λ why. (count : ℕ) (bytes rest : List ℕ) → IsFed count bytes self.old
+        ensures fed { OnOk result ((count : ℕ) (bytes : List ℕ) → IsFed count bytes self.old
+            → IsFed count (bytes ++ piece.now) self.new) }
+        ensures fault { IfErr result (λ why. (count : ℕ) (bytes rest : List ℕ)
+            → IsFed count bytes self.old
             → sizes_in self.old.bsize count ((bytes ++ piece.now) ++ rest) ≡ Err why) }
         ensures bsize { self.new.bsize ≡ self.old.bsize }
         ensures count { self.new.fed ≡ self.old.fed + length piece.now }
@@ -94,7 +96,8 @@ impl VarScan {
     /// What is told of the records, once all bytes came. `PastEnd` with the place of a record that passes the end, and `Left`
     /// with that behind the last record where a whole block or more remains.
     pub fn end(&self) -> Result<VarSizes, VarFault>
-        ensures told { (count : ℕ) (bytes : List ℕ) → IsFed count bytes self.now → result ≡ sizes_in self.now.bsize count bytes }
+        ensures told { (count : ℕ) (bytes : List ℕ) → IsFed count bytes self.now
+            → result ≡ sizes_in self.now.bsize count bytes }
         ensures longest { IfOk result (λ sizes. sizes.longest ≤ longest_record) }
         ensures stored { IfOk result (λ sizes. sizes.stored ≤ most_bytes) }
         ensures high { IfOk result (λ sizes. sizes.stored ≤ self.now.fed) }
@@ -139,12 +142,16 @@ impl VarScan {
     // The length of the next record, where both bytes of it came.
     fn next_size(&self, piece: &[u8], start: u32) -> Option<u32>
         requires fed { start + length piece.now ≡ self.now.fed }
-        ensures size { IfSome result (λ n. (count : ℕ) (bytes : List ℕ) → length bytes ≡ start → Holds count (bytes ++ piece.now) self.now
+        ensures size { IfSome result
+            (λ n. (count : ℕ) (bytes : List ℕ) → length bytes ≡ start
+            → Holds count (bytes ++ piece.now) self.now
             → Passes bytes self.now
-            → (self.now.place + 2 ≤ self.now.fed) × (half (drop self.now.place (bytes ++ piece.now)) 0 ≡ n)) }
+            → (self.now.place + 2 ≤ self.now.fed)
+            × (half (drop self.now.place (bytes ++ piece.now)) 0 ≡ n)) }
         ensures small { IfSome result (λ n. n ≤ longest_record) }
         ensures known { IfSome result (λ n. (self.now.size ≡ None) ⊎ (self.now.size ≡ Some n)) }
-        ensures none { result ≡ None → (self.now.size ≡ None) × (self.now.fed < self.now.place + 2) }
+        ensures none { result ≡ None → (self.now.size ≡ None)
+            × (self.now.fed < self.now.place + 2) }
     {
         if let Some(size) = self.size {
             return Some(size);
@@ -161,13 +168,17 @@ impl VarScan {
     fn pass(&mut self, piece: &[u8], start: u32) -> Result<bool, VarFault>
         requires some { 1 ≤ self.old.left }
         requires fed { start + length piece.now ≡ self.old.fed }
-        ensures passed { IfOk result (λ more. more ≡ true → (count : ℕ) (bytes : List ℕ) → length bytes ≡ start
+        ensures passed { IfOk result (λ more. more ≡ true → (count : ℕ) (bytes : List ℕ)
+            → length bytes ≡ start
             → Holds count (bytes ++ piece.now) self.old → Passes bytes self.old
             → Holds count (bytes ++ piece.now) self.new × Passes bytes self.new) }
-        ensures stays { IfOk result (λ more. more ≡ false → (count : ℕ) (bytes : List ℕ) → length bytes ≡ start
+        ensures stays { IfOk result (λ more. more ≡ false → (count : ℕ) (bytes : List ℕ)
+            → length bytes ≡ start
             → Holds count (bytes ++ piece.now) self.old → Passes bytes self.old
-            → Holds count (bytes ++ piece.now) self.new × Passes bytes self.new × IsCut self.new.fed self.new.place self.new.size) }
-        ensures fault { IfErr result (λ why. (count : ℕ) (bytes rest : List ℕ) → length bytes ≡ start
+            → Holds count (bytes ++ piece.now) self.new × Passes bytes self.new
+            × IsCut self.new.fed self.new.place self.new.size) }
+        ensures fault { IfErr result (λ why. (count : ℕ) (bytes rest : List ℕ)
+            → length bytes ≡ start
             → Holds count (bytes ++ piece.now) self.old → Passes bytes self.old
             → sizes_in self.old.bsize count ((bytes ++ piece.now) ++ rest) ≡ Err why) }
         ensures left { IfOk result (λ more. more ≡ true → self.new.left + 1 ≡ self.old.left) }
@@ -197,8 +208,10 @@ impl VarScan {
     // Keeps the first byte of a length that this piece cuts off.
     fn keep(&mut self, piece: &[u8], start: u32)
         requires fed { start + length piece.now ≡ self.old.fed }
-        ensures kept { (count : ℕ) (bytes : List ℕ) → length bytes ≡ start → Holds count (bytes ++ piece.now) self.old
-            → (self.old.left ≡ 0) ⊎ (Passes bytes self.old × IsCut self.old.fed self.old.place self.old.size)
+        ensures kept { (count : ℕ) (bytes : List ℕ) → length bytes ≡ start
+            → Holds count (bytes ++ piece.now) self.old
+            → (self.old.left ≡ 0)
+            ⊎ (Passes bytes self.old × IsCut self.old.fed self.old.place self.old.size)
             → IsFed count (bytes ++ piece.now) self.new }
         ensures bsize { self.new.bsize ≡ self.old.bsize }
         ensures count { self.new.fed ≡ self.old.fed }

@@ -49,7 +49,8 @@ impl RecordState {
     pub fn new(alloc: Global, fixed: Option<u32>, longest: u32) -> Result<RecordState, AllocError>
         requires fixed { IfSome fixed (λ n. (1 ≤ n) × (n ≤ longest)) }
         requires longest { longest ≤ longest_record }
-        ensures { IfOk result (λ s. s ≡ record { fixed = fixed; longest = longest; place = 0; bytes = []; whole = false }) }
+        ensures { IfOk result (λ s. s
+            ≡ record { fixed = fixed; longest = longest; place = 0; bytes = []; whole = false }) }
     {
         let bytes = Vec::with_capacity(alloc, longest as usize + 2)?;
         Ok(RecordState {
@@ -66,12 +67,15 @@ impl RecordState {
     /// place of the length's first byte among all bytes; nothing is taken then. It takes no memory.
     pub fn feed(&mut self, piece: &[u8], from: usize) -> Result<Fed, VarFault>
         requires from { from ≤ length piece.now }
-        requires few { self.old.place + length self.old.bytes + length piece.now ≤ most_bytes + from }
-        ensures taken { IfOk result (λ fed. Takes self.old self.new (drop from piece.now) (fed.next - from) fed.whole) }
+        requires few { self.old.place + length self.old.bytes + length piece.now
+            ≤ most_bytes + from }
+        ensures taken { IfOk result (λ fed.
+            Takes self.old self.new (drop from piece.now) (fed.next - from) fed.whole) }
         ensures next { IfOk result (λ fed. (from ≤ fed.next) × (fed.next ≤ length piece.now)) }
         ensures held { length self.new.bytes ≤ self.new.longest + 2 }
         ensures rules { (self.new.fixed ≡ self.old.fixed) × (self.new.longest ≡ self.old.longest) }
-        ensures fault { IfErr result (λ why. record_size self.old.fixed self.old.longest (next_place self.old)
+        ensures fault { IfErr result (λ why.
+            record_size self.old.fixed self.old.longest (next_place self.old)
             (bytes_so_far self.old ++ drop from piece.now) ≡ Err why) }
         ensures refused { OnErr result (self.new ≡ self.old) }
     {
@@ -181,7 +185,8 @@ fn joined_size(
 fn take(bytes: &mut Vec<u8>, piece: &[u8], from: usize, until: usize) -> usize
     requires from { from ≤ length piece.now }
     requires room { until ≤ vec_capacity bytes.old }
-    ensures bytes { bytes.new.items ≡ take (max until (length bytes.old.items)) (bytes.old.items ++ drop from piece.now) }
+    ensures bytes { bytes.new.items
+        ≡ take (max until (length bytes.old.items)) (bytes.old.items ++ drop from piece.now) }
     ensures next { length bytes.old.items + (result - from) ≡ length bytes.new.items }
     ensures within { (from ≤ result) × (result ≤ length piece.now) }
     ensures capacity { vec_capacity bytes.old ≤ vec_capacity bytes.new }

@@ -28,7 +28,7 @@ use Rattle.cms_cards.specs.Punching.{Decks}
 use Rattle.cms_cards.specs.declared.command.CardCommand.{CardCommand}
 use Rattle.cms_rounds.specs.Commands.{is_comment, request_of}
 use Rattle.cms_rounds.specs.Decks.{leaving_decks}
-use Rattle.cms_rounds.specs.Lines.{Issued, Came, called_or_obeyed, came, came_with, dealt_with, extended_or_requested, extension_of, memory, request, requested, started}
+use Rattle.cms_rounds.specs.Lines.{Issued, Came, called_or_obeyed, came, came_with, dealt_with, extended_or_requested, extension_of, request, requested, started}
 use Rattle.cms_rounds.specs.Nucleus.{ended_with}
 use Rattle.cms_rounds.specs.Calls.{command_tree, issue_tree, issued_beside, issued_of, issued_started, nucxdrop_tree, nucxmap_tree, obey_tree, request_tree, take_up_tree}
 use Rattle.cms_rounds.specs.declared.command.Command.{Command}
@@ -149,7 +149,7 @@ module _ (os : List Object) (old : SpotWith os) (decks : Decks) (running : ℕ) 
       asked_first (desk_of old.state os units) decks running text ts first at ∙ ap (λ (x : Request). asking x units) (sym is ∙ same)
 
   pub exec_asked : (q : Request) → q ≡ request_of first.text → q ≡ ask.Exec → (units : List Slot) → holds old units
-      → request_tree old.state os decks running text ts units ≡ leaving_decks decks (bind (exec_command memory running (machine_of old.state units) text ts) (started os))
+      → request_tree old.state os decks running text ts units ≡ leaving_decks decks (bind (exec_command running (machine_of old.state units) text ts) (started os))
   exec_asked q is exec units h = asks q ask.Exec is exec units h
 
   pub command_so : (mid : SpotWith os) (q : Request) (command : Command) (c : declared.Course) → q ≡ request_of first.text → q ≡ ask.Command command
@@ -270,7 +270,7 @@ module _ (os : List Object) (old : SpotWith os) (decks : Decks) (running : ℕ) 
       ∙ ap (λ (y : Option FileName). taking_up y units) (sym (finds (machine_of old.state units) (holds_shows (alone old) units h)) ∙ is)
 
   pub procedure_taken : (f : FileName) → found ≡ Some f → (units : List Slot) → holds old units
-      → take_up_tree old.state os decks running text units ≡ leaving_decks decks (bind (call_command memory running (machine_of old.state units) text ts f) (started os))
+      → take_up_tree old.state os decks running text units ≡ leaving_decks decks (bind (call_command running (machine_of old.state units) text ts f) (started os))
   procedure_taken f is units h = found_is (Some f) is units h
 
   pub command_taken : (b : List Object) (new : SpotWith b) (kept : Decks) (r : Result declared_issued.Issued End) → found ≡ None

@@ -1,6 +1,5 @@
 -- What a line comes to: an extension answers it, a command is run, or a procedure begins.
 use Rattle.std.specs.Prelude.{ℕ, pos, negsuc, if◌then◌else◌, List, [], ◌∷◌, Option, Some, None}
-use Rattle.std.specs.Global.{Global}
 use Rattle.std.specs.Option.{option_and_then}
 use Rattle.cms_machine.specs.Acts.{Act, Done, Out, bind, typed_line}
 use Rattle.cms_machine.specs.Objects.{Object, Start}
@@ -30,7 +29,7 @@ use Rattle.cms_exec.specs.Finding.{called_by, valid_name}
 use Rattle.cms_execio.specs.Execio.{execio}
 use Rattle.cms_ext.specs.Extensions.{Desk, Ended, Went, desk, run_extension}
 use Rattle.cms_ext.specs.Objects.{place_of, words_of}
-use Rattle.exec2_run.specs.declared.exec.Exec.{Exec}
+use Rattle.exec2_run.specs.State.{Procedure}
 use Rattle.exec2_run.specs.declared.exec.FileName.{FileName}
 use Rattle.cms_rounds.specs.Commands.{is_comment, request_of}
 use Rattle.cms_rounds.specs.Decks.{leaving_decks}
@@ -67,7 +66,7 @@ run_command s line words word command.Unknown = unknown s word
 -- its extension or its command has ended so, or a procedure has begun
 pub data Issued : Type 0 where
   Came : Ended → Issued
-  Begins : Desk → Exec → Issued
+  Begins : Desk → Procedure → Issued
 
 -- nothing was done, with code 0
 abbrev pub nothing_done : Desk → Act Issued
@@ -90,14 +89,10 @@ abbrev pub started : List Object → Starting → Act Issued
 started objects (HasBegun s exec) = Done (Begins (desk s objects) exec)
 started objects (IsRefused c) = came_with objects c
 
--- what procedures take their memory from; there is one
-abbrev pub memory : Global
-memory = record { memory = record { seal = tt } }
-
 -- what a line with these words asks for, where so many procedures run; all but the commands on cards leave the decks
 abbrev pub request : Desk → Decks → ℕ → List ℕ → List Token → List ℕ → Request → Act (Issued × Decks)
 request d decks running line words word ask.Exec =
-    leaving_decks decks (bind (exec_command memory running d.machine line words) (started d.objects))
+    leaving_decks decks (bind (exec_command running d.machine line words) (started d.objects))
 request d decks running line words word ask.Nucxdrop = leaving_decks decks (bind (nucxdrop d words) came)
 request d decks running line words word ask.Nucxmap =
     leaving_decks decks (bind (nucxmap d.machine (words_of d.objects) words) (came_with d.objects))
@@ -105,6 +100,7 @@ request d decks running line words word (ask.Cards command) = bind (cards d.mach
 request d decks running line words word (ask.Command command) =
     leaving_decks decks (bind (run_command d.machine line words word command) (came_with d.objects))
 
+-- the same by the first of the words; without a word nothing is done
 abbrev pub requested : Desk → Decks → ℕ → List ℕ → List Token → Act (Issued × Decks)
 requested d decks running line [] = leaving_decks decks (nothing_done d)
 requested d decks running line (first ∷ words) = request d decks running line (first ∷ words) first.text (request_of first.text)
@@ -122,6 +118,7 @@ abbrev pub extended_or_requested : Desk → Decks → ℕ → List ℕ → List 
 extended_or_requested d decks running line words (Some place) = leaving_decks decks (bind (run_extension place d (Start line)) came)
 extended_or_requested d decks running line words None = requested d decks running line words
 
+-- so it is for the extension of the first word, if there is one
 abbrev pub obeyed : Desk → Decks → ℕ → List ℕ → List Token → Act (Issued × Decks)
 obeyed d decks running line words = extended_or_requested d decks running line words (extension_of d.objects words)
 
@@ -133,8 +130,9 @@ issued d decks running line =
 -- a line that CMS took: the procedure that its first word names comes before an extension
 abbrev pub called_or_obeyed : Desk → Decks → ℕ → List ℕ → List Token → Option FileName → Act (Issued × Decks)
 called_or_obeyed d decks running line words (Some f) =
-    leaving_decks decks (bind (call_command memory running d.machine line words f) (started d.objects))
+    leaving_decks decks (bind (call_command running d.machine line words f) (started d.objects))
 called_or_obeyed d decks running line words None = obeyed d decks running line words
 
+-- so it is for the procedure that these words call, if there is one
 abbrev pub taken_up : Desk → Decks → ℕ → List ℕ → List Token → Act (Issued × Decks)
 taken_up d decks running line words = called_or_obeyed d decks running line words (called_by d.machine words)

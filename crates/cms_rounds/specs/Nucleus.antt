@@ -22,11 +22,13 @@ abbrev pub ended_with : List Object → Course → Ended
 ended_with objects (course.Went s code) = Went (desk s objects) code
 ended_with objects course.OutOfTurns = OutOfTurns
 
+-- what such a command does, beside the objects that it leaves
 abbrev pub leaving_to : List Object → Act Course → Act Ended
 leaving_to objects t = bind t (λ c. Done (ended_with objects c))
 
 -- ---- NUCXDROP word
 
+-- the operand is one word, which has the form of a name
 unfoldable pub drop_operands : List Token → Result (List ℕ) Refusal
 drop_operands operands = do
   text ← needed operands 1
@@ -47,10 +49,12 @@ abbrev pub dropping : Desk → List ℕ → Option ℕ → Act Ended
 dropping d word None = leaving_to d.objects (refusal d.machine (M122 word) none_there)
 dropping d word (Some place) = Drops place (Done (Went (desk d.machine (remove d.objects place)) (pos 0)))
 
+-- the object of the word that the line gives is dropped; or the line is refused
 abbrev pub dropped_by : Desk → List Token → Result (List ℕ) Refusal → Act Ended
 dropped_by d words (Ok word) = dropping d word (place_of word d.objects)
 dropped_by d words (Err why) = leaving_to d.objects (refusal d.machine (message_of words why) (code_of why))
 
+-- the command: the object under its word is taken out and dropped
 abbrev pub nucxdrop : Desk → List Token → Act Ended
 nucxdrop d words = dropped_by d words (drop_line words)
 
@@ -64,5 +68,6 @@ map_line words = without_options words (ended (operands_of words) 1)
 abbrev pub mapping : List (List ℕ) → Machine → ⊤ → Act Course
 mapping under s x = typing under (Done (course.Went s (pos 0)))
 
+-- the command: these words are typed, where the line has neither operand nor option
 abbrev pub nucxmap : Machine → List (List ℕ) → List Token → Act Course
 nucxmap s under words = on_line s words (mapping under s) (map_line words)

@@ -113,10 +113,15 @@ fn request<W: World>(
     requires usable { IsUsable (spot W.World world.old state.old) }
     requires moment { is_moment state.old.moment ≡ true }
     requires offset { IsOffset state.old.offset }
-    ensures acts { Acts (spot_with W.World world.old state.old (objects_of ⟦<dyn Extension as Extension>⟧ extensions.old))
-        (spot_with W.World world.new state.new (objects_of ⟦<dyn Extension as Extension>⟧ extensions.new))
-        (request_tree state.old (objects_of ⟦<dyn Extension as Extension>⟧ extensions.old) reader.old running line.now words.now)
-        result (issued_beside state.new (objects_of ⟦<dyn Extension as Extension>⟧ extensions.new) reader.new) }
+    ensures acts { Acts (spot_with W.World world.old state.old
+        (objects_of ⟦<dyn Extension as Extension>⟧ extensions.old))
+        (spot_with W.World world.new state.new
+        (objects_of ⟦<dyn Extension as Extension>⟧ extensions.new))
+        (request_tree state.old
+        (objects_of ⟦<dyn Extension as Extension>⟧ extensions.old) reader.old running line.now
+        words.now)
+        result (issued_beside state.new
+        (objects_of ⟦<dyn Extension as Extension>⟧ extensions.new) reader.new) }
     ensures offset { state.new.offset ≡ state.old.offset }
     ensures left { state.new.left ≤ state.old.left }
 {
@@ -149,7 +154,8 @@ fn request<W: World>(
 
 /// The place of the extension of a word, which is in upper case; none exactly where the word is no valid name, or no extension has it.
 pub fn extension_named(extensions: &ExtList, word: &[u8]) -> Option<u32>
-    ensures { result ≡ spec.extension_named (objects_of ⟦<dyn Extension as Extension>⟧ extensions.now) word.now }
+    ensures { result ≡ spec.extension_named
+        (objects_of ⟦<dyn Extension as Extension>⟧ extensions.now) word.now }
 {
     match Part::read(word) {
         Ok(word) => extensions.find(&word),
@@ -159,7 +165,8 @@ pub fn extension_named(extensions: &ExtList, word: &[u8]) -> Option<u32>
 
 // The place of the extension whose word is the first; none exactly where there is no word, or no extension has it.
 fn extension_of(extensions: &ExtList, words: &[Token]) -> Option<u32>
-    ensures { result ≡ spec.extension_of (objects_of ⟦<dyn Extension as Extension>⟧ extensions.now) words.now }
+    ensures { result ≡ spec.extension_of
+        (objects_of ⟦<dyn Extension as Extension>⟧ extensions.now) words.now }
 {
     match given(words, 0) {
         Some(text) => extension_named(extensions, text),
@@ -180,9 +187,12 @@ fn run_extension<W: World>(
     requires moment { is_moment state.old.moment ≡ true }
     requires offset { IsOffset state.old.offset }
     requires there { HasPlace place (objects_of ⟦<dyn Extension as Extension>⟧ extensions.old) }
-    ensures acts { Acts (spot_with W.World world.old state.old (objects_of ⟦<dyn Extension as Extension>⟧ extensions.old))
-        (spot_with W.World world.new state.new (objects_of ⟦<dyn Extension as Extension>⟧ extensions.new))
-        (run_tree state.old (objects_of ⟦<dyn Extension as Extension>⟧ extensions.old) place (Start line.now))
+    ensures acts { Acts (spot_with W.World world.old state.old
+        (objects_of ⟦<dyn Extension as Extension>⟧ extensions.old))
+        (spot_with W.World world.new state.new
+        (objects_of ⟦<dyn Extension as Extension>⟧ extensions.new))
+        (run_tree state.old (objects_of ⟦<dyn Extension as Extension>⟧ extensions.old) place
+        (Start line.now))
         result (ended_of state.new (objects_of ⟦<dyn Extension as Extension>⟧ extensions.new)) }
     ensures offset { state.new.offset ≡ state.old.offset }
     ensures left { state.new.left ≤ state.old.left }
@@ -212,10 +222,15 @@ fn obey<W: World>(
     requires usable { IsUsable (spot W.World world.old state.old) }
     requires moment { is_moment state.old.moment ≡ true }
     requires offset { IsOffset state.old.offset }
-    ensures acts { Acts (spot_with W.World world.old state.old (objects_of ⟦<dyn Extension as Extension>⟧ extensions.old))
-        (spot_with W.World world.new state.new (objects_of ⟦<dyn Extension as Extension>⟧ extensions.new))
-        (obey_tree state.old (objects_of ⟦<dyn Extension as Extension>⟧ extensions.old) reader.old running line.now words.now)
-        result (issued_beside state.new (objects_of ⟦<dyn Extension as Extension>⟧ extensions.new) reader.new) }
+    ensures acts { Acts (spot_with W.World world.old state.old
+        (objects_of ⟦<dyn Extension as Extension>⟧ extensions.old))
+        (spot_with W.World world.new state.new
+        (objects_of ⟦<dyn Extension as Extension>⟧ extensions.new))
+        (obey_tree state.old
+        (objects_of ⟦<dyn Extension as Extension>⟧ extensions.old) reader.old running line.now
+        words.now)
+        result (issued_beside state.new
+        (objects_of ⟦<dyn Extension as Extension>⟧ extensions.new) reader.new) }
     ensures offset { state.new.offset ≡ state.old.offset }
     ensures left { state.new.left ≤ state.old.left }
 {
@@ -244,10 +259,14 @@ pub fn issue<W: World>(
     requires usable { IsUsable (spot W.World world.old state.old) }
     requires moment { is_moment state.old.moment ≡ true }
     requires offset { IsOffset state.old.offset }
-    ensures acts { Acts (spot_with W.World world.old state.old (objects_of ⟦<dyn Extension as Extension>⟧ extensions.old))
-        (spot_with W.World world.new state.new (objects_of ⟦<dyn Extension as Extension>⟧ extensions.new))
-        (issue_tree state.old (objects_of ⟦<dyn Extension as Extension>⟧ extensions.old) reader.old running line.now)
-        result (issued_beside state.new (objects_of ⟦<dyn Extension as Extension>⟧ extensions.new) reader.new) }
+    ensures acts { Acts (spot_with W.World world.old state.old
+        (objects_of ⟦<dyn Extension as Extension>⟧ extensions.old))
+        (spot_with W.World world.new state.new
+        (objects_of ⟦<dyn Extension as Extension>⟧ extensions.new))
+        (issue_tree state.old
+        (objects_of ⟦<dyn Extension as Extension>⟧ extensions.old) reader.old running line.now)
+        result (issued_beside state.new
+        (objects_of ⟦<dyn Extension as Extension>⟧ extensions.new) reader.new) }
     ensures offset { state.new.offset ≡ state.old.offset }
     ensures left { state.new.left ≤ state.old.left }
 {
@@ -274,10 +293,14 @@ pub fn take_up<W: World>(
     requires usable { IsUsable (spot W.World world.old state.old) }
     requires moment { is_moment state.old.moment ≡ true }
     requires offset { IsOffset state.old.offset }
-    ensures acts { Acts (spot_with W.World world.old state.old (objects_of ⟦<dyn Extension as Extension>⟧ extensions.old))
-        (spot_with W.World world.new state.new (objects_of ⟦<dyn Extension as Extension>⟧ extensions.new))
-        (take_up_tree state.old (objects_of ⟦<dyn Extension as Extension>⟧ extensions.old) reader.old running line.now)
-        result (issued_beside state.new (objects_of ⟦<dyn Extension as Extension>⟧ extensions.new) reader.new) }
+    ensures acts { Acts (spot_with W.World world.old state.old
+        (objects_of ⟦<dyn Extension as Extension>⟧ extensions.old))
+        (spot_with W.World world.new state.new
+        (objects_of ⟦<dyn Extension as Extension>⟧ extensions.new))
+        (take_up_tree state.old
+        (objects_of ⟦<dyn Extension as Extension>⟧ extensions.old) reader.old running line.now)
+        result (issued_beside state.new
+        (objects_of ⟦<dyn Extension as Extension>⟧ extensions.new) reader.new) }
     ensures offset { state.new.offset ≡ state.old.offset }
     ensures left { state.new.left ≤ state.old.left }
 {

@@ -61,9 +61,12 @@ fn drop_extension<W: World>(
     extensions: &mut ExtList,
     word: &Part,
 ) -> Result<Course, End>
-    ensures { Acts (spot_with W.World world.old state.now (objects_of ⟦<dyn Extension as Extension>⟧ extensions.old))
-        (spot_with W.World world.new state.now (objects_of ⟦<dyn Extension as Extension>⟧ extensions.new))
-        (λ units. spec.dropping (desk_of state.now (objects_of ⟦<dyn Extension as Extension>⟧ extensions.old) units)
+    ensures { Acts (spot_with W.World world.old state.now
+        (objects_of ⟦<dyn Extension as Extension>⟧ extensions.old))
+        (spot_with W.World world.new state.now
+        (objects_of ⟦<dyn Extension as Extension>⟧ extensions.new))
+        (λ units. spec.dropping
+        (desk_of state.now (objects_of ⟦<dyn Extension as Extension>⟧ extensions.old) units)
         word.now (place_of word.now (objects_of ⟦<dyn Extension as Extension>⟧ extensions.old)))
         result (ended_of state.now (objects_of ⟦<dyn Extension as Extension>⟧ extensions.new)) }
 {
@@ -87,9 +90,12 @@ pub fn run_nucxdrop<W: World>(
     extensions: &mut ExtList,
     words: &Tokens,
 ) -> Result<Course, End>
-    ensures { Acts (spot_with W.World world.old state.now (objects_of ⟦<dyn Extension as Extension>⟧ extensions.old))
-        (spot_with W.World world.new state.now (objects_of ⟦<dyn Extension as Extension>⟧ extensions.new))
-        (nucxdrop_tree state.now (objects_of ⟦<dyn Extension as Extension>⟧ extensions.old) words.now)
+    ensures { Acts (spot_with W.World world.old state.now
+        (objects_of ⟦<dyn Extension as Extension>⟧ extensions.old))
+        (spot_with W.World world.new state.now
+        (objects_of ⟦<dyn Extension as Extension>⟧ extensions.new))
+        (nucxdrop_tree state.now
+        (objects_of ⟦<dyn Extension as Extension>⟧ extensions.old) words.now)
         result (ended_of state.now (objects_of ⟦<dyn Extension as Extension>⟧ extensions.new)) }
 {
     match drop_line(alloc, words) {
@@ -110,7 +116,8 @@ fn map_line(alloc: Global, words: &Tokens) -> Result<(), CommandFault>
 // Types the words of the extensions.
 fn say_words<W: World>(world: &mut W, extensions: &ExtList) -> Result<(), End>
     ensures { Does (seen W.World world.old) (seen W.World world.new)
-        (typing (words_of (objects_of ⟦<dyn Extension as Extension>⟧ extensions.now)) (Done tt)) result said }
+        (typing (words_of (objects_of ⟦<dyn Extension as Extension>⟧ extensions.now)) (Done tt))
+        result said }
 {
     for place in 0..extensions.len() as u32 {
         say(world, extensions.word(place).as_bytes())?;
@@ -127,7 +134,8 @@ pub fn run_nucxmap<W: World>(
     words: &Tokens,
 ) -> Result<Course, End>
     ensures { Acts (spot W.World world.old state.now) (spot W.World world.new state.now)
-        (nucxmap_tree state.now (words_of (objects_of ⟦<dyn Extension as Extension>⟧ extensions.now)) words.now)
+        (nucxmap_tree state.now
+        (words_of (objects_of ⟦<dyn Extension as Extension>⟧ extensions.now)) words.now)
         result (course_of state.now) }
 {
     match map_line(alloc, words) {

@@ -52,7 +52,10 @@ fn from_console(line: ConsoleLine) -> Option<Taken>
 fn take<W: World>(world: &mut W, state: &mut State) -> Result<Option<Taken>, End>
     ensures acts { Acts (spot W.World world.old state.old) (spot W.World world.new state.new)
         (taking_tree state.old) result (beside state.new (option_map item_in)) }
-    ensures kept { state.new ≡ record state.old { console = state.new.console; stack = state.new.stack } }
+    ensures kept { state.new ≡ record state.old {
+      console = state.new.console;
+      stack = state.new.stack;
+    } }
 {
     if let Some(line) = state.stack.pop() {
         return Ok(Some(Taken::Text(line)));
@@ -75,8 +78,10 @@ fn run_line<W: World>(
     requires usable { IsUsable (spot W.World world.old session.old.state) }
     requires moment { is_moment session.old.state.moment ≡ true }
     requires offset { IsOffset session.old.state.offset }
-    ensures acts { Acts (spot_with W.World world.old session.old.state (objects_of ⟦<dyn Extension as Extension>⟧ extensions.old))
-        (spot_with W.World world.new session.new.state (objects_of ⟦<dyn Extension as Extension>⟧ extensions.new))
+    ensures acts { Acts (spot_with W.World world.old session.old.state
+        (objects_of ⟦<dyn Extension as Extension>⟧ extensions.old))
+        (spot_with W.World world.new session.new.state
+        (objects_of ⟦<dyn Extension as Extension>⟧ extensions.new))
         (line_tree session.old (objects_of ⟦<dyn Extension as Extension>⟧ extensions.old) line.now)
         result (passed_of session.new (objects_of ⟦<dyn Extension as Extension>⟧ extensions.new)) }
     ensures offset { session.new.state.offset ≡ session.old.state.offset }
@@ -105,7 +110,8 @@ fn refuse_taken<W: World>(
     session: &mut Session,
     message: Message,
 ) -> Result<Round, End>
-    ensures acts { Acts (spot W.World world.old session.old.state) (spot W.World world.new session.new.state)
+    ensures acts { Acts (spot W.World world.old session.old.state)
+        (spot W.World world.new session.new.state)
         (refused_tree session.old message) result (round_of session.new) }
     ensures reader { session.new.reader ≡ session.old.reader }
     ensures offset { session.new.state.offset ≡ session.old.state.offset }
@@ -126,9 +132,12 @@ fn run_taken<W: World>(
     requires usable { IsUsable (spot W.World world.old session.old.state) }
     requires moment { is_moment session.old.state.moment ≡ true }
     requires offset { IsOffset session.old.state.offset }
-    ensures acts { Acts (spot_with W.World world.old session.old.state (objects_of ⟦<dyn Extension as Extension>⟧ extensions.old))
-        (spot_with W.World world.new session.new.state (objects_of ⟦<dyn Extension as Extension>⟧ extensions.new))
-        (item_tree session.old (objects_of ⟦<dyn Extension as Extension>⟧ extensions.old) (item_in item))
+    ensures acts { Acts (spot_with W.World world.old session.old.state
+        (objects_of ⟦<dyn Extension as Extension>⟧ extensions.old))
+        (spot_with W.World world.new session.new.state
+        (objects_of ⟦<dyn Extension as Extension>⟧ extensions.new))
+        (item_tree session.old (objects_of ⟦<dyn Extension as Extension>⟧ extensions.old)
+        (item_in item))
         result (passed_of session.new (objects_of ⟦<dyn Extension as Extension>⟧ extensions.new)) }
     ensures offset { session.new.state.offset ≡ session.old.state.offset }
     ensures left { session.new.state.left ≤ session.old.state.left }
@@ -150,12 +159,15 @@ fn line_round<W: World>(
 ) -> Result<Round, End>
     requires usable { IsUsable (spot W.World world.old session.old.state) }
     requires offset { IsOffset session.old.state.offset }
-    ensures acts { Acts (spot_with W.World world.old session.old.state (objects_of ⟦<dyn Extension as Extension>⟧ extensions.old))
-        (spot_with W.World world.new session.new.state (objects_of ⟦<dyn Extension as Extension>⟧ extensions.new))
+    ensures acts { Acts (spot_with W.World world.old session.old.state
+        (objects_of ⟦<dyn Extension as Extension>⟧ extensions.old))
+        (spot_with W.World world.new session.new.state
+        (objects_of ⟦<dyn Extension as Extension>⟧ extensions.new))
         (line_round_tree session.old (objects_of ⟦<dyn Extension as Extension>⟧ extensions.old))
         result (passed_of session.new (objects_of ⟦<dyn Extension as Extension>⟧ extensions.new)) }
     ensures offset { session.new.state.offset ≡ session.old.state.offset }
-    ensures falls { IfOk result (λ round. round ≡ Ready → session.new.state.left < session.old.state.left) }
+    ensures falls { IfOk result (λ round. round ≡ Ready
+        → session.new.state.left < session.old.state.left) }
 {
     let Some(item) = take(world, &mut session.state)? else {
         return Ok(Round::Ended(Finish::AtEnd));
@@ -176,12 +188,15 @@ pub fn run_round<W: World>(
 ) -> Result<Round, End>
     requires usable { IsUsable (spot W.World world.old session.old.state) }
     requires offset { IsOffset session.old.state.offset }
-    ensures acts { Acts (spot_with W.World world.old session.old.state (objects_of ⟦<dyn Extension as Extension>⟧ extensions.old))
-        (spot_with W.World world.new session.new.state (objects_of ⟦<dyn Extension as Extension>⟧ extensions.new))
+    ensures acts { Acts (spot_with W.World world.old session.old.state
+        (objects_of ⟦<dyn Extension as Extension>⟧ extensions.old))
+        (spot_with W.World world.new session.new.state
+        (objects_of ⟦<dyn Extension as Extension>⟧ extensions.new))
         (round_tree session.old (objects_of ⟦<dyn Extension as Extension>⟧ extensions.old))
         result (passed_of session.new (objects_of ⟦<dyn Extension as Extension>⟧ extensions.new)) }
     ensures offset { session.new.state.offset ≡ session.old.state.offset }
-    ensures falls { IfOk result (λ round. round ≡ Ready → session.new.state.left < session.old.state.left) }
+    ensures falls { IfOk result (λ round. round ≡ Ready
+        → session.new.state.left < session.old.state.left) }
 {
     match session.procedures.pop() {
         Some(newest) => statement(alloc, world, session, extensions, newest),

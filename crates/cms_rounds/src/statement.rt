@@ -8,6 +8,7 @@ ghost use Rattle.cms_machine.specs.Acts.{Done, saying, typed_line};
 ghost use Rattle.cms_search.specs.Calls.{spot, spot_with, Acts, Does, IsUsable, itself, said};
 ghost use Rattle.cms_exec.specs.Exec.{stopped_code};
 ghost use Rattle.cms_ext.specs.Objects.{objects_of};
+ghost use Rattle.cms_files.specs.Stacking.{StacksSome};
 ghost use Rattle.cms_search.specs.Machine.{typing};
 ghost use Rattle.cms_text.specs.Numbers.{decimal_of};
 ghost use Rattle.cms_world.specs.Seen.{seen};
@@ -35,7 +36,8 @@ const STOPPED: i32 = 10_000;
 
 // The message of a fault.
 fn stopped(alloc: Global, exec: &Exec, number: u8, line: u32) -> Result<Message, AllocError>
-    ensures { IfOk result (λ message. message ≡ M085 exec.now.start.name (decimal_of line) (decimal_of number)) }
+    ensures { IfOk result (λ message. message
+        ≡ M085 exec.now.start.name (decimal_of line) (decimal_of number)) }
 {
     Ok(Message::M085(
         Word::of(alloc, exec.name().bytes())?,
@@ -53,7 +55,9 @@ fn tell_stop<W: World>(
     line: u32,
 ) -> Result<(), End>
     ensures { Does (seen W.World world.old) (seen W.World world.new)
-        (saying (typed_line (message_text (M085 exec.now.start.name (decimal_of line) (decimal_of number))))) result itself }
+        (saying (typed_line
+        (message_text (M085 exec.now.start.name (decimal_of line) (decimal_of number))))) result
+        itself }
 {
     let message = stopped(alloc, exec, number, line)?;
     say_message(alloc, world, message)
@@ -73,7 +77,8 @@ fn over<W: World>(
     exec: &Exec,
     want: &Want,
 ) -> Result<Option<i32>, End>
-    ensures { Does (seen W.World world.old) (seen W.World world.new) (spec.over exec.now want.now) result itself }
+    ensures { Does (seen W.World world.old) (seen W.World world.new)
+        (spec.over exec.now want.now) result itself }
 {
     match want {
         Want::Ended(code) => Ok(Some(*code)),
@@ -94,8 +99,10 @@ fn over<W: World>(
 
 // The ready line, which forgets the reading places.
 fn ready<W: World>(world: &mut W, session: &mut Session, code: i32) -> Result<Round, End>
-    ensures acts { Acts (spot W.World world.old session.old.state) (spot W.World world.new session.new.state)
+    ensures acts { Acts (spot W.World world.old session.old.state)
+        (spot W.World world.new session.new.state)
         (tree.ready_tree session.old code) result (round_of session.new) }
+    ensures stack { session.new.state.stack ≡ session.old.state.stack }
     ensures reader { session.new.reader ≡ session.old.reader }
     ensures offset { session.new.state.offset ≡ session.old.state.offset }
     ensures left { session.new.state.left ≡ session.old.state.left }
@@ -112,11 +119,13 @@ fn settle<W: World>(
     session: &mut Session,
     procedure: Exec,
 ) -> Result<Option<i32>, End>
-    ensures does { Does (seen W.World world.old) (seen W.World world.new) (tree.over_tree (spec.settled procedure)) result itself }
+    ensures does { Does (seen W.World world.old) (seen W.World world.new)
+        (tree.over_tree (spec.settled procedure)) result itself }
     ensures state { session.new.state ≡ session.old.state }
     ensures reader { session.new.reader ≡ session.old.reader }
     ensures procedures { IfOk result
-        (λ code. tree.procedures_of session.new ≡ waiting code (spec.settled procedure).0 (tree.procedures_of session.old)) }
+        (λ code. tree.procedures_of session.new
+        ≡ waiting code (spec.settled procedure).0 (tree.procedures_of session.old)) }
 {
     let mut procedure = procedure;
     let moment = procedure.moment();
@@ -140,8 +149,10 @@ fn give<W: World>(
     session: &mut Session,
     code: i32,
 ) -> Result<Round, End>
-    ensures acts { Acts (spot W.World world.old session.old.state) (spot W.World world.new session.new.state)
+    ensures acts { Acts (spot W.World world.old session.old.state)
+        (spot W.World world.new session.new.state)
         (tree.give_tree session.old code) result (round_of session.new) }
+    ensures stack { session.new.state.stack ≡ session.old.state.stack }
     ensures reader { session.new.reader ≡ session.old.reader }
     ensures offset { session.new.state.offset ≡ session.old.state.offset }
     ensures left { session.new.state.left ≤ session.old.state.left }
@@ -164,8 +175,10 @@ fn go_on<W: World>(
     session: &mut Session,
     procedure: Exec,
 ) -> Result<Round, End>
-    ensures acts { Acts (spot W.World world.old session.old.state) (spot W.World world.new session.new.state)
+    ensures acts { Acts (spot W.World world.old session.old.state)
+        (spot W.World world.new session.new.state)
         (tree.go_on_tree session.old procedure) result (round_of session.new) }
+    ensures stack { session.new.state.stack ≡ session.old.state.stack }
     ensures reader { session.new.reader ≡ session.old.reader }
     ensures offset { session.new.state.offset ≡ session.old.state.offset }
     ensures left { session.new.state.left ≤ session.old.state.left }
@@ -184,8 +197,10 @@ fn follow<W: World>(
     procedure: Exec,
     want: &Want,
 ) -> Result<Round, End>
-    ensures acts { Acts (spot W.World world.old session.old.state) (spot W.World world.new session.new.state)
+    ensures acts { Acts (spot W.World world.old session.old.state)
+        (spot W.World world.new session.new.state)
         (tree.follow_tree session.old procedure want.now) result (round_of session.new) }
+    ensures stack { session.new.state.stack ≡ session.old.state.stack }
     ensures reader { session.new.reader ≡ session.old.reader }
     ensures offset { session.new.state.offset ≡ session.old.state.offset }
     ensures left { session.new.state.left ≤ session.old.state.left }
@@ -205,7 +220,8 @@ pub fn answer<W: World>(
     session: &mut Session,
     issued: Issued,
 ) -> Result<Round, End>
-    ensures acts { Acts (spot W.World world.old session.old.state) (spot W.World world.new session.new.state)
+    ensures acts { Acts (spot W.World world.old session.old.state)
+        (spot W.World world.new session.new.state)
         (tree.answer_tree session.old issued) result (round_of session.new) }
     ensures reader { session.new.reader ≡ session.old.reader }
     ensures offset { session.new.state.offset ≡ session.old.state.offset }
@@ -222,7 +238,8 @@ pub fn answer<W: World>(
 
 // Types lines.
 fn say_lines<W: World>(world: &mut W, lines: &Lines) -> Result<(), End>
-    ensures { Does (seen W.World world.old) (seen W.World world.new) (typing lines.now (Done tt)) result said }
+    ensures { Does (seen W.World world.old) (seen W.World world.new)
+        (typing lines.now (Done tt)) result said }
 {
     for line in lines.as_slice() {
         say(world, line.bytes())?;
@@ -238,7 +255,8 @@ fn type_lines<W: World>(
     procedure: Exec,
     lines: &Lines,
 ) -> Result<Round, End>
-    ensures acts { Acts (spot W.World world.old session.old.state) (spot W.World world.new session.new.state)
+    ensures acts { Acts (spot W.World world.old session.old.state)
+        (spot W.World world.new session.new.state)
         (tree.type_tree session.old procedure lines.now) result (round_of session.new) }
     ensures reader { session.new.reader ≡ session.old.reader }
     ensures offset { session.new.state.offset ≡ session.old.state.offset }
@@ -257,7 +275,8 @@ fn end_of(side: Side) -> StackEnd
     }
 }
 
-// Lines are stacked; where they don't all fit none is, which is a fault.
+// Lines are stacked; where they don't all fit none is, which is a fault. Without memory for one of
+// them those before it stay stacked.
 fn stack<W: World>(
     alloc: Global,
     world: &mut W,
@@ -266,8 +285,11 @@ fn stack<W: World>(
     lines: &Lines,
     side: Side,
 ) -> Result<Round, End>
-    ensures acts { Acts (spot W.World world.old session.old.state) (spot W.World world.new session.new.state)
+    ensures acts { Acts (spot W.World world.old session.old.state)
+        (spot W.World world.new session.new.state)
         (tree.stack_tree session.old procedure lines.now side) result (round_of session.new) }
+    ensures stack { StacksSome (spec.end_of side) lines.now
+        session.old.state.stack session.new.state.stack }
     ensures reader { session.new.reader ≡ session.old.reader }
     ensures offset { session.new.state.offset ≡ session.old.state.offset }
     ensures left { session.new.state.left ≤ session.old.state.left }
@@ -290,7 +312,8 @@ fn read<W: World>(
     session: &mut Session,
     procedure: Exec,
 ) -> Result<Round, End>
-    ensures acts { Acts (spot W.World world.old session.old.state) (spot W.World world.new session.new.state)
+    ensures acts { Acts (spot W.World world.old session.old.state)
+        (spot W.World world.new session.new.state)
         (tree.read_tree session.old procedure) result (round_of session.new) }
     ensures reader { session.new.reader ≡ session.old.reader }
     ensures offset { session.new.state.offset ≡ session.old.state.offset }
@@ -318,9 +341,12 @@ fn command<W: World>(
     requires usable { IsUsable (spot W.World world.old session.old.state) }
     requires moment { is_moment session.old.state.moment ≡ true }
     requires offset { IsOffset session.old.state.offset }
-    ensures acts { Acts (spot_with W.World world.old session.old.state (objects_of ⟦<dyn Extension as Extension>⟧ extensions.old))
-        (spot_with W.World world.new session.new.state (objects_of ⟦<dyn Extension as Extension>⟧ extensions.new))
-        (tree.issued_tree session.old (objects_of ⟦<dyn Extension as Extension>⟧ extensions.old) procedure line.now)
+    ensures acts { Acts (spot_with W.World world.old session.old.state
+        (objects_of ⟦<dyn Extension as Extension>⟧ extensions.old))
+        (spot_with W.World world.new session.new.state
+        (objects_of ⟦<dyn Extension as Extension>⟧ extensions.new))
+        (tree.issued_tree session.old
+        (objects_of ⟦<dyn Extension as Extension>⟧ extensions.old) procedure line.now)
         result (passed_of session.new (objects_of ⟦<dyn Extension as Extension>⟧ extensions.new)) }
     ensures offset { session.new.state.offset ≡ session.old.state.offset }
     ensures left { session.new.state.left ≤ session.old.state.left }
@@ -354,9 +380,12 @@ fn subcommand<W: World>(
     requires usable { IsUsable (spot W.World world.old session.old.state) }
     requires moment { is_moment session.old.state.moment ≡ true }
     requires offset { IsOffset session.old.state.offset }
-    ensures acts { Acts (spot_with W.World world.old session.old.state (objects_of ⟦<dyn Extension as Extension>⟧ extensions.old))
-        (spot_with W.World world.new session.new.state (objects_of ⟦<dyn Extension as Extension>⟧ extensions.new))
-        (tree.sent_tree session.old (objects_of ⟦<dyn Extension as Extension>⟧ extensions.old) procedure word.now text)
+    ensures acts { Acts (spot_with W.World world.old session.old.state
+        (objects_of ⟦<dyn Extension as Extension>⟧ extensions.old))
+        (spot_with W.World world.new session.new.state
+        (objects_of ⟦<dyn Extension as Extension>⟧ extensions.new))
+        (tree.sent_tree session.old
+        (objects_of ⟦<dyn Extension as Extension>⟧ extensions.old) procedure word.now text)
         result (passed_of session.new (objects_of ⟦<dyn Extension as Extension>⟧ extensions.new)) }
     ensures offset { session.new.state.offset ≡ session.old.state.offset }
     ensures left { session.new.state.left ≤ session.old.state.left }
@@ -380,9 +409,12 @@ fn meet<W: World>(
     requires usable { IsUsable (spot W.World world.old session.old.state) }
     requires moment { is_moment session.old.state.moment ≡ true }
     requires offset { IsOffset session.old.state.offset }
-    ensures acts { Acts (spot_with W.World world.old session.old.state (objects_of ⟦<dyn Extension as Extension>⟧ extensions.old))
-        (spot_with W.World world.new session.new.state (objects_of ⟦<dyn Extension as Extension>⟧ extensions.new))
-        (tree.meet_tree session.old (objects_of ⟦<dyn Extension as Extension>⟧ extensions.old) procedure want)
+    ensures acts { Acts (spot_with W.World world.old session.old.state
+        (objects_of ⟦<dyn Extension as Extension>⟧ extensions.old))
+        (spot_with W.World world.new session.new.state
+        (objects_of ⟦<dyn Extension as Extension>⟧ extensions.new))
+        (tree.meet_tree session.old
+        (objects_of ⟦<dyn Extension as Extension>⟧ extensions.old) procedure want)
         result (passed_of session.new (objects_of ⟦<dyn Extension as Extension>⟧ extensions.new)) }
     ensures offset { session.new.state.offset ≡ session.old.state.offset }
     ensures left { session.new.state.left ≤ session.old.state.left }
@@ -419,12 +451,16 @@ pub fn statement<W: World>(
 ) -> Result<Round, End>
     requires usable { IsUsable (spot W.World world.old session.old.state) }
     requires offset { IsOffset session.old.state.offset }
-    ensures acts { Acts (spot_with W.World world.old session.old.state (objects_of ⟦<dyn Extension as Extension>⟧ extensions.old))
-        (spot_with W.World world.new session.new.state (objects_of ⟦<dyn Extension as Extension>⟧ extensions.new))
-        (tree.statement_tree session.old (objects_of ⟦<dyn Extension as Extension>⟧ extensions.old) procedure)
+    ensures acts { Acts (spot_with W.World world.old session.old.state
+        (objects_of ⟦<dyn Extension as Extension>⟧ extensions.old))
+        (spot_with W.World world.new session.new.state
+        (objects_of ⟦<dyn Extension as Extension>⟧ extensions.new))
+        (tree.statement_tree session.old
+        (objects_of ⟦<dyn Extension as Extension>⟧ extensions.old) procedure)
         result (passed_of session.new (objects_of ⟦<dyn Extension as Extension>⟧ extensions.new)) }
     ensures offset { session.new.state.offset ≡ session.old.state.offset }
-    ensures falls { IfOk result (λ round. round ≡ Ready → session.new.state.left < session.old.state.left) }
+    ensures falls { IfOk result (λ round. round ≡ Ready
+        → session.new.state.left < session.old.state.left) }
 {
     let mut procedure = procedure;
     if session.state.left == 0 {

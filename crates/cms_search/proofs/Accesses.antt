@@ -1,5 +1,5 @@
 -- What an access of a volume comes to.
-use Rattle.std.proofs.Common.{◌≡◌, ◌≢◌, ◌<◌, ◌∙◌, ⊎_elim, inr, ℕ, List, [], ◌∷◌, Bool, true, false, Option, Some, None, Result, Ok, Err, length, slice_get, refl, sym, ap, subst, arith}
+use Rattle.std.proofs.Common.{◌≡◌, ◌≢◌, ◌<◌, ◌∙◌, ⊎_elim, inl, inr, ℕ, List, [], ◌∷◌, Bool, true, false, Option, Some, None, Result, Ok, Err, length, slice_get, refl, sym, ap, subst, arith}
 use Rattle.std.specs.Prelude.{⊤, ◌==◌, ◌||◌, ◌↔◌, if◌then◌else◌, IfErr, IfSome, OnErr, not, is_some, option_map}
 use Rattle.std.specs.Option.{ForSome, option_and_then, option_map_or}
 use Rattle.std.proofs.lemmas.Bool.{eqb-true}
@@ -12,13 +12,14 @@ use Rattle.cms_journal.specs.Told.{Told, plus}
 use Rattle.cms_journal.proofs.Counts.{counted_none, counted_one}
 use Rattle.cms_journal.proofs.Pieces.{plus-some}
 use Rattle.cms_model.specs.Trees.{Image}
+use Rattle.cms_model.specs.Minidisks as model
 use Rattle.cms_model.specs.Minidisks.{Minidisk, Not, Volume}
 use Rattle.cms_model.specs.Volumes.{Disk, reason, state_of}
 use Rattle.cms_model.specs.LawsSizes.{IsWhole}
 use Rattle.cms_model.specs.LawsUpdates.{after, now}
 use Rattle.cms_model.specs.declared.fault.OpenFault.{OpenFault}
 use Rattle.cms_model.specs.declared.fault.OpenFault.TheVariants as failed
-use Rattle.cms_machine.specs.Slots.{Doubt, Settled, Slot, state_in}
+use Rattle.cms_machine.specs.Slots.{After, Before, Doubt, IsAmong, Settled, Slot, set_of, state_in}
 use Rattle.cms_machine.specs.Steps.{Access, Outcome, Good, MayAccess, ReadFault, SyncFault, access_syncs, after_access, faults_in}
 use Rattle.cms_machine.specs.Acts.{Act, Done, Does}
 use Rattle.cms_machine.specs.Runs.{Ran}
@@ -48,7 +49,7 @@ use Rattle.cms_search.specs.declared.state.End.{End}
 use Rattle.cms_search.specs.declared.state.End.TheVariants.{Memory}
 use Rattle.cms_search.specs.declared.state.State.{State}
 use Rattle.cms_search.specs.declared.table.Seat.{Seat}
-use Rattle.cms_search.proofs.Frames.{holds_touched}
+use Rattle.cms_search.proofs.Frames.{holds_touched, same_unit}
 use Rattle.cms_search.proofs.Holding.{holds_some, usable_grown}
 use Rattle.cms_search.proofs.Released.{disk_none, get_map, holds_left, letter_told, quiet_seated, unit_told, vdev_is}
 use Rattle.cms_search.proofs.Seats.{item_here}
@@ -456,16 +457,54 @@ disk_found old w vdev n ext u disk l below = record {
 
 -- ---- there was no memory
 
+own_state : (slot : Slot) → IsAmong (state_in slot) (set_of slot)
+own_state (Settled state) = inl refl
+own_state (Doubt before later Before) = inl refl
+own_state (Doubt before later After) = inr (inl refl)
+
+stands_starved : (j : Journal) (u : ℕ) (unit : UnitInfo) (slot : Slot) (doubt : Bool) (seat : Option Seated) → StandsAs j u unit slot doubt seat
+    → StandsAs (after j (sync_of doubt u)) u unit slot doubt seat
+stands_starved j u unit slot true seat stands = stands
+stands_starved j u unit slot false seat stands = stands
+
+-- a unit in doubt stays so behind a good sync, whose slot has the state still
+holds_starved : (j : Journal) (units : List Slot) (t : Accesses) (u : ℕ) (unit : UnitInfo) (doubt : Bool) (line : HoldsUnit j units t u unit) → HoldsTable j units t
+    → slice_get t.units u ≡ Some unit → slice_get t.doubts u ≡ Some doubt → StandsAs j u unit line.slot doubt (disk_of_unit u t.seats) → IsSure j (sync_of doubt u) u line.slot
+    → HoldsTable (after j (sync_of doubt u)) units t
+holds_starved j units t u unit doubt line h has mark stands s =
+    holds_touched j (sync_of doubt u) units units t t u unit (sync_own doubt u) h.table refl refl has (λ v apart. same_unit units t v)
+    (record {
+      number = line.number;
+      blocks = line.blocks;
+      writable = line.writable;
+      seen = line.seen;
+      whole = subst (λ (i : Image). IsWhole (disk_on unit) i) (sym s.image) line.whole;
+      slot = line.slot;
+      there = line.there;
+      doubt = doubt;
+      marked = mark;
+      stands = stands_starved j u unit line.slot doubt (disk_of_unit u t.seats) stands;
+      crash = λ x left. subst (λ (y : model.State). IsAmong y (set_of line.slot)) (sym (s.crash x left)) (own_state line.slot);
+      has = s.has;
+    })
+    h
+
 starved : (old : Spot) (w : Seen) (vdev n : ℕ) (ext : Option ℕ) (u : ℕ) (l : Looked old w vdev n ext u (Err (Open failed.Memory)))
     → Acts {T = AccessEnd} old (spot_at w old.state) (accessing_tree old.state vdev n ext) (Err Memory) (beside old.state itself)
 starved old w vdev n ext u l = record {
   each = λ units h.
       let d = line_of old units u l.unit l.doubt l.has l.mark h in
-      let grown = grown_to old w vdev n ext u (Err (Open failed.Memory)) l units d tt in
+      let then' = then_of old w vdev n ext u (Err (Open failed.Memory)) l units d tt in
       let tree = tree_is old w vdev n ext u (Err (Open failed.Memory)) l units d in
-      (units, rw tree (sure_broke (at old units) (at (spot_at w old.state) units) d.journal l.doubt u d.line.slot _ d.told grown d.line.there refl d.marked d.sure l.changes.faults));
+      let held = holds_starved d.journal units old.state.table u l.unit l.doubt d.line d.table l.has l.mark d.stands d.sure in (
+        units,
+        (
+          subst (λ (t : Told). Holds t old.state.table units) (sym then'.told) held,
+          rw tree (sure_broke (at old units) (at (spot_at w old.state) units) d.journal l.doubt u d.line.slot _ d.told then'.grown d.line.there refl d.marked d.sure l.changes.faults),
+        ),
+      );
   later = later_changes old.world w l.changes;
-  usable = λ u. tt;
+  usable = λ usable. usable_grown old.world.told w.told old.state.table l.changes.grown usable;
   cause = λ edge. absurd (cc);
 }
 

@@ -99,12 +99,20 @@ acts_talks old new t (Ok x) d table talks =
       usable = usable_later old new later table;
       cause = tt;
     }
-acts_talks {T = T} old new t (Err e) d table talks = record {
-  each = λ units h. (units, plays_talks {T = T} old new (t units) (Err e) (d units) units (talks units));
-  later = later_talks {T = T} old.world new.world old.state.console new.state.console (t []) (Err e) (d []) (talks []);
-  usable = λ u. tt;
-  cause = (talks []).cause;
-}
+acts_talks {T = T} old new t (Err e) d table talks =
+    let later = later_talks {T = T} old.world new.world old.state.console new.state.console (t []) (Err e) (d []) (talks []) in
+    record {
+      each = λ units h. (
+        units,
+        (
+          rw table (holds_idle old.world.told new.world.told old.state.table units (talks units).idle h),
+          plays_talks {T = T} old new (t units) (Err e) (d units) units (talks units),
+        ),
+      );
+      later = later;
+      usable = usable_later old new later table;
+      cause = (talks []).cause;
+    }
 
 -- ---- parts of a call
 
@@ -168,9 +176,9 @@ acts_done old new t x d g = record { each = g.each; later = g.later; usable = g.
 pub acts_here : {R T : Type 0} {a b : List Object} (old : SpotWith a) (new : SpotWith b) (t u : List Slot → Act R) (e : End) (d : Meaning T R) → Comes old new t u
     → (e ≡ Edge → Rose old.world.edges new.world.edges) → Acts old new t (Err e) d
 acts_here old new t u e d g cause = record {
-  each = λ units h. let x = g.each units h in (x.0, broke_here x.1.1);
+  each = λ units h. let x = g.each units h in (x.0, (x.1.0, broke_here x.1.1));
   later = g.later;
-  usable = λ u. tt;
+  usable = g.usable;
   cause = cause;
 }
 
@@ -186,9 +194,9 @@ acts_after old mid new t u (Ok x) d g a = record {
   cause = tt;
 }
 acts_after old mid new t u (Err e) d g a = record {
-  each = λ units h. let y = g.each units h in let z = a.each y.0 y.1.0 in (z.0, broke_then y.1.1 z.1);
+  each = λ units h. let y = g.each units h in let z = a.each y.0 y.1.0 in (z.0, (z.1.0, broke_then y.1.1 z.1.1));
   later = later_then old.world mid.world new.world g.later a.later;
-  usable = λ u. tt;
+  usable = λ u. a.usable (g.usable u);
   cause = λ edge. rose_from old.world.edges mid.world.edges new.world.edges g.later.edges (a.cause edge);
 }
 
@@ -201,30 +209,41 @@ acts_same old new t u r d same a = acts_after old old new t u r d (comes_same ol
 pub acts_stop : {A R T U : Type 0} {a b : List Object} (old : SpotWith a) (new : SpotWith b) (s : List Slot → Act A) (f : A → Act R) (e : End) (d : Meaning T A) (d' : Meaning U R) → Acts old new s (Err e) d
     → Acts old new (λ units. bind (s units) f) (Err e) d'
 acts_stop old new s f e d d' a = record {
-  each = λ units h. let x = a.each units h in (x.0, broke_bind f x.1);
+  each = λ units h. let x = a.each units h in (x.0, (x.1.0, broke_bind f x.1.1));
   later = a.later;
-  usable = λ u. tt;
+  usable = a.usable;
   cause = a.cause;
 }
 
 pub does_stop : {A R T U : Type 0} {os : List Object} (old new : SpotWith os) (s : Act A) (f : List Slot → A → Act R) (e : End) (d : T → A) (d' : Meaning U R)
     → Does {T = T} old.world new.world s (Err e) d → new.state ≡ old.state → Acts {T = U} old new (λ units. bind s (f units)) (Err e) d'
-does_stop {T = T} old new s f e d d' c same = record {
-  each = λ units h. (units, broke_bind (f units) (plays_does {T = T} old new s (Err e) d units c same));
-  later = later_does old.world new.world s (Err e) d c;
-  usable = λ u. tt;
-  cause = c.cause;
-}
+does_stop {T = T} old new s f e d d' c same =
+    let later = later_does {T = T} old.world new.world s (Err e) d c in
+    let table : new.state.table ≡ old.state.table = rw same refl in
+    record {
+      each = λ units h. (
+        units,
+        (
+          holds_does {T = T} old new s (Err e) d units c table h,
+          broke_bind (f units) (plays_does {T = T} old new s (Err e) d units c same),
+        ),
+      );
+      later = later;
+      usable = usable_later old new later table;
+      cause = c.cause;
+    }
 
 -- there was no memory, and nothing was done
 pub cut_off : {R T : Type 0} {os : List Object} (old new : SpotWith os) (t : List Slot → Act R) (d : Meaning T R) → new.world.told ≡ old.world.told → old.world.faults ≤ new.world.faults
-    → old.world.edges ≤ new.world.edges → Acts {T = T} old new t (Err Memory) d
-cut_off old new t d told faults edges = record {
-  each = λ units h. (units, broke_before (at old units) (at new units) (t units) told faults refl);
-  later = record { grown = grown_same old.world.told new.world.told told; faults = faults; edges = edges };
-  usable = λ u. tt;
-  cause = λ edge. absurd (cc);
-}
+    → old.world.edges ≤ new.world.edges → new.state.table ≡ old.state.table → Acts {T = T} old new t (Err Memory) d
+cut_off old new t d told faults edges table =
+    let later : IsLater old.world new.world = record { grown = grown_same old.world.told new.world.told told; faults = faults; edges = edges } in
+    record {
+      each = λ units h. (units, (rw (table, told) h, broke_before (at old units) (at new units) (t units) told faults refl));
+      later = later;
+      usable = usable_later old new later table;
+      cause = λ edge. absurd (cc);
+    }
 
 -- ---- refusals
 

@@ -18,7 +18,9 @@ acts_beside os old new t (Ok x) d a = record {
   cause = a.cause;
 }
 acts_beside os old new t (Err e) d a = record {
-  each = λ units h. let y = a.each units h in (y.0, broke_beside os (at old units) (at new y.0) (t units) y.1 refl);
+  each = λ units h.
+      let y = a.each units h in
+      (y.0, (y.1.0, broke_beside os (at old units) (at new y.0) (t units) y.1.1 refl));
   later = a.later;
   usable = λ u. a.usable u;
   cause = a.cause;

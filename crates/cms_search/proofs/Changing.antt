@@ -26,7 +26,9 @@ use Rattle.cms_machine.proofs.Single.{ran_step}
 use Rattle.cms_line.specs.ConsoleState.{ConsoleState}
 use Rattle.cms_disk.specs.Disks.{Accessed, IsLookedAt, IsMinidisk, IsOn, disk_on}
 use Rattle.cms_disk.specs.Changing.{Altered, Changes, Doubted, HasState, IsOnSame, IsWholeAt, Kept}
+use Rattle.cms_disk.specs.Leaving.{LooksAs}
 use Rattle.cms_disk.specs.declared.unit.UnitInfo.{UnitInfo}
+use Rattle.cms_disk.proofs.Leaving.{covers_looked}
 use Rattle.cms_disk.proofs.Standing.{state_stands}
 use Rattle.cms_search.specs.Calls.{Spot, Holds, at}
 use Rattle.cms_search.specs.Held.{HoldsTable, IsDoubtSlot, StandsAs, disk_of}
@@ -77,6 +79,19 @@ looked_changed old new j later d e es is told' told same disk looked unit has =
     let there : slice_get j.units e.volume.unit ≡ Some unit = ap (λ (us : List Attached). slice_get us e.volume.unit) (sym units) ∙ has in
     looked unit (subst (λ (v : ℕ). slice_get j.units v ≡ Some unit) same there) ∙ sym disk
 
+-- ---- the change of a letter's disk
+
+-- the piece of the journal that a change of the disk made
+abbrev pub SeatChanges : Told → Told → Seated → Minidisk → Change → Stamp → Outcome → Type 0
+SeatChanges old new s m change stamp o = Changes old new s.disk.volume.disk s.letter.unit m change stamp o
+
+-- it is covered for the machine too
+covers_seat : (old new : Told) (j : Journal) (s : Seated) → s.disk.volume.unit ≡ s.letter.unit → IsLookedAt j s.disk → (m : Minidisk) (change : Change) (stamp : Stamp) (o : Outcome) → old ≡ Some j
+    → (c : SeatChanges old new s m change stamp o) → Covers old c.events s.letter.unit (Volume m ∷ []) (set_of (changed_slot s.letter.unit m change stamp o))
+covers_seat old new j s own looked m change stamp o is c =
+    covers_looked s.disk.volume.disk old j c.events s.letter.unit (Volume m ∷ []) (set_of (changed_slot s.letter.unit m change stamp o)) is
+    (subst (λ (v : ℕ). LooksAs j v s.disk.volume.disk) own looked) c.covers
+
 -- ---- what is held
 
 -- what the disk's unit is after it was changed, with this table and this mark
@@ -91,7 +106,7 @@ abbrev pub KeepsOthers : Accesses → Accesses → ℕ → Type 0
 KeepsOthers t t' u = (v : ℕ) → u ≢ v → (slice_get t'.doubts v ≡ slice_get t.doubts v) × (disk_of v t'.seats ≡ disk_of v t.seats)
 
 pub holds_changed : (old new : Told) (j : Journal) (units : List Slot) (t t' : Accesses) (s : Seated) (met : Met j units t s) (change : Change) (stamp : Stamp) (o : Outcome)
-    → old ≡ Some j → HoldsTable j units t → (c : Changes old new s.letter.unit met.minidisk change stamp o) → IsNow new s.letter.unit met.minidisk change stamp o
+    → old ≡ Some j → HoldsTable j units t → (c : SeatChanges old new s met.minidisk change stamp o) → IsNow new s.letter.unit met.minidisk change stamp o
     → IsTable t' → t'.units ≡ t.units → KeepsOthers t t' s.letter.unit
     → ((later : Journal) → new ≡ Some later → IsThen j later units t t' s met (changed_slot s.letter.unit met.minidisk change stamp o))
     → Holds new t' (changed_units units s.letter.unit met.minidisk change stamp o)
@@ -116,7 +131,7 @@ holds_changed old new j units t t' s met change stamp o is h c now' table same o
       doubt = l.doubt;
       marked = l.marked;
       stands = l.stands;
-      crash = λ x left. c.covers.whole x (subst (λ (t : Told). Leaves t u x) (sym told ∙ c.told) left);
+      crash = λ x left. (covers_seat old new j s met.own met.looked m change stamp o is c).whole x (subst (λ (t : Told). Leaves t u x) (sym told ∙ c.told) left);
       has = λ x has. now' x (subst (λ (t : Told). HasNow t u x) (sym told) has);
     })
     h)
@@ -203,27 +218,30 @@ then_doubt j later units t n s met slot is at whole doubt = record {
 
 -- the piece of the journal and what is held behind it, with this table
 pub record Steps (old new : Told) (j : Journal) (units : List Slot) (t t' : Accesses) (s : Seated) (met : Met j units t s) (change : Change) (stamp : Stamp) (o : Outcome) : Type 0 where
-  pub changes : Changes old new s.letter.unit met.minidisk change stamp o
+  pub changes : SeatChanges old new s met.minidisk change stamp o
+  pub covers : Covers old changes.events s.letter.unit (Volume met.minidisk ∷ []) (set_of (changed_slot s.letter.unit met.minidisk change stamp o))
   pub now' : IsNow new s.letter.unit met.minidisk change stamp o
   pub holds : Holds new t' (changed_units units s.letter.unit met.minidisk change stamp o)
 
 -- where the disk is a minidisk then
 pub steps_with : (old new : Told) (j later : Journal) (units : List Slot) (t : Accesses) (n : ℕ) (s : Seated) (e : Accessed) (met : Met j units t s) (change : Change) (stamp : Stamp) (o : Outcome)
     (m : Minidisk) → old ≡ Some j → new ≡ Some later → HoldsTable j units t → item_at t.seats n ≡ Some s → IsOnSame s.disk e → IsMinidisk later e m
-    → Changes old new e.volume.unit met.minidisk change stamp o → changed_slot s.letter.unit met.minidisk change stamp o ≡ Settled (Volume m)
+    → Changes old new e.volume.disk e.volume.unit met.minidisk change stamp o → changed_slot s.letter.unit met.minidisk change stamp o ≡ Settled (Volume m)
     → Steps old new j units t (table_with t n s e) s met change stamp o
 steps_with old new j later units t n s e met change stamp o m is told h at same there c slot =
     let u = s.letter.unit in
     let unit : e.volume.unit ≡ u = same.unit ∙ met.own in
-    let changes = subst (λ (v : ℕ). Changes old new v met.minidisk change stamp o) unit c in
-    let changes' = subst (λ (v : ℕ). Changes old new v met.minidisk change stamp o) same.unit c in
-    let looked = looked_changed old new j later s.disk e changes'.events is told changes'.told same.unit same.disk met.looked in
+    let changes : SeatChanges old new s met.minidisk change stamp o =
+    subst (λ (v : ℕ). Changes old new s.disk.volume.disk v met.minidisk change stamp o) unit
+    (subst (λ (b : volumes.Disk). Changes old new b e.volume.unit met.minidisk change stamp o) same.disk c) in
+    let looked = looked_changed old new j later s.disk e changes.events is told changes.told same.unit same.disk met.looked in
     let now' : IsNow new u met.minidisk change stamp o = λ x has.
     ap state_in slot
     ∙ state_seen later e x (Volume m) looked (state_stands (now later e.volume.unit) e m there.stands)
     (subst (λ (v : ℕ). HasNowIn later v x) (sym unit) (subst (λ (k : Told). HasNow k u x) told has)) in
     record {
       changes = changes;
+      covers = covers_seat old new j s met.own met.looked met.minidisk change stamp o is changes;
       now' = now';
       holds = holds_changed old new j units t (table_with t n s e) s met change stamp o is h changes now' (is_table_with t n s e h.table at) refl (others_with t n s e h.table at)
           (λ k told'. then_minidisk j k units t n s e met (changed_slot u met.minidisk change stamp o) m h.table at same slot
@@ -253,7 +271,8 @@ pub steps_doubted : (old new : Told) (j : Journal) (units : List Slot) (t : Acce
 steps_doubted old new j units t n s met change stamp is h at d =
     let u = s.letter.unit in
     let o = EitherFault d.side in
-    let changes = subst (λ (v : ℕ). Changes old new v met.minidisk change stamp o) met.own d.changes in
+    let changes : SeatChanges old new s met.minidisk change stamp o =
+    subst (λ (v : ℕ). Changes old new s.disk.volume.disk v met.minidisk change stamp o) met.own d.changes in
     let later = after j changes.events in
     let told = told_after old new j changes.events is changes.told in
     let looked = looked_changed old new j later s.disk s.disk changes.events is told changes.told refl refl met.looked in
@@ -266,6 +285,7 @@ steps_doubted old new j units t n s met change stamp is h at d =
     (subst (λ (v : ℕ). HasNowIn later v x) (sym met.own) (subst (λ (k : Told). HasNow k u x) told has)) in
     record {
       changes = changes;
+      covers = covers_seat old new j s met.own met.looked met.minidisk change stamp o is changes;
       now' = now';
       holds = holds_changed old new j units t (doubted n u t) s met change stamp o is h changes now' (table_doubted t n s h.table at) refl (others_doubted t n s h.table at)
           (λ k told'. then_doubt j k units t n s met (changed_slot u met.minidisk change stamp o) h.table at
@@ -277,15 +297,16 @@ steps_doubted old new j units t n s met change stamp is h at d =
 -- ---- the step
 
 -- a minidisk was changed, with this outcome
-pub change_ran : {R : Type 0} (old new : Spot) (units : List Slot) (u : ℕ) (m : Minidisk) (change : Change) (stamp : Stamp) (o : Outcome) (k : Outcome → Act R)
-    → slice_get units u ≡ Some (Settled (Volume m)) → Changes old.world.told new.world.told u m change stamp o → IsNow new.world.told u m change stamp o
+pub change_ran : {R : Type 0} (old new : Spot) (units : List Slot) (disk : volumes.Disk) (u : ℕ) (m : Minidisk) (change : Change) (stamp : Stamp) (o : Outcome) (k : Outcome → Act R)
+    → slice_get units u ≡ Some (Settled (Volume m)) → (c : Changes old.world.told new.world.told disk u m change stamp o)
+    → Covers old.world.told c.events u (Volume m ∷ []) (set_of (changed_slot u m change stamp o)) → IsNow new.world.told u m change stamp o
     → Counted old.world.faults (faults_in (o ∷ [])) new.world.faults → new.state.console ≡ old.state.console
     → Ran (at old units) (at new (changed_units units u m change stamp o)) (Does (Put u m change stamp) k) (k o)
-change_ran old new units u m change stamp o k there c now counted console =
+change_ran old new units disk u m change stamp o k there c covered now counted console =
     let slot = there_after units u m change stamp o there in
     let before : unit_set units u ≡ Volume m ∷ [] = rw there refl in
     let behind : unit_set (changed_units units u m change stamp o) u ≡ set_of (changed_slot u m change stamp o) = rw slot refl in
-    let covers : Covers old.world.told c.events u (unit_set units u) (unit_set (changed_units units u m change stamp o) u) = rw (before, behind) c.covers in
+    let covers : Covers old.world.told c.events u (unit_set units u) (unit_set (changed_units units u m change stamp o) u) = rw (before, behind) covered in
     ran_step (at old units) (at new (changed_units units u m change stamp o)) (Put u m change stamp) o k c.events c.told counted c.of_unit c.fits there refl
     (record { unread = ap (λ (s : ConsoleState). s.unread) console; ended = ap (λ (s : ConsoleState). s.ended) console }) refl (λ sound. covers)
     (λ sound x has. ap (λ (z : Option Slot). option_map state_in z) slot ∙ ap (λ (y : State). Some y) (now x has))

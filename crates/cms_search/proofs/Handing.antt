@@ -339,12 +339,12 @@ wanted_with n all front more text is low =
 -- it was cut off in what is done with a record
 pub read_stops : {R T : Type 0} (run : ℕ → List (List ℕ) → Act R → Act R) (one : ℕ → List ℕ → Act R → Act R) (old mid new : Spot) (first c d : Reading) (t : List Slot → Act R)
     (u : ℕ) (wanted : File → ℕ) (then' : List Slot → File → Outcome → Act R) (rest : List Slot → Act R) (e : End) (done : Meaning T R) → IsEach run one
-    → Reads old first t u wanted then' → (h : Handed run old.world mid.world first c) → Hands mid.world.told c d (Ok true) → IsLater mid.world new.world → new.state ≡ old.state
+    → Reads old first t u wanted then' → (h : Handed run old.world mid.world first c) → Hands mid.world.told c d (Ok true) → Passes mid.world new.world → new.state ≡ old.state
     → AreAmong wanted (h.front ++ text_of d ∷ []) → ((units : List Slot) (f : File) → then' units f Good ≡ run 0 (take (wanted f) f.records) (rest units))
     → ((next : Act R) (p : Point) → p.journal ≡ mid.world.told → Broke p (after_world p new.world) (one (length h.front) (text_of d) next))
     → (e ≡ Edge → Rose mid.world.edges new.world.edges) → Acts {T = T} old new t (Err e) done
-read_stops run one old mid new first c d t u wanted then' rest e done each reads h hands later same among is stops cause =
-    let all_later = later_then old.world mid.world new.world h.passes.later later in
+read_stops run one old mid new first c d t u wanted then' rest e done each reads h hands passes same among is stops cause =
+    let all_passes = passes_then old.world mid.world new.world h.passes passes in
     let k = length h.front in
     record {
       each = λ units held.
@@ -363,12 +363,17 @@ read_stops run one old mid new first c d t u wanted then' rest e done each reads
           let goes : Goes old.world mid.world (then' units r.file Good) (one k text left) =
           subst (λ (z : Act _). Goes old.world mid.world z (one k text left)) (sym good) (h.goes (one k text left)) in
           let begun = get_first (at old units) p old.world mid.world u r.file (wanted r.file) Good (then' units r.file) (one k text left) r.offers tt
-          (counted_none old.world.faults new.world.faults all_later.faults) refl refl goes in
+          (counted_none old.world.faults new.world.faults all_passes.later.faults) refl refl goes in
           let broke : Broke p (at new units) (one k text left) =
-          subst (λ (z : Point). Broke p z (one k text left)) (sym (at_same old new units same)) (stops left p refl) in
-          (units, subst (λ (z : Act _). Broke (at old units) (at new units) z) (sym r.tree) (broke_then begun broke));
-      later = all_later;
-      usable = λ usable. tt;
+          subst (λ (z : Point). Broke p z (one k text left)) (sym (at_same old new units same)) (stops left p refl) in (
+            units,
+            (
+              holds_same old new units same all_passes held,
+              subst (λ (z : Act _). Broke (at old units) (at new units) z) (sym r.tree) (broke_then begun broke),
+            ),
+          );
+      later = all_passes.later;
+      usable = usable_later old new all_passes.later (ap (λ (s : State). s.table) same);
       cause = λ edge. rose_from old.world.edges mid.world.edges new.world.edges h.passes.later.edges (cause edge);
     }
 
@@ -376,16 +381,10 @@ read_stops run one old mid new first c d t u wanted then' rest e done each reads
 
 pub acts_never : {R T : Type 0} (old new : Spot) (t : List Slot → Act R) (r : Result T End) (d : Meaning T R) → ((units : List Slot) → holds old units → ⊥)
     → IsLater old.world new.world → (IsUsable old → IsUsable new) → IfErr r (λ e. e ≡ Edge → Rose old.world.edges new.world.edges) → Acts old new t r d
-acts_never old new t (Ok x) d never later usable cause = record {
+acts_never old new t r d never later usable cause = record {
   each = λ units held. absurd (never units held);
   later = later;
   usable = usable;
-  cause = tt;
-}
-acts_never old new t (Err e) d never later usable cause = record {
-  each = λ units held. absurd (never units held);
-  later = later;
-  usable = λ u. tt;
   cause = cause;
 }
 

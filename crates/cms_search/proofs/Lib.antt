@@ -10,6 +10,7 @@ pub mod Ready
 pub mod Reading
 pub mod Asks
 pub mod Talking
+pub mod KeptReads
 pub mod Turns
 pub mod Frames
 pub mod Seats

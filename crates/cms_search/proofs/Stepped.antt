@@ -172,7 +172,7 @@ ran_to old mid n s change units t' o there k steps counted console =
     let stamp = stamp_of old.state.moment in
     subst (λ (z : Act Changing). Ran (at old units) (at mid (changed_units units s.letter.unit m change stamp o)) z (then_of old.state n s change m units o))
     (sym (tree_is old.state n s change units m there k.met.slot))
-    (change_ran old mid units s.letter.unit m change stamp o (then_of old.state n s change m units) k.met.slot steps.changes steps.now' counted console)
+    (change_ran old mid units s.disk.volume.disk s.letter.unit m change stamp o (then_of old.state n s change m units) k.met.slot steps.changes steps.covers steps.now' counted console)
 
 -- ---- it is done
 
@@ -183,7 +183,7 @@ change_done old mid n s change x a = record {
       let k = meets_at old units n s a.there h in
       let m = k.met.minidisk in
       let stamp = stamp_of old.state.moment in
-      let done = a.seat.does.appends units h k.journal m k.told k.met.is k.met.looked in
+      let done = a.seat.does.appends units h k.journal m k.told k.met.is in
       let steps = steps_good old.world.told mid.world.told k.journal units old.state.table n s a.seat.disk k.met (change units) stamp k.told k.table a.there a.seat.does.changes.same done in
       let units' = changed_units units s.letter.unit m (change units) stamp Good in
       let ran = ran_to old mid n s (change units) units (table_then old n s a.seat.disk) Good a.there k steps (counted_none old.world.faults mid.world.faults a.seat.does.changes.units.faults)
@@ -235,7 +235,7 @@ change_limited old mid n s change which a = record {
   each = λ units h.
       let k = meets_at old units n s a.there h in
       let m = k.met.minidisk in
-      let done = a.seat.does.appends units h k.journal m k.told k.met.is k.met.looked in
+      let done = a.seat.does.appends units h k.journal m k.told k.met.is in
       let answer = done.1 in
       let none : new_slot (step_of old.state s (change units) m) Good ≡ None = rw answer refl in
       let ran = ran_refused old mid n s change (failed.Limit which) units a k done.0 (rw answer refl) none in
@@ -261,7 +261,7 @@ change_full old mid n s change need free a = record {
   each = λ units h.
       let k = meets_at old units n s a.there h in
       let m = k.met.minidisk in
-      let done = a.seat.does.appends units h k.journal m k.told k.met.is k.met.looked in
+      let done = a.seat.does.appends units h k.journal m k.told k.met.is in
       let answer = done.1 in
       let none : new_slot (step_of old.state s (change units) m) Good ≡ None = rw answer refl in
       let ran = ran_refused old mid n s change (failed.Full need free) units a k done.0 (rw answer refl) none in
@@ -301,10 +301,15 @@ change_cut old mid n s change why a limit full device doubt = record {
   each = λ units h.
       let k = meets_at old units n s a.there h in
       let told = untold old.world.told mid.world.told s.disk a.seat.disk k.met.minidisk (change units) (stamp_of old.state.moment) why limit full device doubt
-      (a.seat.does.appends units h k.journal k.met.minidisk k.told k.met.is k.met.looked) in
-      (units, broke_before (at old units) (at mid units) (changing_tree old.state n (change units) units) told a.seat.does.changes.units.faults refl);
+      (a.seat.does.appends units h k.journal k.met.minidisk k.told k.met.is) in (
+        units,
+        (
+          still_held old mid n s change why units a doubt told k,
+          broke_before (at old units) (at mid units) (changing_tree old.state n (change units) units) told a.seat.does.changes.units.faults refl,
+        ),
+      );
   later = later_changes old.world mid.world a.seat.does.changes.units;
-  usable = λ u. tt;
+  usable = usable_then old mid n s change (Err why) a;
   cause = λ edge. absurd (cc);
 }
 
@@ -362,7 +367,7 @@ change_doubted old mid mid' n s change vdev a device same doubt =
           let k = meets_at old units n s a.there h in
           let m = k.met.minidisk in
           let stamp = stamp_of old.state.moment in
-          let done = a.seat.does.appends units h k.journal m k.told k.met.is k.met.looked in
+          let done = a.seat.does.appends units h k.journal m k.told k.met.is in
           let o = EitherFault done.side in
           let steps = steps_doubted old.world.told mid.world.told k.journal units old.state.table n s k.met (change units) stamp k.told k.table a.there done in
           let units' = changed_units units s.letter.unit m (change units) stamp o in

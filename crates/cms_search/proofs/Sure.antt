@@ -21,7 +21,7 @@ use Rattle.cms_model.proofs.Settling.{synced_leaves, synced_now}
 use Rattle.cms_machine.specs.Slots.{Slot, Settled, Doubt, Before, After, IsAmong, named, set_of, state_in, unit_set, unit_state}
 use Rattle.cms_machine.specs.Steps.{Access, MayAccess, Outcome, Good, ReadFault, SyncFault, OldFault, EitherFault, access_syncs, faults_in, units_after}
 use Rattle.cms_machine.specs.Acts.{Act, Does}
-use Rattle.cms_machine.specs.Beats.{AreStamped, Covers, KeepsConsole}
+use Rattle.cms_machine.specs.Beats.{AreStamped, Covers, KeepsConsole, written_count}
 use Rattle.cms_machine.specs.Points.{HasNow, HasNowIn, Leaves, LeavesIn, Point, Sound}
 use Rattle.cms_machine.specs.Runs.{Broke, Ran}
 use Rattle.cms_machine.proofs.Aside.{of_disk}
@@ -225,7 +225,7 @@ sure_ran p q j doubt u slot o k told grown there units marked s is counted conso
     let set : unit_set q.units u ≡ state_in slot ∷ [] = rw then' refl in
     let state : unit_state q.units u ≡ Some (state_in slot) = rw then' refl in
     ran_step p q (Access u slot) o k (sync_of doubt u) grown counted own
-    (record { disk = of_disk u (sync_of doubt u) own; synced = sure_syncs doubt u slot o marked is; stamped = stamped doubt; outcome = sure_may slot o is })
+    (record { disk = of_disk u (sync_of doubt u) own; synced = sure_syncs doubt u slot o marked is; stamped = stamped doubt; few = few doubt; outcome = sure_may slot o is })
     there units console objects
     (λ sound. covers_sync p j doubt u slot (unit_set q.units u) told s (rw set (inl refl)) sound)
     (λ sound x has. state ∙ ap (λ (y : State). Some y) (s.has x (has_in p.journal j (sync_of doubt u) u x told (subst (λ (t : Told). HasNow t u x) grown has))))
@@ -233,6 +233,10 @@ sure_ran p q j doubt u slot o k told grown there units marked s is counted conso
     stamped : (d : Bool) → AreStamped u None (sync_of d u)
     stamped true = (tt, tt)
     stamped false = tt
+
+    few : (d : Bool) → written_count (sync_of d u) ≡ 0
+    few true = refl
+    few false = refl
 
 -- it was cut off behind the sync
 pub sure_broke : {R : Type 0} (p q : Point) (j : Journal) (doubt : Bool) (u : ℕ) (slot : Slot) (k : Outcome → Act R) → p.journal ≡ Some j → q.journal ≡ plus p.journal (sync_of doubt u)

@@ -10,6 +10,7 @@ use Rattle.cms_names.specs.declared.name.Name.{Name}
 use Rattle.cms_fields.specs.Moments.{stamp_of}
 use Rattle.cms_fields.specs.declared.time.Stamp.{Stamp}
 use Rattle.cms_model.specs.Changes.{Answer, Change, Changed, Full, Limited, answer_of}
+use Rattle.cms_model.specs.Volumes.{Disk}
 use Rattle.cms_model.specs.Minidisks.{Minidisk, Volume}
 use Rattle.cms_machine.specs.Acts.{Act}
 use Rattle.cms_machine.specs.Runs.{Ran}
@@ -62,8 +63,8 @@ updated_so old mid n s change stamp r there when does state =
         disk = one.disk;
         table = one.table;
         does = record {
-          appends = λ units h j m told is looked.
-              subst (λ (z : Stamp). Appends old.world.told mid.world.told s.disk one.disk m change z r) when (one.does.appends j m told is looked);
+          appends = λ units h j m told is.
+              subst (λ (z : Stamp). Appends old.world.told mid.world.told s.disk one.disk m change z r) when (one.does.appends j m told is);
           changes = one.does.changes;
         };
       };
@@ -77,7 +78,7 @@ changed_so before now t t' n s change stamp r c = record {
   disk = c.disk;
   table = c.table;
   does = record {
-    appends = λ j m told is looked. appends_of before.told now.told s.disk c.disk m change stamp r (c.does.alters j m told is looked);
+    appends = λ j m told is. appends_of before.told now.told s.disk c.disk m change stamp r (c.does.alters j m told is);
     changes = c.does.changes;
   };
 }
@@ -160,7 +161,8 @@ module _ (old mid : Spot) (n : ℕ) (s : Seated) (change : List Slot → Change)
       let stamp = stamp_of old.state.moment in
       let same = u.seat.does.changes.same in
       let volume : e.volume ≡ s.disk.volume = ap (λ (d : Accessed). d.volume) (u.seat.does.changes.kept (λ (d : failed.Device ≡ failed.InDoubt). absurd (cc d))) in
-      let changes = subst (λ (v : ℕ). Changes old.world.told mid.world.told v m (change units) stamp (ReadFault 0)) (sym same.unit) x.changes in
+      let changes = subst (λ (b : Disk). Changes old.world.told mid.world.told b e.volume.unit m (change units) stamp (ReadFault 0)) (sym same.disk)
+      (subst (λ (v : ℕ). Changes old.world.told mid.world.told s.disk.volume.disk v m (change units) stamp (ReadFault 0)) (sym same.unit) x.changes) in
       let steps = steps_with old.world.told mid.world.told k.journal k.journal units old.state.table n s e k.met (change units) stamp (ReadFault 0) m k.told (x.same ∙ k.told) k.table u.there same
       (minidisk_same k.journal s.disk e m volume k.met.is) changes (slot_unread s.letter.unit m (change units) stamp) in
       came units k (ReadFault 0) steps counted refl
@@ -175,7 +177,7 @@ module _ (old mid : Spot) (n : ℕ) (s : Seated) (change : List Slot → Change)
   update_failed = record {
     each = λ units h.
         let k = meets_at old units n s u.there h in
-        ⊎_elim (unread units k) (kept units k) (u.seat.does.appends units h k.journal k.met.minidisk k.told k.met.is k.met.looked);
+        ⊎_elim (unread units k) (kept units k) (u.seat.does.appends units h k.journal k.met.minidisk k.told k.met.is);
     later = later_changes old.world mid.world u.seat.does.changes.units;
     usable = usable_then old mid n s change (Err failed.Device) u;
   }

@@ -1,5 +1,5 @@
 -- What a call does, as a part of the machine's run.
-use Rattle.std.specs.Prelude.{⊤, ◌≡◌, ◌≤◌, ℕ, ℤ, true, false, List, [], Some, None, Result, Ok, Err, IfErr, OnOk, slice_get}
+use Rattle.std.specs.Prelude.{⊤, ◌≡◌, ◌≤◌, ℕ, ℤ, true, false, List, [], Some, None, Result, Ok, Err, IfErr, slice_get}
 use Rattle.std.specs.FinMap.{empty}
 use Rattle.std.specs.Option.{ForSome}
 use Rattle.cms_journal.specs.Causes.{Rose}
@@ -104,6 +104,7 @@ pub record SpotWith (objects : List Object) : Type 0 where
 abbrev pub Spot : Type 0
 Spot = SpotWith []
 
+-- the spot of what a world shows, and of a state
 abbrev pub spot_at : Seen → declared.State.State → Spot
 spot_at world state = record { world = world; state = state }
 
@@ -175,10 +176,10 @@ pub record Does {R T : Type 0} (before now : Seen) (t : Act R) (result : Result 
   pub edges : before.edges ≤ now.edges
   pub cause : IfErr result (λ e. e ≡ Edge → Rose before.edges now.edges)
 
--- a call did its tree and the units are held behind it, or it was cut off in it
+-- a call did its tree, or was cut off in it; either way the units are held behind it
 abbrev pub Ends : {R T : Type 0} {objects : List Object} → Point → SpotWith objects → Act R → Result T End → Meaning T R → Type 0
 Ends p new t (Ok x) done = (units : List Slot) × (holds new units × Ran p (at new units) t (Done (done units x)))
-Ends p new t (Err e) done = (units : List Slot) × Broke p (at new units) t
+Ends p new t (Err e) done = (units : List Slot) × (holds new units × Broke p (at new units) t)
 
 -- what is said of every call on the session's state; a command leaves the session without objects, as it found it
 pub record Acts {R T : Type 0} {before after : List Object} (old : SpotWith before) (new : SpotWith after) (t : List Slot → Act R)
@@ -187,8 +188,8 @@ pub record Acts {R T : Type 0} {before after : List Object} (old : SpotWith befo
   pub each : (units : List Slot) → holds old units → Ends (at old units) new (t units) result done
   -- the journal has grown, and no count has fallen
   pub later : IsLater old.world new.world
-  -- the units may be used as before
-  pub usable : IsUsable old → OnOk result (IsUsable new)
+  -- the units may be used as before, also where the call was cut off
+  pub usable : IsUsable old → IsUsable new
   -- the count of edges rose where the call was cut off at one
   pub cause : IfErr result (λ e. e ≡ Edge → Rose old.world.edges new.world.edges)
 

@@ -14,7 +14,7 @@ use Rattle.cms_held.specs.Opening.{HeldVolume}
 use Rattle.cms_world.specs.Seen.{Seen}
 use Rattle.cms_disk.specs.Additions.{FitsFile}
 use Rattle.cms_disk.specs.Changing.{Appends, ChangesDisk}
-use Rattle.cms_disk.specs.Disks.{Accessed, IsLookedAt, IsMinidisk, IsReadable, place_of}
+use Rattle.cms_disk.specs.Disks.{Accessed, IsMinidisk, IsReadable, place_of}
 use Rattle.cms_disk.specs.Drafts.{file_with, shape_of}
 use Rattle.cms_disk.specs.declared.fault.DiskFault.{DiskFault}
 use Rattle.cms_search.specs.Calls.{Spot, holds}
@@ -47,7 +47,7 @@ pub record MayUpdate (told : Told) (d : Accessed) (name : Name) (u : FileWrite) 
 
 -- what an update of a minidisk said, where d is the disk before it and e the disk then
 pub record UpdatesTo (before now : Seen) (d e : Accessed) (change : Change) (stamp : Stamp) (result : Result ⊤ DiskFault) : Type 0 where
-  pub appends : (j : Journal) (m : Minidisk) → before.told ≡ Some j → IsMinidisk j d m → IsLookedAt j d
+  pub appends : (j : Journal) (m : Minidisk) → before.told ≡ Some j → IsMinidisk j d m
       → Appends before.told now.told d e m change stamp result
   pub changes : ChangesDisk before now d e result
 
@@ -61,7 +61,7 @@ UpdatesSeat before now t t' n s change stamp result = HasDisk t t' n (λ e. Upda
 -- units
 pub record UpdatesBy (old mid : Spot) (d e : Accessed) (change : List Slot → Change) (r : Result ⊤ DiskFault) : Type 0 where
   pub appends : (units : List Slot) → holds old units → (j : Journal) (m : Minidisk) → old.world.told ≡ Some j → IsMinidisk j d m
-      → IsLookedAt j d → Appends old.world.told mid.world.told d e m (change units) (stamp_of old.state.moment) r
+      → Appends old.world.told mid.world.told d e m (change units) (stamp_of old.state.moment) r
   pub changes : ChangesDisk old.world mid.world d e r
 
 -- the disk s of letter n was updated so; mid is behind that

@@ -10,7 +10,7 @@ use Rattle.cms_world.specs.Seen.{Seen}
 use Rattle.cms_edf.specs.Planning.{CanChange}
 use Rattle.cms_edf.specs.declared.change.Change as asked
 use Rattle.cms_disk.specs.Changing.{Alters, ChangesDisk}
-use Rattle.cms_disk.specs.Disks.{Accessed, IsLookedAt, IsMinidisk, IsReadable}
+use Rattle.cms_disk.specs.Disks.{Accessed, IsMinidisk, IsReadable}
 use Rattle.cms_disk.specs.declared.fault.DiskFault.{DiskFault}
 use Rattle.cms_search.specs.Searches.{item_at}
 use Rattle.cms_search.specs.Tables.{Accesses, Seated, with_disk}
@@ -23,7 +23,7 @@ pub record MayChange (told : Told) (d : Accessed) (change : asked.Change) : Type
 
 -- what a change of a minidisk said, where d is the disk before it and e the disk then
 pub record ChangesTo (before now : Seen) (d e : Accessed) (change : Change) (stamp : Stamp) (result : Result ⊤ DiskFault) : Type 0 where
-  pub alters : (j : Journal) (m : Minidisk) → before.told ≡ Some j → IsMinidisk j d m → IsLookedAt j d
+  pub alters : (j : Journal) (m : Minidisk) → before.told ≡ Some j → IsMinidisk j d m
       → Alters before.told now.told d e m change stamp result
   pub changes : ChangesDisk before now d e result
 

@@ -1,9 +1,10 @@
 -- What a call does that only talks: it takes lines of the console, types and asks the clock.
-use Rattle.std.specs.Prelude.{◌≡◌, ℕ, ◌≤◌, List, Result, IfErr}
+use Rattle.std.specs.Prelude.{◌≡◌, ℕ, ◌+◌, ◌≤◌, Bool, ◌||◌, List, ◌++◌, length, All, Result, IfErr, ⊤}
+use Rattle.cms_journal.specs.declared.event.Event.{Event}
 use Rattle.cms_journal.specs.Causes.{Rose}
-use Rattle.cms_journal.specs.Told.{Told, Idle}
+use Rattle.cms_journal.specs.Told.{Told, Idle, is_over, plus, script}
 use Rattle.cms_machine.specs.Slots.{Slot}
-use Rattle.cms_machine.specs.Items.{Item, Bad, Long, Rest}
+use Rattle.cms_machine.specs.Items.{Item, Text, Bad, Long, Rest, Goes, extended, items}
 use Rattle.cms_machine.specs.Acts.{Act}
 use Rattle.cms_machine.specs.Objects.{Object}
 use Rattle.cms_machine.specs.Points.{Point}
@@ -55,6 +56,22 @@ item_in no.Rest = Rest
 -- the machine with these stacked lines, and so many turns left
 abbrev pub with_lines : Machine → List (List ℕ) → ℕ → Machine
 with_lines s stack left = record s { stack = stack; left = left }
+
+-- an item that isn't a line
+abbrev pub IsNoLine : Item → Type 0
+IsNoLine (Text line) = ⊥
+IsNoLine item = ⊤
+
+-- of what was read only these items are gone, none of them a line, each for a turn that was spent; all behind them is unread still
+pub record KeepsRead (old new : Told) (was now : ConsoleState) (left left' : ℕ) : Type 0 where
+  pub events : List Event
+  pub told : new ≡ plus old events
+  pub dropped : List Item
+  pub no_lines : All IsNoLine dropped
+  pub turns : left' + length dropped ≡ left
+  pub unread : (more : List ℕ) (e : Bool) → Goes now.ended more e
+      → items (extended (extended was.unread (script events)) more) e ≡ dropped ++ items (extended now.unread more) e
+  pub over : now.ended ≡ (was.ended || is_over events)
 
 -- what an ask came to, with the machine that is left
 abbrev pub asked_in : Machine → Asked → asking.Asked

@@ -114,7 +114,10 @@ impl State {
         requires letter { letter < 26 }
         ensures acts { Acts (spot W.World world.old self.old) (spot W.World world.new self.new)
             (accessing_tree self.old vdev letter parent) result (beside self.new itself) }
-        ensures kept { self.new ≡ record self.old { table = self.new.table; places = self.new.places } }
+        ensures kept { self.new ≡ record self.old {
+          table = self.new.table;
+          places = self.new.places;
+        } }
     {
         let left = self.table.seat(letter);
         match self.table.access(alloc, world, vdev, letter, parent) {

@@ -1,13 +1,13 @@
 // A line that a command asks for.
-ghost use Rattle.std.specs.Prelude.{◌≡◌, ◌≤◌, OnErr};
+ghost use Rattle.std.specs.Prelude.{◌≡◌, ◌≤◌, IfOk, OnErr, OnOk, drop};
 ghost use Rattle.cms_machine.specs.Acts.{Done, taking, turning};
 ghost use Rattle.cms_line.specs.ConsoleState.{ConsoleState};
-ghost use Rattle.cms_line.specs.Consoles.{item_of};
+ghost use Rattle.cms_line.specs.Consoles.{Stayed, Took, item_of};
 ghost use Rattle.cms_search.specs.Asking.{ask, complaining, complaint, dropping};
 ghost use Rattle.cms_search.specs.Calls.{Does, itself, said};
 ghost use Rattle.cms_world.specs.Seen.{seen};
 ghost use Rattle.cms_search.specs.Machine.{Machine};
-ghost use Rattle.cms_search.specs.Talks.{Talks, asked_in, item_in, with_lines};
+ghost use Rattle.cms_search.specs.Talks.{KeepsRead, Talks, asked_in, item_in, with_lines};
 
 use crate::saying::say_message;
 use crate::state::End;
@@ -37,7 +37,12 @@ enum NoLine {
 
 // The next line of the console.
 fn take<W: World>(world: &mut W, console: &mut Console) -> Result<ConsoleLine, End>
-    ensures { Talks (seen W.World world.old) (seen W.World world.new) console.old console.new taking result item_of }
+    ensures talks { Talks (seen W.World world.old) (seen W.World world.new) console.old console.new
+        taking result item_of }
+    ensures took { IfOk result
+        (Took (W.told world.old) (W.told world.new) console.old console.new) }
+    ensures kept { OnErr result
+        (Stayed (W.told world.old) (W.told world.new) console.old console.new) }
 {
     match console.next(world) {
         Ok(line) => Ok(line),
@@ -58,7 +63,8 @@ pub fn clock<W: World>(world: &mut W) -> Result<i64, End>
 
 // Types what is wrong with it; nothing for a further piece.
 fn complain<W: World>(alloc: Global, world: &mut W, no_line: NoLine) -> Result<(), End>
-    ensures { Does (seen W.World world.old) (seen W.World world.new) (complaining (complaint (item_in no_line)) (Done tt)) result said }
+    ensures { Does (seen W.World world.old) (seen W.World world.new)
+        (complaining (complaint (item_in no_line)) (Done tt)) result said }
 {
     match no_line {
         NoLine::Bad => say_message(alloc, world, Message::M010),
@@ -78,8 +84,9 @@ fn drop_item<W: World>(alloc: Global, world: &mut W, no_line: NoLine) -> Result<
 
 /// The line that a command asks for: the stack's next, else the console's next, and at the script's end the empty line.
 ///
-/// A line of the console that isn't printable or is too long is dropped for a turn, with its message, and the next one is taken. After
-/// an `Err` the stack is as before, and what was taken and spent stays so.
+/// A line of the console that isn't printable or is too long is dropped for a turn, with its
+/// message, and the next one is taken. After an `Err` the stack is as before, what was dropped and
+/// spent stays so, and all else that was read is kept.
 pub fn ask<W: World>(
     alloc: Global,
     world: &mut W,
@@ -87,9 +94,14 @@ pub fn ask<W: World>(
     console: &mut Console,
     left: &mut u64,
 ) -> Result<Asked, End>
-    ensures talks { (s : Machine) → Talks (seen W.World world.old) (seen W.World world.new) console.old console.new
-        (ask (with_lines s stack.old left.old)) result (asked_in (with_lines s stack.new left.new)) }
+    ensures talks { (s : Machine)
+        → Talks (seen W.World world.old) (seen W.World world.new) console.old console.new
+        (ask (with_lines s stack.old left.old)) result
+        (asked_in (with_lines s stack.new left.new)) }
     ensures stack { OnErr result (stack.new ≡ stack.old) }
+    ensures took { OnOk result (stack.new ≡ drop 1 stack.old) }
+    ensures read { OnErr result (KeepsRead (W.told world.old) (W.told world.new)
+        console.old console.new left.old left.new) }
     ensures left { left.new ≤ left.old }
 {
     if let Some(line) = stack.pop() {

@@ -28,7 +28,8 @@ pub const LIMITED: i32 = 40;
 
 // A disk has too few free blocks.
 fn no_room(alloc: Global, letter: u8, need: u32, free: u32) -> Result<Message, AllocError>
-    ensures { IfOk result (λ message. message ≡ M107 (letter_text letter) (decimal_of need) (decimal_of free)) }
+    ensures { IfOk result (λ message. message
+        ≡ M107 (letter_text letter) (decimal_of need) (decimal_of free)) }
 {
     Ok(Message::M107(
         letter_word(alloc, letter)?,
@@ -46,7 +47,9 @@ pub fn refuse_full<W: World>(
     free: u32,
 ) -> Result<Course, End>
     ensures does { Does (seen W.World world.old) (seen W.World world.new)
-        (saying (typed_line (message_text (M107 (letter_text letter) (decimal_of need) (decimal_of free))))) result said }
+        (saying (typed_line
+        (message_text (M107 (letter_text letter) (decimal_of need) (decimal_of free))))) result
+        said }
     ensures went { IfOk result (λ course. course ≡ Went (pos fault)) }
 {
     let message = no_room(alloc, letter, need, free)?;

@@ -19,7 +19,8 @@ use std::alloc::Global;
 fn commit_draft<W: World>(world: &mut W, disk: &mut Minidisk, draft: Draft) -> Result<(), DiskFault>
     requires may { MayCommit (W.told world.old) disk.old draft }
     requires full { IsFull draft.writer }
-    ensures { CommitsTo (seen W.World world.old) (seen W.World world.new) disk.old disk.new draft result }
+    ensures { CommitsTo (seen W.World world.old)
+        (seen W.World world.new) disk.old disk.new draft result }
 {
     disk.commit(world, draft)
 }
@@ -37,11 +38,12 @@ impl Table {
         requires accessed { IsSome (item_at self.old.seats letter) }
         requires stamp { is_stamp stamp.now ≡ true }
         requires shape { CanDraft shape.now }
-        ensures { IfSome (item_at self.old.seats letter) (λ s. DraftsSeat self.old self.new letter s name.now shape.now stamp.now result) }
+        ensures { IfSome (item_at self.old.seats letter)
+            (λ s. DraftsSeat self.old self.new letter s name.now shape.now stamp.now result) }
     {
         match &mut self.seats[letter as usize] {
             Some(seat) => seat.disk.draft(alloc, name, shape, stamp),
-            None => Err(DiskFault::Memory),
+            None => unreachable!(),
         }
     }
 
@@ -57,14 +59,16 @@ impl Table {
         stamp: &Stamp,
     ) -> Result<Draft, DiskFault>
         requires accessed { IsSome (item_at self.old.seats letter) }
-        requires may { ForSome (item_at self.old.seats letter) (λ s. MayDraftMore (W.told world.old) s.disk name.now shape.now) }
+        requires may { ForSome (item_at self.old.seats letter)
+            (λ s. MayDraftMore (W.told world.old) s.disk name.now shape.now) }
         requires stamp { is_stamp stamp.now ≡ true }
-        ensures { IfSome (item_at self.old.seats letter) (λ s. DraftsMoreSeat (seen W.World world.old) (seen W.World world.new)
+        ensures { IfSome (item_at self.old.seats letter)
+            (λ s. DraftsMoreSeat (seen W.World world.old) (seen W.World world.new)
             self.old self.new letter s name.now shape.now stamp.now result) }
     {
         match &mut self.seats[letter as usize] {
             Some(seat) => seat.disk.draft_more(alloc, world, name, shape, stamp),
-            None => Err(DiskFault::Memory),
+            None => unreachable!(),
         }
     }
 
@@ -76,14 +80,16 @@ impl Table {
         draft: Draft,
     ) -> Result<(), DiskFault>
         requires accessed { IsSome (item_at self.old.seats letter) }
-        requires may { ForSome (item_at self.old.seats letter) (λ s. MayCommit (W.told world.old) s.disk draft) }
+        requires may { ForSome (item_at self.old.seats letter)
+            (λ s. MayCommit (W.told world.old) s.disk draft) }
         requires full { IsFull draft.writer }
-        ensures { IfSome (item_at self.old.seats letter) (λ s. CommitsSeat (seen W.World world.old) (seen W.World world.new)
+        ensures { IfSome (item_at self.old.seats letter)
+            (λ s. CommitsSeat (seen W.World world.old) (seen W.World world.new)
             self.old self.new letter s draft result) }
     {
         match &mut self.seats[letter as usize] {
             Some(seat) => commit_draft(world, &mut seat.disk, draft),
-            None => Err(DiskFault::Memory),
+            None => unreachable!(),
         }
     }
 }

@@ -18,7 +18,8 @@ use std::alloc::{AllocError, Global};
 
 // Whether two patterns fit the name of a file, and it is found.
 fn is_found(seat: &Seated, info: &FileInfo, file: &Pattern, kind: &Pattern, mode: &ReadMode) -> bool
-    ensures { result ≡ is_found mode.now (fitting file.now kind.now) seat.now.letter (told_of info.now) }
+    ensures { result ≡ is_found mode.now (fitting file.now kind.now) seat.now.letter
+        (told_of info.now) }
 {
     file.fits(&info.name.file) && kind.fits(&info.name.kind) && seat.may_find(mode, info.number)
 }
@@ -96,7 +97,8 @@ impl Table {
     /// where no disk that is searched has the file, or it isn't seen there.
     pub fn find_read(&self, name: &Name, mode: &ReadMode) -> Result<Found, SearchFault>
         ensures found { result ≡ find_first (shelves_of self.now) mode.now name.now }
-        ensures machine { (s : Machine) → Shows self.now s → result ≡ look_up (shelves_in s) mode.now name.now }
+        ensures machine { (s : Machine) → Shows self.now s
+            → result ≡ look_up (shelves_in s) mode.now name.now }
     {
         self.find_first(name, mode)
     }
@@ -110,7 +112,9 @@ impl Table {
         kind: &Pattern,
         mode: &ReadMode,
     ) -> Result<(), AllocError>
-        ensures { OnOk result (found.new ≡ found.old ++ found_on (shelves_of self.now) mode.now (fitting file.now kind.now) letter) }
+        ensures { OnOk result (found.new
+            ≡ found.old ++ found_on (shelves_of self.now) mode.now
+            (fitting file.now kind.now) letter) }
     {
         match self.seated(letter) {
             None => Ok(()),
@@ -126,8 +130,10 @@ impl Table {
         kind: &Pattern,
         mode: &ReadMode,
     ) -> Result<FoundList, SearchFault>
-        ensures found { IfOk result (λ found. search (shelves_of self.now) mode.now (fitting file.now kind.now) ≡ Ok found) }
-        ensures refused { IfErr result (λ e. (e ≡ Memory) ⊎ (search (shelves_of self.now) mode.now (fitting file.now kind.now) ≡ Err e)) }
+        ensures found { IfOk result (λ found.
+            search (shelves_of self.now) mode.now (fitting file.now kind.now) ≡ Ok found) }
+        ensures refused { IfErr result (λ e. (e ≡ Memory)
+            ⊎ (search (shelves_of self.now) mode.now (fitting file.now kind.now) ≡ Err e)) }
     {
         let order = self.order(mode)?;
         let mut found = FoundList::new(alloc);
@@ -146,8 +152,10 @@ impl Table {
         kind: &Pattern,
         mode: &ReadMode,
     ) -> Result<FoundList, SearchFault>
-        ensures found { IfOk result (λ found. search (shelves_of self.now) mode.now (fitting file.now kind.now) ≡ Ok found) }
-        ensures refused { IfErr result (λ e. (e ≡ Memory) ⊎ (search (shelves_of self.now) mode.now (fitting file.now kind.now) ≡ Err e)) }
+        ensures found { IfOk result (λ found.
+            search (shelves_of self.now) mode.now (fitting file.now kind.now) ≡ Ok found) }
+        ensures refused { IfErr result (λ e. (e ≡ Memory)
+            ⊎ (search (shelves_of self.now) mode.now (fitting file.now kind.now) ≡ Err e)) }
         ensures machine { IfOk result (λ found. (s : Machine) → Shows self.now s
             → search (shelves_in s) mode.now (fitting file.now kind.now) ≡ Ok found) }
     {
@@ -164,7 +172,8 @@ fn collect_from(
     kind: &Pattern,
     mode: &ReadMode,
 ) -> Result<(), AllocError>
-    ensures { OnOk result (found.new ≡ found.old ++ found_in mode.now (fitting file.now kind.now) letter (shelf_of seat.now)) }
+    ensures { OnOk result (found.new
+        ≡ found.old ++ found_in mode.now (fitting file.now kind.now) letter (shelf_of seat.now)) }
 {
     for place in 0..seat.disk.count() {
         let info = seat.disk.info(place);

@@ -62,9 +62,11 @@ impl Table {
         requires stamp { is_stamp stamp.now ≡ true }
         requires unit { IsSome (unit_of_device vdev self.old.units) }
         requires may { ForSome (unit_of_device vdev self.old.units) (MayFormat (W.told world.old)) }
-        ensures formats { (place : ℕ) (unit : UnitInfo) → place_of_device vdev self.old.units ≡ Some place
+        ensures formats { (place : ℕ) (unit : UnitInfo)
+            → place_of_device vdev self.old.units ≡ Some place
             → slice_get self.old.units place ≡ Some unit
-            → FormatsUnit (seen W.World world.old) (seen W.World world.new) self.old self.new place letter unit volid stamp.now result }
+            → FormatsUnit (seen W.World world.old)
+            (seen W.World world.new) self.old self.new place letter unit volid stamp.now result }
     {
         // callers ask for the device of a unit
         let Some(place) = self.place(vdev) else {

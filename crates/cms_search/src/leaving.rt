@@ -12,8 +12,10 @@ impl State {
     /// Releases a letter, A is 0, and forgets the reading places on its disk; `NotAccessed` exactly where the letter isn't
     /// accessed.
     pub fn release(&mut self, letter: u8) -> Result<(), SearchFault>
-        ensures released { OnOk result (IsSome (item_at self.old.table.seats letter) × (self.new ≡ without_letter letter self.old)) }
-        ensures refused { IfErr result (λ e. (e ≡ NotAccessed letter) × (item_at self.old.table.seats letter ≡ None)
+        ensures released { OnOk result (IsSome (item_at self.old.table.seats letter)
+            × (self.new ≡ without_letter letter self.old)) }
+        ensures refused { IfErr result (λ e. (e ≡ NotAccessed letter)
+            × (item_at self.old.table.seats letter ≡ None)
             × (self.new ≡ self.old)) }
     {
         let seat = self.table.seat(letter);

@@ -42,7 +42,8 @@ fn update_minidisk<W: World>(
     requires valid { IsValid (data_of update) }
     requires stamp { is_stamp stamp.now ≡ true }
     ensures { (records : List (List ℕ)) → StandsFor (data_of update.entry) records
-        → UpdatesTo (seen W.World world.old) (seen W.World world.new) disk.old disk.new (change_with name.now update.entry records)
+        → UpdatesTo (seen W.World world.old) (seen W.World world.new) disk.old disk.new
+        (change_with name.now update.entry records)
         stamp.now result }
 {
     match update {
@@ -63,16 +64,19 @@ impl Table {
         stamp: &Stamp,
     ) -> Result<(), DiskFault>
         requires accessed { IsSome (item_at self.old.seats letter) }
-        requires may { ForSome (item_at self.old.seats letter) (λ s. MayUpdate (W.told world.old) s.disk name.now update) }
+        requires may { ForSome (item_at self.old.seats letter)
+            (λ s. MayUpdate (W.told world.old) s.disk name.now update) }
         requires valid { IsValid (data_of update) }
         requires stamp { is_stamp stamp.now ≡ true }
         ensures { (records : List (List ℕ)) → StandsFor (data_of update.entry) records
-            → IfSome (item_at self.old.seats letter) (λ s. UpdatesSeat (seen W.World world.old) (seen W.World world.new)
-            self.old self.new letter s (change_with name.now update.entry records) stamp.now result) }
+            → IfSome (item_at self.old.seats letter)
+            (λ s. UpdatesSeat (seen W.World world.old) (seen W.World world.new)
+            self.old self.new letter s
+            (change_with name.now update.entry records) stamp.now result) }
     {
         match &mut self.seats[letter as usize] {
             Some(seat) => update_minidisk(alloc, world, &mut seat.disk, name, update, stamp),
-            None => Err(DiskFault::Memory),
+            None => unreachable!(),
         }
     }
 }
@@ -91,13 +95,18 @@ pub fn update_file<W: World>(
 ) -> Result<Changed, End>
     requires usable { IsUsable (spot W.World world.old state.old) }
     requires writing { writing (item_at (letters_of state.old.table) letter) letter ≡ Ok tt }
-    requires fits { ForSome (item_at state.old.table.seats letter) (λ s. FitsUpdate s.disk.volume name.now update) }
+    requires fits { ForSome (item_at state.old.table.seats letter)
+        (λ s. FitsUpdate s.disk.volume name.now update) }
     requires valid { IsValid (data_of update) }
     requires moment { is_moment state.old.moment ≡ true }
     ensures acts { (records : List (List ℕ)) → StandsFor (data_of update.entry) records
         → Acts (spot W.World world.old state.old) (spot W.World world.new state.new)
-        (changing_tree state.old letter (change_with name.now update.entry records)) result (changing_of state.new) }
-    ensures kept { state.new ≡ record state.old { table = state.new.table; places = state.new.places } }
+        (changing_tree state.old letter (change_with name.now update.entry records)) result
+        (changing_of state.new) }
+    ensures kept { state.new ≡ record state.old {
+      table = state.new.table;
+      places = state.new.places;
+    } }
 {
     let vdev = state.table.vdev(letter);
     let stamp = Stamp::of(&state.moment);

@@ -26,7 +26,8 @@ const SEMICOLON: u8 = 0x5E;
 
 /// Types a line of EBCDIC.
 pub fn say<W: World>(world: &mut W, line: &[u8]) -> Result<(), End>
-    ensures { Does (seen W.World world.old) (seen W.World world.new) (saying (typed_line line.now)) result itself }
+    ensures { Does (seen W.World world.old) (seen W.World world.new)
+        (saying (typed_line line.now)) result itself }
 {
     match type_line(world, line) {
         Ok(()) => Ok(()),
@@ -45,7 +46,8 @@ fn text_of(alloc: Global, message: Message) -> Result<Vec<u8>, AllocError>
 
 /// Types a message.
 pub fn say_message<W: World>(alloc: Global, world: &mut W, message: Message) -> Result<(), End>
-    ensures { Does (seen W.World world.old) (seen W.World world.new) (saying (typed_line (message_text message))) result itself }
+    ensures { Does (seen W.World world.old) (seen W.World world.new)
+        (saying (typed_line (message_text message))) result itself }
 {
     let text = text_of(alloc, message)?;
     say(world, &text)
@@ -58,7 +60,8 @@ pub fn refuse<W: World>(
     message: Message,
     code: i32,
 ) -> Result<Course, End>
-    ensures does { Does (seen W.World world.old) (seen W.World world.new) (saying (typed_line (message_text message))) result said }
+    ensures does { Does (seen W.World world.old) (seen W.World world.new)
+        (saying (typed_line (message_text message))) result said }
     ensures went { IfOk result (λ course. course ≡ Went code) }
 {
     say_message(alloc, world, message)?;
@@ -97,7 +100,8 @@ fn ready_with(code: i32) -> [u8; 9]
 
 /// Types the ready line of a return code, -9999 to 99999.
 pub fn say_ready<W: World>(world: &mut W, code: i32) -> Result<(), End>
-    ensures { Does (seen W.World world.old) (seen W.World world.new) (saying (typed_line (ready_line code))) result itself }
+    ensures { Does (seen W.World world.old) (seen W.World world.new)
+        (saying (typed_line (ready_line code))) result itself }
 {
     if code == 0 {
         return say(world, &[R, SEMICOLON]);

@@ -1,9 +1,9 @@
 // What a session holds apart from its world.
-ghost use Rattle.std.specs.Prelude.{◌≡◌, ◌≤◌, true, IfOk, OnErr};
+ghost use Rattle.std.specs.Prelude.{◌≡◌, ◌≤◌, true, IfOk, OnErr, OnOk, drop};
 ghost use Rattle.cms_fields.specs.Moments.{is_moment};
 ghost use Rattle.cms_search.specs.Calls.{Acts, first_state, spot};
 ghost use Rattle.cms_search.specs.Tables.{HaveDistinctDevices};
-ghost use Rattle.cms_search.specs.Talks.{ask_tree, asked_of};
+ghost use Rattle.cms_search.specs.Talks.{KeepsRead, ask_tree, asked_of};
 ghost use Rattle.cms_search.specs.declared.state.End.TheVariants.{Memory};
 
 use crate::asking::{Asked, ask};
@@ -65,12 +65,20 @@ impl State {
         })
     }
 
-    /// The line that a command asks for, as `ask` gives it. After an `Err` the stack is as before, and what was taken and spent stays so.
+    /// The line that a command asks for, as `ask` gives it. After an `Err` the stack is as before,
+    /// what was dropped and spent stays so, and all else that was read is kept.
     pub fn ask<W: World>(&mut self, alloc: Global, world: &mut W) -> Result<Asked, End>
         ensures acts { Acts (spot W.World world.old self.old) (spot W.World world.new self.new)
             (ask_tree self.old) result (asked_of self.new) }
-        ensures kept { self.new ≡ record self.old { stack = self.new.stack; console = self.new.console; left = self.new.left } }
+        ensures kept { self.new ≡ record self.old {
+          stack = self.new.stack;
+          console = self.new.console;
+          left = self.new.left;
+        } }
         ensures stack { OnErr result (self.new.stack ≡ self.old.stack) }
+        ensures took { OnOk result (self.new.stack ≡ drop 1 self.old.stack) }
+        ensures read { OnErr result (KeepsRead (W.told world.old) (W.told world.new)
+            self.old.console self.new.console self.old.left self.new.left) }
         ensures left { self.new.left ≤ self.old.left }
     {
         ask(

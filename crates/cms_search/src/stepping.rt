@@ -101,8 +101,12 @@ pub fn end_update<W: World>(
     requires device { HasDevice state.old.table letter vdev }
     ensures acts { (old : Spot) (s : Seated) (change : List Slot → model.Change)
         → Updated old (spot W.World world.old state.old) letter s change done
-        → Acts old (spot W.World world.new state.new) (changing_by old.state letter change) result (changing_of state.new) }
-    ensures kept { state.new ≡ record state.old { table = state.new.table; places = state.new.places } }
+        → Acts old (spot W.World world.new state.new) (changing_by old.state letter change) result
+        (changing_of state.new) }
+    ensures kept { state.new ≡ record state.old {
+      table = state.new.table;
+      places = state.new.places;
+    } }
 {
     match done {
         Ok(()) => Ok(Changed::Done),
@@ -134,11 +138,15 @@ pub fn change_disk<W: World>(
 ) -> Result<Changed, End>
     requires usable { IsUsable (spot W.World world.old state.old) }
     requires writing { writing (item_at (letters_of state.old.table) letter) letter ≡ Ok tt }
-    requires there { ForSome (item_at state.old.table.seats letter) (λ s. CanChange s.disk.volume.files change.now) }
+    requires there { ForSome (item_at state.old.table.seats letter)
+        (λ s. CanChange s.disk.volume.files change.now) }
     requires moment { is_moment state.old.moment ≡ true }
     ensures acts { Acts (spot W.World world.old state.old) (spot W.World world.new state.new)
         (changing_tree state.old letter (change_of change.now)) result (changing_of state.new) }
-    ensures kept { state.new ≡ record state.old { table = state.new.table; places = state.new.places } }
+    ensures kept { state.new ≡ record state.old {
+      table = state.new.table;
+      places = state.new.places;
+    } }
 {
     let vdev = state.table.vdev(letter);
     let stamp = Stamp::of(&state.moment);

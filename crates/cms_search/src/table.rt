@@ -101,7 +101,8 @@ fn change_minidisk<W: World>(
 ) -> Result<(), DiskFault>
     requires may { MayChange (W.told world.old) disk.old change.now }
     requires stamp { is_stamp stamp.now ≡ true }
-    ensures { ChangesTo (seen W.World world.old) (seen W.World world.new) disk.old disk.new (change_of change.now) stamp.now result }
+    ensures { ChangesTo (seen W.World world.old) (seen W.World world.new) disk.old disk.new
+        (change_of change.now) stamp.now result }
 {
     match *change {
         Change::Drop { name } => disk.erase(alloc, world, name, stamp),
@@ -138,7 +139,9 @@ impl Table {
 
     /// Whether the unit of a device is in doubt; false where no unit has it.
     pub fn in_doubt(&self, vdev: u16) -> bool
-        ensures { result ≡ unwrap_or (option_and_then (λ u. slice_get self.now.doubts u) (place_of_device vdev self.now.units)) false }
+        ensures { result ≡ unwrap_or
+            (option_and_then
+            (λ u. slice_get self.now.doubts u) (place_of_device vdev self.now.units)) false }
     {
         match self.place(vdev) {
             Some(place) => self.doubts[place],
@@ -149,9 +152,11 @@ impl Table {
     /// What is told of the disk of a letter; none exactly where the letter isn't accessed.
     pub fn seat(&self, letter: u8) -> Option<Seat>
         ensures none { (result ≡ None) ↔ (item_at self.now.seats letter ≡ None) }
-        ensures some { IfSome result (λ told. ForSome (item_at self.now.seats letter) (λ s. (told.parent ≡ s.letter.parent)
+        ensures some { IfSome result
+            (λ told. ForSome (item_at self.now.seats letter) (λ s. (told.parent ≡ s.letter.parent)
             × (told.read_only ≡ s.letter.read_only)
-            × (option_map (λ unit. unit.vdev) (slice_get self.now.units s.letter.unit) ≡ Some told.vdev))) }
+            × (option_map (λ unit. unit.vdev) (slice_get self.now.units s.letter.unit)
+            ≡ Some told.vdev))) }
     {
         let seat = self.seated(letter)?;
         let unit = self.units.get(seat.unit)?;
@@ -225,7 +230,8 @@ impl Table {
 
     /// The letter as which the volume of a device is accessed; none exactly where it isn't.
     pub fn letter_on(&self, vdev: u16) -> Option<u8>
-        ensures letter { result ≡ option_and_then (λ u. letter_with u (letters_of self.now)) (place_of_device vdev self.now.units) }
+        ensures letter { result ≡ option_and_then
+            (λ u. letter_with u (letters_of self.now)) (place_of_device vdev self.now.units) }
         ensures within { IfSome result (λ n. n < 26) }
     {
         match self.place(vdev) {
@@ -248,7 +254,8 @@ impl Table {
 
     // The unit that is accessed, or why none is looked at.
     fn wanted(&self, vdev: u16, letter: u8, parent: Option<u8>) -> Result<usize, SearchFault>
-        ensures wanted { result ≡ wanted_unit vdev (place_of_device vdev self.now.units) (missing_parent self.now.seats letter parent) }
+        ensures wanted { result ≡ wanted_unit vdev (place_of_device vdev self.now.units)
+            (missing_parent self.now.seats letter parent) }
         ensures within { IfOk result (λ u. u < length self.now.units) }
     {
         let Some(place) = self.place(vdev) else {
@@ -278,10 +285,13 @@ impl Table {
         requires within { place < length self.now.units }
         requires blocks { ForSome (W.told world.old) (λ j. IfSome (slice_get self.now.units place)
             (λ unit. HasBlocks j.units unit.unit.number unit.unit.blocks unit.bsize)) }
-        ensures opens { (unit : UnitInfo) (doubt : Bool) → slice_get self.now.units place ≡ Some unit
-            → slice_get self.now.doubts place ≡ Some doubt → LooksAt (W.told world.old) (W.told world.new) unit doubt result }
+        ensures opens { (unit : UnitInfo) (doubt : Bool)
+            → slice_get self.now.units place ≡ Some unit
+            → slice_get self.now.doubts place ≡ Some doubt
+            → LooksAt (W.told world.old) (W.told world.new) unit doubt result }
         ensures table { IsTable self.now }
-        ensures changes { ChangesUnits (seen W.World world.old) (seen W.World world.new) IsDevices result }
+        ensures changes { ChangesUnits (seen W.World world.old)
+            (seen W.World world.new) IsDevices result }
     {
         let unit = self.units.as_slice()[place];
         let doubt = self.is_marked(place);
@@ -301,7 +311,8 @@ impl Table {
         requires within { place < length self.old.units }
         requires letter { letter < 26 }
         ensures { (unit : UnitInfo) → slice_get self.old.units place ≡ Some unit
-            → self.new ≡ table_after self.old place (letter_for place unit.writable letter parent) letter (Ok disk) }
+            → self.new ≡ table_after self.old place
+            (letter_for place unit.writable letter parent) letter (Ok disk) }
     {
         let writable = self.units.as_slice()[place].writable;
         self.doubts[place] = false;
@@ -345,7 +356,8 @@ impl Table {
         requires letter { letter < 26 }
         ensures answer { result ≡ answer_for found }
         ensures table { (unit : UnitInfo) → slice_get self.old.units place ≡ Some unit
-            → self.new ≡ table_after self.old place (letter_for place unit.writable letter parent) letter found }
+            → self.new ≡ table_after self.old place
+            (letter_for place unit.writable letter parent) letter found }
     {
         match found {
             Ok(disk) => {
@@ -373,12 +385,17 @@ impl Table {
         parent: Option<u8>,
     ) -> Result<(), SearchFault>
         requires letter { letter < 26 }
-        requires blocks { ForSome (W.told world.old) (λ j. IfSome (unit_of_device vdev self.old.units)
+        requires blocks { ForSome (W.told world.old)
+            (λ j. IfSome (unit_of_device vdev self.old.units)
             (λ unit. HasBlocks j.units unit.unit.number unit.unit.blocks unit.bsize)) }
-        ensures access { EndsAccess (W.told world.old) (W.told world.new) self.old self.new letter parent result
-            (wanted_unit vdev (place_of_device vdev self.old.units) (missing_parent self.old.seats letter parent)) }
-        ensures changes { ChangesUnits (seen W.World world.old) (seen W.World world.new) (λ e. e ≡ Volume failed.Device) result }
-        ensures unlooked { OnErr (wanted_unit vdev (place_of_device vdev self.old.units) (missing_parent self.old.seats letter parent))
+        ensures access { EndsAccess (W.told world.old)
+            (W.told world.new) self.old self.new letter parent result
+            (wanted_unit vdev (place_of_device vdev self.old.units)
+            (missing_parent self.old.seats letter parent)) }
+        ensures changes { ChangesUnits (seen W.World world.old) (seen W.World world.new)
+            (λ e. e ≡ Volume failed.Device) result }
+        ensures unlooked { OnErr (wanted_unit vdev (place_of_device vdev self.old.units)
+            (missing_parent self.old.seats letter parent))
             (seen W.World world.new ≡ seen W.World world.old) }
     {
         let place = self.wanted(vdev, letter, parent)?;
@@ -396,21 +413,25 @@ impl Table {
         stamp: &Stamp,
     ) -> Result<(), DiskFault>
         requires accessed { IsSome (item_at self.old.seats letter) }
-        requires may { ForSome (item_at self.old.seats letter) (λ s. MayChange (W.told world.old) s.disk change.now) }
+        requires may { ForSome (item_at self.old.seats letter)
+            (λ s. MayChange (W.told world.old) s.disk change.now) }
         requires stamp { is_stamp stamp.now ≡ true }
-        ensures { IfSome (item_at self.old.seats letter) (λ s. ChangesSeat (seen W.World world.old) (seen W.World world.new)
+        ensures { IfSome (item_at self.old.seats letter)
+            (λ s. ChangesSeat (seen W.World world.old) (seen W.World world.new)
             self.old self.new letter s (change_of change.now) stamp.now result) }
     {
         match &mut self.seats[letter as usize] {
             Some(seat) => change_minidisk(alloc, world, &mut seat.disk, change, stamp),
-            None => Err(DiskFault::Memory),
+            None => unreachable!(),
         }
     }
 
     /// A letter isn't accessed any more; `NotAccessed` exactly where it wasn't.
     pub fn release(&mut self, letter: u8) -> Result<(), SearchFault>
-        ensures released { OnOk result (IsSome (item_at self.old.seats letter) × (self.new ≡ released letter self.old)) }
-        ensures refused { IfErr result (λ e. (e ≡ NotAccessed letter) × (item_at self.old.seats letter ≡ None) × (self.new ≡ self.old)) }
+        ensures released { OnOk result (IsSome (item_at self.old.seats letter)
+            × (self.new ≡ released letter self.old)) }
+        ensures refused { IfErr result (λ e. (e ≡ NotAccessed letter)
+            × (item_at self.old.seats letter ≡ None) × (self.new ≡ self.old)) }
     {
         if self.seated(letter).is_none() {
             return Err(SearchFault::NotAccessed(letter));
@@ -422,7 +443,8 @@ impl Table {
     /// Releases an accessed letter, and marks its unit as in doubt.
     pub fn doubt(&mut self, letter: u8)
         requires { IsSome (item_at self.old.seats letter) }
-        ensures { IfSome (item_at self.old.seats letter) (λ s. self.new ≡ released letter (marked s.letter.unit true self.old)) }
+        ensures { IfSome (item_at self.old.seats letter)
+            (λ s. self.new ≡ released letter (marked s.letter.unit true self.old)) }
     {
         if let Some(seat) = self.seated(letter) {
             let unit = seat.unit;

@@ -82,7 +82,8 @@ pub fn add_left(
     width: usize,
     text: &[u8],
 ) -> Result<(), AllocError>
-    ensures { OnOk result (line.new.items ≡ line.old.items ++ 0x40 ∷ telling.left_in width text.now) }
+    ensures { OnOk result (line.new.items
+        ≡ line.old.items ++ 0x40 ∷ telling.left_in width text.now) }
 {
     line.push(BLANK)?;
     line.extend_from_slice(text)?;
@@ -96,7 +97,8 @@ pub fn add_right(
     width: usize,
     text: &[u8],
 ) -> Result<(), AllocError>
-    ensures { OnOk result (line.new.items ≡ line.old.items ++ 0x40 ∷ telling.right_in width text.now) }
+    ensures { OnOk result (line.new.items
+        ≡ line.old.items ++ 0x40 ∷ telling.right_in width text.now) }
 {
     line.push(BLANK)?;
     line.extend_from_slice(&blanks(alloc, width, text)?)?;

@@ -17,7 +17,10 @@ pub fn turn<W: World>(world: &mut W, state: &mut State) -> Result<(), End>
     requires offset { IsOffset state.old.offset }
     ensures acts { Acts (spot W.World world.old state.old) (spot W.World world.new state.new)
         (turning_tree state.old state.new.left) result (machine_now state.new) }
-    ensures kept { state.new ≡ record state.old { moment = state.new.moment; left = state.new.left } }
+    ensures kept { state.new ≡ record state.old {
+      moment = state.new.moment;
+      left = state.new.left;
+    } }
     ensures left { state.old.left ≡ suc state.new.left }
     ensures moment { OnOk result (is_moment state.new.moment ≡ true) }
 {

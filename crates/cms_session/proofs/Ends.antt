@@ -87,7 +87,7 @@ module _ (os left : List Object) (before now : Seen) (words : Words) (infos : Li
       record {
         point = q;
         shown = record { told = refl; faults = refl };
-        broke = subst (λ (m : Machine). Broke (point_first before words os units) q (started (desk m os))) (machine_first words infos units) x.1;
+        broke = subst (λ (m : Machine). Broke (point_first before words os units) q (started (desk m os))) (machine_first words infos units) x.1.1;
       }
 
   pub runs_cut : (e : End) → Did os left before now s new (Err e) → RunsOn infos words os before now (status_at e)

@@ -91,6 +91,7 @@ first_machine units devices offset turns = record {
 abbrev pub start_point : Start → Point
 start_point s = first_point (Some (fresh s.units)) s.faults (settled s.units) s.given s.objects
 
+-- the desk there: the first machine, beside the objects that were handed in
 abbrev pub start_desk : Start → Desk
 start_desk s = desk (first_machine (settled s.units) s.devices s.offset s.turns) s.objects
 

@@ -51,6 +51,7 @@ SettledIsOne =
 abbrev pub BeatsOf : {s : Start} {before now : Seen} {status : Status} → Headline s before now status → List Beat
 BeatsOf {s = s} {status = status} h = beats_in s h.agrees.last status h.agrees.run
 
+-- these stand in front of the one and these behind it, and there are no others
 abbrev pub SplitAt : {s : Start} {before now : Seen} {status : Status} → Headline s before now status → List Beat → Beat → List Beat → Type 0
 SplitAt h front b rest = front ++ b ∷ rest ≡ BeatsOf h
 
@@ -64,6 +65,7 @@ pub record IsLost (s : Start) (front : List Beat) (n : ℕ) (rest : List Beat) (
   pub asked_no_more : AskNot object.word rest
   pub gone : IsGone object.word last.objects
 
+-- so it is of each object that a beat of a session drops
 abbrev pub DroppedIsLost : Type 0
 DroppedIsLost =
     (s : Start) (before now : Seen) (status : Status) (h : Headline s before now status)
@@ -78,6 +80,7 @@ pub record IsItself (s : Start) (front : List Beat) (n : ℕ) (o : Object) (repl
   pub after : Point
   pub answers : Answers before after n o reply back
 
+-- so it is of each object that a beat of a session asks
 abbrev pub AskedIsItself : Type 0
 AskedIsItself =
     (s : Start) (before now : Seen) (status : Status) (h : Headline s before now status)

@@ -49,7 +49,8 @@ fn attach_unit<W: World>(world: &mut W, word: &UnitWord) -> Result<UnitInfo, End
     ensures device { IfOk result (λ info. info.vdev ≡ word.now.vdev) }
     ensures size { IfOk result (λ info. IsBlockSize info.bsize) }
     ensures silent { W.told world.old ≡ None → W.told world.new ≡ None }
-    ensures missed { OnErr result (MayAdd (Missed word.now.name word.now.bsize word.now.access) (W.told world.old) (W.told world.new)) }
+    ensures missed { OnErr result (MayAdd (Missed word.now.name word.now.bsize word.now.access)
+        (W.told world.old) (W.told world.new)) }
     ensures cause { IfErr result (λ e. (e ≡ Edge) × Rose (W.edges world.old) (W.edges world.new)) }
     ensures edges { W.edges world.old ≤ W.edges world.new }
     ensures faults { W.faults world.new ≡ W.faults world.old }
@@ -73,7 +74,8 @@ pub fn attach_all<W: World>(
 ) -> Result<UnitList, End>
     requires units { AreUnits words.now }
     requires room { HasRoom (W.told world.old) }
-    ensures attached { IfOk result (λ infos. W.told world.old ≡ Some (fresh []) → AttachesAll (W.told world.new) words.now infos) }
+    ensures attached { IfOk result (λ infos. W.told world.old ≡ Some (fresh [])
+        → AttachesAll (W.told world.new) words.now infos) }
     ensures usable { IfOk result (λ infos. Usable (W.told world.new) (new_table infos)) }
     ensures distinct { IfOk result HaveDistinctDevices }
     ensures sizes { IfOk result HaveSizes }

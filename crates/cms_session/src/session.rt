@@ -23,7 +23,10 @@ fn access_first<W: World>(alloc: Global, world: &mut W, state: &mut State) -> Re
     requires usable { IsUsable (spot W.World world.old state.old) }
     ensures acts { Acts (spot W.World world.old state.old) (spot W.World world.new state.new)
         (access_tree state.old) result (machine_now state.new) }
-    ensures kept { state.new ≡ record state.old { table = state.new.table; places = state.new.places } }
+    ensures kept { state.new ≡ record state.old {
+      table = state.new.table;
+      places = state.new.places;
+    } }
 {
     state.access(alloc, world, FIRST_DEVICE, DISK_A, None)?;
     Ok(())
@@ -38,9 +41,12 @@ fn run_lines<W: World>(
 ) -> Result<Finish, End>
     requires usable { IsUsable (spot W.World world.old session.old.state) }
     requires offset { IsOffset session.old.state.offset }
-    ensures { Acts (spot_with W.World world.old session.old.state (objects_of ⟦<dyn Extension as Extension>⟧ extensions.old))
-        (spot_with W.World world.new session.new.state (objects_of ⟦<dyn Extension as Extension>⟧ extensions.new))
-        (rounds_tree session.old (objects_of ⟦<dyn Extension as Extension>⟧ extensions.old)) result finished }
+    ensures { Acts (spot_with W.World world.old session.old.state
+        (objects_of ⟦<dyn Extension as Extension>⟧ extensions.old))
+        (spot_with W.World world.new session.new.state
+        (objects_of ⟦<dyn Extension as Extension>⟧ extensions.new))
+        (rounds_tree session.old (objects_of ⟦<dyn Extension as Extension>⟧ extensions.old)) result
+        finished }
 {
     loop {
         if let Round::Ended(finish) = run_round(alloc, world, session, extensions)? {
@@ -60,9 +66,12 @@ pub fn play<W: World>(
     requires offset { IsOffset session.old.state.offset }
     requires idle { procedures_of session.old ≡ [] }
     requires empty { decks_of session.old ≡ [] }
-    ensures { Acts (spot_with W.World world.old session.old.state (objects_of ⟦<dyn Extension as Extension>⟧ extensions.old))
-        (spot_with W.World world.new session.new.state (objects_of ⟦<dyn Extension as Extension>⟧ extensions.new))
-        (session_tree session.old.state (objects_of ⟦<dyn Extension as Extension>⟧ extensions.old)) result finished }
+    ensures { Acts (spot_with W.World world.old session.old.state
+        (objects_of ⟦<dyn Extension as Extension>⟧ extensions.old))
+        (spot_with W.World world.new session.new.state
+        (objects_of ⟦<dyn Extension as Extension>⟧ extensions.new))
+        (session_tree session.old.state (objects_of ⟦<dyn Extension as Extension>⟧ extensions.old))
+        result finished }
 {
     access_first(alloc, world, &mut session.state)?;
     run_lines(alloc, world, session, extensions)

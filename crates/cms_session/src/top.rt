@@ -63,7 +63,11 @@ fn refusal(fault: WordFault) -> Status
 // The state of a session at its start. A generated script is given in place of the world's.
 fn first_state(alloc: Global, words: &Words, units: UnitList) -> Result<State, AllocError>
     requires { HaveDistinctDevices units }
-    ensures { IfOk result (λ state. state ≡ record (first_state words.now units) { console = first_console (given_by words.now.seed) }) }
+    ensures { IfOk result (λ state. state
+        ≡ record (first_state words.now units) {
+          console = first_console
+              (given_by words.now.seed);
+        }) }
 {
     let mut state = State::new(alloc, words, units)?;
     if let Some(seed) = words.seed {
@@ -83,7 +87,8 @@ fn run_on<W: World>(
     requires usable { Usable (W.told world.old) (new_table units) }
     requires distinct { HaveDistinctDevices units }
     requires offset { IsOffset words.now.offset }
-    ensures ran { RunsOn units words.now (objects_of ⟦<dyn Extension as Extension>⟧ extensions) (seen W.World world.old) (seen W.World world.new) result }
+    ensures ran { RunsOn units words.now (objects_of ⟦<dyn Extension as Extension>⟧ extensions)
+        (seen W.World world.old) (seen W.World world.new) result }
     ensures no_usage { (fault : WordFault) → result ≢ Status.Usage fault }
     ensures cause { WorldCause (seen W.World world.old) (seen W.World world.new) result }
 {
@@ -108,7 +113,8 @@ fn run_words<W: World>(alloc: Global, world: &mut W, words: &Words, extensions: 
     requires offset { IsOffset words.now.offset }
     requires room { HasRoom (W.told world.old) }
     ensures headline { W.told world.old ≡ Some (fresh [])
-        → SessionIn (asked_of words.now) (objects_of ⟦<dyn Extension as Extension>⟧ extensions) (seen W.World world.old) (seen W.World world.new) result }
+        → SessionIn (asked_of words.now) (objects_of ⟦<dyn Extension as Extension>⟧ extensions)
+        (seen W.World world.old) (seen W.World world.new) result }
     ensures no_usage { (fault : WordFault) → result ≢ Status.Usage fault }
     ensures cause { WorldCause (seen W.World world.old) (seen W.World world.new) result }
 {
@@ -143,8 +149,10 @@ pub fn run_with<W: World>(alloc: Global, words: &Argv, world: &mut W, extensions
     ensures no_memory { result ≢ Status.Usage Memory }
     ensures refused { RunsNone (read_words words.now)
         → seen W.World world.new ≡ seen W.World world.old }
-    ensures headline { (spec : Asked) → read_words words.now ≡ Runs spec → W.told world.old ≡ Some (fresh [])
-        → SessionIn spec (objects_of ⟦<dyn Extension as Extension>⟧ extensions) (seen W.World world.old) (seen W.World world.new) result }
+    ensures headline { (spec : Asked) → read_words words.now ≡ Runs spec
+        → W.told world.old ≡ Some (fresh [])
+        → SessionIn spec (objects_of ⟦<dyn Extension as Extension>⟧ extensions)
+        (seen W.World world.old) (seen W.World world.new) result }
     ensures cause { WorldCause (seen W.World world.old) (seen W.World world.new) result }
 {
     match read_words(alloc, words) {
@@ -164,7 +172,8 @@ pub fn run<W: World>(alloc: Global, words: &Argv, world: &mut W) -> Status
     ensures no_memory { result ≢ Status.Usage Memory }
     ensures refused { RunsNone (read_words words.now)
         → seen W.World world.new ≡ seen W.World world.old }
-    ensures headline { (spec : Asked) → read_words words.now ≡ Runs spec → W.told world.old ≡ Some (fresh [])
+    ensures headline { (spec : Asked) → read_words words.now ≡ Runs spec
+        → W.told world.old ≡ Some (fresh [])
         → SessionIn spec [] (seen W.World world.old) (seen W.World world.new) result }
     ensures cause { WorldCause (seen W.World world.old) (seen W.World world.new) result }
 {

@@ -8,6 +8,7 @@ pub record Kept : Type 0 where
   pub front : List ℕ
   pub place : Option ℕ
 
+-- no pointer and no word
 abbrev pub nothing : Kept
 nothing = record { front = []; place = None }
 
@@ -16,6 +17,7 @@ abbrev pub kept_here : List Kept → Kept
 kept_here [] = nothing
 kept_here (kept ∷ above) = kept
 
+-- the levels above the lowest
 abbrev pub kept_above : List Kept → List Kept
 kept_above [] = []
 kept_above (kept ∷ above) = above

@@ -23,6 +23,7 @@ form_of layout = record { fan = layout.fan; stride = layout.stride; last = layou
 abbrev pub met_of : MetBlocks → Met
 met_of met = record { blocks = met.blocks.items; leaves = met.leaves.items }
 
+-- what the reading of a tree comes to: what was met, or the first test that fails
 abbrev pub Reading : Type 0
 Reading = Result Met OpenFault
 

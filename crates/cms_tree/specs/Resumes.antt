@@ -39,6 +39,7 @@ kept_front fan psize image root (tier ∷ above) kept =
 abbrev pub partly_above : ℕ → ℕ → Bool → Bool
 partly_above fan kept partly = partly || nat_lt 0 (kept % fan)
 
+-- the levels of pointer blocks above the lowest
 abbrev pub tiers_above : List (List ℕ) → List (List ℕ)
 tiers_above [] = []
 tiers_above (tier ∷ above) = above
@@ -97,6 +98,7 @@ pub record HoldsKept (bsize psize kept : ℕ) (partly : Bool) (e : Kept) (level 
   pub some : e.place ≡ None → partly_above (bsize / psize) kept partly ≡ false
   pub none : partly_above (bsize / psize) kept partly ≡ false → e.place ≡ None
 
+-- each level does, from the lowest up
 abbrev pub HoldAll : ℕ → ℕ → ℕ → Bool → List Kept → List Level → Type 0
 HoldAll bsize psize kept partly es [] = ⊤
 HoldAll bsize psize kept partly es (level ∷ above) = HoldsKept bsize psize kept partly (kept_here es) level

@@ -32,6 +32,7 @@ complete_from fan (suc levels) first count k = if ends_group fan count k
 abbrev pub put_node : List ℕ → (ℕ → List ℕ) → ℕ → Write
 put_node fresh node nth = record { block = slice_index fresh nth; bytes = node nth }
 
+-- the same of a tree over these data blocks, with their marks
 abbrev pub node_write : ℕ → ℕ → List ℕ → List Mark → List ℕ → ℕ → Write
 node_write bsize psize leaves marks fresh nth =
     put_node fresh (node_at bsize psize leaves marks fresh) nth

@@ -113,8 +113,10 @@ impl Climb {
         requires pointers { length old_pointers.now ≡ pointer_count (bsize / psize) old_leaves }
         requires kept { kept ≤ old_leaves }
         requires fewer { kept < leaves }
-        requires blocks { ForSome (W.told world.old) (λ j. HasEach j.units unit bsize old_pointers.now) }
-        ensures resumed { IfOk result (IsResumed (W.told world.old) unit bsize psize old_leaves old_pointers.now last mark.now
+        requires blocks { ForSome (W.told world.old)
+            (λ j. HasEach j.units unit bsize old_pointers.now) }
+        ensures resumed { IfOk result (IsResumed
+            (W.told world.old) unit bsize psize old_leaves old_pointers.now last mark.now
             kept leaves) }
         ensures reads { OnlyReads (seen W.World world.old) (seen W.World world.new) Device result }
     {
@@ -156,21 +158,30 @@ impl Climb {
         fresh: &[u32],
     ) -> Result<(), Failed>
         requires fewer { self.old.added < self.old.count }
-        requires fresh { pointer_count (self.old.bsize / self.old.psize) self.old.count ≤ length fresh.now }
-        requires blocks { ForSome (W.told world.old) (λ j. HasEach j.units unit self.old.bsize fresh.now) }
+        requires fresh { pointer_count (self.old.bsize / self.old.psize) self.old.count
+            ≤ length fresh.now }
+        requires blocks { ForSome (W.told world.old)
+            (λ j. HasEach j.units unit self.old.bsize fresh.now) }
         requires writable { ForSome (W.told world.old) (λ j. IsWritable j.units unit) }
-        ensures adds { (leaves : List ℕ) (marks : List Mark) → Climbs self.old leaves marks fresh.now
+        ensures adds { (leaves : List ℕ) (marks : List Mark)
+            → Climbs self.old leaves marks fresh.now
             → IsNext self.old leaves marks leaf mark.now
-            → Adds (W.told world.old) (W.told world.new) unit self.old self.new leaves marks fresh.now result }
+            → Adds (W.told world.old)
+            (W.told world.new) unit self.old self.new leaves marks fresh.now result }
         ensures adds_on { (kept : ℕ) (es : List Kept) (leaves : List ℕ) (marks : List Mark)
             → ClimbsOn self.old kept es leaves marks fresh.now
             → IsNext self.old leaves marks leaf mark.now
             → AddsOn (W.told world.old) (W.told world.new) unit self.old self.new kept es leaves
             marks fresh.now result }
-        ensures added { self.new ≡ record self.old { added = self.old.added + 1; levels = self.new.levels } }
+        ensures added { self.new ≡ record self.old {
+          added = self.old.added + 1;
+          levels = self.new.levels;
+        } }
         ensures held { HoldsLittle self.new }
-        ensures own { (kept : ℕ) → kept ≤ self.old.added → AddsOwn (W.told world.old) (W.told world.new) unit self.old.bsize
-            (numbers_behind (self.old.bsize / self.old.psize) (levels (self.old.bsize / self.old.psize) self.old.count)
+        ensures own { (kept : ℕ) → kept ≤ self.old.added
+            → AddsOwn (W.told world.old) (W.told world.new) unit self.old.bsize
+            (numbers_behind (self.old.bsize / self.old.psize)
+            (levels (self.old.bsize / self.old.psize) self.old.count)
             self.old.count kept fresh.now) }
         ensures counts { OnUnits (seen W.World world.old) (seen W.World world.new) result }
     {
@@ -261,8 +272,10 @@ impl<'a> Before<'a> {
     // The levels above the next.
     fn above(&self, fan: u32) -> Before<'a>
         requires wide { 1 ≤ fan }
-        requires pointers { over_count fan self.now.levels self.now.count ≤ length self.now.pointers.now }
-        ensures pointers { 1 ≤ self.now.levels → result.pointers.now ≡ drop (up self.now.count fan) self.now.pointers.now }
+        requires pointers { over_count fan self.now.levels self.now.count
+            ≤ length self.now.pointers.now }
+        ensures pointers { 1 ≤ self.now.levels
+            → result.pointers.now ≡ drop (up self.now.count fan) self.now.pointers.now }
         ensures few { self.now.levels ≡ 0 → result.pointers.now ≡ self.now.pointers.now }
         ensures levels { result.levels ≡ self.now.levels - 1 }
         ensures count { result.count ≡ up self.now.count fan }
@@ -313,7 +326,8 @@ fn read_front<W: World>(
     bytes: &mut [u8],
 ) -> Result<u32, Failed>
     requires room { at * psize + psize ≤ length bytes.old }
-    requires blocks { ForSome (W.told world.old) (λ j. HasBlock j.units unit block (length bytes.old)) }
+    requires blocks { ForSome (W.told world.old)
+        (λ j. HasBlock j.units unit block (length bytes.old)) }
     ensures reads { IfOk result (ReadsFront (W.told world.old) unit block psize at bytes.new) }
     ensures told { W.told world.new ≡ W.told world.old }
     ensures counts { OnUnits (seen W.World world.old) (seen W.World world.new) result }
@@ -338,14 +352,18 @@ fn resume_level<W: World>(
     requires size { IsBlockSize bsize }
     requires psize { (psize ≡ 4) ⊎ (psize ≡ 12) }
     requires clear { IsClear bsize level.old }
-    requires pointers { over_count (bsize / psize) before.now.levels before.now.count ≤ length before.now.pointers.now }
+    requires pointers { over_count (bsize / psize) before.now.levels before.now.count
+        ≤ length before.now.pointers.now }
     requires kept { before.now.kept ≤ before.now.count }
     requires partly { before.now.partly ≡ true → before.now.kept < before.now.count }
     requires low { before.now.levels ≡ 0 → before.now.kept ≤ 1 }
-    requires blocks { ForSome (W.told world.old) (λ j. HasEach j.units unit bsize before.now.pointers.now) }
-    ensures resumes { IfOk result (λ place. (size leaves : ℕ) → 1 ≤ size → before.now.count ≡ up leaves size
+    requires blocks { ForSome (W.told world.old)
+        (λ j. HasEach j.units unit bsize before.now.pointers.now) }
+    ensures resumes { IfOk result (λ place. (size leaves : ℕ) → 1 ≤ size
+        → before.now.count ≡ up leaves size
         → ResumesOne (W.told world.old) unit bsize psize
-        (levels_of (bsize / psize) size leaves before.now.levels before.now.pointers.now) before.now own level.new place) }
+        (levels_of (bsize / psize) size leaves before.now.levels before.now.pointers.now) before.now
+        own level.new place) }
     ensures told { W.told world.new ≡ W.told world.old }
     ensures counts { OnUnits (seen W.World world.old) (seen W.World world.new) result }
 {
@@ -376,14 +394,18 @@ fn resume_levels<W: World>(
     requires psize { (psize ≡ 4) ⊎ (psize ≡ 12) }
     requires clear { All (IsClear bsize) levels.old }
     requires fewer { before.now.levels ≤ length levels.old }
-    requires pointers { over_count (bsize / psize) before.now.levels before.now.count ≤ length before.now.pointers.now }
+    requires pointers { over_count (bsize / psize) before.now.levels before.now.count
+        ≤ length before.now.pointers.now }
     requires kept { before.now.kept ≤ before.now.count }
     requires partly { before.now.partly ≡ true → before.now.kept < before.now.count }
     requires low { before.now.kept ≤ (bsize / psize) ^ before.now.levels }
-    requires blocks { ForSome (W.told world.old) (λ j. HasEach j.units unit bsize before.now.pointers.now) }
-    ensures resumes { IfOk result (λ place. (size leaves : ℕ) → 1 ≤ size → before.now.count ≡ up leaves size
+    requires blocks { ForSome (W.told world.old)
+        (λ j. HasEach j.units unit bsize before.now.pointers.now) }
+    ensures resumes { IfOk result (λ place. (size leaves : ℕ) → 1 ≤ size
+        → before.now.count ≡ up leaves size
         → ResumesAll (W.told world.old) unit bsize psize
-        (levels_of (bsize / psize) size leaves before.now.levels before.now.pointers.now) before.now levels.new place) }
+        (levels_of (bsize / psize) size leaves before.now.levels before.now.pointers.now) before.now
+        levels.new place) }
     ensures told { W.told world.new ≡ W.told world.old }
     ensures counts { OnUnits (seen W.World world.old) (seen W.World world.new) result }
 {
@@ -417,7 +439,8 @@ impl Level {
         requires room { fan * psize ≤ length self.old.bytes.items }
         requires short { length self.old.bytes.items < 2 ^ 32 }
         ensures bytes { self.new.bytes.items ≡ overwritten (child.now.nth % fan * psize)
-            (cell_bytes (cell_of psize (record { block = child.now.block; mark = child.now.mark }))) self.old.bytes.items }
+            (cell_bytes (cell_of psize (record { block = child.now.block; mark = child.now.mark })))
+            self.old.bytes.items }
         ensures size { length self.new.bytes.items ≡ length self.old.bytes.items }
         ensures place { result ≡ unwrap_or self.old.place child.now.mark.place }
         ensures known { self.new.place ≡ Some result }
@@ -491,7 +514,8 @@ fn lift<W: World>(
         tier (kept_here es) child.now level.new result }
     ensures parent { IfOk result (λ parent. IfSome parent (IsParent (bsize / psize) child.now)) }
     ensures size { HasSize bsize level.new }
-    ensures own { (kept : ℕ) → kept ≤ child.now.nth → AddsOwn (W.told world.old) (W.told world.new) unit bsize
+    ensures own { (kept : ℕ) → kept ≤ child.now.nth
+        → AddsOwn (W.told world.old) (W.told world.new) unit bsize
         (drop (kept / (bsize / psize)) (take (up child.now.count (bsize / psize)) fresh.now)) }
     ensures counts { OnUnits (seen W.World world.old) (seen W.World world.new) result }
 {
@@ -529,7 +553,8 @@ fn rise<W: World>(
     requires psize { (psize ≡ 4) ⊎ (psize ≡ 12) }
     requires levels { All (HasSize bsize) levels.old }
     requires within { child.now.nth < child.now.count }
-    requires fresh { over_count (bsize / psize) (length levels.old) child.now.count ≤ length fresh.now }
+    requires fresh { over_count (bsize / psize) (length levels.old) child.now.count
+        ≤ length fresh.now }
     requires blocks { ForSome (W.told world.old) (λ j. HasEach j.units unit bsize fresh.now) }
     requires writable { ForSome (W.told world.old) (λ j. IsWritable j.units unit) }
     ensures rises { (leaves : List ℕ) (marks : List Mark) (numbers : List ℕ) (node : ℕ → List ℕ)
@@ -540,7 +565,8 @@ fn rise<W: World>(
         → Rises (W.told world.old) (W.told world.new) unit bsize psize leaves marks numbers node
         tier es child.now levels.old levels.new result }
     ensures sizes { All (HasSize bsize) levels.new }
-    ensures own { (kept : ℕ) → kept ≤ child.now.nth → AddsOwn (W.told world.old) (W.told world.new) unit bsize
+    ensures own { (kept : ℕ) → kept ≤ child.now.nth
+        → AddsOwn (W.told world.old) (W.told world.new) unit bsize
         (numbers_behind (bsize / psize) (length levels.old) child.now.count kept fresh.now) }
     ensures counts { OnUnits (seen W.World world.old) (seen W.World world.new) result }
 {

@@ -127,7 +127,8 @@ fn mark_of(marks: &[Mark], size: u64, place: u64) -> Mark
 pub(crate) fn put_cell(into: &mut [u8], at: usize, psize: u8, block: u32, mark: &Mark)
     requires psize { (psize ≡ 4) ⊎ (psize ≡ 12) }
     requires room { at + psize ≤ length into.old }
-    ensures { into.new ≡ overwritten at (cell_bytes (cell_of psize (record { block = block; mark = mark.now }))) into.old }
+    ensures { into.new ≡ overwritten at
+        (cell_bytes (cell_of psize (record { block = block; mark = mark.now }))) into.old }
 {
     let field = cell_field(block, mark);
     put(into, at, &field[..usize::from(psize)]);
@@ -135,7 +136,8 @@ pub(crate) fn put_cell(into: &mut [u8], at: usize, psize: u8, block: u32, mark: 
 
 // The bytes of a pointer with its mark.
 fn cell_field(block: u32, mark: &Mark) -> [u8; 12]
-    ensures { result ≡ big_bytes 4 block ++ (big_bytes 4 mark.now.last ++ big_bytes 4 mark.now.place) }
+    ensures { result ≡ big_bytes 4 block ++
+        (big_bytes 4 mark.now.last ++ big_bytes 4 mark.now.place) }
 {
     let mut field = [0; 12];
     put_word(&mut field, 0, block);

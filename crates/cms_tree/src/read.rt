@@ -67,8 +67,10 @@ fn read_block<W: World>(
     layout: &Layout,
     block: u32,
 ) -> Result<Vec<u8>, TreeFault>
-    requires { ForSome (W.told world.old) (λ j. HasBlock j.units layout.now.unit block layout.now.bsize) }
-    ensures bytes { IfOk result (λ v. ForSome (W.told world.old) (λ j. v.items ≡ image_of (contents_of j layout.now.unit) block)) }
+    requires { ForSome (W.told world.old)
+        (λ j. HasBlock j.units layout.now.unit block layout.now.bsize) }
+    ensures bytes { IfOk result (λ v. ForSome (W.told world.old)
+        (λ j. v.items ≡ image_of (contents_of j layout.now.unit) block)) }
     ensures len { IfOk result (λ v. vec_len v ≡ layout.now.bsize) }
     ensures plain { IfErr result IsPlain }
     ensures reads { OnlyReads (seen W.World world.old) (seen W.World world.new) Device result }
@@ -129,7 +131,8 @@ fn take_node(
 ) -> Result<(), TreeFault>
     ensures refused { IfErr result (λ fault. IsRefusal fault part.now.holder part.now.root
         (is_allowed layout.now.last None part.now.root)) }
-    ensures ok { OnOk result (IsTaken layout.now.last part.now.root tier.old tier.new into.old into.new) }
+    ensures ok { OnOk result (IsTaken layout.now.last part.now.root tier.old tier.new into.old
+        into.new) }
     ensures device { result ≡ Err Device → ⊥ }
 {
     if !is_allowed(layout.last, None, part.root) {
@@ -196,12 +199,14 @@ fn joined(alloc: Global, tiers: &[Tier]) -> Result<Vec<u32>, AllocError>
 pub fn walk<W: World>(alloc: Global, world: &mut W, at: &TreeAt) -> Result<Walked, TreeFault>
     requires some { 1 ≤ at.now.count }
     requires psize { (at.now.psize ≡ 4) ⊎ (at.now.psize ≡ 12) }
-    requires blocks { ForSome (W.told world.old) (λ j. HasBlocks j.units at.now.unit at.now.volume at.now.bsize) }
+    requires blocks { ForSome (W.told world.old)
+        (λ j. HasBlocks j.units at.now.unit at.now.volume at.now.bsize) }
     ensures read { ForSome (W.told world.old) (λ j. Reads (image_at j at.now) at.now result) }
 
     // What holds of it in each world.
     ensures count { IfOk result (λ walked. vec_len walked.leaves ≡ at.now.count) }
-    ensures pointers { IfOk result (λ walked. length walked.pointers.items ≡ pointer_count (at.now.bsize / at.now.psize) at.now.count) }
+    ensures pointers { IfOk result (λ walked. length walked.pointers.items
+        ≡ pointer_count (at.now.bsize / at.now.psize) at.now.count) }
     ensures within { IfOk result (IsWithin at.now.volume at.now.first) }
     ensures reads { OnlyReads (seen W.World world.old) (seen W.World world.new) Device result }
 {
@@ -237,17 +242,23 @@ pub fn leaves<W: World>(
 ) -> Result<(), TreeFault>
     requires some { 1 ≤ at.now.count }
     requires psize { (at.now.psize ≡ 4) ⊎ (at.now.psize ≡ 12) }
-    requires blocks { ForSome (W.told world.old) (λ j. HasBlocks j.units at.now.unit at.now.volume at.now.bsize) }
+    requires blocks { ForSome (W.told world.old)
+        (λ j. HasBlocks j.units at.now.unit at.now.volume at.now.bsize) }
     ensures read { ForSome (W.told world.old)
-        (λ j. Appends (image_at j at.now) at.now pointers.old.items pointers.new.items leaves.old.items leaves.new.items result) }
-    ensures err { OnErr result ((pointers.new.items ≡ pointers.old.items) × (leaves.new.items ≡ leaves.old.items)) }
+        (λ j. Appends
+        (image_at j at.now) at.now pointers.old.items pointers.new.items leaves.old.items
+        leaves.new.items result) }
+    ensures err { OnErr result ((pointers.new.items ≡ pointers.old.items)
+        × (leaves.new.items ≡ leaves.old.items)) }
 
     // What holds of it in each world.
     ensures count { OnOk result (vec_len leaves.new ≡ vec_len leaves.old + at.now.count) }
     ensures pointers { OnOk result (length pointers.new.items ≡ length pointers.old.items
         + pointer_count (at.now.bsize / at.now.psize) at.now.count) }
-    ensures pointers_within { OnOk result (AppendsWithin at.now.volume None pointers.old.items pointers.new.items) }
-    ensures leaves_within { OnOk result (AppendsWithin at.now.volume at.now.first leaves.old.items leaves.new.items) }
+    ensures pointers_within { OnOk result (AppendsWithin at.now.volume None pointers.old.items
+        pointers.new.items) }
+    ensures leaves_within { OnOk result (AppendsWithin at.now.volume at.now.first leaves.old.items
+        leaves.new.items) }
     ensures reads { OnlyReads (seen W.World world.old) (seen W.World world.new) Device result }
 {
     let walked = walk(alloc, world, at)?;
@@ -274,11 +285,15 @@ fn walk_from<W: World>(
     requires some { 1 ≤ part.now.count }
     requires room { part.now.count ≤ layout.now.fan ^ levels }
     requires tiers { length tiers.old ≡ levels }
-    requires blocks { ForSome (W.told world.old) (λ j. HasBlocks j.units layout.now.unit layout.now.last layout.now.bsize) }
+    requires blocks { ForSome (W.told world.old)
+        (λ j. HasBlocks j.units layout.now.unit layout.now.last layout.now.bsize) }
     ensures read { ForSome (W.told world.old) (λ j. JoinsPart (image_of
-        (contents_of j layout.now.unit)) layout.now levels part.now tiers.old tiers.new into.old into.new result) }
-    ensures grows { OnOk result (Grows layout.now.fan layout.now.last part.now.count tiers.old tiers.new) }
-    ensures count { OnOk result (vec_len into.new.leaves ≡ vec_len into.old.leaves + part.now.count) }
+        (contents_of j layout.now.unit)) layout.now levels part.now tiers.old tiers.new into.old
+        into.new result) }
+    ensures grows { OnOk result (Grows layout.now.fan layout.now.last part.now.count tiers.old
+        tiers.new) }
+    ensures count { OnOk result (vec_len into.new.leaves
+        ≡ vec_len into.old.leaves + part.now.count) }
     ensures within { OnOk result (StaysWithin layout.now.last part.now.first into.old into.new) }
     ensures reads { OnlyReads (seen W.World world.old) (seen W.World world.new) Device result }
 {

@@ -280,7 +280,8 @@ pub fn fresh_places(
     requires wide { 2 ≤ fan }
     requires ascends { IsStrictlyIncreasing written.now }
     requires room { vec_len into.old + pointer_count fan new_leaves ≤ vec_capacity into.old }
-    ensures appended { into.new.items ≡ into.old.items ++ fresh_places fan old_leaves new_leaves written.now }
+    ensures appended { into.new.items
+        ≡ into.old.items ++ fresh_places fan old_leaves new_leaves written.now }
     ensures capacity { vec_capacity into.old ≤ vec_capacity into.new }
 {
     let old_levels = shape(old_leaves, fan).levels;

@@ -57,7 +57,8 @@ fn append(text: &mut Vec<u8>, more: &[u8]) -> Result<(), FuncFault>
     ensures added { OnOk result (text.new.items ≡ text.old.items ++ more.now) }
     ensures short { OnOk result (length text.new.items ≤ longest_text) }
     ensures fault { IfErr result (λ fault. (fault ≡ FuncFault.Memory)
-        ⊎ ((fault ≡ FuncFault.TooLong) × (longest_text < length text.old.items + length more.now))) }
+        ⊎ ((fault ≡ FuncFault.TooLong)
+        × (longest_text < length text.old.items + length more.now))) }
 {
     if text.len() + more.len() > LONGEST_TEXT {
         return Err(FuncFault::TooLong);
@@ -72,7 +73,8 @@ fn append_word(text: &mut Vec<u8>, word: &[u8]) -> Result<(), FuncFault>
     ensures added { OnOk result (text.new.items ≡ text.old.items ++ 0x40 ∷ word.now) }
     ensures short { OnOk result (length text.new.items ≤ longest_text) }
     ensures fault { IfErr result (λ fault. (fault ≡ FuncFault.Memory)
-        ⊎ ((fault ≡ FuncFault.TooLong) × (longest_text < length text.old.items + length word.now + 1))) }
+        ⊎ ((fault ≡ FuncFault.TooLong)
+        × (longest_text < length text.old.items + length word.now + 1))) }
 {
     append(text, &[BLANK])?;
     append(text, word)

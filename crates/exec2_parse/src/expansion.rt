@@ -77,7 +77,8 @@ pub fn expansion_laws()
 
 /// What stands before the last ampersand of a word, and what stands behind it.
 fn split_at_last_ampersand(word: &[u8]) -> Option<(&[u8], &[u8])>
-    ensures { MatchOption result (ampersands word.now ≡ 0) (λ parts. SplitsAtLast word.now parts.0.now parts.1.now) }
+    ensures { MatchOption result (ampersands word.now ≡ 0)
+        (λ parts. SplitsAtLast word.now parts.0.now parts.1.now) }
 {
     let mut left = word;
     while let [front @ .., last] = left {
@@ -97,7 +98,8 @@ fn value_named<S: Scope>(
     scope: &S,
 ) -> Result<Word, AllocError>
     requires { length first.now + length second.now ≤ longest_text }
-    ensures { IfOk result (λ value. value ≡ S.binding scope.now (spec.name_of first.now second.now)) }
+    ensures { IfOk result (λ value. value
+        ≡ S.binding scope.now (spec.name_of first.now second.now)) }
 {
     if is_whole_name(first, second) {
         return scope.value(alloc, first);

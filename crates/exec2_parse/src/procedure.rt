@@ -141,9 +141,11 @@ impl Procedure {
 pub fn read_procedure(alloc: Global, file: &FileData) -> Result<Procedure, ProcFault>
     requires { IsValid file.now }
     ensures lines { IfOk result (λ procedure.
-        (records : List (List ℕ)) → StandsFor file.now records → spec.procedure_of records ≡ Ok procedure) }
+        (records : List (List ℕ)) → StandsFor file.now records
+        → spec.procedure_of records ≡ Ok procedure) }
     ensures fault { IfErr result (λ fault. (fault ≡ ProcFault.Memory)
-        ⊎ ((records : List (List ℕ)) → StandsFor file.now records → spec.procedure_of records ≡ Err fault)) }
+        ⊎ ((records : List (List ℕ)) → StandsFor file.now records
+        → spec.procedure_of records ≡ Err fault)) }
 {
     if !begins_with_trace(file) {
         return Err(ProcFault::NotExec2);
@@ -165,7 +167,8 @@ pub fn read_procedure(alloc: Global, file: &FileData) -> Result<Procedure, ProcF
 #[tactic(auto, using(crate::proofs::Procedures::kept_last))]
 fn keep(alloc: Global, statements: &mut Vec<Statement>, text: &[u8]) -> Result<(), AllocError>
     requires { length text.now ≤ longest_text }
-    ensures { OnOk result (lines_in statements.new.items ≡ lines_in statements.old.items ++ text.now ∷ []) }
+    ensures { OnOk result (lines_in statements.new.items
+        ≡ lines_in statements.old.items ++ text.now ∷ []) }
 {
     statements.push(Statement::of(alloc, text)?)?;
     Ok(())
@@ -186,7 +189,8 @@ fn begins_with_trace(file: &FileData) -> bool
 /// The first line that is neither blank nor a comment.
 fn first_statement(file: &FileData) -> Option<&[u8]>
     requires { IsValid file.now }
-    ensures { option_map (λ line. line.now) result ≡ spec.first_statement (spec.lines_of (records_in file.now)) }
+    ensures { option_map (λ line. line.now) result
+        ≡ spec.first_statement (spec.lines_of (records_in file.now)) }
 {
     for record in Records::of(file) {
         let line = without_trailing_blanks(record);

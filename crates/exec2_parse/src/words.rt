@@ -32,8 +32,10 @@ pub fn words_of(alloc: Global, text: &[u8]) -> Result<WordList, AllocError>
 #[tactic(auto, using(crate::proofs::Cuts::cut_rest, crate::proofs::Cuts::cut_at, crate::proofs::Cuts::uncut))]
 fn cut(text: &[u8]) -> Option<(&[u8], &[u8])>
     ensures words { MatchOption result (spec.words_of text.now ≡ spec.word_if_any text.now)
-        (λ parts. spec.words_of text.now ≡ spec.word_if_any parts.0.now ++ spec.words_of parts.1.now) }
-    ensures short { IfSome result (λ parts. (length parts.0.now ≤ length text.now) × (length parts.1.now < length text.now)) }
+        (λ parts. spec.words_of text.now
+        ≡ spec.word_if_any parts.0.now ++ spec.words_of parts.1.now) }
+    ensures short { IfSome result
+        (λ parts. (length parts.0.now ≤ length text.now) × (length parts.1.now < length text.now)) }
 {
     match place_of_blank(text) {
         Some(place) => Some((&text[..place], &text[place + 1..])),

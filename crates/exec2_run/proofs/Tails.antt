@@ -8,19 +8,19 @@ use Rattle.exec2_run.specs.Calls.{called, called_at, called_by}
 use Rattle.exec2_run.specs.Given.{seen}
 use Rattle.exec2_run.specs.Loops.{end_of_range, first_of, looped, opened, passes, range_looped}
 use Rattle.exec2_run.specs.Values.{operands}
-use Rattle.exec2_run.specs.declared.exec.Exec.{Exec}
+use Rattle.exec2_run.specs.State.{Procedure}
 use Rattle.exec2_run.specs.declared.fault.Fault.{Fault}
 use Rattle.exec2_run.specs.declared.fault.Fault.TheVariants.{Memory}
 use Rattle.exec2_run.specs.declared.loops.Passes.{Passes}
 use Rattle.exec2_run.specs.declared.values.Operands.{Operands}
 
-pub range_fails : (s : Exec) (names : Binding) (range : Text) (words : List Text) (past : ℕ) (often : Passes) (f : Fault) → names ≡ seen s → end_of_range s range ≡ Ok past
+pub range_fails : (s : Procedure) (names : Binding) (range : Text) (words : List Text) (past : ℕ) (often : Passes) (f : Fault) → names ≡ seen s → end_of_range s range ≡ Ok past
     → passes names words ≡ Ok often
     → (f ≡ Memory) ⊎ (opened s past often ≡ Err f) → (f ≡ Memory) ⊎ (range_looped s range words ≡ Err f)
 range_fails s names range words past often f is e g (inl m) = inl m
 range_fails s names range words past often f is e g (inr h) = inr (rw (← is, e, g) h)
 
-pub loop_fails : (s : Exec) (names : Binding) (words : List Text) (value text : Text) (behind : List Text) (f : Fault) → names ≡ seen s → first_of names words ≡ Ok (value, behind) → text ≡ value
+pub loop_fails : (s : Procedure) (names : Binding) (words : List Text) (value text : Text) (behind : List Text) (f : Fault) → names ≡ seen s → first_of names words ≡ Ok (value, behind) → text ≡ value
     → (f ≡ Memory) ⊎ (range_looped s text behind ≡ Err f) → (f ≡ Memory) ⊎ (looped s words ≡ Err f)
 unfolding looped
 loop_fails s names words value text behind f is e same (inl m) = inl m
@@ -28,7 +28,7 @@ loop_fails s names words value text behind f is e same (inr h) =
     let first : first_of (seen s) words ≡ Ok (value, behind) = subst (λ (n : Binding). first_of n words ≡ Ok (value, behind)) is e in
     inr (rw first (subst (λ (t : Text). range_looped s t behind ≡ Err f) same h))
 
-pub call_fails : (s : Exec) (names : Binding) (words slice : List Text) (label : Text) (f : Fault) (o : Operands) → names ≡ seen s → o ≡ operands names words → slice ≡ o.words → 1 ≤ length slice
+pub call_fails : (s : Procedure) (names : Binding) (words slice : List Text) (label : Text) (f : Fault) (o : Operands) → names ≡ seen s → o ≡ operands names words → slice ≡ o.words → 1 ≤ length slice
     → label ≡ get_or slice 0 label
     → (f ≡ Memory) ⊎ (called_at s label (take (length slice - 1) (drop 1 slice)) o.is_cut ≡ Err f) → (f ≡ Memory) ⊎ (called s words ≡ Err f)
 unfolding called

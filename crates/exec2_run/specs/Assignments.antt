@@ -14,12 +14,11 @@ use Rattle.exec2_run.specs.Given.{seen}
 use Rattle.exec2_run.specs.Faults.{of_function, with_fault}
 use Rattle.exec2_run.specs.Values.{arguments, operands, whole}
 use Rattle.exec2_run.specs.Variables.{set_to, target}
-use Rattle.exec2_run.specs.State.{Step}
+use Rattle.exec2_run.specs.State.{Procedure, Step}
 use Rattle.exec2_run.specs.declared.values.Operands.{Operands}
 use Rattle.exec2_run.specs.declared.assignment.Sign.{Sign}
 use Rattle.exec2_run.specs.declared.assignment.Sign.TheVariants.{Plus, Minus}
 use Rattle.exec2_run.specs.declared.assignment.Sum.{Sum}
-use Rattle.exec2_run.specs.declared.exec.Exec.{Exec}
 use Rattle.exec2_run.specs.declared.fault.Fault.{Fault}
 use Rattle.exec2_run.specs.declared.fault.Fault.TheVariants.{Arity, TooLong, Overflow, BadStatement}
 
@@ -204,13 +203,13 @@ right_side names words = value_by (function_in words) names words
 -- ---- the statement: a target, an equal sign, and a right side
 
 -- the target has the value of the right side
-abbrev pub assigned_to : Exec → Text → List Text → Step
+abbrev pub assigned_to : Procedure → Text → List Text → Step
 assigned_to s name words = do
   n ← target (seen s) name
   v ← right_side (seen s) words
   set_to s n v
 
 -- an assignment
-unfoldable pub assigned : Exec → List Text → Step
+unfoldable pub assigned : Procedure → List Text → Step
 assigned s (name ∷ sign ∷ words) = assigned_to s name words
 assigned s words = Err BadStatement

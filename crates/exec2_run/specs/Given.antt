@@ -13,7 +13,7 @@ use Rattle.exec2_run.specs.declared.given.Predefined.TheVariants as given
 use Rattle.exec2_run.specs.declared.given.Seen.{Seen}
 use Rattle.exec2_run.specs.declared.given.Standing.{Standing}
 use Rattle.exec2_run.specs.declared.variables.Variables.{Variables}
-use Rattle.exec2_run.specs.declared.exec.Exec.{Exec}
+use Rattle.exec2_run.specs.State.{Procedure}
 use Rattle.exec2_run.specs.declared.exec.FileName.{FileName}
 
 -- the names that are given
@@ -149,14 +149,14 @@ abbrev pub bound : Seen → Binding
 bound seen = known seen.start.now seen.standing seen.variables.now
 
 -- where a procedure stands, as the given names tell it
-abbrev pub standing_at : Exec → ℕ → Moment → Standing
+abbrev pub standing_at : Procedure → ℕ → Moment → Standing
 standing_at s line moment =
     record { count = s.count; code = s.code; line = line; depth = length s.calls; from = line_of_last s.calls; moment = moment }
 
 -- what the names stand for at a line and a moment
-abbrev pub seen_at : Exec → ℕ → Moment → Binding
+abbrev pub seen_at : Procedure → ℕ → Moment → Binding
 seen_at s line moment = known s.start (standing_at s line moment) s.variables
 
 -- what they stand for in the statement that runs
-abbrev pub seen : Exec → Binding
+abbrev pub seen : Procedure → Binding
 seen s = seen_at s s.line s.moment

@@ -9,9 +9,8 @@ use Rattle.exec2_parse.specs.Expansion.{Binding}
 use Rattle.exec2_parse.specs.Variables.{Values}
 use Rattle.exec2_run.specs.Values.{value}
 use Rattle.exec2_run.specs.Given.{is_argument, is_given, table_of}
-use Rattle.exec2_run.specs.State.{Step}
+use Rattle.exec2_run.specs.State.{Procedure, Step}
 use Rattle.exec2_run.specs.declared.want.Want.TheVariants.{Next}
-use Rattle.exec2_run.specs.declared.exec.Exec.{Exec}
 use Rattle.exec2_run.specs.declared.variables.Variables.{Variables}
 use Rattle.exec2_run.specs.declared.fault.Fault.{Fault}
 use Rattle.exec2_run.specs.declared.fault.Fault.TheVariants.{BadStatement, Given, TooManyVariables}
@@ -69,26 +68,26 @@ numbered n (value ∷ values) table = numbered (n + 1) values (insert table (dec
 -- ---- in the state
 
 -- a procedure with other variables, or their fault
-abbrev pub with_variables : Exec → Result Variables Fault → Result Exec Fault
+abbrev pub with_variables : Procedure → Result Variables Fault → Result Procedure Fault
 with_variables s (Ok v) = Ok (record s { variables = v })
 with_variables s (Err fault) = Err fault
 
 -- a variable is set
-abbrev pub with_variable : Exec → Text → Text → Result Exec Fault
+abbrev pub with_variable : Procedure → Text → Text → Result Procedure Fault
 with_variable s name value = with_variables s (with_value s.variables name value)
 
 -- a variable is set, and nothing is wanted
-abbrev pub set_to : Exec → Text → Text → Step
+abbrev pub set_to : Procedure → Text → Text → Step
 set_to s name value = do
   t ← with_variable s name value
   Ok (t, Next)
 
 -- the arguments are these, so many
-abbrev pub all_arguments : Exec → Values → ℕ → Exec
+abbrev pub all_arguments : Procedure → Values → ℕ → Procedure
 all_arguments s arguments count = record s { variables = record { arguments = arguments; others = s.variables.others }; count = count }
 
 -- these become the arguments, and no others are set
-unfoldable pub with_arguments : Exec → List Text → Result Exec Fault
+unfoldable pub with_arguments : Procedure → List Text → Result Procedure Fault
 with_arguments s values = do
   room_for (len s.variables.others + length values)
   Ok (all_arguments s (numbered 1 values empty) (length values))

@@ -33,7 +33,8 @@ impl ExecState {
     }
 
     fn call_at(&mut self, label: &Word, values: &[Word], is_cut: bool) -> Result<Want, Fault>
-        ensures { Does (spec.called_at self.old label.now values.now is_cut) self.old self.new result }
+        ensures { Does (spec.called_at self.old label.now values.now is_cut) self.old self.new
+            result }
     {
         let place = self.place_named(label.bytes())?;
         whole(is_cut)?;

@@ -4,7 +4,7 @@ ghost use Rattle.exec2_run.specs.Faults.{Answers, Does, Leads, number_of_fault};
 ghost use Rattle.exec2_run.specs.Given.{bound, seen, seen_at};
 ghost use Rattle.exec2_run.specs.Steps as spec;
 ghost use Rattle.exec2_parse.specs.Kinds.{guards, kind_of};
-ghost use Rattle.exec2_run.specs.Due.{words_due};
+ghost use Rattle.exec2_run.specs.Due.{at_place, place_of, words_due};
 ghost use Rattle.exec2_run.specs.Steps.{Takes};
 
 use crate::calls::{Calls, line_of_last};
@@ -103,7 +103,7 @@ struct Place {
     action: ErrorAction,
 }
 
-/// What there is of a procedure that runs.
+/// What there is of a procedure that runs, seen without its allocator.
 #[derive(Drop)]
 pub struct ExecState {
     pub(crate) alloc: Global,
@@ -129,6 +129,33 @@ pub struct ExecState {
     pub(crate) reading: Reading,
 }
 
+impl Model for ExecState {
+    ghost use Rattle.exec2_parse.specs.contracts.vars.Vars as vars;
+    ghost use Rattle.std.specs.Coded.{codes};
+    ghost use Rattle.exec2_run.specs.State.{Procedure};
+
+    ghost Value = { Procedure };
+
+    ghost coded = { Prim.hlevel (codes, vars.the_row.coded) };
+
+    ghost view = { λ s. record {
+      lines = s.lines;
+      next = s.next;
+      line = s.line;
+      moment = s.moment;
+      start = s.start;
+      variables = s.variables;
+      count = s.count;
+      loops = s.loops;
+      calls = s.calls;
+      error = s.error;
+      action = s.action;
+      code = s.code;
+      destination = s.destination;
+      reading = s.reading;
+    } };
+}
+
 /// A procedure that runs, a statement at a time, seen as its state. It is one pointer, so that nothing is copied where it is handed on.
 #[derive(Drop)]
 pub struct Exec {
@@ -138,9 +165,9 @@ pub struct Exec {
 impl Model for Exec {
     ghost use Rattle.exec2_parse.specs.contracts.vars.Vars as vars;
     ghost use Rattle.std.specs.Coded.{codes};
-    ghost use Rattle.exec2_run.specs.declared.exec.ExecState.{ExecState};
+    ghost use Rattle.exec2_run.specs.State.{Procedure};
 
-    ghost Value = { ExecState };
+    ghost Value = { Procedure };
 
     ghost coded = { Prim.hlevel (codes, vars.the_row.coded) };
 
@@ -155,7 +182,7 @@ impl Exec {
         called: &Line,
         found: &FileName,
     ) -> Result<Exec, AllocError>
-        ensures { IfOk result (λ exec. spec.begun alloc procedure called.now found.now ≡ Ok exec) }
+        ensures { IfOk result (λ exec. spec.begun procedure called.now found.now ≡ Ok exec) }
     {
         let state = ExecState::start(alloc, procedure, called, found)?;
         let state = Box::new(alloc, state)?;
@@ -180,7 +207,8 @@ impl Exec {
     /// `Next` where a statement is due, `Ended(0)` past the last line, and `Failed` where a test has a fault. After that, and without
     /// memory, the procedure stands as before.
     pub fn settle(&mut self, moment: &Moment) -> Result<Want, AllocError>
-        ensures step { IfOk result (λ want. Takes (spec.settled moment.now self.old) self.old self.new want) }
+        ensures step { IfOk result (λ want.
+            Takes (spec.settled moment.now self.old) self.old self.new want) }
         ensures err { OnErr result (self.new ≡ self.old) }
     {
         self.state.settle(moment)
@@ -189,7 +217,8 @@ impl Exec {
     /// Runs one statement at a turn's moment: the error action where it is due, else that of the next line. After `Failed`, and without
     /// memory, the procedure stands as before.
     pub fn turn(&mut self, moment: &Moment) -> Result<Want, AllocError>
-        ensures step { IfOk result (λ want. Takes (spec.turned moment.now self.old) self.old self.new want) }
+        ensures step { IfOk result (λ want.
+            Takes (spec.turned moment.now self.old) self.old self.new want) }
         ensures err { OnErr result (self.new ≡ self.old) }
     {
         self.state.turn(moment)
@@ -197,7 +226,8 @@ impl Exec {
 
     /// Takes the line that `Read` asked for. After `Failed`, and without memory, it is still asked for.
     pub fn take_line(&mut self, line: &Line) -> Result<Want, AllocError>
-        ensures step { IfOk result (λ want. Takes (spec.line_taken self.old line.now) self.old self.new want) }
+        ensures step { IfOk result (λ want.
+            Takes (spec.line_taken self.old line.now) self.old self.new want) }
         ensures err { OnErr result (self.new ≡ self.old) }
     {
         self.state.take_line(line)
@@ -228,7 +258,7 @@ impl ExecState {
         called: &Line,
         found: &FileName,
     ) -> Result<ExecState, AllocError>
-        ensures { IfOk result (λ exec. spec.begun alloc procedure called.now found.now ≡ Ok exec) }
+        ensures { IfOk result (λ exec. spec.begun procedure called.now found.now ≡ Ok exec) }
     {
         let mut exec = ExecState {
             alloc,
@@ -260,7 +290,8 @@ impl ExecState {
     /// memory, the procedure stands as before.
     #[tactic(auto, unfolding(crate::specs::Steps::settled))]
     pub fn settle(&mut self, moment: &Moment) -> Result<Want, AllocError>
-        ensures step { IfOk result (λ want. Takes (spec.settled moment.now self.old) self.old self.new want) }
+        ensures step { IfOk result (λ want.
+            Takes (spec.settled moment.now self.old) self.old self.new want) }
         ensures err { OnErr result (self.new ≡ self.old) }
     {
         if self.is_due() {
@@ -312,7 +343,8 @@ impl ExecState {
     /// memory, the procedure stands as before.
     #[tactic(auto, unfolding(crate::specs::Steps::turned))]
     pub fn turn(&mut self, moment: &Moment) -> Result<Want, AllocError>
-        ensures step { IfOk result (λ want. Takes (spec.turned moment.now self.old) self.old self.new want) }
+        ensures step { IfOk result (λ want.
+            Takes (spec.turned moment.now self.old) self.old self.new want) }
         ensures err { OnErr result (self.new ≡ self.old) }
     {
         let due = self.statement_due()?;
@@ -329,7 +361,7 @@ impl ExecState {
     }
 
     fn place(&self) -> Place
-        ensures { result ≡ spec.place_of self.now }
+        ensures { result ≡ place_of self.now }
     {
         Place {
             next: self.next,
@@ -340,7 +372,7 @@ impl ExecState {
     }
 
     fn go_to_place(&mut self, place: Place)
-        ensures { self.new ≡ spec.at_place self.old place }
+        ensures { self.new ≡ at_place self.old place }
     {
         self.next = place.next;
         self.line = place.line;
@@ -351,7 +383,8 @@ impl ExecState {
     /// Takes the line that `Read` asked for. After `Failed`, and without memory, it is still asked for.
     #[tactic(auto, unfolding(crate::specs::Steps::line_taken))]
     pub fn take_line(&mut self, line: &Line) -> Result<Want, AllocError>
-        ensures step { IfOk result (λ want. Takes (spec.line_taken self.old line.now) self.old self.new want) }
+        ensures step { IfOk result (λ want.
+            Takes (spec.line_taken self.old line.now) self.old self.new want) }
         ensures err { OnErr result (self.new ≡ self.old) }
     {
         let reading = std::mem::replace(&mut self.reading, Reading::Nothing);
@@ -472,8 +505,10 @@ impl ExecState {
     #[tactic(auto, unfolding(crate::specs::Steps::guarded))]
     fn guarded<'w>(&self, kind: Kind, words: &'w [Word]) -> Result<Unguarded<'w>, Fault>
         requires { kind ≡ kind_of words.now }
-        ensures statement { MatchResult result (λ statement. spec.guarded (seen self.now) words.now ≡ Ok statement.words.now)
-            (λ fault. (fault ≡ Fault.Memory) ⊎ (spec.guarded (seen self.now) words.now ≡ Err fault)) }
+        ensures statement { MatchResult result
+            (λ statement. spec.guarded (seen self.now) words.now ≡ Ok statement.words.now)
+            (λ fault. (fault ≡ Fault.Memory)
+            ⊎ (spec.guarded (seen self.now) words.now ≡ Err fault)) }
         ensures kind { IfOk result (λ statement. statement.kind ≡ kind_of statement.words.now) }
     {
         let mut rest = words;
@@ -549,7 +584,8 @@ impl ExecState {
 
     /// &ERROR and a statement, which is kept, or alone.
     fn set_error(&mut self, words: &[Word]) -> Result<Want, Fault>
-        ensures { Does (Ok (spec.with_error self.old words.now, Want.Next)) self.old self.new result }
+        ensures { Does (Ok (spec.with_error self.old words.now, Want.Next)) self.old self.new
+            result }
     {
         self.error = self.error_of(words)?;
         Ok(Want::Next)

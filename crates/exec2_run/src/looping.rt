@@ -145,8 +145,10 @@ impl ExecState {
     #[tactic(auto, unfolding(crate::specs::Loops::settled_from))]
     fn loops_left(&self, moment: &Moment) -> Result<LoopsLeft, (Fault, u32)>
         ensures { MatchResult result
-            (λ left. spec.settled_loops moment.now self.now ≡ Ok (spec.left_open self.now left.begins (drop left.over self.now.loops)))
-            (λ failure. (failure.0 ≡ Fault.Memory) ⊎ (spec.settled_loops moment.now self.now ≡ Err failure)) }
+            (λ left. spec.settled_loops moment.now self.now
+            ≡ Ok (spec.left_open self.now left.begins (drop left.over self.now.loops)))
+            (λ failure. (failure.0 ≡ Fault.Memory)
+            ⊎ (spec.settled_loops moment.now self.now ≡ Err failure)) }
     {
         for over in 0..self.loops.len() {
             let Some(innermost) = self.loops.get(over) else {
@@ -234,7 +236,8 @@ impl Loop {
 
 #[tactic(auto, unfolding(crate::specs::Loops::first_of))]
 fn first_of<'w>(alloc: Global, seen: &Seen<'_>, words: &'w [Word]) -> Result<First<'w>, Fault>
-    ensures { MatchResult result (λ first. spec.first_of (bound seen.now) words.now ≡ Ok (first.value, first.behind.now))
+    ensures { MatchResult result
+        (λ first. spec.first_of (bound seen.now) words.now ≡ Ok (first.value, first.behind.now))
         (λ fault. (fault ≡ Fault.Memory) ⊎ (spec.first_of (bound seen.now) words.now ≡ Err fault)) }
 {
     let mut rest = words;

@@ -46,7 +46,8 @@ impl<T> Stack<T> {
 
     /// Takes the newest item, if there is one.
     pub fn pop(&mut self) -> Option<T>
-        ensures { MatchOption result ((self.old ≡ []) × (self.new ≡ [])) (λ newest. self.old ≡ newest ∷ self.new) }
+        ensures { MatchOption result ((self.old ≡ []) × (self.new ≡ []))
+            (λ newest. self.old ≡ newest ∷ self.new) }
     {
         self.items.pop_front()
     }

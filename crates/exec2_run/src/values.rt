@@ -34,7 +34,8 @@ fn values(
     words: &[Word],
     keeps_empty: bool,
 ) -> Result<Operands, AllocError>
-    ensures { IfOk result (λ operands. operands ≡ spec.values keeps_empty (bound seen.now) words.now) }
+    ensures { IfOk result (λ operands. operands
+        ≡ spec.values keeps_empty (bound seen.now) words.now) }
 {
     let mut values = WordList::new(alloc);
     for word in words {

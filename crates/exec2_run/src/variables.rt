@@ -98,7 +98,8 @@ impl Variables {
 
     /// The value of a variable, empty where it isn't set.
     pub fn value(&self, alloc: Global, name: &[u8]) -> Result<Word, AllocError>
-        ensures { IfOk result (λ value. value ≡ value_of (given.table_of self.now name.now) name.now) }
+        ensures { IfOk result (λ value. value
+            ≡ value_of (given.table_of self.now name.now) name.now) }
     {
         if is_argument(name) {
             self.arguments.value(alloc, name)
@@ -158,7 +159,8 @@ impl Variables {
     /// Sets a variable that is set.
     fn put_back(&mut self, name: Word, value: Word)
         requires { IsSome (get (given.table_of self.old name) name) }
-        ensures { self.new ≡ spec.with_table self.old name (insert (given.table_of self.old name) name value) }
+        ensures { self.new ≡ spec.with_table self.old name
+            (insert (given.table_of self.old name) name value) }
     {
         if is_argument(name.bytes()) {
             match self.arguments.set(name, value) {
@@ -174,7 +176,8 @@ impl Variables {
     }
 
     fn unset(&mut self, name: &[u8])
-        ensures { self.new ≡ spec.with_table self.old name.now (remove (given.table_of self.old name.now) name.now) }
+        ensures { self.new ≡ spec.with_table self.old name.now
+            (remove (given.table_of self.old name.now) name.now) }
     {
         if is_argument(name) {
             self.arguments.unset(name);

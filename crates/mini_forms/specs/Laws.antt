@@ -50,6 +50,7 @@ abbrev pub kept : Format → List ℕ → List ℕ
 kept F line = without_trailing 0x20 line
 kept V line = if bytes_eq line (0x20 ∷ []) then [] else line
 
+-- the length that a layout has for the records of a file: none at V
 abbrev pub size_of : Format → ℕ → Option ℕ
 size_of F size = Some size
 size_of V size = None

@@ -43,6 +43,7 @@ start_of (Text size) = Line size Fresh
 start_of (Binary n) = Block n
 start_of (Records size) = Stored size Start
 
+-- a reading of which no byte has come
 abbrev pub unread : Layout → Reading
 unread layout = record { place = start_of layout; bytes = []; whole = false; count = 0; stored = 0 }
 
@@ -136,6 +137,7 @@ ended_at (Stored size Start) s = ends s
 ended_at (Stored size (High high)) s = Err (Cut (number s))
 ended_at (Stored size (Left n)) s = Err (Cut (number s))
 
+-- what the reading comes to behind its last byte
 abbrev pub ended : Reading → Result Reading FormFault
 ended s = ended_at s.place (begun s)
 

@@ -177,7 +177,8 @@ impl Reader {
     fn end_line(&mut self, size: Option<u32>) -> Result<bool, FormFault>
         requires size { size_in self.old.place ≡ size }
         requires begun { self.old.whole ≡ false }
-        ensures { Gives result self.new (finished (Line size Fresh) (record_of size self.old.bytes) self.old) }
+        ensures { Gives result self.new
+            (finished (Line size Fresh) (record_of size self.old.bytes) self.old) }
     {
         match size {
             Some(size) => self.bytes.resize(size as usize, BLANK).unwrap(),
@@ -250,7 +251,8 @@ impl Reader {
     fn fill_block(&mut self, size: u32) -> Result<bool, FormFault>
         requires place { self.old.place ≡ Block size }
         requires begun { self.old.whole ≡ false }
-        ensures { Gives result self.new (finished (Block size) (fitted self.old.bytes size 0) self.old) }
+        ensures { Gives result self.new
+            (finished (Block size) (fitted self.old.bytes size 0) self.old) }
     {
         self.bytes.resize(size as usize, 0).unwrap();
         self.whole = true;

@@ -39,7 +39,8 @@ pub fn write_record(
 ) -> Result<(), AllocError>
     requires some { 1 ≤ length bytes.now }
     requires short { length bytes.now ≤ longest_record }
-    ensures ok { OnOk result (into.new.items ≡ into.old.items ++ one_written form format bytes.now) }
+    ensures ok { OnOk result (into.new.items
+        ≡ into.old.items ++ one_written form format bytes.now) }
     ensures err { OnErr result (into.new.items ≡ into.old.items) }
 {
     match form {
@@ -77,7 +78,8 @@ fn shown(format: Format, bytes: &[u8]) -> &[u8]
 
 // Appends the characters of codes; there is room for two bytes each, and one more.
 fn put_text(into: &mut Vec<u8>, codes: &[u8])
-    requires { vec_len into.old + (length codes.now + length codes.now) + 1 ≤ vec_capacity into.old }
+    requires { vec_len into.old + (length codes.now + length codes.now) + 1
+        ≤ vec_capacity into.old }
     ensures text { into.new.items ≡ into.old.items ++ text_of codes.now }
     ensures room { vec_len into.new + 1 ≤ vec_capacity into.new }
 {

@@ -62,6 +62,7 @@ begun name over f = drafted (Some (record { file = record { name = name; content
 abbrev pub with_more : List ℕ → Draft → Draft
 with_more more d = record { file = record { name = d.file.name; content = d.file.content ++ more }; over = d.over }
 
+-- these bytes come behind those of what is written
 abbrev pub written : List ℕ → Files → Files
 written more f = drafted (option_map (with_more more) f.draft) f
 
@@ -80,6 +81,7 @@ named (Some d) f = record {
   notes = f.notes;
 }
 
+-- the same of what the host writes, if it writes something
 abbrev pub kept : Files → Files
 kept f = named f.draft f
 

@@ -27,7 +27,8 @@ pub trait Host {
     fn open(&mut self, name: &str) -> Result<bool, Failed>
         ensures there { IfOk result (λ there. ForSome (told self.old)
             (λ f. there ≡ is_some (content_of name.now f.files))) }
-        ensures opened { OnOk result (told self.new ≡ option_map (opened name.now) (told self.old)) }
+        ensures opened { OnOk result (told self.new
+            ≡ option_map (opened name.now) (told self.old)) }
         ensures failed { OnErr result (told self.new ≡ told self.old) }
         ensures cause { HasCause (faults self.old) (faults self.new) result };
 
@@ -47,13 +48,15 @@ pub trait Host {
 
     /// Whether there is a folder of this name.
     fn has_folder(&mut self, name: &str) -> Result<bool, Failed>
-        ensures folder { IfOk result (λ there. ForSome (told self.old) (λ f. there ≡ is_folder name.now f)) }
+        ensures folder { IfOk result (λ there. ForSome (told self.old)
+            (λ f. there ≡ is_folder name.now f)) }
         ensures told { told self.new ≡ told self.old }
         ensures cause { HasCause (faults self.old) (faults self.new) result };
 
     /// Whether two names are of one file. Where the host tells its files, one that has two names is none.
     fn is_same(&mut self, one: &str, other: &str) -> Result<bool, Failed>
-        ensures same { IfOk result (λ same. ForSome (told self.old) (λ f. same ≡ bytes_eq one.now other.now)) }
+        ensures same { IfOk result (λ same. ForSome (told self.old)
+            (λ f. same ≡ bytes_eq one.now other.now)) }
         ensures told { told self.new ≡ told self.old }
         ensures cause { HasCause (faults self.old) (faults self.new) result };
 
@@ -71,7 +74,8 @@ pub trait Host {
     /// Writes bytes behind those of the file that is begun.
     fn write(&mut self, from: &[u8]) -> Result<(), Failed>
         requires { ForSome (told self.old) (λ f. IsSome f.draft) }
-        ensures wrote { OnOk result (told self.new ≡ option_map (written from.now) (told self.old)) }
+        ensures wrote { OnOk result (told self.new
+            ≡ option_map (written from.now) (told self.old)) }
         ensures failed { OnErr result (told self.new ≡ told self.old) }
         ensures cause { HasCause (faults self.old) (faults self.new) result };
 

@@ -32,7 +32,8 @@ impl MemHost {
 
     /// A host with no files and no folders.
     pub fn new(alloc: Global) -> MemHost
-        ensures files { files_of result ≡ record { files = []; folders = []; left = None; draft = None; notes = [] } }
+        ensures files { files_of result
+            ≡ record { files = []; folders = []; left = None; draft = None; notes = [] } }
         ensures faults { faults_of result ≡ 0 }
         ensures calls { calls_of result ≡ 0 }
         ensures failing { failing_of result ≡ [] }
@@ -69,7 +70,10 @@ impl MemHost {
     /// Gives a folder.
     pub fn add_folder(&mut self, name: &str) -> Result<(), AllocError>
         ensures given { OnOk result (files_of self.new
-            ≡ record (files_of self.old) { folders = (files_of self.old).folders ++ name.now ∷ [] }) }
+            ≡ record (files_of self.old) {
+              folders = (files_of self.old).folders ++ name.now
+                  ∷ [];
+            }) }
         ensures err { OnErr result (files_of self.new ≡ files_of self.old) }
         ensures faults { faults_of self.new ≡ faults_of self.old }
         ensures calls { calls_of self.new ≡ calls_of self.old }
@@ -91,7 +95,8 @@ impl MemHost {
 
     /// What the file of a name holds, where there is one.
     pub fn file(&self, name: &str) -> Option<&[u8]>
-        ensures { option_map (λ bytes. bytes.now) result ≡ content_of name.now (files_of self.now).files }
+        ensures { option_map (λ bytes. bytes.now) result
+            ≡ content_of name.now (files_of self.now).files }
     {
         match content(&self.files, name) {
             Some(content) => Some(content.bytes()),
@@ -163,7 +168,8 @@ impl Host for MemHost {
     fn open(&mut self, name: &str) -> Result<bool, Failed>
         ensures there { IfOk result (λ there. ForSome (told_of self.old)
             (λ f. there ≡ is_some (content_of name.now f.files))) }
-        ensures opened { OnOk result (told_of self.new ≡ option_map (opened name.now) (told_of self.old)) }
+        ensures opened { OnOk result (told_of self.new
+            ≡ option_map (opened name.now) (told_of self.old)) }
         ensures failed { OnErr result (told_of self.new ≡ told_of self.old) }
         ensures cause { HasCause (faults_of self.old) (faults_of self.new) result }
 
@@ -193,7 +199,8 @@ impl Host for MemHost {
             (λ f. ForSome f.left (λ left. take n into.new ≡ take n left))) }
         ensures all { IfOk result (λ n. ForSome (told_of self.old)
             (λ f. ForSome f.left (λ left. (n ≤ length left) × (n ≡ 0 → length left ≡ 0)))) }
-        ensures told { IfOk result (λ n. told_of self.new ≡ option_map (read_on n) (told_of self.old)) }
+        ensures told { IfOk result (λ n. told_of self.new
+            ≡ option_map (read_on n) (told_of self.old)) }
         ensures rest { IfOk result (λ n. rest_of self.new + n ≤ rest_of self.old) }
         ensures failed { OnErr result (told_of self.new ≡ told_of self.old) }
         ensures cause { HasCause (faults_of self.old) (faults_of self.new) result }
@@ -210,7 +217,8 @@ impl Host for MemHost {
 
     #[tactic(auto, unfolding(crate::specs::Files::is_folder))]
     fn has_folder(&mut self, name: &str) -> Result<bool, Failed>
-        ensures folder { IfOk result (λ there. ForSome (told_of self.old) (λ f. there ≡ is_folder name.now f)) }
+        ensures folder { IfOk result (λ there. ForSome (told_of self.old)
+            (λ f. there ≡ is_folder name.now f)) }
         ensures told { told_of self.new ≡ told_of self.old }
         ensures cause { HasCause (faults_of self.old) (faults_of self.new) result }
 
@@ -223,7 +231,8 @@ impl Host for MemHost {
     }
 
     fn is_same(&mut self, one: &str, other: &str) -> Result<bool, Failed>
-        ensures same { IfOk result (λ same. ForSome (told_of self.old) (λ f. same ≡ bytes_eq one.now other.now)) }
+        ensures same { IfOk result (λ same. ForSome (told_of self.old)
+            (λ f. same ≡ bytes_eq one.now other.now)) }
         ensures told { told_of self.new ≡ told_of self.old }
         ensures cause { HasCause (faults_of self.old) (faults_of self.new) result }
 
@@ -267,7 +276,8 @@ impl Host for MemHost {
 
     fn write(&mut self, from: &[u8]) -> Result<(), Failed>
         requires { ForSome (told_of self.old) (λ f. IsSome f.draft) }
-        ensures wrote { OnOk result (told_of self.new ≡ option_map (written from.now) (told_of self.old)) }
+        ensures wrote { OnOk result (told_of self.new
+            ≡ option_map (written from.now) (told_of self.old)) }
         ensures failed { OnErr result (told_of self.new ≡ told_of self.old) }
         ensures cause { HasCause (faults_of self.old) (faults_of self.new) result }
 
@@ -282,7 +292,8 @@ impl Host for MemHost {
     fn keep(&mut self) -> Result<bool, Failed>
         requires { ForSome (told_of self.old) (λ f. IsSome f.draft) }
         ensures has_it { IfOk result (λ has_it. ForSome (told_of self.old) (λ f. has_it ≡ true)) }
-        ensures kept { IfOk result (λ has_it. told_of self.new ≡ option_map kept (told_of self.old)) }
+        ensures kept { IfOk result (λ has_it. told_of self.new
+            ≡ option_map kept (told_of self.old)) }
         ensures failed { OnErr result (told_of self.new ≡ told_of self.old) }
         ensures cause { HasCause (faults_of self.old) (faults_of self.new) result }
 
@@ -308,7 +319,8 @@ impl Host for MemHost {
     }
 
     fn note(&mut self, note: Note) -> Result<(), Failed>
-        ensures noted { OnOk result (told_of self.new ≡ option_map (noted note) (told_of self.old)) }
+        ensures noted { OnOk result (told_of self.new
+            ≡ option_map (noted note) (told_of self.old)) }
         ensures failed { OnErr result (told_of self.new ≡ told_of self.old) }
         ensures cause { HasCause (faults_of self.old) (faults_of self.new) result }
 

@@ -48,6 +48,7 @@ rule_by id One = one_rule id
 rule_by id Many = many_rule id
 rule_by id Any = any_rule id
 
+-- the rule of an argument, under the name by which it is found
 abbrev pub rule_for : Argument → Rule
 rule_for argument = rule_by argument.id.now argument.kind
 
@@ -152,6 +153,7 @@ top_form =
     let a = new_app (codes "minidisk") in
     record { top = record a.top { has_version = true; subcommand_required = true; disable_help_subcommand = true }; subs = a.subs }
 
+-- with the forms of all its commands
 unfoldable pub minidisk : App
 minidisk =
     with_subcommand (with_subcommand (with_subcommand (with_subcommand (with_subcommand (with_subcommand (with_subcommand (with_subcommand (with_subcommand top_form

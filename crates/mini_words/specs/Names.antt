@@ -31,6 +31,7 @@ part_word word = option_and_then (λ codes. read_or_none (part_of codes)) (codes
 unfoldable pub pattern_word : List ℕ → Option (List ℕ)
 pattern_word word = option_and_then (λ codes. read_or_none (pattern_of codes)) (codes_of word)
 
+-- the character is the dot
 abbrev pub is_dot : ℕ → Bool
 is_dot c = c == 46
 

@@ -57,6 +57,7 @@ target_in (Some file) None = Ok (File file)
 target_in None (Some folder) = Ok (Folder folder)
 target_in (Some file) (Some folder) = Err TwoTargets
 
+-- the same by what clap found
 unfoldable pub target_of : List Row → Result Target WordFault
 target_of rows = target_in (value_in (codes "FILE") rows) (value_in (codes "DIR") rows)
 

@@ -313,7 +313,8 @@ fn minidisk<'a>(alloc: Global) -> Result<Command<'a>, AllocError>
 /// shows help and the version too, with the exit status of [`Error::exit_code`].
 pub fn find_command<'a>(alloc: Global, words: &'a [&'a str]) -> Result<ArgMatches<'a>, Error>
     ensures taken { IfOk result (λ m. are_taken (map (λ s. s.now) words.entry.now) ≡ true) }
-    ensures found { IfOk result (λ m. subcommand_rows_of m ≡ command_in (map (λ s. s.now) words.entry.now)) }
+    ensures found { IfOk result (λ m. subcommand_rows_of m
+        ≡ command_in (map (λ s. s.now) words.entry.now)) }
     ensures refused { IfErr result (λ e. (kind_of e ≡ OutOfMemory)
         ⊎ (are_taken (map (λ s. s.now) words.entry.now) ≡ false)) }
 {

@@ -8,7 +8,6 @@ use Rattle.cms_journal.specs.Told.{Told}
 use Rattle.cms_names.specs.declared.name.Name.{Name}
 use Rattle.cms_model.specs.Minidisks.{Minidisk}
 use Rattle.cms_disk.specs.Disks.{Accessed}
-use Rattle.cms_disk.specs.Drafts.{Stands}
 use Rattle.mini_forms.specs.declared.form.Form.{Form}
 use Rattle.mini_host.specs.Files.{Files, is_folder, is_taken}
 use Rattle.mini_host.specs.declared.content.HostFile.{HostFile}
@@ -21,6 +20,7 @@ use Rattle.mini_work.specs.Going.{Act, Asked, Came, Continues, Cut, Denied, Did,
 use Rattle.mini_work.specs.Getting.{HasNoFolder, Hosts, IsBarred, IsGetting, IsGotBy, IsGotEach, IsGotTo, IsHanded, IsJoined, IsTyped, OnHost, files_after, folder_of}
 use Rattle.mini_work.specs.Hosting.{Noted, SameFiles, files_in}
 use Rattle.mini_work.specs.Handing.{GetsOne, Hands, PutsFront, shown_in}
+use Rattle.mini_work.specs.Standing.{Stands}
 use Rattle.mini_work.specs.Working.{names_of}
 use Rattle.mini_work.specs.declared.fault.Fault.{Fault}
 use Rattle.mini_work.specs.declared.handing.Way.{Way}
@@ -144,9 +144,9 @@ handed_on form name old new d h k (Err why) gets = λ start first m acts came.
     cut (shown_in form m name) start first m acts came (gets m came.stands)
   where
     cut : (text : Option (List ℕ)) (start : Told) (first m : Minidisk) (acts : List Act) → Came start first acts old d m → PutsFront ways.Output old new text
-        → (more : List Act) × Cut start d.volume.unit first more new
+        → (more : List Act) × Cut start first more new
     cut None start first m acts came same =
-        (acts, subst (λ (t : Told). Cut start d.volume.unit first acts t) (sym same) (cut_here start first m acts old d came))
+        (acts, subst (λ (t : Told). Cut start first acts t) (sym same) (cut_here start first m acts old d came))
     cut (Some bytes) start first m acts came part = (acts, cut_typing start first m acts old new d bytes came part)
 
 -- a refusal, of what more is known

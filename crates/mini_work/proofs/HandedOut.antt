@@ -18,13 +18,13 @@ use Rattle.cms_edf.specs.declared.held.FileInfo.{FileInfo}
 use Rattle.cms_disk.specs.Cursors.{HasLeft, Reading, SameFile}
 use Rattle.cms_copyfile.proofs.CopyPasses.{units_grown}
 use Rattle.cms_disk.specs.Disks.{Accessed, IsReadable, OpensIn, StartsAt}
-use Rattle.cms_disk.specs.Drafts.{Stands}
 use Rattle.cms_disk.proofs.Standing.{named_at}
 use Rattle.mini_forms.specs.Writing.{is_line, written}
 use Rattle.mini_forms.specs.declared.form.Form.{Form}
 use Rattle.mini_host.specs.Files.{Files}
 use Rattle.mini_work.specs.Handing.{Hands, IsInfoOf, PutsFront, PutsOut, PutsPart, Puts, can_show, shown_in, shown_of}
 use Rattle.mini_work.specs.Hosting.{SameFiles, things_in}
+use Rattle.mini_work.specs.Standing.{Stands}
 use Rattle.mini_work.specs.declared.fault.Fault.{Fault}
 use Rattle.mini_work.specs.declared.handing.Way.{Way}
 use Rattle.mini_work.specs.declared.handing.Way.TheVariants as ways
@@ -131,19 +131,6 @@ opened_blocks told d name c start may = λ j is.
     subst (λ (u : ℕ). HasBlocks j.units u c.total c.bsize) (sym f.unit)
     (subst (λ (n : ℕ). HasBlocks j.units d.volume.unit n c.bsize) (sym f.total)
     (subst (λ (n : ℕ). HasBlocks j.units d.volume.unit d.volume.disk.count n) (sym f.bsize) (may j is)))
-
--- its records are no longer than is told
-pub opened_long : (d : Accessed) (name : Name) (c : Reading) (info : FileInfo) → StartsAt name d.volume c → IsInfoOf name d.volume info
-    → c.begun.longest ≡ info.length
-opened_long d name c info start is =
-    let long : c.begun.longest ≡ start.file.length = rw start.first.begun in
-    let h = held_there d.volume.files is.0 info is.2 in
-    let place : is.0 ≡ start.place = same_Some is.0 start.place (sym is.1 ∙ start.place_is) in
-    let file : h.0 ≡ start.file =
-    same_Some h.0 start.file (sym (subst (λ (k : ℕ). slice_get d.volume.files k ≡ Some h.0) place h.1) ∙ start.file_is) in
-    long ∙ sym (ap (λ (x : HeldFile). x.length) file) ∙ ap (λ (i : FileInfo). i.length) h.2
-
--- ---- records one after another
 
 -- the host's files stay
 pub files_put : (way : Way) (old new : Told) (h k : Option Files) (bytes : List ℕ) → PutsOut way old new h k bytes → SameFiles h k

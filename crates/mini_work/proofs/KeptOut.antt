@@ -11,7 +11,6 @@ use Rattle.cms_journal.specs.Told.{Told}
 use Rattle.cms_names.specs.declared.name.Name.{Name}
 use Rattle.cms_model.specs.Minidisks.{Minidisk}
 use Rattle.cms_disk.specs.Disks.{Accessed}
-use Rattle.cms_disk.specs.Drafts.{Stands}
 use Rattle.mini_forms.specs.declared.form.Form.{Form}
 use Rattle.mini_host.specs.Files as files
 use Rattle.mini_host.specs.Files.{Files, with_more}
@@ -24,6 +23,7 @@ use Rattle.mini_work.specs.Getting.{AreSaid, Begins, HasNoFolder, Hosts, IsBarre
 use Rattle.mini_work.specs.Hosting.{Noted, SameFiles, files_in}
 use Rattle.mini_work.specs.Handing.{GetsOne, IsBegun, PutsFront, shown_in}
 use Rattle.mini_work.specs.Saying.{name_line}
+use Rattle.mini_work.specs.Standing.{Stands}
 use Rattle.mini_work.specs.declared.fault.Fault.{Fault}
 use Rattle.mini_work.specs.declared.handing.Way.TheVariants as ways
 use Rattle.mini_work.specs.declared.status.Status.{Status}
@@ -93,7 +93,7 @@ got_still get path name old new d h k is same = λ start first m acts came.
 pub got_cut : {A : Type 0} (P : A → Minidisk → List Act → Minidisk → List Act → Type 0) (old new : Told) (d : Accessed) (f : Fault)
     → ((m : Minidisk) → Stands old d m → new ≡ old) → Continues P old d new d (Err f)
 got_cut P old new d f is = λ start first m acts came.
-    (acts, subst (λ (t : Told). Cut start d.volume.unit first acts t) (sym (is m came.stands)) (cut_here start first m acts old d came))
+    (acts, subst (λ (t : Told). Cut start first acts t) (sym (is m came.stands)) (cut_here start first m acts old d came))
 
 pub front_same : (old new : Told) (text : Option (List ℕ)) → PutsFront ways.File old new text → new ≡ old
 front_same old new None same = same

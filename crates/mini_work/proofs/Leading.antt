@@ -15,7 +15,7 @@ use Rattle.cms_disk.specs.Disks.{Accessed, IsLookedAt, IsMinidisk}
 use Rattle.cms_disk.specs.declared.fault.DiskFault.{DiskFault}
 use Rattle.cms_disk.specs.declared.fault.DiskFault.TheVariants as disk
 use Rattle.mini_work.specs.Changing.{IsAsked, IsChange, IsDone, IsTold, is_denial, said_if}
-use Rattle.mini_work.specs.Going.{Act, Asked, Continues, Cut, Denied, Did, Goes, Said, both, none, one}
+use Rattle.mini_work.specs.Going.{Act, Asked, Continues, Denied, Did, Goes, Said, both, none, one}
 use Rattle.mini_work.specs.declared.fault.Fault.{Fault}
 use Rattle.mini_work.specs.declared.status.Status.{Status}
 use Rattle.mini_work.specs.declared.status.Status.TheVariants as status
@@ -107,11 +107,7 @@ change_refused change stamp says bytes old new d e why (Ok s) refused alters kep
       came_denied start first m acts new e change still a.1,
     )
 change_refused change stamp says bytes old new d e why (Err f) refused alters kept same = λ start first m acts came.
-    let t = came.stands in (
-      acts,
-      subst (λ (u : ℕ). Cut start u first acts new) (sym same.unit)
-          (cut_change start first m acts old new d e change stamp why came same.unit (alters t.at m t.told_is t.minidisk t.looked)),
-    )
+    let t = came.stands in (acts, cut_change start first m acts old new d e change stamp why came same (alters t.at m t.told_is t.minidisk t.looked))
 
 -- ---- what is typed where that is asked for
 

@@ -33,7 +33,6 @@ formats_on name size access old mid new info a label stamp moment offset r is to
     let s = starts name size access old info a (Now moment ∷ []) (tt, tt) in
     let at : mid ≡ Some j = told ∙ ap (adds (Now moment)) a.alone.told_is in
     let ready : IsReady j info (first_state unit) = record {
-      seen = s.seen;
       whole = s.whole;
       quiet = s.quiet;
       state = ap (state_of (disk_on info)) s.contents ∙ ap (λ (k : Disk). state_of k (image_of unit.start)) s.looked;

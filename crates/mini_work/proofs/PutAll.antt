@@ -172,8 +172,8 @@ on_first start now d m draft change stamp records s h k bytes goes told left is 
 
 -- it may be given up
 pub on_given : (start now : Told) (d : Accessed) (m : Minidisk) (draft : FileDraft) (change : Change) (stamp : Stamp) (records : List (List ℕ)) (s : Reading) (h : Files) (k : Option Files)
-    → PutsOn start now d m draft change stamp records s h k → IsGivenUp start now d m
-on_given start now d m draft change stamp records s h k p = record { stands = p.goes.stands; aside = p.goes.aside }
+    → PutsOn start now d m draft change stamp records s h k → IsGivenUp start now d m change
+on_given start now d m draft change stamp records s h k p = record { stands = p.goes.stands; aside = p.goes.aside; few = p.goes.few }
 
 -- what the host reads of it
 abbrev pub ReadsSo : Option Files → Option Files → ℕ → List ℕ → Type 0
@@ -184,7 +184,7 @@ abbrev pub OnSo : Told → Told → Accessed → Minidisk → FileDraft → Chan
 OnSo start now d m draft change stamp records s h k (Ok x) = PutsOn start now d m draft change stamp records s h k
 OnSo start now d m draft change stamp records s h k (Err (fault.Form why)) = ⊥
 OnSo start now d m draft change stamp records s h k (Err fault.Changed) = ⊥
-OnSo start now d m draft change stamp records s h k (Err (fault.Fault why)) = IsGivenUp start now d m
+OnSo start now d m draft change stamp records s h k (Err (fault.Fault why)) = IsGivenUp start now d m change
 
 -- bytes that were read were put
 pub on_more : (start old new : Told) (d : Accessed) (m : Minidisk) (draft draft' : FileDraft) (change : Change) (stamp : Stamp) (records : List (List ℕ)) (s t : Reading) (h : Files)
@@ -231,8 +231,8 @@ on_stopped start now d m draft change stamp records s h k (fault.Fault why) p = 
 
 -- before the first byte
 pub none_given : (start now : Told) (d : Accessed) (m : Minidisk) (draft : FileDraft) (change : Change) (stamp : Stamp) (done more : List (List ℕ)) → GoesOn start now d m draft change stamp done more
-    → IsGivenUp start now d m
-none_given start now d m draft change stamp done more goes = record { stands = goes.stands; aside = goes.aside }
+    → IsGivenUp start now d m change
+none_given start now d m draft change stamp done more goes = record { stands = goes.stands; aside = goes.aside; few = goes.few }
 
 pub puts_stopped : (start now : Told) (d : Accessed) (m : Minidisk) (draft : FileDraft) (change : Change) (stamp : Stamp) (done more : List (List ℕ)) (s t : Reading) (xs ys : List ℕ)
     (why : FileFault) → PutsSo start now d m draft change stamp done more s xs (Err why) → PutsSo start now d m draft change stamp done more t ys (Err why)

@@ -22,7 +22,7 @@ use Rattle.cms_held.specs.Drafts.{Front}
 use Rattle.cms_held.specs.Opening.{HeldFile}
 use Rattle.cms_disk.specs.Changing.{Alters, IsOnSame}
 use Rattle.cms_disk.specs.Disks.{Accessed, place_of}
-use Rattle.cms_disk.specs.Drafts.{AnswersDraft, BeginsPut, GoesOn, HaveCounts, IsDraftFault, Stands, file_with}
+use Rattle.cms_disk.specs.Drafts.{AnswersDraft, BeginsPut, GoesOn, HaveCounts, IsDraftFault, file_with}
 use Rattle.cms_disk.specs.declared.fault.DiskFault.{DiskFault}
 use Rattle.cms_disk.proofs.FilePut.{refused_so}
 use Rattle.cms_disk.proofs.Finding.{none_found}
@@ -34,10 +34,11 @@ use Rattle.mini_host.specs.declared.content.HostFile.{HostFile}
 use Rattle.mini_words.specs.declared.request.Put as words
 use Rattle.mini_work.specs.Changing.{IsChange}
 use Rattle.mini_work.specs.Drafting.{Begins, FillsSo, IsShapeOf}
-use Rattle.mini_work.specs.Going.{Act, Continues, Cut, MayChange}
+use Rattle.mini_work.specs.Going.{Act, Continues, MayChange}
 use Rattle.mini_work.specs.Layouts.{size_of}
 use Rattle.mini_work.specs.Putting.{IsFileFor, IsNoFileFor, IsPut, name_for, number_for}
 use Rattle.mini_work.specs.Saying.{name_line}
+use Rattle.mini_work.specs.Standing.{Stands}
 use Rattle.mini_work.specs.declared.fault.Fault.{Fault}
 use Rattle.mini_work.specs.declared.status.Status.{Status}
 use Rattle.mini_work.specs.declared.status.Status.TheVariants as status
@@ -96,7 +97,7 @@ pub begins_put : (told : Told) (d e : Accessed) (name : Name) (shape : DraftShap
 begins_put told d e name shape stamp draft records same begins have long = λ m s.
     let t = stands_same told told e d m s refl (sym same) in
     subst (λ (x : Told). GoesOn x x e m draft (Put (file_with name shape records)) stamp [] records) (sym t.told_is)
-    (begins t.at m records t.minidisk t.readable t.looked have long)
+    (begins t.at m records t.minidisk t.readable have long)
 
 -- what filling it says
 abbrev pub Fills : Told → Told → Accessed → FileDraft → FileDraft → Change → Stamp → List (List ℕ) → Result Bool Fault → Type 0
@@ -109,7 +110,7 @@ pub fill_cut : {A : Type 0} (P : A → Minidisk → List Act → Minidisk → Li
     → Fills old new d draft draft' change stamp records (Err why) → Continues P old d new d (Err f)
 fill_cut P old new d draft draft' change stamp records why f begins fills = λ start first m acts came. (
   acts,
-  cut_drafting start first m acts old new d came (fills m (begins m came.stands)),
+  cut_drafting start first m acts old new d change came (fills m (begins m came.stands)),
 )
 
 -- it never lacks a record
@@ -136,11 +137,7 @@ commits_each old mid new d e draft draft' change stamp records r may begins fill
 pub change_cut : {A : Type 0} (P : A → Minidisk → List Act → Minidisk → List Act → Type 0) (old new : Told) (d e : Accessed) (change : Change) (stamp : Stamp)
     (why : DiskFault) (f : Fault) → AltersEach old new d e change stamp (Err why) → IsOnSame d e → Continues P old d new e (Err f)
 change_cut P old new d e change stamp why f alters same = λ start first m acts came.
-    let t = came.stands in (
-      acts,
-      subst (λ (u : ℕ). Cut start u first acts new) (sym same.unit)
-          (cut_change start first m acts old new d e change stamp why came same.unit (alters t.at m t.told_is t.minidisk t.looked)),
-    )
+    let t = came.stands in (acts, cut_change start first m acts old new d e change stamp why came same (alters t.at m t.told_is t.minidisk t.looked))
 
 -- a draft that was refused
 pub draft_refused : (T : Type 0) (told : Told) (d e : Accessed) (name : Name) (shape : DraftShape) (stamp : Stamp) (records : List (List ℕ)) (why : DiskFault)
@@ -198,7 +195,7 @@ pub fills_none : (start now : Told) (d : Accessed) (m : Minidisk) (draft draft' 
     (r : Result Bool Fault) (why : Fault) → r ≡ Err why → GoesOn start now d m draft change stamp [] records
     → FillsSo start now d m draft' change stamp records r
 fills_none start now d m draft draft' change stamp records r why is goes =
-    subst (λ (x : Result Bool Fault). FillsSo start now d m draft' change stamp records x) (sym is) (record { stands = goes.stands; aside = goes.aside })
+    subst (λ (x : Result Bool Fault). FillsSo start now d m draft' change stamp records x) (sym is) (record { stands = goes.stands; aside = goes.aside; few = goes.few })
 
 -- ---- a disk with other spare places
 

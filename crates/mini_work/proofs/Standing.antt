@@ -20,12 +20,13 @@ use Rattle.cms_line.specs.Typing.{TypedPart, TypedTo}
 use Rattle.cms_line.proofs.TypedLines.{typed_none}
 use Rattle.cms_disk.specs.Changing.{Altered, Alters, Changes, IsOnSame}
 use Rattle.cms_disk.specs.Disks.{Accessed}
-use Rattle.cms_disk.specs.Drafts.{IsGivenUp, Stands}
+use Rattle.cms_disk.specs.Drafts.{IsGivenUp}
 use Rattle.cms_disk.specs.declared.fault.DiskFault.{DiskFault}
 use Rattle.cms_disk.specs.declared.fault.DiskFault.TheVariants as disk
 use Rattle.cms_disk.proofs.Standing.{minidisk_aside, minidisk_same}
 use Rattle.mini_work.specs.Changing.{is_denial}
 use Rattle.mini_work.specs.Going.{Act, Asked, Came, Changing, Cut, Denied, Did, Drafting, IsDenied, Kept, MayChange, Said, Typing, Went}
+use Rattle.mini_work.specs.Standing.{Stands}
 
 -- ---- the unit stands
 
@@ -97,7 +98,14 @@ came_on start first m acts old new d e change stamp came altered same =
     let s = came.stands in
     let units = units_kept old new s.at altered.later altered.changes.events s.told_is altered.told altered.changes.told in
     record {
-      went = (old, m, subst (λ (n : ℕ). Went start n first acts old m) (sym same.unit) came.went, altered.answer, altered.changes);
+      went = (
+        old,
+        m,
+        subst (λ (k : Disk). Went start k e.volume.unit first acts old m) (sym same.disk)
+            (subst (λ (n : ℕ). Went start d.volume.disk n first acts old m) (sym same.unit) came.went),
+        altered.answer,
+        altered.changes,
+      );
       stands = record {
         at = altered.later;
         told_is = altered.told;
@@ -115,8 +123,8 @@ came_on start first m acts old new d e change stamp came altered same =
 pub came_still : (start : Told) (first m : Minidisk) (acts : List Act) (old new : Told) (d e : Accessed) → Came start first acts old d m
     → new ≡ old → e.volume ≡ d.volume → Came start first acts new e m
 came_still start first m acts old new d e came same volume = record {
-  went = subst (λ (v : HeldVolume). Went start v.unit first acts new m) (sym volume)
-      (subst (λ (t : Told). Went start d.volume.unit first acts t m) (sym same) came.went);
+  went = subst (λ (v : HeldVolume). Went start v.disk v.unit first acts new m) (sym volume)
+      (subst (λ (t : Told). Went start d.volume.disk d.volume.unit first acts t m) (sym same) came.went);
   stands = stands_same old new d e m came.stands same volume;
 }
 
@@ -148,22 +156,23 @@ denied_is old new d e m change stamp disk.Memory is a = absurd (cc is)
 
 -- before anything more was done
 pub cut_here : (start : Told) (first m : Minidisk) (acts : List Act) (now : Told) (d : Accessed) → Came start first acts now d m
-    → Cut start d.volume.unit first acts now
+    → Cut start first acts now
 cut_here start first m acts now d came = record {
   at = now;
+  disk = d;
   last = m;
-  went = came.went;
+  came = came;
   tail = Typing [] ([], typed_none now []);
 }
 
 cut_same : (start : Told) (first m : Minidisk) (acts : List Act) (old new : Told) (d : Accessed) → Came start first acts old d m → new ≡ old
-    → Cut start d.volume.unit first acts new
+    → Cut start first acts new
 cut_same start first m acts old new d came same =
-    subst (λ (t : Told). Cut start d.volume.unit first acts t) (sym same) (cut_here start first m acts old d came)
+    subst (λ (t : Told). Cut start first acts t) (sym same) (cut_here start first m acts old d came)
 
 pub cut_change : (start : Told) (first m : Minidisk) (acts : List Act) (old new : Told) (d e : Accessed) (change : Change) (stamp : Stamp)
-    (why : DiskFault) → Came start first acts old d m → e.volume.unit ≡ d.volume.unit → Alters old new d e m change stamp (Err why)
-    → Cut start d.volume.unit first acts new
+    (why : DiskFault) → Came start first acts old d m → IsOnSame d e → Alters old new d e m change stamp (Err why)
+    → Cut start first acts new
 cut_change start first m acts old new d e change stamp disk.NotFound came same a = cut_same start first m acts old new d came a.0
 cut_change start first m acts old new d e change stamp disk.Exists came same a = cut_same start first m acts old new d came a.0
 cut_change start first m acts old new d e change stamp (disk.Limit k) came same a = cut_same start first m acts old new d came a.0
@@ -173,30 +182,34 @@ cut_change start first m acts old new d e change stamp disk.Memory came same a =
 cut_change start first m acts old new d e change stamp disk.Altered came same a = absurd a
 cut_change start first m acts old new d e change stamp disk.Device came same a = record {
   at = old;
+  disk = d;
   last = m;
-  went = came.went;
-  tail = Changing change stamp OldFault (subst (λ (u : ℕ). Changes old new u m change stamp OldFault) same a.changes);
+  came = came;
+  tail = Changing change stamp OldFault (subst (λ (u : ℕ). Changes old new d.volume.disk u m change stamp OldFault) same.unit
+      (subst (λ (k : Disk). Changes old new k e.volume.unit m change stamp OldFault) same.disk a.changes));
 }
 cut_change start first m acts old new d e change stamp disk.InDoubt came same a = record {
   at = old;
+  disk = d;
   last = m;
-  went = came.went;
+  came = came;
   tail = Changing change stamp (EitherFault a.side) a.changes;
 }
 
 pub cut_typing : (start : Told) (first m : Minidisk) (acts : List Act) (old new : Told) (d : Accessed) (bytes : List ℕ)
-    → Came start first acts old d m → TypedPart old new bytes → Cut start d.volume.unit first acts new
+    → Came start first acts old d m → TypedPart old new bytes → Cut start first acts new
 cut_typing start first m acts old new d bytes came part = record {
   at = old;
+  disk = d;
   last = m;
-  went = came.went;
+  came = came;
   tail = Typing bytes part;
 }
 
 -- a file was written in part beside it, and given up
-pub cut_drafting : (start : Told) (first m : Minidisk) (acts : List Act) (old new : Told) (d : Accessed) → Came start first acts old d m
-    → IsGivenUp old new d m → Cut start d.volume.unit first acts new
-cut_drafting start first m acts old new d came given = record { at = old; last = m; went = came.went; tail = Drafting given.aside }
+pub cut_drafting : (start : Told) (first m : Minidisk) (acts : List Act) (old new : Told) (d : Accessed) (change : Change) → Came start first acts old d m
+    → IsGivenUp old new d m change → Cut start first acts new
+cut_drafting start first m acts old new d change came given = record { at = old; disk = d; last = m; came = came; tail = Drafting given.aside }
 
 -- ---- what calls need stays
 

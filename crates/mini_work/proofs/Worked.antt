@@ -14,7 +14,6 @@ use Rattle.cms_edf.proofs.Planned.{named_at as named_in}
 use Rattle.cms_edf.specs.Asking.{info_of, infos_in}
 use Rattle.cms_edf.specs.declared.held.FileInfo.{FileInfo}
 use Rattle.cms_disk.specs.Disks.{Accessed, place_of}
-use Rattle.cms_disk.specs.Drafts.{Stands}
 use Rattle.cms_disk.proofs.Finding.{none_found, stands_tells}
 use Rattle.cms_disk.proofs.Standing.{named_at}
 use Rattle.cms_listfile.proofs.Infos.{infos_told}
@@ -26,6 +25,7 @@ use Rattle.mini_work.specs.Going.{Act, Came, Continues, Goes, Went, both}
 use Rattle.mini_work.specs.Listing.{file_line, is_listed}
 use Rattle.mini_work.specs.Opening.{IsUnwritten, Opens}
 use Rattle.mini_work.specs.Saying.{name_line}
+use Rattle.mini_work.specs.Standing.{Stands}
 use Rattle.mini_work.specs.Working.{IsErasing, IsErasingAll, IsListing, IsRenamed, IsRenaming, IsWorked, names_of, opened, shut}
 use Rattle.mini_work.proofs.Leading.{ended_on, then_on}
 use Rattle.mini_work.specs.declared.fault.Fault.{Fault}

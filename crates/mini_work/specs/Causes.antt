@@ -19,6 +19,7 @@ pub record Counts : Type 0 where
   pub edges : ℕ
   pub host : ℕ
 
+-- those of this world and of this host
 abbrev pub counts : {W H : Type 0} → WorldGhosts W → HostGhosts H → W → H → Counts
 counts world host w h = record { faults = world.faults w; edges = world.edges w; host = host.faults h }
 
@@ -26,6 +27,7 @@ counts world host w h = record { faults = world.faults w; edges = world.edges w;
 abbrev pub on_host : Counts → ℕ → Counts
 on_host c n = record { faults = c.faults; edges = c.edges; host = n }
 
+-- those of this world, with any count of the host
 abbrev pub on_world : {W : Type 0} → WorldGhosts W → W → ℕ → Counts
 on_world world w n = record { faults = world.faults w; edges = world.edges w; host = n }
 

@@ -61,5 +61,6 @@ pub data IsShowing (name : List ℕ) (text : HeldVolume → List ℕ) (told : To
 abbrev pub sound_line : List ℕ → ℕ → ℕ → List ℕ
 sound_line name files lost = name ++ (codes ": sound, " ++ (decimal files ++ (codes " files, " ++ (decimal lost ++ (codes " blocks lost" ++ 10 ∷ [])))))
 
+-- that line for a volume as it is held
 abbrev pub sound_text : List ℕ → HeldVolume → List ℕ
 sound_text name v = sound_line name (length v.files) v.lost

@@ -9,13 +9,14 @@ use Rattle.cms_model.specs.Records.{Fits, length_of}
 use Rattle.cms_draft.specs.declared.shape.DraftShape.{DraftShape}
 use Rattle.cms_edf.specs.FileDrafts.{FileDraft}
 use Rattle.cms_disk.specs.Disks.{Accessed}
-use Rattle.cms_disk.specs.Drafts.{GoesOn, HaveCounts, IsGivenUp, Stands}
+use Rattle.cms_disk.specs.Drafts.{GoesOn, HaveCounts, IsGivenUp}
 use Rattle.cms_copyfile.specs.Measures.{measured}
 use Rattle.cms_copyfile.specs.declared.measure.Measure.{Measure}
 use Rattle.mini_forms.specs.Reading.{records_in}
 use Rattle.mini_forms.specs.declared.form.Layout.{Layout}
 use Rattle.mini_host.specs.Files.{Files, content_of}
 use Rattle.mini_work.specs.Layouts.{format_of, size_of}
+use Rattle.mini_work.specs.Standing.{Stands}
 use Rattle.mini_work.specs.declared.fault.Fault.{Fault}
 
 -- ---- the host file
@@ -53,4 +54,4 @@ Begins told d draft change stamp records = (m : Minidisk) → Stands told d m �
 abbrev pub FillsSo : Told → Told → Accessed → Minidisk → FileDraft → Change → Stamp → List (List ℕ) → Result Bool Fault → Type 0
 FillsSo start now d m draft change stamp records (Ok true) = GoesOn start now d m draft change stamp records []
 FillsSo start now d m draft change stamp records (Ok false) = ⊥
-FillsSo start now d m draft change stamp records (Err why) = IsGivenUp start now d m
+FillsSo start now d m draft change stamp records (Err why) = IsGivenUp start now d m change

@@ -56,6 +56,7 @@ abbrev pub folder_from : Option (List ℕ × List ℕ) → List ℕ
 folder_from None = 46 ∷ []
 folder_from (Some parts) = or_root parts.0
 
+-- the same by its whole name; it is the dot where no stroke stands in it
 abbrev pub folder_of : List ℕ → List ℕ
 folder_of file = folder_from (rsplit_once 47 file)
 
@@ -89,6 +90,7 @@ abbrev pub IsTyped : Option (List ℕ) → Status → Minidisk → List Act → 
 IsTyped (Some bytes) s m acts after more = (s ≡ status.Done) × IsSaid bytes m acts after more
 IsTyped None s m acts after more = (s ≡ status.Refused) × IsStill m acts after more
 
+-- the file of this name was typed in this form, or refused
 abbrev pub IsHanded : Form → Name → Status → Minidisk → List Act → Minidisk → List Act → Type 0
 IsHanded form name s m acts after more = IsTyped (shown_in form m name) s m acts after more
 
@@ -123,6 +125,7 @@ unfoldable pub names_said : Bool → List Name → List Act → List Act
 names_said says [] acts = acts
 names_said says (name ∷ names) acts = names_said says names (said_if says (name_line name) acts)
 
+-- that was all: the minidisk stays as it is
 abbrev pub AreSaid : Bool → List Name → Status → Minidisk → List Act → Minidisk → List Act → Type 0
 AreSaid says names s m acts after more = (s ≡ status.Done) × (after ≡ m) × (more ≡ names_said says names acts)
 
@@ -147,9 +150,11 @@ IsPlaced says path line text status.Done m acts after more =
 IsPlaced says path line text status.Refused m acts after more = IsStill m acts after more
 IsPlaced says path line text status.Failed m acts after more = ⊥
 
+-- the file of a name was got so, into the host file of this path
 abbrev pub IsGotAs : Get → List ℕ → Name → Status → Minidisk → List Act → Minidisk → List Act → Type 0
 IsGotAs get path name s m acts after more = IsPlaced get.says path (name_line name) (shown_in get.form m name) s m acts after more
 
+-- the same into a folder, where the host file has its name in small letters
 abbrev pub IsGotTo : Get → List ℕ → Name → Status → Minidisk → List Act → Minidisk → List Act → Type 0
 IsGotTo get folder name s m acts after more = IsGotAs get (path_of folder name) name s m acts after more
 
@@ -167,6 +172,7 @@ IsGotEach told get folder names s m acts after more =
 
 -- ---- the command
 
+-- files of these names went where the command says: typed, joined, or each into a folder
 abbrev pub IsGotBy : Option Files → Get → Target → List Name → Status → Minidisk → List Act → Minidisk → List Act → Type 0
 IsGotBy told get targets.Output names s m acts after more = Goes (IsHanded get.form) names s m acts after more
 IsGotBy told get (targets.File file) names s m acts after more = IsJoined told get file names s m acts after more

@@ -7,11 +7,13 @@ use Rattle.cms_journal.specs.Told.{Told}
 use Rattle.cms_fields.specs.declared.time.Stamp.{Stamp}
 use Rattle.cms_model.specs.Minidisks.{Minidisk}
 use Rattle.cms_model.specs.Changes.{Change, Changed, Full, Limited, answer_of}
+use Rattle.cms_model.specs.Volumes.{Disk}
 use Rattle.cms_machine.specs.Steps.{Good, Outcome}
 use Rattle.cms_line.specs.Typing.{TypedPart, TypedTo}
 use Rattle.cms_disk.specs.Changing.{Changes, IsMissing, IsTaken}
 use Rattle.cms_disk.specs.Disks.{Accessed, IsReadable}
-use Rattle.cms_disk.specs.Drafts.{Stands, WritesAside}
+use Rattle.mini_work.specs.Standing.{Stands}
+use Rattle.cms_disk.specs.Drafts.{WritesAside}
 use Rattle.mini_work.specs.declared.fault.Fault.{Fault}
 use Rattle.mini_work.specs.declared.status.Status.{Status}
 use Rattle.mini_work.specs.declared.status.Status.TheVariants as status
@@ -33,38 +35,39 @@ IsDenied m change =
     IsMissing m change ⊎ IsTaken m change ⊎ ((k : ℕ) × (answer_of m change ≡ Limited k))
     ⊎ ((need : ℕ) × (free : ℕ) × (answer_of m change ≡ Full need free))
 
--- from a journal and a minidisk of the unit u on, these acts, the newest first, came to another: each change is an update, so that a
--- crash within it leaves the minidisk before or behind it, and what is typed is typed behind the acts before
-unfoldable pub Went : Told → ℕ → Minidisk → List Act → Told → Minidisk → Type 0
-Went start u first [] now m = (now ≡ start) × (m ≡ first)
-Went start u first (Did change stamp ∷ acts) now m =
-    (t : Told) × (before : Minidisk) × Went start u first acts t before × (answer_of before change ≡ Changed m)
-    × Changes t now u before change stamp Good
-Went start u first (Denied change ∷ acts) now m = Went start u first acts now m × IsDenied m change
-Went start u first (Kept name bytes ∷ acts) now m = Went start u first acts now m
-Went start u first (Said bytes ∷ acts) now m = (t : Told) × Went start u first acts t m × TypedTo t now bytes []
-Went start u first (Asked moment ∷ acts) now m = (t : Told) × Went start u first acts t m × (now ≡ adds (Now moment) t)
+-- from a journal and a minidisk of the unit u on, as this disk reads it, these acts, the newest first, came to another: each change is an
+-- update, so that a crash within it leaves the minidisk before or behind it, and what is typed is typed behind the acts before
+unfoldable pub Went : Told → Disk → ℕ → Minidisk → List Act → Told → Minidisk → Type 0
+Went start disk u first [] now m = (now ≡ start) × (m ≡ first)
+Went start disk u first (Did change stamp ∷ acts) now m =
+    (t : Told) × (before : Minidisk) × Went start disk u first acts t before × (answer_of before change ≡ Changed m)
+    × Changes t now disk u before change stamp Good
+Went start disk u first (Denied change ∷ acts) now m = Went start disk u first acts now m × IsDenied m change
+Went start disk u first (Kept name bytes ∷ acts) now m = Went start disk u first acts now m
+Went start disk u first (Said bytes ∷ acts) now m = (t : Told) × Went start disk u first acts t m × TypedTo t now bytes []
+Went start disk u first (Asked moment ∷ acts) now m = (t : Told) × Went start disk u first acts t m × (now ≡ adds (Now moment) t)
 
 -- and the unit is settled at this minidisk
 pub record Came (start : Told) (first : Minidisk) (acts : List Act) (now : Told) (d : Accessed) (m : Minidisk) : Type 0 where
-  pub went : Went start d.volume.unit first acts now m
+  pub went : Went start d.volume.disk d.volume.unit first acts now m
   pub stands : Stands now d m
 
 -- ---- what was cut off
 
 -- behind this journal a text was typed in part, a change was cut off, which left the minidisk or a doubt, or a file was written in part
 -- beside the minidisk
-pub data IsTail (at now : Told) (u : ℕ) (m : Minidisk) : Type 0 where
-  Typing : (bytes : List ℕ) → TypedPart at now bytes → IsTail at now u m
-  Changing : (change : Change) (stamp : Stamp) (o : Outcome) → Changes at now u m change stamp o → IsTail at now u m
-  Drafting : WritesAside at now u m → IsTail at now u m
+pub data IsTail (at now : Told) (disk : Disk) (u : ℕ) (m : Minidisk) : Type 0 where
+  Typing : (bytes : List ℕ) → TypedPart at now bytes → IsTail at now disk u m
+  Changing : (change : Change) (stamp : Stamp) (o : Outcome) → Changes at now disk u m change stamp o → IsTail at now disk u m
+  Drafting : WritesAside at now disk u m → IsTail at now disk u m
 
--- these acts were done, and then the command was cut off
-pub record Cut (start : Told) (u : ℕ) (first : Minidisk) (acts : List Act) (now : Told) : Type 0 where
+-- these acts were done, at which the minidisk stood, and then the command was cut off
+pub record Cut (start : Told) (first : Minidisk) (acts : List Act) (now : Told) : Type 0 where
   pub at : Told
+  pub disk : Accessed
   pub last : Minidisk
-  pub went : Went start u first acts at last
-  pub tail : IsTail at now u last
+  pub came : Came start first acts at disk last
+  pub tail : IsTail at now disk.volume.disk disk.volume.unit last
 
 -- ---- what a part of a command comes to
 
@@ -72,7 +75,7 @@ pub record Cut (start : Told) (u : ℕ) (first : Minidisk) (acts : List Act) (no
 abbrev pub Leads : {A : Type 0} → (A → Minidisk → List Act → Minidisk → List Act → Type 0) → Told → Minidisk → Minidisk → List Act → Told
     → Accessed → Result A Fault → Type 0
 Leads goes start first m acts now d (Ok x) = (after : Minidisk) × (more : List Act) × goes x m acts after more × Came start first more now d after
-Leads goes start first m acts now d (Err why) = (more : List Act) × Cut start d.volume.unit first more now
+Leads goes start first m acts now d (Err why) = (more : List Act) × Cut start first more now
 
 -- wherever the command came to, this part leads on
 abbrev pub Continues : {A : Type 0} → (A → Minidisk → List Act → Minidisk → List Act → Type 0) → Told → Accessed → Told → Accessed

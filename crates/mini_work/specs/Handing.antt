@@ -3,7 +3,6 @@ use Rattle.std.specs.Prelude.{◌≡◌, ◌≤◌, ℕ, Bool, true, false, if�
 use Rattle.std.specs.List.{list_all}
 use Rattle.std.specs.Option.{ForSome, option_map}
 use Rattle.cms_journal.specs.Told.{Told}
-use Rattle.cms_fields.specs.Limits.{longest_record}
 use Rattle.cms_line.specs.Typing.{TypedPart, TypedTo}
 use Rattle.cms_names.specs.declared.name.Name.{Name}
 use Rattle.cms_model.specs.Changes.{file_named}
@@ -17,7 +16,6 @@ use Rattle.mini_forms.specs.declared.form.Form.{Form}
 use Rattle.mini_forms.specs.declared.form.Form.TheVariants.{Text, Binary, Records}
 use Rattle.mini_host.specs.Files.{Files}
 use Rattle.mini_host.specs.Files as files
-use Rattle.mini_work.specs.Going.{MayChange}
 use Rattle.mini_work.specs.Hosting.{Noted}
 use Rattle.mini_work.specs.declared.fault.Fault.{Fault}
 use Rattle.mini_work.specs.declared.handing.Way.{Way}
@@ -45,14 +43,6 @@ shown_in form m name = option_and_then (shown_of form) (file_named name m.files)
 abbrev pub IsInfoOf : Name → HeldVolume → FileInfo → Type 0
 IsInfoOf name v info = (k : ℕ) × (place_of name v ≡ Some k) × (slice_get (infos_in v) k ≡ Some info)
 
--- no file of a volume has longer records than a file may have
-abbrev pub AreShort : HeldVolume → Type 0
-AreShort v = (k : ℕ) (info : FileInfo) → slice_get (infos_in v) k ≡ Some info → info.length ≤ longest_record
-
--- a unit of a world that tells its journal may be read, and what forms write of its files' records has a length
-abbrev pub MayGet : Told → Accessed → Type 0
-MayGet told d = MayChange told d × AreShort d.volume
-
 -- ---- where it goes
 
 -- a host file is begun, where the host tells its files
@@ -69,6 +59,7 @@ abbrev pub PutsPart : Way → Told → Told → List ℕ → Type 0
 PutsPart ways.Output old new bytes = TypedPart old new bytes
 PutsPart ways.File old new bytes = new ≡ old
 
+-- bytes went that way; or where that failed a front of them did
 abbrev pub Puts : {A : Type 0} → Way → Told → Told → Option Files → Option Files → List ℕ → Result A Fault → Type 0
 Puts way old new h k bytes (Ok x) = PutsOut way old new h k bytes
 Puts way old new h k bytes (Err why) = PutsPart way old new bytes
@@ -85,6 +76,7 @@ HandsSo way old new h k None false = (new ≡ old) × (k ≡ h)
 HandsSo way old new h k (Some bytes) false = ⊥
 HandsSo way old new h k None true = ⊥
 
+-- what is shown was handed out so; or where that failed a front of it was
 abbrev pub Hands : Way → Told → Told → Option Files → Option Files → Option (List ℕ) → Result Bool Fault → Type 0
 Hands way old new h k text (Ok can) = HandsSo way old new h k text can
 Hands way old new h k text (Err why) = PutsFront way old new text

@@ -10,6 +10,7 @@ abbrev pub sized : Option ℕ → Format
 sized (Some size) = F
 sized None = V
 
+-- the format of a file that is made of records in this layout
 abbrev pub format_of : Layout → Format
 format_of (Text size) = sized size
 format_of (Binary size) = F
@@ -20,6 +21,7 @@ abbrev pub size_or : Option ℕ → ℕ
 size_or (Some size) = size
 size_or None = 0
 
+-- the size that the layout gives its records; 0 where each has its own
 abbrev pub size_of : Layout → ℕ
 size_of (Text size) = size_or size
 size_of (Binary size) = size

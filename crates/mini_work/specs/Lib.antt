@@ -1,5 +1,6 @@
 pub mod Faults
 pub mod Causes
+pub mod Standing
 pub mod Going
 pub mod Changing
 pub mod Saying

@@ -61,6 +61,7 @@ facts_of space lost files =
     ∷ (coded (codes "files: ") ++ decimal_of files)
     ∷ []
 
+-- those of a volume as it is held
 abbrev pub facts : HeldVolume → List (List ℕ)
 facts v = facts_of (space_of v) v.lost (length v.files)
 
@@ -69,5 +70,6 @@ unfoldable pub typed_lines : List (List ℕ) → List ℕ
 typed_lines [] = []
 typed_lines (line ∷ lines) = typed_line line ++ typed_lines lines
 
+-- what is told of a volume, as it is typed
 abbrev pub facts_text : HeldVolume → List ℕ
 facts_text v = typed_lines (facts v)

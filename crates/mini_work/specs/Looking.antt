@@ -29,6 +29,7 @@ only_size false false true false = Some 2048
 only_size false false false true = Some 4096
 only_size _ _ _ _ = None
 
+-- the size of blocks that the front of an image shows; none where it shows no one size
 unfoldable pub label_size : List ℕ → Option ℕ
 label_size front = only_size (has_label front 512) (has_label front 1024) (has_label front 2048) (has_label front 4096)
 
@@ -42,9 +43,11 @@ abbrev pub size_with : Option ℕ → List ℕ → Option ℕ
 size_with (Some size) bytes = Some size
 size_with None bytes = label_size (take looked_at bytes)
 
+-- the same of what the host tells of the file, which may not be there
 abbrev pub size_in : Option ℕ → Option (List ℕ) → Option ℕ
 size_in given None = None
 size_in given (Some bytes) = size_with given bytes
 
+-- this was found for the image of that name: its size, or none
 abbrev pub IsSizeOf : Option Files → List ℕ → Option ℕ → Option ℕ → Type 0
 IsSizeOf told name given found = ForSome told (λ f. found ≡ size_in given (content_of name f.files))

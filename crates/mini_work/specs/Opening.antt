@@ -10,7 +10,7 @@ use Rattle.cms_model.specs.Minidisks.{Minidisk, Volume}
 use Rattle.cms_model.specs.Trees.{image_of}
 use Rattle.cms_model.specs.Volumes.{disk_of, state_of}
 use Rattle.cms_disk.specs.Disks.{Accessed}
-use Rattle.cms_disk.specs.Drafts.{Stands}
+use Rattle.mini_work.specs.Standing.{Stands}
 use Rattle.cms_disk.specs.declared.unit.UnitInfo.{UnitInfo}
 
 -- a world that tells its journal, in which nothing is attached and nothing happened yet

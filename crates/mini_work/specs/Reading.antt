@@ -107,18 +107,18 @@ abbrev pub PutsSo : Told → Told → Accessed → Minidisk → FileDraft → Ch
 PutsSo start now d m draft change stamp done more s rest (Ok x) = PutsTo start now d m draft change stamp done more s rest
 PutsSo start now d m draft change stamp done more s rest (Err (fault.Form why)) = ⊥
 PutsSo start now d m draft change stamp done more s rest (Err fault.Changed) = ⊥
-PutsSo start now d m draft change stamp done more s rest (Err (fault.Fault why)) = IsGivenUp start now d m
+PutsSo start now d m draft change stamp done more s rest (Err (fault.Fault why)) = IsGivenUp start now d m change
 
 -- what putting one comes to
 abbrev pub PutsText : Told → Told → Accessed → Minidisk → FileDraft → Change → Stamp → List (List ℕ) → List (List ℕ) → Result ⊤ FileFault → Type 0
 PutsText start now d m draft change stamp done more (Ok x) = GoesOn start now d m draft change stamp done more
 PutsText start now d m draft change stamp done more (Err (fault.Form why)) = ⊥
 PutsText start now d m draft change stamp done more (Err fault.Changed) = ⊥
-PutsText start now d m draft change stamp done more (Err (fault.Fault why)) = IsGivenUp start now d m
+PutsText start now d m draft change stamp done more (Err (fault.Fault why)) = IsGivenUp start now d m change
 
 -- what putting all of them comes to
 abbrev pub PutsAll : Told → Told → Accessed → Minidisk → FileDraft → Change → Stamp → List (List ℕ) → Result ⊤ FileFault → Type 0
 PutsAll start now d m draft change stamp records (Ok x) = GoesOn start now d m draft change stamp records []
 PutsAll start now d m draft change stamp records (Err (fault.Form why)) = ⊥
 PutsAll start now d m draft change stamp records (Err fault.Changed) = ⊥
-PutsAll start now d m draft change stamp records (Err (fault.Fault why)) = IsGivenUp start now d m
+PutsAll start now d m draft change stamp records (Err (fault.Fault why)) = IsGivenUp start now d m change

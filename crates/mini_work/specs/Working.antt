@@ -46,6 +46,7 @@ IsRenamed says offset from to None s m acts after more = (s ≡ status.Refused) 
 IsRenamed says offset from to (Some f) s m acts after more =
     IsTimed offset (λ stamp. IsChange (Rename from to f.number) stamp says (name_line to)) s m acts after more
 
+-- so it is of the file of a name, which is refused where there is none
 abbrev pub IsRenaming : Bool → ℤ → Name → Name → Status → Minidisk → List Act → Minidisk → List Act → Type 0
 IsRenaming says offset from to s m acts after more = IsRenamed says offset from to (file_named from m.files) s m acts after more
 

@@ -39,8 +39,11 @@ pub(crate) fn erase<W: World, H: Host>(
 ) -> Result<Status, Fault>
     requires room { HasRoom (W.told world.old) }
     requires offset { IsOffset offset }
-    ensures goes { IsNew (W.told world.old) → IsWorked image.now.name ReadWrite (IsErasing says offset names.now) (W.told world.new) result }
-    ensures cause { HasEnd (counts W.World H.Host world.old host.old) (counts W.World H.Host world.new host.new) result }
+    ensures goes { IsNew (W.told world.old)
+        → IsWorked image.now.name ReadWrite (IsErasing says offset names.now)
+        (W.told world.new) result }
+    ensures cause { HasEnd (counts W.World H.Host world.old host.old)
+        (counts W.World H.Host world.new host.new) result }
 {
     match open_disk(alloc, world, host, image, Access::ReadWrite)? {
         Some(mut disk) => erase_fitting(alloc, world, host, &mut disk, says, offset, names),
@@ -60,8 +63,11 @@ fn erase_fitting<W: World, H: Host>(
 ) -> Result<Status, Fault>
     requires offset { IsOffset offset }
     requires may { MayChange (W.told world.old) disk.old }
-    ensures goes { Continues (IsErasing says offset names.now) (W.told world.old) disk.old (W.told world.new) disk.new result }
-    ensures cause { disk.old.writable ≡ true → HasEnd (counts W.World H.Host world.old host.old) (counts W.World H.Host world.new host.new) result }
+    ensures goes { Continues (IsErasing says offset names.now) (W.told world.old) disk.old
+        (W.told world.new) disk.new result }
+    ensures cause { disk.old.writable ≡ true
+        → HasEnd (counts W.World H.Host world.old host.old)
+        (counts W.World H.Host world.new host.new) result }
 {
     let all = names_of(alloc, disk)?;
     let chosen = choose(alloc, &all, names)?;
@@ -82,8 +88,11 @@ fn erase_chosen<W: World, H: Host>(
 ) -> Result<Status, Fault>
     requires offset { IsOffset offset }
     requires may { MayChange (W.told world.old) disk.old }
-    ensures goes { Continues (IsErasingAll says offset names.now) (W.told world.old) disk.old (W.told world.new) disk.new result }
-    ensures cause { disk.old.writable ≡ true → HasEnd (counts W.World H.Host world.old host.old) (counts W.World H.Host world.new host.new) result }
+    ensures goes { Continues (IsErasingAll says offset names.now) (W.told world.old) disk.old
+        (W.told world.new) disk.new result }
+    ensures cause { disk.old.writable ≡ true
+        → HasEnd (counts W.World H.Host world.old host.old)
+        (counts W.World H.Host world.new host.new) result }
 {
     let stamp = ask_clock(world, offset)?;
     erase_all(alloc, world, host, disk, names, &stamp, says)
@@ -101,9 +110,12 @@ fn erase_all<W: World, H: Host>(
 ) -> Result<Status, Fault>
     requires stamp { is_stamp stamp.now ≡ true }
     requires may { MayChange (W.told world.old) disk.old }
-    ensures goes { Continues (Goes (λ name. IsChange (Drop name) stamp.now says (spec.name_line name)) names.now)
+    ensures goes { Continues (Goes
+        (λ name. IsChange (Drop name) stamp.now says (spec.name_line name)) names.now)
         (W.told world.old) disk.old (W.told world.new) disk.new result }
-    ensures cause { disk.old.writable ≡ true → HasEnd (counts W.World H.Host world.old host.old) (counts W.World H.Host world.new host.new) result }
+    ensures cause { disk.old.writable ≡ true
+        → HasEnd (counts W.World H.Host world.old host.old)
+        (counts W.World H.Host world.new host.new) result }
 {
     let mut status = Status::Done;
     for name in names {
@@ -130,11 +142,14 @@ fn erase_one<W: World, H: Host>(
 ) -> Result<Status, Fault>
     requires stamp { is_stamp stamp.now ≡ true }
     requires may { MayChange (W.told world.old) disk.old }
-    ensures goes { Continues (IsChange (Drop name.now) stamp.now says (spec.name_line name.now)) (W.told world.old) disk.old
+    ensures goes { Continues (IsChange (Drop name.now) stamp.now says (spec.name_line name.now))
+        (W.told world.old) disk.old
         (W.told world.new) disk.new result }
     ensures may { MayChange (W.told world.new) disk.new }
     ensures writable { disk.new.writable ≡ disk.old.writable }
-    ensures cause { disk.old.writable ≡ true → HasEnd (counts W.World H.Host world.old host.old) (counts W.World H.Host world.new host.new) result }
+    ensures cause { disk.old.writable ≡ true
+        → HasEnd (counts W.World H.Host world.old host.old)
+        (counts W.World H.Host world.new host.new) result }
 {
     match disk.erase(alloc, world, name, stamp) {
         Ok(()) => say_name(alloc, world, name, says),
@@ -152,8 +167,10 @@ pub(crate) fn refuse_change<H: Host>(
     ensures refused { IfOk result (λ s. (s ≡ status.Refused) × (is_denial why ≡ true)) }
     ensures noted { OnOk result (Noted (H.told host.old) (H.told host.new)) }
     ensures files { SameFiles (H.told host.old) (H.told host.new) }
-    ensures cause { (first : Counts) (f e : ℕ) → AreLater first (record { faults = f; edges = e; host = H.faults host.old })
-        → (is_broken why ≡ true → OneRose first (record { faults = f; edges = e; host = H.faults host.old }))
+    ensures cause { (first : Counts) (f e : ℕ)
+        → AreLater first (record { faults = f; edges = e; host = H.faults host.old })
+        → (is_broken why ≡ true
+        → OneRose first (record { faults = f; edges = e; host = H.faults host.old }))
         → HasEnd first (record { faults = f; edges = e; host = H.faults host.new }) result }
 {
     let refusal = match why {
@@ -186,8 +203,11 @@ pub(crate) fn rename<W: World, H: Host>(
 ) -> Result<Status, Fault>
     requires room { HasRoom (W.told world.old) }
     requires offset { IsOffset offset }
-    ensures goes { IsNew (W.told world.old) → IsWorked image.now.name ReadWrite (IsRenaming says offset from.now to.now) (W.told world.new) result }
-    ensures cause { HasEnd (counts W.World H.Host world.old host.old) (counts W.World H.Host world.new host.new) result }
+    ensures goes { IsNew (W.told world.old)
+        → IsWorked image.now.name ReadWrite (IsRenaming says offset from.now to.now)
+        (W.told world.new) result }
+    ensures cause { HasEnd (counts W.World H.Host world.old host.old)
+        (counts W.World H.Host world.new host.new) result }
 {
     match open_disk(alloc, world, host, image, Access::ReadWrite)? {
         Some(mut disk) => rename_file(alloc, world, host, &mut disk, says, offset, from, to),
@@ -208,8 +228,11 @@ fn rename_file<W: World, H: Host>(
 ) -> Result<Status, Fault>
     requires offset { IsOffset offset }
     requires may { MayChange (W.told world.old) disk.old }
-    ensures goes { Continues (IsRenaming says offset from.now to.now) (W.told world.old) disk.old (W.told world.new) disk.new result }
-    ensures cause { disk.old.writable ≡ true → HasEnd (counts W.World H.Host world.old host.old) (counts W.World H.Host world.new host.new) result }
+    ensures goes { Continues (IsRenaming says offset from.now to.now) (W.told world.old) disk.old
+        (W.told world.new) disk.new result }
+    ensures cause { disk.old.writable ≡ true
+        → HasEnd (counts W.World H.Host world.old host.old)
+        (counts W.World H.Host world.new host.new) result }
 {
     let Some(place) = disk.find(from) else {
         return refuse_change(alloc, host, from, DiskFault::NotFound);
@@ -233,9 +256,13 @@ fn rename_timed<W: World, H: Host>(
     requires number { number ≤ 6 }
     requires offset { IsOffset offset }
     requires may { MayChange (W.told world.old) disk.old }
-    ensures goes { Continues (IsTimed offset (λ stamp. IsChange (Rename from.now to.now number) stamp says (spec.name_line to.now))) (W.told world.old)
+    ensures goes { Continues (IsTimed offset
+        (λ stamp. IsChange (Rename from.now to.now number) stamp says (spec.name_line to.now)))
+        (W.told world.old)
         disk.old (W.told world.new) disk.new result }
-    ensures cause { disk.old.writable ≡ true → HasEnd (counts W.World H.Host world.old host.old) (counts W.World H.Host world.new host.new) result }
+    ensures cause { disk.old.writable ≡ true
+        → HasEnd (counts W.World H.Host world.old host.old)
+        (counts W.World H.Host world.new host.new) result }
 {
     let stamp = ask_clock(world, offset)?;
     rename_one(alloc, world, host, disk, from, to, number, &stamp, says)
@@ -256,9 +283,12 @@ fn rename_one<W: World, H: Host>(
     requires stamp { is_stamp stamp.now ≡ true }
     requires number { number ≤ 6 }
     requires may { MayChange (W.told world.old) disk.old }
-    ensures goes { Continues (IsChange (Rename from.now to.now number) stamp.now says (spec.name_line to.now)) (W.told world.old) disk.old
+    ensures goes { Continues (IsChange (Rename from.now to.now number) stamp.now says
+        (spec.name_line to.now)) (W.told world.old) disk.old
         (W.told world.new) disk.new result }
-    ensures cause { disk.old.writable ≡ true → HasEnd (counts W.World H.Host world.old host.old) (counts W.World H.Host world.new host.new) result }
+    ensures cause { disk.old.writable ≡ true
+        → HasEnd (counts W.World H.Host world.old host.old)
+        (counts W.World H.Host world.new host.new) result }
 {
     match disk.rename(alloc, world, from, to, number, stamp) {
         Ok(()) => say_name(alloc, world, to, says),

@@ -24,8 +24,10 @@ pub(crate) fn check<W: World, H: Host>(
     image: &Image,
 ) -> Result<Status, Fault>
     requires { HasRoom (W.told world.old) }
-    ensures goes { IsNew (W.told world.old) → IsShowing image.now.name (sound_text image.now.name) (W.told world.new) result }
-    ensures cause { HasEnd (counts W.World H.Host world.old host.old) (counts W.World H.Host world.new host.new) result }
+    ensures goes { IsNew (W.told world.old)
+        → IsShowing image.now.name (sound_text image.now.name) (W.told world.new) result }
+    ensures cause { HasEnd (counts W.World H.Host world.old host.old)
+        (counts W.World H.Host world.new host.new) result }
 {
     match open_held(alloc, world, host, image)? {
         Some(held) => say_sound(alloc, world, image.name.text(), &held),
@@ -40,9 +42,11 @@ fn say_sound<W: World>(
     image: &str,
     held: &Held,
 ) -> Result<Status, Fault>
-    ensures shows { Shows (W.told world.old) (W.told world.new) (sound_text image.now held.now.volume) result }
+    ensures shows { Shows (W.told world.old) (W.told world.new)
+        (sound_text image.now held.now.volume) result }
     ensures typed { OnlyTypes (W.told world.old) (W.told world.new) }
-    ensures cause { (n : ℕ) → HasEnd (on_world W.World world.old n) (on_world W.World world.new n) result }
+    ensures cause { (n : ℕ) → HasEnd (on_world W.World world.old n)
+        (on_world W.World world.new n) result }
 {
     let line = line_of(alloc, image, held.count(), held.lost())?;
     type_bytes(world, line.as_bytes())?;

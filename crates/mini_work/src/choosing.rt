@@ -57,7 +57,8 @@ fn fitting(
     pattern: &NamePattern,
     before: &[NamePattern],
 ) -> Result<Vec<Name>, AllocError>
-    ensures { IfOk result (λ fitting. fitting.items ≡ spec.fitting before.now pattern.now names.now) }
+    ensures { IfOk result (λ fitting. fitting.items
+        ≡ spec.fitting before.now pattern.now names.now) }
 {
     names
         .iter()
@@ -96,7 +97,8 @@ pub(crate) fn refuse_idle<H: Host>(
 ) -> Result<Status, Fault>
     ensures idle { IfOk result (λ s. s ≡ spec.idle_status patterns.now names.now) }
     ensures files { SameFiles (H.told host.old) (H.told host.new) }
-    ensures cause { (c : Counts) → HasEnd (on_host c (H.faults host.old)) (on_host c (H.faults host.new)) result }
+    ensures cause { (c : Counts) → HasEnd (on_host c (H.faults host.old))
+        (on_host c (H.faults host.new)) result }
 {
     let mut status = Status::Done;
     for pattern in patterns {

@@ -15,11 +15,13 @@ use cms_world::World;
 /// The stamp of the clock's moment, where civil time is `offset` seconds ahead of it.
 pub(crate) fn ask_clock<W: World>(world: &mut W, offset: i32) -> Result<Stamp, Fault>
     requires { IsOffset offset }
-    ensures goes { (d : Accessed) → Continues (IsAsked offset) (W.told world.old) d (W.told world.new) d result }
+    ensures goes { (d : Accessed)
+        → Continues (IsAsked offset) (W.told world.old) d (W.told world.new) d result }
     ensures asks { Asks offset (W.told world.old) (W.told world.new) result }
     ensures stamp { IfOk result (λ stamp. is_stamp stamp ≡ true) }
     ensures grown { Grown (W.told world.old) (W.told world.new) }
-    ensures cause { (n : ℕ) → HasCause (on_world W.World world.old n) (on_world W.World world.new n) result }
+    ensures cause { (n : ℕ) → HasCause (on_world W.World world.old n)
+        (on_world W.World world.new n) result }
 {
     match world.now() {
         Ok(seconds) => Ok(Stamp::of(&Moment::of_epoch(seconds, offset))),

@@ -39,7 +39,8 @@ pub(crate) fn read_any<W: World>(
     requires { MayUse (W.told world.old) unit.now }
     ensures least { IfOk result (λ found. IfSome found (λ bytes. 512 ≤ vec_len bytes)) }
     ensures told { W.told world.new ≡ W.told world.old }
-    ensures cause { (n : ℕ) → HasCause (on_world W.World world.old n) (on_world W.World world.new n) result }
+    ensures cause { (n : ℕ) → HasCause (on_world W.World world.old n)
+        (on_world W.World world.new n) result }
 {
     if !(1..=unit.unit.blocks).contains(&block) {
         return Ok(None);
@@ -61,7 +62,8 @@ pub(crate) fn show_directory<W: World>(
 ) -> Result<Status, Fault>
     requires { MayUse (W.told world.old) unit.now }
     ensures goes { OnlyTypes (W.told world.old) (W.told world.new) }
-    ensures cause { (n : ℕ) → HasEnd (on_world W.World world.old n) (on_world W.World world.new n) result }
+    ensures cause { (n : ℕ) → HasEnd (on_world W.World world.old n)
+        (on_world W.World world.new n) result }
 {
     let tree = read_tree(alloc, world, unit, origin)?;
     for leaf in 0..MOST_LEAVES {
@@ -82,7 +84,8 @@ fn read_tree<W: World>(
 ) -> Result<Tree, Fault>
     requires { MayUse (W.told world.old) unit.now }
     ensures told { W.told world.new ≡ W.told world.old }
-    ensures cause { (n : ℕ) → HasCause (on_world W.World world.old n) (on_world W.World world.new n) result }
+    ensures cause { (n : ℕ) → HasCause (on_world W.World world.old n)
+        (on_world W.World world.new n) result }
 {
     match read_any(alloc, world, unit, origin)? {
         Some(bytes) => Ok(tree_of(origin, &bytes)),
@@ -116,7 +119,8 @@ fn show_leaf<W: World>(
 ) -> Result<bool, Fault>
     requires { MayUse (W.told world.old) unit.now }
     ensures goes { OnlyTypes (W.told world.old) (W.told world.new) }
-    ensures cause { (n : ℕ) → HasCause (on_world W.World world.old n) (on_world W.World world.new n) result }
+    ensures cause { (n : ℕ) → HasCause (on_world W.World world.old n)
+        (on_world W.World world.new n) result }
 {
     let Some(bytes) = read_leaf(alloc, world, unit, tree, leaf)? else {
         return Ok(false);
@@ -135,7 +139,8 @@ fn read_leaf<W: World>(
 ) -> Result<Option<Vec<u8>>, Fault>
     requires { MayUse (W.told world.old) unit.now }
     ensures told { W.told world.new ≡ W.told world.old }
-    ensures cause { (n : ℕ) → HasCause (on_world W.World world.old n) (on_world W.World world.new n) result }
+    ensures cause { (n : ℕ) → HasCause (on_world W.World world.old n)
+        (on_world W.World world.new n) result }
 {
     match find_leaf(alloc, world, unit, tree, leaf)? {
         Some(block) => read_any(alloc, world, unit, block),
@@ -153,7 +158,8 @@ fn find_leaf<W: World>(
 ) -> Result<Option<u32>, Fault>
     requires { MayUse (W.told world.old) unit.now }
     ensures told { W.told world.new ≡ W.told world.old }
-    ensures cause { (n : ℕ) → HasCause (on_world W.World world.old n) (on_world W.World world.new n) result }
+    ensures cause { (n : ℕ) → HasCause (on_world W.World world.old n)
+        (on_world W.World world.new n) result }
 {
     if leaf == 0 {
         return Ok(Some(tree.origin));
@@ -175,7 +181,8 @@ fn find_below<W: World>(
 ) -> Result<Option<u32>, Fault>
     requires { MayUse (W.told world.old) unit.now }
     ensures told { W.told world.new ≡ W.told world.old }
-    ensures cause { (n : ℕ) → HasCause (on_world W.World world.old n) (on_world W.World world.new n) result }
+    ensures cause { (n : ℕ) → HasCause (on_world W.World world.old n)
+        (on_world W.World world.new n) result }
 {
     let fan = unit.bsize.bytes() as usize / POINTER_BYTES;
     match find_pointer(alloc, world, unit, root, leaf / fan)? {
@@ -194,7 +201,8 @@ fn find_pointer<W: World>(
 ) -> Result<Option<u32>, Fault>
     requires { MayUse (W.told world.old) unit.now }
     ensures told { W.told world.new ≡ W.told world.old }
-    ensures cause { (n : ℕ) → HasCause (on_world W.World world.old n) (on_world W.World world.new n) result }
+    ensures cause { (n : ℕ) → HasCause (on_world W.World world.old n)
+        (on_world W.World world.new n) result }
 {
     match read_any(alloc, world, unit, block)? {
         Some(pointers) => Ok(pointer_at(&pointers, place)),
@@ -219,7 +227,8 @@ fn show_block<W: World>(
     most: usize,
 ) -> Result<bool, Fault>
     ensures goes { OnlyTypes (W.told world.old) (W.told world.new) }
-    ensures cause { (n : ℕ) → HasCause (on_world W.World world.old n) (on_world W.World world.new n) result }
+    ensures cause { (n : ℕ) → HasCause (on_world W.World world.old n)
+        (on_world W.World world.new n) result }
 {
     for (place, entry) in bytes.chunks_exact(ENTRY_BYTES).enumerate() {
         let number = first.saturating_add(place);
@@ -246,7 +255,8 @@ fn show_entry<W: World>(
 ) -> Result<(), Fault>
     requires { 64 ≤ length bytes.now }
     ensures goes { OnlyTypes (W.told world.old) (W.told world.new) }
-    ensures cause { (n : ℕ) → HasCause (on_world W.World world.old n) (on_world W.World world.new n) result }
+    ensures cause { (n : ℕ) → HasCause (on_world W.World world.old n)
+        (on_world W.World world.new n) result }
 {
     let text = entry_text(alloc, unit.bsize, place, bytes)?;
     type_bytes(world, text.as_bytes())

@@ -33,7 +33,8 @@ pub(crate) fn dump<W: World, H: Host>(
 ) -> Result<Status, Fault>
     requires room { HasRoom (W.told world.old) }
     ensures goes { IsNew (W.told world.old) → IsUnwritten (W.told world.new) }
-    ensures cause { HasEnd (counts W.World H.Host world.old host.old) (counts W.World H.Host world.new host.new) result }
+    ensures cause { HasEnd (counts W.World H.Host world.old host.old)
+        (counts W.World H.Host world.new host.new) result }
 {
     match find_size(alloc, host, image)? {
         Some(size) => {
@@ -56,7 +57,8 @@ fn dump_unit<W: World, H: Host>(
 ) -> Result<Status, Fault>
     requires { MayUse (W.told world.old) unit.now }
     ensures goes { OnlyTypes (W.told world.old) (W.told world.new) }
-    ensures cause { HasEnd (counts W.World H.Host world.old host.old) (counts W.World H.Host world.new host.new) result }
+    ensures cause { HasEnd (counts W.World H.Host world.old host.old)
+        (counts W.World H.Host world.new host.new) result }
 {
     if blocks.is_empty() {
         return dump_volume(alloc, world, host, image, unit);
@@ -103,7 +105,8 @@ fn dump_block<W: World, H: Host>(
 ) -> Result<Status, Fault>
     requires { MayUse (W.told world.old) unit.now }
     ensures goes { OnlyTypes (W.told world.old) (W.told world.new) }
-    ensures cause { HasEnd (counts W.World H.Host world.old host.old) (counts W.World H.Host world.new host.new) result }
+    ensures cause { HasEnd (counts W.World H.Host world.old host.old)
+        (counts W.World H.Host world.new host.new) result }
 {
     let Some(bytes) = find_block(alloc, world, host, image, unit, block)? else {
         return Ok(Status::Refused);
@@ -130,7 +133,8 @@ fn dump_volume<W: World, H: Host>(
 ) -> Result<Status, Fault>
     requires { MayUse (W.told world.old) unit.now }
     ensures goes { OnlyTypes (W.told world.old) (W.told world.new) }
-    ensures cause { HasEnd (counts W.World H.Host world.old host.old) (counts W.World H.Host world.new host.new) result }
+    ensures cause { HasEnd (counts W.World H.Host world.old host.old)
+        (counts W.World H.Host world.new host.new) result }
 {
     let Some(bytes) = find_block(alloc, world, host, image, unit, LABEL)? else {
         return Ok(Status::Refused);
@@ -156,7 +160,8 @@ fn show_held<W: World>(
 ) -> Result<Status, Fault>
     requires { MayUse (W.told world.old) unit.now }
     ensures goes { OnlyTypes (W.told world.old) (W.told world.new) }
-    ensures cause { (n : ℕ) → HasEnd (on_world W.World world.old n) (on_world W.World world.new n) result }
+    ensures cause { (n : ℕ) → HasEnd (on_world W.World world.old n)
+        (on_world W.World world.new n) result }
 {
     show_directory(alloc, world, unit, origin, SYSTEM_ENTRIES)?;
     show_entries(alloc, world, held)
@@ -195,7 +200,8 @@ fn label_test(why: LabelFault) -> &'static str {
 // Shows the entries of the files of a volume, by their numbers in the directory.
 fn show_entries<W: World>(alloc: Global, world: &mut W, held: &Held) -> Result<Status, Fault>
     ensures goes { OnlyTypes (W.told world.old) (W.told world.new) }
-    ensures cause { (n : ℕ) → HasEnd (on_world W.World world.old n) (on_world W.World world.new n) result }
+    ensures cause { (n : ℕ) → HasEnd (on_world W.World world.old n)
+        (on_world W.World world.new n) result }
 {
     for (place, file) in held.by_name().values().enumerate() {
         let number = place.saturating_add(SYSTEM_ENTRIES);

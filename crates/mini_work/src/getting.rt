@@ -1,22 +1,21 @@
 // Files of an image are handed out.
-ghost use Rattle.std.specs.Prelude.{◌≡◌, ◌≤◌, ◌++◌, ◌∷◌, ℕ, [], List, Option, false, true, None, IsSome, IfOk, OnOk};
+ghost use Rattle.std.specs.Prelude.{◌≡◌, ◌++◌, ◌∷◌, ℕ, [], List, Option, false, true, None, IsSome, IfOk, OnOk};
 ghost use Rattle.std.specs.Option.{ForSome, option_map};
 ghost use Rattle.std.specs.String.{string_bytes};
 ghost use Rattle.cms_journal.specs.declared.event.Access.TheVariants.{ReadOnly};
 ghost use Rattle.cms_journal.specs.Told.{Grown};
 ghost use Rattle.cms_model.specs.Minidisks as minidisks;
 ghost use Rattle.cms_disk.specs.Disks.{Accessed};
-ghost use Rattle.cms_disk.specs.Drafts.{Stands};
-ghost use Rattle.cms_fields.specs.Limits.{longest_record};
 ghost use Rattle.cms_names.specs.declared.name.Name as names;
 ghost use Rattle.mini_host.specs.Files.{Files, begun, is_folder, kept};
 ghost use Rattle.mini_work.specs.Getting as spec;
 ghost use Rattle.mini_work.specs.Getting.{Begins, HasNoFolder, IsBarred, IsGetting, IsGotBy, IsGotEach, IsGotTo, IsHanded, IsJoined, Keeps, OnHost, WritesAll};
 ghost use Rattle.mini_work.specs.Causes.{Counts, HasCause, HasEnd, counts, on_host, on_world};
 ghost use Rattle.mini_work.specs.Going.{Continues, Goes, MayChange, both};
-ghost use Rattle.mini_work.specs.Handing.{GetsOne, IsBegun, IsInfoOf, MayGet, shown_in};
+ghost use Rattle.mini_work.specs.Handing.{GetsOne, IsBegun, IsInfoOf, shown_in};
 ghost use Rattle.mini_work.specs.Opening.{HasRoom, IsNew};
 ghost use Rattle.mini_work.specs.Hosting.{Noted, SameFiles};
+ghost use Rattle.mini_work.specs.Standing.{Stands};
 ghost use Rattle.mini_work.specs.Working.{IsWorked};
 ghost use Rattle.mini_work.specs.declared.handing.Way.TheVariants as ways;
 ghost use Rattle.mini_work.specs.declared.status.Status as statuses;
@@ -27,13 +26,13 @@ use crate::choosing::{choose, names_of, refuse_idle};
 use crate::fault::Fault;
 use crate::handing::{Way, hand_out};
 use crate::looking::is_same;
-use crate::opening::open_source;
+use crate::opening::open_disk;
 use crate::saying::{name_word, refuse, say_fault, say_name};
 use crate::status::Status;
 use cms_disk::{DiskFault, FileInfo, Minidisk};
 use cms_names::Name;
 use cms_text::Series;
-use cms_world::World;
+use cms_world::{Access, World};
 use mini_forms::Form;
 use mini_host::{Host, Refusal};
 use mini_words::{Get, Target};
@@ -48,10 +47,13 @@ pub(crate) fn get<W: World, H: Host>(
 ) -> Result<Status, Fault>
     requires { HasRoom (W.told world.old) }
     ensures goes { IsNew (W.told world.old) → IsWorked get.now.image.name ReadOnly
-        (OnHost (H.told host.old) (H.told host.new) (IsGetting (H.told host.old) get.now)) (W.told world.new) result }
-    ensures cause { IsNew (W.told world.old) → HasEnd (counts W.World H.Host world.old host.old) (counts W.World H.Host world.new host.new) result }
+        (OnHost (H.told host.old) (H.told host.new) (IsGetting (H.told host.old) get.now))
+        (W.told world.new) result }
+    ensures cause { IsNew (W.told world.old)
+        → HasEnd (counts W.World H.Host world.old host.old)
+        (counts W.World H.Host world.new host.new) result }
 {
-    match open_source(alloc, world, host, &get.image)? {
+    match open_disk(alloc, world, host, &get.image, Access::ReadOnly)? {
         Some(disk) => get_fitting(alloc, world, host, &disk, get),
         None => Ok(Status::Refused),
     }
@@ -65,10 +67,13 @@ fn get_fitting<W: World, H: Host>(
     disk: &Minidisk,
     get: &Get,
 ) -> Result<Status, Fault>
-    requires { MayGet (W.told world.old) disk.now }
-    ensures goes { Continues (OnHost (H.told host.old) (H.told host.new) (IsGetting (H.told host.old) get.now)) (W.told world.old) disk.now
+    requires { MayChange (W.told world.old) disk.now }
+    ensures goes { Continues (OnHost (H.told host.old) (H.told host.new)
+        (IsGetting (H.told host.old) get.now)) (W.told world.old) disk.now
         (W.told world.new) disk.now result }
-    ensures cause { (m : minidisks.Minidisk) → Stands (W.told world.old) disk.now m → HasEnd (counts W.World H.Host world.old host.old) (counts W.World H.Host world.new host.new) result }
+    ensures cause { (m : minidisks.Minidisk) → Stands (W.told world.old) disk.now m
+        → HasEnd (counts W.World H.Host world.old host.old)
+        (counts W.World H.Host world.new host.new) result }
 {
     let all = names_of(alloc, disk)?;
     let chosen = choose(alloc, &all, get.names.as_slice())?;
@@ -86,10 +91,13 @@ fn get_chosen<W: World, H: Host>(
     get: &Get,
     names: &[Name],
 ) -> Result<Status, Fault>
-    requires { MayGet (W.told world.old) disk.now }
-    ensures goes { Continues (OnHost (H.told host.old) (H.told host.new) (IsGotBy (H.told host.old) get.now get.now.target names.now))
+    requires { MayChange (W.told world.old) disk.now }
+    ensures goes { Continues (OnHost (H.told host.old) (H.told host.new)
+        (IsGotBy (H.told host.old) get.now get.now.target names.now))
         (W.told world.old) disk.now (W.told world.new) disk.now result }
-    ensures cause { (m : minidisks.Minidisk) → Stands (W.told world.old) disk.now m → HasEnd (counts W.World H.Host world.old host.old) (counts W.World H.Host world.new host.new) result }
+    ensures cause { (m : minidisks.Minidisk) → Stands (W.told world.old) disk.now m
+        → HasEnd (counts W.World H.Host world.old host.old)
+        (counts W.World H.Host world.new host.new) result }
 {
     match &get.target {
         Target::Output => get_joined(alloc, world, host, disk, get.form, names),
@@ -107,10 +115,13 @@ fn get_joined<W: World, H: Host>(
     form: Form,
     names: &[Name],
 ) -> Result<Status, Fault>
-    requires { MayGet (W.told world.old) disk.now }
-    ensures goes { Continues (OnHost (H.told host.old) (H.told host.new) (Goes (IsHanded form) names.now)) (W.told world.old) disk.now
+    requires { MayChange (W.told world.old) disk.now }
+    ensures goes { Continues (OnHost (H.told host.old) (H.told host.new)
+        (Goes (IsHanded form) names.now)) (W.told world.old) disk.now
         (W.told world.new) disk.now result }
-    ensures cause { (m : minidisks.Minidisk) → Stands (W.told world.old) disk.now m → HasEnd (counts W.World H.Host world.old host.old) (counts W.World H.Host world.new host.new) result }
+    ensures cause { (m : minidisks.Minidisk) → Stands (W.told world.old) disk.now m
+        → HasEnd (counts W.World H.Host world.old host.old)
+        (counts W.World H.Host world.new host.new) result }
 {
     let mut status = Status::Done;
     for name in names {
@@ -135,10 +146,13 @@ fn get_into<W: World, H: Host>(
     file: &str,
     names: &[Name],
 ) -> Result<Status, Fault>
-    requires { MayGet (W.told world.old) disk.now }
-    ensures goes { Continues (OnHost (H.told host.old) (H.told host.new) (IsJoined (H.told host.old) get.now file.now names.now))
+    requires { MayChange (W.told world.old) disk.now }
+    ensures goes { Continues (OnHost (H.told host.old) (H.told host.new)
+        (IsJoined (H.told host.old) get.now file.now names.now))
         (W.told world.old) disk.now (W.told world.new) disk.now result }
-    ensures cause { (m : minidisks.Minidisk) → Stands (W.told world.old) disk.now m → HasEnd (counts W.World H.Host world.old host.old) (counts W.World H.Host world.new host.new) result }
+    ensures cause { (m : minidisks.Minidisk) → Stands (W.told world.old) disk.now m
+        → HasEnd (counts W.World H.Host world.old host.old)
+        (counts W.World H.Host world.new host.new) result }
 {
     let folder = folder_of(file);
     let there = find_folder(alloc, host, folder)?;
@@ -170,8 +184,10 @@ fn say_names<W: World>(
     names: &[Name],
     says: bool,
 ) -> Result<Status, Fault>
-    ensures goes { (d : Accessed) → Continues (spec.AreSaid says names.now) (W.told world.old) d (W.told world.new) d result }
-    ensures cause { (n : ℕ) → HasEnd (on_world W.World world.old n) (on_world W.World world.new n) result }
+    ensures goes { (d : Accessed)
+        → Continues (spec.AreSaid says names.now) (W.told world.old) d (W.told world.new) d result }
+    ensures cause { (n : ℕ) → HasEnd (on_world W.World world.old n)
+        (on_world W.World world.new n) result }
 {
     for name in names {
         say_name(alloc, world, name, says)?;
@@ -189,14 +205,19 @@ fn write_all<W: World, H: Host>(
     names: &[Name],
     written: &mut Series<Name>,
 ) -> Result<Status, Fault>
-    requires may { MayGet (W.told world.old) disk.now }
+    requires may { MayChange (W.told world.old) disk.now }
     requires begun { IsBegun (H.told host.old) }
-    ensures writes { IfOk result (λ s. (m : minidisks.Minidisk) → Stands (W.told world.old) disk.now m
-        → WritesAll form m names.now (H.told host.old) (H.told host.new) written.old written.new s) }
-    ensures told { (m : minidisks.Minidisk) → Stands (W.told world.old) disk.now m → W.told world.new ≡ W.told world.old }
+    ensures writes { IfOk result (λ s. (m : minidisks.Minidisk)
+        → Stands (W.told world.old) disk.now m
+        → WritesAll form m names.now (H.told host.old)
+        (H.told host.new) written.old written.new s) }
+    ensures told { (m : minidisks.Minidisk) → Stands (W.told world.old) disk.now m
+        → W.told world.new ≡ W.told world.old }
     ensures begun { IfOk result (λ s. IsBegun (H.told host.new)) }
     ensures files { IfOk result (λ s. SameFiles (H.told host.old) (H.told host.new)) }
-    ensures cause { (m : minidisks.Minidisk) → Stands (W.told world.old) disk.now m → HasEnd (counts W.World H.Host world.old host.old) (counts W.World H.Host world.new host.new) result }
+    ensures cause { (m : minidisks.Minidisk) → Stands (W.told world.old) disk.now m
+        → HasEnd (counts W.World H.Host world.old host.old)
+        (counts W.World H.Host world.new host.new) result }
 {
     let mut status = Status::Done;
     for name in names {
@@ -222,16 +243,23 @@ fn write_one<W: World, H: Host>(
     name: &Name,
     written: &mut Series<Name>,
 ) -> Result<Status, Fault>
-    requires may { MayGet (W.told world.old) disk.now }
+    requires may { MayChange (W.told world.old) disk.now }
     requires begun { IsBegun (H.told host.old) }
-    ensures writes { IfOk result (λ s. (m : minidisks.Minidisk) (xs : List names.Name) (first : Option Files) (before : List names.Name) (t : statuses.Status)
-        → Stands (W.told world.old) disk.now m → WritesAll form m xs first (H.told host.old) before written.old t
-        → WritesAll form m (xs ++ name.now ∷ []) first (H.told host.new) before written.new (both t s)) }
-    ensures told { (m : minidisks.Minidisk) → Stands (W.told world.old) disk.now m → W.told world.new ≡ W.told world.old }
+    ensures writes { IfOk result (λ s.
+        (m : minidisks.Minidisk) (xs : List names.Name) (first : Option Files)
+        (before : List names.Name) (t : statuses.Status)
+        → Stands (W.told world.old) disk.now m
+        → WritesAll form m xs first (H.told host.old) before written.old t
+        → WritesAll form m (xs ++ name.now ∷ []) first (H.told host.new) before written.new
+        (both t s)) }
+    ensures told { (m : minidisks.Minidisk) → Stands (W.told world.old) disk.now m
+        → W.told world.new ≡ W.told world.old }
     ensures grown { Grown (W.told world.old) (W.told world.new) }
     ensures begun { IfOk result (λ s. IsBegun (H.told host.new)) }
     ensures files { IfOk result (λ s. SameFiles (H.told host.old) (H.told host.new)) }
-    ensures cause { (m : minidisks.Minidisk) → Stands (W.told world.old) disk.now m → HasEnd (counts W.World H.Host world.old host.old) (counts W.World H.Host world.new host.new) result }
+    ensures cause { (m : minidisks.Minidisk) → Stands (W.told world.old) disk.now m
+        → HasEnd (counts W.World H.Host world.old host.old)
+        (counts W.World H.Host world.new host.new) result }
 {
     match get_one(alloc, world, host, disk, form, Way::File, name)? {
         Status::Done => {
@@ -245,7 +273,8 @@ fn write_one<W: World, H: Host>(
 // Begins a host file; where it may not be, that is said.
 fn begin_file<H: Host>(alloc: Global, host: &mut H, get: &Get, file: &str) -> Result<bool, Fault>
     ensures goes { IfOk result (Begins (H.told host.old) (H.told host.new) get.now file.now) }
-    ensures cause { (c : Counts) → HasCause (on_host c (H.faults host.old)) (on_host c (H.faults host.new)) result }
+    ensures cause { (c : Counts) → HasCause (on_host c (H.faults host.old))
+        (on_host c (H.faults host.new)) result }
 {
     match begin(host, get, file)? {
         Some(refusal) => bar(alloc, host, file, refusal),
@@ -255,10 +284,13 @@ fn begin_file<H: Host>(alloc: Global, host: &mut H, get: &Get, file: &str) -> Re
 
 // Why a host file may not be begun, if for something; else it is.
 fn begin<H: Host>(host: &mut H, get: &Get, file: &str) -> Result<Option<Refusal>, Fault>
-    ensures begun { IfOk result (λ found. found ≡ None → H.told host.new ≡ option_map (begun file.now get.now.replaces) (H.told host.old)) }
-    ensures barred { IfOk result (λ found. IsSome found → IsBarred (H.told host.old) get.now file.now) }
+    ensures begun { IfOk result (λ found. found ≡ None
+        → H.told host.new ≡ option_map (begun file.now get.now.replaces) (H.told host.old)) }
+    ensures barred { IfOk result (λ found. IsSome found
+        → IsBarred (H.told host.old) get.now file.now) }
     ensures kept { IfOk result (λ found. IsSome found → H.told host.new ≡ H.told host.old) }
-    ensures cause { (c : Counts) → HasCause (on_host c (H.faults host.old)) (on_host c (H.faults host.new)) result }
+    ensures cause { (c : Counts) → HasCause (on_host c (H.faults host.old))
+        (on_host c (H.faults host.new)) result }
 {
     let same = is_same(host, file, get.image.name.text())?;
     if same {
@@ -275,7 +307,8 @@ fn begin<H: Host>(host: &mut H, get: &Get, file: &str) -> Result<Option<Refusal>
 fn bar<H: Host>(alloc: Global, host: &mut H, word: &str, refusal: Refusal) -> Result<bool, Fault>
     ensures no { IfOk result (λ may. may ≡ false) }
     ensures files { SameFiles (H.told host.old) (H.told host.new) }
-    ensures cause { (c : Counts) → HasCause (on_host c (H.faults host.old)) (on_host c (H.faults host.new)) result }
+    ensures cause { (c : Counts) → HasCause (on_host c (H.faults host.old))
+        (on_host c (H.faults host.new)) result }
 {
     refuse(alloc, host, word, refusal)?;
     Ok(false)
@@ -285,7 +318,8 @@ fn bar<H: Host>(alloc: Global, host: &mut H, word: &str, refusal: Refusal) -> Re
 fn keep_file<H: Host>(alloc: Global, host: &mut H, file: &str) -> Result<bool, Fault>
     requires { IsBegun (H.told host.old) }
     ensures goes { IfOk result (Keeps (H.told host.old) (H.told host.new)) }
-    ensures cause { (c : Counts) → HasCause (on_host c (H.faults host.old)) (on_host c (H.faults host.new)) result }
+    ensures cause { (c : Counts) → HasCause (on_host c (H.faults host.old))
+        (on_host c (H.faults host.new)) result }
 {
     let kept = keep(host)?;
     if kept {
@@ -298,7 +332,8 @@ fn keep<H: Host>(host: &mut H) -> Result<bool, Fault>
     requires { IsBegun (H.told host.old) }
     ensures has_it { IfOk result (λ has_it. ForSome (H.told host.old) (λ f. has_it ≡ true)) }
     ensures kept { IfOk result (λ has_it. H.told host.new ≡ option_map kept (H.told host.old)) }
-    ensures cause { (c : Counts) → HasCause (on_host c (H.faults host.old)) (on_host c (H.faults host.new)) result }
+    ensures cause { (c : Counts) → HasCause (on_host c (H.faults host.old))
+        (on_host c (H.faults host.new)) result }
 {
     match host.keep() {
         Ok(has_it) => Ok(has_it),
@@ -316,10 +351,13 @@ fn get_each<W: World, H: Host>(
     folder: &str,
     names: &[Name],
 ) -> Result<Status, Fault>
-    requires { MayGet (W.told world.old) disk.now }
-    ensures goes { Continues (OnHost (H.told host.old) (H.told host.new) (IsGotEach (H.told host.old) get.now folder.now names.now))
+    requires { MayChange (W.told world.old) disk.now }
+    ensures goes { Continues (OnHost (H.told host.old) (H.told host.new)
+        (IsGotEach (H.told host.old) get.now folder.now names.now))
         (W.told world.old) disk.now (W.told world.new) disk.now result }
-    ensures cause { (m : minidisks.Minidisk) → Stands (W.told world.old) disk.now m → HasEnd (counts W.World H.Host world.old host.old) (counts W.World H.Host world.new host.new) result }
+    ensures cause { (m : minidisks.Minidisk) → Stands (W.told world.old) disk.now m
+        → HasEnd (counts W.World H.Host world.old host.old)
+        (counts W.World H.Host world.new host.new) result }
 {
     let there = find_folder(alloc, host, folder)?;
     if !there {
@@ -338,10 +376,13 @@ fn get_named<W: World, H: Host>(
     folder: &str,
     names: &[Name],
 ) -> Result<Status, Fault>
-    requires { MayGet (W.told world.old) disk.now }
-    ensures goes { Continues (OnHost (H.told host.old) (H.told host.new) (Goes (IsGotTo get.now folder.now) names.now)) (W.told world.old) disk.now
+    requires { MayChange (W.told world.old) disk.now }
+    ensures goes { Continues (OnHost (H.told host.old) (H.told host.new)
+        (Goes (IsGotTo get.now folder.now) names.now)) (W.told world.old) disk.now
         (W.told world.new) disk.now result }
-    ensures cause { (m : minidisks.Minidisk) → Stands (W.told world.old) disk.now m → HasEnd (counts W.World H.Host world.old host.old) (counts W.World H.Host world.new host.new) result }
+    ensures cause { (m : minidisks.Minidisk) → Stands (W.told world.old) disk.now m
+        → HasEnd (counts W.World H.Host world.old host.old)
+        (counts W.World H.Host world.new host.new) result }
 {
     let mut status = Status::Done;
     for name in names {
@@ -378,7 +419,8 @@ fn or_root(folder: &str) -> &str
 fn find_folder<H: Host>(alloc: Global, host: &mut H, folder: &str) -> Result<bool, Fault>
     ensures none { IfOk result (λ there. there ≡ false → HasNoFolder (H.told host.old) folder.now) }
     ensures files { IfOk result (λ there. SameFiles (H.told host.old) (H.told host.new)) }
-    ensures cause { (c : Counts) → HasCause (on_host c (H.faults host.old)) (on_host c (H.faults host.new)) result }
+    ensures cause { (c : Counts) → HasCause (on_host c (H.faults host.old))
+        (on_host c (H.faults host.new)) result }
 {
     let there = has_folder(host, folder)?;
     if there {
@@ -388,9 +430,11 @@ fn find_folder<H: Host>(alloc: Global, host: &mut H, folder: &str) -> Result<boo
 }
 
 fn has_folder<H: Host>(host: &mut H, folder: &str) -> Result<bool, Fault>
-    ensures folder { IfOk result (λ there. ForSome (H.told host.old) (λ f. there ≡ is_folder folder.now f)) }
+    ensures folder { IfOk result (λ there. ForSome (H.told host.old)
+        (λ f. there ≡ is_folder folder.now f)) }
     ensures told { H.told host.new ≡ H.told host.old }
-    ensures cause { (c : Counts) → HasCause (on_host c (H.faults host.old)) (on_host c (H.faults host.new)) result }
+    ensures cause { (c : Counts) → HasCause (on_host c (H.faults host.old))
+        (on_host c (H.faults host.new)) result }
 {
     match host.has_folder(folder) {
         Ok(there) => Ok(there),
@@ -420,13 +464,17 @@ fn get_to<W: World, H: Host>(
     path: &str,
     name: &Name,
 ) -> Result<Status, Fault>
-    requires { MayGet (W.told world.old) disk.now }
-    ensures goes { Continues (OnHost (H.told host.old) (H.told host.new) (spec.IsGotAs get.now path.now name.now)) (W.told world.old) disk.now
+    requires { MayChange (W.told world.old) disk.now }
+    ensures goes { Continues (OnHost (H.told host.old) (H.told host.new)
+        (spec.IsGotAs get.now path.now name.now)) (W.told world.old) disk.now
         (W.told world.new) disk.now result }
     ensures refused { (m : minidisks.Minidisk) → Stands (W.told world.old) disk.now m
-        → spec.RefusesFor (H.told host.old) get.now path.now (shown_in get.now.form m name.now) result }
+        → spec.RefusesFor (H.told host.old) get.now path.now
+        (shown_in get.now.form m name.now) result }
     ensures grown { Grown (W.told world.old) (W.told world.new) }
-    ensures cause { (m : minidisks.Minidisk) → Stands (W.told world.old) disk.now m → HasEnd (counts W.World H.Host world.old host.old) (counts W.World H.Host world.new host.new) result }
+    ensures cause { (m : minidisks.Minidisk) → Stands (W.told world.old) disk.now m
+        → HasEnd (counts W.World H.Host world.old host.old)
+        (counts W.World H.Host world.new host.new) result }
 {
     let begun = begin_file(alloc, host, get, path)?;
     if !begun {
@@ -457,14 +505,17 @@ fn get_one<W: World, H: Host>(
     way: Way,
     name: &Name,
 ) -> Result<Status, Fault>
-    requires may { MayGet (W.told world.old) disk.now }
+    requires may { MayChange (W.told world.old) disk.now }
     requires begun { way ≡ ways.File → IsBegun (H.told host.old) }
     ensures gets { (m : minidisks.Minidisk) → Stands (W.told world.old) disk.now m
-        → GetsOne way (W.told world.old) (W.told world.new) (H.told host.old) (H.told host.new) (shown_in form m name.now) result }
+        → GetsOne way (W.told world.old) (W.told world.new) (H.told host.old) (H.told host.new)
+        (shown_in form m name.now) result }
     ensures grown { Grown (W.told world.old) (W.told world.new) }
     ensures files { IfOk result (λ s. SameFiles (H.told host.old) (H.told host.new)) }
     ensures begun { IfOk result (λ s. way ≡ ways.File → IsBegun (H.told host.new)) }
-    ensures cause { (m : minidisks.Minidisk) → Stands (W.told world.old) disk.now m → HasEnd (counts W.World H.Host world.old host.old) (counts W.World H.Host world.new host.new) result }
+    ensures cause { (m : minidisks.Minidisk) → Stands (W.told world.old) disk.now m
+        → HasEnd (counts W.World H.Host world.old host.old)
+        (counts W.World H.Host world.new host.new) result }
 {
     match disk.find(name) {
         Some(place) => get_file(alloc, world, host, disk, form, way, name, &disk.info(place)),
@@ -485,14 +536,16 @@ fn get_file<W: World, H: Host>(
 ) -> Result<Status, Fault>
     requires may { MayChange (W.told world.old) disk.now }
     requires info { IsInfoOf name.now disk.now.volume info.now }
-    requires short { info.now.length ≤ longest_record }
     requires begun { way ≡ ways.File → IsBegun (H.told host.old) }
     ensures gets { (m : minidisks.Minidisk) → Stands (W.told world.old) disk.now m
-        → GetsOne way (W.told world.old) (W.told world.new) (H.told host.old) (H.told host.new) (shown_in form m name.now) result }
+        → GetsOne way (W.told world.old) (W.told world.new) (H.told host.old) (H.told host.new)
+        (shown_in form m name.now) result }
     ensures grown { Grown (W.told world.old) (W.told world.new) }
     ensures files { IfOk result (λ s. SameFiles (H.told host.old) (H.told host.new)) }
     ensures begun { IfOk result (λ s. way ≡ ways.File → IsBegun (H.told host.new)) }
-    ensures cause { (m : minidisks.Minidisk) → Stands (W.told world.old) disk.now m → HasEnd (counts W.World H.Host world.old host.old) (counts W.World H.Host world.new host.new) result }
+    ensures cause { (m : minidisks.Minidisk) → Stands (W.told world.old) disk.now m
+        → HasEnd (counts W.World H.Host world.old host.old)
+        (counts W.World H.Host world.new host.new) result }
 {
     match hand_out(alloc, world, host, disk, form, way, name, info) {
         Ok(true) => Ok(Status::Done),
@@ -506,7 +559,8 @@ fn refuse_lines<H: Host>(alloc: Global, host: &mut H, name: &Name) -> Result<Sta
     ensures refused { IfOk result (λ s. s ≡ status.Refused) }
     ensures noted { OnOk result (Noted (H.told host.old) (H.told host.new)) }
     ensures files { SameFiles (H.told host.old) (H.told host.new) }
-    ensures cause { (c : Counts) → HasEnd (on_host c (H.faults host.old)) (on_host c (H.faults host.new)) result }
+    ensures cause { (c : Counts) → HasEnd (on_host c (H.faults host.old))
+        (on_host c (H.faults host.new)) result }
 {
     let word = name_word(alloc, name)?;
     refuse(alloc, host, word.as_str(), Refusal::NotLines)

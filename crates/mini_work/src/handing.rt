@@ -10,12 +10,12 @@ ghost use Rattle.cms_model.specs.LawsUpdates.{now};
 ghost use Rattle.cms_model.specs.Minidisks as minidisks;
 ghost use Rattle.cms_disk.specs.Cursors.{HasLeft};
 ghost use Rattle.cms_disk.specs.Disks.{IsReadable};
-ghost use Rattle.cms_disk.specs.Drafts.{Stands};
 ghost use Rattle.mini_forms.specs.Writing.{is_line, written};
 ghost use Rattle.mini_work.specs.Causes.{HasCause, counts, on_world};
 ghost use Rattle.mini_work.specs.Handing as spec;
 ghost use Rattle.mini_work.specs.Handing.{Hands, IsBegun, IsInfoOf, Puts, shown_in};
 ghost use Rattle.mini_work.specs.Hosting.{SameFiles};
+ghost use Rattle.mini_work.specs.Standing.{Stands};
 ghost use Rattle.mini_work.specs.declared.handing.Way.TheVariants as ways;
 
 use crate::fault::Fault;
@@ -49,14 +49,16 @@ pub(crate) fn hand_out<W: World, H: Host>(
 ) -> Result<bool, Fault>
     requires blocks { ForSome (W.told world.old) (λ j. IsReadable j disk.now) }
     requires info { IsInfoOf name.now disk.now.volume info.now }
-    requires short { info.now.length ≤ longest_record }
     requires begun { way ≡ ways.File → IsBegun (H.told host.old) }
     ensures hands { (m : minidisks.Minidisk) → Stands (W.told world.old) disk.now m
-        → Hands way (W.told world.old) (W.told world.new) (H.told host.old) (H.told host.new) (shown_in form m name.now) result }
+        → Hands way (W.told world.old) (W.told world.new) (H.told host.old) (H.told host.new)
+        (shown_in form m name.now) result }
     ensures grown { Grown (W.told world.old) (W.told world.new) }
     ensures files { OnOk result (SameFiles (H.told host.old) (H.told host.new)) }
     ensures begun { OnOk result (way ≡ ways.File → IsBegun (H.told host.new)) }
-    ensures cause { (m : minidisks.Minidisk) → Stands (W.told world.old) disk.now m → HasCause (counts W.World H.Host world.old host.old) (counts W.World H.Host world.new host.new) result }
+    ensures cause { (m : minidisks.Minidisk) → Stands (W.told world.old) disk.now m
+        → HasCause (counts W.World H.Host world.old host.old)
+        (counts W.World H.Host world.new host.new) result }
 {
     let can = can_show(alloc, world, disk, form, name)?;
     if !can {
@@ -76,10 +78,12 @@ fn can_show<W: World>(
     name: &Name,
 ) -> Result<bool, Fault>
     requires blocks { ForSome (W.told world.old) (λ j. IsReadable j disk.now) }
-    ensures shows { IfOk result (λ can. (m : minidisks.Minidisk) (f : minidisks.File) → Stands (W.told world.old) disk.now m
+    ensures shows { IfOk result (λ can. (m : minidisks.Minidisk) (f : minidisks.File)
+        → Stands (W.told world.old) disk.now m
         → file_named name.now m.files ≡ Some f → can ≡ spec.can_show form f.records) }
     ensures told { W.told world.new ≡ W.told world.old }
-    ensures cause { (m : minidisks.Minidisk) (f : minidisks.File) → Stands (W.told world.old) disk.now m → file_named name.now m.files ≡ Some f
+    ensures cause { (m : minidisks.Minidisk) (f : minidisks.File)
+        → Stands (W.told world.old) disk.now m → file_named name.now m.files ≡ Some f
         → (n : ℕ) → HasCause (on_world W.World world.old n) (on_world W.World world.new n) result }
 {
     match form {
@@ -93,11 +97,14 @@ fn can_show<W: World>(
 
 // Whether each record that is left can be a line.
 fn are_lines<W: World>(world: &mut W, cursor: &mut Cursor) -> Result<bool, Fault>
-    requires blocks { ForSome (W.told world.old) (λ j. HasBlocks j.units cursor.old.unit cursor.old.total cursor.old.bsize) }
-    ensures lines { IfOk result (λ all. (j : Journal) (records : List (List ℕ)) → W.told world.old ≡ Some j
+    requires blocks { ForSome (W.told world.old)
+        (λ j. HasBlocks j.units cursor.old.unit cursor.old.total cursor.old.bsize) }
+    ensures lines { IfOk result (λ all. (j : Journal) (records : List (List ℕ))
+        → W.told world.old ≡ Some j
         → HasLeft (now j cursor.old.unit) cursor.old records → all ≡ list_all is_line records) }
     ensures told { W.told world.new ≡ W.told world.old }
-    ensures cause { (j : Journal) (records : List (List ℕ)) → W.told world.old ≡ Some j → HasLeft (now j cursor.old.unit) cursor.old records
+    ensures cause { (j : Journal) (records : List (List ℕ)) → W.told world.old ≡ Some j
+        → HasLeft (now j cursor.old.unit) cursor.old records
         → (n : ℕ) → HasCause (on_world W.World world.old n) (on_world W.World world.new n) result }
 {
     'records: while cursor.next(world)? {
@@ -118,16 +125,21 @@ fn hand_records<W: World, H: Host>(
     format: Format,
     way: Way,
 ) -> Result<(), Fault>
-    requires blocks { ForSome (W.told world.old) (λ j. HasBlocks j.units cursor.old.unit cursor.old.total cursor.old.bsize) }
+    requires blocks { ForSome (W.told world.old)
+        (λ j. HasBlocks j.units cursor.old.unit cursor.old.total cursor.old.bsize) }
     requires short { cursor.old.begun.longest ≤ longest_record }
     requires begun { way ≡ ways.File → IsBegun (H.told host.old) }
-    ensures puts { (j : Journal) (records : List (List ℕ)) → W.told world.old ≡ Some j → HasLeft (now j cursor.old.unit) cursor.old records
-        → Puts way (W.told world.old) (W.told world.new) (H.told host.old) (H.told host.new) (written form format records) result }
+    ensures puts { (j : Journal) (records : List (List ℕ)) → W.told world.old ≡ Some j
+        → HasLeft (now j cursor.old.unit) cursor.old records
+        → Puts way (W.told world.old) (W.told world.new) (H.told host.old) (H.told host.new)
+        (written form format records) result }
     ensures grown { Grown (W.told world.old) (W.told world.new) }
     ensures files { OnOk result (SameFiles (H.told host.old) (H.told host.new)) }
     ensures begun { OnOk result (way ≡ ways.File → IsBegun (H.told host.new)) }
-    ensures cause { (j : Journal) (records : List (List ℕ)) → W.told world.old ≡ Some j → HasLeft (now j cursor.old.unit) cursor.old records
-        → HasCause (counts W.World H.Host world.old host.old) (counts W.World H.Host world.new host.new) result }
+    ensures cause { (j : Journal) (records : List (List ℕ)) → W.told world.old ≡ Some j
+        → HasLeft (now j cursor.old.unit) cursor.old records
+        → HasCause (counts W.World H.Host world.old host.old)
+        (counts W.World H.Host world.new host.new) result }
 {
     let mut buffer = Vec::new(alloc);
     'records: while cursor.next(world)? {
@@ -146,9 +158,11 @@ fn put_out<W: World, H: Host>(
     bytes: &[u8],
 ) -> Result<(), Fault>
     requires begun { way ≡ ways.File → IsBegun (H.told host.old) }
-    ensures puts { Puts way (W.told world.old) (W.told world.new) (H.told host.old) (H.told host.new) bytes.now result }
+    ensures puts { Puts way (W.told world.old) (W.told world.new) (H.told host.old)
+        (H.told host.new) bytes.now result }
     ensures begun { way ≡ ways.File → IsBegun (H.told host.new) }
-    ensures cause { HasCause (counts W.World H.Host world.old host.old) (counts W.World H.Host world.new host.new) result }
+    ensures cause { HasCause (counts W.World H.Host world.old host.old)
+        (counts W.World H.Host world.new host.new) result }
 {
     match way {
         Way::Output => type_bytes(world, bytes),

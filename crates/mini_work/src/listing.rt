@@ -44,8 +44,10 @@ pub(crate) fn list<W: World, H: Host>(
     names: &[NamePattern],
 ) -> Result<Status, Fault>
     requires room { HasRoom (W.told world.old) }
-    ensures goes { IsNew (W.told world.old) → IsWorked image.now.name ReadOnly (IsListing long names.now) (W.told world.new) result }
-    ensures cause { HasEnd (counts W.World H.Host world.old host.old) (counts W.World H.Host world.new host.new) result }
+    ensures goes { IsNew (W.told world.old)
+        → IsWorked image.now.name ReadOnly (IsListing long names.now) (W.told world.new) result }
+    ensures cause { HasEnd (counts W.World H.Host world.old host.old)
+        (counts W.World H.Host world.new host.new) result }
 {
     match open_disk(alloc, world, host, image, Access::ReadOnly)? {
         Some(disk) => list_fitting(alloc, world, host, &disk, long, names),
@@ -62,8 +64,10 @@ fn list_fitting<W: World, H: Host>(
     long: bool,
     names: &[NamePattern],
 ) -> Result<Status, Fault>
-    ensures goes { Continues (IsListing long names.now) (W.told world.old) disk.now (W.told world.new) disk.now result }
-    ensures cause { HasEnd (counts W.World H.Host world.old host.old) (counts W.World H.Host world.new host.new) result }
+    ensures goes { Continues (IsListing long names.now) (W.told world.old) disk.now
+        (W.told world.new) disk.now result }
+    ensures cause { HasEnd (counts W.World H.Host world.old host.old)
+        (counts W.World H.Host world.new host.new) result }
 {
     let listed = list_files(alloc, world, disk, long, names)?;
     let all = names_of(alloc, disk)?;
@@ -79,9 +83,11 @@ fn list_files<W: World>(
     long: bool,
     names: &[NamePattern],
 ) -> Result<Status, Fault>
-    ensures goes { Continues (Goes (λ info. IsTold (spec.is_listed names.now info) (typed_line (spec.file_line long info)))
+    ensures goes { Continues (Goes
+        (λ info. IsTold (spec.is_listed names.now info) (typed_line (spec.file_line long info)))
         (infos_in disk.now.volume)) (W.told world.old) disk.now (W.told world.new) disk.now result }
-    ensures cause { (n : ℕ) → HasEnd (on_world W.World world.old n) (on_world W.World world.new n) result }
+    ensures cause { (n : ℕ) → HasEnd (on_world W.World world.old n)
+        (on_world W.World world.new n) result }
 {
     let mut status = Status::Done;
     for nth in 0..disk.count() {
@@ -187,8 +193,10 @@ pub(crate) fn info<W: World, H: Host>(
     image: &Image,
 ) -> Result<Status, Fault>
     requires { HasRoom (W.told world.old) }
-    ensures goes { IsNew (W.told world.old) → IsShowing image.now.name facts_text (W.told world.new) result }
-    ensures cause { HasEnd (counts W.World H.Host world.old host.old) (counts W.World H.Host world.new host.new) result }
+    ensures goes { IsNew (W.told world.old)
+        → IsShowing image.now.name facts_text (W.told world.new) result }
+    ensures cause { HasEnd (counts W.World H.Host world.old host.old)
+        (counts W.World H.Host world.new host.new) result }
 {
     match open_held(alloc, world, host, image)? {
         Some(held) => say_facts(alloc, world, &held),
@@ -198,9 +206,11 @@ pub(crate) fn info<W: World, H: Host>(
 
 // Says a line for each fact.
 fn say_facts<W: World>(alloc: Global, world: &mut W, held: &Held) -> Result<Status, Fault>
-    ensures shows { Shows (W.told world.old) (W.told world.new) (facts_text held.now.volume) result }
+    ensures shows { Shows (W.told world.old) (W.told world.new)
+        (facts_text held.now.volume) result }
     ensures typed { OnlyTypes (W.told world.old) (W.told world.new) }
-    ensures cause { (n : ℕ) → HasEnd (on_world W.World world.old n) (on_world W.World world.new n) result }
+    ensures cause { (n : ℕ) → HasEnd (on_world W.World world.old n)
+        (on_world W.World world.new n) result }
 {
     let lines = fact_lines(alloc, held)?;
     for line in &lines {
@@ -211,7 +221,8 @@ fn say_facts<W: World>(alloc: Global, world: &mut W, held: &Held) -> Result<Stat
 
 // What is said of a volume.
 fn fact_lines(alloc: Global, held: &Held) -> Result<Vec<Vec<u8>>, AllocError>
-    ensures { IfOk result (λ lines. map (λ line. line.items) lines.items ≡ spec.facts held.now.volume) }
+    ensures { IfOk result (λ lines. map (λ line. line.items) lines.items
+        ≡ spec.facts held.now.volume) }
 {
     let space = held.space();
     let used = space.total.saturating_sub(space.free);

@@ -30,7 +30,8 @@ pub(crate) fn find_size<H: Host>(
 ) -> Result<Option<BlockSize>, Fault>
     ensures size { IfOk result (spec.IsSizeOf (H.told host.old) image.now.name image.now.size) }
     ensures files { SameFiles (H.told host.old) (H.told host.new) }
-    ensures cause { (c : Counts) → HasCause (on_host c (H.faults host.old)) (on_host c (H.faults host.new)) result }
+    ensures cause { (c : Counts) → HasCause (on_host c (H.faults host.old))
+        (on_host c (H.faults host.new)) result }
 {
     let name = image.name.text();
     if !open_file(host, name)? {
@@ -49,7 +50,8 @@ fn look<H: Host>(alloc: Global, host: &mut H, name: &str) -> Result<Option<Block
     ensures size { IfOk result (λ size. ForSome (H.told host.old) (λ f. ForSome f.left (λ left.
         size ≡ spec.label_size (take spec.looked_at left)))) }
     ensures files { SameFiles (H.told host.old) (H.told host.new) }
-    ensures cause { (c : Counts) → HasCause (on_host c (H.faults host.old)) (on_host c (H.faults host.new)) result }
+    ensures cause { (c : Counts) → HasCause (on_host c (H.faults host.old))
+        (on_host c (H.faults host.new)) result }
 {
     let mut front = vec![in alloc; 0; FRONT]?;
     let count = read_front(host, &mut front)?;
@@ -62,10 +64,13 @@ fn look<H: Host>(alloc: Global, host: &mut H, name: &str) -> Result<Option<Block
 
 /// Opens a host file, and says whether there is one of this name.
 pub(crate) fn open_file<H: Host>(host: &mut H, name: &str) -> Result<bool, Fault>
-    ensures there { IfOk result (λ there. ForSome (H.told host.old) (λ f. there ≡ is_some (content_of name.now f.files))) }
-    ensures opened { OnOk result (H.told host.new ≡ option_map (opened name.now) (H.told host.old)) }
+    ensures there { IfOk result (λ there. ForSome (H.told host.old)
+        (λ f. there ≡ is_some (content_of name.now f.files))) }
+    ensures opened { OnOk result (H.told host.new
+        ≡ option_map (opened name.now) (H.told host.old)) }
     ensures files { SameFiles (H.told host.old) (H.told host.new) }
-    ensures cause { (c : Counts) → HasCause (on_host c (H.faults host.old)) (on_host c (H.faults host.new)) result }
+    ensures cause { (c : Counts) → HasCause (on_host c (H.faults host.old))
+        (on_host c (H.faults host.new)) result }
 {
     match host.open(name) {
         Ok(there) => Ok(there),
@@ -75,9 +80,11 @@ pub(crate) fn open_file<H: Host>(host: &mut H, name: &str) -> Result<bool, Fault
 
 /// Whether two names are of one host file.
 pub(crate) fn is_same<H: Host>(host: &mut H, one: &str, other: &str) -> Result<bool, Fault>
-    ensures same { IfOk result (λ same. ForSome (H.told host.old) (λ f. same ≡ bytes_eq one.now other.now)) }
+    ensures same { IfOk result (λ same. ForSome (H.told host.old)
+        (λ f. same ≡ bytes_eq one.now other.now)) }
     ensures told { H.told host.new ≡ H.told host.old }
-    ensures cause { (c : Counts) → HasCause (on_host c (H.faults host.old)) (on_host c (H.faults host.new)) result }
+    ensures cause { (c : Counts) → HasCause (on_host c (H.faults host.old))
+        (on_host c (H.faults host.new)) result }
 {
     match host.is_same(one, other) {
         Ok(same) => Ok(same),
@@ -92,7 +99,8 @@ fn read_front<H: Host>(host: &mut H, into: &mut [u8]) -> Result<usize, Fault>
     ensures front { IfOk result (λ n. ForSome (H.told host.old) (λ f. ForSome f.left (λ left.
         take n into.new ≡ take (length into.new) left))) }
     ensures files { SameFiles (H.told host.old) (H.told host.new) }
-    ensures cause { (c : Counts) → HasCause (on_host c (H.faults host.old)) (on_host c (H.faults host.new)) result }
+    ensures cause { (c : Counts) → HasCause (on_host c (H.faults host.old))
+        (on_host c (H.faults host.new)) result }
 {
     let mut count = 0;
     while count < into.len() {

@@ -34,8 +34,10 @@ pub(crate) fn make<W: World, H: Host>(
 ) -> Result<Status, Fault>
     requires room { HasRoom (W.told world.old) }
     requires offset { IsOffset offset }
-    ensures goes { IsNew (W.told world.old) → IsMaking image.now size blocks label offset (W.told world.new) result }
-    ensures cause { HasEnd (counts W.World H.Host world.old host.old) (counts W.World H.Host world.new host.new) result }
+    ensures goes { IsNew (W.told world.old)
+        → IsMaking image.now size blocks label offset (W.told world.new) result }
+    ensures cause { HasEnd (counts W.World H.Host world.old host.old)
+        (counts W.World H.Host world.new host.new) result }
 {
     if open_file(host, image)? {
         return refuse(alloc, host, image, Refusal::IsThere);
@@ -67,9 +69,12 @@ fn make_volume<W: World>(
     requires offset { IsOffset offset }
     requires writable { unit.now.writable ≡ true }
     requires may { MayUse (W.told world.old) unit.now }
-    ensures goes { (name : List ℕ) (size : ℕ) (access : accesses.Access) (a : Attaches name size access (W.told world.old) unit.now)
-        → Makes unit.now (first_state a.alone.unit) label offset (W.told world.old) (W.told world.new) result }
-    ensures cause { (n : ℕ) → HasCause (on_world W.World world.old n) (on_world W.World world.new n) result }
+    ensures goes { (name : List ℕ) (size : ℕ) (access : accesses.Access)
+        (a : Attaches name size access (W.told world.old) unit.now)
+        → Makes unit.now (first_state a.alone.unit) label offset (W.told world.old)
+        (W.told world.new) result }
+    ensures cause { (n : ℕ) → HasCause (on_world W.World world.old n)
+        (on_world W.World world.new n) result }
 {
     let stamp = ask_clock(world, offset)?;
     let _disk = Minidisk::make(alloc, world, unit, label, &stamp)?;

@@ -8,7 +8,6 @@ ghost use Rattle.cms_journal.specs.declared.event.Access.TheVariants.{ReadOnly};
 ghost use Rattle.mini_work.specs.Causes.{AreLater, Counts, HasCause, OneRose, counts, on_world};
 ghost use Rattle.mini_work.specs.Checking.{Holds, IsShut, is_test};
 ghost use Rattle.mini_work.specs.Going.{MayChange};
-ghost use Rattle.mini_work.specs.Handing.{AreShort, MayGet};
 ghost use Rattle.mini_work.specs.Opening.{Attaches, HasRoom, IsNew, IsUnwritten, MayUse, Opens};
 ghost use Rattle.mini_work.specs.Hosting.{SameFiles};
 
@@ -17,7 +16,6 @@ use crate::looking::find_size;
 use crate::saying::refuse;
 use cms_disk::{AccessFault, Minidisk, OpenFault, UnitInfo};
 use cms_edf::{Held, open_volume};
-use cms_fields::{EntryFault, LONGEST_RECORD};
 use cms_journal::{BlockSize, MOST_BLOCKS};
 use cms_world::{Access, Unit, World};
 use mini_host::{Host, Refusal};
@@ -35,12 +33,14 @@ pub(crate) fn attach<W: World>(
     access: Access,
 ) -> Result<UnitInfo, Fault>
     requires room { HasRoom (W.told world.old) }
-    ensures attaches { IfOk result (λ info. IsNew (W.told world.old) → Attaches name.now size access (W.told world.new) info) }
+    ensures attaches { IfOk result (λ info. IsNew (W.told world.old)
+        → Attaches name.now size access (W.told world.new) info) }
     ensures may { IfOk result (MayUse (W.told world.new)) }
     ensures size { IfOk result (λ info. info.bsize ≡ size) }
     ensures access { IfOk result (λ info. info.writable ≡ may_write access) }
     ensures unwritten { IsNew (W.told world.old) → IsUnwritten (W.told world.new) }
-    ensures cause { (n : ℕ) → HasCause (on_world W.World world.old n) (on_world W.World world.new n) result }
+    ensures cause { (n : ℕ) → HasCause (on_world W.World world.old n)
+        (on_world W.World world.new n) result }
 {
     match world.attach(name, size.bytes(), access) {
         Ok(unit) => Ok(UnitInfo {
@@ -87,56 +87,15 @@ pub(crate) fn open_disk<W: World, H: Host>(
     ensures unwritten { IsNew (W.told world.old) → IsUnwritten (W.told world.new) }
     ensures may { IfOk result (λ found. IfSome found (MayChange (W.told world.new))) }
     ensures files { SameFiles (H.told host.old) (H.told host.new) }
-    ensures writable { IfOk result (λ found. IfSome found (λ disk. disk.writable ≡ may_write access)) }
-    ensures cause { HasCause (counts W.World H.Host world.old host.old) (counts W.World H.Host world.new host.new) result }
+    ensures writable { IfOk result (λ found. IfSome found
+        (λ disk. disk.writable ≡ may_write access)) }
+    ensures cause { HasCause (counts W.World H.Host world.old host.old)
+        (counts W.World H.Host world.new host.new) result }
 {
     match find_size(alloc, host, image)? {
         Some(size) => open_sized(alloc, world, host, image.name.text(), size, access),
         None => Ok(None),
     }
-}
-
-/// The minidisk of an image whose files are handed out; none where there is none, or where a file has longer records than a file may
-/// have: that was said.
-pub(crate) fn open_source<W: World, H: Host>(
-    alloc: Global,
-    world: &mut W,
-    host: &mut H,
-    image: &Image,
-) -> Result<Option<Minidisk>, Fault>
-    requires room { HasRoom (W.told world.old) }
-    ensures opens { IfOk result (λ found. IfSome found (λ disk. IsNew (W.told world.old)
-        → (size : ℕ) × Opens image.now.name size ReadOnly (W.told world.new) disk)) }
-    ensures unwritten { IsNew (W.told world.old) → IsUnwritten (W.told world.new) }
-    ensures may { IfOk result (λ found. IfSome found (MayGet (W.told world.new))) }
-    ensures files { SameFiles (H.told host.old) (H.told host.new) }
-    ensures cause { HasCause (counts W.World H.Host world.old host.old) (counts W.World H.Host world.new host.new) result }
-{
-    let Some(disk) = open_disk(alloc, world, host, image, Access::ReadOnly)? else {
-        return Ok(None);
-    };
-    match find_long(&disk) {
-        None => Ok(Some(disk)),
-        Some(nth) => {
-            // behind the entries of the directory and of the map
-            let entry = nth.saturating_add(2);
-            let fault = OpenFault::Entry(entry, EntryFault::Length);
-            refuse(alloc, host, image.name.text(), Refusal::NoVolume(fault))?;
-            Ok(None)
-        }
-    }
-}
-
-// The place of a file that has longer records than a file may have. No volume that opens has one.
-fn find_long(disk: &Minidisk) -> Option<u32>
-    ensures { result ≡ None → AreShort disk.now.volume }
-{
-    for nth in 0..disk.count() {
-        if disk.info(nth).length > LONGEST_RECORD {
-            return Some(nth);
-        }
-    }
-    None
 }
 
 // Attaches an image with blocks of a size, and opens it.
@@ -154,8 +113,10 @@ fn open_sized<W: World, H: Host>(
     ensures unwritten { IsNew (W.told world.old) → IsUnwritten (W.told world.new) }
     ensures may { IfOk result (λ found. IfSome found (MayChange (W.told world.new))) }
     ensures files { SameFiles (H.told host.old) (H.told host.new) }
-    ensures writable { IfOk result (λ found. IfSome found (λ disk. disk.writable ≡ may_write access)) }
-    ensures cause { HasCause (counts W.World H.Host world.old host.old) (counts W.World H.Host world.new host.new) result }
+    ensures writable { IfOk result (λ found. IfSome found
+        (λ disk. disk.writable ≡ may_write access)) }
+    ensures cause { HasCause (counts W.World H.Host world.old host.old)
+        (counts W.World H.Host world.new host.new) result }
 {
     let unit = attach(world, image, size, access)?;
     open_unit(alloc, world, host, image, &unit)
@@ -170,13 +131,17 @@ fn open_unit<W: World, H: Host>(
     unit: &UnitInfo,
 ) -> Result<Option<Minidisk>, Fault>
     requires { MayUse (W.told world.old) unit.now }
-    ensures opens { IfOk result (λ found. IfSome found (λ disk. (name : List ℕ) (size : ℕ) (access : accesses.Access)
-        → Attaches name size access (W.told world.old) unit.now → Opens name size access (W.told world.new) disk)) }
+    ensures opens { IfOk result (λ found. IfSome found
+        (λ disk. (name : List ℕ) (size : ℕ) (access : accesses.Access)
+        → Attaches name size access (W.told world.old) unit.now
+        → Opens name size access (W.told world.new) disk)) }
     ensures told { W.told world.new ≡ W.told world.old }
     ensures may { IfOk result (λ found. IfSome found (MayChange (W.told world.new))) }
     ensures files { SameFiles (H.told host.old) (H.told host.new) }
-    ensures writable { IfOk result (λ found. IfSome found (λ disk. disk.writable ≡ unit.now.writable)) }
-    ensures cause { HasCause (counts W.World H.Host world.old host.old) (counts W.World H.Host world.new host.new) result }
+    ensures writable { IfOk result (λ found. IfSome found
+        (λ disk. disk.writable ≡ unit.now.writable)) }
+    ensures cause { HasCause (counts W.World H.Host world.old host.old)
+        (counts W.World H.Host world.new host.new) result }
 {
     match Minidisk::access(alloc, world, unit, false) {
         Ok(disk) => Ok(Some(disk)),
@@ -193,10 +158,13 @@ pub(crate) fn open_held<W: World, H: Host>(
     image: &Image,
 ) -> Result<Option<Held>, Fault>
     requires room { HasRoom (W.told world.old) }
-    ensures holds { IfOk result (λ found. IfSome found (λ held. IsNew (W.told world.old) → Holds image.now.name (W.told world.new) held.volume)) }
-    ensures shut { IfOk result (λ found. found ≡ None → IsNew (W.told world.old) → IsShut image.now.name (W.told world.new)) }
+    ensures holds { IfOk result (λ found. IfSome found
+        (λ held. IsNew (W.told world.old) → Holds image.now.name (W.told world.new) held.volume)) }
+    ensures shut { IfOk result (λ found. found ≡ None → IsNew (W.told world.old)
+        → IsShut image.now.name (W.told world.new)) }
     ensures unwritten { IsNew (W.told world.old) → IsUnwritten (W.told world.new) }
-    ensures cause { HasCause (counts W.World H.Host world.old host.old) (counts W.World H.Host world.new host.new) result }
+    ensures cause { HasCause (counts W.World H.Host world.old host.old)
+        (counts W.World H.Host world.new host.new) result }
 {
     match find_size(alloc, host, image)? {
         Some(size) => hold_sized(alloc, world, host, image.name.text(), size),
@@ -213,10 +181,13 @@ fn hold_sized<W: World, H: Host>(
     size: BlockSize,
 ) -> Result<Option<Held>, Fault>
     requires room { HasRoom (W.told world.old) }
-    ensures holds { IfOk result (λ found. IfSome found (λ held. IsNew (W.told world.old) → Holds image.now (W.told world.new) held.volume)) }
-    ensures shut { IfOk result (λ found. found ≡ None → IsNew (W.told world.old) → IsShut image.now (W.told world.new)) }
+    ensures holds { IfOk result (λ found. IfSome found
+        (λ held. IsNew (W.told world.old) → Holds image.now (W.told world.new) held.volume)) }
+    ensures shut { IfOk result (λ found. found ≡ None → IsNew (W.told world.old)
+        → IsShut image.now (W.told world.new)) }
     ensures unwritten { IsNew (W.told world.old) → IsUnwritten (W.told world.new) }
-    ensures cause { HasCause (counts W.World H.Host world.old host.old) (counts W.World H.Host world.new host.new) result }
+    ensures cause { HasCause (counts W.World H.Host world.old host.old)
+        (counts W.World H.Host world.new host.new) result }
 {
     let unit = attach(world, image, size, Access::ReadOnly)?;
     hold_unit(alloc, world, host, image, &unit)
@@ -232,11 +203,14 @@ fn hold_unit<W: World, H: Host>(
 ) -> Result<Option<Held>, Fault>
     requires { MayUse (W.told world.old) unit.now }
     ensures holds { IfOk result (λ found. IfSome found (λ held. (name : List ℕ) (size : ℕ)
-        → Attaches name size ReadOnly (W.told world.old) unit.now → Holds name (W.told world.new) held.volume)) }
+        → Attaches name size ReadOnly (W.told world.old) unit.now
+        → Holds name (W.told world.new) held.volume)) }
     ensures shut { IfOk result (λ found. found ≡ None → (name : List ℕ) (size : ℕ)
-        → Attaches name size ReadOnly (W.told world.old) unit.now → IsShut name (W.told world.new)) }
+        → Attaches name size ReadOnly (W.told world.old) unit.now
+        → IsShut name (W.told world.new)) }
     ensures told { W.told world.new ≡ W.told world.old }
-    ensures cause { HasCause (counts W.World H.Host world.old host.old) (counts W.World H.Host world.new host.new) result }
+    ensures cause { HasCause (counts W.World H.Host world.old host.old)
+        (counts W.World H.Host world.new host.new) result }
 {
     match open_volume(alloc, world, &unit.unit, unit.bsize) {
         Ok(held) => Ok(Some(held)),
@@ -254,8 +228,10 @@ fn refuse_volume<H: Host, T: Drop>(
     ensures none { IfOk result (λ found. found ≡ None) }
     ensures why { IfOk result (λ found. is_test why ≡ true) }
     ensures files { SameFiles (H.told host.old) (H.told host.new) }
-    ensures cause { (first : Counts) (f e : ℕ) → AreLater first (record { faults = f; edges = e; host = H.faults host.old })
-        → (why ≡ Device → OneRose first (record { faults = f; edges = e; host = H.faults host.old }))
+    ensures cause { (first : Counts) (f e : ℕ)
+        → AreLater first (record { faults = f; edges = e; host = H.faults host.old })
+        → (why ≡ Device
+        → OneRose first (record { faults = f; edges = e; host = H.faults host.old }))
         → HasCause first (record { faults = f; edges = e; host = H.faults host.new }) result }
 {
     match why {

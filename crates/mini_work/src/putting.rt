@@ -14,7 +14,7 @@ ghost use Rattle.cms_draft.specs.Drafting.{Drafts};
 ghost use Rattle.cms_held.specs.Drafts.{Front};
 ghost use Rattle.cms_edf.specs.FileDrafts.{IsSomeDraft};
 ghost use Rattle.cms_disk.specs.Disks.{Accessed, place_of};
-ghost use Rattle.cms_disk.specs.Drafts.{GoesOn, IsFull, IsSameDraft, Stands};
+ghost use Rattle.cms_disk.specs.Drafts.{GoesOn, IsFull, IsSameDraft};
 ghost use Rattle.cms_copyfile.specs.Measures.{measured};
 ghost use Rattle.mini_forms.specs.Readers.{IsSize};
 ghost use Rattle.mini_forms.specs.Reading.{records_in, size_in, start_of};
@@ -31,6 +31,7 @@ ghost use Rattle.mini_work.specs.Hosting.{SameFiles, files_in};
 ghost use Rattle.mini_work.specs.Putting.{IsNoFileFor, IsPut, IsPutting};
 ghost use Rattle.mini_work.specs.Reading.{IsOpen};
 ghost use Rattle.mini_work.specs.Saying.{name_line};
+ghost use Rattle.mini_work.specs.Standing.{Stands};
 ghost use Rattle.mini_work.specs.Working.{IsWorked};
 
 use crate::changing::refuse_change;
@@ -62,9 +63,12 @@ pub(crate) fn put<W: World, H: Host>(
     requires offset { IsOffset put.now.offset }
     requires number { put.now.number ≤ 6 }
     requires size { IsSize (size_in (start_of put.now.layout)) }
-    ensures goes { (files : List hosts.HostFile) → files_in (H.told host.old) ≡ Some files → IsNew (W.told world.old)
-        → IsWorked put.now.image.name ReadWrite (IsPutting files put.now) (W.told world.new) result }
-    ensures cause { HasEnd (counts W.World H.Host world.old host.old) (counts W.World H.Host world.new host.new) result }
+    ensures goes { (files : List hosts.HostFile) → files_in (H.told host.old) ≡ Some files
+        → IsNew (W.told world.old)
+        → IsWorked put.now.image.name ReadWrite (IsPutting files put.now)
+        (W.told world.new) result }
+    ensures cause { HasEnd (counts W.World H.Host world.old host.old)
+        (counts W.World H.Host world.new host.new) result }
 {
     match open_disk(alloc, world, host, &put.image, Access::ReadWrite)? {
         Some(mut disk) => put_timed(alloc, world, host, &mut disk, put),
@@ -85,8 +89,11 @@ fn put_timed<W: World, H: Host>(
     requires size { IsSize (size_in (start_of put.now.layout)) }
     requires may { MayChange (W.told world.old) disk.old }
     ensures goes { (files : List hosts.HostFile) → files_in (H.told host.old) ≡ Some files
-        → Continues (IsPutting files put.now) (W.told world.old) disk.old (W.told world.new) disk.new result }
-    ensures cause { disk.old.writable ≡ true → HasEnd (counts W.World H.Host world.old host.old) (counts W.World H.Host world.new host.new) result }
+        → Continues (IsPutting files put.now) (W.told world.old) disk.old
+        (W.told world.new) disk.new result }
+    ensures cause { disk.old.writable ≡ true
+        → HasEnd (counts W.World H.Host world.old host.old)
+        (counts W.World H.Host world.new host.new) result }
 {
     let stamp = ask_clock(world, put.offset)?;
     put_all(alloc, world, host, disk, put, put.files.as_slice(), &stamp)
@@ -107,8 +114,11 @@ fn put_all<W: World, H: Host>(
     requires size { IsSize (size_in (start_of put.now.layout)) }
     requires may { MayChange (W.told world.old) disk.old }
     ensures goes { (files : List hosts.HostFile) → files_in (H.told host.old) ≡ Some files
-        → Continues (Goes (IsPut files put.now stamp.now) words.now) (W.told world.old) disk.old (W.told world.new) disk.new result }
-    ensures cause { disk.old.writable ≡ true → HasEnd (counts W.World H.Host world.old host.old) (counts W.World H.Host world.new host.new) result }
+        → Continues (Goes (IsPut files put.now stamp.now) words.now) (W.told world.old) disk.old
+        (W.told world.new) disk.new result }
+    ensures cause { disk.old.writable ≡ true
+        → HasEnd (counts W.World H.Host world.old host.old)
+        (counts W.World H.Host world.new host.new) result }
 {
     let mut status = Status::Done;
     for word in words {
@@ -135,11 +145,14 @@ fn put_one<W: World, H: Host>(
     requires size { IsSize (size_in (start_of put.now.layout)) }
     requires may { MayChange (W.told world.old) disk.old }
     ensures goes { (files : List hosts.HostFile) → files_in (H.told host.old) ≡ Some files
-        → Continues (IsPut files put.now stamp.now file.now) (W.told world.old) disk.old (W.told world.new) disk.new result }
+        → Continues (IsPut files put.now stamp.now file.now) (W.told world.old) disk.old
+        (W.told world.new) disk.new result }
     ensures may { MayChange (W.told world.new) disk.new }
     ensures files { SameFiles (H.told host.old) (H.told host.new) }
     ensures writable { disk.new.writable ≡ disk.old.writable }
-    ensures cause { disk.old.writable ≡ true → HasEnd (counts W.World H.Host world.old host.old) (counts W.World H.Host world.new host.new) result }
+    ensures cause { disk.old.writable ≡ true
+        → HasEnd (counts W.World H.Host world.old host.old)
+        (counts W.World H.Host world.new host.new) result }
 {
     match name_for(put, file) {
         Some(name) => put_as(alloc, world, host, disk, put, file, &name, stamp),
@@ -164,11 +177,14 @@ fn put_as<W: World, H: Host>(
     requires may { MayChange (W.told world.old) disk.old }
     requires named { spec.name_for put.now.name file.now ≡ Some name.now }
     ensures goes { (files : List hosts.HostFile) → files_in (H.told host.old) ≡ Some files
-        → Continues (IsPut files put.now stamp.now file.now) (W.told world.old) disk.old (W.told world.new) disk.new result }
+        → Continues (IsPut files put.now stamp.now file.now) (W.told world.old) disk.old
+        (W.told world.new) disk.new result }
     ensures may { MayChange (W.told world.new) disk.new }
     ensures files { SameFiles (H.told host.old) (H.told host.new) }
     ensures writable { disk.new.writable ≡ disk.old.writable }
-    ensures cause { disk.old.writable ≡ true → HasEnd (counts W.World H.Host world.old host.old) (counts W.World H.Host world.new host.new) result }
+    ensures cause { disk.old.writable ≡ true
+        → HasEnd (counts W.World H.Host world.old host.old)
+        (counts W.World H.Host world.new host.new) result }
 {
     match find_refusal(host, disk, put, file, name)? {
         Some(refusal) => refuse(alloc, host, file, refusal),
@@ -196,11 +212,14 @@ fn put_named<W: World, H: Host>(
     requires opened { IsOpen (H.told host.old) }
     requires content { IsOpenAt (H.told host.old) file.now }
     ensures goes { (files : List hosts.HostFile) → files_in (H.told host.old) ≡ Some files
-        → Continues (IsPut files put.now stamp.now file.now) (W.told world.old) disk.old (W.told world.new) disk.new result }
+        → Continues (IsPut files put.now stamp.now file.now) (W.told world.old) disk.old
+        (W.told world.new) disk.new result }
     ensures may { MayChange (W.told world.new) disk.new }
     ensures files { SameFiles (H.told host.old) (H.told host.new) }
     ensures writable { disk.new.writable ≡ disk.old.writable }
-    ensures cause { disk.old.writable ≡ true → HasEnd (counts W.World H.Host world.old host.old) (counts W.World H.Host world.new host.new) result }
+    ensures cause { disk.old.writable ≡ true
+        → HasEnd (counts W.World H.Host world.old host.old)
+        (counts W.World H.Host world.new host.new) result }
 {
     match measure_file(alloc, host, put.layout) {
         Ok(measure) => put_measured(alloc, world, host, disk, put, file, name, stamp, &measure),
@@ -239,13 +258,17 @@ fn find_refusal<H: Host>(
     name: &Name,
 ) -> Result<Option<Refusal>, Fault>
     requires { spec.name_for put.now.name file.now ≡ Some name.now }
-    ensures refused { IfOk result (λ found. IsSome found → (files : List hosts.HostFile) → files_in (H.told host.old) ≡ Some files
-        → (told : Told) (m : minidisks.Minidisk) → Stands told disk.now m → IsNoFileFor files put.now file.now m) }
+    ensures refused { IfOk result (λ found. IsSome found → (files : List hosts.HostFile)
+        → files_in (H.told host.old) ≡ Some files
+        → (told : Told) (m : minidisks.Minidisk) → Stands told disk.now m
+        → IsNoFileFor files put.now file.now m) }
     ensures opened { IfOk result (λ found. found ≡ None → IsOpen (H.told host.new)) }
     ensures content { IfOk result (λ found. found ≡ None → IsOpenAt (H.told host.new) file.now) }
-    ensures over { IfOk result (λ found. found ≡ None → put.now.replaces ≡ false → place_of name.now disk.now.volume ≡ None) }
+    ensures over { IfOk result (λ found. found ≡ None → put.now.replaces ≡ false
+        → place_of name.now disk.now.volume ≡ None) }
     ensures files { SameFiles (H.told host.old) (H.told host.new) }
-    ensures cause { (c : Counts) → HasCause (on_host c (H.faults host.old)) (on_host c (H.faults host.new)) result }
+    ensures cause { (c : Counts) → HasCause (on_host c (H.faults host.old))
+        (on_host c (H.faults host.new)) result }
 {
     if disk.has(name) && !put.replaces {
         return Ok(Some(Refusal::IsThere));
@@ -302,11 +325,15 @@ fn shape_for(
     measure: &Measure,
 ) -> DraftShape
     requires { put.now.number ≤ 6 }
-    ensures shape { (records : List (List ℕ)) → measure.now ≡ measured (layouts.format_of put.now.layout) records
+    ensures shape { (records : List (List ℕ))
+        → measure.now ≡ measured (layouts.format_of put.now.layout) records
         → IsShapeOf put.now.layout records stamp.now result }
-    ensures fits { (records : List (List ℕ)) → measure.now ≡ measured (layouts.format_of put.now.layout) records → result.number ≤ 6 }
-    ensures number { (records : List (List ℕ)) → measure.now ≡ measured (layouts.format_of put.now.layout) records
-        → (told : Told) (m : minidisks.Minidisk) → Stands told disk.now m → result.number ≡ spec.number_for put.now.number (file_named name.now m.files) }
+    ensures fits { (records : List (List ℕ))
+        → measure.now ≡ measured (layouts.format_of put.now.layout) records → result.number ≤ 6 }
+    ensures number { (records : List (List ℕ))
+        → measure.now ≡ measured (layouts.format_of put.now.layout) records
+        → (told : Told) (m : minidisks.Minidisk) → Stands told disk.now m
+        → result.number ≡ spec.number_for put.now.number (file_named name.now m.files) }
 {
     let number = number_for(disk, name, put.number);
     shape_of(form_of(put.layout), number, *stamp, measure)
@@ -333,11 +360,14 @@ fn put_measured<W: World, H: Host>(
     requires there { IsThere (H.told host.old) file.now }
     requires measured { IsMeasuredFor (H.told host.old) file.now put.now.layout measure.now }
     ensures goes { (files : List hosts.HostFile) → files_in (H.told host.old) ≡ Some files
-        → Continues (IsPut files put.now stamp.now file.now) (W.told world.old) disk.old (W.told world.new) disk.new result }
+        → Continues (IsPut files put.now stamp.now file.now) (W.told world.old) disk.old
+        (W.told world.new) disk.new result }
     ensures may { MayChange (W.told world.new) disk.new }
     ensures files { SameFiles (H.told host.old) (H.told host.new) }
     ensures writable { disk.new.writable ≡ disk.old.writable }
-    ensures cause { disk.old.writable ≡ true → HasEnd (counts W.World H.Host world.old host.old) (counts W.World H.Host world.new host.new) result }
+    ensures cause { disk.old.writable ≡ true
+        → HasEnd (counts W.World H.Host world.old host.old)
+        (counts W.World H.Host world.new host.new) result }
 {
     let there = open_file(host, file)?;
     if !there {
@@ -367,14 +397,18 @@ fn put_draft<W: World, H: Host>(
     requires planned { IsSomeDraft disk.old.volume draft }
     requires room { 1 ≤ disk.old.spare }
     requires opened { IsOpen (H.told host.old) }
-    ensures goes { (h : Files) (bytes : List ℕ) (change : model.Change) (stamp : stamps.Stamp) (records : List (List ℕ))
-        → H.told host.old ≡ Some h → h.left ≡ Some bytes → records_in put.now.layout bytes ≡ Ok records
+    ensures goes { (h : Files) (bytes : List ℕ) (change : model.Change) (stamp : stamps.Stamp)
+        (records : List (List ℕ))
+        → H.told host.old ≡ Some h → h.left ≡ Some bytes
+        → records_in put.now.layout bytes ≡ Ok records
         → Begins (W.told world.old) disk.old draft change stamp records
-        → Continues (IsChange change stamp put.now.says (name_line name.now)) (W.told world.old) disk.old (W.told world.new) disk.new result }
+        → Continues (IsChange change stamp put.now.says (name_line name.now))
+        (W.told world.old) disk.old (W.told world.new) disk.new result }
     ensures may { MayChange (W.told world.new) disk.new }
     ensures files { SameFiles (H.told host.old) (H.told host.new) }
     ensures writable { disk.new.writable ≡ disk.old.writable }
-    ensures cause { HasEnd (counts W.World H.Host world.old host.old) (counts W.World H.Host world.new host.new) result }
+    ensures cause { HasEnd (counts W.World H.Host world.old host.old)
+        (counts W.World H.Host world.new host.new) result }
 {
     let full = fill(alloc, world, host, put.layout, &mut draft)?;
     if !full {
@@ -395,15 +429,18 @@ fn fill<W: World, H: Host>(
     requires size { IsSize (size_in (start_of layout)) }
     requires opened { IsOpen (H.told host.old) }
     requires ready { ForSome (W.told world.old) (λ j. CanWrite j.units draft.old.writer.writer) }
-    ensures fills { (start : Told) (d : Accessed) (m : minidisks.Minidisk) (change : model.Change) (stamp : stamps.Stamp)
-        (records : List (List ℕ)) (h : Files) (bytes : List ℕ) → GoesOn start (W.told world.old) d m draft.old change stamp [] records
+    ensures fills { (start : Told) (d : Accessed) (m : minidisks.Minidisk) (change : model.Change)
+        (stamp : stamps.Stamp)
+        (records : List (List ℕ)) (h : Files) (bytes : List ℕ)
+        → GoesOn start (W.told world.old) d m draft.old change stamp [] records
         → H.told host.old ≡ Some h → h.left ≡ Some bytes → records_in layout bytes ≡ Ok records
         → FillsSo start (W.told world.new) d m draft.new change stamp records result }
     ensures full { IfOk result (λ all. all ≡ true → IsFull draft.new.writer) }
     ensures same { IsSameDraft draft.old draft.new }
     ensures grown { Grown (W.told world.old) (W.told world.new) }
     ensures files { SameFiles (H.told host.old) (H.told host.new) }
-    ensures cause { HasCause (counts W.World H.Host world.old host.old) (counts W.World H.Host world.new host.new) result }
+    ensures cause { HasCause (counts W.World H.Host world.old host.old)
+        (counts W.World H.Host world.new host.new) result }
 {
     let mut reader = Reader::new(alloc, layout)?;
     match put_records(alloc, world, host, &mut reader, draft) {
@@ -417,7 +454,8 @@ fn fill<W: World, H: Host>(
 // Whether a draft has all of its records.
 fn is_full(draft: &Draft) -> bool
     ensures full { result ≡ true → IsFull draft.now.writer }
-    ensures all { (front : Front) (records : List (List ℕ)) → Drafts draft.now.writer front records [] → result ≡ true }
+    ensures all { (front : Front) (records : List (List ℕ))
+        → Drafts draft.now.writer front records [] → result ≡ true }
 {
     if draft.records_left() != 0 {
         return false;

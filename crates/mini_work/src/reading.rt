@@ -88,12 +88,14 @@ fn read_more<H: Host>(host: &mut H, into: &mut [u8]) -> Result<usize, Fault>
     requires some { 0 < length into.old }
     requires opened { IsOpen (H.told host.old) }
     ensures within { IfOk result (λ n. n ≤ length into.old) }
-    ensures reads { IfOk result (λ n. (h : Files) (left : List ℕ) → H.told host.old ≡ Some h → h.left ≡ Some left
+    ensures reads { IfOk result (λ n. (h : Files) (left : List ℕ) → H.told host.old ≡ Some h
+        → h.left ≡ Some left
         → IsReadOn n left into.new h (H.told host.new)) }
     ensures rest { IfOk result (λ n. H.rest host.new + n ≤ H.rest host.old) }
     ensures opened { IsOpen (H.told host.new) }
     ensures files { SameFiles (H.told host.old) (H.told host.new) }
-    ensures cause { (c : Counts) → HasCause (on_host c (H.faults host.old)) (on_host c (H.faults host.new)) result }
+    ensures cause { (c : Counts) → HasCause (on_host c (H.faults host.old))
+        (on_host c (H.faults host.new)) result }
 {
     match host.read(into) {
         Ok(count) => Ok(count),
@@ -110,8 +112,10 @@ fn measure_next(
 ) -> Result<(), FormFault>
     requires format { format ≡ sized (size_in reader.old.place) }
     requires counted { IsCounted reader.old measure.old }
-    ensures measures { OnOk result (MeasuresTo reader.old reader.new measure.old measure.new (byte ∷ []) []) }
-    ensures fault { IfErr result (λ why. (rest : List ℕ) → read_from reader.old (byte ∷ rest) ≡ Err why) }
+    ensures measures { OnOk result (MeasuresTo reader.old reader.new measure.old measure.new
+        (byte ∷ []) []) }
+    ensures fault { IfErr result (λ why. (rest : List ℕ)
+        → read_from reader.old (byte ∷ rest) ≡ Err why) }
 {
     let whole = reader.feed(byte)?;
     if !whole {
@@ -130,8 +134,10 @@ fn measure_bytes(
 ) -> Result<(), FormFault>
     requires format { format ≡ sized (size_in reader.old.place) }
     requires counted { IsCounted reader.old measure.old }
-    ensures measures { OnOk result (MeasuresTo reader.old reader.new measure.old measure.new bytes.now []) }
-    ensures fault { IfErr result (λ why. (rest : List ℕ) → read_from reader.old (bytes.now ++ rest) ≡ Err why) }
+    ensures measures { OnOk result (MeasuresTo reader.old reader.new measure.old measure.new
+        bytes.now []) }
+    ensures fault { IfErr result (λ why. (rest : List ℕ)
+        → read_from reader.old (bytes.now ++ rest) ≡ Err why) }
 {
     let mut place = 0;
     while place < bytes.len() {
@@ -167,7 +173,8 @@ pub(crate) fn measure_file<H: Host>(
     requires opened { IsOpen (H.told host.old) }
     ensures measures { Measures (H.told host.old) layout result }
     ensures files { SameFiles (H.told host.old) (H.told host.new) }
-    ensures cause { (c : Counts) → HasFileCause (on_host c (H.faults host.old)) (on_host c (H.faults host.new)) result }
+    ensures cause { (c : Counts) → HasFileCause (on_host c (H.faults host.old))
+        (on_host c (H.faults host.new)) result }
 {
     let mut reader = Reader::new(alloc, layout)?;
     let mut buffer = vec![in alloc; 0; ROOM]?;
@@ -186,7 +193,8 @@ fn measure_open<H: Host>(
     requires opened { IsOpen (H.told host.old) }
     ensures measures { Measures (H.told host.old) layout result }
     ensures files { SameFiles (H.told host.old) (H.told host.new) }
-    ensures cause { (c : Counts) → HasFileCause (on_host c (H.faults host.old)) (on_host c (H.faults host.new)) result }
+    ensures cause { (c : Counts) → HasFileCause (on_host c (H.faults host.old))
+        (on_host c (H.faults host.new)) result }
 {
     let format = format_of(layout);
     let mut measure = Measure::new();
@@ -212,13 +220,17 @@ fn front(bytes: &[u8], count: usize) -> &[u8]
 // Puts a record in a draft.
 fn put_text<W: World>(world: &mut W, draft: &mut Draft, text: &[u8]) -> Result<(), FileFault>
     requires ready { ForSome (W.told world.old) (λ j. CanWrite j.units draft.old.writer.writer) }
-    ensures puts { (start : Told) (d : Accessed) (m : minidisks.Minidisk) (change : model.Change) (stamp : stamps.Stamp)
-        (done more : List (List ℕ)) → GoesOn start (W.told world.old) d m draft.old change stamp done (text.now ∷ more)
-        → PutsText start (W.told world.new) d m draft.new change stamp (done ++ text.now ∷ []) more result }
+    ensures puts { (start : Told) (d : Accessed) (m : minidisks.Minidisk) (change : model.Change)
+        (stamp : stamps.Stamp)
+        (done more : List (List ℕ))
+        → GoesOn start (W.told world.old) d m draft.old change stamp done (text.now ∷ more)
+        → PutsText start (W.told world.new) d m draft.new change stamp
+        (done ++ text.now ∷ []) more result }
     ensures same { IsSameDraft draft.old draft.new }
     ensures still { ForSome (W.told world.new) (λ j. CanWrite j.units draft.new.writer.writer) }
     ensures grown { Grown (W.told world.old) (W.told world.new) }
-    ensures cause { (n : ℕ) → HasFileCause (on_world W.World world.old n) (on_world W.World world.new n) result }
+    ensures cause { (n : ℕ) → HasFileCause (on_world W.World world.old n)
+        (on_world W.World world.new n) result }
 {
     match put_copy(world, draft, text) {
         Ok(()) => Ok(()),
@@ -235,14 +247,18 @@ fn put_next<W: World>(
     byte: u8,
 ) -> Result<(), FileFault>
     requires ready { ForSome (W.told world.old) (λ j. CanWrite j.units draft.old.writer.writer) }
-    ensures puts { (start : Told) (d : Accessed) (m : minidisks.Minidisk) (change : model.Change) (stamp : stamps.Stamp)
-        (done more : List (List ℕ)) (rest : List ℕ) → GoesOn start (W.told world.old) d m draft.old change stamp done more
+    ensures puts { (start : Told) (d : Accessed) (m : minidisks.Minidisk) (change : model.Change)
+        (stamp : stamps.Stamp)
+        (done more : List (List ℕ)) (rest : List ℕ)
+        → GoesOn start (W.told world.old) d m draft.old change stamp done more
         → read_from reader.old (byte ∷ rest) ≡ Ok more
-        → PutsSo start (W.told world.new) d m draft.new change stamp done more reader.new rest result }
+        → PutsSo start
+        (W.told world.new) d m draft.new change stamp done more reader.new rest result }
     ensures same { IsSameDraft draft.old draft.new }
     ensures still { ForSome (W.told world.new) (λ j. CanWrite j.units draft.new.writer.writer) }
     ensures grown { Grown (W.told world.old) (W.told world.new) }
-    ensures cause { (n : ℕ) → HasFileCause (on_world W.World world.old n) (on_world W.World world.new n) result }
+    ensures cause { (n : ℕ) → HasFileCause (on_world W.World world.old n)
+        (on_world W.World world.new n) result }
 {
     let whole = reader.feed(byte)?;
     if !whole {
@@ -259,14 +275,18 @@ fn put_bytes<W: World>(
     bytes: &[u8],
 ) -> Result<(), FileFault>
     requires ready { ForSome (W.told world.old) (λ j. CanWrite j.units draft.old.writer.writer) }
-    ensures puts { (start : Told) (d : Accessed) (m : minidisks.Minidisk) (change : model.Change) (stamp : stamps.Stamp)
-        (done more : List (List ℕ)) (rest : List ℕ) → GoesOn start (W.told world.old) d m draft.old change stamp done more
+    ensures puts { (start : Told) (d : Accessed) (m : minidisks.Minidisk) (change : model.Change)
+        (stamp : stamps.Stamp)
+        (done more : List (List ℕ)) (rest : List ℕ)
+        → GoesOn start (W.told world.old) d m draft.old change stamp done more
         → read_from reader.old (bytes.now ++ rest) ≡ Ok more
-        → PutsSo start (W.told world.new) d m draft.new change stamp done more reader.new rest result }
+        → PutsSo start
+        (W.told world.new) d m draft.new change stamp done more reader.new rest result }
     ensures same { IsSameDraft draft.old draft.new }
     ensures still { ForSome (W.told world.new) (λ j. CanWrite j.units draft.new.writer.writer) }
     ensures grown { Grown (W.told world.old) (W.told world.new) }
-    ensures cause { (n : ℕ) → HasFileCause (on_world W.World world.old n) (on_world W.World world.new n) result }
+    ensures cause { (n : ℕ) → HasFileCause (on_world W.World world.old n)
+        (on_world W.World world.new n) result }
 {
     let mut place = 0;
     while place < bytes.len() {
@@ -284,12 +304,16 @@ fn put_last<W: World>(
     draft: &mut Draft,
 ) -> Result<(), FileFault>
     requires ready { ForSome (W.told world.old) (λ j. CanWrite j.units draft.old.writer.writer) }
-    ensures puts { (start : Told) (d : Accessed) (m : minidisks.Minidisk) (change : model.Change) (stamp : stamps.Stamp)
-        (done more : List (List ℕ)) → GoesOn start (W.told world.old) d m draft.old change stamp done more
-        → read_from reader.old [] ≡ Ok more → PutsAll start (W.told world.new) d m draft.new change stamp (done ++ more) result }
+    ensures puts { (start : Told) (d : Accessed) (m : minidisks.Minidisk) (change : model.Change)
+        (stamp : stamps.Stamp)
+        (done more : List (List ℕ))
+        → GoesOn start (W.told world.old) d m draft.old change stamp done more
+        → read_from reader.old [] ≡ Ok more
+        → PutsAll start (W.told world.new) d m draft.new change stamp (done ++ more) result }
     ensures same { IsSameDraft draft.old draft.new }
     ensures grown { Grown (W.told world.old) (W.told world.new) }
-    ensures cause { (n : ℕ) → HasFileCause (on_world W.World world.old n) (on_world W.World world.new n) result }
+    ensures cause { (n : ℕ) → HasFileCause (on_world W.World world.old n)
+        (on_world W.World world.new n) result }
 {
     let whole = reader.end()?;
     if !whole {
@@ -308,14 +332,17 @@ pub(crate) fn put_records<W: World, H: Host>(
 ) -> Result<(), FileFault>
     requires opened { IsOpen (H.told host.old) }
     requires ready { ForSome (W.told world.old) (λ j. CanWrite j.units draft.old.writer.writer) }
-    ensures puts { (start : Told) (d : Accessed) (m : minidisks.Minidisk) (change : model.Change) (stamp : stamps.Stamp)
-        (records : List (List ℕ)) (h : Files) (bytes : List ℕ) → GoesOn start (W.told world.old) d m draft.old change stamp [] records
+    ensures puts { (start : Told) (d : Accessed) (m : minidisks.Minidisk) (change : model.Change)
+        (stamp : stamps.Stamp)
+        (records : List (List ℕ)) (h : Files) (bytes : List ℕ)
+        → GoesOn start (W.told world.old) d m draft.old change stamp [] records
         → H.told host.old ≡ Some h → h.left ≡ Some bytes → read_from reader.old bytes ≡ Ok records
         → PutsAll start (W.told world.new) d m draft.new change stamp records result }
     ensures same { IsSameDraft draft.old draft.new }
     ensures grown { Grown (W.told world.old) (W.told world.new) }
     ensures files { SameFiles (H.told host.old) (H.told host.new) }
-    ensures cause { HasFileCause (counts W.World H.Host world.old host.old) (counts W.World H.Host world.new host.new) result }
+    ensures cause { HasFileCause (counts W.World H.Host world.old host.old)
+        (counts W.World H.Host world.new host.new) result }
 {
     let mut buffer = vec![in alloc; 0; ROOM]?;
     put_open(world, host, reader, draft, &mut buffer)
@@ -332,14 +359,17 @@ fn put_open<W: World, H: Host>(
     requires room { 0 < length buffer.old }
     requires opened { IsOpen (H.told host.old) }
     requires ready { ForSome (W.told world.old) (λ j. CanWrite j.units draft.old.writer.writer) }
-    ensures puts { (start : Told) (d : Accessed) (m : minidisks.Minidisk) (change : model.Change) (stamp : stamps.Stamp)
-        (records : List (List ℕ)) (h : Files) (bytes : List ℕ) → GoesOn start (W.told world.old) d m draft.old change stamp [] records
+    ensures puts { (start : Told) (d : Accessed) (m : minidisks.Minidisk) (change : model.Change)
+        (stamp : stamps.Stamp)
+        (records : List (List ℕ)) (h : Files) (bytes : List ℕ)
+        → GoesOn start (W.told world.old) d m draft.old change stamp [] records
         → H.told host.old ≡ Some h → h.left ≡ Some bytes → read_from reader.old bytes ≡ Ok records
         → PutsAll start (W.told world.new) d m draft.new change stamp records result }
     ensures same { IsSameDraft draft.old draft.new }
     ensures grown { Grown (W.told world.old) (W.told world.new) }
     ensures files { SameFiles (H.told host.old) (H.told host.new) }
-    ensures cause { HasFileCause (counts W.World H.Host world.old host.old) (counts W.World H.Host world.new host.new) result }
+    ensures cause { HasFileCause (counts W.World H.Host world.old host.old)
+        (counts W.World H.Host world.new host.new) result }
 {
     'reads: loop {
         let count = read_more(host, buffer)?;

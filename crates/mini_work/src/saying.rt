@@ -35,7 +35,8 @@ pub(crate) fn refuse<H: Host>(
     ensures status { IfOk result (λ s. s ≡ status.Refused) }
     ensures noted { OnOk result (Noted (H.told host.old) (H.told host.new)) }
     ensures files { SameFiles (H.told host.old) (H.told host.new) }
-    ensures cause { (c : Counts) → HasCause (on_host c (H.faults host.old)) (on_host c (H.faults host.new)) result }
+    ensures cause { (c : Counts) → HasCause (on_host c (H.faults host.old))
+        (on_host c (H.faults host.new)) result }
 {
     let word = ImageName::of(alloc, word)?;
     match host.note(Note { word, refusal }) {
@@ -89,9 +90,12 @@ fn host_text(alloc: Global, text: &[u8]) -> Result<String, AllocError>
 
 /// Types a line of EBCDIC on standard output.
 pub(crate) fn say_line<W: World>(world: &mut W, line: &[u8]) -> Result<(), Fault>
-    ensures ok { OnOk result (TypedTo (W.told world.old) (W.told world.new) (typed_line line.now) []) }
-    ensures err { OnErr result (TypedPart (W.told world.old) (W.told world.new) (typed_line line.now)) }
-    ensures cause { (n : ℕ) → HasCause (on_world W.World world.old n) (on_world W.World world.new n) result }
+    ensures ok { OnOk result (TypedTo (W.told world.old) (W.told world.new)
+        (typed_line line.now) []) }
+    ensures err { OnErr result (TypedPart (W.told world.old) (W.told world.new)
+        (typed_line line.now)) }
+    ensures cause { (n : ℕ) → HasCause (on_world W.World world.old n)
+        (on_world W.World world.new n) result }
 {
     match type_line(world, line) {
         Ok(()) => Ok(()),
@@ -101,9 +105,12 @@ pub(crate) fn say_line<W: World>(world: &mut W, line: &[u8]) -> Result<(), Fault
 
 /// Types a line of EBCDIC on standard output, where that is asked for.
 pub(crate) fn say_if<W: World>(world: &mut W, line: &[u8], says: bool) -> Result<Status, Fault>
-    ensures goes { (d : Accessed) → Continues (IsTold says (typed_line line.now)) (W.told world.old) d (W.told world.new) d result }
+    ensures goes { (d : Accessed)
+        → Continues (IsTold says (typed_line line.now)) (W.told world.old) d
+        (W.told world.new) d result }
     ensures grown { Grown (W.told world.old) (W.told world.new) }
-    ensures cause { (n : ℕ) → HasEnd (on_world W.World world.old n) (on_world W.World world.new n) result }
+    ensures cause { (n : ℕ) → HasEnd (on_world W.World world.old n)
+        (on_world W.World world.new n) result }
 {
     if says {
         say_line(world, line)?;
@@ -118,9 +125,12 @@ pub(crate) fn say_name<W: World>(
     name: &Name,
     says: bool,
 ) -> Result<Status, Fault>
-    ensures goes { (d : Accessed) → Continues (IsTold says (spec.name_line name.now)) (W.told world.old) d (W.told world.new) d result }
+    ensures goes { (d : Accessed)
+        → Continues (IsTold says (spec.name_line name.now)) (W.told world.old) d
+        (W.told world.new) d result }
     ensures grown { Grown (W.told world.old) (W.told world.new) }
-    ensures cause { (n : ℕ) → HasEnd (on_world W.World world.old n) (on_world W.World world.new n) result }
+    ensures cause { (n : ℕ) → HasEnd (on_world W.World world.old n)
+        (on_world W.World world.new n) result }
 {
     let text = name_text(alloc, name)?;
     say_if(world, &text, says)
@@ -130,7 +140,8 @@ pub(crate) fn say_name<W: World>(
 pub(crate) fn type_bytes<W: World>(world: &mut W, bytes: &[u8]) -> Result<(), Fault>
     ensures ok { OnOk result (TypedTo (W.told world.old) (W.told world.new) bytes.now []) }
     ensures err { OnErr result (TypedPart (W.told world.old) (W.told world.new) bytes.now) }
-    ensures cause { (n : ℕ) → HasCause (on_world W.World world.old n) (on_world W.World world.new n) result }
+    ensures cause { (n : ℕ) → HasCause (on_world W.World world.old n)
+        (on_world W.World world.new n) result }
 {
     let mut rest = bytes;
     while !rest.is_empty() {

@@ -30,9 +30,13 @@ pub fn work<W: World, H: Host>(
 ) -> Result<Status, AllocError>
     requires room { HasRoom (W.told world.old) }
     requires within { IsWithin request.now }
-    ensures goes { IsNew (W.told world.old) → IfOk result (Works request.now (H.told host.old) (H.told host.new) (W.told world.new)) }
+    ensures goes { IsNew (W.told world.old)
+        → IfOk result (Works request.now (H.told host.old) (H.told host.new) (W.told world.new)) }
     ensures cause { TellsRecords request.now (W.told world.old)
-        → IfOk result (λ s. s ≡ status.Failed → OneRose (counts W.World H.Host world.old host.old) (counts W.World H.Host world.new host.new)) }
+        → IfOk result
+        (λ s. s ≡ status.Failed
+        → OneRose (counts W.World H.Host world.old host.old)
+        (counts W.World H.Host world.new host.new)) }
 {
     match carry_out(alloc, world, host, request) {
         Ok(status) => Ok(status),
@@ -66,8 +70,11 @@ fn carry_out<W: World, H: Host>(
 ) -> Result<Status, Fault>
     requires room { HasRoom (W.told world.old) }
     requires within { IsWithin request.now }
-    ensures goes { IsNew (W.told world.old) → IsDone request.now (H.told host.old) (H.told host.new) (W.told world.new) result }
-    ensures cause { TellsRecords request.now (W.told world.old) → HasEnd (counts W.World H.Host world.old host.old) (counts W.World H.Host world.new host.new) result }
+    ensures goes { IsNew (W.told world.old)
+        → IsDone request.now (H.told host.old) (H.told host.new) (W.told world.new) result }
+    ensures cause { TellsRecords request.now (W.told world.old)
+        → HasEnd (counts W.World H.Host world.old host.old)
+        (counts W.World H.Host world.new host.new) result }
 {
     match request {
         Request::List { image, long, names } => {

@@ -1,4 +1,4 @@
-use Rattle.std.proofs.Common.{◌≡◌, ◌∙◌, Ok, sym, ap}
+use Rattle.std.proofs.Common.{◌≡◌, ◌∙◌, Ok, refl, sym, ap}
 use Rattle.std.specs.Prelude.{true, false, Bool}
 use Rattle.std.proofs.lemmas.Result.{err_from_is_err_and}
 use Rattle.cms_search.specs.Calls.{spot}
@@ -18,7 +18,7 @@ returns-in_err-is_made-clause-acts g c =
     let st = c.args.state.now in
     rw (p.1, p.2)
     (made_starved (spot g.W.World c.args.world.now st) (seen g.W.World c.format-made.new.world) c.format-made.new.self (record st { table = c.format-made.new.self }) c.args.line c.args.volid
-    c.args.unit.now c.of-stamp.result c.format-made.result _ c.requires.may c.format-made.ensures.formats (sym c.in_err-is_made.ensures))
+    c.args.unit.now c.of-stamp.result c.format-made.result _ c.requires.may c.format-made.ensures.formats (sym c.in_err-is_made.ensures) refl)
 
 pub returns-then-is_made-clause-acts : goal.returns-then-is_made-clause-acts
 returns-then-is_made-clause-acts g c =

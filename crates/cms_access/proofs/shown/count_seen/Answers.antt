@@ -13,7 +13,7 @@ loop-nth-preserved c =
     let small = c.weight-count.ensures.small in
     let few = c.loop-nth.invariant.few in
     let w = c.weight-count.result in
-    let more = count_more b v k c.info.result c.info.ensures in
+    let more = count_more b v k c.info.result c.info.ensures.info in
     record {
       seen = ap (λ (n : ℕ). n + w) c.loop-nth.invariant.seen
           ∙ ap (λ (n : ℕ). count_by (λ (i : FileInfo). not (b && (i.number == 0))) (take k (infos_in v)) + n) c.weight-count.ensures.is

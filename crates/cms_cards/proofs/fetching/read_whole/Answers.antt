@@ -39,4 +39,4 @@ returns-in_default-fault-clause-acts g c =
     let s = c.args.state.now in
     let read = c.in-Err.ensures.reads in
     let edges = read.edges in
-    cut_off _ _ (tree (spot g.W.World c.args.world.now s) c.args.name.now c.args.letter) _ read.told read.faults (omega arith)
+    cut_off _ _ (tree (spot g.W.World c.args.world.now s) c.args.name.now c.args.letter) _ read.told read.faults (omega arith) refl

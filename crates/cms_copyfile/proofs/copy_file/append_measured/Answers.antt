@@ -1,20 +1,26 @@
-use Rattle.std.proofs.Common.{subst}
+use Rattle.std.proofs.Common.{◌≡◌, ◌∙◌, Some, sym, subst, arith}
 use Rattle.std.specs.Prelude.{IfSome, Option}
-use Rattle.cms_draft.specs.declared.shape.DraftShape.{DraftShape}
+use Rattle.cms_edf.specs.declared.held.FileInfo.{FileInfo}
+use Rattle.cms_disk.specs.Disks.{IsFileInfo}
 use Rattle.cms_search.specs.Calls.{spot}
-use Rattle.cms_search.specs.Machine.{Machine, letter_at}
-use Rattle.cms_search.specs.Shows.{Shows}
-use Rattle.cms_files.specs.Files.{file_on}
-use Rattle.cms_files.specs.Updating.{updated_of}
-use Rattle.cms_copyfile.specs.Shapes.{IsShapeBehind}
+use Rattle.cms_copyfile.specs.Outputs.{extended}
+use Rattle.cms_copyfile.specs.declared.line.Existing.{Existing}
 use Rattle.cms_copyfile.proofs.AddShaped.{added_as}
-use Rattle.cms_copyfile.proofs.OneRead.{cut_read, whole}
+use Rattle.cms_copyfile.proofs.OwnFile.{extended_there}
 use Rattle.cms_copyfile.proofs.copy_file.append_measured.Goals as goal
 
-pub returns-in_default-clause-acts : goal.returns-in_default-clause-acts
-returns-in_default-clause-acts g c = λ before words read measures.
-    let mid = spot g.W.World c.args.world.now c.args.state.now in
-    cut_read before mid (whole mid words c.args.line.now c.args.file.now) (updated_of c.args.state.now) read
+own_there : (existing : Existing) (there : Option FileInfo) (own : FileInfo) → IfSome there IsFileInfo → extended existing there ≡ Some own → IsFileInfo own
+own_there existing there own sound is = subst (λ (o : Option FileInfo). IfSome o IsFileInfo) (extended_there existing there own is) sound
+
+pub extended_shape-shape-requires-clause-there : goal.extended_shape-shape-requires-clause-there
+extended_shape-shape-requires-clause-there g c =
+    sym (extended_there c.args.line.now.style.existing c.args.file.now.there c.args.own.now c.requires.own) ∙ c.requires.file.there
+
+pub extended_shape-shape-requires-clause-count : goal.extended_shape-shape-requires-clause-count
+extended_shape-shape-requires-clause-count g c =
+    let own = (own_there c.args.line.now.style.existing c.args.file.now.there c.args.own.now c.requires.file.sound_there c.requires.own).few in
+    let more = c.requires.count in
+    omega (arith, own, more)
 
 pub returns-clause-acts : goal.returns-clause-acts
 returns-clause-acts g c = λ before words read measures.
@@ -23,7 +29,6 @@ returns-clause-acts g c = λ before words read measures.
     let own = c.args.own.now in
     let st = c.args.state.now in
     c.put_copied.ensures.acts before words line read c.requires.file
-    (added_as (spot g.W.World c.args.world.now st) line f own c.in-Some.shape c.args.measure.now c.of-turn.result c.stamp_for-stamp.result c.args.plan.now c.requires.own c.requires.plan
+    (added_as (spot g.W.World c.args.world.now st) line f own c.extended_shape-shape.result c.args.measure.now c.of-turn.result c.stamp_for-stamp.result c.args.plan.now c.requires.own c.requires.plan
     c.of-turn.ensures.value c.stamp_for-stamp.ensures measures
-    (subst (λ (r : Option DraftShape). IfSome r (λ shape. (s : Machine) → Shows st.table s
-    → IsShapeBehind own c.stamp_for-stamp.result c.args.measure.now shape (file_on s f.name (letter_at s f.letter)))) c.in-Some.is c.extended_shape.ensures))
+    c.extended_shape-shape.ensures)

@@ -1,4 +1,4 @@
-use Rattle.std.proofs.Common.{◌∙◌, ap}
+use Rattle.std.proofs.Common.{◌≡◌, ◌∙◌, ap, arith}
 use Rattle.std.proofs.lemmas.Result.{err_from_is_err_and}
 use Rattle.cms_world.specs.Seen.{seen}
 use Rattle.cms_search.specs.Calls.{spot}
@@ -7,12 +7,14 @@ use Rattle.cms_search.proofs.Handing.{only_read}
 use Rattle.cms_search.proofs.Staying.{acts_starved}
 use Rattle.cms_files.specs.Updating.{updated_of}
 use Rattle.cms_copyfile.specs.FileCopies.{form_into}
-use Rattle.cms_copyfile.specs.Outputs.{plan_of}
+use Rattle.cms_copyfile.specs.Outputs.{plan_of, wanted_of}
+use Rattle.cms_copyfile.specs.declared.output.CopyPlan.{CopyPlan}
 use Rattle.cms_copyfile.specs.declared.output.FileForm.{FileForm}
 use Rattle.cms_copyfile.proofs.CopiesMeasured.{measured_as}
 use Rattle.cms_copyfile.proofs.CopyInput.{opened_blocks}
 use Rattle.cms_copyfile.proofs.FirstPass.{read_unread}
 use Rattle.cms_copyfile.proofs.OneRead.{whole}
+use Rattle.cms_copyfile.proofs.TablesTold.{wanted_few}
 use Rattle.cms_copyfile.proofs.copy_file.copy_records.Goals as goal
 
 pub measure_input-measured-requires-clause-blocks : goal.measure_input-measured-requires-clause-blocks
@@ -22,8 +24,18 @@ measure_input-measured-requires-clause-blocks g c =
 pub put_measured-requires-clause-usable : goal.put_measured-requires-clause-usable
 put_measured-requires-clause-usable g c = let told = c.in-Ok.ensures.reads.told in rw told c.requires.usable
 
+pub put_measured-requires-clause-count : goal.put_measured-requires-clause-count
+put_measured-requires-clause-count g c =
+    let input = c.args.file.now.input in
+    let style = c.args.line.now.style in
+    let wanted : c.plan_of-plan.result.wanted ≡ wanted_of style input.count = ap (λ (p : CopyPlan). p.wanted) c.plan_of-plan.ensures in
+    let measured = c.in-Ok.ensures.count in
+    let less = wanted_few style input.count in
+    let few = c.requires.file.sound.few in
+    omega (arith, wanted, measured, less, few)
+
 pub put_measured-requires-clause-plan : goal.put_measured-requires-clause-plan
-put_measured-requires-clause-plan g c = c.plan_of-plan.ensures ∙ ap (λ (f : FileForm). plan_of c.args.line.now.style f c.args.file.now.input.count) c.form-form.ensures
+put_measured-requires-clause-plan g c = c.plan_of-plan.ensures ∙ ap (λ (f : FileForm). plan_of c.args.line.now.style f c.args.file.now.input.count) c.short_form-form.ensures.form
 
 pub returns-in-Ok-clause-acts : goal.returns-in-Ok-clause-acts
 returns-in-Ok-clause-acts g c = λ words.
@@ -35,14 +47,9 @@ returns-in-Ok-clause-acts g c = λ words.
     let e = c.in-Ok.ensures in
     let told = e.reads.told in
     let read : HasRead (seen g.W.World c.args.world.now) mid.world = only_read _ _ _ _ e.reads in
-    let planned = c.plan_of-plan.ensures ∙ ap (λ (z : FileForm). plan_of line.style z f.input.count) c.form-form.ensures in
+    let planned = c.plan_of-plan.ensures ∙ ap (λ (z : FileForm). plan_of line.style z f.input.count) c.short_form-form.ensures.form in
     c.put_measured.ensures.acts (seen g.W.World c.args.world.now) words read
     (measured_as mid line f (form_into line f) input c.in-Ok.measure c.plan_of-plan.result planned c.requires.file opened c.in_ok-input.ensures.short c.requires.style (rw told e.measured) (rw told e.records))
-
-pub returns-then-form-gt-LONGEST_RECORD-clause-acts : goal.returns-then-form-gt-LONGEST_RECORD-clause-acts
-returns-then-form-gt-LONGEST_RECORD-clause-acts g c = λ words.
-    let mid = spot g.W.World c.args.world.now c.args.state.now in
-    acts_starved mid (whole mid words c.args.line.now c.args.file.now) (updated_of c.args.state.now)
 
 pub returns-in_err-buffer-clause-acts : goal.returns-in_err-buffer-clause-acts
 returns-in_err-buffer-clause-acts g c = λ words.

@@ -1,17 +1,16 @@
-use Rattle.std.proofs.Common.{◌≡◌, ◌∙◌, ℕ, Option, Some, None, Result, Ok, Err, ap}
-use Rattle.std.specs.Prelude.{IfSome}
+use Rattle.std.proofs.Common.{◌≡◌, ◌∙◌, ℕ, Option, Result, Ok, Err, sym, ap, subst}
+use Rattle.std.specs.Prelude.{IfSome, IsSome}
 use Rattle.cms_draft.specs.declared.shape.DraftShape.{DraftShape}
 use Rattle.cms_edf.specs.declared.held.FileInfo.{FileInfo}
 use Rattle.cms_fields.specs.declared.time.Stamp.{Stamp}
 use Rattle.cms_search.specs.Machine.{Machine, letter_at}
 use Rattle.cms_search.specs.Shows.{Shows}
-use Rattle.cms_search.specs.Tables.{Accesses}
 use Rattle.cms_search.specs.declared.fault.SearchFault.{SearchFault}
-use Rattle.cms_names.specs.declared.name.Name.{Name}
 use Rattle.cms_files.specs.Files.{UnitFile, file_on}
 use Rattle.cms_files.specs.Told.{HasStored}
 use Rattle.cms_copyfile.specs.Shapes.{IsShapeBehind, shape_behind}
 use Rattle.cms_copyfile.specs.declared.measure.Measure.{Measure}
+use Rattle.cms_copyfile.proofs.TablesTold.{stored_there}
 use Rattle.cms_copyfile.proofs.copy_file.extended_shape.Goals as goal
 
 behind_there : (own : FileInfo) (bytes : ℕ) (stamp : Stamp) (more : Measure) (shape : DraftShape) (r : Result UnitFile SearchFault) → shape ≡ shape_behind own bytes stamp more → HasStored bytes r
@@ -19,13 +18,14 @@ behind_there : (own : FileInfo) (bytes : ℕ) (stamp : Stamp) (more : Measure) (
 behind_there own bytes stamp more shape (Ok x) is has = is ∙ ap (λ (n : ℕ). shape_behind own n stamp more) has
 behind_there own bytes stamp more shape (Err e) is has = absurd has
 
-shape_there : (t : Accesses) (n : ℕ) (name : Name) (own : FileInfo) (bytes : ℕ) (stamp : Stamp) (more : Measure) (r : Option DraftShape)
-    → IfSome r (λ shape. shape ≡ shape_behind own bytes stamp more) → ((s : Machine) → Shows t s → HasStored bytes (file_on s name (letter_at s n)))
-    → IfSome r (λ shape. (s : Machine) → Shows t s → IsShapeBehind own stamp more shape (file_on s name (letter_at s n)))
-shape_there t n name own bytes stamp more None is has = tt
-shape_there t n name own bytes stamp more (Some shape) is has = λ s shows. behind_there own bytes stamp more shape (file_on s name (letter_at s n)) is (has s shows)
+pub unwrap-stored-requires : goal.unwrap-stored-requires
+unwrap-stored-requires c =
+    let f = c.args.file.now in
+    subst (λ (o : Option ℕ). IsSome o) (sym c.stored_named.ensures.told) (stored_there c.args.table.now f.letter f.name c.args.own.now c.requires.there)
 
 pub returns : goal.returns
-returns c =
-    shape_there c.args.table.now c.args.file.now.letter c.args.file.now.name c.args.own.now c.in_ok-stored.stored c.args.stamp c.args.more.now c.shape_behind.result c.shape_behind.ensures
-    c.in_ok-stored.ensures.stored
+returns c = λ s shows.
+    let f = c.args.file.now in
+    behind_there c.args.own.now c.unwrap-stored.result c.args.stamp c.args.more.now c.shape_behind.result (file_on s f.name (letter_at s f.letter)) c.shape_behind.ensures
+    (subst (λ (o : Option ℕ). IfSome o (λ bytes. (m : Machine) → Shows c.args.table.now m → HasStored bytes (file_on m f.name (letter_at m f.letter)))) c.unwrap-stored.ensures
+    c.stored_named.ensures.stored s shows)

@@ -10,5 +10,5 @@ returns-in-Whole c = λ yes s at. subst (λ (w : CopyWrite). FitsVolume w s.disk
 pub returns-in-Some-stored_named : goal.returns-in-Some-stored_named
 returns-in-Some-stored_named c = λ yes s at.
     subst (λ (w : CopyWrite). FitsVolume w s.disk.volume c.args.file.now.name c.args.shape.now) (sym c.in-Added.is)
-    (extends_on c.args.table.now c.args.file.now.letter c.args.file.now.name s c.in-Some.own c.in-Some-stored_named.stored c.args.shape.now at c.in-Some.ensures c.in-Some-stored_named.ensures.told
+    (extends_on c.args.table.now c.args.file.now.letter c.args.file.now.name s c.in-Some.own c.in-Some-stored_named.stored c.args.shape.now at c.in-Some.ensures.told c.in-Some-stored_named.ensures.told
     (c.can_extend.ensures.can yes))

@@ -12,7 +12,7 @@ returns-in-Some-clause-measured g c = λ j is x left. c.in-Some.ensures.measured
 
 pub returns-in-Some-clause-records : goal.returns-in-Some-clause-records
 returns-in-Some-clause-records g c = λ j is x left.
-    All-take (Fits V longest_record) c.args.plan.now.wanted x.file.records (each_told left.machine c.args.file.now x c.in-Some.ensures.some c.in-Some.ensures.short left.found)
+    All-take (Fits V longest_record) c.args.plan.now.wanted x.file.records (each_told left.machine c.args.file.now x c.requires.sound.some c.requires.sound.short left.found)
 
 pub returns-in-None-clause-measured : goal.returns-in-None-clause-measured
 returns-in-None-clause-measured g c = ok_maps _ _ c.measure_copies.result (λ m measures j is x left. measures j is x.file.records left.left) c.measure_copies.ensures.measured

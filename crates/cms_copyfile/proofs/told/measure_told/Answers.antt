@@ -4,4 +4,4 @@ use Rattle.cms_copyfile.proofs.told.measure_told.Goals as goal
 
 pub returns-in-Some-clause-measured : goal.returns-in-Some-clause-measured
 returns-in-Some-clause-measured c = λ s x shows found.
-    equal_told s c.args.file.now c.args.plan.now c.in-Some.length c.count_of.result c.measure_equal.result x c.in-Some.ensures c.count_of.ensures c.measure_equal.ensures found
+    equal_told s c.args.file.now c.args.plan.now c.in-Some.length c.count_of.result c.measure_equal.result x c.in-Some.ensures c.count_of.ensures.copies c.measure_equal.ensures.measured found

@@ -1,4 +1,5 @@
 use Rattle.cms_disk.proofs.Finding.{stands_tells}
+use Rattle.cms_disk.proofs.Leaving.{looked_is_covered}
 use Rattle.cms_disk.proofs.Quieting.{quiet_rests, sync_quiets}
 use Rattle.cms_disk.proofs.laws.disk_laws.Goals as goal
 
@@ -10,3 +11,6 @@ returns-clause-rests c = quiet_rests
 
 pub returns-clause-synced : goal.returns-clause-synced
 returns-clause-synced c = sync_quiets
+
+pub returns-clause-covered : goal.returns-clause-covered
+returns-clause-covered c = looked_is_covered

@@ -79,9 +79,9 @@ insert-requires g c =
     let nth : c.len-nth.result ≡ k = search rules in
     let count = c.requires.count in
     let at = index_at a.entries.now c.len-nth.result k c.index-entries-nth.result nth c.index-entries-nth.is in
-    let entry_is : c.file_of.result.entry ≡ c.index-entries-nth.result = ap (λ (f : HeldFile). f.entry) c.file_of.ensures in
+    let name_is : c.file_of.result.entry.name ≡ c.index-entries-nth.result.name = ap (λ (f : HeldFile). f.entry.name) c.file_of.ensures.is in
     let keys_are = ap keys_of l.invariant.named ∙ (keys_named (values l.files) ∙ l.invariant.names) in
-    record { new = rw (entry_is, keys_are) (name_is_new a.entries.now k c.index-entries-nth.result c.requires.names (omega (arith, item.0, count)) at) }
+    record { new = rw (name_is, keys_are) (name_is_new a.entries.now k c.index-entries-nth.result c.requires.names (omega (arith, item.0, count)) at) }
 
 pub returns-in_err-told-clause-fault : goal.returns-in_err-told-clause-fault
 returns-in_err-told-clause-fault g c =
@@ -122,7 +122,7 @@ loop-tree-preserved g c =
     let short = ap length steps in
     let at = index_at a.entries.now c.len-nth.result k c.index-entries-nth.result nth c.index-entries-nth.is in
     let less : k < length a.entries.now = omega (arith, item.0, count) in
-    let entry_is : c.file_of.result.entry ≡ c.index-entries-nth.result = ap (λ (f : HeldFile). f.entry) c.file_of.ensures in
+    let name_is : c.file_of.result.entry.name ≡ c.index-entries-nth.result.name = ap (λ (f : HeldFile). f.entry.name) c.file_of.ensures.is in
     let sizes = c.in_ok-told.ensures in
     record {
       trees = append_assoc l.yielded (c.in-Some.tree ∷ []) _ ∙ rw (← steps) l.invariant.trees;
@@ -134,19 +134,20 @@ loop-tree-preserved g c =
           (subst (λ (ws : List Walked). ContentsTo a.place.now.bsize image a.entries.now ws (k + 1) (values l.files ++ (c.file_of.result ∷ []))) (sym gives)
           (contents_next a.place.now.bsize image a.entries.now a.trees.items k (c.len-nth.result + 2) c.index-entries-nth.result c.in-Some.tree c.deref.result.now c.in_ok-told.told
           (values l.files) c.file_of.result
-          less at item.0 item.1 (omega (arith, nth)) leaves c.file_of.ensures
+          less at item.0 item.1 (omega (arith, nth)) leaves c.file_of.ensures.is
           (sizes.read j (l.invariant.told ∙ told))
           (subst (λ (ws : List Walked). ContentsTo a.place.now.bsize image a.entries.now ws k (values l.files)) gives (l.invariant.contents j told))));
       named = named_next l.files.entries c.insert.new.files.entries c.file_of.result grown l.invariant.named;
       names = rw (values_are, one)
           (map_push (λ (f : HeldFile). f.entry.name) (values l.files) c.file_of.result
           ∙ (ap (λ (ns : List Name). ns ++ (c.file_of.result.entry.name ∷ [])) l.invariant.names
-          ∙ (ap (λ (e : Entry). map (λ (x : Entry). x.name) (take k a.entries.now) ++ (e.name ∷ [])) entry_is
+          ∙ (ap (λ (n : Name). map (λ (x : Entry). x.name) (take k a.entries.now) ++ (n ∷ [])) name_is
           ∙ (sym (map_push (λ (x : Entry). x.name) (take k a.entries.now) c.index-entries-nth.result)
           ∙ ap (map (λ (x : Entry). x.name)) (sym (taken_next a.entries.now k c.index-entries-nth.result less at))))));
       each = rw values_are (All-push (IsKeptFile a.place.now.bsize a.place.now.total) (values l.files) c.file_of.result l.invariant.each
-          (file_kept a.place.now.bsize a.place.now.total c.index-entries-nth.result c.in-Some.tree c.in_ok-told.told c.file_of.result c.file_of.ensures
+          (file_kept a.place.now.bsize a.place.now.total c.index-entries-nth.result c.in-Some.tree c.in_ok-told.told c.file_of.result c.file_of.ensures.is
           (subst (λ (x : Entry). passes a.place.now.bsize x ≡ true) (sym at) (c.requires.entries k c.index-entries-nth.result less))
+          c.file_of.ensures.spelled
           (subst (HasSize a.place.now.bsize) (sym at) (c.requires.sizes k c.index-entries-nth.result less))
           (count_at a.place.now.bsize a.entries.now a.trees.items k c.index-entries-nth.result c.in-Some.tree c.requires.counts less item.0 at item.1)
           (nodes_at a.place.now.bsize a.entries.now a.trees.items k c.index-entries-nth.result c.in-Some.tree c.requires.counts less item.0 at item.1)

@@ -4,10 +4,10 @@ use Rattle.cms_fields.specs.declared.entry.Entry.{Entry}
 use Rattle.cms_held.specs.Kept.{Keeps}
 use Rattle.cms_held.specs.Putting.{count_with}
 use Rattle.cms_held.specs.Renewing.{entries_held}
-use Rattle.cms_held.specs.Written.{CanWrite}
+use Rattle.cms_held.specs.Written.{CanWrite, ReadsBack}
 use Rattle.cms_edf.specs.Planning.{AreEnoughFor}
 use Rattle.cms_edf.proofs.DraftPlanned.{all_with, count_held, enough_with}
-use Rattle.cms_edf.proofs.Planned.{can_write_all}
+use Rattle.cms_edf.proofs.Planned.{back_all, can_write_all}
 use Rattle.cms_edf.proofs.draft.plan_entry.Goals as goal
 
 pub fill_systems-requires : goal.fill_systems-requires
@@ -21,6 +21,8 @@ fill_systems-requires c =
       few = subst (λ (n : ℕ). n ≤ most_files) (sym count) c.requires.few;
       each = subst (All CanWrite) (sym are)
           (all_with CanWrite (entries_held v.files) c.args.place c.args.entry.now (can_write_all v.disk.bsize v.label.blocks v.files kept.each) c.requires.entry);
+      back = subst (All ReadsBack) (sym are)
+          (all_with ReadsBack (entries_held v.files) c.args.place c.args.entry.now (back_all v.disk.bsize v.label.blocks v.files kept.each) c.with-entries.ensures.spelled);
       files = c.requires.files ∙ sym count;
       enough = subst (λ (es : List Entry). AreEnoughFor v es c.args.exchange.now) (sym are) (enough_with v c.args.place c.args.entry.now c.args.exchange.now kept.sized c.requires.made);
       allotted = c.requires.allotted;

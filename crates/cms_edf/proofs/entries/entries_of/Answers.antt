@@ -13,11 +13,11 @@ returns-in_err-entry-clause-fault c =
 pub loop-place-preserved : goal.loop-place-preserved
 loop-place-preserved c =
     let l = c.loop-place in
-    let grown : c.push.new.into.items ≡ l.entries.items ++ (c.in_ok-entry.entry ∷ []) = search rules in
+    let grown : c.push.new.into.items ≡ l.entries.items ++ (c.as_read.result ∷ []) = search rules in
     record {
-      comes = rw grown (comes_next c.args.bsize c.args.count c.args.bytes.now l.place l.entries.items c.in_ok-entry.entry (search rules) (search rules) l.invariant.comes);
+      comes = rw (grown, c.as_read.ensures) (comes_next c.args.bsize c.args.count c.args.bytes.now l.place l.entries.items c.in_ok-entry.entry (search rules) (search rules) l.invariant.comes);
       many =
-          rw grown (length_push l.entries.items c.in_ok-entry.entry ∙ ap (λ (n : ℕ). n + 1) l.invariant.many);
+          rw grown (length_push l.entries.items c.as_read.result ∙ ap (λ (n : ℕ). n + 1) l.invariant.many);
     }
 
 pub returns-clause-entries : goal.returns-clause-entries

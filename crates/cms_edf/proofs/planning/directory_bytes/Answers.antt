@@ -40,7 +40,7 @@ returns-clause-bytes c = λ s is_directory is_map.
     let at = subst (λ (t : HeldTree). All (λ j. j < length t.leaves) a.places.now) (sym is_directory) c.requires.at in
     l.invariant
     ∙ (ap (λ (js : List ℕ). concat (map (block_fields fields.result.directory fields.result.map a.entries.now each) js)) (take_all l.block-index a.places.now past)
-    ∙ blocks_are a.bsize each s a.entries.now a.stamp.now fields.result.directory fields.result.map a.places.now whole c.spell_entries.ensures own maps room at)
+    ∙ blocks_are a.bsize each s a.entries.now a.stamp.now fields.result.directory fields.result.map a.places.now whole c.requires.back own maps room at)
 
 pub returns-clause-long : goal.returns-clause-long
 returns-clause-long c =
@@ -52,4 +52,4 @@ returns-clause-long c =
     let whole : each * 64 ≡ a.bsize = ap (λ (n : ℕ). n / 64 * 64) b.value ∙ each_whole a.bsize b.size in
     let past : length a.places.now ≤ l.block-index = search rules in
     ap (λ (xs : List ℕ). length xs) (l.invariant ∙ ap (λ (js : List ℕ). concat (map (block_fields fields.result.directory fields.result.map a.entries.now each) js)) (take_all l.block-index a.places.now past))
-    ∙ blocks_long a.bsize each a.entries.now a.stamp.now fields.result.directory fields.result.map _ _ a.places.now whole c.spell_entries.ensures fields.ensures.directory fields.ensures.map
+    ∙ blocks_long a.bsize each a.entries.now a.stamp.now fields.result.directory fields.result.map _ _ a.places.now whole c.requires.back fields.ensures.directory fields.ensures.map

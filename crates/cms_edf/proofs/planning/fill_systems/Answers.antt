@@ -92,6 +92,6 @@ returns c =
         label_bytes = c.in_ok-new.ensures.bytes ∙ ap (λ (l : Label). with_label l v.label_bytes) (sym c.in_ok-new.ensures.label);
         label_long = c.in_ok-new.ensures.long;
         directory_bytes = c.in_ok-directory_bytes.ensures.bytes s refl refl ∙ (λ i. concat (map (directory_piece (size i) s c.args.entries.now c.args.stamp.now) (places i)));
-        back = c.in_ok-directory_bytes.ensures.back;
+        back = c.requires.back;
       };
     }

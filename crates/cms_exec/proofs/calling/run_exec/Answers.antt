@@ -15,7 +15,7 @@ returns-in-Ok g c =
     let s = c.args.state.now in
     let words = c.as_slice.ensures in
     let again = c.as_slice-2.ensures in
-    operand_read (spot g.W.World c.args.world.now s) (spot g.W.World c.start_named.new.world s) c.args.alloc c.args.running c.args.line.now c.args.words.now c.in_ok-called.called c.in-Ok.file
+    operand_read (spot g.W.World c.args.world.now s) (spot g.W.World c.start_named.new.world s) c.args.running c.args.line.now c.args.words.now c.in_ok-called.called c.in-Ok.file
     c.start_named.result (rw words at c.in_ok-called.ensures) (rw again at c.in-Ok.ensures) c.start_named.ensures
 
 pub returns : goal.returns
@@ -23,5 +23,5 @@ returns g c =
     let s = c.args.state.now in
     let again = c.as_slice-2.ensures in
     let third = c.as_slice-in-Err.ensures in
-    operand_refused (spot g.W.World c.args.world.now s) (spot g.W.World c.refuse_line.new.world s) c.args.alloc c.args.running c.args.line.now c.args.words.now c.in_ok-called.called c.in-Err.why
+    operand_refused (spot g.W.World c.args.world.now s) (spot g.W.World c.refuse_line.new.world s) c.args.running c.args.line.now c.args.words.now c.in_ok-called.called c.in-Err.why
     c.refuse_line.result c.refused.result (rw again at c.in-Err.ensures) (rw third at c.refuse_line.ensures.does) c.refuse_line.ensures.went refl c.refused.ensures

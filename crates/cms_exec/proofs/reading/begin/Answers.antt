@@ -7,7 +7,7 @@ use Rattle.cms_exec.proofs.reading.begin.Goals as goal
 
 pub returns-in_ok-start-in-Ok : goal.returns-in_ok-start-in-Ok
 returns-in_ok-start-in-Ok g c =
-    has_begun (spot g.W.World c.args.world.now c.args.state.now) c.args.alloc c.args.called.now c.args.found.now c.args.file.now c.requires.valid c.in-Ok.procedure _
+    has_begun (spot g.W.World c.args.world.now c.args.state.now) c.args.called.now c.args.found.now c.args.file.now c.requires.valid c.in-Ok.procedure _
     c.in-Ok.ensures.lines c.in_ok-start-in-Ok.ensures
 
 pub returns-in_err-start-in-Ok : goal.returns-in_err-start-in-Ok
@@ -21,6 +21,6 @@ returns-in-Memory g c = acts_starved _ _ _
 pub returns-in_default : goal.returns-in_default
 returns-in_default g c =
     let number = c.reason_of.ensures.number in
-    is_none (spot g.W.World c.args.world.now c.args.state.now) c.args.alloc c.args.called.now c.args.found.now c.args.file.now c.requires.valid
+    is_none (spot g.W.World c.args.world.now c.args.state.now) c.args.called.now c.args.found.now c.args.file.now c.requires.valid
     (spot g.W.World c.refuse_not_run.new.world c.args.state.now) c.in-Err.fault c.refuse_not_run.result c.refused.result c.in-Err.ensures.fault c.in_default.not-Memory
     (rw number at c.refuse_not_run.ensures.does) (rw number at c.refuse_not_run.ensures.went) refl c.refused.ensures

@@ -13,7 +13,7 @@ use Rattle.cms_exec.proofs.reading.read_found.Goals as goal
 
 pub get-requires : goal.get-requires
 get-requires g c = record {
-  blocks = may_read (spot g.W.World c.args.world.now c.args.state.now) c.args.alloc c.args.called.now c.args.found.now c.in-Some.disk.now c.in-Some.ensures c.vdev-vdev.result
+  blocks = may_read (spot g.W.World c.args.world.now c.args.state.now) c.args.called.now c.args.found.now c.in-Some.disk.now c.in-Some.ensures c.vdev-vdev.result
       c.vdev-vdev.ensures.accessed c.requires.usable;
 }
 
@@ -22,26 +22,26 @@ pub returns-in_default : goal.returns-in_default
 returns-in_default g c =
     let s = c.args.state.now in
     let old = spot g.W.World c.args.world.now s in
-    refused_so old (spot g.W.World c.refuse_no_procedure.new.world s) (λ units. read_there c.args.alloc (machine_of s units) c.args.called.now c.args.found.now)
+    refused_so old (spot g.W.World c.refuse_no_procedure.new.world s) (λ units. read_there (machine_of s units) c.args.called.now c.args.found.now)
     (M002 c.args.found.now.name.file exec_kind (coded (codes "*"))) (pos no_file_code) c.refuse_no_procedure.result c.refused.result c.refuse_no_procedure.ensures.does
-    c.refuse_no_procedure.ensures.went refl c.refused.ensures (λ units h. no_disk old c.args.alloc c.args.called.now c.args.found.now units h c.in_default.ensures)
+    c.refuse_no_procedure.ensures.went refl c.refused.ensures (λ units h. no_disk old c.args.called.now c.args.found.now units h c.in_default.ensures)
 
 -- or it has no such file
 pub returns-in_default-find : goal.returns-in_default-find
 returns-in_default-find g c =
     let s = c.args.state.now in
     let old = spot g.W.World c.args.world.now s in
-    refused_so old (spot g.W.World c.refuse_no_procedure-in_default-find.new.world s) (λ units. read_there c.args.alloc (machine_of s units) c.args.called.now c.args.found.now)
+    refused_so old (spot g.W.World c.refuse_no_procedure-in_default-find.new.world s) (λ units. read_there (machine_of s units) c.args.called.now c.args.found.now)
     (M002 c.args.found.now.name.file exec_kind (coded (codes "*"))) (pos no_file_code) c.refuse_no_procedure-in_default-find.result c.refused-in_default-find.result
     c.refuse_no_procedure-in_default-find.ensures.does c.refuse_no_procedure-in_default-find.ensures.went refl c.refused-in_default-find.ensures
-    (λ units h. no_file old c.args.alloc c.args.called.now c.args.found.now c.in-Some.disk.now units h c.in-Some.ensures (sym c.in_default-find.ensures))
+    (λ units h. no_file old c.args.called.now c.args.found.now c.in-Some.disk.now units h c.in-Some.ensures (sym c.in_default-find.ensures))
 
 pub returns-in-Ok : goal.returns-in-Ok
 returns-in-Ok g c =
     let s = c.args.state.now in
     let old = spot g.W.World c.args.world.now s in
     let read = c.get.ensures.reads in
-    read_data old c.args.alloc c.args.called.now c.args.found.now c.in-Some.disk.now c.in-Some.ensures (seen g.W.World c.get.new.world) (spot g.W.World c.begin.new.world s) c.in-Ok.file
+    read_data old c.args.called.now c.args.found.now c.in-Some.disk.now c.in-Some.ensures (seen g.W.World c.get.new.world) (spot g.W.World c.begin.new.world s) c.in-Ok.file
     c.begin.result (only_read _ _ _ _ read) c.in-Ok.ensures.file c.begin.ensures
 
 -- it can't be read to its end
@@ -50,7 +50,7 @@ returns-in-Device g c =
     let s = c.args.state.now in
     let old = spot g.W.World c.args.world.now s in
     let got = c.in-Err.ensures in
-    read_unread old c.args.alloc c.args.called.now c.args.found.now c.in-Some.disk.now c.in-Some.ensures (seen g.W.World c.get.new.world) (spot g.W.World c.refuse_unread.new.world s)
+    read_unread old c.args.called.now c.args.found.now c.in-Some.disk.now c.in-Some.ensures (seen g.W.World c.get.new.world) (spot g.W.World c.refuse_unread.new.world s)
     c.vdev-vdev.result c.in-Err.fault c.refuse_unread.result c.refused-in-Device.result c.in-Device.is (only_read _ _ _ _ got.reads) got.reads.cause got.file
     (some_place _ _ c.in-Some-find.ensures) c.vdev-vdev.ensures.accessed c.refuse_unread.ensures.does c.refuse_unread.ensures.went refl c.refused-in-Device.ensures
 
@@ -60,4 +60,4 @@ returns-in_default-fault g c =
     let s = c.args.state.now in
     let read = c.in-Err.ensures.reads in
     let edges = read.edges in
-    cut_off _ _ (λ units. read_there c.args.alloc (machine_of s units) c.args.called.now c.args.found.now) _ read.told read.faults (omega arith)
+    cut_off _ _ (λ units. read_there (machine_of s units) c.args.called.now c.args.found.now) _ read.told read.faults (omega arith) refl

@@ -1,7 +1,8 @@
 use Rattle.std.proofs.Common.{refl}
 use Rattle.cms_search.specs.Calls.{spot}
 use Rattle.cms_files.proofs.FilesRead.{acts_unopened}
-use Rattle.cms_execio.specs.Reading.{read_found}
+use Rattle.cms_execio.specs.Reading.{lines_on, read_found}
+use Rattle.cms_execio.proofs.Takings.{stacks_nothing}
 use Rattle.cms_execio.proofs.reading.read_on.Goals as goal
 
 pub returns-in-Ok-clause-acts : goal.returns-in-Ok-clause-acts
@@ -13,3 +14,6 @@ returns-in-Err-clause-acts g c =
     let line = c.args.line.now in
     acts_unopened (spot g.W.World c.args.world.now s) (spot g.W.World c.refuse_unfound.new.world s) c.args.words.now 3 (λ m. read_found m line c.args.letter) c.args.letter line.range.input.name c.in-Err.fault
     c.refuse_unfound.result c.in-Err.ensures.missing c.in-Err.ensures.fault c.refuse_unfound.ensures refl
+
+pub returns-in-Err-clause-stack : goal.returns-in-Err-clause-stack
+returns-in-Err-clause-stack g c = stacks_nothing (spot g.W.World c.args.world.now c.args.state.now) c.args.line.now (λ s. lines_on s c.args.line.now c.args.letter)

@@ -5,7 +5,8 @@ use Rattle.cms_search.proofs.Acts.{acts_after}
 use Rattle.cms_search.proofs.Handing.{only_read}
 use Rattle.cms_world.specs.Seen.{seen}
 use Rattle.cms_files.proofs.OpenedFiles.{opened_open}
-use Rattle.cms_execio.proofs.Takings.{behind, front_left, taken_all, taken_left, taken_more, taken_past, taken_starved, taken_unread, tree}
+use Rattle.cms_execio.specs.Reading.{lines_on}
+use Rattle.cms_execio.proofs.Takings.{behind, front_left, lines_all, stacks_nothing, stacks_read, taken_all, taken_left, taken_more, taken_past, taken_starved, taken_unread, tree}
 use Rattle.cms_execio.proofs.reading.read_span.Goals as goal
 
 -- the records in front may be passed over
@@ -69,7 +70,7 @@ returns-in_err-keep_nth-in-Ok-clause-acts g c = λ words.
     rw (p.1, p.2)
     (taken_starved (spot g.W.World c.args.world.now s) words c.args.letter c.args.line.now c.args.file c.requires.opened c.args.span.front c.args.span.taken c.requires.front c.requires.taken
     (spot g.W.World c.loop-nth.world s) (spot g.W.World c.next.new.world s) c.loop-nth.cursor c.loop-nth.nth c.loop-nth.lines so
-    (only_read _ _ _ _ next.reads))
+    (only_read _ _ _ _ next.reads) refl)
 
 -- the file couldn't be read any further
 pub returns-in-Err-clause-acts : goal.returns-in-Err-clause-acts
@@ -115,3 +116,24 @@ returns-clause-acts g c = λ words.
     (taken_all old words c.args.letter line c.args.file c.requires.opened span.front span.taken c.requires.front c.requires.taken (span.taken - 1) (omega arith)
     mid c.loop-nth.cursor c.loop-nth.nth lines so (omega arith) refl)
     (rw last at c.stack_read.ensures.acts)
+
+-- nothing was stacked yet
+pub returns-in_err-keep_nth-in-Ok-clause-stack : goal.returns-in_err-keep_nth-in-Ok-clause-stack
+returns-in_err-keep_nth-in-Ok-clause-stack g c = stacks_nothing (spot g.W.World c.args.world.now c.args.state.now) c.args.line.now (λ s. lines_on s c.args.line.now c.args.letter)
+
+pub returns-in-Err-clause-stack : goal.returns-in-Err-clause-stack
+returns-in-Err-clause-stack g c = stacks_nothing (spot g.W.World c.args.world.now c.args.state.now) c.args.line.now (λ s. lines_on s c.args.line.now c.args.letter)
+
+-- the lines that are stacked are those of the records that are wanted
+pub returns-clause-stack : goal.returns-clause-stack
+returns-clause-stack g c =
+    let s = c.args.state.now in
+    let old = spot g.W.World c.args.world.now s in
+    let so =
+    c.loop-nth.invariant c.args.file.cursor c.pass_front-passed.ensures.past
+    (opened_open old c.args.letter c.args.line.now.range.input.name c.args.file c.requires.opened c.requires.usable) in
+    let line = c.args.line.now in
+    let span = c.args.span in
+    stacks_read old c.stack_read.new.state line (λ m. lines_on m line c.args.letter) c.loop-nth.lines c.stack_read.ensures.stack
+    (lines_all old [] c.args.letter line c.args.file c.requires.opened span.front span.taken c.requires.front c.requires.taken
+    (spot g.W.World c.loop-nth.world s) c.loop-nth.cursor c.loop-nth.nth c.loop-nth.lines so (omega arith))

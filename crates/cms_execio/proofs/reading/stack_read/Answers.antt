@@ -1,6 +1,8 @@
-use Rattle.std.proofs.Common.{rules}
+use Rattle.std.proofs.Common.{ℕ, List, ap, subst, sym, rules}
 use Rattle.std.proofs.lemmas.Result.{err_from_is_err_and}
 use Rattle.cms_search.specs.Calls.{spot}
+use Rattle.cms_search.specs.declared.state.State.{State}
+use Rattle.cms_files.specs.Stacking.{StacksSome}
 use Rattle.cms_execio.proofs.Takings.{stacked_ends, stacked_stops, stacked_then}
 use Rattle.cms_execio.proofs.reading.stack_read.Goals as goal
 
@@ -32,3 +34,9 @@ returns-clause-acts g c =
     let new = spot g.W.World c.end_read.new.world c.end_read.new.state in
     stacked_then old mid c.args.line.now c.args.letter c.args.vdev span.last span.front span.taken c.args.lines.now new c.in_ok-course.course c.end_read.result
     c.in_ok-course.ensures.acts (c.went_well.ensures.good (search rules)) c.end_read.ensures.acts
+
+-- the command's end leaves the stack
+pub returns-clause-stack : goal.returns-clause-stack
+returns-clause-stack g c =
+    subst (λ (l : List (List ℕ)). StacksSome c.args.line.now.style.end c.args.lines.now c.args.state.now.stack l)
+    (sym (ap (λ (s : State). s.stack) c.end_read.ensures.kept)) c.stack_lines.ensures.stack

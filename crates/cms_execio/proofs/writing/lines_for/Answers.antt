@@ -1,3 +1,5 @@
+use Rattle.std.proofs.Common.{◌≡◌, ◌∙◌, length, ap, sym}
+use Rattle.std.proofs.lemmas.List.{length-replicate}
 use Rattle.std.proofs.lemmas.Result.{err_from_is_err_and}
 use Rattle.cms_search.specs.Calls.{spot}
 use Rattle.cms_search.proofs.Staying.{acts_starved}
@@ -15,3 +17,8 @@ returns-in_ok-repeated-in-Some-clause-acts g c =
 
 pub returns-in-None-clause-acts : goal.returns-in-None-clause-acts
 returns-in-None-clause-acts g c = let is = c.in-None.is in rw is c.ask_lines.ensures.acts
+
+pub returns-in_ok-repeated-in-Some-clause-all : goal.returns-in_ok-repeated-in-Some-clause-all
+returns-in_ok-repeated-in-Some-clause-all g c = λ lines is.
+    let same : c.in_ok-repeated-in-Some.field-0 ≡ lines = cc is in
+    ap length (sym same ∙ c.in_ok-repeated-in-Some.ensures) ∙ length-replicate c.args.target.now.count c.in-Some.text

@@ -4,7 +4,7 @@ use Rattle.cms_execio.proofs.writing.write_all.Goals as goal
 
 pub returns-in-Some-clause-acts : goal.returns-in-Some-clause-acts
 returns-in-Some-clause-acts g c =
-    writes_told _ _ c.args.target.now c.args.lines.now (Some c.in-Some.info) _ (sym c.info_named.ensures ∙ c.in-Some.is) c.write_more.ensures.acts
+    writes_told _ _ c.args.target.now c.args.lines.now (Some c.in-Some.info) _ (sym c.info_named.ensures.told ∙ c.in-Some.is) c.write_more.ensures.acts
 
 pub returns-in-None-clause-acts : goal.returns-in-None-clause-acts
-returns-in-None-clause-acts g c = writes_told _ _ c.args.target.now c.args.lines.now None _ (sym c.info_named.ensures ∙ c.in-None.is) c.write_anew.ensures.acts
+returns-in-None-clause-acts g c = writes_told _ _ c.args.target.now c.args.lines.now None _ (sym c.info_named.ensures.told ∙ c.in-None.is) c.write_anew.ensures.acts

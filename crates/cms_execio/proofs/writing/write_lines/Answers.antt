@@ -1,3 +1,4 @@
+use Rattle.std.proofs.Common.{arith}
 use Rattle.std.proofs.lemmas.Result.{err_from_is_err_and}
 use Rattle.cms_search.specs.Calls.{spot}
 use Rattle.cms_execio.proofs.Written.{stays_written, writes_lines, writes_none, writes_spent, writes_stop}
@@ -30,3 +31,9 @@ pub returns-in-Spent-clause-acts : goal.returns-in-Spent-clause-acts
 returns-in-Spent-clause-acts g c = λ shelf.
     writes_spent (spot g.W.World c.args.world.now c.args.state.now) c.args.target.now c.args.text shelf c.if-target-eq0.false
     (spot g.W.World c.lines_for.new.world c.lines_for.new.state) c.in_ok-lines.field-0 c.in_ok-lines.ensures.acts c.in-Spent.is
+
+pub write_all-requires-clause-some : goal.write_all-requires-clause-some
+write_all-requires-clause-some g c =
+    let all = c.in_ok-lines.ensures.all c.in-All.lines c.in-All.is in
+    let some = c.if-target-eq0.false in
+    omega (arith, all, some)

@@ -68,4 +68,4 @@ returns-in_default-fault g c = λ objects.
     let s = c.args.state.now in
     let read = c.in-Err.ensures.reads in
     let edges = read.edges in
-    cut_off _ _ (read_tree (spot g.W.World c.args.world.now s) objects c.args.name.now c.args.letter c.args.found) _ read.told read.faults (omega arith)
+    cut_off _ _ (read_tree (spot g.W.World c.args.world.now s) objects c.args.name.now c.args.letter c.args.found) _ read.told read.faults (omega arith) refl

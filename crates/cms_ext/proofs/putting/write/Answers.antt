@@ -9,7 +9,7 @@ pub returns-in_err-file-clause-acts : goal.returns-in_err-file-clause-acts
 returns-in_err-file-clause-acts g c = λ objects.
     let p = err_from_is_err_and c.from_residual.result c.from_residual.ensures.1 in
     let old = spot g.W.World c.args.world.now c.args.state.now in
-    rw (p.1, p.2) (cut_off old old (puts old old objects c.args.name.now c.args.letter c.args.records.now) _ refl (omega arith) (omega arith))
+    rw (p.1, p.2) (cut_off old old (puts old old objects c.args.name.now c.args.letter c.args.records.now) _ refl (omega arith) (omega arith) refl)
 
 pub returns-in_err-write_file-clause-acts : goal.returns-in_err-write_file-clause-acts
 returns-in_err-write_file-clause-acts g c = λ objects.

@@ -12,7 +12,7 @@ returns-in_default-find-clause-missing c = λ is s shows.
 
 pub returns-in-Ok-clause-opened : goal.returns-in-Ok-clause-opened
 returns-in-Ok-clause-opened c =
-    opened_at c.args.table.now c.args.letter c.args.name.now c.in-Some.disk.now c.in-Some-find.place c.info-info.result _ c.in-Some.ensures c.in-Some-find.ensures c.info-info.ensures
+    opened_at c.args.table.now c.args.letter c.args.name.now c.in-Some.disk.now c.in-Some-find.place c.info-info.result _ c.in-Some.ensures c.in-Some-find.ensures c.info-info.ensures.info
     c.in-Ok.ensures.records c.in-Ok.ensures.start refl refl (λ s at. if_some _ _ s at c.vdev.ensures.accessed)
 
 pub returns-in-Ok-clause-there : goal.returns-in-Ok-clause-there

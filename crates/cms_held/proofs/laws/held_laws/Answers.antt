@@ -1,5 +1,5 @@
 use Rattle.cms_held.proofs.HeldTrees.{opened_has_held}
-use Rattle.cms_held.proofs.HeldFiles.{opened_is_held, opened_has_room, place_is_told}
+use Rattle.cms_held.proofs.HeldFiles.{entries_tell_lengths, opened_is_held, opened_has_room, place_is_told}
 use Rattle.cms_held.proofs.OpenedTrees.{opened_trees_stand}
 use Rattle.cms_held.proofs.laws.held_laws.Goals as goal
 
@@ -14,6 +14,9 @@ returns-clause-held c = opened_is_held
 
 pub returns-clause-room : goal.returns-clause-room
 returns-clause-room c = opened_has_room
+
+pub returns-clause-told : goal.returns-clause-told
+returns-clause-told c = entries_tell_lengths
 
 pub returns-clause-place : goal.returns-clause-place
 returns-clause-place c = place_is_told

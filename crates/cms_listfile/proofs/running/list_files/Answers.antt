@@ -4,6 +4,7 @@ use Rattle.cms_search.specs.Calls.{machine_of, spot}
 use Rattle.cms_search.proofs.Meeting.{holds_shows}
 use Rattle.cms_listfile.specs.Listfile.{delivering, files_listed}
 use Rattle.cms_listfile.specs.Listing.{lines_of}
+use Rattle.cms_listfile.proofs.Delivered.{stacks_no_file}
 use Rattle.cms_listfile.proofs.running.list_files.Goals as goal
 
 pub returns-in-Ok-clause-acts : goal.returns-in-Ok-clause-acts
@@ -26,3 +27,13 @@ returns-in-Err-clause-acts g c =
     c.refuse_unfound.result
     (λ other units h. ⊎_elim (λ memory. absurd (other memory)) (λ refused. refused (machine_of st units) (holds_shows old units h)) c.in-Err.ensures.refused)
     c.refuse_unfound.ensures refl
+
+pub returns-in-Ok-clause-stack : goal.returns-in-Ok-clause-stack
+returns-in-Ok-clause-stack g c = λ s shows.
+    let found = c.in-Ok.ensures.found s shows in
+    let same = c.as_slice.ensures in
+    rw found (rw same at c.deliver.ensures.stack)
+
+pub returns-in-Err-clause-stack : goal.returns-in-Err-clause-stack
+returns-in-Err-clause-stack g c = λ s shows.
+    stacks_no_file c.args.state.now.table c.args.line.now.style (files_listed s c.args.line.now) c.args.state.now.stack

@@ -7,7 +7,7 @@ use Rattle.cms_listfile.proofs.writing.write_anew.Goals as goal
 pub returns-in_err-file-clause-acts : goal.returns-in_err-file-clause-acts
 returns-in_err-file-clause-acts g c =
     let p = err_from_is_err_and c.from_residual.result c.from_residual.ensures.1 in
-    rw (p.1, p.2) (cut_off _ _ _ _ refl (omega arith) (omega arith))
+    rw (p.1, p.2) (cut_off _ _ _ _ refl (omega arith) (omega arith) refl)
 
 pub returns-clause-acts : goal.returns-clause-acts
 returns-clause-acts g c =

@@ -14,10 +14,10 @@ pub returns-in-Some-clause-acts : goal.returns-in-Some-clause-acts
 returns-in-Some-clause-acts g c =
     let on : c.args.append ≡ true = search rules in
     writes_told _ _ c.args.append c.args.last c.args.found.now (Some c.in-Some.info) _ on
-    (ap (λ (n : Name). info_named c.args.state.now.table disk_a n) (sym c.written_name.ensures) ∙ sym c.info_named.ensures ∙ c.in-Some.is) c.write_more.ensures.acts
+    (ap (λ (n : Name). info_named c.args.state.now.table disk_a n) (sym c.written_name.ensures) ∙ sym c.info_named.ensures.told ∙ c.in-Some.is) c.write_more.ensures.acts
 
 pub returns-in-None-clause-acts : goal.returns-in-None-clause-acts
 returns-in-None-clause-acts g c =
     let on : c.args.append ≡ true = search rules in
     writes_told _ _ c.args.append c.args.last c.args.found.now None _ on
-    (ap (λ (n : Name). info_named c.args.state.now.table disk_a n) (sym c.written_name.ensures) ∙ sym c.info_named.ensures ∙ c.in-None.is) c.write_anew-in-None.ensures.acts
+    (ap (λ (n : Name). info_named c.args.state.now.table disk_a n) (sym c.written_name.ensures) ∙ sym c.info_named.ensures.told ∙ c.in-None.is) c.write_anew-in-None.ensures.acts

@@ -19,7 +19,7 @@ returns-in_err-started-in-Exec-clause-acts g c =
     let value = c.bytes.ensures.bytes in
     let asked = rw value at c.request_of.ensures in
     rw (p.1, p.2) (call_off _ c.args.reader.now _ _ (request_tree s _ c.args.reader.now c.args.running c.args.line.now c.args.words.now)
-    (λ units. exec_command c.args.alloc c.args.running (machine_of s units) c.args.line.now c.args.words.now)
+    (λ units. exec_command c.args.running (machine_of s units) c.args.line.now c.args.words.now)
     (exec_asked _ (standing _ (seen g.W.World c.args.world.now) s) c.args.reader.now c.args.running c.args.line.now c.args.words.now c.in-Some.first.now (sym c.in-Some.ensures)
     c.request_of.result asked c.in-Exec.is)
     _ c.in_err-started-in-Exec.ensures)
@@ -30,7 +30,7 @@ returns-in_ok-started-in-Exec-clause-acts g c =
     let value = c.bytes.ensures.bytes in
     let asked = rw value at c.request_of.ensures in
     call_so _ c.args.reader.now _ _ (request_tree s _ c.args.reader.now c.args.running c.args.line.now c.args.words.now)
-    (λ units. exec_command c.args.alloc c.args.running (machine_of s units) c.args.line.now c.args.words.now)
+    (λ units. exec_command c.args.running (machine_of s units) c.args.line.now c.args.words.now)
     (exec_asked _ (standing _ (seen g.W.World c.args.world.now) s) c.args.reader.now c.args.running c.args.line.now c.args.words.now c.in-Some.first.now (sym c.in-Some.ensures)
     c.request_of.result asked c.in-Exec.is)
     _ _ c.in_ok-started-in-Exec.ensures c.called.ensures

@@ -20,7 +20,7 @@ returns-in_err-started-in-Some-clause-acts g c =
     let value = c.as_slice.ensures in
     let finds = rw value at c.find_called.ensures in
     rw (p.1, p.2) (call_off _ c.args.reader.now _ _ (take_up_tree s _ c.args.reader.now c.args.running c.args.line.now)
-    (λ units. call_command c.args.alloc c.args.running (machine_of s units) c.args.line.now c.in_ok-words.words c.in-Some.found)
+    (λ units. call_command c.args.running (machine_of s units) c.args.line.now c.in_ok-words.words c.in-Some.found)
     (procedure_taken _ (standing _ (seen g.W.World c.args.world.now) s) c.args.reader.now c.args.running c.args.line.now c.in_ok-words.words c.find_called.result c.in_ok-words.ensures finds c.in-Some.found c.in-Some.is)
     _ c.in_err-started-in-Some.ensures)
 
@@ -30,7 +30,7 @@ returns-in-Some-clause-acts g c =
     let value = c.as_slice.ensures in
     let finds = rw value at c.find_called.ensures in
     call_so _ c.args.reader.now _ _ (take_up_tree s _ c.args.reader.now c.args.running c.args.line.now)
-    (λ units. call_command c.args.alloc c.args.running (machine_of s units) c.args.line.now c.in_ok-words.words c.in-Some.found)
+    (λ units. call_command c.args.running (machine_of s units) c.args.line.now c.in_ok-words.words c.in-Some.found)
     (procedure_taken _ (standing _ (seen g.W.World c.args.world.now) s) c.args.reader.now c.args.running c.args.line.now c.in_ok-words.words c.find_called.result c.in_ok-words.ensures finds c.in-Some.found c.in-Some.is)
     _ _ c.in_ok-started-in-Some.ensures c.called.ensures
 

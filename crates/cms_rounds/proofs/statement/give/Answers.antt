@@ -1,6 +1,7 @@
-use Rattle.std.proofs.Common.{◌∙◌, rules, w32, FitsSigned}
+use Rattle.std.proofs.Common.{◌∙◌, ap, rules, w32, FitsSigned}
 use Rattle.std.proofs.lemmas.Int.{to_z-of_z}
 use Rattle.std.proofs.lemmas.Result.{err_from_is_err_and}
+use Rattle.cms_search.specs.declared.state.State.{State}
 use Rattle.cms_rounds.proofs.Statements.{gives_off, gives_on, gives_ready, gives_waits}
 use Rattle.cms_rounds.proofs.statement.give.Goals as goal
 
@@ -61,3 +62,13 @@ returns-in-None-clause-reader g c = c.settle.ensures.reader ∙ c.loop-procedure
 
 pub returns-clause-reader : goal.returns-clause-reader
 returns-clause-reader g c = c.ready.ensures.reader ∙ c.loop-procedure.invariant.reader
+
+-- the stack is left alone
+pub returns-in_err-own-clause-stack : goal.returns-in_err-own-clause-stack
+returns-in_err-own-clause-stack g c = ap (λ (s : State). s.stack) (c.settle.ensures.state ∙ c.loop-procedure.invariant.gives.same)
+
+pub returns-in-None-clause-stack : goal.returns-in-None-clause-stack
+returns-in-None-clause-stack g c = ap (λ (s : State). s.stack) (c.settle.ensures.state ∙ c.loop-procedure.invariant.gives.same)
+
+pub returns-clause-stack : goal.returns-clause-stack
+returns-clause-stack g c = c.ready.ensures.stack ∙ ap (λ (s : State). s.stack) c.loop-procedure.invariant.gives.same

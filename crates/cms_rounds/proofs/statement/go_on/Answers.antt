@@ -1,6 +1,7 @@
-use Rattle.std.proofs.Common.{rules, w32, FitsSigned}
+use Rattle.std.proofs.Common.{◌∙◌, ap, rules, w32, FitsSigned}
 use Rattle.std.proofs.lemmas.Int.{to_z-of_z}
 use Rattle.std.proofs.lemmas.Result.{err_from_is_err_and}
+use Rattle.cms_search.specs.declared.state.State.{State}
 use Rattle.cms_rounds.specs.Procedures.{settled}
 use Rattle.cms_rounds.proofs.Statements.{found_given, found_off, found_waits}
 use Rattle.cms_rounds.proofs.statement.go_on.Goals as goal
@@ -30,3 +31,13 @@ returns-in-None-clause-acts g c =
     let does = rw is at c.in_ok-code.ensures.does in
     let left = rw is at c.in_ok-code.ensures.procedures in
     found_waits _ _ ps (settled c.args.procedure) c.settle.new.session.procedures does c.settle.ensures.state left
+
+-- the stack is left alone
+pub returns-in_err-code-clause-stack : goal.returns-in_err-code-clause-stack
+returns-in_err-code-clause-stack g c = ap (λ (s : State). s.stack) c.settle.ensures.state
+
+pub returns-in-Some-clause-stack : goal.returns-in-Some-clause-stack
+returns-in-Some-clause-stack g c = c.give.ensures.stack ∙ ap (λ (s : State). s.stack) c.settle.ensures.state
+
+pub returns-in-None-clause-stack : goal.returns-in-None-clause-stack
+returns-in-None-clause-stack g c = ap (λ (s : State). s.stack) c.settle.ensures.state

@@ -19,7 +19,7 @@ loop-place-preserved c =
     let k = c.loop-place.place in
     let f = told_of c.info-info.result in
     let passes = is_found c.args.mode.now (fitting c.args.file.now c.args.kind.now) s.letter in
-    let told = subst (λ (x : Seated). slice_get (infos_in x.disk.volume) k ≡ Some c.info-info.result) c.seat.view_is c.info-info.ensures in
+    let told = subst (λ (x : Seated). slice_get (infos_in x.disk.volume) k ≡ Some c.info-info.result) c.seat.view_is c.info-info.ensures.info in
     let at : slice_get (map listed_held s.disk.volume.files) k ≡ Some f = told_listed s.disk.volume.files k ∙ ap (λ (x : Option FileInfo). option_map told_of x) told in
     elim c.if-is_found.branch [
       | then-is_found+in_ok-push w ↦

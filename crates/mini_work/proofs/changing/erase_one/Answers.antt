@@ -17,7 +17,7 @@ returns-in-Ok-clause-goes g c =
     let e = c.in-Ok.ensures in
     change_told {A = ⊤} (Drop name) c.args.stamp.now c.args.says (name_line name) (told c.args.world.now) (told c.erase.new.world) (told c.say_name.new.world)
     c.args.disk.now c.erase.new.self tt c.say_name.result
-    (change_done (told c.args.world.now) (told c.erase.new.world) c.args.disk.now c.erase.new.self (Drop name) c.args.stamp.now tt e.alters e.changes.same)
+    (change_done (told c.args.world.now) (told c.erase.new.world) c.args.disk.now c.erase.new.self (Drop name) c.args.stamp.now tt (λ j m told is looked. e.alters j m told is) e.changes.same)
     (c.say_name.ensures.goes c.erase.new.self)
 
 pub returns-in-Ok-clause-may : goal.returns-in-Ok-clause-may
@@ -33,7 +33,7 @@ returns-in-Err-clause-goes g c =
     let name = c.args.name.now in
     let e = c.in-Err.ensures in
     change_refused (Drop name) c.args.stamp.now c.args.says (name_line name) (told c.args.world.now) (told c.erase.new.world) c.args.disk.now c.erase.new.self
-    c.in-Err.why c.refuse_change.result c.refuse_change.ensures.refused e.alters e.changes.kept e.changes.same
+    c.in-Err.why c.refuse_change.result c.refuse_change.ensures.refused (λ j m told is looked. e.alters j m told is) e.changes.kept e.changes.same
 
 pub returns-in-Err-clause-may : goal.returns-in-Err-clause-may
 returns-in-Err-clause-may g c =

@@ -16,7 +16,7 @@ returns-in-Ok-clause-goes g c =
     let e = c.in-Ok.ensures in
     change_told {A = ⊤} change c.args.stamp.now c.args.says (name_line c.args.to.now) (told c.args.world.now) (told c.rename.new.world) (told c.say_name.new.world)
     c.args.disk.now c.rename.new.self tt c.say_name.result
-    (change_done (told c.args.world.now) (told c.rename.new.world) c.args.disk.now c.rename.new.self change c.args.stamp.now tt e.alters e.changes.same)
+    (change_done (told c.args.world.now) (told c.rename.new.world) c.args.disk.now c.rename.new.self change c.args.stamp.now tt (λ j m told is looked. e.alters j m told is) e.changes.same)
     (c.say_name.ensures.goes c.rename.new.self)
 
 pub returns-in-Err-clause-goes : goal.returns-in-Err-clause-goes
@@ -25,7 +25,7 @@ returns-in-Err-clause-goes g c =
     let change = Rename c.args.from.now c.args.to.now c.args.number in
     let e = c.in-Err.ensures in
     change_refused change c.args.stamp.now c.args.says (name_line c.args.to.now) (told c.args.world.now) (told c.rename.new.world) c.args.disk.now c.rename.new.self
-    c.in-Err.why c.refuse_change.result c.refuse_change.ensures.refused e.alters e.changes.kept e.changes.same
+    c.in-Err.why c.refuse_change.result c.refuse_change.ensures.refused (λ j m told is looked. e.alters j m told is) e.changes.kept e.changes.same
 
 pub returns-in-Ok-clause-cause : goal.returns-in-Ok-clause-cause
 returns-in-Ok-clause-cause g c = λ may. end_then _ _ _ _ (units_later _ _ _ _ (g.H.Host.faults c.args.host.now) c.in-Ok.ensures.changes.units) (c.say_name.ensures.cause (g.H.Host.faults c.args.host.now))

@@ -9,4 +9,4 @@ loop-nth-preserved c =
     let v = c.args.disk.now.volume in
     let nth = c.loop-nth.nth in
     c.in_ok-push.ensures.items ∙ ap (λ (xs : List Name). xs ++ c.info.result.name ∷ []) c.loop-nth.invariant
-    ∙ sym (take_more (names_in v.files) nth c.info.result.name (name_told v nth c.info.result c.info.ensures))
+    ∙ sym (take_more (names_in v.files) nth c.info.result.name (name_told v nth c.info.result c.info.ensures.info))

@@ -27,7 +27,7 @@ loop-name-preserved g c =
     let names = c.args.names.now in
     let k = c.loop-name.name-index in
     record {
-      may = (may_still _ _ d d c.in-Ok.ensures.grown (same_on d) c.loop-name.invariant.may.0, c.loop-name.invariant.may.1);
+      may = may_still _ _ d d c.in-Ok.ensures.grown (same_on d) c.loop-name.invariant.may;
       goes = host_more (IsHanded c.args.form) names k c.name-item.result c.loop-name.status c.in-Ok.one c.and-status.result (host c.args.host.now) (host c.loop-name.host)
           (host c.get_one.new.host) (told c.args.world.now) (told c.loop-name.world) (told c.get_one.new.world) d d d
           (slice_get_read names (length names) k c.name-item.result refl c.loop-name-test.true c.name-item.is) c.loop-name.invariant.goes

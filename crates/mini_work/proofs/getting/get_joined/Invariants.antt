@@ -1,15 +1,14 @@
-use Rattle.mini_work.specs.Handing.{MayGet}
 use Rattle.cms_model.specs.Minidisks.{Minidisk}
 use Rattle.mini_work.specs.Causes.{HasEnd, counts}
-use Rattle.cms_disk.specs.Drafts.{Stands}
 use Rattle.std.proofs.Common.{Ok, take}
 use Rattle.mini_work.specs.Getting.{IsHanded, OnHost}
-use Rattle.mini_work.specs.Going.{Continues, Goes}
+use Rattle.mini_work.specs.Going.{Continues, Goes, MayChange}
+use Rattle.mini_work.specs.Standing.{Stands}
 use Rattle.mini_work.proofs.getting.get_joined.Given as goal
 
 abbrev pub invariant-loop-name : goal.invariant-loop-name
 invariant-loop-name g l = record {
-  may : MayGet (g.W.World.told l.world) l.disk;
+  may : MayChange (g.W.World.told l.world) l.disk;
   goes : Continues (OnHost (g.H.Host.told l.initial.host) (g.H.Host.told l.host) (Goes (IsHanded l.form) (take l.name-index l.names)))
       (g.W.World.told l.initial.world) l.disk (g.W.World.told l.world) l.disk (Ok l.status);
   stands : (m : Minidisk) → Stands (g.W.World.told l.initial.world) l.disk m → Stands (g.W.World.told l.world) l.disk m;

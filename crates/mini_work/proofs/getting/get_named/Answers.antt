@@ -34,7 +34,7 @@ loop-name-preserved g c =
     let l = c.loop-name in
     let k = l.name-index in
     record {
-      may = (may_still _ _ d d c.in-Ok.ensures.grown (same_on d) l.invariant.may.0, l.invariant.may.1);
+      may = may_still _ _ d d c.in-Ok.ensures.grown (same_on d) l.invariant.may;
       goes = host_more (IsGotTo get folder) names k c.name-item.result l.status c.in-Ok.one c.and-status.result (host c.args.host.now) (host l.host)
           (host c.get_to.new.host) (told c.args.world.now) (told l.world) (told c.get_to.new.world) d d d
           (slice_get_read names (length names) k c.name-item.result refl c.loop-name-test.true c.name-item.is) l.invariant.goes

@@ -8,7 +8,7 @@ use Rattle.mini_work.proofs.HandedOut.{shown_none}
 use Rattle.mini_work.proofs.getting.get_one.Goals as goal
 
 pub get_file-requires-clause-info : goal.get_file-requires-clause-info
-get_file-requires-clause-info g c = (c.in-Some.place, sym c.in-Some.ensures, c.info.ensures)
+get_file-requires-clause-info g c = (c.in-Some.place, sym c.in-Some.ensures, c.info.ensures.info)
 
 pub returns-in-None-clause-gets : goal.returns-in-None-clause-gets
 returns-in-None-clause-gets g c = λ m s.
@@ -25,7 +25,4 @@ pub returns-in-None-clause-cause : goal.returns-in-None-clause-cause
 returns-in-None-clause-cause g c = λ m s. let at = counts g.W.World g.H.Host in c.refuse_change.ensures.cause (at c.args.world.now c.args.host.now) _ _ (later_same (at c.args.world.now c.args.host.now)) (λ e. absurd (cc e))
 
 pub get_file-requires-clause-may : goal.get_file-requires-clause-may
-get_file-requires-clause-may g c = c.requires.may.0
-
-pub get_file-requires-clause-short : goal.get_file-requires-clause-short
-get_file-requires-clause-short g c = c.requires.may.1 c.in-Some.place c.info.result c.info.ensures
+get_file-requires-clause-may g c = c.requires.may

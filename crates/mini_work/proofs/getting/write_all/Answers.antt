@@ -4,8 +4,8 @@ use Rattle.std.proofs.Common.{◌∙◌, ◌++◌, ◌∷◌, [], List, length, 
 use Rattle.std.proofs.lemmas.Option.{slice_get_read}
 use Rattle.cms_journal.specs.Told.{Told}
 use Rattle.cms_names.specs.declared.name.Name.{Name}
-use Rattle.cms_disk.specs.Drafts.{Stands}
 use Rattle.mini_work.specs.Getting.{WritesAll}
+use Rattle.mini_work.specs.Standing.{Stands}
 use Rattle.mini_work.specs.declared.status.Status.{Status}
 use Rattle.mini_work.proofs.GotOut.{take_past}
 use Rattle.mini_work.proofs.Hosted.{same_then}
@@ -36,7 +36,7 @@ loop-name-preserved g c =
     let one = c.in-Ok.ensures in
     let at = slice_get_read names (length names) k c.name-item.result refl c.loop-name-test.true c.name-item.is in
     record {
-      may = (may_still _ _ d d one.grown (same_on d) inv.may.0, inv.may.1);
+      may = may_still _ _ d d one.grown (same_on d) inv.may;
       begun = one.begun;
       told = λ m s. one.told m (subst (λ (t : Told). Stands t d m) (sym (inv.told m s)) s) ∙ inv.told m s;
       writes = λ m s.

@@ -1,15 +1,16 @@
 use Rattle.mini_work.specs.Causes.{HasEnd, counts}
 use Rattle.std.proofs.Common.{◌≡◌, take, Ok}
 use Rattle.cms_model.specs.Minidisks.{Minidisk}
-use Rattle.cms_disk.specs.Drafts.{Stands}
 use Rattle.mini_work.specs.Getting.{WritesAll}
-use Rattle.mini_work.specs.Handing.{MayGet, IsBegun}
+use Rattle.mini_work.specs.Handing.{IsBegun}
+use Rattle.mini_work.specs.Going.{MayChange}
 use Rattle.mini_work.specs.Hosting.{SameFiles}
+use Rattle.mini_work.specs.Standing.{Stands}
 use Rattle.mini_work.proofs.getting.write_all.Given as goal
 
 abbrev pub invariant-loop-name : goal.invariant-loop-name
 invariant-loop-name g l = record {
-  may : MayGet (g.W.World.told l.world) l.disk;
+  may : MayChange (g.W.World.told l.world) l.disk;
   begun : IsBegun (g.H.Host.told l.host);
   told : (m : Minidisk) → Stands (g.W.World.told l.initial.world) l.disk m → g.W.World.told l.world ≡ g.W.World.told l.initial.world;
   writes : (m : Minidisk) → Stands (g.W.World.told l.initial.world) l.disk m

@@ -5,9 +5,9 @@ use Rattle.cms_disk.specs.Cursors.{HasLeft}
 use Rattle.std.proofs.Common.{◌≡◌, ℕ, Some, IfOk, subst, sym}
 use Rattle.cms_model.specs.Changes.{file_named}
 use Rattle.cms_model.specs.Minidisks.{File, Minidisk}
-use Rattle.cms_disk.specs.Drafts.{Stands}
 use Rattle.mini_forms.specs.declared.form.Form.{Form}
 use Rattle.mini_work.specs.Handing.{can_show}
+use Rattle.mini_work.specs.Standing.{Stands}
 use Rattle.mini_work.proofs.HandedOut.{opened_blocks, shows_lines, opened_left}
 use Rattle.mini_work.proofs.handing.can_show.Goals as goal
 

@@ -10,7 +10,7 @@ use Rattle.cms_journal.specs.Told.{Grown, Told}
 use Rattle.cms_journal.proofs.Pieces.{grown_same}
 use Rattle.mini_forms.specs.Writing.{written}
 use Rattle.mini_work.specs.Handing.{Puts, PutsPart, shown_in}
-use Rattle.mini_work.proofs.HandedOut.{can_so, cannot_so, file_of, front_none, front_of, hands_all, hands_failed, hands_none, opened_blocks, opened_long, puts_file, shown_is, opened_left}
+use Rattle.mini_work.proofs.HandedOut.{can_so, cannot_so, file_of, front_none, front_of, hands_all, hands_failed, hands_none, opened_blocks, puts_file, shown_is, opened_left}
 use Rattle.mini_work.proofs.handing.hand_out.Goals as goal
 
 pub hand_records-requires-clause-blocks : goal.hand_records-requires-clause-blocks
@@ -18,11 +18,6 @@ hand_records-requires-clause-blocks g c =
     let cursor = c.in_ok-cursor.cursor in
     subst (λ (t : Told). ForSome t (λ j. HasBlocks j.units cursor.unit cursor.total cursor.bsize)) (sym c.in_ok-can.ensures.told)
     (opened_blocks (g.W.World.told c.args.world.now) c.args.disk.now c.args.name.now cursor c.in_ok-cursor.ensures.start c.requires.blocks)
-
-pub hand_records-requires-clause-short : goal.hand_records-requires-clause-short
-hand_records-requires-clause-short g c =
-    let long = opened_long c.args.disk.now c.args.name.now c.in_ok-cursor.cursor c.args.info.now c.in_ok-cursor.ensures.start c.requires.info in
-    omega arith
 
 pub returns-in_err-can-clause-hands : goal.returns-in_err-can-clause-hands
 returns-in_err-can-clause-hands g c = λ m s.

@@ -30,7 +30,7 @@ loop-nth-preserved g c = record {
       let lined = subst (λ (x : List ℕ). Continues (IsTold (is_listed names info) (typed_line x)) (told c.loop-nth.world) d (told c.say_if.new.world) d (Ok one))
       (c.deref.ensures.value ∙ c.in_ok-line.ensures) said in
       goes_next P xs c.loop-nth.nth info c.loop-nth.status one c.and-status.result (told c.args.world.now) (told c.loop-nth.world) (told c.say_if.new.world) d d d
-      c.info-info.ensures c.loop-nth.invariant.goes lined c.and-status.ensures);
+      c.info-info.ensures.info c.loop-nth.invariant.goes lined c.and-status.ensures);
   cause = λ n. end_both _ _ _ c.loop-nth.status c.in_ok-one.one c.and-status.result (c.loop-nth.invariant.cause n) (c.in_ok-one.ensures.cause n) c.and-status.ensures;
 }
 

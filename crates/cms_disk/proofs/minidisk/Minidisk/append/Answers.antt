@@ -1,4 +1,4 @@
-use Rattle.std.proofs.Common.{◌≡◌, inl, inr, Result, Ok, Err, None, false, List, [], refl, sym, ◌∙◌, ap, subst}
+use Rattle.std.proofs.Common.{◌≡◌, inl, inr, ⊎_elim, Result, Ok, Err, None, false, List, [], refl, sym, ◌∙◌, ap, subst}
 use Rattle.std.specs.Prelude.{IfErr, ⊤}
 use Rattle.std.proofs.lemmas.Result.{err_from_is_err_and}
 use Rattle.cms_journal.specs.Journal.{HasBlocks, IsWritable}
@@ -11,24 +11,25 @@ use Rattle.cms_held.proofs.Fronts.{if_err}
 use Rattle.cms_tree.proofs.Stepping.{units_kept}
 use Rattle.cms_held.specs.Opening.{HeldVolume}
 use Rattle.cms_edf.proofs.Committed.{can_write}
-use Rattle.cms_edf.specs.FileDrafts.{IsSomeDraft}
+use Rattle.cms_edf.specs.FileDrafts.{IsSomeDraft, LeadsToFile}
 use Rattle.cms_edf.specs.declared.draft.Draft.{Draft}
 use Rattle.cms_draft.specs.declared.shape.DraftShape.{DraftShape}
 use Rattle.cms_disk.specs.Additions.{IsAddFault}
-use Rattle.cms_disk.specs.Changing.{Appends, ChangesDisk, IsDevices}
+use Rattle.cms_disk.specs.Changing.{Appends, ChangesDisk, IsDevices, IsPutIn}
 use Rattle.cms_disk.specs.Disks.{Accessed, place_of}
 use Rattle.cms_disk.specs.declared.fault.DiskFault.{DiskFault}
-use Rattle.cms_disk.specs.declared.fault.DiskFault.TheVariants.{NotFound, ReadOnly}
+use Rattle.cms_disk.specs.declared.fault.DiskFault.TheVariants.{Limit, Memory, NotFound, ReadOnly}
 use Rattle.cms_disk.proofs.Adding.{add_fault, appends_of, changed_both, changed_put, changed_read, changed_then, device_fault, fault_locked, fault_missing, more_refused, not_missing}
 use Rattle.cms_disk.proofs.DraftSteps.{none_aside}
-use Rattle.cms_disk.proofs.Extending.{behind_at, last_behind, may_extend, shaped_at}
-use Rattle.cms_disk.proofs.FilePut.{added_none, alters_same, given_up, not_read_only}
-use Rattle.cms_disk.proofs.Filling.{same_some}
+use Rattle.cms_disk.proofs.Extending.{behind_at, last_behind, may_extend, shape_told, shaped_at}
+use Rattle.cms_disk.proofs.FilePut.{added_none, alters_same, given_up, more_in, not_read_only, on_ok}
+use Rattle.cms_disk.proofs.Filling.{same_more, same_some}
 use Rattle.cms_disk.proofs.Finding.{none_found}
+use Rattle.cms_disk.proofs.TooMany.{limited, no_room}
 use Rattle.cms_disk.proofs.minidisk.Minidisk.append.Goals as goal
 
 pub returns-in_err-place-clause-appends : goal.returns-in_err-place-clause-appends
-returns-in_err-place-clause-appends g c = λ j m records told is looked stands.
+returns-in_err-place-clause-appends g c = λ j m records told is stands.
     let p = err_from_is_err_and c.from_residual.result c.from_residual.ensures.1 in
     let old = g.W.World.told c.args.world.now in
     let d = c.args.self.now in
@@ -37,14 +38,37 @@ returns-in_err-place-clause-appends g c = λ j m records told is looked stands.
     (refl, none_found d c.args.name.now none.missing (now j d.volume.unit) m is.stands)
 
 pub returns-then-not-is_writable-clause-appends : goal.returns-then-not-is_writable-clause-appends
-returns-then-not-is_writable-clause-appends g c = λ j m records told is looked stands. (refl, sym c.is_writable.ensures ∙ c.if-not-is_writable.true)
+returns-then-not-is_writable-clause-appends g c = λ j m records told is stands. (refl, sym c.is_writable.ensures ∙ c.if-not-is_writable.true)
 
 pub returns-in_err-shape-clause-appends : goal.returns-in_err-shape-clause-appends
-returns-in_err-shape-clause-appends g c = λ j m records told is looked stands.
+returns-in_err-shape-clause-appends g c = λ j m records told is stands.
     let p = err_from_is_err_and c.from_residual-in_err-shape.result c.from_residual-in_err-shape.ensures.1 in
     let old = g.W.World.told c.args.world.now in
     let d = c.args.self.now in
-    subst (Appends old old d d m (Add c.args.name.now records c.args.more.now.stamp) c.args.stamp.now) (sym (p.1 ∙ ap Err (p.2 ∙ c.in_err-shape.ensures.fault))) refl
+    let name = c.args.name.now in
+    let more = c.args.more.now in
+    let there = c.in_ok-place.ensures in
+    let no = c.in_err-shape.ensures in
+    subst (Appends old old d d m (Add name records more.stamp) c.args.stamp.now) (sym (p.1 ∙ ap Err p.2))
+    (⊎_elim
+    (λ (memory : c.in_err-shape.field-0.0 ≡ Memory). subst (λ (e : DiskFault). Appends old old d d m (Add name records more.stamp) c.args.stamp.now (Err e)) (sym memory) refl)
+    (λ (limit : c.in_err-shape.field-0.0 ≡ Limit 2). subst (λ (e : DiskFault). Appends old old d d m (Add name records more.stamp) c.args.stamp.now (Err e)) (sym limit)
+    (refl, limited j d m name c.in_ok-place.place more records there.kept is (c.requires.blocks j told) stands c.requires.fits there.place (no.many limit)))
+    no.fault)
+
+pub returns-in_err-shape-clause-fault : goal.returns-in_err-shape-clause-fault
+returns-in_err-shape-clause-fault g c =
+    let p = err_from_is_err_and c.from_residual-in_err-shape.result c.from_residual-in_err-shape.ensures.1 in
+    let d = c.args.self.now in
+    let name = c.args.name.now in
+    let more = c.args.more.now in
+    let there = c.in_ok-place.ensures in
+    let no = c.in_err-shape.ensures in
+    subst (λ (r : Result ⊤ DiskFault). IfErr r (IsAddFault d name more)) (sym (p.1 ∙ ap Err p.2))
+    (⊎_elim
+    (λ (memory : c.in_err-shape.field-0.0 ≡ Memory). subst (IsAddFault d name more) (sym memory) tt)
+    (λ (limit : c.in_err-shape.field-0.0 ≡ Limit 2). subst (IsAddFault d name more) (sym limit) (no_room d name c.in_ok-place.place more there.kept there.place (no.many limit)))
+    no.fault)
 
 pub draft_more-requires-clause-extends : goal.draft_more-requires-clause-extends
 draft_more-requires-clause-extends g c =
@@ -53,7 +77,7 @@ draft_more-requires-clause-extends g c =
     (shaped_at c.args.self.now.volume c.args.name.now c.in_ok-place.place c.args.more.now c.in_ok-shape.shape c.in_ok-place.ensures.place shape.shape shape.can)
 
 pub returns-in_err-draft-clause-appends : goal.returns-in_err-draft-clause-appends
-returns-in_err-draft-clause-appends g c = λ j m records told is looked stands.
+returns-in_err-draft-clause-appends g c = λ j m records told is stands.
     let p = err_from_is_err_and c.from_residual-in_err-draft.result c.from_residual-in_err-draft.ensures.1 in
     let old = g.W.World.told c.args.world.now in
     let new = g.W.World.told c.draft_more.new.world in
@@ -69,7 +93,7 @@ returns-in_err-draft-clause-appends g c = λ j m records told is looked stands.
     let has = c.requires.blocks j told in
     subst (λ (z : Stamp). Appends old new d e m (Add name records z) stamp c.from_residual-in_err-draft.result) (ap (λ (z : DraftShape). z.stamp) s.shape_is)
     (subst (Appends old new d e m (Add name records shape.stamp) stamp) (sym (p.1 ∙ ap Err p.2))
-    (more_refused Draft old new d e m name shape stamp records c.in_err-draft.field-0.0 made.reads.told (none_aside j old d m told is has looked)
+    (more_refused Draft old new d e m name shape stamp records c.in_err-draft.field-0.0 made.reads.told (none_aside j old d m told is has)
     (λ none. none_found d name none (now j d.volume.unit) m is.stands) made.fault (made.answers j m at.file records is has at.named at.have.counts)))
 
 pub put_records-requires-clause-last : goal.put_records-requires-clause-last
@@ -90,7 +114,7 @@ put_records-requires-clause-ready g c = λ k told.
     can_write k.units c.args.self.now.volume c.in_ok-draft.draft made.some (c.requires.blocks k (sym same ∙ told)) (c.requires.writable made.writable k (sym same ∙ told))
 
 pub returns-in_err-put_records-clause-appends : goal.returns-in_err-put_records-clause-appends
-returns-in_err-put_records-clause-appends g c = λ j m records told is looked stands.
+returns-in_err-put_records-clause-appends g c = λ j m records told is stands.
     let p = err_from_is_err_and c.from_residual-in_err-put_records.result c.from_residual-in_err-put_records.ensures.1 in
     let old = g.W.World.told c.args.world.now in
     let new = g.W.World.told c.put_records.new.world in
@@ -104,7 +128,7 @@ returns-in_err-put_records-clause-appends g c = λ j m records told is looked st
     let s = shaped_at d.volume name c.in_ok-place.place more shape c.in_ok-place.ensures.place c.in_ok-shape.ensures.shape c.in_ok-shape.ensures.can in
     let at = behind_at j d m name more records shape is stands c.requires.fits s in
     let change = Add name records shape.stamp in
-    let goes = made.begins j m at.file records told is looked at.named at.have in
+    let goes = made.begins j m at.file records told is at.named at.have in
     let given = c.in_err-put_records.ensures.puts old e m change stamp [] records stands goes in
     subst (λ (z : Stamp). Appends old new d e m (Add name records z) stamp c.from_residual-in_err-put_records.result) (ap (λ (z : DraftShape). z.stamp) s.shape_is)
     (subst (Appends old new d e m change stamp) (sym (p.1 ∙ ap Err (p.2 ∙ c.in_err-put_records.ensures.fault)))
@@ -130,7 +154,7 @@ commit-requires-clause-writable g c = λ k told.
     (λ j is. c.requires.writable made.writable j (sym same ∙ is)) k told)
 
 pub returns-clause-appends : goal.returns-clause-appends
-returns-clause-appends g c = λ j m records told is looked stands.
+returns-clause-appends g c = λ j m records told is stands.
     let old = g.W.World.told c.args.world.now in
     let new = g.W.World.told c.commit.new.world in
     let d = c.args.self.now in
@@ -145,7 +169,7 @@ returns-clause-appends g c = λ j m records told is looked stands.
     let volume = ap (λ (a : Accessed). a.volume) made.kept in
     let writable = ap (λ (a : Accessed). a.writable) made.kept in
     let change = Add name records shape.stamp in
-    let begun = made.begins j m at.file records told is looked at.named at.have in
+    let begun = made.begins j m at.file records told is at.named at.have in
     let goes = c.in_ok-put_records.ensures.puts old e m change stamp [] records stands begun in
     subst (λ (z : Stamp). Appends old new d c.commit.new.self m (Add name records z) stamp c.commit.result) (ap (λ (z : DraftShape). z.stamp) s.shape_is)
     (appends_of old new d c.commit.new.self m change stamp c.commit.result
@@ -265,3 +289,18 @@ commit-requires-clause-planned g c =
     let made = c.in_ok-draft.ensures in
     subst (λ (v : HeldVolume). IsSomeDraft v c.put_records.new.draft) (sym (ap (λ (a : Accessed). a.volume) made.kept))
     (same_some c.args.self.now.volume c.in_ok-draft.draft c.put_records.new.draft c.in_ok-put_records.ensures.same made.some)
+
+pub returns-clause-holds : goal.returns-clause-holds
+returns-clause-holds g c =
+    let d = c.args.self.now in
+    let name = c.args.name.now in
+    let more = c.args.more.now in
+    let made = c.in_ok-draft.ensures in
+    let volume = ap (λ (a : Accessed). a.volume) made.kept in
+    let s = shaped_at d.volume name c.in_ok-place.place more c.in_ok-shape.shape c.in_ok-place.ensures.place c.in_ok-shape.ensures.shape c.in_ok-shape.ensures.can in
+    let planned = same_more d.volume name s.file c.in_ok-shape.shape c.args.stamp.now c.in_ok-draft.draft c.put_records.new.draft c.in_ok-put_records.ensures.same (made.planned s.file s.is) in
+    on_ok c.commit.result
+    (λ leads info bytes told. subst (λ (x : DraftShape). IsPutIn d.volume name x c.commit.new.self.volume) (shape_told d.volume name more c.in_ok-shape.shape info bytes s told)
+    (more_in d.volume c.commit.new.self.volume name s.file c.in_ok-shape.shape c.args.stamp.now c.put_records.new.draft planned
+    (subst (λ (v : HeldVolume). LeadsToFile v c.put_records.new.draft c.commit.new.self.volume) volume leads)))
+    c.commit.ensures.holds

@@ -7,14 +7,14 @@ use Rattle.cms_journal.specs.Told.{plus}
 use Rattle.cms_model.specs.Minidisks as minidisks
 use Rattle.cms_edf.specs.Finishing.{IsStopped, LeadsTo, step_events}
 use Rattle.cms_edf.specs.Planning.{IsFullFor, IsPlanFor, change_of}
-use Rattle.cms_disk.specs.Disks.{Accessed, IsLookedAt, IsMinidisk}
-use Rattle.cms_disk.proofs.Altering.{Setting, altered, alters_by, carry_fault, grown_cut, grown_done, leads_same, not_planned, on_same, plan_fault}
+use Rattle.cms_disk.specs.Disks.{Accessed, IsMinidisk}
+use Rattle.cms_disk.proofs.Altering.{Setting, altered, alters_by, carry_fault, grown_cut, grown_done, held_then, leads_same, not_planned, on_same, plan_fault}
 use Rattle.cms_disk.proofs.minidisk.Minidisk.change.Given as given
 use Rattle.cms_disk.proofs.minidisk.Minidisk.change.Goals as goal
 use Rattle.cms_disk.proofs.minidisk.Minidisk.change.Goals.{After-carry_out, In_ok-carry_out}
 
 pub returns-in_err-plan-clause-alters : goal.returns-in_err-plan-clause-alters
-returns-in_err-plan-clause-alters g c = λ j m told is looked.
+returns-in_err-plan-clause-alters g c = λ j m told is.
     let p = err_from_is_err_and c.from_residual.result c.from_residual.ensures.1 in
     let e : Accessed = record { vdev = c.self.inside.unit.vdev; writable = c.self.inside.unit.writable; volume = c.plan.new.held.volume; spare = c.plan.new.held.spare } in
     let view = ap (λ (a : Accessed). a.volume) c.self.view_is in
@@ -58,15 +58,14 @@ invariant_of-self-2 g c =
     let volume = c.plan.ensures.volume in
     record { number = on.0 ∙ (ap (λ (v : HeldVolume). v.unit) volume ∙ c.self.invariant.number); disk = on.1 ∙ (ap (λ (v : HeldVolume). v.disk) volume ∙ c.self.invariant.disk) }
 
-setting : (g : given.Over) (c : After-carry_out g) (j : Journal) (m : minidisks.Minidisk) → g.W.World.told c.args.world.now ≡ Some j → IsMinidisk j c.args.self.now m → IsLookedAt j c.args.self.now
+setting : (g : given.Over) (c : After-carry_out g) (j : Journal) (m : minidisks.Minidisk) → g.W.World.told c.args.world.now ≡ Some j → IsMinidisk j c.args.self.now m
     → Setting j (g.W.World.told c.args.world.now) c.args.self.now m (change_of c.args.change.now) c.args.stamp.now c.in_ok-plan.plan
-setting g c j m told is looked =
+setting g c j m told is =
     let view = ap (λ (a : Accessed). a.volume) c.self.view_is in
     record {
       told_is = told;
       is = is;
       readable = c.requires.blocks j told;
-      looked = looked;
       kept = subst Keeps (c.plan.ensures.volume ∙ view) c.plan.ensures.kept;
       plan = subst (λ (v : HeldVolume). IsPlanFor v (change_of c.args.change.now) c.args.stamp.now c.in_ok-plan.plan) view c.in_ok-plan.ensures.planned;
     }
@@ -79,14 +78,14 @@ volume_is : (g : given.Over) (c : After-carry_out g) → c.plan.new.held.volume 
 volume_is g c = c.plan.ensures.volume ∙ ap (λ (a : Accessed). a.volume) c.self.view_is
 
 pub returns-in_err-carry_out-clause-alters : goal.returns-in_err-carry_out-clause-alters
-returns-in_err-carry_out-clause-alters g c = λ j m told is looked.
+returns-in_err-carry_out-clause-alters g c = λ j m told is.
     let at = (goal.at.returns-in_err-carry_out-clause-alters g c).After-carry_out in
     let p = err_from_is_err_and c.from_residual-in_err-carry_out.result c.from_residual-in_err-carry_out.ensures.1 in
     let why = c.in_err-carry_out.field-0.0 in
     let old = g.W.World.told c.args.world.now in
     let new = g.W.World.told c.carry_out.new.world in
     let same = volume_is g at in
-    rw (p.1, p.2) (alters_by j old new c.args.self.now (new_view g at) m (change_of c.args.change.now) c.args.stamp.now c.in_ok-plan.plan (setting g at j m told is looked) why
+    rw (p.1, p.2) (alters_by j old new c.args.self.now (new_view g at) m (change_of c.args.change.now) c.args.stamp.now c.in_ok-plan.plan (setting g at j m told is) why
     (subst (λ (v : HeldVolume). IsStopped old new v c.in_ok-plan.plan why) same c.in_err-carry_out.ensures.cut_off)
     (ap (λ (h : Holding). h.volume) c.in_err-carry_out.ensures.kept ∙ same))
 
@@ -116,12 +115,12 @@ returns-in_err-carry_out-clause-changes g c =
     })
 
 pub returns-clause-alters : goal.returns-clause-alters
-returns-clause-alters g c = λ j m told is looked.
+returns-clause-alters g c = λ j m told is.
     let at = (goal.at.returns-clause-alters g c).After-carry_out in
     let old = g.W.World.told c.args.world.now in
     let new = g.W.World.told c.carry_out.new.world in
     let same = volume_is g at in
-    altered j old new c.args.self.now (new_view g at) m (change_of c.args.change.now) c.args.stamp.now c.in_ok-plan.plan (setting g at j m told is looked)
+    altered j old new c.args.self.now (new_view g at) m (change_of c.args.change.now) c.args.stamp.now c.in_ok-plan.plan (setting g at j m told is)
     (subst (λ (v : HeldVolume). new ≡ plus old (step_events v c.in_ok-plan.plan)) same c.in_ok-carry_out.ensures.done)
     (subst (λ (v : HeldVolume). LeadsTo v c.in_ok-plan.plan c.carry_out.new.held.volume) same c.in_ok-carry_out.ensures.volume)
 
@@ -146,3 +145,11 @@ returns-clause-changes g c =
           (on.1 ∙ ap (λ (v : HeldVolume). v.disk) volume);
       kept = tt;
     }
+
+pub returns-clause-holds : goal.returns-clause-holds
+returns-clause-holds g c =
+    let at = (goal.at.returns-clause-holds g c).After-carry_out in
+    let same = volume_is g at in
+    held_then c.args.self.now.volume c.carry_out.new.held.volume (change_of c.args.change.now) c.args.stamp.now c.in_ok-plan.plan
+    (subst (λ (v : HeldVolume). IsPlanFor v (change_of c.args.change.now) c.args.stamp.now c.in_ok-plan.plan) (ap (λ (a : Accessed). a.volume) c.self.view_is) c.in_ok-plan.ensures.planned)
+    (subst (λ (v : HeldVolume). LeadsTo v c.in_ok-plan.plan c.carry_out.new.held.volume) same c.in_ok-carry_out.ensures.volume)

@@ -79,3 +79,6 @@ returns-clause-changes g c =
       same = record { vdev = refl; writable = refl; unit = on.0; disk = on.1 };
       kept = tt;
     })
+
+pub returns-clause-holds : goal.returns-clause-holds
+returns-clause-holds g c = rw (← c.self.view_is) c.in_ok-commit.ensures.volume

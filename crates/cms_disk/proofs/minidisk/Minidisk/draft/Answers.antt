@@ -38,3 +38,6 @@ returns-clause-begins c = rw (← c.self.view_is) (
     let e : Accessed = record { vdev = s.unit.vdev; writable = s.unit.writable; volume = c.plan_draft.new.held.volume; spare = c.plan_draft.new.held.spare } in
     let made = c.in_ok-draft.ensures in
     begins_put d e c.args.name.now c.args.shape.now c.args.stamp.now c.in_ok-draft.draft made.volume made.planned made.fresh)
+
+pub returns-clause-planned : goal.returns-clause-planned
+returns-clause-planned c = rw (← c.self.view_is) c.in_ok-draft.ensures.planned

@@ -96,3 +96,6 @@ returns-clause-limited g c = λ there writable which is.
     let at = subst (λ (v : HeldVolume). limit_put (length v.files) shape.count shape.bytes ≡ Some which) (sym view) is in
     let e = sym c.in_ok-draft.was ∙ c.plan_more.ensures.limited which at in
     absurd (cc e)
+
+pub returns-clause-planned : goal.returns-clause-planned
+returns-clause-planned g c = rw (← c.self.view_is) c.in_ok-draft.ensures.planned

@@ -3,4 +3,4 @@ use Rattle.cms_disk.proofs.Altering.{is_missing}
 use Rattle.cms_disk.proofs.minidisk.Minidisk.erase.Goals as goal
 
 pub returns-then-not-has-clause-alters : goal.returns-then-not-has-clause-alters
-returns-then-not-has-clause-alters g c = λ j m told is looked. (refl, is_missing j c.args.self.now m c.args.name.now c.has.result c.has.ensures c.if-not-has.true is)
+returns-then-not-has-clause-alters g c = λ j m told is. (refl, is_missing j c.args.self.now m c.args.name.now c.has.result c.has.ensures c.if-not-has.true is)

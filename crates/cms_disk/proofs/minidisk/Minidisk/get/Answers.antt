@@ -13,7 +13,7 @@ returns-in_err-place-clause-file g c =
     (c.in_err-place.ensures.absent (image_of (contents_of j c.args.self.now.volume.unit)) m stands))
 
 pub gather-requires-clause-fixed : goal.gather-requires-clause-fixed
-gather-requires-clause-fixed g c = fixed_is c.args.self.now.volume c.in_ok-place.place c.info-info.result c.in_ok-cursor.cursor c.info-info.ensures c.in_ok-cursor.ensures.first
+gather-requires-clause-fixed g c = fixed_is c.args.self.now.volume c.in_ok-place.place c.info-info.result c.in_ok-cursor.cursor c.info-info.ensures.info c.in_ok-cursor.ensures.first
 
 pub returns-in_err-gathered-clause-file : goal.returns-in_err-gathered-clause-file
 returns-in_err-gathered-clause-file g c =
@@ -36,7 +36,7 @@ returns-clause-valid g c =
     rw (c.length_of.ensures, c.take.ensures) (record {
       records = read.0;
       stands = data_stands c.args.self.now.volume c.in_ok-place.place info c.in_ok-cursor.cursor bytes most read.0
-          (record { keeps = c.in_ok-place.ensures.kept; info_is = c.info-info.ensures; first = c.in_ok-cursor.ensures.first; gathers = read.1 });
+          (record { keeps = c.in_ok-place.ensures.kept; info_is = c.info-info.ensures.info; first = c.in_ok-cursor.ensures.first; gathers = read.1 });
     })
 
 pub returns-clause-file : goal.returns-clause-file
@@ -51,7 +51,7 @@ returns-clause-file g c = λ j told m stands.
     let at : cursor.unit ≡ d.volume.unit = first.2.unit in
     rw (c.length_of.ensures, c.take.ensures)
     (gets_ok (image_of (contents_of j d.volume.unit)) c.args.name.now d m c.in_ok-place.place info cursor bytes most read.0 stands c.in_ok-place.ensures.place
-    (record { keeps = c.in_ok-place.ensures.kept; info_is = c.info-info.ensures; first = first; gathers = read.1 })
+    (record { keeps = c.in_ok-place.ensures.kept; info_is = c.info-info.ensures.info; first = first; gathers = read.1 })
     (λ all has. read.2 j told all (subst (λ (u : ℕ). HasLeft (image_of (contents_of j u)) cursor all) (sym at) has)))
 
 pub returns-clause-like : goal.returns-clause-like
@@ -61,7 +61,7 @@ returns-clause-like g c =
       place = c.in_ok-place.place;
       place_is = c.in_ok-place.ensures.place;
       info = info;
-      info_is = c.info-info.ensures;
+      info_is = c.info-info.ensures.info;
       format = refl;
       fixed = λ at. c.length_of.ensures ∙ fixed_length info.format info.length c.in_ok-gathered.gathered.longest at;
     }

@@ -9,23 +9,23 @@ use Rattle.cms_tree.proofs.Stepping.{units_kept}
 use Rattle.cms_held.proofs.Fronts.{if_err}
 use Rattle.cms_held.specs.Opening.{HeldVolume}
 use Rattle.cms_held.specs.Putting.{count_put, limit_put}
-use Rattle.cms_edf.specs.FileDrafts.{IsSomeDraft}
+use Rattle.cms_edf.specs.FileDrafts.{IsSomeDraft, LeadsToFile}
 use Rattle.cms_edf.proofs.Committed.{can_write}
 use Rattle.cms_journal.specs.Told.{Told}
 use Rattle.cms_draft.specs.Drafting.{HaveShape}
 use Rattle.cms_edf.specs.declared.draft.Draft.{Draft}
 use Rattle.cms_draft.specs.declared.shape.DraftShape.{DraftShape}
-use Rattle.cms_disk.specs.Changing.{Alters, IsDevices}
+use Rattle.cms_disk.specs.Changing.{Alters, IsDevices, IsPutIn}
 use Rattle.cms_disk.specs.Disks.{Accessed}
 use Rattle.cms_disk.specs.Drafts.{GoesOn, HaveCounts, IsDraftFault, IsPutFault, file_with, shape_of}
 use Rattle.cms_disk.specs.declared.fault.DiskFault.{DiskFault}
 use Rattle.cms_disk.specs.declared.fault.DiskFault.TheVariants.{Limit, ReadOnly}
-use Rattle.cms_disk.proofs.FilePut.{alters_same, are_last, changed_behind, device_is_fault, draft_is_fault, file_none, given_up, has_counts, has_shape, long_so, not_made, not_read_only, refused_so}
-use Rattle.cms_disk.proofs.Filling.{same_some}
+use Rattle.cms_disk.proofs.FilePut.{alters_same, are_last, changed_behind, device_is_fault, draft_is_fault, file_none, given_up, has_counts, has_shape, long_so, not_made, not_read_only, on_ok, put_in, refused_so}
+use Rattle.cms_disk.proofs.Filling.{same_draft, same_some}
 use Rattle.cms_disk.proofs.minidisk.Minidisk.put.Goals as goal
 
 pub returns-in_err-draft-clause-alters : goal.returns-in_err-draft-clause-alters
-returns-in_err-draft-clause-alters g c = λ j m records told is looked stands.
+returns-in_err-draft-clause-alters g c = λ j m records told is stands.
     let p = err_from_is_err_and c.from_residual.result c.from_residual.ensures.1 in
     let old = g.W.World.told c.args.world.now in
     let d = c.args.self.now in
@@ -57,7 +57,7 @@ put_records-requires-clause-ready g c = λ j told.
     can_write j.units c.args.self.now.volume c.in_ok-draft.draft c.in_ok-draft.ensures.some (c.requires.blocks j told) (c.requires.writable c.in_ok-draft.ensures.writable j told)
 
 pub returns-in_err-put_records-clause-alters : goal.returns-in_err-put_records-clause-alters
-returns-in_err-put_records-clause-alters g c = λ j m records told is looked stands.
+returns-in_err-put_records-clause-alters g c = λ j m records told is stands.
     let p = err_from_is_err_and c.from_residual-in_err-put_records.result c.from_residual-in_err-put_records.ensures.1 in
     let old = g.W.World.told c.args.world.now in
     let new = g.W.World.told c.put_records.new.world in
@@ -72,7 +72,7 @@ returns-in_err-put_records-clause-alters g c = λ j m records told is looked sta
     let change = Put (file_with name shape records) in
     let have = subst (λ (s : DraftShape). HaveShape s records) (sym eq) (has_shape c.args.file.now records stands) in
     let goes = subst (λ (t : Told). GoesOn t t e m draft change stamp [] records) (sym told)
-    (made.begins j m records is (c.requires.blocks j told) looked have (long_so c.args.file.now shape records eq stands)) in
+    (made.begins j m records is (c.requires.blocks j told) have (long_so c.args.file.now shape records eq stands)) in
     let g' = c.in_err-put_records.ensures.puts old e m change stamp [] records stands goes in
     let counts = subst (λ (s : DraftShape). HaveCounts s records) (sym eq) (has_counts c.args.file.now records stands) in
     subst (λ (s : DraftShape). Alters old new d e m (Put (file_with name s records)) stamp c.from_residual-in_err-put_records.result) eq
@@ -93,7 +93,7 @@ commit-requires-clause-writable g c = λ k told.
     (units_kept (λ (units : List Attached). IsWritable units c.args.self.now.volume.unit) _ _ c.in_ok-put_records.ensures.changes.grown (c.requires.writable c.in_ok-draft.ensures.writable) k told)
 
 pub returns-clause-alters : goal.returns-clause-alters
-returns-clause-alters g c = λ j m records told is looked stands.
+returns-clause-alters g c = λ j m records told is stands.
     let old = g.W.World.told c.args.world.now in
     let new = g.W.World.told c.commit.new.world in
     let d = c.args.self.now in
@@ -110,7 +110,7 @@ returns-clause-alters g c = λ j m records told is looked stands.
     let change = Put (file_with name shape records) in
     let have = subst (λ (s : DraftShape). HaveShape s records) (sym eq) (has_shape c.args.file.now records stands) in
     let begun = subst (λ (t : Told). GoesOn t t e m draft change stamp [] records) (sym told)
-    (made.begins j m records is (c.requires.blocks j told) looked have (long_so c.args.file.now shape records eq stands)) in
+    (made.begins j m records is (c.requires.blocks j told) have (long_so c.args.file.now shape records eq stands)) in
     let goes = put.puts old e m change stamp [] records stands begun in
     subst (λ (s : DraftShape). Alters old new d c.commit.new.self m (Put (file_with name s records)) stamp c.commit.result) eq
     (alters_same old new d e c.commit.new.self m (Put (file_with name shape records)) stamp c.commit.result volume writable
@@ -148,3 +148,15 @@ returns-clause-changes g c =
     let put = c.in_ok-put_records.ensures.changes in
     changed_behind (seen g.W.World c.args.world.now) (seen g.W.World c.put_records.new.world) (seen g.W.World c.commit.new.world) c.args.self.now c.draft.new.self c.commit.new.self c.commit.result
     put.grown put.faults put.edges c.in_ok-draft.ensures.kept c.commit.ensures.changes
+
+pub returns-clause-holds : goal.returns-clause-holds
+returns-clause-holds g c =
+    let d = c.args.self.now in
+    let name = c.args.name.now in
+    let volume = ap (λ (a : Accessed). a.volume) c.in_ok-draft.ensures.kept in
+    let planned = same_draft d.volume name c.shape_of-shape.result c.args.stamp.now c.in_ok-draft.draft c.put_records.new.draft c.in_ok-put_records.ensures.same c.in_ok-draft.ensures.planned in
+    on_ok c.commit.result
+    (λ leads. subst (λ (s : DraftShape). IsPutIn d.volume name s c.commit.new.self.volume) c.shape_of-shape.ensures.shape
+    (put_in d.volume c.commit.new.self.volume name c.shape_of-shape.result c.args.stamp.now c.put_records.new.draft planned
+    (subst (λ (v : HeldVolume). LeadsToFile v c.put_records.new.draft c.commit.new.self.volume) volume leads)))
+    c.commit.ensures.holds

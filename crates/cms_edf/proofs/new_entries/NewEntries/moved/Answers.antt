@@ -3,5 +3,5 @@ use Rattle.cms_held.specs.Opening.{Holding}
 use Rattle.cms_held.specs.Renewing.{entries_held, moved_entry}
 use Rattle.cms_edf.proofs.new_entries.NewEntries.moved.Goals as goal
 
-pub returns : goal.returns
-returns c = ap (λ (h : Holding). map (moved_entry c.args.pivot) (entries_held h.volume.files)) c.held.view_is
+pub returns-clause-entries : goal.returns-clause-entries
+returns-clause-entries c = ap (λ (h : Holding). map (moved_entry c.args.pivot) (entries_held h.volume.files)) c.held.view_is

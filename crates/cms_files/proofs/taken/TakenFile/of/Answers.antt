@@ -9,6 +9,6 @@ use Rattle.cms_files.proofs.taken.TakenFile.of.Goals as goal
 pub returns-clause-told : goal.returns-clause-told
 returns-clause-told c =
     let files = c.args.disk.now.volume.files in
-    let at = c.info.ensures in
+    let at = c.info.ensures.info in
     let same : c.mode_number.result ≡ c.info.result.number = rw at at c.mode_number.ensures.told in
     told_listed files c.args.place ∙ ap (λ (x : Option FileInfo). option_map told_of x) at ∙ rw same refl

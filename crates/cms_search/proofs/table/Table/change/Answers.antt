@@ -1,4 +1,4 @@
-use Rattle.std.proofs.Common.{ap}
+use Rattle.std.proofs.Common.{refl}
 use Rattle.cms_world.specs.Seen.{seen}
 use Rattle.cms_edf.specs.Planning.{change_of}
 use Rattle.cms_disk.specs.Disks.{Accessed}
@@ -7,31 +7,22 @@ use Rattle.cms_search.specs.Tables.{Seated}
 use Rattle.cms_search.specs.contracts.seated.Seated as seats
 use Rattle.cms_search.specs.contracts.table.Table.{the_view}
 use Rattle.cms_search.proofs.Seats.{seat_changed, seat_lost, table_kept}
-use Rattle.cms_search.proofs.table.Table.change.Goals.{in-Some, in-None}
 use Rattle.cms_search.proofs.table.Table.change.Goals as goal
+
+pub unreachable-requires : goal.unreachable-requires
+unreachable-requires g c =
+    seat_lost (the_view c.self.inside) _ c.args.letter _ c.self.view_is c.requires.accessed c.index_mut.ensures.value c.in-None.is
 
 pub invariant_of-self : goal.invariant_of-self
 invariant_of-self g c =
-    let t = the_view c.self.inside in
-    elim c.match-index_mut.branch [
-      | in-Some w ↦
-          let e = w.self-inside-is in
-          rw e (table_kept t _ c.args.letter _ c.self.view_is c.requires.accessed c.index_mut.ensures.value
-          (seats.the_view w.seat.inside) _ w.change_minidisk.new.disk c.self.invariant w.in-Some.is w.seat.view_is)
-      | in-None w ↦ absurd (seat_lost t _ c.args.letter _ c.self.view_is c.requires.accessed c.index_mut.ensures.value w.in-None.is)
-    ]
+    table_kept (the_view c.self.inside) _ c.args.letter _ c.self.view_is c.requires.accessed c.index_mut.ensures.value
+    (seats.the_view c.seat.inside) _ c.change_minidisk.new.disk c.self.invariant c.in-Some.is c.seat.view_is
 
 pub returns : goal.returns
 returns g c =
     let t = the_view c.self.inside in
-    elim c.match-index_mut.branch [
-      | in-Some w ↦
-          let world = w.world-is in
-          let result = w.result-is in
-          rw (world, result) (seat_changed t _ c.args.letter _ c.self.view_is c.requires.accessed c.index_mut.ensures.value
-          (λ (s : Seated) (e : Accessed). ChangesTo (seen g.W.World c.args.world.now) (seen g.W.World w.change_minidisk.new.world)
-          s.disk e (change_of c.args.change.now) c.args.stamp.now w.change_minidisk.result)
-          (the_view c.match-index_mut.self-inside) (seats.the_view w.seat.inside) _ w.change_minidisk.new.disk w.in-Some.is w.seat.view_is (ap the_view w.self-inside-is)
-          w.change_minidisk.ensures)
-      | in-None w ↦ absurd (seat_lost t _ c.args.letter _ c.self.view_is c.requires.accessed c.index_mut.ensures.value w.in-None.is)
-    ]
+    seat_changed t _ c.args.letter _ c.self.view_is c.requires.accessed c.index_mut.ensures.value
+    (λ (s : Seated) (e : Accessed). ChangesTo (seen g.W.World c.args.world.now) (seen g.W.World c.change_minidisk.new.world)
+    s.disk e (change_of c.args.change.now) c.args.stamp.now c.change_minidisk.result)
+    _ (seats.the_view c.seat.inside) _ c.change_minidisk.new.disk c.in-Some.is c.seat.view_is refl
+    c.change_minidisk.ensures

@@ -15,13 +15,13 @@ returns-in_err-place c =
 pub returns-then-may_find : goal.returns-then-may_find
 returns-then-may_find c =
     let place = subst (λ (x : Seated). place_of c.args.name.now x.disk.volume ≡ Some c.in_ok-place.place) c.seat.view_is (sym c.in_ok-place.ensures) in
-    let told = subst (λ (x : Seated). slice_get (infos_in x.disk.volume) c.in_ok-place.place ≡ Some c.info-info.result) c.seat.view_is c.info-info.ensures in
+    let told = subst (λ (x : Seated). slice_get (infos_in x.disk.volume) c.in_ok-place.place ≡ Some c.info-info.result) c.seat.view_is c.info-info.ensures.info in
     sym (placed_some c.args.self.now c.args.mode.now c.args.name.now c.args.letter c.in_ok-seat.seat.now c.in_ok-place.place c.info-info.result true
     (sym c.in_ok-seat.ensures.seat) place told (sym c.may_find.ensures ∙ c.if-may_find.true))
 
 pub returns-else-may_find : goal.returns-else-may_find
 returns-else-may_find c =
     let place = subst (λ (x : Seated). place_of c.args.name.now x.disk.volume ≡ Some c.in_ok-place.place) c.seat.view_is (sym c.in_ok-place.ensures) in
-    let told = subst (λ (x : Seated). slice_get (infos_in x.disk.volume) c.in_ok-place.place ≡ Some c.info-info.result) c.seat.view_is c.info-info.ensures in
+    let told = subst (λ (x : Seated). slice_get (infos_in x.disk.volume) c.in_ok-place.place ≡ Some c.info-info.result) c.seat.view_is c.info-info.ensures.info in
     sym (placed_some c.args.self.now c.args.mode.now c.args.name.now c.args.letter c.in_ok-seat.seat.now c.in_ok-place.place c.info-info.result false
     (sym c.in_ok-seat.ensures.seat) place told (sym c.may_find.ensures ∙ c.if-may_find.false))

@@ -2,7 +2,7 @@
 use Rattle.std.proofs.lemmas.List.Elements.{All-nil}
 use Rattle.cms_held.specs.Written.{ReadsBack}
 use Rattle.cms_edf.proofs.Planned.{more_back}
-use Rattle.cms_edf.proofs.planning.spell_entries.Goals as goal
+use Rattle.cms_edf.proofs.new_entries.spell_entries.Goals as goal
 
 pub loop-nth-init : goal.loop-nth-init
 loop-nth-init c = record { back = All-nil ReadsBack }
