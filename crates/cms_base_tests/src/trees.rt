@@ -109,7 +109,8 @@ fn tree_image(alloc: Global) -> Result<Vec<u8>, AllocError> {
 
 // The image as a unit.
 fn attach(world: &mut MemWorld) -> Option<Unit>
-    ensures { IfSome result (λ unit. HasBlocks (journal_of world.new).units unit.number unit.blocks 512) }
+    ensures { IfSome result
+        (λ unit. HasBlocks (journal_of world.new).units unit.number unit.blocks 512) }
 {
     if world.units() >= 256 {
         return None;
@@ -124,7 +125,8 @@ fn attach(world: &mut MemWorld) -> Option<Unit>
 fn read(alloc: Global, world: &mut MemWorld, at: &TreeAt) -> Result<String, AllocError>
     requires some { 1 ≤ at.now.count }
     requires psize { at.now.psize ≡ 12 }
-    requires blocks { HasBlocks (journal_of world.old).units at.now.unit at.now.volume at.now.bsize }
+    requires blocks { HasBlocks (journal_of world.old).units at.now.unit at.now.volume
+        at.now.bsize }
 {
     let mut pointers = vec![in alloc; 1]?;
     let mut found = vec![in alloc; 2]?;

@@ -106,7 +106,8 @@ pub fn read_entry(bytes: &[u8], bsize: BlockSize) -> Result<Entry, EntryFault>
 #[tactic(auto, unfolding(crate::specs::Entries::entry_fields))]
 fn fields_in(bytes: &[u8], name: Name, number: u8, format: Format) -> Entry
     requires { 64 ≤ length bytes.now }
-    ensures { name ≡ name_at bytes.now → number ≡ byte bytes.now 25 - 0xF0 → format ≡ format_at bytes.now
+    ensures { name ≡ name_at bytes.now → number ≡ byte bytes.now 25 - 0xF0
+        → format ≡ format_at bytes.now
         → result ≡ entry_fields bytes.now }
 {
     Entry {
@@ -130,7 +131,8 @@ pub fn write_entry(entry: &Entry, into: &mut [u8])
     requires number { entry.now.number ≤ 6 }
     requires stamp { is_stamp entry.now.stamp ≡ true }
     ensures written { into.new ≡ entry_bytes entry.now }
-    ensures spells { (bsize : ℕ) → passes bsize entry.now ≡ true → entry_of bsize into.new ≡ Ok entry.now }
+    ensures spells { (bsize : ℕ) → passes bsize entry.now ≡ true
+        → entry_of bsize into.new ≡ Ok entry.now }
 {
     into.fill(0);
     put(into, 0, entry.name.file.padded());

@@ -15,7 +15,8 @@ use cms_text::bytes::{put, put_word};
 pub fn first_fields(label: &Label, stamp: &Stamp) -> [u8; 80]
     requires { is_stamp stamp.now ≡ true }
     ensures bytes { result ≡ first_fields label.now stamp.now }
-    ensures spells { is_origin label.now.origin ≡ true → 6 ≤ label.now.blocks → (rest : List ℕ) (blocks : ℕ) → label.now.blocks ≤ blocks
+    ensures spells { is_origin label.now.origin ≡ true → 6 ≤ label.now.blocks
+        → (rest : List ℕ) (blocks : ℕ) → label.now.blocks ≤ blocks
         → label_of label.now.bsize blocks (result ++ rest) ≡ Ok label.now }
 {
     let Label {

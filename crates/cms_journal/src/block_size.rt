@@ -35,7 +35,8 @@ impl BlockSize {
 
     /// The size of so many bytes; none where they aren't 512, 1024, 2048 or 4096.
     pub fn of(bytes: u32) -> Option<Self>
-        ensures { MatchOption result (IsBlockSize bytes → ⊥) (λ size. (size ≡ bytes) × IsBlockSize bytes) }
+        ensures { MatchOption result (IsBlockSize bytes → ⊥)
+            (λ size. (size ≡ bytes) × IsBlockSize bytes) }
     {
         match bytes {
             512 | 1024 | 2048 | 4096 => Some(BlockSize { bytes }),

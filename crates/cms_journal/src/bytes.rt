@@ -78,7 +78,8 @@ impl Blocks {
     pub fn cut(alloc: Global, bytes: &[u8], size: usize) -> Result<Self, AllocError>
         requires { 0 < size }
         ensures blocks { IfOk result (λ blocks. blocks ≡ cut size bytes.now) }
-        ensures joined { IfOk result (λ blocks. concat blocks ≡ take (length bytes.now / size * size) bytes.now) }
+        ensures joined { IfOk result (λ blocks. concat blocks
+            ≡ take (length bytes.now / size * size) bytes.now) }
         ensures sizes { IfOk result (λ blocks. All (λ block. length block ≡ size) blocks) }
         ensures count { IfOk result (λ blocks. length blocks ≡ length bytes.now / size) }
     {

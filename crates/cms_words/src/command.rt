@@ -22,7 +22,8 @@ fn cms_command<'a>(alloc: Global) -> Result<Command<'a>, AllocError>
 /// What clap finds in the words: it takes them, or its own definition doesn't take them, or there is no memory.
 pub fn find_words<'a>(alloc: Global, words: &'a [&'a str]) -> Result<ArgMatches<'a>, Error>
     ensures taken { IfOk result (λ m. are_taken (map (λ s. s.now) words.entry.now) ≡ true) }
-    ensures found { IfOk result (λ m. rows_of (found_of m) ≡ rows_in (map (λ s. s.now) words.entry.now)) }
+    ensures found { IfOk result (λ m. rows_of (found_of m)
+        ≡ rows_in (map (λ s. s.now) words.entry.now)) }
     ensures refused { IfErr result (λ e. (kind_of e ≡ ErrorKind.OutOfMemory)
         ⊎ (are_taken (map (λ s. s.now) words.entry.now) ≡ false)) }
 {

@@ -62,21 +62,24 @@ fn units(alloc: Global, matches: &ArgMatches<'_>) -> Result<UnitWords, WordFault
 
 #[tactic(auto, using(crate::proofs::CommandLemmas::value_found))]
 fn turns_word<'a>(matches: &ArgMatches<'a>) -> Option<&'a str>
-    ensures { option_map (λ s. s.now) result ≡ value_in (codes "turns") (rows_of (found_of matches.now)) }
+    ensures { option_map (λ s. s.now) result
+        ≡ value_in (codes "turns") (rows_of (found_of matches.now)) }
 {
     matches.get_str("turns")
 }
 
 #[tactic(auto, using(crate::proofs::CommandLemmas::value_found))]
 fn zone_word<'a>(matches: &ArgMatches<'a>) -> Option<&'a str>
-    ensures { option_map (λ s. s.now) result ≡ value_in (codes "zone") (rows_of (found_of matches.now)) }
+    ensures { option_map (λ s. s.now) result
+        ≡ value_in (codes "zone") (rows_of (found_of matches.now)) }
 {
     matches.get_str("zone")
 }
 
 #[tactic(auto, using(crate::proofs::CommandLemmas::value_found))]
 fn seed_word<'a>(matches: &ArgMatches<'a>) -> Option<&'a str>
-    ensures { option_map (λ s. s.now) result ≡ value_in (codes "seed") (rows_of (found_of matches.now)) }
+    ensures { option_map (λ s. s.now) result
+        ≡ value_in (codes "seed") (rows_of (found_of matches.now)) }
 {
     matches.get_str("seed")
 }

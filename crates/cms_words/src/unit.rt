@@ -85,7 +85,8 @@ struct Fields<'a> {
 
 #[tactic(auto, using(crate::proofs::UnitLemmas::without_name), unfolding(crate::specs::UnitWords::unit_word_of))]
 fn split_fields(word: &str) -> Option<Fields<'_>>
-    ensures { MatchOption result (unit_word_of word.now ≡ None) (λ parts. AreFields parts word.now) }
+    ensures { MatchOption result (unit_word_of word.now ≡ None)
+        (λ parts. AreFields parts word.now) }
 {
     let (device, rest) = word.split_once(',')?;
     let (size, rest) = rest.split_once(',')?;

@@ -13,6 +13,7 @@ pub record Quiet : Type 0 where
   pub units : List QuietUnit
   pub next : ℕ
 
+-- what calls see of this world
 abbrev pub quiet_of : QuietWorld → Quiet
 quiet_of w = record { images = w.images; script = w.script; units = w.units; next = w.next }
 
@@ -24,5 +25,6 @@ no_unit = record { image = None; bsize = 0; blocks = 0; writable = false }
 abbrev pub told_of : QuietWorld → Option Journal
 told_of w = None
 
+-- such a count, which is always 0
 abbrev pub count_of : QuietWorld → ℕ
 count_of w = 0

@@ -22,11 +22,13 @@ pub fn attach_image(
     requires size { 0 < bsize }
     requires room { length recorder.old.units < 256 }
     requires fresh { standing ≡ None → NoneIsNamed recorder.old.units name.now }
-    ensures start { IfOk result (λ attached. option_map (λ unit. start_of recorder.new.units unit.number) attached
+    ensures start { IfOk result (λ attached. option_map
+        (λ unit. start_of recorder.new.units unit.number) attached
         ≡ starting (option_map (λ bytes. bytes.items) standing) access bsize) }
     ensures attached { IfOk result (λ attached. IfSome attached (λ unit. IsAttached recorder.old
         (Some recorder.new) name.now bsize access unit.number unit.blocks)) }
-    ensures held { IfOk result (λ attached. IfSome attached (λ unit. HasBlocks recorder.new.units unit.number unit.blocks bsize)) }
+    ensures held { IfOk result (λ attached. IfSome attached
+        (λ unit. HasBlocks recorder.new.units unit.number unit.blocks bsize)) }
     ensures writable { IfOk result (λ attached. IfSome attached (λ unit. IsTrue (may_write access)
         → IsWritable recorder.new.units unit.number)) }
     ensures none { IfOk result (λ attached. IfNone attached (recorder.new ≡ recorder.old)) }
@@ -52,9 +54,12 @@ fn attach_blocks(
     requires made { IsMade access bsize start }
     requires fresh { IsFresh access recorder.old.units name.now }
     ensures start { IfOk result (λ unit. start_of recorder.new.units unit.number ≡ start) }
-    ensures attached { IfOk result (λ unit. IsAttached recorder.old (Some recorder.new) name.now bsize access unit.number unit.blocks) }
-    ensures held { IfOk result (λ unit. HasBlocks recorder.new.units unit.number unit.blocks bsize) }
-    ensures writable { IfOk result (λ unit. IsTrue (may_write access) → IsWritable recorder.new.units unit.number) }
+    ensures attached { IfOk result (λ unit.
+        IsAttached recorder.old (Some recorder.new) name.now bsize access unit.number unit.blocks) }
+    ensures held { IfOk result (λ unit.
+        HasBlocks recorder.new.units unit.number unit.blocks bsize) }
+    ensures writable { IfOk result (λ unit. IsTrue (may_write access)
+        → IsWritable recorder.new.units unit.number) }
     ensures err { OnErr result (recorder.new ≡ recorder.old) }
 {
     // a unit of more blocks than 32 bits count would take 2 TB of memory

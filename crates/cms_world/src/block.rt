@@ -26,7 +26,8 @@ pub fn read_block<W: World>(
     bsize: u32,
 ) -> Result<Vec<u8>, ReadFault>
     requires { ForSome (W.told world.old) (λ j. HasBlock j.units unit block bsize) }
-    ensures bytes { IfOk result (λ v. ForSome (W.told world.old) (λ j. v.items ≡ block_of j unit block)) }
+    ensures bytes { IfOk result (λ v. ForSome (W.told world.old)
+        (λ j. v.items ≡ block_of j unit block)) }
     ensures size { IfOk result (λ v. vec_len v ≡ bsize) }
     ensures reads { OnlyReads (seen W.World world.old) (seen W.World world.new) Device result }
 {

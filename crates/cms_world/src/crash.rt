@@ -59,7 +59,8 @@ fn image_of(
     start: &Blocks,
     choice: u64,
 ) -> Result<Vec<u8>, AllocError>
-    ensures { IfOk result (λ image. image.items ≡ concat (chosen_image (reverse events.now) unit choice start.now)) }
+    ensures { IfOk result (λ image. image.items
+        ≡ concat (chosen_image (reverse events.now) unit choice start.now)) }
 {
     let mut image = Vec::new(alloc);
     let mut count: usize = 0;
@@ -86,7 +87,8 @@ pub fn image_at(
     requires { at ≤ length events.now }
     ensures chosen { IfOk result (λ image. image.items ≡ concat (chosen_image
         (first_events at (reverse events.now)) unit choice start.now)) }
-    ensures crash { IfOk result (λ image. HoldsCrashImage (first_events at (reverse events.now)) unit start.now image.items) }
+    ensures crash { IfOk result (λ image.
+        HoldsCrashImage (first_events at (reverse events.now)) unit start.now image.items) }
 {
     image_of(alloc, &events[..at], unit, start, choice)
 }

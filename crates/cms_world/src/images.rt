@@ -45,7 +45,8 @@ pub fn starting_blocks(
     access: Access,
 ) -> Result<Option<Blocks>, AllocError>
     requires { 0 < bsize }
-    ensures start { IfOk result (λ start. start ≡ starting (option_map (λ bytes. bytes.items) standing) access bsize) }
+    ensures start { IfOk result (λ start. start
+        ≡ starting (option_map (λ bytes. bytes.items) standing) access bsize) }
     ensures sizes { IfOk result (λ start. IfSome start (All (λ block. length block ≡ bsize))) }
     ensures made { IfOk result (λ start. IfSome start (IsMade access bsize)) }
 {

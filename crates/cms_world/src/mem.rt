@@ -43,7 +43,8 @@ impl MemWorld {
     /// call, held at the greatest `i64`.
     pub fn new(alloc: Global, script: &[u8], start: i64) -> Result<MemWorld, AllocError>
         ensures journal { IfOk result (λ w. journal_of w ≡ record { units = []; events = [] }) }
-        ensures rest { IfOk result (λ w. rest_of w ≡ record { script = script.now; clock = start; images = []; failing = [] }) }
+        ensures rest { IfOk result (λ w. rest_of w
+            ≡ record { script = script.now; clock = start; images = []; failing = [] }) }
         ensures calls { IfOk result (λ w. calls_of w ≡ []) }
         ensures faults { IfOk result (λ w. faults_of w ≡ 0) }
         ensures edges { IfOk result (λ w. edges_of w ≡ 0) }
@@ -63,8 +64,10 @@ impl MemWorld {
     /// Gives an image; one of that name is replaced. Units that are attached don't see it.
     pub fn add_image(&mut self, name: &str, bytes: &[u8]) -> Result<(), AllocError>
         ensures given { OnOk result (standing_of self.new name.now ≡ Some bytes.now) }
-        ensures others { (other : List ℕ) → other ≢ name.now → image_of self.new other ≡ image_of self.old other }
-        ensures rest { rest_of self.new ≡ record (rest_of self.old) { images = images_of self.new } }
+        ensures others { (other : List ℕ) → other ≢ name.now
+            → image_of self.new other ≡ image_of self.old other }
+        ensures rest { rest_of self.new
+            ≡ record (rest_of self.old) { images = images_of self.new } }
         ensures err { OnErr result (images_of self.new ≡ images_of self.old) }
         ensures still { IsStill self.old self.new }
     {
@@ -81,8 +84,10 @@ impl MemWorld {
     /// it `lands`, and is no call where no memory is left for that. Of two plans for one call the later holds.
     pub fn fail_at(&mut self, call: u32, lands: bool) -> Result<(), AllocError>
         ensures planned { OnOk result (planned_of self.new call ≡ Some lands) }
-        ensures others { (other : ℕ) → other ≢ call → planned_of self.new other ≡ planned_of self.old other }
-        ensures rest { rest_of self.new ≡ record (rest_of self.old) { failing = (rest_of self.new).failing } }
+        ensures others { (other : ℕ) → other ≢ call
+            → planned_of self.new other ≡ planned_of self.old other }
+        ensures rest { rest_of self.new
+            ≡ record (rest_of self.old) { failing = (rest_of self.new).failing } }
         ensures err { OnErr result (rest_of self.new ≡ rest_of self.old) }
         ensures still { IsStill self.old self.new }
     {
@@ -154,8 +159,10 @@ impl MemWorld {
         requires unit { HasUnit (journal_of self.now).units unit }
         requires at { at ≤ length (journal_of self.now).events }
         ensures chosen { IfOk result (λ image. let j = journal_of self.now in image.items
-            ≡ concat (chosen_image (first_events at j.events) unit choice (start_of j.units unit))) }
-        ensures crash { IfOk result (λ image. let j = journal_of self.now in HoldsCrashImage (first_events at j.events) unit
+            ≡ concat (chosen_image (first_events at j.events) unit choice
+            (start_of j.units unit))) }
+        ensures crash { IfOk result (λ image.
+            let j = journal_of self.now in HoldsCrashImage (first_events at j.events) unit
             (start_of j.units unit) image.items) }
     {
         self.recorder.crash(alloc, unit, at, choice)
@@ -183,8 +190,10 @@ impl MemWorld {
 
     // The bytes that stand under a name by now.
     fn standing(&self, name: &str) -> Result<Option<Vec<u8>>, AllocError>
-        ensures standing { IfOk result (λ standing. option_map (λ bytes. bytes.items) standing ≡ standing_of self.now name.now) }
-        ensures absent { IfOk result (λ standing. standing ≡ None → NoneIsNamed (journal_of self.now).units name.now) }
+        ensures standing { IfOk result (λ standing. option_map (λ bytes. bytes.items) standing
+            ≡ standing_of self.now name.now) }
+        ensures absent { IfOk result (λ standing. standing ≡ None
+            → NoneIsNamed (journal_of self.now).units name.now) }
     {
         let recorder = &self.recorder;
         match self.images.get(name) {
@@ -230,11 +239,13 @@ impl World for MemWorld {
         requires room { ForSome (told_of self.old) (λ j. length j.units < 256) }
         ensures attached { IfOk result (λ unit. ForSome (told_of self.old)
             (λ j. IsAttached j (told_of self.new) name.now bsize access unit.number unit.blocks)) }
-        ensures held { IfOk result (λ unit. ForSome (told_of self.new) (λ j. HasBlocks j.units unit.number unit.blocks bsize)) }
+        ensures held { IfOk result (λ unit. ForSome (told_of self.new)
+            (λ j. HasBlocks j.units unit.number unit.blocks bsize)) }
         ensures writable { IfOk result (λ unit. IsTrue (may_write access)
             → ForSome (told_of self.new) (λ j. IsWritable j.units unit.number)) }
         ensures silent { told_of self.old ≡ None → told_of self.new ≡ None }
-        ensures failed { OnErr result (MayAdd (Missed name.now bsize access) (told_of self.old) (told_of self.new)) }
+        ensures failed { OnErr result (MayAdd (Missed name.now bsize access) (told_of self.old)
+            (told_of self.new)) }
         ensures cause { HasCause (edges_of self.old) (edges_of self.new) result }
         ensures faults { faults_of self.new ≡ faults_of self.old }
 
@@ -263,7 +274,8 @@ impl World for MemWorld {
     // What the trait says, and nothing else is changed.
     fn read_block(&mut self, unit: u8, block: u32, into: &mut [u8]) -> Result<(), Failed>
         requires { ForSome (told_of self.old) (λ j. HasBlock j.units unit block (length into.old)) }
-        ensures bytes { OnOk result (ForSome (told_of self.old) (λ j. into.new ≡ block_of j unit block)) }
+        ensures bytes { OnOk result (ForSome (told_of self.old)
+            (λ j. into.new ≡ block_of j unit block)) }
         ensures told { told_of self.new ≡ told_of self.old }
         ensures cause { HasCause (faults_of self.old) (faults_of self.new) result }
         ensures edges { edges_of self.new ≡ edges_of self.old }
@@ -281,14 +293,18 @@ impl World for MemWorld {
     // What the trait says; and a failed write adds its event where it was planned to land, or finds no memory and isn't written
     // down. Else it adds nothing.
     fn write_block(&mut self, unit: u8, block: u32, from: &[u8]) -> Result<(), Failed>
-        requires block { ForSome (told_of self.old) (λ j. HasBlock j.units unit block (length from.now)) }
+        requires block { ForSome (told_of self.old)
+            (λ j. HasBlock j.units unit block (length from.now)) }
         requires writable { ForSome (told_of self.old) (λ j. IsWritable j.units unit) }
-        ensures wrote { OnOk result (told_of self.new ≡ adds (Wrote unit block from.now) (told_of self.old)) }
-        ensures failed { OnErr result (MayAdd (Wrote unit block from.now) (told_of self.old) (told_of self.new)) }
+        ensures wrote { OnOk result (told_of self.new
+            ≡ adds (Wrote unit block from.now) (told_of self.old)) }
+        ensures failed { OnErr result (MayAdd (Wrote unit block from.now) (told_of self.old)
+            (told_of self.new)) }
         ensures cause { HasCause (faults_of self.old) (faults_of self.new) result }
         ensures edges { edges_of self.new ≡ edges_of self.old }
 
-        ensures dropped { OnErr result (planned_next self.old ≢ Some true → journal_of self.new ≡ journal_of self.old) }
+        ensures dropped { OnErr result (planned_next self.old ≢ Some true
+            → journal_of self.new ≡ journal_of self.old) }
         ensures landed { OnErr result (planned_next self.old ≡ Some true
             → (told_of self.new ≡ adds (Wrote unit block from.now) (told_of self.old))
             ⊎ (calls_of self.new ≡ calls_of self.old)) }
@@ -331,13 +347,16 @@ impl World for MemWorld {
     fn read(&mut self, into: &mut [u8]) -> Result<usize, Failed>
         requires { 0 < length into.old }
         ensures within { IfOk result (λ n. n ≤ length into.old) }
-        ensures bytes { IfOk result (λ n. told_of self.new ≡ adds (Read (take n into.new)) (told_of self.old)) }
+        ensures bytes { IfOk result (λ n. told_of self.new
+            ≡ adds (Read (take n into.new)) (told_of self.old)) }
         ensures failed { OnErr result (told_of self.new ≡ told_of self.old) }
         ensures cause { HasCause (edges_of self.old) (edges_of self.new) result }
         ensures faults { faults_of self.new ≡ faults_of self.old }
 
-        ensures next { IfOk result (λ n. take n into.new ≡ take (length into.old) (rest_of self.old).script) }
-        ensures rest { IfOk result (λ n. rest_of self.new ≡ record (rest_of self.old) { script = drop n (rest_of self.old).script }) }
+        ensures next { IfOk result (λ n. take n into.new
+            ≡ take (length into.old) (rest_of self.old).script) }
+        ensures rest { IfOk result (λ n. rest_of self.new
+            ≡ record (rest_of self.old) { script = drop n (rest_of self.old).script }) }
         ensures kept { OnErr result (rest_of self.new ≡ rest_of self.old) }
         ensures called { IsCalled READ self.old self.new result }
     {
@@ -355,7 +374,8 @@ impl World for MemWorld {
     fn type_out(&mut self, from: &[u8]) -> Result<usize, Failed>
         requires { 0 < length from.now }
         ensures within { IfOk result (λ n. (0 < n) × (n ≤ length from.now)) }
-        ensures typed { IfOk result (λ n. told_of self.new ≡ adds (Typed (take n from.now)) (told_of self.old)) }
+        ensures typed { IfOk result (λ n. told_of self.new
+            ≡ adds (Typed (take n from.now)) (told_of self.old)) }
         ensures failed { OnErr result (told_of self.new ≡ told_of self.old) }
         ensures cause { HasCause (edges_of self.old) (edges_of self.new) result }
         ensures faults { faults_of self.new ≡ faults_of self.old }
@@ -380,7 +400,8 @@ impl World for MemWorld {
         ensures faults { faults_of self.new ≡ faults_of self.old }
 
         ensures clock { IfOk result (λ t. t ≡ (rest_of self.old).clock) }
-        ensures rest { OnOk result (rest_of self.new ≡ record (rest_of self.old) { clock = next_second (rest_of self.old).clock }) }
+        ensures rest { OnOk result (rest_of self.new
+            ≡ record (rest_of self.old) { clock = next_second (rest_of self.old).clock }) }
         ensures kept { OnErr result (rest_of self.new ≡ rest_of self.old) }
         ensures called { IsCalled NOW self.old self.new result }
     {

@@ -67,7 +67,8 @@ impl Plan {
 
     /// The call with this number, from 0, is to fail; `lands` says whether what it writes stands all the same.
     pub fn fail_at(&mut self, call: u32, lands: bool) -> Result<(), AllocError>
-        ensures ok { OnOk result (self.new.failing.items ≡ self.old.failing.items ++ record { call = call; lands = lands } ∷ []) }
+        ensures ok { OnOk result (self.new.failing.items
+            ≡ self.old.failing.items ++ record { call = call; lands = lands } ∷ []) }
         ensures err { OnErr result (self.new.failing.items ≡ self.old.failing.items) }
         ensures calls { self.new.calls.items ≡ self.old.calls.items }
     {

@@ -386,7 +386,8 @@ impl World for QuietWorld {
 /// A quiet world never fails: its counts are 0, and no call answers a failure, which would raise one of them. The clauses are those of
 /// `attach`, of the three calls on units, of `read` and `type_out`, and of `now`.
 pub fn quiet_laws()
-    ensures counts { (w : QuietWorld) → (⟦<QuietWorld as World>⟧.faults w ≡ 0) × (⟦<QuietWorld as World>⟧.edges w ≡ 0) }
+    ensures counts { (w : QuietWorld) → (⟦<QuietWorld as World>⟧.faults w ≡ 0)
+        × (⟦<QuietWorld as World>⟧.edges w ≡ 0) }
     ensures attach { NeverFails ⟦<QuietWorld as World>⟧.edges Unit }
     ensures unit { NeverFails ⟦<QuietWorld as World>⟧.faults ⊤ }
     ensures bytes { NeverFails ⟦<QuietWorld as World>⟧.edges ℕ }

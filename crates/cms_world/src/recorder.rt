@@ -51,7 +51,8 @@ impl Recorder {
     /// Adds an event that is no write and isn't typed.
     pub fn add(&mut self, event: Event) -> Result<(), AllocError>
         requires { MayHappen self.old.units event }
-        ensures ok { OnOk result (self.new ≡ record { units = self.old.units; events = event ∷ self.old.events }) }
+        ensures ok { OnOk result (self.new
+            ≡ record { units = self.old.units; events = event ∷ self.old.events }) }
         ensures err { OnErr result (self.new ≡ self.old) }
     {
         self.events.push(event)?;
@@ -60,7 +61,8 @@ impl Recorder {
 
     /// Adds bytes that were typed.
     pub fn add_typed(&mut self, alloc: Global, bytes: &[u8]) -> Result<(), AllocError>
-        ensures ok { OnOk result (self.new ≡ record { units = self.old.units; events = Typed bytes.now ∷ self.old.events }) }
+        ensures ok { OnOk result (self.new
+            ≡ record { units = self.old.units; events = Typed bytes.now ∷ self.old.events }) }
         ensures err { OnErr result (self.new ≡ self.old) }
     {
         let event = Event::Typed(Bytes::of(alloc, bytes)?);
@@ -84,7 +86,11 @@ impl Recorder {
         bytes: &[u8],
     ) -> Result<(), AllocError>
         requires { HasBlock self.old.units unit block (length bytes.now) }
-        ensures ok { OnOk result (self.new ≡ record { units = self.old.units; events = Wrote unit block bytes.now ∷ self.old.events }) }
+        ensures ok { OnOk result (self.new
+            ≡ record {
+              units = self.old.units;
+              events = Wrote unit block bytes.now ∷ self.old.events;
+            }) }
         ensures err { OnErr result (self.new ≡ self.old) }
     {
         let written = Bytes::of(alloc, bytes)?;
@@ -96,7 +102,8 @@ impl Recorder {
 
     /// Adds bytes that were read from the console.
     pub fn add_read(&mut self, alloc: Global, bytes: &[u8]) -> Result<(), AllocError>
-        ensures ok { OnOk result (self.new ≡ record { units = self.old.units; events = Read bytes.now ∷ self.old.events }) }
+        ensures ok { OnOk result (self.new
+            ≡ record { units = self.old.units; events = Read bytes.now ∷ self.old.events }) }
         ensures err { OnErr result (self.new ≡ self.old) }
     {
         self.add(Event::Read(Bytes::of(alloc, bytes)?))
@@ -110,7 +117,11 @@ impl Recorder {
         bsize: u32,
         access: Access,
     ) -> Result<(), AllocError>
-        ensures ok { OnOk result (self.new ≡ record { units = self.old.units; events = Missed name.now bsize access ∷ self.old.events }) }
+        ensures ok { OnOk result (self.new
+            ≡ record {
+              units = self.old.units;
+              events = Missed name.now bsize access ∷ self.old.events;
+            }) }
         ensures err { OnErr result (self.new ≡ self.old) }
     {
         self.add(Event::Missed(Bytes::of(alloc, name.as_bytes())?, bsize, access))
@@ -119,7 +130,8 @@ impl Recorder {
     /// Attaches a unit with its starting blocks.
     pub fn attach(&mut self, alloc: Global, unit: Attached) -> Result<(), AllocError>
         requires { All (λ block. length block ≡ unit.bsize) unit.start }
-        ensures ok { OnOk result (self.new ≡ record { units = self.old.units ++ unit ∷ []; events = self.old.events }) }
+        ensures ok { OnOk result (self.new
+            ≡ record { units = self.old.units ++ unit ∷ []; events = self.old.events }) }
         ensures untouched { OnOk result (IsUntouched self.old.events (length self.old.units)) }
         ensures err { OnErr result (self.new ≡ self.old) }
     {
@@ -156,7 +168,8 @@ impl Recorder {
         since: usize,
         bytes: &[u8],
     ) -> Result<Vec<u8>, AllocError>
-        ensures { IfOk result (λ written. written.items ≡ written_over self.now since (length self.now.units - since) name.now bytes.now) }
+        ensures { IfOk result (λ written. written.items
+            ≡ written_over self.now since (length self.now.units - since) name.now bytes.now) }
     {
         let mut written = bytes.to_vec(alloc)?;
         for number in since..self.units() {
@@ -174,7 +187,8 @@ impl Recorder {
         bytes: Vec<u8>,
     ) -> Result<Vec<u8>, AllocError>
         requires { number < length self.now.units }
-        ensures { IfOk result (λ written. written.items ≡ with_unit self.now number name.now bytes.items) }
+        ensures { IfOk result (λ written. written.items
+            ≡ with_unit self.now number name.now bytes.items) }
     {
         if self.units[number].name.bytes() == name.as_bytes() {
             overlaid(alloc, &self.current[number], &bytes)
@@ -247,7 +261,8 @@ impl Recorder {
     ) -> Result<Vec<u8>, AllocError>
         requires unit { HasUnit self.now.units unit }
         requires at { at ≤ length self.now.events }
-        ensures chosen { IfOk result (λ image. image.items ≡ concat (chosen_image (first_events at self.now.events) unit choice
+        ensures chosen { IfOk result (λ image. image.items
+            ≡ concat (chosen_image (first_events at self.now.events) unit choice
             (start_of self.now.units unit))) }
         ensures crash { IfOk result (λ image. HoldsCrashImage (first_events at self.now.events) unit
             (start_of self.now.units unit) image.items) }

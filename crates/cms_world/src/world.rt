@@ -32,17 +32,21 @@ pub trait World {
         requires room { ForSome (told self.old) (λ j. length j.units < 256) }
         ensures attached { IfOk result (λ unit. ForSome (told self.old)
             (λ j. IsAttached j (told self.new) name.now bsize access unit.number unit.blocks)) }
-        ensures held { IfOk result (λ unit. ForSome (told self.new) (λ j. HasBlocks j.units unit.number unit.blocks bsize)) }
-        ensures writable { IfOk result (λ unit. IsTrue (may_write access) → ForSome (told self.new) (λ j. IsWritable j.units unit.number)) }
+        ensures held { IfOk result (λ unit. ForSome (told self.new)
+            (λ j. HasBlocks j.units unit.number unit.blocks bsize)) }
+        ensures writable { IfOk result (λ unit. IsTrue (may_write access)
+            → ForSome (told self.new) (λ j. IsWritable j.units unit.number)) }
         ensures silent { told self.old ≡ None → told self.new ≡ None }
-        ensures failed { OnErr result (MayAdd (Missed name.now bsize access) (told self.old) (told self.new)) }
+        ensures failed { OnErr result (MayAdd (Missed name.now bsize access) (told self.old)
+            (told self.new)) }
         ensures cause { HasCause (edges self.old) (edges self.new) result }
         ensures faults { faults self.new ≡ faults self.old };
 
     /// Reads a block of an attached unit, from 1 to its count, into a slice of the unit's block size. It adds no event.
     fn read_block(&mut self, unit: u8, block: u32, into: &mut [u8]) -> Result<(), Failed>
         requires { ForSome (told self.old) (λ j. HasBlock j.units unit block (length into.old)) }
-        ensures bytes { OnOk result (ForSome (told self.old) (λ j. into.new ≡ block_of j unit block)) }
+        ensures bytes { OnOk result (ForSome (told self.old)
+            (λ j. into.new ≡ block_of j unit block)) }
         ensures told { told self.new ≡ told self.old }
         ensures cause { HasCause (faults self.old) (faults self.new) result }
         ensures edges { edges self.new ≡ edges self.old };
@@ -50,10 +54,13 @@ pub trait World {
     /// Writes a block of an attached unit that may be written, from 1 to its count, from a slice of the unit's block size. A
     /// failed call adds its `Wrote` or nothing.
     fn write_block(&mut self, unit: u8, block: u32, from: &[u8]) -> Result<(), Failed>
-        requires block { ForSome (told self.old) (λ j. HasBlock j.units unit block (length from.now)) }
+        requires block { ForSome (told self.old)
+            (λ j. HasBlock j.units unit block (length from.now)) }
         requires writable { ForSome (told self.old) (λ j. IsWritable j.units unit) }
-        ensures wrote { OnOk result (told self.new ≡ adds (Wrote unit block from.now) (told self.old)) }
-        ensures failed { OnErr result (MayAdd (Wrote unit block from.now) (told self.old) (told self.new)) }
+        ensures wrote { OnOk result (told self.new
+            ≡ adds (Wrote unit block from.now) (told self.old)) }
+        ensures failed { OnErr result (MayAdd (Wrote unit block from.now) (told self.old)
+            (told self.new)) }
         ensures cause { HasCause (faults self.old) (faults self.new) result }
         ensures edges { edges self.new ≡ edges self.old };
 
@@ -69,7 +76,8 @@ pub trait World {
     fn read(&mut self, into: &mut [u8]) -> Result<usize, Failed>
         requires { 0 < length into.old }
         ensures within { IfOk result (λ n. n ≤ length into.old) }
-        ensures bytes { IfOk result (λ n. told self.new ≡ adds (Read (take n into.new)) (told self.old)) }
+        ensures bytes { IfOk result (λ n. told self.new
+            ≡ adds (Read (take n into.new)) (told self.old)) }
         ensures failed { OnErr result (told self.new ≡ told self.old) }
         ensures cause { HasCause (edges self.old) (edges self.new) result }
         ensures faults { faults self.new ≡ faults self.old };
@@ -78,7 +86,8 @@ pub trait World {
     fn type_out(&mut self, from: &[u8]) -> Result<usize, Failed>
         requires { 0 < length from.now }
         ensures within { IfOk result (λ n. (0 < n) × (n ≤ length from.now)) }
-        ensures typed { IfOk result (λ n. told self.new ≡ adds (Typed (take n from.now)) (told self.old)) }
+        ensures typed { IfOk result (λ n. told self.new
+            ≡ adds (Typed (take n from.now)) (told self.old)) }
         ensures failed { OnErr result (told self.new ≡ told self.old) }
         ensures cause { HasCause (edges self.old) (edges self.new) result }
         ensures faults { faults self.new ≡ faults self.old };
