@@ -32,8 +32,6 @@ WORDS = re.compile(r"^\s*// ?(.*)$")
 VALUE = re.compile(r"(?<![\w>] )(?<!\w)[A-Z]\w*[a-z]\w* $")
 # Why an answer is never given, where the source doesn't say so: by its file, and by what is decided upon.
 NEVER = {
-    ("cms_listfile", "line.len() > LONGEST_TEXT"): "a line of a listing has at most 77 bytes",
-    ("cms_listfile", "records.data(WRITTEN_NUMBER, stamp)"): "there is a line of &TRACE OFF or a file, and a record has 80 bytes",
     ("cms_ext", "gathered.data(form.number, stamp)"): "there is a record, and none of more than 65,535 bytes",
     ("cms_files", "self.count.checked_add(1)"): "fewer than 2^32 lines are gathered, 10,000 asked for or one a file",
     ("cms_records", "into.len().checked_add(size)"): "no memory has 2^64 bytes",

@@ -1,19 +1,23 @@
 -- The copies that are added to a file have the shape that was measured, behind its own records.
-use Rattle.std.proofs.Common.{◌≡◌, ◌∙◌, ◌+◌, ◌++◌, ℕ, List, Option, Some, Result, Ok, Err, length, max, refl, sym, ap, subst, slice_get, length-append}
+use Rattle.std.proofs.Common.{◌≡◌, ◌∙◌, ◌+◌, ◌*◌, ◌≤◌, ◌++◌, ℕ, true, List, Option, Some, Result, Ok, Err, length, max, refl, sym, ap, subst, slice_get, length-append, mul-pos, arith}
+use Rattle.std.proofs.Math.Nat.{mul-add}
 use Rattle.std.specs.Prelude.{All}
 use Rattle.std.specs.Option.{option_and_then}
 use Rattle.std.proofs.lemmas.Option.{same_Some}
 use Rattle.cms_edf.specs.Asking.{infos_in, stored_in}
 use Rattle.cms_edf.specs.declared.held.FileInfo.{FileInfo}
+use Rattle.cms_fields.specs.Limits.{longest_record}
 use Rattle.cms_fields.specs.Moments.{stamp_of}
+use Rattle.cms_fields.specs.Stamps.{is_stamp}
 use Rattle.cms_fields.specs.declared.time.Stamp.{Stamp}
 use Rattle.cms_names.specs.declared.name.Format.{Format}
 use Rattle.cms_names.specs.declared.name.Format.TheVariants.{F, V}
 use Rattle.cms_names.specs.declared.name.Name.{Name}
 use Rattle.cms_draft.specs.declared.shape.DraftShape.{DraftShape}
 use Rattle.cms_disk.specs.Additions.{CanExtend, HaveShapeBehind, MayExtend}
-use Rattle.cms_disk.specs.Disks.{place_of}
+use Rattle.cms_disk.specs.Disks.{IsFileInfo, place_of}
 use Rattle.cms_held.specs.Growing.{length_with}
+use Rattle.cms_held.specs.Kept.{IsSized}
 use Rattle.cms_model.specs.Changes.{Add}
 use Rattle.cms_model.specs.Minidisks.{File}
 use Rattle.cms_model.specs.Records.{Fits, longest, stored}
@@ -29,7 +33,7 @@ use Rattle.cms_files.specs.Files.{UnitFile, file_on}
 use Rattle.cms_files.specs.Told.{IsInfo, info_named, stored_named}
 use Rattle.cms_copyfile.specs.Copyfile.{change_with, there_is}
 use Rattle.cms_copyfile.specs.FileCopies.{IsCopying, copied_to, form_in, plan_for}
-use Rattle.cms_copyfile.specs.Measures.{measured}
+use Rattle.cms_copyfile.specs.Measures.{IsMeasure, length_by, measured}
 use Rattle.cms_copyfile.specs.OneCopy.{AreMeasured, AreShaped}
 use Rattle.cms_copyfile.specs.Outputs.{copies_in, extended, stamp_for}
 use Rattle.cms_copyfile.specs.Shapes.{IsShapeBehind, length_behind, shape_behind}
@@ -109,6 +113,57 @@ added_as spot line c own shape more turn stamp plan ext planned when stamped cop
           ∙ (add_so s line c own turn f x when info
           ∙ (ap (λ (l : List (List ℕ)). Add made.name l (stamp_for line.style c.input.stamp turn)) same
           ∙ ap (λ (z : Stamp). Add made.name added z) (sym stamped ∙ sym (ap (λ (z : DraftShape). z.stamp) is))));
+    }
+
+-- ---- what a file can become
+
+-- so many records of a length fill some bytes
+some_bytes : (format : Format) (size count bytes : ℕ) → IsSized format size count bytes → 1 ≤ size → 1 ≤ count → 1 ≤ bytes
+some_bytes F size count bytes is low some = subst (λ (n : ℕ). 1 ≤ n) (sym is) (mul-pos low some)
+some_bytes V size count bytes is low some = omega arith
+
+sized_behind : (format : Format) (size count bytes longest more added : ℕ) → IsSized format size count bytes → IsSized format (length_by format size longest) more added
+    → IsSized format (length_behind format size longest) (count + more) (bytes + added)
+sized_behind F size count bytes longest more added own behind =
+    ap (λ (n : ℕ). n + added) own ∙ (ap (λ (n : ℕ). size * count + n) behind ∙ sym (mul-add size count more))
+sized_behind V size count bytes longest more added own behind = omega arith
+
+longer_behind : (format : Format) (size longest : ℕ) → size ≤ length_behind format size longest
+longer_behind F size longest = omega arith
+longer_behind V size longest = omega arith
+
+short_behind : (format : Format) (size longest : ℕ) → size ≤ longest_record → length_by format size longest ≤ longest_record → length_behind format size longest ≤ longest_record
+short_behind F size longest own behind = own
+short_behind V size longest own behind = omega arith
+
+fixed_behind : (format : Format) (size longest : ℕ) → format ≡ F → length_behind format size longest ≡ size
+fixed_behind F size longest is = refl
+fixed_behind V size longest is = absurd (cc is)
+
+-- with what was measured behind its own records
+pub can_become : (own : FileInfo) (bytes : ℕ) (stamp : Stamp) (more : Measure) → IsFileInfo own → is_stamp stamp ≡ true → IsSized own.format own.length own.count bytes
+    → IsMeasure (form_in own) more → CanExtend own bytes (shape_behind own bytes stamp more)
+can_become own bytes stamp more sound valid sized measure =
+    let records = sound.records in
+    let some = sound.some in
+    let many = measure.some in
+    let longer = longer_behind own.format own.length more.longest in
+    let added = some_bytes own.format (length_by own.format own.length more.longest) more.count more.bytes measure.sized measure.low many in
+    record {
+      can = record {
+        number = sound.number;
+        stamp = valid;
+        some = omega (arith, records);
+        low = omega (arith, some, longer);
+        high = short_behind own.format own.length more.longest sound.short measure.high;
+        sized = sized_behind own.format own.length own.count bytes more.longest more.count more.bytes sized measure.sized;
+      };
+      format_is = refl;
+      number_is = refl;
+      fixed = fixed_behind own.format own.length more.longest;
+      longer = longer;
+      records = omega (arith, many);
+      more = omega (arith, added);
     }
 
 -- ---- what fits the disk

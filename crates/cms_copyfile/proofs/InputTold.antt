@@ -1,5 +1,5 @@
 -- The file that is copied is as its disk tells it, and its records are left to read.
-use Rattle.std.proofs.Common.{◌≡◌, ◌∙◌, ℕ, zero, suc, ◌+◌, ◌≤◌, max, List, [], ◌∷◌, All, drop, length, take, Option, Some, Ok, refl, sym, ap, subst, arith, length-drop, length-take-le}
+use Rattle.std.proofs.Common.{◌≡◌, ◌∙◌, ℕ, zero, suc, ◌+◌, ◌≤◌, List, [], ◌∷◌, All, drop, length, take, Option, Some, Ok, sym, ap, subst, arith, length-drop, length-take-le}
 use Rattle.std.specs.Prelude.{nat_le, nat_lt, slice_get}
 use Rattle.std.specs.Option.{option_and_then, option_map}
 use Rattle.std.proofs.lemmas.Bool.{leb-true}
@@ -22,10 +22,9 @@ use Rattle.cms_records.specs.Pieces.{Begun, next_place}
 use Rattle.cms_edf.specs.Asking.{info_of, infos_in}
 use Rattle.cms_edf.specs.OpeningSteps.{OfImage}
 use Rattle.cms_edf.specs.declared.held.FileInfo.{FileInfo}
-use Rattle.cms_disk.specs.Cursors.{HasLeft, HoldLeft, fixed_of, first_begun, unread}
+use Rattle.cms_disk.specs.Cursors.{HoldLeft, fixed_of, first_begun, unread}
 use Rattle.cms_disk.specs.Disks.{place_of}
 use Rattle.cms_search.specs.Calls.{Spot, holds, machine_of}
-use Rattle.cms_search.specs.Searches.{item_at}
 use Rattle.cms_search.specs.Tables.{Accesses, Seated}
 use Rattle.cms_search.proofs.Meeting.{holds_shows}
 use Rattle.cms_search.proofs.Released.{get_map}
@@ -82,6 +81,11 @@ told_is t c file is opened =
     let there : info_named t c.found.letter c.found.name ≡ Some (info_of held) =
     ap (info_in c.found.name) opened.there ∙ (ap (λ (p : Option ℕ). option_and_then (λ (k : ℕ). slice_get (infos_in v) k) p) opened.starts.place_is ∙ info) in
     same_Some c.input (info_of held) (is ∙ there)
+
+-- as many records are left to read of it as are told
+pub left_told : (t : Accesses) (c : FileCopy) (file : OpenFile) → Some c.input ≡ info_named t c.found.letter c.found.name → IsOpened t c.found.letter c.found.name file
+    → file.cursor.left ≡ c.input.count
+left_told t c file is opened = opened.starts.first.left ∙ sym (ap (λ (i : FileInfo). i.count) (told_is t c file is opened))
 
 -- all its records are left to read
 pub input_left : (spot : Spot) (units : List Slot) (line : CopyLine) (c : FileCopy) (file : OpenFile) → IsFileCopy spot.state.table line c

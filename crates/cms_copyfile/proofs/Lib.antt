@@ -24,3 +24,5 @@ pub mod CopyShaped
 pub mod OwnFile
 pub mod AddShaped
 pub mod TablesTold
+pub mod SoundMeasures
+pub mod OutputModes

@@ -1,14 +1,16 @@
 -- Files of records that were measured.
-use Rattle.std.proofs.Common.{◌≡◌, ℕ, List, refl, sym, ap, ◌∙◌}
+use Rattle.std.proofs.Common.{◌≡◌, ◌≤◌, ℕ, true, List, refl, sym, ap, subst, ◌∙◌}
 use Rattle.cms_names.specs.declared.name.Format.{Format}
 use Rattle.cms_names.specs.declared.name.Format.TheVariants.{F, V}
 use Rattle.cms_names.specs.declared.name.Name.{Name}
+use Rattle.cms_fields.specs.Stamps.{is_stamp}
 use Rattle.cms_fields.specs.declared.time.Stamp.{Stamp}
 use Rattle.cms_model.specs.Records.{length_of}
 use Rattle.cms_draft.specs.declared.shape.DraftShape.{DraftShape}
+use Rattle.cms_edf.specs.FileDrafts.{CanDraft}
 use Rattle.cms_disk.specs.Drafts as drafts
 use Rattle.cms_disk.specs.Drafts.{HaveCounts}
-use Rattle.cms_copyfile.specs.Measures.{length_by, measured}
+use Rattle.cms_copyfile.specs.Measures.{IsMeasure, length_by, measured}
 use Rattle.cms_copyfile.specs.Outputs.{file_with}
 use Rattle.cms_copyfile.specs.declared.measure.Measure.{Measure}
 use Rattle.cms_copyfile.specs.declared.output.FileForm.{FileForm}
@@ -29,3 +31,10 @@ pub same_file : (form : FileForm) (size number : ℕ) (stamp : Stamp) (m : Measu
 same_file form size number stamp m name records size_is is =
     ap (λ (n : ℕ). record { name = name; number = number; format = form.format; length = n; stamp = stamp; records = records })
     (size_is ∙ length_so form.format form.length records m is)
+
+-- a file may have it
+pub can_draft : (form : FileForm) (size number : ℕ) (stamp : Stamp) (m : Measure) → size ≡ length_by form.format form.length m.longest → IsMeasure form m → number ≤ 6
+    → is_stamp stamp ≡ true → CanDraft (shape_by form size number stamp m)
+can_draft form size number stamp m is sound few valid =
+    subst (λ (n : ℕ). CanDraft (shape_by form n number stamp m)) (sym is)
+    (record { number = few; stamp = valid; some = sound.some; low = sound.low; high = sound.high; sized = sound.sized })

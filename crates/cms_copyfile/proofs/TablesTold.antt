@@ -1,9 +1,11 @@
 -- What a table tells of the files that COPYFILE meets.
-use Rattle.std.proofs.Common.{◌≡◌, ◌+◌, ◌-◌, ◌≤◌, ℕ, zero, suc, List, [], ◌∷◌, Some, None, map, min, refl, sym, slice_get, arith}
-use Rattle.std.specs.Prelude.{IfSome, IsSome, Option, unwrap_or}
+use Rattle.std.proofs.Common.{◌≡◌, ◌+◌, ◌-◌, ◌≤◌, ℕ, zero, suc, Bool, true, false, List, [], ◌∷◌, Some, None, map, min, refl, sym, slice_get, arith}
+use Rattle.std.specs.Prelude.{IfSome, IsSome, Option, if◌then◌else◌, unwrap_or}
 use Rattle.std.specs.Option.{option_and_then, option_map, option_map_or}
 use Rattle.cms_names.specs.declared.name.Name.{Name}
 use Rattle.cms_fields.specs.Limits.{longest_record}
+use Rattle.cms_fields.specs.Stamps.{is_stamp}
+use Rattle.cms_fields.specs.declared.time.Stamp.{Stamp}
 use Rattle.cms_held.specs.Opening.{HeldFile, HeldVolume}
 use Rattle.cms_edf.specs.Asking.{info_of, infos_in, stored_in}
 use Rattle.cms_edf.specs.declared.held.FileInfo.{FileInfo}
@@ -12,8 +14,9 @@ use Rattle.cms_search.specs.Searches.{item_at}
 use Rattle.cms_search.specs.Tables.{Accesses, Seated}
 use Rattle.cms_files.specs.Told.{info_named, stored_named}
 use Rattle.cms_copyfile.specs.FileCopies.{form_in}
-use Rattle.cms_copyfile.specs.Lines.{IsCopyStyle}
-use Rattle.cms_copyfile.specs.Outputs.{extended, form_for, wanted_of}
+use Rattle.cms_operands.specs.declared.operand.WriteMode.{WriteMode}
+use Rattle.cms_copyfile.specs.Lines.{IsCopyStyle, IsOutputMode}
+use Rattle.cms_copyfile.specs.Outputs.{extended, form_for, number_for, stamp_for, wanted_of}
 use Rattle.cms_copyfile.specs.declared.line.CopyStyle.{CopyStyle}
 use Rattle.cms_copyfile.specs.declared.line.Existing.{Existing}
 use Rattle.cms_copyfile.specs.declared.line.Existing.TheVariants.{Extended, Refused, Replaced}
@@ -57,9 +60,38 @@ short_into style input None is sound there = either style.length is.length
     either None x = sound.short
     either (Some n) x = x.1
 
+-- and of some length
+pub some_into : (style : CopyStyle) (input : FileInfo) (own : Option FileInfo) → IsCopyStyle style → IsFileInfo input → IfSome own IsFileInfo
+    → 1 ≤ (form_for style (form_in input) (option_map form_in own)).length
+some_into style input (Some own) is sound there = there.some
+some_into style input None is sound there = either style.length is.length
+  where
+    either : (o : Option ℕ) → IfSome o (λ n. (1 ≤ n) × (n ≤ longest_record)) → 1 ≤ unwrap_or o input.length
+    either None x = sound.some
+    either (Some n) x = x.0
+
 pub wanted_few : (style : CopyStyle) (count : ℕ) → wanted_of style count ≤ count
 wanted_few style count = either style.most
   where
     either : (o : Option ℕ) → option_map_or (λ most. min (style.first - 1 + most) count) o count ≤ count
     either None = omega arith
     either (Some most) = omega arith
+
+-- ---- the number and the stamp of a copy
+
+pub number_few : (mode : Option WriteMode) (input : ℕ) (there : Option FileInfo) → IsOutputMode mode → input ≤ 6 → IfSome there IsFileInfo
+    → number_for mode input (option_map (λ (i : FileInfo). i.number) there) ≤ 6
+number_few mode input (Some own) is low sound = sound.number
+number_few None input None is low sound = low
+number_few (Some m) input None is low sound = either m.number is
+  where
+    either : (o : Option ℕ) → IfSome o (λ n. n ≤ 6) → unwrap_or o input ≤ 6
+    either None x = low
+    either (Some n) x = x
+
+pub stamp_valid : (style : CopyStyle) (input turn : Stamp) → is_stamp input ≡ true → is_stamp turn ≡ true → is_stamp (stamp_for style input turn) ≡ true
+stamp_valid style input turn own now = either style.old_stamp
+  where
+    either : (b : Bool) → is_stamp (if b then input else turn) ≡ true
+    either true = own
+    either false = now

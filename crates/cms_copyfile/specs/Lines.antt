@@ -12,6 +12,7 @@ use Rattle.cms_operands.specs.declared.choosing.OptionForm.{OptionForm}
 use Rattle.cms_operands.specs.declared.choosing.Parameter.TheVariants as takes
 use Rattle.cms_operands.specs.declared.choosing.Setting.{Setting}
 use Rattle.cms_operands.specs.declared.choosing.Setting.TheVariants as says
+use Rattle.cms_operands.specs.declared.operand.WriteMode.{WriteMode}
 use Rattle.cms_operands.specs.declared.refusal.Refusal.{Refusal}
 use Rattle.cms_files.specs.Identifiers.{name_choice, output_name}
 use Rattle.cms_copyfile.specs.declared.line.CopyFiles.{CopyFiles}
@@ -132,6 +133,15 @@ pub record IsCopyStyle (style : CopyStyle) : Type 0 where
   pub length : IfSome style.length (λ n. (1 ≤ n) × (n ≤ longest_record))
 
 -- ---- the line
+
+-- the mode number of an output's word, where it has one, is one that a file may have
+abbrev pub IsOutputMode : Option WriteMode → Type 0
+IsOutputMode mode = IfSome mode (λ m. IfSome m.number (λ n. n ≤ 6))
+
+-- the numbers of a line are those that its words may have
+pub record IsCopyLine (line : CopyLine) : Type 0 where
+  pub style : IsCopyStyle line.style
+  pub number : IsOutputMode line.files.output.mode
 
 -- what COPYFILE's line says, or the first refusal
 abbrev pub copy_line : List Token → Result CopyLine Refusal

@@ -1,13 +1,15 @@
 -- What a file becomes that is copied: its format, its records, its number and its stamp.
-use Rattle.std.specs.Prelude.{ℕ, ◌+◌, ◌-◌, if◌then◌else◌, List, drop, length, map, min, take, Option, None, Some}
+use Rattle.std.specs.Prelude.{◌≡◌, ℕ, ◌+◌, ◌-◌, ◌≤◌, if◌then◌else◌, List, drop, length, map, min, take, Option, None, Some}
 use Rattle.std.specs.Option.{option_and_then, option_map_or, unwrap_or}
 use Rattle.cms_names.specs.declared.name.Format.{Format}
 use Rattle.cms_names.specs.declared.name.Format.TheVariants.{F, V}
 use Rattle.cms_names.specs.declared.name.Name.{Name}
+use Rattle.cms_fields.specs.Limits.{longest_record}
 use Rattle.cms_fields.specs.declared.time.Stamp.{Stamp}
 use Rattle.cms_model.specs.Minidisks.{File}
 use Rattle.cms_model.specs.Records.{length_of}
 use Rattle.cms_operands.specs.declared.operand.WriteMode.{WriteMode}
+use Rattle.cms_copyfile.specs.Lines.{IsCopyStyle}
 use Rattle.cms_copyfile.specs.Records.{copied}
 use Rattle.cms_copyfile.specs.declared.line.CopyStyle.{CopyStyle}
 use Rattle.cms_copyfile.specs.declared.line.Existing.{Existing}
@@ -61,6 +63,15 @@ plan_of style form count = record {
   style = record_style style form;
   format = form.format;
 }
+
+-- records of a file of so many are copied so into one of this format: there is one, and the length is one that records have
+pub record IsPlan (form : FileForm) (count : ℕ) (plan : CopyPlan) : Type 0 where
+  pub style : CopyStyle
+  pub sound : IsCopyStyle style
+  pub plan_is : plan ≡ plan_of style form count
+  pub first : style.first ≤ count
+  pub low : 1 ≤ form.length
+  pub high : form.length ≤ longest_record
 
 -- the copies of all records of a file
 abbrev pub copied_records : CopyStyle → FileForm → List (List ℕ) → List (List ℕ)

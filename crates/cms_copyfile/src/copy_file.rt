@@ -3,6 +3,8 @@ ghost use Rattle.std.specs.Prelude.{◌≡◌, ◌+◌, ◌^◌, ◌<◌, ◌≤
 ghost use Rattle.std.specs.Option.{ForSome};
 ghost use Rattle.cms_fields.specs.Limits.{longest_record, most_records};
 ghost use Rattle.cms_fields.specs.Moments.{is_moment};
+ghost use Rattle.cms_fields.specs.Stamps.{is_stamp};
+ghost use Rattle.cms_disk.specs.Additions.{MayExtend};
 ghost use Rattle.cms_disk.specs.Disks.{IsFileInfo};
 ghost use Rattle.cms_line.specs.declared.token.Token as tokens;
 ghost use Rattle.cms_search.specs.Calls.{Acts, IsUsable, machine_of, spot, spot_at};
@@ -16,7 +18,8 @@ ghost use Rattle.cms_files.specs.Told as named;
 ghost use Rattle.cms_files.specs.Updating.{updated_of};
 ghost use Rattle.cms_copyfile.specs.Copyfile as spec;
 ghost use Rattle.cms_copyfile.specs.FileCopies.{IsFileCopy, form_in, form_into, plan_for};
-ghost use Rattle.cms_copyfile.specs.Lines.{IsCopyStyle};
+ghost use Rattle.cms_copyfile.specs.Lines.{IsCopyLine, IsCopyStyle};
+ghost use Rattle.cms_copyfile.specs.Measures.{IsMeasure};
 ghost use Rattle.cms_copyfile.specs.OneCopy.{AreMeasured, AreShaped};
 ghost use Rattle.cms_copyfile.specs.Outputs.{extended};
 ghost use Rattle.cms_copyfile.specs.Records.{longest_fit};
@@ -35,31 +38,12 @@ use crate::output::{CopyPlan, FileForm, plan_of, stamp_for};
 use crate::refusing::stop_unread;
 use crate::shape::{shape_behind, shape_of};
 use crate::writing::{CopyTarget, CopyWrite, write_copies};
-use cms_disk::{DraftShape, FileInfo, can_draft, can_extend};
+use cms_disk::{DraftShape, FileInfo};
 use cms_fields::{LONGEST_RECORD, Stamp};
-use cms_files::{Updated, info_named, stored_named};
+use cms_files::{Updated, stored_named};
 use cms_search::{End, State, Table};
 use cms_world::World;
 use std::alloc::Global;
-
-// Whether the disk of the output's letter may have a file of its name and this shape, or the one that it has can become one.
-fn fits_disk(table: &Table, file: &FileCopy, write: CopyWrite, shape: &DraftShape) -> bool
-    ensures { result ≡ true → ForSome (item_at table.now.seats file.now.letter)
-        (λ s. FitsVolume write s.disk.volume file.now.name shape.now) }
-{
-    match write {
-        CopyWrite::Whole => can_draft(shape),
-        CopyWrite::Added => {
-            let Some(own) = info_named(table, file.letter, &file.name) else {
-                return false;
-            };
-            let Some(stored) = stored_named(table, file.letter, &file.name) else {
-                return false;
-            };
-            can_extend(&own, stored, shape)
-        }
-    }
-}
 
 // The records of a file, which were measured, are read again, and their copies are put as a file of this shape, or added to the one that
 // is to have it then.
@@ -77,6 +61,8 @@ fn put_copied<W: World>(
     requires moment { is_moment state.old.moment ≡ true }
     requires writing { writing (item_at (letters_of state.old.table) file.now.letter)
         file.now.letter ≡ Ok tt }
+    requires fits { ForSome (item_at state.old.table.seats file.now.letter)
+        (λ s. FitsVolume write s.disk.volume file.now.name shape.now) }
     requires size { (most : ℕ) → most ≤ longest_record
         → longest_fit plan.now.style.fit most ≤ longest_record }
     requires room { longest_record ≤ vec_capacity buffer.old }
@@ -92,10 +78,6 @@ fn put_copied<W: World>(
       places = state.new.places;
     } }
 {
-    // a file's stored bytes are those of its records, so this is never
-    if !fits_disk(&state.table, file, write, shape) {
-        return Err(End::Memory);
-    }
     let mut input = open_input(alloc, &state.table, file)?;
     let vdev = state.table.vdev(file.letter);
     let to = CopyTarget {
@@ -132,8 +114,10 @@ fn copy_measured<W: World>(
     requires moment { is_moment state.old.moment ≡ true }
     requires writing { writing (item_at (letters_of state.old.table) file.now.letter)
         file.now.letter ≡ Ok tt }
+    requires line { IsCopyLine line.now }
     requires file { IsFileCopy state.old.table line.now file.now }
     requires whole { extended line.now.style.existing file.now.there ≡ None }
+    requires sound { IsMeasure (form_into line.now file.now) measure.now }
     requires plan { plan.now ≡ plan_for line.now (form_into line.now file.now) file.now }
     requires size { (most : ℕ) → most ≤ longest_record
         → longest_fit plan.now.style.fit most ≤ longest_record }
@@ -174,11 +158,16 @@ fn extended_shape(
     more: &Measure,
 ) -> DraftShape
     requires there { Some own.now ≡ named.info_named table.now file.now.letter file.now.name }
+    requires own { IsFileInfo own.now }
+    requires stamp { is_stamp stamp ≡ true }
+    requires sound { IsMeasure (form_in own.now) more.now }
     requires count { own.now.count + more.now.count < 2 ^ 32 }
     requires bytes { more.now.bytes < 2 ^ 63 }
-    ensures { (s : machines.Machine) → Shows table.now s
+    ensures shape { (s : machines.Machine) → Shows table.now s
         → IsShapeBehind own.now stamp more.now result
         (file_on s file.now.name (machines.letter_at s file.now.letter)) }
+    ensures fits { ForSome (item_at table.now.seats file.now.letter)
+        (λ s. MayExtend s.disk.volume file.now.name result) }
 {
     let stored = stored_named(table, file.letter, &file.name).unwrap();
     shape_behind(own, stored, stamp, more)
@@ -202,6 +191,7 @@ fn append_measured<W: World>(
         file.now.letter ≡ Ok tt }
     requires file { IsFileCopy state.old.table line.now file.now }
     requires own { extended line.now.style.existing file.now.there ≡ Some own.now }
+    requires sound { IsMeasure (form_in own.now) measure.now }
     requires count { measure.now.count ≤ most_records }
     requires bytes { measure.now.bytes < 2 ^ 63 }
     requires plan { plan.now ≡ plan_for line.now (form_in own.now) file.now }
@@ -250,7 +240,9 @@ fn put_measured<W: World>(
     requires moment { is_moment state.old.moment ≡ true }
     requires writing { writing (item_at (letters_of state.old.table) file.now.letter)
         file.now.letter ≡ Ok tt }
+    requires line { IsCopyLine line.now }
     requires file { IsFileCopy state.old.table line.now file.now }
+    requires sound { IsMeasure (form_into line.now file.now) measure.now }
     requires count { measure.now.count ≤ most_records }
     requires bytes { measure.now.bytes < 2 ^ 63 }
     requires plan { plan.now ≡ plan_for line.now (form_into line.now file.now) file.now }
@@ -275,12 +267,13 @@ fn put_measured<W: World>(
     }
 }
 
-// The format that the copy gets: no record of it is longer than a record may be.
+// The format that the copy gets: its length is one that records have.
 fn short_form(line: &CopyLine, file: &FileCopy) -> FileForm
     requires style { IsCopyStyle line.now.style }
     requires sound { IsFileInfo file.now.input }
     requires there { IfSome file.now.there IsFileInfo }
     ensures form { result ≡ form_into line.now file.now }
+    ensures some { 1 ≤ result.length }
     ensures short { result.length ≤ longest_record }
 {
     file.form(line)
@@ -297,7 +290,7 @@ pub(crate) fn copy_records<W: World>(
 ) -> Result<Updated, End>
     requires usable { IsUsable (spot W.World world.old state.old) }
     requires moment { is_moment state.old.moment ≡ true }
-    requires style { IsCopyStyle line.now.style }
+    requires line { IsCopyLine line.now }
     requires file { IsFileCopy state.old.table line.now file.now }
     requires writing { writing (item_at (letters_of state.old.table) file.now.letter)
         file.now.letter ≡ Ok tt }

@@ -100,7 +100,8 @@ pub struct CopyLine {
 
 #[tactic(auto, unfolding(crate::specs::Lines::given_output))]
 fn given_output(operands: &[Token]) -> Result<CopyOutput, Refusal>
-    ensures { result ≡ spec.given_output operands.now }
+    ensures says { result ≡ spec.given_output operands.now }
+    ensures number { IfOk result (λ output. spec.IsOutputMode output.mode) }
 {
     let name = output_name(operands, 4)?;
     let mode = output_mode(6, needed(operands, 6)?)?;
@@ -113,7 +114,8 @@ fn given_output(operands: &[Token]) -> Result<CopyOutput, Refusal>
 
 // What the files become; without an output each is its own.
 fn output_of(operands: &[Token]) -> Result<CopyOutput, Refusal>
-    ensures { result ≡ spec.output_of operands.now }
+    ensures says { result ≡ spec.output_of operands.now }
+    ensures number { IfOk result (λ output. spec.IsOutputMode output.mode) }
 {
     match given(operands, 4) {
         Some(_) => given_output(operands),
@@ -130,7 +132,8 @@ fn output_of(operands: &[Token]) -> Result<CopyOutput, Refusal>
 
 #[tactic(auto, unfolding(crate::specs::Lines::copy_operands))]
 fn copy_operands(operands: &[Token]) -> Result<CopyFiles, Refusal>
-    ensures { result ≡ spec.copy_operands operands.now }
+    ensures says { result ≡ spec.copy_operands operands.now }
+    ensures number { IfOk result (λ files. spec.IsOutputMode files.output.mode) }
 {
     let names = name_choice(operands, 1)?;
     let mode = reading_mode(3, needed(operands, 3)?)?;
@@ -249,7 +252,7 @@ fn style_of(default: Existing, chosen: &[ChosenOption<CopyOption>]) -> CopyStyle
 /// What COPYFILE's line says, or why it is refused.
 pub fn copy_line(alloc: Global, words: &Tokens) -> Result<CopyLine, CommandFault>
     ensures says { AnswersLine (spec.copy_line words.now) result }
-    ensures fits { IfOk result (λ line. spec.IsCopyStyle line.style) }
+    ensures fits { IfOk result spec.IsCopyLine }
 {
     let files = copy_operands(operands(words.as_slice()))?;
     let chosen = chosen_options(alloc, &options(), words)?;

@@ -1,5 +1,5 @@
 // The copies of a file are measured: as its disk tells them, or else by a first pass over it.
-ghost use Rattle.std.specs.Prelude.{◌≡◌, ◌⊎◌, ◌+◌, ◌*◌, ◌^◌, ◌<◌, ◌≤◌, ◌++◌, ℕ, List, [], ◌∷◌, drop, length, map, take, vec_capacity, All, IfOk, IfErr, OnOk};
+ghost use Rattle.std.specs.Prelude.{◌≡◌, ◌⊎◌, ◌+◌, ◌*◌, ◌^◌, ◌<◌, ◌≤◌, ◌++◌, ℕ, List, [], ◌∷◌, drop, length, map, take, vec_capacity, All, Some, IfOk, IfErr, OnOk};
 ghost use Rattle.std.specs.Option.{ForSome};
 ghost use Rattle.cms_journal.specs.Journal.{HasBlocks, contents_of};
 ghost use Rattle.cms_fields.specs.Limits.{longest_record};
@@ -11,11 +11,13 @@ ghost use Rattle.cms_disk.specs.Cursors.{HasLeft};
 ghost use Rattle.cms_disk.specs.Disks.{IsFileInfo};
 ghost use Rattle.cms_disk.specs.declared.fault.DiskFault.TheVariants.{Altered, Device};
 ghost use Rattle.cms_files.specs.Files.{UnitFile};
+ghost use Rattle.cms_files.specs.Told.{info_named};
 ghost use Rattle.cms_world.specs.Seen.{OnlyReads, seen};
-ghost use Rattle.cms_copyfile.specs.Measures.{measured};
-ghost use Rattle.cms_copyfile.specs.Outputs.{copies_in};
+ghost use Rattle.cms_copyfile.specs.Measures.{IsMeasure, measured};
+ghost use Rattle.cms_copyfile.specs.Outputs.{IsPlan, copies_in};
 ghost use Rattle.cms_copyfile.specs.Records.{copied, longest_fit};
 ghost use Rattle.cms_copyfile.specs.Told.{IsLeftAs};
+ghost use Rattle.cms_copyfile.specs.declared.output.FileForm as forms;
 
 use crate::copy::FileCopy;
 use crate::measure::Measure;
@@ -77,6 +79,8 @@ pub fn measure_copies<W: World>(
         (λ image. (records : List (List ℕ))
         → HasLeft image cursor.old records
         → All (Fits V longest_record) (take plan.now.wanted records))) }
+    ensures sound { (form : forms.FileForm) → IsPlan form cursor.old.left plan.now
+        → IfOk result (IsMeasure form) }
     ensures count { IfOk result (λ m. m.count ≤ plan.now.wanted) }
     ensures bytes { IfOk result (λ m. m.bytes < 2 ^ 63) }
     ensures fault { IfErr result (λ e. (e ≡ Device) ⊎ (e ≡ Altered)) }
@@ -112,6 +116,9 @@ pub(crate) fn measure_input<W: World>(
     requires room { longest_fit plan.now.style.fit cursor.old.begun.longest
         ≤ vec_capacity buffer.old }
     requires sound { IsFileInfo file.now.input }
+    requires told { Some file.now.input
+        ≡ info_named table.now file.now.found.letter file.now.found.name }
+    requires left { cursor.old.left ≡ file.now.input.count }
     ensures measured { IfOk result (λ m. OfImage (W.told world.old) cursor.old.unit
         (λ image. (x : UnitFile)
         → IsLeftAs table.now file.now image cursor.old x
@@ -120,6 +127,8 @@ pub(crate) fn measure_input<W: World>(
         (λ image. (x : UnitFile)
         → IsLeftAs table.now file.now image cursor.old x
         → All (Fits V longest_record) (take plan.now.wanted x.file.records))) }
+    ensures sound { (form : forms.FileForm) → IsPlan form file.now.input.count plan.now
+        → IfOk result (IsMeasure form) }
     ensures count { IfOk result (λ m. m.count ≤ plan.now.wanted) }
     ensures bytes { IfOk result (λ m. m.bytes < 2 ^ 63) }
     ensures fault { IfErr result (λ e. (e ≡ Device) ⊎ (e ≡ Altered)) }

@@ -9,7 +9,7 @@ ghost use Rattle.cms_search.specs.Tables.{letters_of, writing};
 ghost use Rattle.cms_files.specs.Updating.{updated_of};
 ghost use Rattle.cms_copyfile.specs.Copyfile as spec;
 ghost use Rattle.cms_copyfile.specs.FileCopies.{IsFileCopy, may_erase_input};
-ghost use Rattle.cms_copyfile.specs.Lines.{IsCopyStyle};
+ghost use Rattle.cms_copyfile.specs.Lines.{IsCopyLine};
 
 use crate::copy::FileCopy;
 use crate::copy_file::copy_records;
@@ -66,7 +66,7 @@ fn copy_into<W: World>(
 ) -> Result<Updated, End>
     requires usable { IsUsable (spot W.World world.old state.old) }
     requires moment { is_moment state.old.moment ≡ true }
-    requires style { IsCopyStyle line.now.style }
+    requires line { IsCopyLine line.now }
     requires file { IsFileCopy state.old.table line.now file.now }
     requires writing { writing (item_at (letters_of state.old.table) file.now.letter)
         file.now.letter ≡ Ok tt }
@@ -123,7 +123,7 @@ fn copy_erased<W: World>(
 ) -> Result<Updated, End>
     requires usable { IsUsable (spot W.World world.old state.old) }
     requires moment { is_moment state.old.moment ≡ true }
-    requires style { IsCopyStyle line.now.style }
+    requires line { IsCopyLine line.now }
     requires file { IsFileCopy state.old.table line.now file.now }
     requires writing { writing (item_at (letters_of state.old.table) file.now.letter)
         file.now.letter ≡ Ok tt }
@@ -153,7 +153,7 @@ fn copy_told<W: World>(
 ) -> Result<Updated, End>
     requires usable { IsUsable (spot W.World world.old state.old) }
     requires moment { is_moment state.old.moment ≡ true }
-    requires style { IsCopyStyle line.now.style }
+    requires line { IsCopyLine line.now }
     requires file { IsFileCopy state.old.table line.now file.now }
     requires writing { writing (item_at (letters_of state.old.table) file.now.letter)
         file.now.letter ≡ Ok tt }
@@ -182,7 +182,7 @@ fn copy_of<W: World>(
 ) -> Result<Updated, End>
     requires usable { IsUsable (spot W.World world.old state.old) }
     requires moment { is_moment state.old.moment ≡ true }
-    requires style { IsCopyStyle line.now.style }
+    requires line { IsCopyLine line.now }
     requires file { IsFileCopy state.old.table line.now file.now }
     ensures acts { Acts (spot W.World world.old state.old) (spot W.World world.new state.new)
         (λ units. spec.copy_found words.now line.now (machine_of state.old units) file.now.found)
@@ -208,7 +208,7 @@ struct Copier<'w> {
 impl FileUpdate<NamedFile> for Copier<'_> {
     ghost tree = { λ c. spec.copy_found c.words.now c.line.now };
 
-    ghost takes = { λ c f. IsCopyStyle c.line.now.style };
+    ghost takes = { λ c f. IsCopyLine c.line.now };
 
     fn update<W: World>(
         &self,
@@ -234,7 +234,7 @@ fn copy_files<W: World>(
 ) -> Result<Course, End>
     requires usable { IsUsable (spot W.World world.old state.old) }
     requires moment { is_moment state.old.moment ≡ true }
-    requires style { IsCopyStyle line.now.style }
+    requires line { IsCopyLine line.now }
     ensures acts { Acts (spot W.World world.old state.old) (spot W.World world.new state.new)
         (λ units. spec.copy_files (machine_of state.old units) words.now line.now) result
         (course_of state.new) }

@@ -1,9 +1,11 @@
 // What a file is to be that is drafted of copies.
-ghost use Rattle.std.specs.Prelude.{◌≡◌, ◌+◌, ◌^◌, ◌<◌, ℕ, List};
+ghost use Rattle.std.specs.Prelude.{◌≡◌, ◌+◌, ◌^◌, ◌<◌, ◌≤◌, ℕ, true, List};
+ghost use Rattle.cms_fields.specs.Stamps.{is_stamp};
 ghost use Rattle.cms_names.specs.declared.name.Name as names;
+ghost use Rattle.cms_edf.specs.FileDrafts.{CanDraft};
 ghost use Rattle.cms_disk.specs.Drafts as drafts;
 ghost use Rattle.cms_disk.specs.Drafts.{HaveCounts};
-ghost use Rattle.cms_copyfile.specs.Measures.{length_by, measured};
+ghost use Rattle.cms_copyfile.specs.Measures.{IsMeasure, length_by, measured};
 ghost use Rattle.cms_copyfile.specs.Outputs.{file_with};
 ghost use Rattle.cms_copyfile.specs.Shapes as spec;
 
@@ -30,6 +32,8 @@ pub fn shape_of(form: FileForm, number: u8, stamp: Stamp, measure: &Measure) -> 
     ensures file { (name : names.Name) (records : List (List ℕ))
         → measure.now ≡ measured form.format records
         → drafts.file_with name result records ≡ file_with name number form stamp records }
+    ensures can { IsMeasure form measure.now → number ≤ 6 → is_stamp stamp ≡ true
+        → CanDraft result }
 {
     let length = length_in(form, measure.longest);
     DraftShape {

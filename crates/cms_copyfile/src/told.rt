@@ -1,5 +1,5 @@
 // The copies of a file as they are measured with no read: by what its disk tells of it.
-ghost use Rattle.std.specs.Prelude.{◌≡◌, ◌^◌, ◌<◌, ◌≤◌, ℕ, true, List, length, map, All, IfSome};
+ghost use Rattle.std.specs.Prelude.{◌≡◌, ◌^◌, ◌<◌, ◌≤◌, ℕ, true, List, length, map, All, Some, IfSome};
 ghost use Rattle.cms_names.specs.declared.name.Format.TheVariants.{F, V};
 ghost use Rattle.cms_model.specs.Records.{Fits};
 ghost use Rattle.cms_fields.specs.Limits.{most_records};
@@ -7,10 +7,12 @@ ghost use Rattle.cms_disk.specs.Disks.{IsFileInfo};
 ghost use Rattle.cms_search.specs.Machine.{Machine};
 ghost use Rattle.cms_search.specs.Shows.{Shows};
 ghost use Rattle.cms_files.specs.Files.{UnitFile};
-ghost use Rattle.cms_copyfile.specs.Measures.{measured};
-ghost use Rattle.cms_copyfile.specs.Outputs.{copies_in};
+ghost use Rattle.cms_files.specs.Told.{info_named};
+ghost use Rattle.cms_copyfile.specs.Measures.{IsMeasure, measured};
+ghost use Rattle.cms_copyfile.specs.Outputs.{IsPlan, copies_in};
 ghost use Rattle.cms_copyfile.specs.Records.{copied, folded, truncated_if};
 ghost use Rattle.cms_copyfile.specs.Told.{IsFoundAs};
+ghost use Rattle.cms_copyfile.specs.declared.output.FileForm as forms;
 
 use crate::copy::FileCopy;
 use crate::measure::{Measure, head_bytes};
@@ -107,9 +109,14 @@ fn stays_varying(info: &FileInfo, plan: &CopyPlan) -> bool
 
 // The copies of a file of varying records that are all as long as its records: they fill as many bytes.
 fn measure_whole(table: &Table, file: &FileCopy, plan: &CopyPlan) -> Option<Measure>
+    requires sound { IsFileInfo file.now.input }
+    requires told { Some file.now.input
+        ≡ info_named table.now file.now.found.letter file.now.found.name }
     ensures measured { IfSome result
         (λ m. (s : Machine) (x : UnitFile) → Shows table.now s → IsFoundAs s file.now x
         → m ≡ measured plan.now.format (copies_in plan.now x.file.records)) }
+    ensures sound { (form : forms.FileForm) → IsPlan form file.now.input.count plan.now
+        → IfSome result (IsMeasure form) }
     ensures count { IfSome result (λ m. m.count ≤ plan.now.wanted) }
     ensures bytes { IfSome result (λ m. m.bytes < 2 ^ 63) }
 {
@@ -129,9 +136,13 @@ fn measure_whole(table: &Table, file: &FileCopy, plan: &CopyPlan) -> Option<Meas
 // lengths, or some of them are copied.
 pub(crate) fn measure_told(table: &Table, file: &FileCopy, plan: &CopyPlan) -> Option<Measure>
     requires sound { IsFileInfo file.now.input }
+    requires told { Some file.now.input
+        ≡ info_named table.now file.now.found.letter file.now.found.name }
     ensures measured { IfSome result (λ m. (s : Machine) (x : UnitFile) → Shows table.now s
         → IsFoundAs s file.now x
         → m ≡ measured plan.now.format (copies_in plan.now x.file.records)) }
+    ensures sound { (form : forms.FileForm) → IsPlan form file.now.input.count plan.now
+        → IfSome result (IsMeasure form) }
     ensures count { IfSome result (λ m. m.count ≤ plan.now.wanted) }
     ensures bytes { IfSome result (λ m. m.bytes < 2 ^ 63) }
 {

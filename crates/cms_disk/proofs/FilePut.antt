@@ -11,7 +11,8 @@ use Rattle.cms_fields.specs.declared.time.Stamp.{Stamp}
 use Rattle.cms_model.specs.Minidisks.{File, Minidisk, Volume}
 use Rattle.cms_model.specs.Records.{Fits, IsValid, StandsFor, length_of, stored, with_length}
 use Rattle.cms_model.proofs.Records.{length-with_length, length_stored_fixed}
-use Rattle.cms_edf.specs.FileDrafts.{FileDraft, IsDraftFor, IsSized, LeadsToFile, file_for, list_with, tree_of}
+use Rattle.cms_held.specs.Kept.{IsSized}
+use Rattle.cms_edf.specs.FileDrafts.{FileDraft, IsDraftFor, LeadsToFile, file_for, list_with, tree_of}
 use Rattle.cms_edf.specs.Growing.{IsMoreFor}
 use Rattle.cms_edf.proofs.DraftPut.{more_edit, more_edit_is, more_is_some, new_edit_is, new_is_some}
 use Rattle.cms_model.specs.Changes.{Add, Answer, Change, Changed, Full, Limited, Put, answer_of, changed}
@@ -131,7 +132,7 @@ var_long size (r ∷ rs) each =
     let one : length (with_length r) ≡ 2 + length r = length-with_length r in
     omega (arith, here, rest, long, one)
 
-sized_at : (format : Format) (size count bytes : ℕ) (rs : List (List ℕ)) → All (Fits format size) rs → count ≡ length rs → bytes ≡ length (stored format rs) → IsSized format size count bytes
+pub sized_at : (format : Format) (size count bytes : ℕ) (rs : List (List ℕ)) → All (Fits format size) rs → count ≡ length rs → bytes ≡ length (stored format rs) → IsSized format size count bytes
 sized_at F size count bytes rs each count_is bytes_is =
     bytes_is ∙ (length_stored_fixed size rs each ∙ (ap (λ (n : ℕ). n * size) (sym count_is) ∙ mul_comm count size))
 sized_at V size count bytes rs each count_is bytes_is = let low = var_long size rs each in omega (arith, low, count_is, bytes_is)

@@ -21,5 +21,6 @@ pub mod StepPieces
 pub mod Formatting
 pub mod Beginning
 pub mod Extending
+pub mod Lengthened
 pub mod AddAnswering
 pub mod TooMany

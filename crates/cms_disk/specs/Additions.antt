@@ -108,10 +108,13 @@ BeginsMore old new d e name shape stamp draft =
 
 -- ---- records that are added at once
 
--- the records have the format of the file of a name, and where all have one length, its
+-- the records have the format of a file of which this is told, and where all have one length, its
+abbrev pub FitsInfo : FileInfo → FileData → Type 0
+FitsInfo info more = (more.format ≡ info.format) × (info.format ≡ F → more.length ≡ info.length)
+
+-- so have they those of the file of a name
 abbrev pub FitsFile : HeldVolume → Name → FileData → Type 0
-FitsFile v name more = (k : ℕ) (info : FileInfo) → place_of name v ≡ Some k → slice_get (infos_in v) k ≡ Some info
-    → (more.format ≡ info.format) × (info.format ≡ F → more.length ≡ info.length)
+FitsFile v name more = (k : ℕ) (info : FileInfo) → place_of name v ≡ Some k → slice_get (infos_in v) k ≡ Some info → FitsInfo info more
 
 -- the shape of a file of which this is told, with such records behind its own
 abbrev pub shape_with : FileInfo → ℕ → FileData → DraftShape

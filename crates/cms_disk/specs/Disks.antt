@@ -5,6 +5,7 @@ use Rattle.cms_journal.specs.Journal.{Journal, HasBlocks, adds}
 use Rattle.cms_journal.specs.Told.{Told}
 use Rattle.cms_names.specs.declared.name.Name.{Name}
 use Rattle.cms_fields.specs.Limits.{longest_record, most_records}
+use Rattle.cms_fields.specs.Stamps.{is_stamp}
 use Rattle.cms_model.specs.Trees.{Image}
 use Rattle.cms_model.specs.Minidisks.{File, Minidisk, Not, same_name}
 use Rattle.cms_model.specs.Records.{stored}
@@ -54,9 +55,10 @@ IsLookedAt j d = LooksAs j d.volume.unit d.volume.disk
 
 -- ---- what is told of its files
 
--- it is told of a file: its mode number is 0 to 6, it has 1 to 1,048,576 records, and the longest of them 1 to 65,535 bytes
+-- it is told of a file: its mode number is 0 to 6, its stamp is valid, it has 1 to 1,048,576 records, and the longest of them 1 to 65,535 bytes
 pub record IsFileInfo (info : FileInfo) : Type 0 where
   pub number : info.number ≤ 6
+  pub stamp : is_stamp info.stamp ≡ true
   pub some : 1 ≤ info.length
   pub short : info.length ≤ longest_record
   pub records : 1 ≤ info.count

@@ -1,5 +1,5 @@
 // Records that are added to a file.
-ghost use Rattle.std.specs.Prelude.{◌≡◌, ◌⊎◌, ◌+◌, ℕ, List, true, false, None, Some, Err, length, slice_get, ◌<◌, IfErr, IfOk, OnOk};
+ghost use Rattle.std.specs.Prelude.{◌≡◌, ◌⊎◌, ◌+◌, ℕ, List, true, false, None, Some, Err, length, slice_get, ◌<◌, IfErr, IfOk, OnErr, OnOk};
 ghost use Rattle.std.specs.Option.{ForSome};
 ghost use Rattle.cms_journal.specs.Journal.{Journal, IsWritable};
 ghost use Rattle.cms_world.specs.Seen.{seen};
@@ -10,45 +10,19 @@ ghost use Rattle.cms_model.specs.Changes.{Add};
 ghost use Rattle.cms_model.specs.Records.{IsValid, StandsFor};
 ghost use Rattle.cms_edf.specs.Asking.{infos_in, stored_in};
 ghost use Rattle.cms_edf.specs.declared.held.FileInfo as infos;
-ghost use Rattle.cms_disk.specs.Additions.{CanExtend, FitsFile, IsAddFault, IsTold, shape_with};
+ghost use Rattle.cms_disk.specs.Additions.{CanExtend, FitsFile, FitsInfo, IsAddFault, IsTold, shape_with};
 ghost use Rattle.cms_disk.specs.Changing.{Appends, ChangesDisk, IsPutIn};
 ghost use Rattle.cms_disk.specs.Disks.{IsMinidisk, IsReadable, place_of};
-ghost use Rattle.cms_disk.specs.declared.fault.DiskFault.TheVariants.{Limit, Memory, NotFound, ReadOnly};
+ghost use Rattle.cms_disk.specs.declared.fault.DiskFault.TheVariants.{Limit, NotFound, ReadOnly};
 
 use crate::fault::DiskFault;
 use crate::minidisk::Minidisk;
 use crate::putting::put_records;
-use cms_edf::{DraftShape, FileData, FileInfo, can_draft};
+use cms_edf::{DraftShape, FileData};
 use cms_fields::Stamp;
-use cms_names::{Format, Name};
+use cms_names::Name;
 use cms_world::World;
 use std::alloc::Global;
-
-/// Whether a file of which this is told, with so many stored bytes, can become one of a shape, with more records.
-pub fn can_extend(info: &FileInfo, stored: u32, shape: &DraftShape) -> bool
-    ensures can { result ≡ true → CanExtend info.now stored shape.now }
-    ensures none { result ≡ false → CanExtend info.now stored shape.now → ⊥ }
-{
-    if shape.format != info.format {
-        return false;
-    }
-    if shape.number != info.number {
-        return false;
-    }
-    if shape.format == Format::F && shape.length != info.length {
-        return false;
-    }
-    if shape.length < info.length {
-        return false;
-    }
-    if shape.count <= info.count {
-        return false;
-    }
-    if shape.bytes <= u64::from(stored) {
-        return false;
-    }
-    can_draft(shape)
-}
 
 // The limit of a file's records, among those of a minidisk.
 const RECORDS_LIMIT: u32 = 2;
@@ -57,7 +31,10 @@ impl Minidisk {
     // The shape of the file at a place with these records behind its own. More of them than a number of 32 bits counts are past the limit
     // of a file's records.
     fn shape_with(&self, place: u32, more: &FileData) -> Result<DraftShape, DiskFault>
-        requires { place < length self.now.volume.files }
+        requires place { place < length self.now.volume.files }
+        requires more { IsValid more.now }
+        requires fits { (info : infos.FileInfo)
+            → slice_get (infos_in self.now.volume) place ≡ Some info → FitsInfo info more.now }
         ensures shape { IfOk result (λ shape. (info : infos.FileInfo) (bytes : ℕ)
             → slice_get (infos_in self.now.volume) place ≡ Some info
             → slice_get (stored_in self.now.volume) place ≡ Some bytes
@@ -66,8 +43,8 @@ impl Minidisk {
             → slice_get (infos_in self.now.volume) place ≡ Some info
             → slice_get (stored_in self.now.volume) place ≡ Some bytes
             → CanExtend info bytes shape) }
-        ensures fault { IfErr result (λ e. (e ≡ Memory) ⊎ (e ≡ Limit 2)) }
-        ensures many { IfErr result (λ e. e ≡ Limit 2 → (info : infos.FileInfo)
+        ensures fault { IfErr result (λ e. e ≡ Limit 2) }
+        ensures many { OnErr result ((info : infos.FileInfo)
             → slice_get (infos_in self.now.volume) place ≡ Some info
             → most_records < info.count + more.now.count) }
     {
@@ -76,19 +53,14 @@ impl Minidisk {
         let Some(count) = info.count.checked_add(more.count) else {
             return Err(DiskFault::Limit(RECORDS_LIMIT));
         };
-        let shape = DraftShape {
+        Ok(DraftShape {
             format: info.format,
             length: info.length.max(more.length),
             number: info.number,
             stamp: more.stamp,
             count,
             bytes: u64::from(stored) + more.bytes.bytes().len() as u64,
-        };
-        // a file's stored bytes are those of its records, so this is never
-        if !can_extend(&info, stored, &shape) {
-            return Err(DiskFault::Memory);
-        }
-        Ok(shape)
+        })
     }
 
     /// Adds records to the file of a name, of its format and, where all have one length, its length. The file keeps its mode number and

@@ -13,8 +13,7 @@ mod minidisk;
 mod putting;
 mod unit;
 
-pub use appending::can_extend;
-pub use cms_edf::{Draft, DraftShape, FileData, FileInfo, OpenFault, Space, Stored, can_draft};
+pub use cms_edf::{Draft, DraftShape, FileData, FileInfo, OpenFault, Space, Stored};
 pub use cursor::Cursor;
 pub use drafting::put_record;
 pub use fault::{AccessFault, DiskFault};

@@ -9,7 +9,7 @@ ghost use Rattle.cms_model.specs.LawsUpdates.{now};
 ghost use Rattle.cms_model.specs.Trees.{image_of};
 ghost use Rattle.cms_model.specs.declared.fault.OpenFault.TheVariants as failed;
 ghost use Rattle.cms_edf.specs.Asking.{infos_in, space_of, stored_in};
-ghost use Rattle.cms_held.specs.Kept.{Keeps};
+ghost use Rattle.cms_held.specs.Kept.{IsSized, Keeps};
 ghost use Rattle.cms_held.specs.Opening.{HeldFile};
 ghost use Rattle.cms_edf.specs.OpeningSteps.{OfImage};
 ghost use Rattle.cms_disk.specs.Cursors.{IsFirst};
@@ -119,6 +119,8 @@ impl Minidisk {
     pub fn stored(&self, nth: u32) -> u32
         requires { nth < length self.now.volume.files }
         ensures stored { slice_get (stored_in self.now.volume) nth ≡ Some result }
+        ensures sized { IfSome (slice_get (infos_in self.now.volume) nth)
+            (λ info. IsSized info.format info.length info.count result) }
         ensures records { HasStored self.now nth result }
     {
         self.held.stored(nth)

@@ -98,6 +98,7 @@ kept_file v d some size =
       short = some.asked.high;
       told = refl;
       size = l.2;
+      sized = some.asked.sized;
       shape = record { some = omega arith; few = omega arith; nodes = some.pointers_are };
       low = ends.0;
       high = ends.1;

@@ -32,7 +32,7 @@ use Rattle.cms_map.proofs.Free.{free_are_unused}
 use Rattle.cms_held.proofs.Renewals.{all_of}
 use Rattle.cms_held.specs.Allotting.{IsPlanned}
 use Rattle.cms_held.specs.EntryPlaces.{IsEnoughFor}
-use Rattle.cms_held.specs.Kept.{Keeps}
+use Rattle.cms_held.specs.Kept.{IsSized, Keeps}
 use Rattle.cms_held.specs.Opening.{HeldFile, HeldTree, HeldVolume, names_in}
 use Rattle.cms_held.specs.Systems.{Systems}
 use Rattle.cms_held.specs.Renewing.{Edit, blocks_in, entries_held, needed}
@@ -44,7 +44,7 @@ use Rattle.cms_held.specs.Written.{ReadsBack}
 use Rattle.cms_edf.specs.Allotting.{IsAllottedFor, all_fresh, given_back, need_of, own_fresh, numbers_made}
 use Rattle.cms_edf.specs.declared.allotment.Allotment.{Allotment}
 use Rattle.cms_edf.specs.declared.allotment.Exchange.{Exchange}
-use Rattle.cms_edf.specs.FileDrafts.{CanDraft, GivenAt, IsFilePlanned, IsPlaceIn, IsSized, list_with, entry_for, file_for}
+use Rattle.cms_edf.specs.FileDrafts.{CanDraft, GivenAt, IsFilePlanned, IsPlaceIn, list_with, entry_for, file_for}
 use Rattle.cms_edf.specs.Planning.{AreEnoughFor, IsFilled}
 use Rattle.cms_edf.proofs.AllottedParts.{Asks, planned_of}
 use Rattle.cms_edf.proofs.EditsEnough.{put_enough}

@@ -13,7 +13,7 @@ use Rattle.cms_tree.specs.Walks.{AreWithin}
 use Rattle.cms_tree.specs.declared.types.Walked.{Walked}
 use Rattle.cms_held.specs.Opening.{HeldFile, Holding, by_name, names_in}
 use Rattle.cms_edf.specs.EntryShapes.{EndsIn, HasSize}
-use Rattle.cms_held.specs.Kept.{IsKeptFile}
+use Rattle.cms_held.specs.Kept.{IsKeptFile, IsSized}
 use Rattle.cms_held.specs.Written.{ReadsBack}
 use Rattle.cms_edf.proofs.RecordsRead.{made}
 
@@ -59,8 +59,8 @@ passes_told bsize e size fixed = at_formats e.format e.length fixed
 pub file_kept : (bsize total : ℕ) (e : Entry) (w : Walked) (told : RecordsTold) (f : HeldFile) → f ≡ made e w told → passes bsize e ≡ true → ReadsBack f.entry → HasSize bsize e → length w.leaves.items ≡ e.blocks
     → length w.pointers.items ≡ pointer_count (fan_of bsize e.format) e.blocks
     → AreWithin total None w.leaves.items → AreWithin total None w.pointers.items → 1 ≤ told.sizes.longest → told.sizes.longest ≤ 65535 → (e.format ≡ F → told.sizes.longest ≡ e.length) → told.sizes.stored ≤ 67108864
-    → EndsIn bsize (length w.leaves.items) told.sizes.stored → IsKeptFile bsize total f
-file_kept bsize total e w told f is passing back size count nodes within nodes_within some short fixed stored ends =
+    → IsSized e.format told.sizes.longest e.count told.sizes.stored → EndsIn bsize (length w.leaves.items) told.sizes.stored → IsKeptFile bsize total f
+file_kept bsize total e w told f is passing back size count nodes within nodes_within some short fixed stored sized ends =
     let room : length w.leaves.items * bsize ≤ 67108864 = rw count size.room in
     let n = counted (length w.leaves.items) bsize told.sizes.stored ends room in
     subst (IsKeptFile bsize total) (sym is) (record {
@@ -74,6 +74,7 @@ file_kept bsize total e w told f is passing back size count nodes within nodes_w
       short = short;
       told = refl;
       size = stored;
+      sized = sized;
       shape = record { some = n.0; few = n.1; nodes = nodes ∙ ap (pointer_count (fan_of bsize e.format)) (sym count) };
       low = ends.0;
       high = ends.1;

@@ -136,6 +136,7 @@ kept_renamed bsize total f to number small back k = record {
   short = k.short;
   told = k.told;
   size = k.size;
+  sized = k.sized;
   shape = k.shape;
   low = k.low;
   high = k.high;

@@ -1,10 +1,12 @@
 -- The records of files, read one file after another.
-use Rattle.std.proofs.Common.{◌≡◌, ℕ, zero, suc, ◌+◌, ◌*◌, ◌<◌, ◌≤◌, List, [], ◌∷◌, ◌++◌, length, take, drop, map, get_or, slice_index, Option, Some, Result, Ok, Err, refl, sym, ◌∙◌, ap, subst, arith, append-nil, length-append, length-drop, length-take-le}
+use Rattle.std.proofs.Common.{◌≡◌, ℕ, zero, suc, ◌+◌, ◌*◌, ◌<◌, ◌≤◌, List, [], ◌∷◌, ◌++◌, length, take, drop, map, get_or, slice_index, Option, Some, Result, Ok, Err, refl, sym, ◌∙◌, ap, subst, arith, append-nil, mul_comm, length-append, length-drop, length-take-le}
 use Rattle.std.specs.Prelude.{IfOk, IfErr, nat_le}
+use Rattle.std.specs.List.{concat}
 use Rattle.std.proofs.lemmas.Bool.{leb-true}
 use Rattle.std.proofs.lemmas.List.{drop_all, take_all}
 use Rattle.cms_journal.specs.Journal.{Journal, contents_of}
 use Rattle.cms_journal.specs.Told.{Told}
+use Rattle.cms_names.specs.declared.name.Format.{Format}
 use Rattle.cms_names.specs.declared.name.Format.TheVariants.{F, V}
 use Rattle.cms_text.specs.Bytes.{half}
 use Rattle.cms_fields.specs.Steps.{◌>>=◌}
@@ -12,7 +14,7 @@ use Rattle.cms_fields.specs.Entries.{fan_of}
 use Rattle.cms_fields.specs.declared.entry.Entry.{Entry}
 use Rattle.cms_model.specs.Lists.{cut}
 use Rattle.cms_model.specs.Trees.{Image, bytes_at, image_of}
-use Rattle.cms_model.specs.Records.{varying, records_of, longest}
+use Rattle.cms_model.specs.Records.{varying, records_of, longest, with_length}
 use Rattle.cms_model.specs.Sizes.{pointer_count}
 use Rattle.cms_model.specs.Volumes.{blamed, contents_in}
 use Rattle.cms_model.specs.declared.fault.VarFault.{VarFault}
@@ -22,6 +24,7 @@ use Rattle.cms_model.specs.declared.fault.OpenFault.TheVariants as failed
 use Rattle.cms_records.specs.declared.sizes.VarSizes.{VarSizes}
 use Rattle.cms_records.specs.Scans.{Scan, IsFed, filled_by, sizes_in, sizes_of}
 use Rattle.cms_tree.specs.declared.types.Walked.{Walked}
+use Rattle.cms_held.specs.Kept.{IsSized}
 use Rattle.cms_held.specs.Opening.{IsFaultOf, HeldFile}
 use Rattle.cms_held.specs.Marks.{nowhere, start_of}
 use Rattle.cms_edf.specs.declared.contents.RecordsTold.{RecordsTold}
@@ -30,6 +33,7 @@ use Rattle.cms_edf.specs.EntryShapes.{EndsIn, HasSize}
 use Rattle.cms_edf.specs.OpeningFiles.{records_in, AreSized, HasRecords, told_file, told_files, HasContents, HaveCounts, entry_sizes, walked_sizes}
 use Rattle.cms_model.proofs.Results.{ok_same, want_ok, bind_then}
 use Rattle.cms_model.proofs.Opening.{blamed_ok}
+use Rattle.cms_model.proofs.Records.{length-with_length}
 use Rattle.cms_edf.proofs.EntryTests.{ends_last}
 use Rattle.cms_edf.proofs.Faults.{fault_is, fault_passes}
 use Rattle.cms_edf.proofs.Gathered.{Reads, reads_first, reads_next, reads_last}
@@ -127,6 +131,39 @@ sizes_some (Ok sizes) number bsize (suc n) bytes some is =
     let t = told_varying number (varying bsize (suc n) 0 bytes) sizes (sym is) in
     let least = longest_some bsize n 0 bytes t.0 (blamed_ok (failed.Var number) (varying bsize (suc n) 0 bytes) t.0 t.1) in
     subst (λ (s : VarSizes). 1 ≤ s.longest) t.2 least
+
+-- each record that is read takes three bytes at least
+records_low : (bsize n place : ℕ) (bytes : List ℕ) (rs : List (List ℕ)) → varying bsize n place bytes ≡ Ok rs → 3 * n ≤ filled_by rs
+unfolding varying
+records_low bsize zero place bytes rs e = omega arith
+records_low bsize (suc n) place bytes rs e =
+    let len = half bytes 0 in
+    let p1 = want_ok (nat_le 2 (length bytes)) (PastEnd place) _ rs e in
+    let p2 = want_ok (nat_le 1 len) (Zero place) _ rs p1.1 in
+    let p3 = want_ok (nat_le (2 + len) (length bytes)) (PastEnd place) _ rs p2.1 in
+    let least = leb-true 1 len p2.0 in
+    let fit = leb-true (2 + len) (length bytes) p3.0 in
+    bind_then (varying bsize n (place + (2 + len)) (drop (2 + len) bytes)) _ rs p3.1 (λ more is_more done.
+    let text = take len (drop 2 bytes) in
+    let two = length-drop 2 bytes in
+    let long : length text ≡ len = length-take-le len (drop 2 bytes) (omega arith) in
+    let rest = records_low bsize n (place + (2 + len)) (drop (2 + len) bytes) more is_more in
+    let joined = length-append (with_length text) (concat (map with_length more)) in
+    let first = length-with_length text in
+    subst (λ (l : List (List ℕ)). 3 * suc n ≤ filled_by l) (ok_same (text ∷ more) rs done) (omega arith))
+
+pub varying_sized : (r : Result VarSizes OpenFault) (number bsize count : ℕ) (bytes : List ℕ) → r ≡ blamed (failed.Var number) (sizes_in bsize count bytes) → IfOk r (λ sizes. 3 * count ≤ sizes.stored)
+varying_sized (Err e) number bsize count bytes is = tt
+varying_sized (Ok sizes) number bsize count bytes is =
+    let t = told_varying number (varying bsize count 0 bytes) sizes (sym is) in
+    let low = records_low bsize count 0 bytes t.0 (blamed_ok (failed.Var number) (varying bsize count 0 bytes) t.0 t.1) in
+    subst (λ (s : VarSizes). 3 * count ≤ s.stored) t.2 low
+
+pub fixed_sized : (format : Format) (size count bytes : ℕ) → format ≡ F → bytes ≡ count * size → IsSized format size count bytes
+fixed_sized format size count bytes is stored = rw is (stored ∙ mul_comm count size)
+
+pub sized_so : (format : Format) (size count bytes : ℕ) → format ≡ V → 3 * count ≤ bytes → IsSized format size count bytes
+sized_so format size count bytes is low = rw is low
 
 pub fixed_has : (bsize : ℕ) (image : Image) (number : ℕ) (e : Entry) (leaves : List ℕ) (told : RecordsTold) → e.format ≡ F → told.sizes.longest ≡ e.length → told.sizes.stored ≡ e.count * e.length
     → told.start ≡ nowhere → HasRecords bsize image number e leaves told

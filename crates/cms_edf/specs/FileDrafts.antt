@@ -1,13 +1,11 @@
 -- A file that is drafted for a volume as it is held: what is planned for it.
-use Rattle.std.specs.Prelude.{◌≡◌, ℕ, ◌+◌, ◌*◌, ◌<◌, ◌≤◌, true, List, [], ◌∷◌, ◌++◌, length, position, slice_get, slice_set, All, Option, None, Some, Result, Ok, Err, ⊤}
+use Rattle.std.specs.Prelude.{◌≡◌, ℕ, ◌+◌, ◌<◌, ◌≤◌, true, List, [], ◌∷◌, ◌++◌, length, position, slice_get, slice_set, All, Option, None, Some, Result, Ok, Err, ⊤}
 use Rattle.std.specs.Option.{ForSome}
 use Rattle.cms_journal.specs.Journal.{Journal}
 use Rattle.cms_journal.specs.Told.{Told, plus}
 use Rattle.cms_journal.specs.declared.event.Event.{Event}
 use Rattle.cms_journal.specs.declared.event.Failed.{Failed}
 use Rattle.cms_names.specs.declared.name.Name.{Name}
-use Rattle.cms_names.specs.declared.name.Format.{Format}
-use Rattle.cms_names.specs.declared.name.Format.TheVariants.{F, V}
 use Rattle.cms_fields.specs.Entries.{fan_of, passes}
 use Rattle.cms_fields.specs.Limits.{longest_record, most_files}
 use Rattle.cms_fields.specs.Numbers.{up}
@@ -22,6 +20,7 @@ use Rattle.cms_model.specs.Settled.{Write, update}
 use Rattle.cms_model.specs.Sizes.{levels, pointer_count}
 use Rattle.cms_map.specs.Bits.{free_blocks}
 use Rattle.cms_tree.specs.Builds.{root_of}
+use Rattle.cms_held.specs.Kept.{IsSized}
 use Rattle.cms_held.specs.Opening.{HeldFile, HeldTree, HeldVolume, names_in}
 use Rattle.cms_held.specs.Systems.{Systems}
 use Rattle.cms_held.specs.Renewing.{Edit, blocks_in, renewed}
@@ -73,11 +72,6 @@ file_for bsize name shape tree start = record {
 }
 
 -- ---- what is asked for
-
--- so many records of this format and length can have so many stored bytes
-abbrev pub IsSized : Format → ℕ → ℕ → ℕ → Type 0
-IsSized F size count bytes = bytes ≡ size * count
-IsSized V size count bytes = 3 * count ≤ bytes
 
 -- a shape that a file may have
 pub record CanDraft (shape : DraftShape) : Type 0 where

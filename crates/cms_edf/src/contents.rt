@@ -14,7 +14,7 @@ ghost use Rattle.cms_model.specs.Records.{varying};
 ghost use Rattle.cms_held.specs.Marks.{start_of};
 ghost use Rattle.cms_tree.specs.Walks.{IsWithin};
 ghost use Rattle.cms_held.specs.Opening.{IsFaultOf, by_name};
-ghost use Rattle.cms_held.specs.Kept.{IsKeptFile};
+ghost use Rattle.cms_held.specs.Kept.{IsKeptFile, IsSized};
 ghost use Rattle.cms_held.specs.Written.{ReadsBack};
 ghost use Rattle.cms_edf.specs.OpeningSteps.{OfImage, met_in};
 ghost use Rattle.cms_edf.specs.EntryShapes.{EndsIn, HasSize};
@@ -122,6 +122,7 @@ fn read_varying<W: World>(
     ensures some { IfOk result (λ told. 1 ≤ told.sizes.longest) }
     ensures longest { IfOk result (λ told. told.sizes.longest ≤ longest_record) }
     ensures stored { IfOk result (λ told. told.sizes.stored ≤ most_bytes) }
+    ensures sized { IfOk result (λ told. 3 * count ≤ told.sizes.stored) }
     ensures ends { 1 ≤ length leaves.now
         → IfOk result (λ told. EndsIn place.now.bsize (length leaves.now) told.sizes.stored) }
     ensures reads { OnlyReads (seen W.World world.old)
@@ -162,6 +163,8 @@ fn read_sizes<W: World>(
     ensures fixed { IfOk result (λ told. entry.now.format ≡ F
         → told.sizes.longest ≡ entry.now.length) }
     ensures stored { IfOk result (λ told. told.sizes.stored ≤ most_bytes) }
+    ensures sized { IfOk result (λ told.
+        IsSized entry.now.format told.sizes.longest entry.now.count told.sizes.stored) }
     ensures ends { IfOk result (λ told.
         EndsIn place.now.bsize (length leaves.now) told.sizes.stored) }
     ensures reads { OnlyReads (seen W.World world.old)

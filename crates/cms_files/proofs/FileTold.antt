@@ -1,6 +1,6 @@
 -- What a table tells of the file of a name is what the machine has.
 use Rattle.std.proofs.Common.{◌≡◌, ◌∙◌, ◌<◌, ℕ, zero, suc, List, [], ◌∷◌, Result, Ok, Err, length, refl, sym, ap, subst, arith}
-use Rattle.std.specs.Prelude.{Option, Some, None, slice_get, slice_index_or}
+use Rattle.std.specs.Prelude.{Option, Some, None, IfSome, slice_get, slice_index_or}
 use Rattle.std.specs.Option.{option_and_then, option_map}
 use Rattle.std.proofs.lemmas.Option.{slice_get-get_or}
 use Rattle.cms_names.specs.declared.name.Name.{Name}
@@ -130,3 +130,18 @@ named_stored t s n name bytes is shows = cases (item_at t.seats n) refl
     cases : (x : Option Seated) → item_at t.seats n ≡ x → HasStored bytes (file_on s name (letter_at s n))
     cases None at = absurd (no_bytes bytes (is ∙ ap (bytes_in name) at))
     cases (Some seat) at = placed seat at (place_of name seat.disk.volume) refl (is ∙ ap (bytes_in name) at)
+
+-- ---- what is told of the file at the place of a name, in every world
+
+pub named_if : (t : Accesses) (n : ℕ) (name : Name) (d : Accessed) (k : ℕ) (P : FileInfo → Type 0) → Some d ≡ option_map (λ (s : Seated). s.disk) (item_at t.seats n)
+    → Some k ≡ place_of name d.volume → IfSome (slice_get (infos_in d.volume) k) P → IfSome (info_named t n name) P
+named_if t n name d k P is there holds = cases (item_at t.seats n) is
+  where
+    placed : IfSome (option_and_then (λ (k : ℕ). slice_get (infos_in d.volume) k) (place_of name d.volume)) P
+    placed = subst (λ (place : Option ℕ). IfSome (option_and_then (λ (k : ℕ). slice_get (infos_in d.volume) k) place) P) there holds
+
+    cases : (x : Option Seated) → Some d ≡ option_map (λ (s : Seated). s.disk) x → IfSome (named_in name x) P
+    cases None is = absurd (cc is)
+    cases (Some s) is =
+        let same : d ≡ s.disk = cc is in
+        subst (λ (a : Accessed). IfSome (option_and_then (λ (k : ℕ). slice_get (infos_in a.volume) k) (place_of name a.volume)) P) same placed

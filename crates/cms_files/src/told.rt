@@ -1,5 +1,6 @@
 // What is told of files.
 ghost use Rattle.std.specs.Prelude.{◌≡◌, IfSome};
+ghost use Rattle.cms_held.specs.Kept.{IsSized};
 ghost use Rattle.cms_disk.specs.Disks.{IsFileInfo};
 ghost use Rattle.cms_search.specs.Machine.{Machine, letter_at};
 ghost use Rattle.cms_search.specs.Shows.{Shows};
@@ -25,6 +26,8 @@ pub fn stored_named(table: &Table, letter: u8, name: &Name) -> Option<u32>
     ensures told { result ≡ spec.stored_named table.now letter name.now }
     ensures stored { IfSome result (λ bytes. (s : Machine) → Shows table.now s
         → spec.HasStored bytes (file_on s name.now (letter_at s letter))) }
+    ensures sized { IfSome result (λ bytes. IfSome (spec.info_named table.now letter name.now)
+        (λ info. IsSized info.format info.length info.count bytes)) }
 {
     let disk = table.disk(letter)?;
     let place = disk.find(name)?;

@@ -85,6 +85,7 @@ kept_file_moved bsize total pivot f small back k = record {
   short = k.short;
   told = k.told;
   size = k.size;
+  sized = k.sized;
   shape = k.shape;
   low = k.low;
   high = k.high;

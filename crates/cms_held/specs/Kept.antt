@@ -1,6 +1,8 @@
 -- What a volume that is held always is, also in a world that tells nothing.
 use Rattle.std.specs.Prelude.{◌≡◌, ◌<◌, ◌≤◌, ℕ, ◌-◌, ◌*◌, ◌/◌, ◌^◌, Bool, true, List, length, All}
 use Rattle.cms_journal.specs.Journal.{IsBlockSize}
+use Rattle.cms_names.specs.declared.name.Format.{Format}
+use Rattle.cms_names.specs.declared.name.Format.TheVariants.{F, V}
 use Rattle.cms_fields.specs.Limits.{longest_record, most_bytes, most_files}
 use Rattle.cms_fields.specs.Entries.{fan_of, passes}
 use Rattle.cms_fields.specs.declared.label.Label.{Label}
@@ -11,9 +13,14 @@ use Rattle.cms_held.specs.Opening.{HeldFile, HeldTree, HeldVolume}
 use Rattle.cms_held.specs.SharedTrees.{HasShape}
 use Rattle.cms_held.specs.Written.{ReadsBack}
 
+-- so many records of this format and length can have so many stored bytes
+abbrev pub IsSized : Format → ℕ → ℕ → ℕ → Type 0
+IsSized F size count bytes = bytes ≡ size * count
+IsSized V size count bytes = 3 * count ≤ bytes
+
 -- a file: its entry passes the tests of an entry, what is written for the entry spells it, it has as many data blocks as that says, which hold at most 67,108,864 bytes, its blocks
 -- lie from 6 to the last block of the volume, and its tree has its shape; the longest of its records has 1 to 65,535 bytes, as many as the entry
--- says; the stored bytes end in its last data block
+-- says; the stored bytes can be those of its records, and end in its last data block
 pub record IsKeptFile (bsize total : ℕ) (f : HeldFile) : Type 0 where
   pub entry : passes bsize f.entry ≡ true
   pub spells : ReadsBack f.entry
@@ -25,6 +32,7 @@ pub record IsKeptFile (bsize total : ℕ) (f : HeldFile) : Type 0 where
   pub short : f.length ≤ longest_record
   pub told : f.entry.length ≡ f.length
   pub size : f.size ≤ most_bytes
+  pub sized : IsSized f.entry.format f.length f.entry.count f.size
   pub shape : HasShape (fan_of bsize f.entry.format) f.tree
   pub low : (length f.tree.leaves - 1) * bsize < f.size
   pub high : f.size ≤ length f.tree.leaves * bsize

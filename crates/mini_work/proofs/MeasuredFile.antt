@@ -11,7 +11,8 @@ use Rattle.cms_names.specs.declared.name.Format.TheVariants.{F, V}
 use Rattle.cms_model.specs.Records.{Fits, length_of, longest, stored, with_length}
 use Rattle.cms_model.proofs.Records.{length-with_length, length_stored_fixed}
 use Rattle.cms_fields.specs.declared.time.Stamp.{Stamp}
-use Rattle.cms_edf.specs.FileDrafts.{CanDraft, IsSized}
+use Rattle.cms_held.specs.Kept.{IsSized}
+use Rattle.cms_edf.specs.FileDrafts.{CanDraft}
 use Rattle.cms_draft.specs.Drafting.{HaveShape}
 use Rattle.cms_draft.specs.declared.shape.DraftShape.{DraftShape}
 use Rattle.cms_copyfile.specs.Measures.{measured}

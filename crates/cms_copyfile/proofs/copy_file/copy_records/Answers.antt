@@ -1,5 +1,6 @@
-use Rattle.std.proofs.Common.{◌≡◌, ◌∙◌, ap, arith}
+use Rattle.std.proofs.Common.{◌≡◌, ◌∙◌, ◌≤◌, ap, subst, arith}
 use Rattle.std.proofs.lemmas.Result.{err_from_is_err_and}
+use Rattle.cms_fields.specs.Limits.{longest_record}
 use Rattle.cms_world.specs.Seen.{seen}
 use Rattle.cms_search.specs.Calls.{spot}
 use Rattle.cms_search.specs.Stepping.{HasRead}
@@ -13,6 +14,7 @@ use Rattle.cms_copyfile.specs.declared.output.FileForm.{FileForm}
 use Rattle.cms_copyfile.proofs.CopiesMeasured.{measured_as}
 use Rattle.cms_copyfile.proofs.CopyInput.{opened_blocks}
 use Rattle.cms_copyfile.proofs.FirstPass.{read_unread}
+use Rattle.cms_copyfile.proofs.InputTold.{left_told}
 use Rattle.cms_copyfile.proofs.OneRead.{whole}
 use Rattle.cms_copyfile.proofs.TablesTold.{wanted_few}
 use Rattle.cms_copyfile.proofs.copy_file.copy_records.Goals as goal
@@ -20,6 +22,10 @@ use Rattle.cms_copyfile.proofs.copy_file.copy_records.Goals as goal
 pub measure_input-measured-requires-clause-blocks : goal.measure_input-measured-requires-clause-blocks
 measure_input-measured-requires-clause-blocks g c =
     opened_blocks _ c.args.state.now.table c.args.file.now.found.letter c.args.file.now.found.name c.in_ok-input.input c.in_ok-input.ensures.opened c.requires.usable
+
+pub measure_input-measured-requires-clause-left : goal.measure_input-measured-requires-clause-left
+measure_input-measured-requires-clause-left g c =
+    left_told c.args.state.now.table c.args.file.now c.in_ok-input.input c.requires.file.input c.in_ok-input.ensures.opened
 
 pub put_measured-requires-clause-usable : goal.put_measured-requires-clause-usable
 put_measured-requires-clause-usable g c = let told = c.in-Ok.ensures.reads.told in rw told c.requires.usable
@@ -33,6 +39,21 @@ put_measured-requires-clause-count g c =
     let less = wanted_few style input.count in
     let few = c.requires.file.sound.few in
     omega (arith, wanted, measured, less, few)
+
+pub put_measured-requires-clause-sound : goal.put_measured-requires-clause-sound
+put_measured-requires-clause-sound g c =
+    let style = c.args.line.now.style in
+    let file = c.args.file.now in
+    let form = c.short_form-form.ensures in
+    c.in-Ok.ensures.sound (form_into c.args.line.now file)
+    (record {
+      style = style;
+      sound = c.requires.line.style;
+      plan_is = c.plan_of-plan.ensures ∙ ap (λ (f : FileForm). plan_of style f file.input.count) form.form;
+      first = c.requires.some;
+      low = subst (λ (f : FileForm). 1 ≤ f.length) form.form form.some;
+      high = subst (λ (f : FileForm). f.length ≤ longest_record) form.form form.short;
+    })
 
 pub put_measured-requires-clause-plan : goal.put_measured-requires-clause-plan
 put_measured-requires-clause-plan g c = c.plan_of-plan.ensures ∙ ap (λ (f : FileForm). plan_of c.args.line.now.style f c.args.file.now.input.count) c.short_form-form.ensures.form
@@ -49,7 +70,7 @@ returns-in-Ok-clause-acts g c = λ words.
     let read : HasRead (seen g.W.World c.args.world.now) mid.world = only_read _ _ _ _ e.reads in
     let planned = c.plan_of-plan.ensures ∙ ap (λ (z : FileForm). plan_of line.style z f.input.count) c.short_form-form.ensures.form in
     c.put_measured.ensures.acts (seen g.W.World c.args.world.now) words read
-    (measured_as mid line f (form_into line f) input c.in-Ok.measure c.plan_of-plan.result planned c.requires.file opened c.in_ok-input.ensures.short c.requires.style (rw told e.measured) (rw told e.records))
+    (measured_as mid line f (form_into line f) input c.in-Ok.measure c.plan_of-plan.result planned c.requires.file opened c.in_ok-input.ensures.short c.requires.line.style (rw told e.measured) (rw told e.records))
 
 pub returns-in_err-buffer-clause-acts : goal.returns-in_err-buffer-clause-acts
 returns-in_err-buffer-clause-acts g c = λ words.

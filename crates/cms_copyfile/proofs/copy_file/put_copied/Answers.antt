@@ -27,7 +27,7 @@ write_copies-written-requires-clause-accessed g c = written_there c.args.state.n
 pub write_copies-written-requires-clause-may : goal.write_copies-written-requires-clause-may
 write_copies-written-requires-clause-may g c =
     let to : CopyTarget = record { letter = c.args.file.now.letter; name = c.args.file.now.name; write = c.args.write; shape = c.args.shape.now; stamp = c.of.result } in
-    may_at _ c.args.state.now.table to.letter c.vdev-vdev.result to c.vdev-vdev.ensures.accessed c.requires.usable (c.fits_disk.ensures c.if-not-fits_disk.false)
+    may_at _ c.args.state.now.table to.letter c.vdev-vdev.result to c.vdev-vdev.ensures.accessed c.requires.usable c.requires.fits
 
 pub write_copies-written-requires-clause-blocks : goal.write_copies-written-requires-clause-blocks
 write_copies-written-requires-clause-blocks g c =
@@ -54,10 +54,6 @@ end_written-requires-clause-device g c =
     let to : CopyTarget = record { letter = c.args.file.now.letter; name = c.args.file.now.name; write = c.args.write; shape = c.args.shape.now; stamp = c.of.result } in
     still_device (λ (x : Seated) (e : Accessed). WritesTo (seen g.W.World c.args.world.now) (seen g.W.World c.write_copies-written.new.world) x.disk e to c.args.plan.now c.in_ok-input.input.cursor
     c.write_copies-written.result) st.table c.write_copies-written.new.table c.args.file.now.letter s.0 c.vdev-vdev.result s.1 c.write_copies-written.ensures.writes c.vdev-vdev.ensures.accessed
-
-pub returns-then-not-fits_disk-clause-acts : goal.returns-then-not-fits_disk-clause-acts
-returns-then-not-fits_disk-clause-acts g c = λ before words line read is shaped.
-    cut_read before (spot g.W.World c.args.world.now c.args.state.now) (whole (spot g.W.World c.args.world.now c.args.state.now) words line c.args.file.now) (updated_of c.args.state.now) read
 
 pub returns-clause-acts : goal.returns-clause-acts
 returns-clause-acts g c = λ before words line read is shaped.

@@ -3,9 +3,16 @@ use Rattle.std.specs.Option.{option_map}
 use Rattle.cms_edf.specs.declared.held.FileInfo.{FileInfo}
 use Rattle.cms_search.specs.Calls.{spot}
 use Rattle.cms_copyfile.specs.FileCopies.{form_in, plan_for}
+use Rattle.cms_copyfile.specs.Measures.{IsMeasure}
 use Rattle.cms_copyfile.specs.OneCopy.{AreMeasured}
 use Rattle.cms_copyfile.specs.Outputs.{form_for}
 use Rattle.cms_copyfile.proofs.copy_file.put_measured.Goals as goal
+
+pub append_measured-requires-clause-sound : goal.append_measured-requires-clause-sound
+append_measured-requires-clause-sound g c =
+    let line = c.args.line.now in
+    let f = c.args.file.now in
+    subst (λ (own : Option FileInfo). IsMeasure (form_for line.style (form_in f.input) (option_map form_in own)) c.args.measure.now) (sym c.in-Some.ensures) c.requires.sound
 
 pub append_measured-requires-clause-plan : goal.append_measured-requires-clause-plan
 append_measured-requires-clause-plan g c =

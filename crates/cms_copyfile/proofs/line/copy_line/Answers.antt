@@ -5,4 +5,7 @@ pub returns-clause-fits : goal.returns-clause-fits
 returns-clause-fits c =
     let forms = c.options.ensures in
     let slice = c.as_slice-2.ensures in
-    rw (c.style_of.ensures, slice) (style_said c.in_ok-files.files.output.existing c.args.words.now c.in_ok-chosen.chosen (rw forms at c.in_ok-chosen.ensures))
+    record {
+      style = rw (c.style_of.ensures, slice) (style_said c.in_ok-files.files.output.existing c.args.words.now c.in_ok-chosen.chosen (rw forms at c.in_ok-chosen.ensures));
+      number = c.in_ok-files.ensures.number;
+    }

@@ -1,4 +1,4 @@
-use Rattle.std.proofs.Common.{rules, ◌≡◌, ◌∙◌, ◌≤◌, ℕ, List, Bool, true, Ok, Err, length, refl, sym, subst, arith}
+use Rattle.std.proofs.Common.{rules, ◌≡◌, ◌∙◌, ◌≤◌, ℕ, List, Bool, true, false, Ok, Err, length, refl, sym, subst, arith}
 use Rattle.std.specs.Prelude.{IsTrue}
 use Rattle.std.proofs.lemmas.Result.{err_from_is_err_and}
 use Rattle.cms_fields.specs.Limits.{longest_record}
@@ -6,6 +6,7 @@ use Rattle.cms_journal.specs.Journal.{contents_of}
 use Rattle.cms_model.specs.Trees.{image_of}
 use Rattle.cms_disk.specs.Cursors.{HandsOut, HasLeft}
 use Rattle.cms_copyfile.proofs.Passes.{measured_first, measured_next, never_altered}
+use Rattle.cms_copyfile.proofs.SoundMeasures.{never_ended, read_sound}
 use Rattle.cms_copyfile.proofs.measuring.measure_copies.Goals as goal
 
 pub loop-place-init : goal.loop-place-init
@@ -14,6 +15,7 @@ loop-place-init g c =
     record {
       to = measured_first (g.W.World.told c.args.world.now) c.args.plan.now c.args.cursor.now c.new-measure.result (c.new-measure.ensures.measured c.args.plan.now.format);
       file = record { unit = refl; total = refl; bsize = refl; leaves = refl; fixed = refl; longest = refl };
+      left = omega arith;
       few = omega arith;
       bytes = omega arith;
       capacity = omega arith;
@@ -44,6 +46,7 @@ loop-place-preserved g c =
           c.text.ensures (subst (λ (t : List ℕ). (1 ≤ length t) × (length t ≤ longest_record)) (sym c.text.ensures) (fits.some, omega (arith, fits.short, a.longest, b.longest, c.requires.short)))
           m.measured;
       file = record { unit = b.unit ∙ a.unit; total = b.total ∙ a.total; bsize = b.bsize ∙ a.bsize; leaves = b.leaves ∙ a.leaves; fixed = b.fixed ∙ a.fixed; longest = b.longest ∙ a.longest };
+      left = omega (arith, n.left sure, l.invariant.left);
       few = m.few;
       bytes = m.bytes;
       capacity = omega (arith, l.invariant.capacity, m.capacity);
@@ -64,3 +67,16 @@ returns-in_err-next-clause-never g c =
     (λ j is all has.
     subst (λ (u : ℕ). HandsOut (image_of (contents_of j u)) next all (Err c.in_err-next.field-0.0)) at
     (c.in_err-next.ensures.records j (l.invariant.told ∙ is) all (subst (λ (u : ℕ). HasLeft (image_of (contents_of j u)) l.cursor all) (sym at) has))))
+
+-- a record is there for each that is wanted
+pub returns-then-not-branch-clause-sound : goal.returns-then-not-branch-clause-sound
+returns-then-not-branch-clause-sound g c = λ form p.
+    let l = c.loop-place in
+    let off : c.in_ok-next.field-0 ≡ false = search rules in
+    absurd (never_ended form c.args.plan.now c.args.cursor.now.left l.cursor.left l.place c.in_ok-next.field-0 p l.invariant.left (omega arith) c.in_ok-next.ensures.some off)
+
+pub returns-clause-sound : goal.returns-clause-sound
+returns-clause-sound g c = λ form p.
+    let l = c.loop-place in
+    let is : l.place ≡ c.args.plan.now.wanted = omega arith in
+    read_sound (g.W.World.told c.args.world.now) c.args.plan.now c.args.cursor.now l.cursor l.place l.measure form c.args.cursor.now.left l.invariant.to is p

@@ -1,9 +1,10 @@
-use Rattle.std.proofs.Common.{◌≡◌, List, ℕ, All, take, refl}
+use Rattle.std.proofs.Common.{◌≡◌, List, ℕ, All, take, refl, sym, subst}
 use Rattle.std.proofs.lemmas.List.Elements.{All-take}
 use Rattle.cms_fields.specs.Limits.{longest_record}
 use Rattle.cms_names.specs.declared.name.Format.TheVariants.{V}
 use Rattle.cms_model.specs.Records.{Fits}
 use Rattle.cms_disk.proofs.Finding.{ok_maps}
+use Rattle.cms_copyfile.specs.Outputs.{IsPlan}
 use Rattle.cms_copyfile.proofs.ToldLengths.{each_told, on_ok_maps}
 use Rattle.cms_copyfile.proofs.measuring.measure_input.Goals as goal
 
@@ -19,3 +20,9 @@ returns-in-None-clause-measured g c = ok_maps _ _ c.measure_copies.result (λ m 
 
 pub returns-in-None-clause-records : goal.returns-in-None-clause-records
 returns-in-None-clause-records g c = on_ok_maps c.measure_copies.result _ _ (λ each j is x left. each j is x.file.records left.left) c.measure_copies.ensures.records
+
+pub returns-in-Some-clause-sound : goal.returns-in-Some-clause-sound
+returns-in-Some-clause-sound g c = λ form p. c.in-Some.ensures.sound form p
+
+pub returns-in-None-clause-sound : goal.returns-in-None-clause-sound
+returns-in-None-clause-sound g c = λ form p. c.measure_copies.ensures.sound form (subst (λ (n : ℕ). IsPlan form n c.args.plan.now) (sym c.requires.left) p)

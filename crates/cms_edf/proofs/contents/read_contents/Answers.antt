@@ -154,6 +154,7 @@ loop-tree-preserved g c =
           (subst (IsWithin a.place.now.total None) (sym item.1) (c.requires.within k c.in-Some.tree item.0)).leaves
           (subst (IsWithin a.place.now.total None) (sym item.1) (c.requires.within k c.in-Some.tree item.0)).pointers
           sizes.some sizes.longest sizes.fixed sizes.stored
+          sizes.sized
           (subst (λ (l : List ℕ). EndsIn a.place.now.bsize (length l) c.in_ok-told.told.sizes.stored) leaves sizes.ends)));
       told = sizes.reads.told ∙ l.invariant.told;
       faults = omega (arith, sizes.reads.faults, l.invariant.faults);

@@ -1,9 +1,9 @@
 use Rattle.std.proofs.Common.{rules, ◌≡◌, length, refl}
-use Rattle.std.proofs.lemmas.Result.{IfErr-weaker}
+use Rattle.std.proofs.lemmas.Result.{IfErr-weaker, IfOk-weaker}
 use Rattle.cms_names.specs.declared.name.Format.TheVariants.{F, V}
 use Rattle.cms_journal.specs.Journal.{contents_of}
 use Rattle.cms_model.specs.Trees.{image_of}
-use Rattle.cms_edf.proofs.RecordsRead.{fixed_ends, fixed_has, varying_bad, varying_told}
+use Rattle.cms_edf.proofs.RecordsRead.{fixed_ends, fixed_has, fixed_sized, sized_so, varying_bad, varying_told}
 use Rattle.cms_edf.proofs.contents.read_sizes.Goals as goal
 
 pub returns-in-F-clause-read : goal.returns-in-F-clause-read
@@ -24,6 +24,18 @@ returns-in-V-clause-fault g c =
     let is : a.entry.now.format ≡ V = search rules in
     IfErr-weaker c.read_varying.result _ _ (λ why bad j told. varying_bad a.place.now.bsize (image_of (contents_of j a.place.now.unit)) a.number a.entry.now a.leaves.now why is (bad j told))
     c.read_varying.ensures.fault
+
+pub returns-in-F-clause-sized : goal.returns-in-F-clause-sized
+returns-in-F-clause-sized g c =
+    let e = c.args.entry.now in
+    let is : e.format ≡ F = search rules in
+    fixed_sized e.format e.length e.count _ is refl
+
+pub returns-in-V-clause-sized : goal.returns-in-V-clause-sized
+returns-in-V-clause-sized g c =
+    let e = c.args.entry.now in
+    let is : e.format ≡ V = search rules in
+    IfOk-weaker c.read_varying.result _ _ (λ told low. sized_so e.format told.sizes.longest e.count told.sizes.stored is low) c.read_varying.ensures.sized
 
 pub returns-in-F-clause-ends : goal.returns-in-F-clause-ends
 returns-in-F-clause-ends g c =

@@ -3,7 +3,7 @@ use Rattle.std.proofs.lemmas.Result.{err_from_is_err_and}
 use Rattle.cms_journal.specs.Journal.{contents_of}
 use Rattle.cms_model.specs.Trees.{image_of}
 use Rattle.cms_edf.proofs.Faults.{fault_is}
-use Rattle.cms_edf.proofs.RecordsRead.{takes_next, takes_bad, takes_last, starts_so, sizes_some, varying_ends}
+use Rattle.cms_edf.proofs.RecordsRead.{takes_next, takes_bad, takes_last, starts_so, sizes_some, varying_ends, varying_sized}
 use Rattle.cms_edf.proofs.contents.read_varying.Goals as goal
 
 pub returns-in_err-feed-clause-fault : goal.returns-in_err-feed-clause-fault
@@ -64,6 +64,12 @@ returns-clause-some g c =
     let l = c.loop-nth in
     let fed = l.invariant.gathered in
     sizes_some (Ok c.in_ok-sizes.sizes) c.args.number l.scan.bsize c.args.count fed.0 c.requires.some (c.in_ok-sizes.ensures.told c.args.count fed.0 fed.1)
+
+pub returns-clause-sized : goal.returns-clause-sized
+returns-clause-sized g c =
+    let l = c.loop-nth in
+    let fed = l.invariant.gathered in
+    varying_sized (Ok c.in_ok-sizes.sizes) c.args.number l.scan.bsize c.args.count fed.0 (c.in_ok-sizes.ensures.told c.args.count fed.0 fed.1)
 
 pub returns-clause-ends : goal.returns-clause-ends
 returns-clause-ends g c = λ some.

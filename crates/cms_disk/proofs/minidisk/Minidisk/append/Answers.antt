@@ -1,4 +1,4 @@
-use Rattle.std.proofs.Common.{◌≡◌, inl, inr, ⊎_elim, Result, Ok, Err, None, false, List, [], refl, sym, ◌∙◌, ap, subst}
+use Rattle.std.proofs.Common.{◌≡◌, inl, inr, Result, Ok, Err, None, false, List, [], refl, sym, ◌∙◌, ap, subst}
 use Rattle.std.specs.Prelude.{IfErr, ⊤}
 use Rattle.std.proofs.lemmas.Result.{err_from_is_err_and}
 use Rattle.cms_journal.specs.Journal.{HasBlocks, IsWritable}
@@ -18,7 +18,7 @@ use Rattle.cms_disk.specs.Additions.{IsAddFault}
 use Rattle.cms_disk.specs.Changing.{Appends, ChangesDisk, IsDevices, IsPutIn}
 use Rattle.cms_disk.specs.Disks.{Accessed, place_of}
 use Rattle.cms_disk.specs.declared.fault.DiskFault.{DiskFault}
-use Rattle.cms_disk.specs.declared.fault.DiskFault.TheVariants.{Limit, Memory, NotFound, ReadOnly}
+use Rattle.cms_disk.specs.declared.fault.DiskFault.TheVariants.{NotFound, ReadOnly}
 use Rattle.cms_disk.proofs.Adding.{add_fault, appends_of, changed_both, changed_put, changed_read, changed_then, device_fault, fault_locked, fault_missing, more_refused, not_missing}
 use Rattle.cms_disk.proofs.DraftSteps.{none_aside}
 use Rattle.cms_disk.proofs.Extending.{behind_at, last_behind, may_extend, shape_told, shaped_at}
@@ -40,6 +40,9 @@ returns-in_err-place-clause-appends g c = λ j m records told is stands.
 pub returns-then-not-is_writable-clause-appends : goal.returns-then-not-is_writable-clause-appends
 returns-then-not-is_writable-clause-appends g c = λ j m records told is stands. (refl, sym c.is_writable.ensures ∙ c.if-not-is_writable.true)
 
+pub shape_with-requires-clause-fits : goal.shape_with-requires-clause-fits
+shape_with-requires-clause-fits g c = λ info at. c.requires.fits c.in_ok-place.place info c.in_ok-place.ensures.place at
+
 pub returns-in_err-shape-clause-appends : goal.returns-in_err-shape-clause-appends
 returns-in_err-shape-clause-appends g c = λ j m records told is stands.
     let p = err_from_is_err_and c.from_residual-in_err-shape.result c.from_residual-in_err-shape.ensures.1 in
@@ -49,12 +52,8 @@ returns-in_err-shape-clause-appends g c = λ j m records told is stands.
     let more = c.args.more.now in
     let there = c.in_ok-place.ensures in
     let no = c.in_err-shape.ensures in
-    subst (Appends old old d d m (Add name records more.stamp) c.args.stamp.now) (sym (p.1 ∙ ap Err p.2))
-    (⊎_elim
-    (λ (memory : c.in_err-shape.field-0.0 ≡ Memory). subst (λ (e : DiskFault). Appends old old d d m (Add name records more.stamp) c.args.stamp.now (Err e)) (sym memory) refl)
-    (λ (limit : c.in_err-shape.field-0.0 ≡ Limit 2). subst (λ (e : DiskFault). Appends old old d d m (Add name records more.stamp) c.args.stamp.now (Err e)) (sym limit)
-    (refl, limited j d m name c.in_ok-place.place more records there.kept is (c.requires.blocks j told) stands c.requires.fits there.place (no.many limit)))
-    no.fault)
+    subst (Appends old old d d m (Add name records more.stamp) c.args.stamp.now) (sym (p.1 ∙ ap Err (p.2 ∙ no.fault)))
+    (refl, limited j d m name c.in_ok-place.place more records there.kept is (c.requires.blocks j told) stands c.requires.fits there.place no.many)
 
 pub returns-in_err-shape-clause-fault : goal.returns-in_err-shape-clause-fault
 returns-in_err-shape-clause-fault g c =
@@ -64,11 +63,7 @@ returns-in_err-shape-clause-fault g c =
     let more = c.args.more.now in
     let there = c.in_ok-place.ensures in
     let no = c.in_err-shape.ensures in
-    subst (λ (r : Result ⊤ DiskFault). IfErr r (IsAddFault d name more)) (sym (p.1 ∙ ap Err p.2))
-    (⊎_elim
-    (λ (memory : c.in_err-shape.field-0.0 ≡ Memory). subst (IsAddFault d name more) (sym memory) tt)
-    (λ (limit : c.in_err-shape.field-0.0 ≡ Limit 2). subst (IsAddFault d name more) (sym limit) (no_room d name c.in_ok-place.place more there.kept there.place (no.many limit)))
-    no.fault)
+    subst (λ (r : Result ⊤ DiskFault). IfErr r (IsAddFault d name more)) (sym (p.1 ∙ ap Err (p.2 ∙ no.fault))) (no_room d name c.in_ok-place.place more there.kept there.place no.many)
 
 pub draft_more-requires-clause-extends : goal.draft_more-requires-clause-extends
 draft_more-requires-clause-extends g c =
